@@ -39,7 +39,7 @@ use Rattle.chess_bits.proofs.TargetsOf.{man_told, no_king_says, none_castles}
 
 -- ---- the king stays safe
 
-free_is_legal : (p : Setup) (a b king : ℕ) → IsSound p → IsFree p a → a < 64 → king < 64
+pub free_is_legal : (p : Setup) (a b king : ℕ) → IsSound p → IsFree p a → a < 64 → king < 64
     → ((k : ℕ) → k < 64 → is_man p.side King (man_at p.men k) ≡ (k == king))
     → goes p a b ≡ true → would_promote p a b ≡ false → is_en_passant p (triple a b None) ≡ false
     → is_legal p (triple a b None) ≡ true

@@ -1,22 +1,20 @@
 -- The moves of free pieces of a kind, counted together.
-use Rattle.std.proofs.Common.{◌≡◌, ℕ, zero, suc, ◌+◌, ◌<◌, ◌≤◌, inl, inr, Bool, true, false, Some, None, not, ◌&&◌, ◌||◌, ◌==◌, List, ◌∷◌, length, length-append, refl, sym, ap, ◌∙◌, arith}
+use Rattle.std.proofs.Common.{◌≡◌, ℕ, zero, suc, ◌+◌, ◌<◌, ◌≤◌, inl, inr, Bool, true, false, Some, not, ◌&&◌, ◌||◌, ◌==◌, List, ◌∷◌, length, length-append, refl, sym, ap, ◌∙◌, arith}
 use Rattle.std.specs.List.{filter, flat_map, range_with_len}
-use Rattle.std.proofs.lemmas.Bool.{and_parts, and_right, or_parts, cases_Bool, eq-eqb, both_ways}
+use Rattle.std.proofs.lemmas.Bool.{and_parts, and_right, or_parts, cases_Bool}
 use Rattle.chess_base.specs.declared.man.Kind.{Kind}
 use Rattle.chess_base.specs.declared.man.Kind.TheVariants.{King, Pawn}
 use Rattle.chess_base.specs.declared.setup.Setup.{Setup}
 use Rattle.chess_base.specs.Attacks.{could_capture}
-use Rattle.chess_base.specs.Men.{man_at, is_of, is_man, same_kind, other, pawn_rank}
-use Rattle.chess_base.specs.MoveList.{triple, squares}
-use Rattle.chess_base.specs.Moves.{pawn_advances, pawn_captures}
+use Rattle.chess_base.specs.Men.{man_at, is_of, is_man, same_kind}
+use Rattle.chess_base.specs.MoveList.{squares}
 use Rattle.chess_base.specs.Sound.{IsSound}
-use Rattle.chess_base.specs.Squares.{rank}
 use Rattle.chess_base.proofs.MenFacts.{is_of-from_is_man}
 use Rattle.chess_moves.specs.ties.Candidates.{moves_from}
 use Rattle.chess_moves.specs.Sets.{has, members}
-use Rattle.chess_bits.specs.ties.Goes.{aims_at, man_goes, IsFree, AreFree}
-use Rattle.chess_bits.proofs.Freely.{no_pawn_usual, pawn_usual, free_counted}
-use Rattle.chess_bits.proofs.TargetsOf.{man_told, officer_is, man_set_sound, man_set_complete, pawn_sound, pawn_complete}
+use Rattle.chess_bits.specs.ties.Goes.{man_goes, IsFree, AreFree}
+use Rattle.chess_bits.proofs.Freely.{no_pawn_usual, free_counted}
+use Rattle.chess_bits.proofs.TargetsOf.{man_told, officer_is, man_set_sound, man_set_complete}
 
 -- ---- a set in two
 
@@ -84,20 +82,6 @@ count_bound g n whole ms s ns e h =
     omega (arith, next)
 
 -- ---- the moves of one
-
-pub pawn_counted : (p : Setup) (a king w : ℕ) → IsSound p → IsFree p a → is_man p.side Pawn (man_at p.men a) ≡ true
-    → a < 64 → king < 64
-    → ((k : ℕ) → k < 64 → is_man p.side King (man_at p.men k) ≡ (k == king))
-    → (aims_at p.target p.side a || (rank a == pawn_rank (other p.side))) ≡ false
-    → ((k : ℕ) → k < 64 → has w k ≡ (pawn_advances p (triple a k None) || pawn_captures p (triple a k None)))
-    → length (members w) ≡ length (moves_from p a)
-pawn_counted p a king w sound free pawn low there one usual set =
-    let neither = or_parts (aims_at p.target p.side a) (rank a == pawn_rank (other p.side)) usual in
-    free_counted p a king w sound free
-    (pawn_usual p a sound low pawn neither.0
-    (λ same. both_ways (rank a == pawn_rank (other p.side)) neither.1
-    (eq-eqb (rank a) (pawn_rank (other p.side)) same)))
-    low there one (pawn_sound p a w pawn low set) (pawn_complete p a w pawn low set)
 
 other_kind : (p : Setup) (a : ℕ) (kind other : Kind) → man_at p.men a ≡ Some (record { colour = p.side; kind = kind })
     → same_kind other kind ≡ false → is_man p.side other (man_at p.men a) ≡ false

@@ -27,3 +27,4 @@ pub mod Shields
 pub mod KindsCounted
 pub mod CastlingAtHome
 pub mod CastlingSafely
+pub mod PawnsCounted

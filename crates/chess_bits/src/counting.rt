@@ -1,21 +1,19 @@
 //! How many legal moves there are, and whether there is one: piece by piece, with no list.
 
-ghost use Rattle.std.specs.Prelude.{◌≡◌, ◌+◌, ◌≤◌, ◌<◌, ◌==◌, ◌&&◌, ◌||◌, ℕ, length, nat_lt, cond, true, false, IsTrue, Some, None};
+ghost use Rattle.std.specs.Prelude.{◌≡◌, ◌+◌, ◌≤◌, ◌<◌, ◌||◌, ℕ, length, nat_lt, cond, true, false, IsTrue, Some, None};
 ghost use Rattle.std.specs.List.{flat_map};
-ghost use Rattle.chess_base.specs.Men.{man_at, other, is_man, same_kind, pawn_rank};
+ghost use Rattle.chess_base.specs.Men.{man_at, is_man, same_kind};
 ghost use Rattle.chess_base.specs.MoveList.{moves, triple};
 ghost use Rattle.chess_base.specs.Moves.{is_pseudo_legal, is_legal, man_moves, promotion_fits};
-ghost use Rattle.chess_base.specs.Squares.{rank};
 ghost use Rattle.chess_base.specs.declared.man.Kind.TheVariants.{King, Knight, Pawn};
-ghost use Rattle.chess_bits.specs.ties.Goes.{goes, aims_at, IsFree, AreFree};
+ghost use Rattle.chess_bits.specs.ties.Goes.{goes, IsFree, AreFree};
 ghost use Rattle.chess_moves.specs.ties.Candidates.{moves_between, moves_from};
 ghost use Rattle.chess_moves.specs.Promoting.{would_promote};
 ghost use Rattle.chess_moves.specs.Sets.{has, members};
 
 use crate::bits::Bits;
-use crate::table::Shape;
 use crate::targets::is_pawn;
-use chess_base::rules::{is_man, pawn_rank};
+use chess_base::rules::is_man;
 use chess_base::{Kind, Move, Square};
 use chess_moves::{Board, SquareSet, would_promote};
 
@@ -101,68 +99,16 @@ impl Bits<'_> {
         count
     }
 
-    // Whether a pawn of the side on move that is there attacks the en passant target.
-    fn aims_at_target(&self, from: Square) -> bool
-        ensures { result ≡ aims_at (self.now).target (self.now).side from }
-    {
-        match self.setup.target {
-            None => false,
-            Some(target) => {
-                // The prover wants this fact: the target's number is below 64.
-                let _end = target.number();
-                let aims = self.tables.at(Shape::Pawn(self.setup.side), from);
-                aims.contains(target)
-            }
-        }
-    }
-
-    // Whether the pawn there may promote or take en passant.
-    fn is_unusual_pawn(&self, from: Square) -> bool
-        ensures { result ≡ (aims_at (self.now).target (self.now).side from
-            || (rank from == pawn_rank (other (self.now).side))) }
-    {
-        self.aims_at_target(from) || from.rank() == pawn_rank(self.setup.side.other())
-    }
-
-    // Whether a pawn of the side on move is there that may promote or take en passant.
-    pub(crate) fn is_unusual(&self, from: Square) -> bool
-        ensures { result ≡ (is_man (self.now).side Pawn (man_at (self.now).men from)
-            && (aims_at (self.now).target (self.now).side from
-            || (rank from == pawn_rank (other (self.now).side)))) }
-    {
-        let side = self.setup.side;
-        is_man(side, Kind::Pawn, self.setup.men[from.index()]) && self.is_unusual_pawn(from)
-    }
-
-    // How many legal moves the free pawn has that is there.
-    fn count_pawn(&self, from: Square) -> usize
-        requires pawn { is_man (self.now).side Pawn (man_at (self.now).men from) ≡ true }
-        requires free { IsFree self.now from }
-        requires few { length (moves_from self.now from) ≤ 896 }
-        ensures { result ≡ length (moves_from self.now from) }
-    {
-        // The prover wants this fact: the start's number is below 64.
-        let _start = from.number();
-        if self.is_unusual_pawn(from) {
-            return self.count_from(from);
-        }
-        // The prover wants this fact: the king is on one square alone.
-        let _king = self.king(self.setup.side);
-        self.pawn_targets(from).len()
-    }
-
-    // How many legal moves these free pawns have.
+    // How many legal moves these free pawns have. Those that may promote or take en passant are looked at one by one.
     fn count_pawns(&self, men: SquareSet) -> usize
         requires free { AreFree self.now Pawn men }
         requires few { length (flat_map (λ a. moves_from self.now a) (members men)) ≤ 896 }
         ensures { result ≡ length (flat_map (λ a. moves_from self.now a) (members men)) }
     {
-        let mut count = 0;
-        let mut rest = men;
-        while let Some(from) = rest.take_first() {
-            count += self.count_pawn(from);
-        }
-        count
+        let squares = self.unusual_squares();
+        let unusual = men.intersection(squares);
+        let usual = men.without(squares);
+        self.count_usual_pawns(usual) + self.count_each(unusual)
     }
 
     // How many legal moves the free piece of that kind has that is there: it is neither king nor pawn.
@@ -284,21 +230,6 @@ impl Bits<'_> {
         false
     }
 
-    // Whether one of these free pawns has a legal move.
-    fn has_pawn_move(&self, men: SquareSet) -> bool
-        requires free { AreFree self.now Pawn men }
-        requires few { length (flat_map (λ a. moves_from self.now a) (members men)) ≤ 896 }
-        ensures { result ≡ nat_lt 0 (length (flat_map (λ a. moves_from self.now a) (members men))) }
-    {
-        let mut rest = men;
-        while let Some(from) = rest.take_first() {
-            if self.count_pawn(from) > 0 {
-                return true;
-            }
-        }
-        false
-    }
-
     // Whether one of these free knights has a legal move.
     fn has_knight_move(&self, men: SquareSet) -> bool
         requires { AreFree self.now Knight men }
@@ -342,7 +273,7 @@ impl Bits<'_> {
         if self.has_knight_move(knights.intersection(free)) {
             return true;
         }
-        self.has_pawn_move(pawns.intersection(free))
+        self.count_pawns(pawns.intersection(free)) > 0
     }
 
     // Whether there is a legal move. It looks no further than the first piece that has one, and looks at the king

@@ -17,6 +17,7 @@ mod king;
 mod legality;
 mod line;
 mod listing;
+mod pawns;
 mod placing;
 mod reaching;
 mod sets;

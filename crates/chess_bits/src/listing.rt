@@ -1,14 +1,13 @@
 //! The list of legal moves: piece by piece, and end square by end square.
 
-ghost use Rattle.std.specs.Prelude.{◌≡◌, ◌+◌, ◌≤◌, ◌<◌, ◌==◌, ◌&&◌, ◌||◌, ◌++◌, ℕ, length, get_or, true, false, Option, None, ◌∷◌};
+ghost use Rattle.std.specs.Prelude.{◌≡◌, ◌+◌, ◌≤◌, ◌<◌, ◌&&◌, ◌++◌, ℕ, length, get_or, true, false, Option, None, ◌∷◌};
 ghost use Rattle.arrayvec.specs.ArrayVec.{array_vec_len};
-ghost use Rattle.chess_base.specs.Men.{man_at, other, is_man, pawn_rank};
+ghost use Rattle.chess_base.specs.Men.{man_at, is_man};
 ghost use Rattle.chess_base.specs.MoveList.{moves, promotions};
 ghost use Rattle.chess_base.specs.Moves.{promotion_fits};
-ghost use Rattle.chess_base.specs.Squares.{rank};
 ghost use Rattle.chess_base.specs.declared.man.Kind.{Kind as ManKind};
 ghost use Rattle.chess_base.specs.declared.man.Kind.TheVariants.{Pawn};
-ghost use Rattle.chess_bits.specs.ties.Goes.{goes, aims_at, IsFree};
+ghost use Rattle.chess_bits.specs.ties.Goes.{goes, goes_unusually, IsFree};
 ghost use Rattle.chess_moves.specs.ties.Candidates.{moves_with, moves_between, moves_from};
 ghost use Rattle.chess_moves.specs.Promoting.{would_promote};
 ghost use Rattle.chess_moves.specs.Sets.{has};
@@ -83,8 +82,7 @@ impl Bits<'_> {
     // Adds the legal moves of a free piece other than a pawn that may promote or take en passant: it goes as it may.
     fn add_usual_moves(&self, from: Square, list: &mut MoveList)
         requires free { IsFree self.now from }
-        requires usual { (is_man (self.now).side Pawn (man_at (self.now).men from)
-            && (aims_at (self.now).target (self.now).side from || (rank from == pawn_rank (other (self.now).side))))
+        requires usual { (is_man (self.now).side Pawn (man_at (self.now).men from) && goes_unusually self.now from)
             ≡ false }
         requires room { array_vec_len list.old + length (moves_from self.now from) ≤ 896 }
         ensures { list.new.items ≡ list.old.items ++ moves_from self.now from }

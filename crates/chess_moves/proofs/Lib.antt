@@ -11,3 +11,4 @@ pub mod SomeMember
 pub mod Counting
 pub mod Xored
 pub mod SomeLegal
+pub mod Shifted

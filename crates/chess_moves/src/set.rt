@@ -1,11 +1,16 @@
 //! Sets of squares.
 
-ghost use Rattle.std.specs.Prelude.{◌≡◌, ℕ, ◌<◌, ◌&&◌, ◌||◌, not, ◌==◌, true, false, MatchOption, [], ◌∷◌, length};
-ghost use Rattle.chess_base.specs.Squares.{some_square};
+ghost use Rattle.std.specs.Prelude.{◌≡◌, ℕ, ◌<◌, ◌+◌, ◌-◌, ◌&&◌, ◌||◌, not, ◌==◌, nat_le, true, false, MatchOption, [], ◌∷◌, length};
+ghost use Rattle.chess_base.specs.Squares.{file, rank, some_square};
 ghost use Rattle.chess_moves.specs.Sets.{has, IsNearest, members};
 
 use chess_base::Square;
 use std::marker::Model;
+
+// The words of the a-file and of rank 1.
+const FILE_A: u64 = 0x0101_0101_0101_0101;
+
+const RANK_1: u64 = 0xFF;
 
 /// A set of squares. In contracts it is the word in which the bit of each of its squares is 1, a1's the lowest.
 #[derive(Clone, Copy)]
@@ -41,6 +46,24 @@ impl SquareSet {
         SquareSet {
             word: 1 << square.number(),
         }
+    }
+
+    /// The squares of a file, 0 for a to 7 for h.
+    #[tactic(auto, using(crate::proofs::Shifted::on_file))]
+    pub fn of_file(number: u8) -> Self
+        requires { number < 8 }
+        ensures { (k : ℕ) → k < 64 → has result k ≡ (file k == number) }
+    {
+        SquareSet { word: FILE_A }.raised(number)
+    }
+
+    /// The squares of a rank, 0 for rank 1 to 7 for rank 8.
+    #[tactic(auto, using(crate::proofs::Shifted::on_rank))]
+    pub fn of_rank(number: u8) -> Self
+        requires { number < 8 }
+        ensures { (k : ℕ) → k < 64 → has result k ≡ (rank k == number) }
+    {
+        SquareSet { word: RANK_1 }.raised(8 * number)
     }
 
     /// Whether the square is in the set.
@@ -95,6 +118,28 @@ impl SquareSet {
     {
         SquareSet {
             word: self.word & !other.word,
+        }
+    }
+
+    /// The squares whose numbers are that much below those of the set: by 8 they are one rank down.
+    #[tactic(auto, using(crate::proofs::Shifted::has_lowered))]
+    pub fn lowered(self, by: u8) -> Self
+        requires { by < 64 }
+        ensures { (k : ℕ) → has result k ≡ has self (k + by) }
+    {
+        SquareSet {
+            word: self.word >> by,
+        }
+    }
+
+    /// The squares whose numbers are that much above those of the set: by 8 they are one rank up.
+    #[tactic(auto, using(crate::proofs::Shifted::has_raised))]
+    pub fn raised(self, by: u8) -> Self
+        requires { by < 64 }
+        ensures { (k : ℕ) → k < 64 → has result k ≡ (nat_le by k && has self (k - by)) }
+    {
+        SquareSet {
+            word: self.word << by,
         }
     }
 

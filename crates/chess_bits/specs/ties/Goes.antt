@@ -12,11 +12,11 @@ use Rattle.chess_base.specs.declared.man.Variant.TheVariants.{Normal, Fischerand
 use Rattle.chess_base.specs.declared.setup.Setup.{Setup}
 use Rattle.chess_base.specs.Attacks.{is_clear, is_attacked}
 use Rattle.chess_base.specs.Castling.{home_square, castled_king_file, right_of, castle_of}
-use Rattle.chess_base.specs.Men.{Men, man_at, other, is_man, same_kind}
+use Rattle.chess_base.specs.Men.{Men, man_at, other, is_man, same_kind, pawn_rank}
 use Rattle.chess_base.specs.ties.Changes.{with_man}
 use Rattle.chess_base.specs.MoveList.{triple}
 use Rattle.chess_base.specs.Moves.{is_pseudo_legal, is_legal, man_moves}
-use Rattle.chess_base.specs.Squares.{share_rank_or_file, share_diagonal}
+use Rattle.chess_base.specs.Squares.{rank, share_rank_or_file, share_diagonal}
 use Rattle.chess_bits.specs.declared.table.Shape.TheVariants as shape
 use Rattle.chess_bits.specs.ties.Shapes.{in_shape}
 use Rattle.chess_moves.specs.Promoting.{would_promote}
@@ -93,3 +93,7 @@ pub record IsOfficer (c : Colour) (kind : Kind) (o : Option Man) : Type 0 where
 abbrev pub aims_at : Option ℕ → Colour → ℕ → Bool
 aims_at None c a = false
 aims_at (Some t) c a = in_shape (shape.Pawn c) a t
+
+-- a pawn of the side on move on a would promote, or attacks the en passant target
+abbrev pub goes_unusually : Setup → ℕ → Bool
+goes_unusually p a = aims_at p.target p.side a || (rank a == pawn_rank (other p.side))

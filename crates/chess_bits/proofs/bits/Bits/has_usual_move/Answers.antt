@@ -1,5 +1,5 @@
 -- The legal moves of some pieces are among all legal moves (some_of of Counted), and so fit into a list (some_fit).
-use Rattle.std.proofs.Common.{sym, ◌∙◌}
+use Rattle.std.proofs.Common.{nat_lt, sym, ap, ◌∙◌}
 use Rattle.chess_bits.proofs.Counted.{some_fit, some_of}
 use Rattle.chess_bits.proofs.bits.Bits.has_usual_move.Goals as goal
 
@@ -7,8 +7,9 @@ pub returns-then-has_knight_move : goal.returns-then-has_knight_move
 returns-then-has_knight_move c = λ _.
     sym (some_of c.args.self.now c.intersection.result (sym c.has_knight_move.ensures ∙ c.if-has_knight_move.true))
 
-pub has_pawn_move-requires-clause-few : goal.has_pawn_move-requires-clause-few
-has_pawn_move-requires-clause-few c = some_fit c.args.self.now c.intersection-2.result c.setup-sound.ensures.sound
+pub count_pawns-requires-clause-few : goal.count_pawns-requires-clause-few
+count_pawns-requires-clause-few c = some_fit c.args.self.now c.intersection-2.result c.setup-sound.ensures.sound
 
 pub returns : goal.returns
-returns c = λ some. sym (some_of c.args.self.now c.intersection-2.result (sym c.has_pawn_move.ensures ∙ some))
+returns c = λ some.
+    sym (some_of c.args.self.now c.intersection-2.result (sym (ap (λ n. nat_lt 0 n) c.count_pawns.ensures) ∙ some))

@@ -1,0 +1,510 @@
+-- The moves of free pawns that neither promote nor take en passant, counted together: by the ways that are open to each.
+use mathlib.Core.Bool.{not-not}
+use Rattle.std.proofs.Common.{◌≡◌, ℕ, zero, suc, ◌+◌, ◌-◌, ◌/◌, ◌<◌, ◌≤◌, ◌⊎◌, inl, inr, Bool, true, false, not, ◌&&◌, ◌||◌, ◌==◌, cond, Option, Some, None, is_none, List, [], ◌∷◌, length, length-append, refl, sym, ap, ◌∙◌, arith}
+use Rattle.std.specs.List.{filter, flat_map, range_with_len}
+use Rattle.std.proofs.lemmas.Bool.{and_parts, and_from, and_right, or_cases, or_parts, or_left, or_right, cases_Bool, eqb-true, eq-eqb, ne_eqb, both_ways, false_from_ne_true, not-true}
+use Rattle.std.proofs.lemmas.Bool.Decides.{nat_tests}
+use Rattle.chess_base.specs.declared.man.Colour.{Colour}
+use Rattle.chess_base.specs.declared.man.Colour.TheVariants.{White, Black}
+use Rattle.chess_base.specs.declared.man.Kind.TheVariants.{King, Pawn}
+use Rattle.chess_base.specs.declared.setup.Setup.{Setup}
+use Rattle.chess_base.specs.Attacks.{could_capture, is_rank_ahead}
+use Rattle.chess_base.specs.Men.{Men, man_at, is_of, is_man, other, forward, pawn_rank}
+use Rattle.chess_base.specs.MoveList.{triple, squares}
+use Rattle.chess_base.specs.Moves.{is_legal, pawn_advances, pawn_captures}
+use Rattle.chess_base.specs.Sound.{IsSound, no_pawn_on_end_ranks, pawn_is_allowed}
+use Rattle.chess_base.specs.Squares.{file, rank, gap, is_square}
+use Rattle.chess_base.proofs.OverSquares.{each_square-at}
+use Rattle.chess_moves.specs.ties.Candidates.{moves_between, moves_from}
+use Rattle.chess_moves.specs.Sets.{has, members}
+use Rattle.chess_moves.proofs.Members.{filter_none, filter_first, by_range}
+use Rattle.chess_bits.specs.declared.table.Shape.TheVariants as shape
+use Rattle.chess_bits.specs.ties.Goes.{goes, aims_at, goes_unusually, IsFree, AreFree}
+use Rattle.chess_bits.specs.ties.Shapes.{in_shape}
+use Rattle.chess_bits.proofs.Attackers.{pawn_back}
+use Rattle.chess_bits.proofs.Counted.{one_counted}
+use Rattle.chess_bits.proofs.Freely.{IsUsual, pawn_usual, free_is_legal}
+use Rattle.chess_bits.proofs.Listed.{none_there}
+use Rattle.chess_bits.proofs.OriginsOf.{off_lowest}
+use Rattle.chess_bits.proofs.Patterns.{pawn_goes, legal_goes}
+use Rattle.chess_bits.proofs.Reached.{pawn_from}
+use Rattle.chess_bits.proofs.TargetsOf.{man_told, advances_is, captures_is}
+
+-- ---- sums
+
+-- one if the test holds, and else none
+abbrev once : Bool → ℕ
+once t = cond t 1 0
+
+either : (s t : Bool) → (s ≡ true → t ≡ false) → once (s || t) ≡ once s + once t
+either true t h = rw (h refl) refl
+either false t h = omega arith
+
+one_more : (q : ℕ → Bool) (a : ℕ) (xs : List ℕ) → length (filter q (a ∷ xs)) ≡ once (q a) + length (filter q xs)
+one_more q a xs = elim (cases_Bool (q a)) [ inl kept ↦ rw kept (omega arith) | inr left ↦ rw left (omega arith) ]
+
+-- what four tests count at each member, they count over all
+by_tests : {A : Type 0} (g : ℕ → List A) (w q r s t : ℕ → Bool) (n a : ℕ) → a + n ≤ 64
+    → ((k : ℕ) → k < 64 → w k ≡ true → length (g k) ≡ once (q k) + once (r k) + once (s k) + once (t k))
+    → ((k : ℕ) → k < 64 → w k ≡ false → (q k ≡ false) × (r k ≡ false) × (s k ≡ false) × (t k ≡ false))
+    → length (flat_map g (filter w (range_with_len a n)))
+    ≡ length (filter q (range_with_len a n)) + length (filter r (range_with_len a n))
+    + length (filter s (range_with_len a n)) + length (filter t (range_with_len a n))
+by_tests g w q r s t zero a fits here away = refl
+by_tests g w q r s t (suc n) a fits here away =
+    let rest = by_tests g w q r s t n (a + 1) (omega arith) here away in
+    let qs = one_more q a (range_with_len (a + 1) n) in
+    let rs = one_more r a (range_with_len (a + 1) n) in
+    let ss = one_more s a (range_with_len (a + 1) n) in
+    let ts = one_more t a (range_with_len (a + 1) n) in
+    let more = length-append (g a) (flat_map g (filter w (range_with_len (a + 1) n))) in
+    elim (cases_Bool (w a)) [
+      | inl on ↦ let mine = here a (omega arith) on in rw on (omega (arith, rest, qs, rs, ss, ts, more, mine))
+      | inr off ↦
+          let none = away a (omega arith) off in
+          let q0 : once (q a) ≡ 0 = ap once none.0 in
+          let r0 : once (r a) ≡ 0 = ap once none.1 in
+          let s0 : once (s a) ≡ 0 = ap once none.2 in
+          let t0 : once (t a) ≡ 0 = ap once none.3 in
+          rw off (omega (arith, rest, qs, rs, ss, ts, q0, r0, s0, t0))
+    ]
+
+all_kept : (xs : List ℕ) → filter (λ k. true) xs ≡ xs
+all_kept [] = refl
+all_kept (x ∷ xs) = ap (λ ys. x ∷ ys) (all_kept xs)
+
+-- one square alone passes, if the other test holds
+alone : (o : Bool) (n : ℕ) → n < 64 → length (filter (λ k. o && (k == n)) (range_with_len 0 64)) ≡ once o
+alone false n low = ap length (filter_none (λ k. false) 64 0 (λ k l m. refl))
+alone true n low =
+    ap length (filter_first (λ k. k == n) (λ k. false) n 64 0 (omega arith) (omega (arith, low)) (eq-eqb n n refl)
+    (λ k l. ne_eqb k n (λ e. omega (arith, l, e))) (λ k l. sym (never (k == n))) (omega arith))
+    ∙ ap (λ xs. suc (length xs)) (filter_none (λ k. false) 64 0 (λ k l m. refl))
+  where
+    never : (t : Bool) → (t && not t) ≡ false
+    never true = refl
+    never false = refl
+
+pub summed : {a b c d e f g h : ℕ} → a ≡ e → b ≡ f → c ≡ g → d ≡ h → a + b + c + d ≡ e + f + g + h
+summed p q r s = omega (arith, p, q, r, s)
+
+few_kept : (q : ℕ → Bool) (n a : ℕ) → length (filter q (range_with_len a n)) ≤ n
+few_kept q zero a = omega arith
+few_kept q (suc n) a =
+    let rest = few_kept q n (a + 1) in
+    elim (cases_Bool (q a)) [ inl on ↦ rw on (omega (arith, rest)) | inr off ↦ rw off (omega (arith, rest)) ]
+
+-- a set has 64 squares at most
+pub members_fit : (w : ℕ) → length (members w) ≤ 64
+unfolding members squares
+members_fit w = few_kept (λ k. has w k) 64 0
+
+-- ---- the squares to which a usual pawn may go
+
+-- off the ranks on which a pawn of that colour may not stand, or promotes
+abbrev Inside : Colour → ℕ → Type 0
+Inside White a = (8 ≤ a) × (a < 48)
+Inside Black a = (16 ≤ a) × (a < 64)
+
+off_highest : (men : Men) (a : ℕ) → is_man White Pawn (man_at men a) ≡ true → pawn_is_allowed men a ≡ true
+    → rank a ≡ 7 → ⊥
+unfolding pawn_is_allowed
+off_highest men a man e top = let f = not-true _ (rw man at e) in grind (arith, nat_tests, f, top)
+
+inside : (men : Men) (c : Colour) (a : ℕ) → is_man c Pawn (man_at men a) ≡ true → pawn_is_allowed men a ≡ true → a < 64
+    → (rank a ≡ pawn_rank (other c) → ⊥) → Inside c a
+inside men White a man stands low off =
+    let from = off_lowest men White a man stands in
+    let below : rank a ≡ 7 → ⊥ = off_highest men a man stands in
+    (from, below_last (rank a) refl off below)
+  where
+    below_last : (r : ℕ) → a / 8 ≡ r → (r ≡ 6 → ⊥) → (r ≡ 7 → ⊥) → a < 48
+    below_last r e six seven = grind (arith, e, low, six, seven)
+inside men Black a man stands low off =
+    let from = off_lowest men Black a man stands in
+    (past_last (rank a) refl off from, low)
+  where
+    past_last : (r : ℕ) → a / 8 ≡ r → (r ≡ 1 → ⊥) → 8 ≤ a → 16 ≤ a
+    past_last r e one from = grind (arith, e, one, from)
+
+-- the four squares are on the board, and are four
+record AreApart (n t l r : ℕ) : Type 0 where
+  pub low_n : n < 64
+  pub low_t : t < 64
+  pub low_l : l < 64
+  pub low_r : r < 64
+  pub nt : n ≡ t → ⊥
+  pub nl : n ≡ l → ⊥
+  pub nr : n ≡ r → ⊥
+  pub tl : t ≡ l → ⊥
+  pub tr : t ≡ r → ⊥
+  pub lr : l ≡ r → ⊥
+
+apart : (c : Colour) (a : ℕ) → Inside c a
+    → AreApart (forward c a) (forward c (forward c a)) (forward c a - 1) (forward c a + 1)
+apart White a i = record {
+  low_n = omega (arith, i.1);
+  low_t = omega (arith, i.1);
+  low_l = omega (arith, i.1);
+  low_r = omega (arith, i.1);
+  nt = λ e. omega (arith, e);
+  nl = λ e. omega (arith, e);
+  nr = λ e. omega (arith, e);
+  tl = λ e. omega (arith, e);
+  tr = λ e. omega (arith, e);
+  lr = λ e. omega (arith, e);
+}
+apart Black a i = record {
+  low_n = omega (arith, i.1);
+  low_t = omega (arith, i.1);
+  low_l = omega (arith, i.1);
+  low_r = omega (arith, i.1);
+  nt = λ e. omega (arith, e, i.0);
+  nl = λ e. omega (arith, e, i.0);
+  nr = λ e. omega (arith, e, i.0);
+  tl = λ e. omega (arith, e, i.0);
+  tr = λ e. omega (arith, e, i.0);
+  lr = λ e. omega (arith, e, i.0);
+}
+
+same_tests : (s t : Bool) → (s ≡ true → t ≡ true) → (t ≡ true → s ≡ true) → s ≡ t
+same_tests true t h g = sym (h refl)
+same_tests false true h g = g refl
+same_tests false false h g = refl
+
+-- one file apart is to the left or to the right
+aside : (m n : ℕ) → gap m n ≡ 1 → (m ≡ n + 1) ⊎ (n ≡ m + 1)
+aside m n e = grind (arith, e)
+
+off_edge : (n m : ℕ) → not (n == m) ≡ true → n ≡ m → ⊥
+off_edge n m h e = both_ways (n == m) (not-true _ h) (eq-eqb n m e)
+
+off_edge' : (n m : ℕ) → (n ≡ m → ⊥) → not (n == m) ≡ true
+off_edge' n m h = rw (ne_eqb n m h) refl
+
+-- where a pawn attacks
+left_of : (c : Colour) (a b : ℕ) → Inside c a → file a ≡ file b + 1 → is_rank_ahead c a b ≡ true → b ≡ forward c a - 1
+left_of White a b i f e = let r = eqb-true (rank b) (rank a + 1) e in omega (arith, f, r)
+left_of Black a b i f e = let r = eqb-true (rank a) (rank b + 1) e in omega (arith, f, r)
+
+right_of : (c : Colour) (a b : ℕ) → Inside c a → file b ≡ file a + 1 → is_rank_ahead c a b ≡ true
+    → b ≡ forward c a + 1
+right_of White a b i f e = let r = eqb-true (rank b) (rank a + 1) e in omega (arith, f, r)
+right_of Black a b i f e = let r = eqb-true (rank a) (rank b + 1) e in omega (arith, f, r)
+
+to_left : (men : Men) (c : Colour) (a b : ℕ) → Inside c a → (file a ≡ 0 → ⊥) → b ≡ forward c a - 1
+    → could_capture men c Pawn a b ≡ true
+unfolding could_capture
+to_left men White a b i off e =
+    and_from (gap (file a) (file b) == 1) (rank b == rank a + 1) (eq-eqb (gap (file a) (file b)) 1 (omega (arith, e, off)))
+    (eq-eqb (rank b) (rank a + 1) (omega (arith, e, off)))
+to_left men Black a b i off e =
+    and_from (gap (file a) (file b) == 1) (rank a == rank b + 1)
+    (eq-eqb (gap (file a) (file b)) 1 (omega (arith, e, off, i.0)))
+    (eq-eqb (rank a) (rank b + 1) (omega (arith, e, off, i.0)))
+
+to_right : (men : Men) (c : Colour) (a b : ℕ) → Inside c a → (file a ≡ 7 → ⊥) → b ≡ forward c a + 1
+    → could_capture men c Pawn a b ≡ true
+unfolding could_capture
+to_right men White a b i off e =
+    and_from (gap (file a) (file b) == 1) (rank b == rank a + 1) (eq-eqb (gap (file a) (file b)) 1 (omega (arith, e, off)))
+    (eq-eqb (rank b) (rank a + 1) (omega (arith, e, off)))
+to_right men Black a b i off e =
+    and_from (gap (file a) (file b) == 1) (rank a == rank b + 1)
+    (eq-eqb (gap (file a) (file b)) 1 (omega (arith, e, off, i.0)))
+    (eq-eqb (rank a) (rank b + 1) (omega (arith, e, off, i.0)))
+
+attacked : (men : Men) (c : Colour) (a b : ℕ) → Inside c a → could_capture men c Pawn a b ≡ true
+    → ((not (file a == 0) && (b == forward c a - 1)) || (not (file a == 7) && (b == forward c a + 1))) ≡ true
+unfolding could_capture
+attacked men c a b i h =
+    let both = and_parts (gap (file a) (file b) == 1) (is_rank_ahead c a b) h in
+    elim (aside (file a) (file b) (eqb-true (gap (file a) (file b)) 1 both.0)) [
+      | inl left ↦
+          or_left (not (file a == 0) && (b == forward c a - 1)) (not (file a == 7) && (b == forward c a + 1))
+          (and_from (not (file a == 0)) (b == forward c a - 1) (off_edge' (file a) 0 (λ e. omega (arith, e, left)))
+          (eq-eqb b (forward c a - 1) (left_of c a b i left both.1)))
+      | inr right ↦
+          or_right (not (file a == 0) && (b == forward c a - 1)) (not (file a == 7) && (b == forward c a + 1))
+          (and_from (not (file a == 7)) (b == forward c a + 1) (off_edge' (file a) 7 (λ e. omega (arith, e, right)))
+          (eq-eqb b (forward c a + 1) (right_of c a b i right both.1)))
+    ]
+
+attacks_so : (men : Men) (c : Colour) (a b : ℕ) → Inside c a
+    → could_capture men c Pawn a b
+    ≡ ((not (file a == 0) && (b == forward c a - 1)) || (not (file a == 7) && (b == forward c a + 1)))
+attacks_so men c a b i = same_tests _ _ (attacked men c a b i) (λ h.
+    elim (or_cases (not (file a == 0) && (b == forward c a - 1)) (not (file a == 7) && (b == forward c a + 1)) h) [
+      | inl left ↦
+          let two = and_parts (not (file a == 0)) (b == forward c a - 1) left in
+          to_left men c a b i (off_edge (file a) 0 two.0) (eqb-true b (forward c a - 1) two.1)
+      | inr right ↦
+          let two = and_parts (not (file a == 7)) (b == forward c a + 1) right in
+          to_right men c a b i (off_edge (file a) 7 two.0) (eqb-true b (forward c a + 1) two.1)
+    ])
+
+-- it attacks a square from where an enemy pawn there attacks
+pub aims_back : (c : Colour) (k t : ℕ) → in_shape (shape.Pawn (other c)) t k ≡ in_shape (shape.Pawn c) k t
+aims_back c k t = pawn_back [] c k t ∙ sym (pawn_from [] c k t)
+
+-- a pawn that does not attack the target captures enemies alone
+no_target : (men : Men) (c : Colour) (o : Option ℕ) (a b : ℕ) (e : Bool) → aims_at o c a ≡ false
+    → (could_capture men c Pawn a b && (e || is_square o b)) ≡ (could_capture men c Pawn a b && e)
+no_target men c None a b true off = refl
+no_target men c None a b false off = refl
+no_target men c (Some t) a b e off =
+    elim (cases_Bool (t == b)) [
+      | inl same ↦
+          let miss : could_capture men c Pawn a b ≡ false =
+          ap (λ s. could_capture men c Pawn a s) (sym (eqb-true t b same)) ∙ sym (pawn_from men c a t) ∙ off in
+          rw miss refl
+      | inr other ↦ rw other (by e)
+    ]
+  where
+    by : (x : Bool) → (could_capture men c Pawn a b && (x || false)) ≡ (could_capture men c Pawn a b && x)
+    by true = refl
+    by false = refl
+
+on_each : (f g x y e l r : Bool) → (x ≡ true → e ≡ l) → (y ≡ true → e ≡ r)
+    → (((f && x) || (g && y)) && e) ≡ (((f && l) && x) || ((g && r) && y))
+on_each f g true true e l r h k = rw (← h refl, ← k refl) (grind arith)
+on_each f g true false e l r h k = rw (← h refl) (grind arith)
+on_each f g false true e l r h k = rw (← k refl) (grind arith)
+on_each f g false false e l r h k = grind arith
+
+captures_so : (p : Setup) (a b : ℕ) → is_man p.side Pawn (man_at p.men a) ≡ true → aims_at p.target p.side a ≡ false
+    → Inside p.side a
+    → pawn_captures p (triple a b None)
+    ≡ (((not (file a == 0) && is_of (other p.side) (man_at p.men (forward p.side a - 1))) && (b == forward p.side a - 1))
+    || ((not (file a == 7) && is_of (other p.side) (man_at p.men (forward p.side a + 1)))
+    && (b == forward p.side a + 1)))
+captures_so p a b pawn off i =
+    sym (captures_is p a b pawn)
+    ∙ no_target p.men p.side p.target a b (is_of (other p.side) (man_at p.men b)) off
+    ∙ ap (λ t. t && is_of (other p.side) (man_at p.men b)) (attacks_so p.men p.side a b i)
+    ∙ on_each (not (file a == 0)) (not (file a == 7)) (b == forward p.side a - 1) (b == forward p.side a + 1)
+    (is_of (other p.side) (man_at p.men b)) (is_of (other p.side) (man_at p.men (forward p.side a - 1)))
+    (is_of (other p.side) (man_at p.men (forward p.side a + 1)))
+    (λ e. ap (λ s. is_of (other p.side) (man_at p.men s)) (eqb-true b (forward p.side a - 1) e))
+    (λ e. ap (λ s. is_of (other p.side) (man_at p.men s)) (eqb-true b (forward p.side a + 1) e))
+
+and_joined : (s r t x : Bool) → ((s && r) && (t && x)) ≡ (((s && r) && t) && x)
+and_joined s r t x = grind arith
+
+advances_so : (p : Setup) (a b : ℕ) → is_man p.side Pawn (man_at p.men a) ≡ true
+    → pawn_advances p (triple a b None)
+    ≡ ((is_none (man_at p.men (forward p.side a)) && (b == forward p.side a))
+    || (((is_none (man_at p.men (forward p.side a)) && (rank a == pawn_rank p.side))
+    && is_none (man_at p.men (forward p.side (forward p.side a)))) && (b == forward p.side (forward p.side a))))
+advances_so p a b pawn =
+    advances_is p a b (forward p.side a) (forward p.side (forward p.side a)) pawn refl refl
+    ∙ ap (λ t. (is_none (man_at p.men (forward p.side a)) && (b == forward p.side a)) || t)
+    (and_joined (is_none (man_at p.men (forward p.side a))) (rank a == pawn_rank p.side)
+    (is_none (man_at p.men (forward p.side (forward p.side a)))) (b == forward p.side (forward p.side a)))
+
+-- ---- the moves of one
+
+-- it goes to one of four squares, each of which it may reach in one way
+off_other : (o s : Bool) (b n m : ℕ) → (n ≡ m → ⊥) → (o && (b == n)) ≡ true → (s && (b == m)) ≡ false
+off_other o s b n m apart h =
+    let at = eqb-true b n (and_parts o (b == n) h).1 in
+    and_right s (b == m) (ne_eqb b m (λ e. apart (sym at ∙ e)))
+
+four_ways : (q r s t : Bool) (b n m l k : ℕ) → AreApart n m l k
+    → once (((q && (b == n)) || (r && (b == m))) || ((s && (b == l)) || (t && (b == k))))
+    ≡ once (q && (b == n)) + once (r && (b == m)) + once (s && (b == l)) + once (t && (b == k))
+four_ways q r s t b n m l k are =
+    let ahead = either (q && (b == n)) (r && (b == m)) (off_other q r b n m are.nt) in
+    let sides = either (s && (b == l)) (t && (b == k)) (off_other s t b l k are.lr) in
+    let neither : ((q && (b == n)) || (r && (b == m))) ≡ true → ((s && (b == l)) || (t && (b == k))) ≡ false = λ h.
+    elim (or_cases (q && (b == n)) (r && (b == m)) h) [
+      | inl one ↦ none_of (off_other q s b n l are.nl one) (off_other q t b n k are.nr one)
+      | inr two ↦ none_of (off_other r s b m l are.tl two) (off_other r t b m k are.tr two)
+    ] in
+    let all = either ((q && (b == n)) || (r && (b == m))) ((s && (b == l)) || (t && (b == k))) neither in
+    omega (arith, ahead, sides, all)
+  where
+    none_of : {x y : Bool} → x ≡ false → y ≡ false → (x || y) ≡ false
+    none_of e f = rw (e, f) refl
+
+four_alone : (q r s t : Bool) (n m l k : ℕ) → AreApart n m l k
+    → length (filter (λ b. q && (b == n)) (range_with_len 0 64)) + length
+    (filter (λ b. r && (b == m)) (range_with_len 0 64)) + length (filter (λ b. s && (b == l)) (range_with_len 0 64))
+    + length (filter (λ b. t && (b == k)) (range_with_len 0 64)) ≡ once q + once r + once s + once t
+four_alone q r s t n m l k are =
+    summed (alone q n are.low_n) (alone r m are.low_t) (alone s l are.low_l) (alone t k are.low_r)
+
+-- how many legal moves there are from one square to another
+between_counted : (p : Setup) (a b king : ℕ) → IsSound p → IsFree p a → is_man p.side Pawn (man_at p.men a) ≡ true
+    → IsUsual p a → a < 64 → b < 64 → king < 64
+    → ((k : ℕ) → k < 64 → is_man p.side King (man_at p.men k) ≡ (k == king))
+    → length (moves_between p a b) ≡ once (pawn_advances p (triple a b None) || pawn_captures p (triple a b None))
+between_counted p a b king sound free pawn usual low high there one =
+    by (pawn_advances p (triple a b None) || pawn_captures p (triple a b None))
+    (pawn_goes p a b _ (man_told p.side Pawn (man_at p.men a) pawn) refl refl low high)
+  where
+    by : (t : Bool) → goes p a b ≡ t → length (moves_between p a b) ≡ once t
+    by true go =
+        let legal = free_is_legal p a b king sound free low there one go (usual.stays b high go) (usual.passes b) in
+        sym (rw legal at (one_counted p a b (usual.stays b high go)))
+    by false off = ap length (none_there p a b (λ k. false_from_ne_true (is_legal p (triple a b k))
+        (λ e. both_ways (goes p a b) off (legal_goes p (triple a b k) e).0)))
+
+-- the ways open to a pawn: one square ahead, two, and a capture to the left and to the right
+abbrev pub one_ahead : Setup → ℕ → Bool
+one_ahead p a = is_none (man_at p.men (forward p.side a))
+
+abbrev pub two_ahead : Setup → ℕ → Bool
+two_ahead p a = (one_ahead p a && (rank a == pawn_rank p.side)) && is_none (man_at p.men (forward p.side (forward p.side a)))
+
+abbrev pub takes_left : Setup → ℕ → Bool
+takes_left p a = not (file a == 0) && is_of (other p.side) (man_at p.men (forward p.side a - 1))
+
+abbrev pub takes_right : Setup → ℕ → Bool
+takes_right p a = not (file a == 7) && is_of (other p.side) (man_at p.men (forward p.side a + 1))
+
+pub stands_inside : (p : Setup) (a : ℕ) → IsSound p → is_man p.side Pawn (man_at p.men a) ≡ true → a < 64
+    → goes_unusually p a ≡ false → Inside p.side a
+unfolding no_pawn_on_end_ranks
+stands_inside p a sound pawn low usual =
+    inside p.men p.side a pawn (each_square-at _ sound.pawns a low) low
+    (λ e. both_ways (rank a == pawn_rank (other p.side))
+    (or_parts (aims_at p.target p.side a) (rank a == pawn_rank (other p.side)) usual).1
+    (eq-eqb (rank a) (pawn_rank (other p.side)) e))
+
+pub pawn_counted : (p : Setup) (a king : ℕ) → IsSound p → IsFree p a → is_man p.side Pawn (man_at p.men a) ≡ true
+    → a < 64 → king < 64 → ((k : ℕ) → k < 64 → is_man p.side King (man_at p.men k) ≡ (k == king))
+    → goes_unusually p a ≡ false
+    → length (moves_from p a)
+    ≡ once (one_ahead p a) + once (two_ahead p a) + once (takes_left p a) + once (takes_right p a)
+unfolding moves_from
+pawn_counted p a king sound free pawn low there one usual =
+    let neither = or_parts (aims_at p.target p.side a) (rank a == pawn_rank (other p.side)) usual in
+    let is_usual = pawn_usual p a sound low pawn neither.0
+    (λ e. both_ways (rank a == pawn_rank (other p.side)) neither.1 (eq-eqb (rank a) (pawn_rank (other p.side)) e)) in
+    let i = stands_inside p a sound pawn low usual in
+    let are = apart p.side a i in
+    let n = forward p.side a in
+    let each : (b : ℕ) → b < 64 → true ≡ true → length (moves_between p a b)
+    ≡ once (one_ahead p a && (b == n)) + once (two_ahead p a && (b == forward p.side n))
+    + once (takes_left p a && (b == n - 1)) + once (takes_right p a && (b == n + 1)) = λ b high e.
+    between_counted p a b king sound free pawn is_usual low high there one
+    ∙ ap once (rw (advances_so p a b pawn, captures_so p a b pawn neither.0 i) refl)
+    ∙ four_ways (one_ahead p a) (two_ahead p a) (takes_left p a) (takes_right p a) b n (forward p.side n) (n - 1) (n + 1)
+    are in
+    let sum = by_tests (λ b. moves_between p a b) (λ b. true) (λ b. one_ahead p a && (b == n))
+    (λ b. two_ahead p a && (b == forward p.side n)) (λ b. takes_left p a && (b == n - 1))
+    (λ b. takes_right p a && (b == n + 1)) 64 0 (omega arith) each (λ k l e. cc) in
+    ap (λ xs. length (flat_map (λ b. moves_between p a b) xs)) (by_range ∙ sym (all_kept (range_with_len 0 64)))
+    ∙ sum ∙ four_alone (one_ahead p a) (two_ahead p a) (takes_left p a) (takes_right p a) n (forward p.side n) (n - 1)
+    (n + 1) are
+
+-- ---- the moves of all
+
+-- of these pawns, those to which each way is open
+pub record AreWays (p : Setup) (w q r s t : ℕ) : Type 0 where
+  pub ahead : (k : ℕ) → k < 64 → has w k ≡ true → has q k ≡ one_ahead p k
+  pub double : (k : ℕ) → k < 64 → has w k ≡ true → has r k ≡ two_ahead p k
+  pub left : (k : ℕ) → k < 64 → has w k ≡ true → has s k ≡ takes_left p k
+  pub right : (k : ℕ) → k < 64 → has w k ≡ true → has t k ≡ takes_right p k
+  pub none : (k : ℕ) → k < 64 → has w k ≡ false
+      → (has q k ≡ false) × (has r k ≡ false) × (has s k ≡ false) × (has t k ≡ false)
+
+pub pawns_counted : (p : Setup) (king w q r s t : ℕ) → IsSound p → king < 64
+    → ((k : ℕ) → k < 64 → is_man p.side King (man_at p.men k) ≡ (k == king))
+    → AreFree p Pawn w → ((k : ℕ) → k < 64 → has w k ≡ true → goes_unusually p k ≡ false) → AreWays p w q r s t
+    → length (members q) + length (members r) + length (members s) + length (members t)
+    ≡ length (flat_map (λ a. moves_from p a) (members w))
+unfolding members squares
+pawns_counted p king w q r s t sound there one free usual ways = sym (by_tests (λ a. moves_from p a) (λ k. has w k)
+    (λ k. has q k) (λ k. has r k) (λ k. has s k) (λ k. has t k) 64 0 (omega arith) each ways.none)
+  where
+    each : (k : ℕ) → k < 64 → has w k ≡ true
+        → length (moves_from p k) ≡ once (has q k) + once (has r k) + once (has s k) + once (has t k)
+    each k low on =
+        let man = free k low on in
+        pawn_counted p k king sound man.1 man.0 low there one (usual k low on)
+        ∙ rw (ways.ahead k low on, ways.double k low on, ways.left k low on, ways.right k low on) refl
+
+at_least : (c : Colour) (a : ℕ) → Inside c a → (8 ≤ a) × (8 ≤ forward c a)
+at_least White a i = (i.0, omega (arith, i.0))
+at_least Black a i = (omega (arith, i.0), omega (arith, i.0))
+
+-- what the code computes of these pawns
+pub record AreSets (p : Setup) (w full blockers farther homes enemies lefts rights q again r s t : ℕ) : Type 0 where
+  pub all : (k : ℕ) → k < 64 → has full k ≡ not (is_none (man_at p.men k))
+  pub blocked : (k : ℕ) → k < 64 → 8 ≤ k → has blockers k ≡ has full (forward p.side k)
+  pub further : (k : ℕ) → k < 64 → 8 ≤ k → has farther k ≡ has blockers (forward p.side k)
+  pub home : (k : ℕ) → k < 64 → has homes k ≡ (rank k == pawn_rank p.side)
+  pub theirs : (k : ℕ) → k < 64 → has enemies k ≡ is_of (other p.side) (man_at p.men k)
+  pub from_left : (k : ℕ) → k < 64 → 8 ≤ k → forward p.side k < 64
+      → has lefts k ≡ (not (file k == 0) && has enemies (forward p.side k - 1))
+  pub from_right : (k : ℕ) → k < 64 → 8 ≤ k
+      → has rights k ≡ (not (file k == 7) && has enemies (forward p.side k + 1))
+  pub once : (k : ℕ) → k < 64 → has q k ≡ (has w k && not (has blockers k))
+  pub both : (k : ℕ) → has again k ≡ (has q k && has homes k)
+  pub twice : (k : ℕ) → k < 64 → has r k ≡ (has again k && not (has farther k))
+  pub left : (k : ℕ) → has s k ≡ (has w k && has lefts k)
+  pub right : (k : ℕ) → has t k ≡ (has w k && has rights k)
+
+pub ways_are : (p : Setup) (w full blockers farther homes enemies lefts rights q again r s t : ℕ) → IsSound p
+    → AreFree p Pawn w → ((k : ℕ) → k < 64 → has w k ≡ true → goes_unusually p k ≡ false)
+    → AreSets p w full blockers farther homes enemies lefts rights q again r s t → AreWays p w q r s t
+ways_are p w full blockers farther homes enemies lefts rights q again r s t sound free usual are = record {
+  ahead = ahead;
+  double = λ k low on.
+      let i = stands k low on in
+      let far = at_least p.side k i in
+      let on_board = apart p.side k i in
+      are.twice k low
+      ∙ rw (
+        are.both k,
+        ahead k low on,
+        are.home k low,
+        are.further k low far.0,
+        are.blocked (forward p.side k) on_board.low_n far.1,
+        are.all (forward p.side (forward p.side k)) on_board.low_t,
+        not-not (is_none (man_at p.men (forward p.side (forward p.side k)))),
+      ) refl;
+  left = λ k low on.
+      let i = stands k low on in
+      let on_board = apart p.side k i in
+      are.left k
+      ∙ rw (
+        on,
+        are.from_left k low (at_least p.side k i).0 on_board.low_n,
+        are.theirs (forward p.side k - 1) on_board.low_l,
+      ) refl;
+  right = λ k low on.
+      let i = stands k low on in
+      let on_board = apart p.side k i in
+      are.right k
+      ∙ rw (
+        on,
+        are.from_right k low (at_least p.side k i).0,
+        are.theirs (forward p.side k + 1) on_board.low_r,
+      ) refl;
+  none = λ k low off.
+      let q0 : has q k ≡ false = are.once k low ∙ ap (λ x. x && not (has blockers k)) off in
+      let both0 : has again k ≡ false = are.both k ∙ ap (λ x. x && has homes k) q0 in (
+        q0,
+        are.twice k low ∙ ap (λ x. x && not (has farther k)) both0,
+        are.left k ∙ ap (λ x. x && has lefts k) off,
+        are.right k ∙ ap (λ x. x && has rights k) off,
+      );
+}
+  where
+    stands : (k : ℕ) → k < 64 → has w k ≡ true → Inside p.side k
+    stands k low on = stands_inside p k sound (free k low on).0 low (usual k low on)
+
+    ahead : (k : ℕ) → k < 64 → has w k ≡ true → has q k ≡ one_ahead p k
+    ahead k low on =
+        let i = stands k low on in
+        let on_board = apart p.side k i in
+        are.once k low
+        ∙ rw (
+          on,
+          are.blocked k low (at_least p.side k i).0,
+          are.all (forward p.side k) on_board.low_n,
+          not-not (is_none (man_at p.men (forward p.side k))),
+        ) refl

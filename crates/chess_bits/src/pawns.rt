@@ -1,0 +1,93 @@
+//! What the pawns of a set do together: on which of their squares they may go ahead, or capture to one side.
+
+ghost use Rattle.std.specs.Prelude.{◌≡◌, ◌+◌, ◌-◌, ◌≤◌, ◌<◌, ◌==◌, ◌&&◌, not, ℕ, true, false, length};
+ghost use Rattle.std.specs.List.{flat_map};
+ghost use Rattle.chess_base.specs.Men.{forward, is_man, man_at};
+ghost use Rattle.chess_base.specs.Squares.{file};
+ghost use Rattle.chess_base.specs.declared.man.Kind.TheVariants.{Pawn};
+ghost use Rattle.chess_bits.specs.ties.Goes.{AreFree, goes_unusually};
+ghost use Rattle.chess_moves.specs.ties.Candidates.{moves_from};
+ghost use Rattle.chess_moves.specs.Sets.{has, members};
+
+use crate::bits::Bits;
+use crate::table::Shape;
+use chess_base::rules::{is_man, pawn_rank};
+use chess_base::{Colour, Kind, Square};
+use chess_moves::{Board, SquareSet};
+
+// The squares from which a pawn of that colour goes straight to one of a set.
+#[inline(always)]
+fn behind(colour: Colour, squares: SquareSet) -> SquareSet
+    ensures { (k : ℕ) → k < 64 → 8 ≤ k → has result k ≡ has squares (forward colour k) }
+{
+    match colour {
+        Colour::White => squares.lowered(8),
+        Colour::Black => squares.raised(8),
+    }
+}
+
+// The squares from which a pawn of that colour attacks one of a set, towards the a-file.
+#[inline(always)]
+fn attacking_left(colour: Colour, squares: SquareSet) -> SquareSet
+    ensures { (k : ℕ) → k < 64 → 8 ≤ k → forward colour k < 64
+        → has result k ≡ (not (file k == 0) && has squares (forward colour k - 1)) }
+{
+    let starts = behind(colour, squares.raised(1));
+    starts.without(SquareSet::of_file(0))
+}
+
+// The squares from which a pawn of that colour attacks one of a set, towards the h-file.
+#[inline(always)]
+fn attacking_right(colour: Colour, squares: SquareSet) -> SquareSet
+    ensures { (k : ℕ) → k < 64 → 8 ≤ k
+        → has result k ≡ (not (file k == 7) && has squares (forward colour k + 1)) }
+{
+    let starts = behind(colour, squares.lowered(1));
+    starts.without(SquareSet::of_file(7))
+}
+
+impl Bits<'_> {
+    // The squares on which a pawn of the side on move may promote or take en passant.
+    #[tactic(auto, using(crate::proofs::PawnsCounted::aims_back))]
+    pub(crate) fn unusual_squares(&self) -> SquareSet
+        ensures { (k : ℕ) → k < 64 → has result k ≡ goes_unusually self.now k }
+    {
+        let theirs = self.setup.side.other();
+        let last = SquareSet::of_rank(pawn_rank(theirs));
+        match self.setup.target {
+            None => last,
+            Some(target) => self.tables.at(Shape::Pawn(theirs), target).union(last),
+        }
+    }
+
+    // Whether a pawn of the side on move is there that may promote or take en passant.
+    pub(crate) fn is_unusual(&self, from: Square) -> bool
+        ensures { result ≡ (is_man (self.now).side Pawn (man_at (self.now).men from) && goes_unusually self.now from) }
+    {
+        // The prover wants this fact: the start's number is below 64.
+        let _start = from.number();
+        is_man(self.setup.side, Kind::Pawn, self.setup.men[from.index()])
+            && self.unusual_squares().contains(from)
+    }
+
+    // How many legal moves these free pawns have, none of which may promote or take en passant. Each has one move for
+    // each of four ways that is open to it: one or two squares ahead, and a capture to the left or to the right.
+    pub(crate) fn count_usual_pawns(&self, pawns: SquareSet) -> usize
+        requires free { AreFree self.now Pawn pawns }
+        requires usual { (k : ℕ) → k < 64 → has pawns k ≡ true → goes_unusually self.now k ≡ false }
+        ensures { result ≡ length (flat_map (λ a. moves_from self.now a) (members pawns)) }
+    {
+        // The prover wants these facts: the position is sound, and the king is on one square alone.
+        let _sound = self.setup();
+        let side = self.setup.side;
+        let _king = self.king(side);
+        let blocked = behind(side, self.sets.occupied());
+        let once = pawns.without(blocked);
+        let home = SquareSet::of_rank(pawn_rank(side));
+        let twice = once.intersection(home).without(behind(side, blocked));
+        let theirs = self.sets.all(side.other());
+        let left = pawns.intersection(attacking_left(side, theirs));
+        let right = pawns.intersection(attacking_right(side, theirs));
+        once.len() + twice.len() + left.len() + right.len()
+    }
+}

@@ -1,0 +1,78 @@
+-- Sets shifted by a number of squares, and files and ranks as sets.
+use Rattle.std.proofs.Common.{◌≡◌, ℕ, ◌<◌, ◌≤◌, ◌+◌, ◌-◌, ◌*◌, ◌/◌, ◌%◌, ◌^◌, inl, inr, Bool, true, false, not, ◌&&◌, ◌||◌, ◌==◌, refl, sym, ap, ◌∙◌, arith, nat_le, nat_lt, pow_pos, shr-shr}
+use Rattle.std.proofs.lemmas.Bool.{cases_lt, cases_Bool, leb-true, leb-false, le-leb, lt-leb, eqb-true, eq-eqb, ne_eqb, both_ways, agree_below_at}
+use Rattle.std.proofs.lemmas.Bool.Decides.{nat_tests}
+use Rattle.std.proofs.lemmas.Nat.{div-add-mod'}
+use Rattle.std.proofs.lemmas.Nat.Bits.{bit_at-zero, bit_at_cat_low, bit_at_cat_high}
+use Rattle.std.specs.Int.{bit_at}
+use Rattle.chess_base.specs.Squares.{file, rank}
+use Rattle.chess_moves.specs.Sets.{has}
+
+pub has_lowered : (w d k : ℕ) → has (w / 2 ^ d) k ≡ has w (k + d)
+unfolding has
+has_lowered w d k =
+    let e : d + k ≡ k + d = omega arith in
+    ap (λ x. (x % 2) == 1) (shr-shr w d k ∙ ap (λ n. w / 2 ^ n) e)
+
+-- what goes past the 64th bit is not among them
+kept : (v k : ℕ) → k < 64 → bit_at (v % 2 ^ 64) k ≡ bit_at v k
+kept v k l =
+    sym (bit_at_cat_low (v / 2 ^ 64) 64 (v % 2 ^ 64) k l) ∙ ap (λ x. bit_at x k) (div-add-mod' v (2 ^ 64))
+
+moved_low : (w d k : ℕ) → k < d → bit_at (w * 2 ^ d) k ≡ 0
+moved_low w d k l =
+    let e : w * 2 ^ d ≡ w * 2 ^ d + 0 = omega arith in
+    ap (λ x. bit_at x k) e ∙ bit_at_cat_low w d 0 k l ∙ bit_at-zero k
+
+moved_high : (w d k : ℕ) → d ≤ k → bit_at (w * 2 ^ d) k ≡ bit_at w (k - d)
+moved_high w d k l =
+    let e : w * 2 ^ d ≡ w * 2 ^ d + 0 = omega arith in
+    ap (λ x. bit_at x k) e ∙ bit_at_cat_high w d 0 k (pow_pos d) l
+
+pub has_raised : (w d k : ℕ) → k < 64 → has (w * 2 ^ d % 2 ^ 64) k ≡ (nat_le d k && has w (k - d))
+unfolding has
+has_raised w d k l =
+    elim (cases_lt k d) [
+      | inl low ↦ rw (lt-leb d k low, kept (w * 2 ^ d) k l, moved_low w d k low) refl
+      | inr high ↦ rw (le-leb d k high, kept (w * 2 ^ d) k l, moved_high w d k high) refl
+    ]
+
+-- ---- files and ranks
+
+on_first_file : (k : ℕ) → k < 64 → has 72340172838076673 k ≡ (k % 8 == 0)
+unfolding has
+on_first_file k l = agree_below_at (λ j. has 72340172838076673 j) (λ j. j % 8 == 0) 64 k refl l
+
+on_first_rank : (k : ℕ) → k < 64 → has 255 k ≡ (k / 8 == 0)
+unfolding has
+on_first_rank k l = agree_below_at (λ j. has 255 j) (λ j. j / 8 == 0) 64 k refl l
+
+pub on_file : (n k : ℕ) → n < 8 → k < 64 → (nat_le n k && has 72340172838076673 (k - n)) ≡ (file k == n)
+on_file n k low high =
+    elim (cases_lt k n) [
+      | inl below ↦ rw (lt-leb n k below) (sym (ne_eqb (k % 8) n (λ e. omega (arith, e, below, low))))
+      | inr above ↦
+          rw (le-leb n k above, on_first_file (k - n) (omega (arith, high)))
+          (elim (cases_Bool (k % 8 == n)) [
+            | inl on ↦ let e = eqb-true (k % 8) n on in
+                eq-eqb ((k - n) % 8) 0 (omega (arith, e, above)) ∙ sym on
+            | inr off ↦ ne_eqb ((k - n) % 8) 0
+                (λ e. let f : k % 8 ≡ n = omega (arith, e, above, low) in both_ways (k % 8 == n) off (eq-eqb (k % 8) n f))
+                ∙ sym off
+          ])
+    ]
+
+pub on_rank : (n k : ℕ) → n < 8 → k < 64 → (nat_le (8 * n) k && has 255 (k - 8 * n)) ≡ (rank k == n)
+on_rank n k low high =
+    elim (cases_lt k (8 * n)) [
+      | inl below ↦ rw (lt-leb (8 * n) k below) (sym (ne_eqb (k / 8) n (λ e. omega (arith, e, below))))
+      | inr above ↦
+          rw (le-leb (8 * n) k above, on_first_rank (k - 8 * n) (omega (arith, high)))
+          (elim (cases_Bool (k / 8 == n)) [
+            | inl on ↦ let e = eqb-true (k / 8) n on in
+                eq-eqb ((k - 8 * n) / 8) 0 (omega (arith, e, above)) ∙ sym on
+            | inr off ↦ ne_eqb ((k - 8 * n) / 8) 0
+                (λ e. let f : k / 8 ≡ n = omega (arith, e, above) in both_ways (k / 8 == n) off (eq-eqb (k / 8) n f))
+                ∙ sym off
+          ])
+    ]
