@@ -9,7 +9,7 @@ use Rattle.chess_base.specs.declared.man.Kind.{Kind}
 use Rattle.chess_base.specs.declared.man.Kind.TheVariants.{King, Rook}
 use Rattle.chess_base.specs.declared.man.Variant.TheVariants.{Normal}
 use Rattle.chess_base.specs.declared.setup.Setup.{Setup}
-use Rattle.chess_base.specs.Castling.{home_square, king_home_file, rook_file, castled_king_file, castled_rook_file, right_of, stand_for_castling, right_stands, names_castling, says_castling, castling, castle_from, castle_with, castle_by, castle_of}
+use Rattle.chess_base.specs.Castling.{home_square, king_home_file, rook_file, castled_king_file, castled_rook_file, right_of, are_placed_for_castling, right_is_sound, names_castling, says_castling, castling, castle_from, castle_with, castle_by, castle_of}
 use Rattle.chess_base.specs.Men.{man_at, is_man}
 use Rattle.chess_base.specs.MoveList.{triple}
 use Rattle.chess_base.specs.Sound.{IsSound}
@@ -19,10 +19,10 @@ use Rattle.chess_bits.specs.ties.Goes.{castling_end}
 use Rattle.chess_bits.proofs.OneKing.{alone, has_king}
 
 stands : (p : Setup) (w : CastlingSide) (rook : ℕ) → IsSound p → p.variant ≡ Normal
-    → right_of p.rights p.side w ≡ Some rook → stand_for_castling Normal p.men p.side w rook ≡ true
-unfolding right_stands
+    → right_of p.rights p.side w ≡ Some rook → are_placed_for_castling Normal p.men p.side w rook ≡ true
+unfolding right_is_sound
 stands p w rook sound normal right =
-    sym (ap (λ (v : Variant). stand_for_castling v p.men p.side w rook) normal)
+    sym (ap (λ (v : Variant). are_placed_for_castling v p.men p.side w rook) normal)
     ∙ right_that_stands p.variant p.men p.side w (right_of p.rights p.side w) rook (right_stands_of p sound p.side w)
     right
 

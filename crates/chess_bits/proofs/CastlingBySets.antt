@@ -14,7 +14,7 @@ use Rattle.chess_base.specs.declared.man.Variant.{Variant}
 use Rattle.chess_base.specs.declared.man.Variant.TheVariants.{Normal, Fischerandom}
 use Rattle.chess_base.specs.declared.setup.Setup.{Setup}
 use Rattle.chess_base.specs.Attacks.{is_attacked}
-use Rattle.chess_base.specs.Castling.{home_square, king_home_file, rook_file, castled_king_file, castled_rook_file, right_of, king_square, is_to_side, is_beside, stand_for_castling, right_stands, names_castling_with, castling, castle_from, castle_of, castles, is_on_way, castling_crosses, castling_way_is_empty, castling_way_is_safe, castling_rook_to, lands_on}
+use Rattle.chess_base.specs.Castling.{home_square, king_home_file, rook_file, castled_king_file, castled_rook_file, right_of, king_square, is_to_side, is_beside, are_placed_for_castling, right_is_sound, names_castling_with, castling, castle_from, castle_of, castles, is_on_way, castling_crosses, castling_way_is_empty, castling_way_is_safe, castling_rook_to, lands_on}
 use Rattle.chess_base.specs.Men.{Men, man_at, other, is_man, first_rank}
 use Rattle.chess_base.specs.MoveList.{triple}
 use Rattle.chess_base.specs.Moves.{is_pseudo_legal, is_legal, castles_or_moves, promotion_fits, man_that_lands, second_square_emptied, steps_of}
@@ -52,7 +52,7 @@ rook_end_low KingSide = omega arith
 rook_end_low QueenSide = omega arith
 
 starts : (v : Variant) (men : Men) (c : Colour) (w : CastlingSide) (m : Move) (r : ℕ)
-    → names_castling_with v c m w r ≡ true → stand_for_castling v men c w r ≡ true
+    → names_castling_with v c m w r ≡ true → are_placed_for_castling v men c w r ≡ true
     → (rank m.from ≡ first_rank c) × (rank r ≡ first_rank c)
 starts Normal men c w m r n s =
     let from = eqb-true m.from (home_square c king_home_file)
@@ -85,7 +85,7 @@ pub record OnRank (k : Castle) : Type 0 where
 
 on_rank_by : (p : Setup) (m : Move) (k : Castle) → IsSound p → castle_of p m ≡ Some k → (o : Option CastlingSide)
     → castling p m ≡ o → OnRank k
-unfolding right_stands
+unfolding right_is_sound
 on_rank_by p m k sound e None none = let gone = no_castle p m none in absurd cc
 on_rank_by p m k sound e (Some w) says =
     let there = castle_there p m w says in

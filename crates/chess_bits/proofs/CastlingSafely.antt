@@ -14,7 +14,7 @@ use Rattle.chess_base.specs.declared.man.Variant.{Variant}
 use Rattle.chess_base.specs.declared.man.Variant.TheVariants.{Normal}
 use Rattle.chess_base.specs.declared.setup.Setup.{Setup}
 use Rattle.chess_base.specs.Attacks.{is_clear, could_capture_as, attacks, is_attacked}
-use Rattle.chess_base.specs.Castling.{home_square, king_home_file, rook_file, castled_king_file, castled_rook_file, right_of, names_castling_with, stand_for_castling, right_stands, castling, castle_from, castle_of, is_on_way, castling_way_is_empty, castling_way_is_safe, lands_on, castling_rook_to, mover_to}
+use Rattle.chess_base.specs.Castling.{home_square, king_home_file, rook_file, castled_king_file, castled_rook_file, right_of, names_castling_with, are_placed_for_castling, right_is_sound, castling, castle_from, castle_of, is_on_way, castling_way_is_empty, castling_way_is_safe, lands_on, castling_rook_to, mover_to}
 use Rattle.chess_base.specs.Men.{Men, man_at, other, is_of, is_man}
 use Rattle.chess_base.specs.Moves.{is_pseudo_legal, is_legal, man_that_lands, men_after, second_square_emptied}
 use Rattle.chess_base.specs.Sound.{IsSound}
@@ -179,14 +179,14 @@ way_end men c k safe low =
 home_starts : (p : Setup) (m : Move) (w : CastlingSide) (r : ℕ) → IsSound p → p.variant ≡ Normal → castling p m ≡ Some w
     → right_of p.rights p.side w ≡ Some r
     → (m.from ≡ home_square p.side king_home_file) × (r ≡ home_square p.side (rook_file w))
-unfolding right_stands
+unfolding right_is_sound
 home_starts p m w r sound normal says right =
     let names = (castling_says p m w (says_from_castling p m w says)).1 in
     let named : names_castling_with p.variant p.side m w r ≡ true = rw right at names in
     let at : names_castling_with Normal p.side m w r ≡ true =
     sym (ap (λ (v : Variant). names_castling_with v p.side m w r) normal) ∙ named in
-    let stands : stand_for_castling Normal p.men p.side w r ≡ true =
-    sym (ap (λ (v : Variant). stand_for_castling v p.men p.side w r) normal)
+    let stands : are_placed_for_castling Normal p.men p.side w r ≡ true =
+    sym (ap (λ (v : Variant). are_placed_for_castling v p.men p.side w r) normal)
     ∙ right_that_stands p.variant p.men p.side w (right_of p.rights p.side w) r (right_stands_of p sound p.side w)
     right in
     let two = and_parts ((r == home_square p.side (rook_file w))

@@ -20,7 +20,7 @@ use Rattle.chess_base.specs.declared.setup.Setup.{Setup}
 use Rattle.chess_base.specs.Squares.{is_square}
 use Rattle.chess_base.specs.Men.{Men, man_at, other, is_man, is_of, same_colour, same_kind}
 use Rattle.chess_base.specs.Before.{captured_square, man_on, saved_of}
-use Rattle.chess_base.specs.Castling.{castling_rook_to, home_square, is_beside, king_home_file, king_square, lands_on, right_of, right_stands, right_stands_at, rook_file, says_castling, stand_for_castling}
+use Rattle.chess_base.specs.Castling.{castling_rook_to, home_square, is_beside, king_home_file, king_square, lands_on, right_of, right_is_sound, right_is_sound_at, rook_file, says_castling, are_placed_for_castling}
 use Rattle.chess_base.specs.Sound.{IsSound}
 use Rattle.chess_base.specs.Attacks.{is_in_check}
 use Rattle.chess_base.specs.Moves.{after, fullmove_after, halfmove_after, is_pseudo_legal, is_double_advance, is_legal, man_that_lands, men_after, resets_clock, right_after, rights_after, second_square_emptied, target_after}
@@ -83,7 +83,7 @@ no_rook c (Some x) e = and_right (same_colour c x.colour) (same_kind Rook x.kind
     (neither (same_kind King x.kind) (same_kind Rook x.kind) e).1
 
 -- the rook of a right is on its square
-rook_there : (v : Variant) (men : Men) (c : Colour) (w : CastlingSide) (s : ℕ) → stand_for_castling v men c w s ≡ true
+rook_there : (v : Variant) (men : Men) (c : Colour) (w : CastlingSide) (s : ℕ) → are_placed_for_castling v men c w s ≡ true
     → is_man c Rook (man_at men s) ≡ true
 rook_there Normal men c w s h =
     (and_parts ((s == home_square c (rook_file w)) && is_man c King (man_at men (home_square c king_home_file)))
@@ -93,7 +93,7 @@ rook_there Fischerandom men c w s h =
 
 right_kept : (p : Setup) (m : Move) (c : Colour) (w : CastlingSide) (o : Option ℕ)
     → is_king_or_rook (man_at p.men m.from) ≡ false → is_king_or_rook (man_at p.men m.to) ≡ false
-    → right_stands_at p.variant p.men c w o ≡ true → right_after p m c o ≡ o
+    → right_is_sound_at p.variant p.men c w o ≡ true → right_after p m c o ≡ o
 right_kept p m c w None mover taken stands = refl
 right_kept p m c w (Some s) mover taken stands =
     let there = rook_there p.variant p.men c w s stands in
@@ -103,9 +103,9 @@ right_kept p m c w (Some s) mover taken stands =
     ne_eqb m.to s (λ e. both_ways _ (no_rook c (man_at p.men m.to) taken) (rw e there)) in
     rw (no_king c (man_at p.men m.from) mover, not_from, not_to) refl
 
-stands_at : (p : Setup) (c : Colour) (w : CastlingSide) → right_stands p c w ≡ true
-    → right_stands_at p.variant p.men c w (right_of p.rights c w) ≡ true
-unfolding right_stands
+stands_at : (p : Setup) (c : Colour) (w : CastlingSide) → right_is_sound p c w ≡ true
+    → right_is_sound_at p.variant p.men c w (right_of p.rights c w) ≡ true
+unfolding right_is_sound
 stands_at p c w h = h
 
 rights_kept_at : (p : Setup) (m : Move) → IsSound p

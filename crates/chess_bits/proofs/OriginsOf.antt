@@ -14,7 +14,7 @@ use Rattle.chess_base.specs.Attacks.{is_clear, could_capture}
 use Rattle.chess_base.specs.Men.{Men, man_at, other, is_of, is_man, same_kind, forward, pawn_rank}
 use Rattle.chess_base.specs.MoveList.{triple}
 use Rattle.chess_base.specs.Moves.{is_legal, pawn_advances, pawn_captures}
-use Rattle.chess_base.specs.Sound.{IsSound, no_pawn_on_end_ranks, pawn_may_stand}
+use Rattle.chess_base.specs.Sound.{IsSound, no_pawn_on_end_ranks, pawn_is_allowed}
 use Rattle.chess_base.specs.Squares.{file, rank, is_square}
 use Rattle.chess_base.proofs.Changes.{advance_goes, pawn_from_same}
 use Rattle.chess_base.proofs.MenFacts.{is_of-from_is_man}
@@ -73,9 +73,9 @@ officer_origins p kind to w u v no_pawn no_king all men reached = λ m legal man
 -- ---- pawns
 
 -- no pawn is on the lowest rank
-pub off_lowest : (men : Men) (c : Colour) (a : ℕ) → is_man c Pawn (man_at men a) ≡ true → pawn_may_stand men a ≡ true
+pub off_lowest : (men : Men) (c : Colour) (a : ℕ) → is_man c Pawn (man_at men a) ≡ true → pawn_is_allowed men a ≡ true
     → 8 ≤ a
-unfolding pawn_may_stand
+unfolding pawn_is_allowed
 off_lowest men White a man e = let f = not-true _ (rw man at e) in grind (arith, nat_tests, f)
 off_lowest men Black a man e = by (is_man White Pawn (man_at men a)) (rw man at e)
   where

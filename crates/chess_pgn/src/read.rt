@@ -74,7 +74,7 @@ pub enum PgnFaultKind {
 
 /// A fault of a game's text, and its byte.
 #[derive(Clone, Copy, Debug, PartialEq, Eq, thiserror::Error)]
-#[error("{kind} at byte {place}")]
+#[error("{kind} at byte {offset}")]
 pub struct PgnFault {
     pub kind: PgnFaultKind,
     /// The byte at which it is, from the text's first byte on.

@@ -14,5 +14,5 @@ pub fn is_equal_at<T: PartialEq + Debug>(
     found: &T,
     wanted: &T,
 ) {
-    assert_eq!(rt; *found, *wanted, "at {place} of {text:?}");
+    assert_eq!(rt; *found, *wanted, "at {offset} of {text:?}");
 }

@@ -11,7 +11,7 @@ use Rattle.chess_base.specs.Attacks.{attacks, could_capture, is_rank_ahead}
 use Rattle.chess_base.specs.Men.{Men, man_at, other, is_of, is_man, same_colour, forward, first_rank, pawn_rank}
 use Rattle.chess_base.specs.Moves.{is_double_advance, is_en_passant, pawn_advances, pawn_captures, pawn_moves, promotion_fits}
 use Rattle.chess_base.specs.Squares.{is_square}
-use Rattle.chess_base.specs.Sound.{IsSound, pawn_may_stand, no_pawn_on_end_ranks}
+use Rattle.chess_base.specs.Sound.{IsSound, pawn_is_allowed, no_pawn_on_end_ranks}
 use Rattle.chess_base.specs.Squares.{file, rank, gap, each_square}
 use Rattle.chess_base.proofs.OverSquares.{each_below-at}
 use Rattle.chess_base.proofs.MenFacts.{same_colour-self, is_none-None}
@@ -23,9 +23,9 @@ pawn_of c = record { colour = c; kind = Pawn }
 
 -- ---- no pawn is on its first rank
 
-stands_off : (men : Men) (c : Colour) (s : ℕ) → man_at men s ≡ Some (pawn_of c) → pawn_may_stand men s ≡ true
+stands_off : (men : Men) (c : Colour) (s : ℕ) → man_at men s ≡ Some (pawn_of c) → pawn_is_allowed men s ≡ true
     → rank s ≢ 0
-unfolding pawn_may_stand is_man
+unfolding pawn_is_allowed is_man
 stands_off men White s at e zero_rank =
     let e' = rw (at, zero_rank) at e in
     cc
@@ -36,7 +36,7 @@ stands_off men Black s at e zero_rank =
 pub pawn_stands : (p : Setup) → IsSound p → (c : Colour) (s : ℕ) → s < 64 → man_at p.men s ≡ Some (pawn_of c) → 8 ≤ s
 unfolding no_pawn_on_end_ranks each_square
 pawn_stands p sound c s h at =
-    let off = stands_off p.men c s at (each_below-at 64 (λ s. pawn_may_stand p.men s) sound.pawns s h) in
+    let off = stands_off p.men c s at (each_below-at 64 (λ s. pawn_is_allowed p.men s) sound.pawns s h) in
     omega arith
 
 -- ---- straight on
