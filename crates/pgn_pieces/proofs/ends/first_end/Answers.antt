@@ -26,5 +26,6 @@ loop-place-preserved c = record {
   same = λ ended place part rest.
       c.loop-place.invariant.same ended place part rest
       ∙ passes c.args.text.now c.loop-place.place (omega arith)
-      (tested c.args.text.now c.loop-place.place _ _ c.ends_before.ensures c.if-ends_before.false) ended place part rest;
+      (tested c.args.text.now c.loop-place.place _ _ c.ends_before.ensures c.if-ends_before.false) ended place part rest
+      ∙ c.further-place.ensures.passed ended place part rest;
 }
