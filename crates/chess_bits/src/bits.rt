@@ -147,10 +147,12 @@ impl Board for Bits<'_> {
         self.is_attacked(king, side.other())
     }
 
+    #[inline(always)]
     fn word(&self) -> u64 {
         word_with(self.tables.keys(), self.sets.men_word, &self.setup)
     }
 
+    #[inline(always)]
     fn make(&mut self, m: Move) -> Saved {
         let keys = self.tables.keys();
         make_move(&mut self.setup, &mut self.sets, keys, &m)

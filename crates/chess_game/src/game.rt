@@ -104,6 +104,7 @@ fn repetitions(places: &[Place]) -> u32
 
 // The verdict on the game of that board and those places, where there is a legal move.
 #[tactic(auto, unfolding(crate::specs::Ends::verdict))]
+#[inline(always)]
 fn verdict_of_moving<B: Board>(board: &B, places: &[Place]) -> Option<Verdict>
     requires { IsTrue (nat_lt 0 (length (moves (B.position board.now)))) }
     ensures { (start : Known) → IsKept B.word_of start places.now (B.position board.now)
@@ -382,6 +383,7 @@ impl<B: Board> Game<B> {
     }
 
     /// The verdict, found with the help of a legal move: where there is one, there is neither mate nor stalemate.
+    #[inline(always)]
     pub fn verdict_of_moving(&self, m: &Move) -> Option<Verdict>
         requires { IsTrue (is_legal (current self.now.state) m.now) }
         ensures { result ≡ verdict_now self.now.state }
