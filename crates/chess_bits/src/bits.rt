@@ -136,6 +136,7 @@ impl Board for Bits<'_> {
         self.sets.of(colour).of(kind)
     }
 
+    #[inline(always)]
     fn legal_starts(&self, kind: Kind, to: Square) -> SquareSet {
         self.starts_of(kind, to)
     }
