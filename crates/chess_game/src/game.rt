@@ -209,6 +209,7 @@ impl<B: Board> Game<B> {
     }
 
     /// Plays a move that is known to be legal, where the game is neither over nor full.
+    #[inline(always)]
     pub fn play_legal(&mut self, m: Move)
         requires { play_refusal self.old m ≡ None }
         ensures { self.new ≡ after_play self.old m None }

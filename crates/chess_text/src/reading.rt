@@ -319,6 +319,7 @@ fn spelled<B: Board>(board: &B, form: &Form) -> Reading
 
 /// What a text is in the board's position: of the legal moves it may denote one, several or none. Whether a mark `+` or
 /// `#` is true isn't asked; en passant is a capture.
+#[inline(always)]
 pub fn read_move<B: Board>(board: &B, text: &[u8]) -> Reading
     ensures value { result ≡ reading (B.position board.now) text.now }
     ensures legal { IsLegalReading (B.position board.now) result }
