@@ -15,15 +15,16 @@ use Rattle.chess_base.specs.Attacks.{could_capture, is_in_check}
 use Rattle.chess_base.specs.Castling.{castle_of}
 use Rattle.chess_base.specs.Men.{man_at, is_of, is_man, kind_number, same_colour, same_kind}
 use Rattle.chess_base.specs.MoveList.{triple}
-use Rattle.chess_base.specs.Moves.{is_pseudo_legal, is_legal, after, castles_or_moves, man_moves, promotion_fits}
+use Rattle.chess_base.specs.Moves.{is_pseudo_legal, is_legal, after, castles_or_moves, man_moves, pawn_advances, pawn_captures, promotion_fits}
 use Rattle.chess_base.specs.Squares.{is_square}
 use Rattle.chess_base.proofs.MenFacts.{is_man-kind}
+use Rattle.chess_moves.specs.Promoting.{would_promote}
 use Rattle.chess_moves.specs.Sets.{has, HasOrigins}
 use Rattle.chess_moves.proofs.Origins.{begins_below}
 use Rattle.chess_bits.specs.ties.Changes.{StepsPlainly}
 use Rattle.chess_bits.specs.ties.Goes.{goes, legal_or, IsOfficer}
 use Rattle.chess_bits.proofs.OriginsOf.{back, officer_attacks}
-use Rattle.chess_bits.proofs.Patterns.{fits_low, not_fitting, not_promoting, officer_goes, pattern_by}
+use Rattle.chess_bits.proofs.Patterns.{fits_low, not_fitting, not_promoting, officer_goes, pattern_by, pawn_goes}
 use Rattle.chess_bits.proofs.Starts.{starts_are}
 use Rattle.chess_bits.proofs.TargetsOf.{man_told, no_king_says, none_castles, steps_of_man}
 
@@ -154,6 +155,40 @@ officer_told c x o at own usual =
           (eq-eqb (kind_number x.kind) (kind_number x.kind) refl));
       usual = not-true (same_kind King x.kind || same_kind Pawn x.kind) usual;
     }
+
+-- ---- pawns
+
+-- a pawn has the pattern of a move without a promotion where it goes, but for its last rank
+pub pawn_pattern : (p : Setup) (a b : ℕ) → is_man p.side Pawn (man_at p.men a) ≡ true → a < 64 → b < 64
+    → ((pawn_advances p (triple a b None) || pawn_captures p (triple a b None)) && not (would_promote p a b))
+    ≡ is_pseudo_legal p (triple a b None)
+pawn_pattern p a b pawn low high =
+    ap (λ g. g && not (would_promote p a b))
+    (sym (pawn_goes p a b _ (man_told p.side Pawn (man_at p.men a) pawn) refl refl low high))
+    ∙ ap (λ f. goes p a b && f) (unpromoted (would_promote p a b))
+    ∙ sym (pattern_by p a b None)
+  where
+    unpromoted : (w : Bool) → not w ≡ promotion_fits w None
+    unpromoted true = refl
+    unpromoted false = refl
+
+pub pawn_plain : (p : Setup) (a b : ℕ) → is_man p.side Pawn (man_at p.men a) ≡ true
+    → is_pseudo_legal p (triple a b None) ≡ true → is_square p.target b ≡ false → StepsPlainly p a b
+pawn_plain p a b pawn goes_so off = record {
+  pattern = goes_so;
+  no_king = is_man-kind p.side p.side Pawn King (man_at p.men a) refl pawn;
+  no_passing = and_right (is_man p.side Pawn (man_at p.men a)) (is_square p.target b) off;
+}
+
+-- what is neither officer nor king
+pub pawn_left : (kind : Kind) → not (same_kind King kind || same_kind Pawn kind) ≡ false → same_kind King kind ≡ false
+    → kind ≡ Pawn
+pawn_left Pawn h g = refl
+pawn_left King h g = cc
+pawn_left Queen h g = cc
+pawn_left Rook h g = cc
+pawn_left Bishop h g = cc
+pawn_left Knight h g = cc
 
 -- ---- the king
 

@@ -136,6 +136,7 @@ impl Board for Bits<'_> {
         self.sets.of(colour).of(kind)
     }
 
+    #[inline(always)]
     fn legal_starts(&self, kind: Kind, to: Square) -> SquareSet {
         self.starts_of(kind, to)
     }
@@ -147,10 +148,12 @@ impl Board for Bits<'_> {
         self.is_attacked(king, side.other())
     }
 
+    #[inline(always)]
     fn word(&self) -> u64 {
         word_with(self.tables.keys(), self.sets.men_word, &self.setup)
     }
 
+    #[inline(always)]
     fn make(&mut self, m: Move) -> Saved {
         let keys = self.tables.keys();
         make_move(&mut self.setup, &mut self.sets, keys, &m)

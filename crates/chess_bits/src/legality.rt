@@ -3,13 +3,14 @@
 ghost use Rattle.std.specs.Prelude.{◌≡◌, ℕ, ◌<◌, ◌&&◌, ◌||◌, not, true, false, None, MatchOption};
 ghost use Rattle.chess_base.specs.Men.{man_at, is_man, same_kind};
 ghost use Rattle.chess_base.specs.MoveList.{triple};
-ghost use Rattle.chess_base.specs.Moves.{is_legal};
+ghost use Rattle.chess_base.specs.Moves.{is_pseudo_legal, is_legal};
 ghost use Rattle.chess_base.specs.declared.man.Kind.TheVariants.{King, Pawn};
 ghost use Rattle.chess_bits.specs.ties.Changes.{StepsPlainly};
 ghost use Rattle.chess_bits.specs.ties.Goes.{IsOfficer};
 ghost use Rattle.chess_moves.specs.Sets.{has, HasLegalStarts};
 
 use crate::bits::Bits;
+use crate::placing::is_target;
 use crate::reaching::reached_from;
 use crate::targets::{is_king, is_pawn};
 use chess_base::rules::{is_of, promotion_fits};
@@ -95,19 +96,48 @@ impl Bits<'_> {
         }
     }
 
-    // Those of these squares from which the move to a square without a promotion is legal.
-    fn starts_among(&self, men: SquareSet, to: Square) -> SquareSet
-        ensures { (k : ℕ) → k < 64 → has result k ≡ (has men k && is_legal self.now (triple k to None)) }
+    // Whether the pawn there goes to that square without a promotion, whatever becomes of its king.
+    #[inline(always)]
+    fn pawn_steps(&self, from: Square, to: Square) -> bool
+        requires { is_man (self.now).side Pawn (man_at (self.now).men from) ≡ true }
+        ensures { result ≡ is_pseudo_legal self.now (triple from to None) }
     {
-        let mut starts = SquareSet::empty();
-        let mut rest = men;
-        while let Some(from) = rest.take_first() {
+        // The prover wants these facts: the numbers of both squares are below 64.
+        let _start = from.number();
+        let _end = to.number();
+        self.pawn_targets(from).contains(to) && !would_promote(&self.setup, from, to)
+    }
+
+    // Whether the pawn there goes legally to that square without a promotion.
+    #[inline(always)]
+    fn pawn_goes_legally(&self, from: Square, to: Square) -> bool
+        requires { is_man (self.now).side Pawn (man_at (self.now).men from) ≡ true }
+        ensures { result ≡ is_legal self.now (triple from to None) }
+    {
+        if !self.pawn_steps(from, to) {
+            return false;
+        }
+        if is_target(&self.setup, to) {
             let m = Move {
                 from,
                 to,
                 promotion: None,
             };
-            if self.is_legal_by_kind(&m) {
+            return self.is_safe_after(&m);
+        }
+        self.is_safe_usual(from, to)
+    }
+
+    // Those of these squares from which the pawns there go legally to a square without a promotion.
+    #[inline(always)]
+    fn pawn_starts_among(&self, men: SquareSet, to: Square) -> SquareSet
+        requires { (k : ℕ) → k < 64 → has men k ≡ true → is_man (self.now).side Pawn (man_at (self.now).men k) ≡ true }
+        ensures { (k : ℕ) → k < 64 → has result k ≡ (has men k && is_legal self.now (triple k to None)) }
+    {
+        let mut starts = SquareSet::empty();
+        let mut rest = men;
+        while let Some(from) = rest.take_first() {
+            if self.pawn_goes_legally(from, to) {
                 starts = starts.union(SquareSet::single(from));
             }
         }
@@ -172,12 +202,12 @@ impl Bits<'_> {
         }
     }
 
-    // From where pieces of any kind go legally to a square: those of the origins that do.
-    fn other_starts(&self, kind: Kind, to: Square) -> SquareSet
-        ensures { HasLegalStarts self.now kind to result }
+    // From where pawns go legally to a square without a promotion: those of the origins that do.
+    fn legal_pawn_starts(&self, to: Square) -> SquareSet
+        ensures { HasLegalStarts self.now Pawn to result }
     {
-        let own = self.men_of(self.setup.side, kind);
-        self.starts_among(own.intersection(self.origins(kind, to)), to)
+        let own = self.men_of(self.setup.side, Kind::Pawn);
+        self.pawn_starts_among(own.intersection(self.origins(Kind::Pawn, to)), to)
     }
 
     // From where pieces of a kind go legally to a square.
@@ -191,6 +221,6 @@ impl Bits<'_> {
         if is_king(kind) {
             return self.king_starts(to);
         }
-        self.other_starts(kind, to)
+        self.legal_pawn_starts(to)
     }
 }

@@ -74,7 +74,7 @@ fn take_steps(men: &mut [Option<Man>; 64], sets: &mut Sets, keys: &KeyTable, ste
 
 // Whether the en passant target is that square.
 #[inline(always)]
-fn is_target(setup: &Setup, square: Square) -> bool
+pub(crate) fn is_target(setup: &Setup, square: Square) -> bool
     ensures { result ≡ is_square (setup.now).target square }
 {
     match setup.target {

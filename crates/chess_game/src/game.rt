@@ -104,6 +104,7 @@ fn repetitions(played_moves: &[PlayedMove]) -> u32
 
 // The verdict on the game of that board and those played moves, where there is a legal move.
 #[tactic(auto, unfolding(crate::specs::Ends::verdict))]
+#[inline(always)]
 fn verdict_of_moving<B: Board>(board: &B, played_moves: &[PlayedMove]) -> Option<Verdict>
     requires { IsTrue (nat_lt 0 (length (moves (B.position board.now)))) }
     ensures { (start : Hashed) → IsKept B.word_of start played_moves.now (B.position board.now)
@@ -208,6 +209,7 @@ impl<B: Board> Game<B> {
     }
 
     /// Plays a move that is known to be legal, where the game is neither over nor full.
+    #[inline(always)]
     pub fn play_legal(&mut self, m: Move)
         requires { play_refusal self.old m ≡ None }
         ensures { self.new ≡ after_play self.old m None }
@@ -384,6 +386,7 @@ impl<B: Board> Game<B> {
     }
 
     /// The verdict, found with the help of a legal move: where there is one, there is neither mate nor stalemate.
+    #[inline(always)]
     pub fn verdict_of_moving(&self, m: &Move) -> Option<Verdict>
         requires { IsTrue (is_legal (current self.now.state) m.now) }
         ensures { result ≡ verdict_now self.now.state }

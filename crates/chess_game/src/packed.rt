@@ -205,6 +205,7 @@ impl Model for PackedPosition {
 impl PackedPosition {
     /// The position of a board.
     #[tactic(auto, using(crate::proofs::AsSets::men_back, crate::proofs::AsSets::packed_back))]
+    #[inline(always)]
     pub(crate) fn of<B: Board>(board: &B) -> Self
         ensures { result ≡ B.position board.now }
     {

@@ -24,6 +24,7 @@ pub(crate) struct Hashed {
 impl Hashed {
     // The position of a board. Its sets are packed last, since the target is rarely live: nothing is then kept through
     // the search for a capture.
+    #[inline(always)]
     pub(crate) fn on<B: Board>(board: &B) -> Self
         ensures position { result.position ≡ B.position board.now }
         ensures known { IsKnown result }

@@ -220,24 +220,57 @@ fn is_spelled_of(parts: &Parts, setup: &Setup, kind: Kind, m: &Move) -> bool
     }
 }
 
+// What a text of these parts is that denotes the legal move from that square too, if it denotes it.
+#[inline(always)]
+fn with_start(found: Reading, setup: &Setup, parts: &Parts, kind: Kind, from: Square) -> Reading
+    ensures { result ≡ with_moves found (spelled_start parts.now setup.now kind from) }
+{
+    let m = Move {
+        from,
+        to: parts.end.to,
+        promotion: None,
+    };
+    if is_spelled_of(parts, setup, kind, &m) {
+        with_move(found, m)
+    } else {
+        found
+    }
+}
+
+// What a text of these parts is that denotes the legal moves from those squares too, as far as it denotes them. Few
+// texts name a square to which several pieces of a kind go, so it is kept out of what calls it.
+#[inline(never)]
+fn with_starts(
+    before: Reading,
+    setup: &Setup,
+    parts: &Parts,
+    kind: Kind,
+    starts: SquareSet,
+) -> Reading
+    ensures { result ≡ with_moves before (flat_map (spelled_start parts.now setup.now kind) (members starts)) }
+{
+    let mut found = before;
+    let mut rest = starts;
+    while let Some(from) = rest.take_first() {
+        found = with_start(found, setup, parts, kind, from);
+    }
+    found
+}
+
 // What a text of these parts is, whose legal moves are of pieces of that kind, and begin on those squares.
 #[inline(always)]
 fn spelled_among(setup: &Setup, parts: &Parts, kind: Kind, starts: SquareSet) -> Reading
     ensures { result ≡ one_of (flat_map (spelled_start parts.now setup.now kind) (members starts)) }
 {
-    let mut found = Reading::NoSuch;
     let mut rest = starts;
-    while let Some(from) = rest.take_first() {
-        let m = Move {
-            from,
-            to: parts.end.to,
-            promotion: None,
-        };
-        if is_spelled_of(parts, setup, kind, &m) {
-            found = with_move(found, m);
-        }
+    let Some(from) = rest.take_first() else {
+        return Reading::NoSuch;
+    };
+    let found = with_start(Reading::NoSuch, setup, parts, kind, from);
+    if rest.is_empty() {
+        return found;
     }
-    found
+    with_starts(found, setup, parts, kind, rest)
 }
 
 // What a text of these parts is, that denotes moves of pieces of that kind alone and none that promotes.
@@ -286,6 +319,7 @@ fn spelled<B: Board>(board: &B, form: &Form) -> Reading
 
 /// What a text is in the board's position: of the legal moves it may denote one, several or none. Whether a mark `+` or
 /// `#` is true isn't asked; en passant is a capture.
+#[inline(always)]
 pub fn read_move<B: Board>(board: &B, text: &[u8]) -> Reading
     ensures value { result ≡ reading (B.position board.now) text.now }
     ensures legal { IsLegalReading (B.position board.now) result }

@@ -1,10 +1,12 @@
 -- The pieces of a text, byte by byte, and however it goes on.
-use Rattle.std.proofs.Common.{◌≡◌, ◌≤◌, ◌<◌, ℕ, ◌+◌, Bool, true, false, List, [], ◌∷◌, ◌++◌, length, take, drop, get_or, sym, ap, ◌∙◌, append_assoc, add-one, take-suc, length-append, length-drop, drop-cons, arith}
+use Rattle.std.proofs.Common.{◌≡◌, ◌≤◌, ◌<◌, ℕ, zero, suc, ◌+◌, eqb, Bool, true, false, List, [], ◌∷◌, ◌++◌, length, take, drop, get_or, sym, ap, ◌∙◌, append_assoc, add-one, take-suc, length-append, length-drop, drop-cons, arith}
 use Rattle.std.specs.Prelude.{if◌then◌else◌, ◌&&◌, ◌==◌, codes}
 use Rattle.std.specs.Str.{bytes_eq}
+use Rattle.std.proofs.lemmas.Bool.{or_parts}
 use Rattle.std.proofs.lemmas.List.{take-append-le}
 use Rattle.pgn_pieces.specs.Pieces.{piece_at, ends_piece}
 use Rattle.pgn_pieces.specs.Stream.{pieces_from}
+use Rattle.pgn_pieces.specs.ties.Held.{Passes, has_line_end}
 
 -- ---- one byte
 
@@ -70,3 +72,30 @@ ends text k h is ended offset part rest =
     ∙ ap (λ n. piece_at offset (front ++ get_or text k 0 ∷ [])
     ∷ pieces_from ended (offset + n) [] (drop (k + 1) text ++ rest)) (sym (length-append front (get_or text k 0 ∷ [])))
     ∙ ap (λ xs. piece_at offset xs ∷ pieces_from ended (offset + length xs) [] (drop (k + 1) text ++ rest)) more
+
+-- ---- bytes without a byte 10
+
+moved : (text : List ℕ) (a b : ℕ) → a ≡ b → Passes text a b
+moved text a b same ended offset part rest =
+    ap (λ n. pieces_from ended offset (part ++ take n text) (drop n text ++ rest)) same
+
+pub joins : (text : List ℕ) (a b c : ℕ) → Passes text a b → Passes text b c → Passes text a c
+joins text a b c h k ended offset part rest = h ended offset part rest ∙ k ended offset part rest
+
+pub passes_plain : (n : ℕ) (text : List ℕ) (k : ℕ) → k + n + 7 ≤ length text
+    → has_line_end (take n (drop k text)) ≡ false → Passes text k (k + n)
+passes_plain zero text k h none = let same : k ≡ k + 0 = omega arith in moved text k (k + 0) same
+passes_plain (suc n) text k h none =
+    let few : k < length text = omega (arith, h) in
+    let low : k + 7 < length text = omega (arith, h) in
+    let more : k + 1 + n + 7 ≤ length text = omega (arith, h) in
+    let same : k + 1 + n ≡ k + suc n = omega arith in
+    let front : drop k text ≡ get_or text k 0 ∷ drop (k + 1) text =
+    drop-cons text k 0 few ∙ ap (λ m. get_or text k 0 ∷ drop m text) (sym (add-one k)) in
+    let both = or_parts (eqb (get_or text k 0) 10) (has_line_end (take n (drop (k + 1) text)))
+    (ap (λ xs. has_line_end (take (suc n) xs)) (sym front) ∙ none) in
+    let step : ends_piece (get_or text k 0) (drop (k + 1) text) ≡ false =
+    ap (λ b. b && bytes_eq (take 7 (drop (k + 1) text)) (codes "[Event ")) both.0 in
+    joins text k (k + 1) (k + suc n) (passes text k low step)
+    (joins text (k + 1) (k + 1 + n) (k + suc n) (passes_plain n text (k + 1) more both.1)
+    (moved text (k + 1 + n) (k + suc n) same))

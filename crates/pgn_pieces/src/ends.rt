@@ -1,9 +1,9 @@
 //! Where a piece ends.
 
-ghost use Rattle.std.specs.Prelude.{◌≡◌, ◌<◌, ◌≤◌, length, slice_index, take, drop, codes, ◌-◌};
+ghost use Rattle.std.specs.Prelude.{◌≡◌, ◌<◌, ◌≤◌, ◌+◌, length, slice_index, take, drop, codes, ◌-◌, true, false};
 ghost use Rattle.std.specs.Str.{bytes_eq};
 ghost use Rattle.pgn_pieces.specs.Pieces.{ends_piece};
-ghost use Rattle.pgn_pieces.specs.ties.Held.{EndsAfter};
+ghost use Rattle.pgn_pieces.specs.ties.Held.{EndsAfter, Passes, has_line_end};
 
 // The bytes of `[Event `.
 pub(crate) const EVENT_LEN: usize = 7;
@@ -24,6 +24,62 @@ fn ends_before(text: &[u8], offset: usize) -> bool
     text[offset - 1] == b'\n' && begins_event(&text[offset..])
 }
 
+// Whether byte 10 is among these bytes. All of them are looked at, so that the compiler may take them at once.
+#[inline(always)]
+fn has_line_end(bytes: &[u8]) -> bool
+    ensures { result ≡ has_line_end bytes.now }
+{
+    let mut any = false;
+    for byte in bytes {
+        any |= *byte == b'\n';
+    }
+    any
+}
+
+// Whether 16 bytes without byte 10 follow at an offset, and seven more.
+#[inline(always)]
+fn is_plain(text: &[u8], offset: usize) -> bool
+    requires { offset ≤ length text.now }
+    ensures { result ≡ true
+        → (offset + 23 ≤ length text.now) × (has_line_end (take 16 (drop offset text.now)) ≡ false) }
+{
+    if text.len() - offset < 23 {
+        return false;
+    }
+    !has_line_end(&text[offset..offset + 16])
+}
+
+// Goes on from an offset over bytes without byte 10, by 16 at a time: no piece ends there.
+#[inline(always)]
+fn behind_plain(text: &[u8], at: usize) -> usize
+    requires { at + 7 ≤ length text.now }
+    ensures passed { Passes text.now at result }
+    ensures behind { at ≤ result }
+    ensures within { result + 7 ≤ length text.now }
+{
+    let mut offset = at;
+    while is_plain(text, offset) {
+        offset += 16;
+    }
+    offset
+}
+
+// Goes on from an offset at which no piece ends. A piece ends at the end of a line, so after one it goes fast to the
+// next.
+#[inline(always)]
+fn further(text: &[u8], at: usize) -> usize
+    requires some { 0 < at }
+    requires within { at + 7 ≤ length text.now }
+    ensures passed { Passes text.now at result }
+    ensures behind { at ≤ result }
+    ensures within { result + 7 ≤ length text.now }
+{
+    if text[at - 1] != b'\n' {
+        return at;
+    }
+    behind_plain(text, at)
+}
+
 // How many bytes of a text belong to its first piece, if that ends there: after the last seven it can't be seen.
 pub(crate) fn first_end(text: &[u8]) -> Option<usize>
     ensures { EndsAfter text.now result }
@@ -35,6 +91,7 @@ pub(crate) fn first_end(text: &[u8]) -> Option<usize>
         if ends_before(text, offset) {
             return Some(offset);
         }
+        offset = further(text, offset);
     }
     None
 }

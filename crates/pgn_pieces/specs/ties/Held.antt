@@ -1,5 +1,6 @@
 -- What the steps of cutting do to the bytes that are held.
 use Rattle.std.specs.Prelude.{◌≡◌, ◌≤◌, ◌<◌, ◌^◌, ℕ, ◌+◌, ◌-◌, Bool, true, false, ◌==◌, List, [], ◌∷◌, ◌++◌, length, take, drop, Option, Some, None, Result, Ok, Err}
+use Rattle.std.specs.List.{list_any}
 use Rattle.byte_devices.specs.Devices.{InputState, GavePiece, FailedToRead}
 use Rattle.pgn_pieces.specs.declared.pieces.PieceFault.{PieceFault}
 use Rattle.pgn_pieces.specs.declared.pieces.PieceFault.TheVariants.{ReadFailed, NoMemory, InputTooLong}
@@ -19,6 +20,16 @@ SamePieces s s' = (ended : Bool) (rest : List ℕ) → pieces_held ended s rest 
 abbrev pub IsNext : State → State → Type 0
 IsNext s s' = (ended : Bool) (rest : List ℕ)
     → pieces_held ended s rest ≡ current s' ∷ pieces_held ended (past_piece s') rest
+
+-- a byte 10 is among these bytes
+abbrev pub has_line_end : List ℕ → Bool
+has_line_end = list_any (λ c. c == 10)
+
+-- no piece ends from one offset of a text to another: however the text goes on, the pieces are the same
+abbrev pub Passes : List ℕ → ℕ → ℕ → Type 0
+Passes text a b = (ended : Bool) (offset : ℕ) (part rest : List ℕ)
+    → pieces_from ended offset (part ++ take a text) (drop a text ++ rest)
+    ≡ pieces_from ended offset (part ++ take b text) (drop b text ++ rest)
 
 -- the first so many bytes of a text belong to its piece, which ends there; or all but the last seven do, and it goes on
 abbrev pub EndsAfter : List ℕ → Option ℕ → Type 0

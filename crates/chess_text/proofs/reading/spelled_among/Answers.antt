@@ -1,8 +1,35 @@
+-- The first square and those that are left are all (more_found of Origins); where none is left, nothing follows
+-- (last_found).
+use Rattle.std.proofs.Common.{◌≡◌, ◌==◌, true, sym, ap, ◌∙◌}
+use Rattle.std.proofs.lemmas.Bool.{eqb-true}
 use Rattle.std.specs.List.{flat_map}
 use Rattle.chess_moves.specs.Sets.{members}
+use Rattle.chess_moves.proofs.Members.{members_none}
+use Rattle.chess_text.specs.Moves.{one_of}
+use Rattle.chess_text.specs.declared.reading.Reading.TheVariants as reads
 use Rattle.chess_text.specs.ties.Forms.{spelled_start}
-use Rattle.chess_text.proofs.Origins.{one_found}
+use Rattle.chess_text.proofs.Origins.{last_found, more_found, one_found}
 use Rattle.chess_text.proofs.reading.spelled_among.Goals as goal
 
-pub loop-from-init : goal.loop-from-init
-loop-from-init c = one_found (flat_map (spelled_start c.args.parts.now c.args.setup.now c.args.kind) (members c.args.starts))
+pub returns-in_default : goal.returns-in_default
+returns-in_default c =
+    let f = spelled_start c.args.parts.now c.args.setup.now c.args.kind in
+    sym (ap (λ ms. one_of (flat_map f ms)) c.in_default.ensures.0)
+
+pub returns-then-is_empty : goal.returns-then-is_empty
+returns-then-is_empty c =
+    let f = spelled_start c.args.parts.now c.args.setup.now c.args.kind in
+    last_found f c.with_start-found.result _ (members c.take_first.new.self)
+    (members_none c.take_first.new.self
+    (eqb-true c.take_first.new.self 0 (sym c.is_empty.ensures.zero ∙ c.if-is_empty.true)))
+    (more_found f reads.NoSuch c.with_start-found.result _ c.in-Some.from (members c.args.starts)
+    (members c.take_first.new.self) c.in-Some.ensures
+    (one_found (flat_map f (members c.args.starts))) c.with_start-found.ensures)
+
+pub returns : goal.returns
+returns c =
+    let f = spelled_start c.args.parts.now c.args.setup.now c.args.kind in
+    c.with_starts.ensures
+    ∙ more_found f reads.NoSuch c.with_start-found.result _ c.in-Some.from (members c.args.starts)
+    (members c.take_first.new.self) c.in-Some.ensures
+    (one_found (flat_map f (members c.args.starts))) c.with_start-found.ensures

@@ -26,5 +26,6 @@ loop-offset-preserved c = record {
   same = λ ended offset part rest.
       c.loop-offset.invariant.same ended offset part rest
       ∙ passes c.args.text.now c.loop-offset.offset (omega arith)
-      (tested c.args.text.now c.loop-offset.offset _ _ c.ends_before.ensures c.if-ends_before.false) ended offset part rest;
+      (tested c.args.text.now c.loop-offset.offset _ _ c.ends_before.ensures c.if-ends_before.false) ended offset part rest
+      ∙ c.further-offset.ensures.passed ended offset part rest;
 }
