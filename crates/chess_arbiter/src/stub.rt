@@ -1,38 +1,18 @@
 //! A stub of an engine, which plays the arguments that it is given.
 
-ghost use Rattle.std.specs.Prelude.{◌≡◌, ◌≤◌, ◌++◌, ◌∷◌, [], codes, decimal, drop, false, length, option_map};
+ghost use Rattle.std.specs.Prelude.{◌≡◌, ◌++◌, ◌∷◌, [], IfOk, codes, decimal, if◌then◌else◌, option_map};
 ghost use Rattle.byte_devices.specs.Devices.{Puts};
 ghost use Rattle.chess_base.specs.Letters.{new_line};
 ghost use Rattle.chess_cecp.specs.Commands.{command_of};
-ghost use Rattle.chess_arbiter.specs.Stub.{Gives, GivesAndFlushes, SaysRemarks, StubRan, beginning, moved, played_text, remark, reply, row, state_at, turn};
+ghost use Rattle.chess_arbiter.specs.Stub.{after_remarks, beginning, moved, played_text, remark, remarks, row, stub_response, turn};
 
 use arrayvec::ArrayVec;
-use byte_devices::{Input, Output, WriteFault, put, put_parts};
-use chess_cecp::{COMMAND_LEN, Command, Line, Lines, first_word, read_command};
+use byte_devices::{Output, WriteFault, put, put_parts};
+use chess_cecp::{COMMAND_LEN, Command, Go, Line, LineServer, first_word, read_command};
 use itoa::Buffer;
+use std::marker::Model;
 
 const FEATURES: &[u8] = b"feature ping=1 setboard=1 usermove=1 myname=\"stub\" done=1\n";
-
-/// How a stub goes on after a line.
-#[derive(Clone, Copy, Debug, PartialEq, Eq)]
-pub(crate) enum Onward {
-    On,
-    Over,
-}
-
-/// Why a stub broke off: a call of that device failed.
-#[derive(Clone, Copy, Debug, PartialEq, Eq)]
-pub(crate) enum StubFault {
-    Read,
-    Write,
-}
-
-/// The state of a stub: how many of its arguments are left, and whether it plays.
-#[derive(Clone, Copy, Debug, PartialEq, Eq)]
-pub(crate) struct Stub {
-    at: usize,
-    plays: bool,
-}
 
 // What is said for an argument that is a remark after a move.
 fn remark(word: &str) -> Option<&'static [u8]>
@@ -89,177 +69,192 @@ fn say_pong<W: Output>(writer: &mut W, number: u32) -> Result<(), WriteFault>
     put(writer, line.as_slice())
 }
 
-// Says the remarks among the arguments from there on, up to the first other one, and returns its index.
-fn say_remarks<W: Output>(words: &[&str], from: usize, writer: &mut W) -> Result<usize, WriteFault>
-    requires { from ≤ length words.now }
-    ensures { SaysRemarks words.now from (W.seen writer.old) (W.seen writer.new) result }
+// Says the remarks at the front of these arguments.
+fn say_remarks<W: Output>(words: &[&str], writer: &mut W) -> Result<(), WriteFault>
+    ensures { Puts (W.seen writer.old) (W.seen writer.new) result (remarks words.now) }
 {
-    let mut at = from;
-    while at < words.len() {
-        let Some(text) = remark(words[at]) else {
-            return Ok(at);
+    let mut rest = words;
+    while let Some((word, others)) = rest.split_first() {
+        let Some(text) = remark(word) else {
+            return Ok(());
         };
         put(writer, text)?;
-        at += 1;
+        rest = others;
     }
-    Ok(at)
+    Ok(())
 }
 
-// Plays the next argument.
-fn play<W: Output>(words: &[&str], at: usize, writer: &mut W) -> Result<(Stub, Onward), WriteFault>
-    requires { at ≤ length words.now }
-    ensures { Gives words.now (turn (drop at words.now)) (W.seen writer.old) (W.seen writer.new) result }
+// The arguments after the remarks at their front.
+fn after_remarks<'a>(words: &'a [&'a str]) -> &'a [&'a str]
+    ensures { result.now ≡ after_remarks words.now }
 {
-    if at == words.len() {
-        put(writer, b"resign\n")?;
-        return Ok((Stub { at, plays: true }, Onward::On));
+    let mut rest = words;
+    while let Some((word, others)) = rest.split_first() {
+        if remark(word).is_none() {
+            break;
+        }
+        rest = others;
     }
-    let word = words[at];
-    if word == "end" {
-        put(writer, b"mov")?;
-        return Ok((
-            Stub {
-                at: at + 1,
-                plays: true,
-            },
-            Onward::Over,
-        ));
-    }
+    rest
+}
+
+// Says an argument that is played, and the remarks after it.
+fn say_played<W: Output>(word: &str, rest: &[&str], writer: &mut W) -> Result<(), WriteFault>
+    ensures { Puts (W.seen writer.old) (W.seen writer.new) result (played_text word.now ++ remarks rest.now) }
+{
     say_word(writer, word)?;
-    let at = say_remarks(words, at + 1, writer)?;
-    Ok((Stub { at, plays: true }, Onward::On))
+    say_remarks(rest, writer)
 }
 
-// It no longer plays.
-fn stopped(stub: Stub) -> Stub
-    ensures { result ≡ record { at = stub.at; plays = false } }
+// Says what a turn with these arguments does.
+fn say_turn<W: Output>(words: &[&str], writer: &mut W) -> Result<Go, WriteFault>
+    ensures written { Puts (W.seen writer.old) (W.seen writer.new) result (turn words.now).text }
+    ensures go { IfOk result (λ go. go ≡ (if (turn words.now).ends then Go.Quit else Go.On)) }
 {
-    Stub {
-        at: stub.at,
-        plays: false,
-    }
-}
-
-// A move of the other side: while it plays, it is its turn.
-fn moved<W: Output>(
-    words: &[&str],
-    stub: Stub,
-    writer: &mut W,
-) -> Result<(Stub, Onward), WriteFault>
-    requires { stub.at ≤ length words.now }
-    ensures { Gives words.now (moved (state_at words.now stub)) (W.seen writer.old) (W.seen writer.new) result }
-{
-    if stub.plays {
-        play(words, stub.at, writer)
-    } else {
-        Ok((stub, Onward::On))
-    }
-}
-
-// What it says to a line's text.
-fn obey<W: Output>(
-    words: &[&str],
-    stub: Stub,
-    text: &[u8],
-    writer: &mut W,
-) -> Result<(Stub, Onward), WriteFault>
-    requires { stub.at ≤ length words.now }
-    ensures { Gives words.now (row (state_at words.now stub) text.now (command_of text.now)) (W.seen writer.old)
-        (W.seen writer.new) result }
-{
-    match read_command(text) {
-        Command::Protover(_) => {
-            put(writer, FEATURES)?;
-            Ok((stub, Onward::On))
-        }
-        Command::Ping(number) => {
-            say_pong(writer, number)?;
-            Ok((stub, Onward::On))
-        }
-        Command::New => Ok((stopped(stub), Onward::On)),
-        Command::Go => play(words, stub.at, writer),
-        Command::UserMove => moved(words, stub, writer),
-        Command::Unknown => {
-            if first_word(text) == b"usermove".as_slice() {
-                moved(words, stub, writer)
-            } else {
-                Ok((stub, Onward::On))
-            }
-        }
-        Command::Quit => Ok((stub, Onward::Over)),
-        Command::Silent => {
-            if first_word(text) == b"force".as_slice() {
-                Ok((stopped(stub), Onward::On))
-            } else {
-                Ok((stub, Onward::On))
-            }
-        }
-        Command::BareMove
-        | Command::Undo
-        | Command::Remove
-        | Command::Declare
-        | Command::Claim
-        | Command::SetBoard
-        | Command::Variant
-        | Command::ShowFen
-        | Command::ShowMoves
-        | Command::ShowState
-        | Command::ShowPgn
-        | Command::BadNumber => Ok((stub, Onward::On)),
-    }
-}
-
-// What it says to a line, flushed.
-#[tactic(auto, unfolding(crate::specs::Stub::reply))]
-fn answer<W: Output>(
-    words: &[&str],
-    stub: Stub,
-    line: &Line<COMMAND_LEN>,
-    writer: &mut W,
-) -> Result<(Stub, Onward), WriteFault>
-    requires { stub.at ≤ length words.now }
-    ensures { GivesAndFlushes words.now (reply (state_at words.now stub) line.now) (W.seen writer.old)
-        (W.seen writer.new) result }
-{
-    let given = if line.is_too_long() {
-        (stub, Onward::On)
-    } else {
-        obey(words, stub, line.text(), writer)?
+    let Some((word, rest)) = words.split_first() else {
+        put(writer, b"resign\n")?;
+        return Ok(Go::On);
     };
-    writer.flush()?;
-    Ok(given)
+    if *word == "end" {
+        put(writer, b"mov")?;
+        return Ok(Go::Quit);
+    }
+    say_played(word, rest, writer)?;
+    Ok(Go::On)
 }
 
-/// Runs a stub with these arguments, line by line, up to its end or the input's.
-///
-/// # Errors
-/// Where a call of the reader or of the writer failed.
-pub(crate) fn run_stub<R: Input, W: Output>(
-    words: &[&str],
-    reader: &mut R,
-    writer: &mut W,
-) -> Result<(), StubFault>
-    ensures { StubRan (R.seen reader.old) (R.seen reader.new) (W.seen writer.old) (W.seen writer.new)
-        (beginning words.now) result }
+// The arguments that a turn leaves.
+fn after_turn<'a>(words: &'a [&'a str]) -> &'a [&'a str]
+    ensures { result.now ≡ (turn words.now).state.words }
 {
-    let mut lines: Lines<COMMAND_LEN> = Lines::new();
-    let mut stub = Stub {
-        at: 0,
-        plays: false,
+    let Some((word, rest)) = words.split_first() else {
+        return words;
     };
-    loop {
-        let line = match lines.next(reader) {
-            Ok(Some(line)) => line,
-            Ok(None) => return Ok(()),
-            Err(_) => return Err(StubFault::Read),
+    if *word == "end" { rest } else { after_remarks(rest) }
+}
+
+/// A stub: the arguments that are left, and whether it plays.
+#[derive(Drop)]
+pub(crate) struct Stub<'a> {
+    words: &'a [&'a str],
+    plays: bool,
+}
+
+impl<'a> Model for Stub<'a> {
+    ghost use Rattle.chess_arbiter.specs.Stub.{StubState};
+
+    ghost Value = { StubState };
+
+    ghost view = { λ s. record {
+      words = s.words.now;
+      plays = s.plays;
+    } };
+}
+
+impl<'a> Stub<'a> {
+    /// A stub with these arguments, which doesn't play yet.
+    pub(crate) fn new(words: &'a [&'a str]) -> Self
+        ensures { result ≡ beginning words.now }
+    {
+        Stub {
+            words,
+            plays: false,
+        }
+    }
+
+    // Plays the next argument.
+    fn play<W: Output>(&mut self, writer: &mut W) -> Result<Go, WriteFault>
+        ensures next { self.new ≡ (turn self.old.words).state }
+        ensures written { Puts (W.seen writer.old) (W.seen writer.new) result (turn self.old.words).text }
+        ensures go { IfOk result (λ go. go ≡ (if (turn self.old.words).ends then Go.Quit else Go.On)) }
+    {
+        let words = self.words;
+        self.words = after_turn(words);
+        self.plays = true;
+        say_turn(words, writer)
+    }
+
+    // A move of the other side: while it plays, it is its turn.
+    fn moved<W: Output>(&mut self, writer: &mut W) -> Result<Go, WriteFault>
+        ensures next { self.new ≡ (moved self.old).state }
+        ensures written { Puts (W.seen writer.old) (W.seen writer.new) result (moved self.old).text }
+        ensures go { IfOk result (λ go. go ≡ (if (moved self.old).ends then Go.Quit else Go.On)) }
+    {
+        if self.plays {
+            self.play(writer)
+        } else {
+            Ok(Go::On)
+        }
+    }
+
+    // Does what a line's text commands, and says what it says to it.
+    fn obey<W: Output>(&mut self, text: &[u8], writer: &mut W) -> Result<Go, WriteFault>
+        ensures next { self.new ≡ (row self.old text.now (command_of text.now)).state }
+        ensures written { Puts (W.seen writer.old) (W.seen writer.new) result
+            (row self.old text.now (command_of text.now)).text }
+        ensures go { IfOk result
+            (λ go. go ≡ (if (row self.old text.now (command_of text.now)).ends then Go.Quit else Go.On)) }
+    {
+        match read_command(text) {
+            Command::Protover(_) => {
+                put(writer, FEATURES)?;
+                Ok(Go::On)
+            }
+            Command::Ping(number) => {
+                say_pong(writer, number)?;
+                Ok(Go::On)
+            }
+            Command::New => {
+                self.plays = false;
+                Ok(Go::On)
+            }
+            Command::Go => self.play(writer),
+            Command::UserMove => self.moved(writer),
+            Command::Unknown => {
+                if first_word(text) == b"usermove".as_slice() {
+                    self.moved(writer)
+                } else {
+                    Ok(Go::On)
+                }
+            }
+            Command::Quit => Ok(Go::Quit),
+            Command::Silent => {
+                if first_word(text) == b"force".as_slice() {
+                    self.plays = false;
+                }
+                Ok(Go::On)
+            }
+            Command::BareMove
+            | Command::Undo
+            | Command::Remove
+            | Command::Declare
+            | Command::Claim
+            | Command::SetBoard
+            | Command::Variant
+            | Command::ShowFen
+            | Command::ShowMoves
+            | Command::ShowState
+            | Command::ShowPgn
+            | Command::BadNumber => Ok(Go::On),
+        }
+    }
+}
+
+impl<'a> LineServer for Stub<'a> {
+    ghost respond = { stub_response };
+
+    #[tactic(auto, unfolding(crate::specs::Stub::stub_response))]
+    fn answer<W: Output>(
+        &mut self,
+        line: &Line<COMMAND_LEN>,
+        writer: &mut W,
+    ) -> Result<Go, WriteFault> {
+        let go = if line.is_too_long() {
+            Go::On
+        } else {
+            self.obey(line.text(), writer)?
         };
-        match answer(words, stub, &line, writer) {
-            Ok((next, Onward::On)) => stub = next,
-            Ok((_, Onward::Over)) => return Ok(()),
-            Err(_) => return Err(StubFault::Write),
-        }
-        if !line.is_ended() {
-            return Ok(());
-        }
+        writer.flush()?;
+        Ok(go)
     }
 }

@@ -1,5 +1,5 @@
 -- What a session answers: the table of commands, a row for each kind. From one line to the next only the game changes.
-use Rattle.std.specs.Prelude.{◌⊎◌, ℕ, ◌||◌, ◌&&◌, not, nat_le, nat_lt, if◌then◌else◌, Bool, true, false, List, [], ◌∷◌, ◌++◌, length, codes, decimal, Option, None, Some, Result, Ok, Err}
+use Rattle.std.specs.Prelude.{◌⊎◌, ℕ, ◌&&◌, not, nat_le, nat_lt, if◌then◌else◌, Bool, true, false, List, [], ◌∷◌, ◌++◌, length, codes, decimal, Option, None, Some, Result, Ok, Err}
 use Rattle.chess_base.specs.Letters.{new_line, space}
 use Rattle.std.specs.Str.{bytes_eq}
 use Rattle.byte_devices.specs.Devices.{Begins}
@@ -16,6 +16,7 @@ use Rattle.chess_base.specs.MoveList.{moves}
 use Rattle.chess_fen.specs.Reading.{fen_reading_as}
 use Rattle.chess_fen.specs.Writing.{fen}
 use Rattle.chess_cecp.specs.Lines.{LineSeen}
+use Rattle.chess_cecp.specs.Serving.{Response}
 use Rattle.chess_cecp.specs.Held.{SessionSeen}
 use Rattle.chess_pgn.specs.GameText.{pgn}
 use Rattle.chess_pgn.specs.declared.tags.Tags.{Tags}
@@ -227,18 +228,6 @@ asks_for_pgn line = not line.too_long && shows_pgn (command_of line.text)
 unfoldable pub is_quit : LineSeen → Bool
 is_quit line = not line.too_long && is_quit_command (command_of line.text)
 
--- the session after lines, up to the first `quit`
-abbrev pub standing : SessionSeen → List LineSeen → SessionSeen
-standing seen [] = seen
-standing seen (line ∷ rest) = if is_quit line then next_state seen line else standing (next_state seen line) rest
-
--- the answers to lines, up to the first `quit`
-abbrev pub answers : SessionSeen → List LineSeen → List ℕ
-answers seen [] = []
-answers seen (line ∷ rest) = if is_quit line then answer_to seen line else answer_to seen line
-    ++ answers (next_state seen line) rest
-
--- one of the lines ends the session
-abbrev pub has_quit : List LineSeen → Bool
-has_quit [] = false
-has_quit (line ∷ rest) = is_quit line || has_quit rest
+-- how a session responds to a line
+abbrev pub session_response : SessionSeen → LineSeen → Response SessionSeen
+session_response seen line = record { text = answer_to seen line; state = next_state seen line; ends = is_quit line }
