@@ -1,8 +1,12 @@
 -- What a stub says after its move, remark by remark.
-use Rattle.std.proofs.Common.{◌≡◌, ◌∙◌, Bor, List, ℕ, [], ◌∷◌, ◌++◌, true, false, is_some, Option, Some, None, Result, Ok, Err, IsErr, if◌then◌else◌, refl, sym, ap, append_assoc, append-nil, subst}
+use Rattle.std.proofs.Common.{◌≡◌, ◌∙◌, ◌<◌, ◌≤◌, ◌+◌, ℕ, Bor, Bool, true, false, List, [], ◌∷◌, ◌++◌, length, drop, get_or, is_some, Option, Some, None, Result, Ok, Err, IsErr, if◌then◌else◌, refl, sym, ap, append_assoc, append-nil, arith, subst}
+use Rattle.std.proofs.lemmas.List.{drop_more, at_drop_all}
 use Rattle.byte_devices.specs.Devices.{OutputState, Took, BreaksOff, Puts}
 use Rattle.byte_devices.proofs.DeviceLaws.{took_none, took_more, breaks_more, breaks_longer, puts_exit}
-use Rattle.chess_arbiter.specs.Stub.{Words, before_others, after_remarks, remark, remarks}
+use Rattle.std.specs.Prelude.{codes}
+use Rattle.std.specs.Str.{bytes_eq}
+use Rattle.chess_cecp.specs.Serving.{Response}
+use Rattle.chess_arbiter.specs.Stub.{StubState, Words, before_others, after_remarks, played_text, remark, remarks, turn}
 
 -- ---- arguments
 
@@ -24,73 +28,152 @@ after_one : (word : Bor (List ℕ)) (words : Words)
 unfolding after_remarks
 after_one word words = refl
 
--- arguments of which the first is a remark, or is none
-remarks_more : (words rest : Words) (word : Bor (List ℕ)) (text : List ℕ) → words ≡ word ∷ rest
-    → remark word.now ≡ Some text → remarks words ≡ text ++ remarks rest
-remarks_more words rest word text is said =
-    ap remarks is ∙ remarks_one word rest ∙ ap (λ o. before_others o (remarks rest)) said
-
-no_remark : (words rest : Words) (word : Bor (List ℕ)) → words ≡ word ∷ rest → remark word.now ≡ None
-    → remarks words ≡ []
-no_remark words rest word is none =
-    ap remarks is ∙ remarks_one word rest ∙ ap (λ o. before_others o (remarks rest)) none
-
-no_words : (words : Words) → words ≡ [] → remarks words ≡ []
-no_words words is = ap remarks is ∙ remarks_none
-
-pub after_more : (words rest : Words) (word : Bor (List ℕ)) → words ≡ word ∷ rest → is_some (remark word.now) ≡ true
-    → after_remarks words ≡ after_remarks rest
-after_more words rest word is said =
-    ap after_remarks is ∙ after_one word rest ∙ ap (λ b. if b then after_remarks rest else word ∷ rest) said
-
-pub after_other : (words rest : Words) (word : Bor (List ℕ)) → words ≡ word ∷ rest
-    → is_some (remark word.now) ≡ false → after_remarks words ≡ words
-after_other words rest word is none =
-    ap after_remarks is ∙ after_one word rest ∙ ap (λ b. if b then after_remarks rest else word ∷ rest) none
-    ∙ sym is
-
-pub after_end : (words : Words) → words ≡ [] → after_remarks words ≡ words
-after_end words is = ap after_remarks is ∙ after_none ∙ sym is
-
 -- ---- so far
 
--- the remarks up to these arguments were said
-pub record SoFar (words left : Words) (w w' : OutputState) (text : List ℕ) : Type 0 where
+-- the remarks up to an index were said
+pub record SoFar (words : Words) (from at : ℕ) (w w' : OutputState) (text : List ℕ) : Type 0 where
   pub took : Took w w' text
-  pub rest : text ++ remarks left ≡ remarks words
+  pub rest : text ++ remarks (drop at words) ≡ remarks (drop from words)
 
-pub start : (words : Words) (w : OutputState) → SoFar words words w w []
-start words w = record { took = took_none w; rest = refl }
+pub start : (words : Words) (from : ℕ) (w : OutputState) → SoFar words from from w w []
+start words from w = record { took = took_none w; rest = refl }
 
-pub more : {words left rest : Words} {word : Bor (List ℕ)} {w w' w'' : OutputState} {before : List ℕ} (text : List ℕ)
-    → SoFar words left w w' before → left ≡ word ∷ rest → remark word.now ≡ Some text → Took w' w'' text
-    → SoFar words rest w w'' (before ++ text)
-more {words} {left} {rest} {word} {w} {w'} {w''} {before} text s is said h = record {
-  took = took_more w w' w'' before text s.took h;
-  rest = append_assoc before text (remarks rest)
-      ∙ ap (λ v. before ++ v) (sym (remarks_more left rest word text is said)) ∙ s.rest;
-}
+-- an argument that is a remark
+module _ (words : Words) (at : ℕ) (d : Bor (List ℕ)) (text : List ℕ) (lt : at < length words)
+    (is : remark (get_or words at d).now ≡ Some text) where
+  said_here : remarks (drop at words) ≡ text ++ remarks (drop (at + 1) words)
+  said_here =
+      ap remarks (drop_more words at d lt) ∙ remarks_one (get_or words at d) (drop (at + 1) words)
+      ∙ ap (λ o. before_others o (remarks (drop (at + 1) words))) is
 
-pub broken : {E : Type 0} {words left rest : Words} {word : Bor (List ℕ)} {w w' w'' : OutputState} {before : List ℕ}
-    (text : List ℕ) (r : Result (Unit {0}) E) → SoFar words left w w' before → left ≡ word ∷ rest
-    → remark word.now ≡ Some text → BreaksOff w' w'' text → IsErr r → Puts w w'' r (remarks words)
-broken {words} {left} {rest} {word} {w} {w'} {w''} {before} text r s is said h failed =
-    puts_exit w w'' r (remarks words)
-    (subst (BreaksOff w w'')
-    (ap (λ v. before ++ v) (sym (remarks_more left rest word text is said)) ∙ s.rest)
-    (breaks_more w w' w'' before (text ++ remarks rest) s.took (breaks_longer w' w'' text (remarks rest) h)))
-    failed
+  pub more : (from : ℕ) (w w' w'' : OutputState) (before : List ℕ) → SoFar words from at w w' before → Took w' w'' text
+      → SoFar words from (at + 1) w w'' (before ++ text)
+  more from w w' w'' before s h = record {
+    took = took_more w w' w'' before text s.took h;
+    rest = append_assoc before text (remarks (drop (at + 1) words)) ∙ ap (λ v. before ++ v) (sym said_here) ∙ s.rest;
+  }
 
--- no remark is left
-all_said : {words left : Words} {w w' : OutputState} {before : List ℕ} → SoFar words left w w' before
-    → remarks left ≡ [] → Took w w' (remarks words)
-all_said {words} {left} {w} {w'} {before} s none =
+  pub broken : {E : Type 0} (from : ℕ) (w w' w'' : OutputState) (before : List ℕ) (r : Result (Unit {0}) E)
+      → SoFar words from at w w' before → BreaksOff w' w'' text → IsErr r → Puts w w'' r (remarks (drop from words))
+  broken from w w' w'' before r s h failed =
+      puts_exit w w'' r (remarks (drop from words))
+      (subst (BreaksOff w w'') (ap (λ v. before ++ v) (sym said_here) ∙ s.rest)
+      (breaks_more w w' w'' before (text ++ remarks (drop (at + 1) words)) s.took
+      (breaks_longer w' w'' text (remarks (drop (at + 1) words)) h)))
+      failed
+
+-- an argument that is none, or no argument
+no_more : (words : Words) (from at : ℕ) (w w' : OutputState) (before : List ℕ) → SoFar words from at w w' before
+    → remarks (drop at words) ≡ [] → Took w w' (remarks (drop from words))
+no_more words from at w w' before s none =
     subst (Took w w') (sym (append-nil before) ∙ ap (λ v. before ++ v) (sym none) ∙ s.rest) s.took
 
-pub at_other : {words left rest : Words} {word : Bor (List ℕ)} {w w' : OutputState} {before : List ℕ}
-    → SoFar words left w w' before → left ≡ word ∷ rest → remark word.now ≡ None → Took w w' (remarks words)
-at_other {left} {rest} {word} s is none = all_said s (no_remark left rest word is none)
+pub at_other : (words : Words) (from at : ℕ) (d : Bor (List ℕ)) (w w' : OutputState) (before : List ℕ)
+    → at < length words → remark (get_or words at d).now ≡ None
+    → SoFar words from at w w' before → Took w w' (remarks (drop from words))
+at_other words from at d w w' before lt is s =
+    no_more words from at w w' before s
+    (ap remarks (drop_more words at d lt) ∙ remarks_one (get_or words at d) (drop (at + 1) words)
+    ∙ ap (λ o. before_others o (remarks (drop (at + 1) words))) is)
 
-pub at_end : {words left : Words} {w w' : OutputState} {before : List ℕ} → SoFar words left w w' before → left ≡ []
-    → Took w w' (remarks words)
-at_end {left} s is = all_said s (no_words left is)
+pub at_end : (words : Words) (from at : ℕ) (w w' : OutputState) (before : List ℕ) → length words ≤ at
+    → SoFar words from at w w' before → Took w w' (remarks (drop from words))
+at_end words from at w w' before past s =
+    no_more words from at w w' before s (at_drop_all remarks words at past ∙ remarks_none)
+
+-- ---- what is left after remarks
+
+pub after_more : (words : Words) (at : ℕ) (d : Bor (List ℕ)) → at < length words
+    → is_some (remark (get_or words at d).now) ≡ true
+    → after_remarks (drop at words) ≡ after_remarks (drop (at + 1) words)
+after_more words at d lt is =
+    ap after_remarks (drop_more words at d lt) ∙ after_one (get_or words at d) (drop (at + 1) words)
+    ∙ ap (λ b. if b then after_remarks (drop (at + 1) words) else get_or words at d ∷ drop (at + 1) words) is
+
+pub after_other : (words : Words) (at : ℕ) (d : Bor (List ℕ)) → at < length words
+    → is_some (remark (get_or words at d).now) ≡ false → after_remarks (drop at words) ≡ drop at words
+after_other words at d lt is =
+    ap after_remarks (drop_more words at d lt) ∙ after_one (get_or words at d) (drop (at + 1) words)
+    ∙ ap (λ b. if b then after_remarks (drop (at + 1) words) else get_or words at d ∷ drop (at + 1) words) is
+    ∙ sym (drop_more words at d lt)
+
+pub after_end : (words : Words) (at : ℕ) → length words ≤ at → after_remarks (drop at words) ≡ drop at words
+after_end words at past =
+    at_drop_all after_remarks words at past ∙ after_none ∙ sym (at_drop_all (λ v. v) words at past)
+
+-- ---- a turn
+
+-- no argument is left
+pub turn_none : (words : Words) (at : ℕ) → length words ≤ at → turn (drop at words) ≡ turn []
+turn_none words at past = at_drop_all turn words at past
+
+-- the next argument
+pub turn_next : (words : Words) (at : ℕ) (d : Bor (List ℕ)) → at < length words
+    → turn (drop at words) ≡ turn (get_or words at d ∷ drop (at + 1) words)
+turn_next words at d lt = ap turn (drop_more words at d lt)
+
+-- it is `end`, or another
+pub turn_end : (words : Words) (at : ℕ) (d : Bor (List ℕ)) → at < length words
+    → bytes_eq (get_or words at d).now (codes "end") ≡ true
+    → turn (drop at words) ≡ record {
+      text = codes "mov";
+      state = record { words = drop (at + 1) words; plays = true };
+      ends = true;
+    }
+turn_end words at d lt is =
+    turn_next words at d lt
+    ∙ ap (λ (b : Bool). if b then record {
+      text = codes "mov";
+      state = record { words = drop (at + 1) words; plays = true };
+      ends = true;
+    }
+    else record {
+      text = played_text (get_or words at d).now ++ remarks (drop (at + 1) words);
+      state = record { words = after_remarks (drop (at + 1) words); plays = true };
+      ends = false;
+    }) is
+
+pub turn_played : (words : Words) (at : ℕ) (d : Bor (List ℕ)) → at < length words
+    → bytes_eq (get_or words at d).now (codes "end") ≡ false
+    → turn (drop at words) ≡ record {
+      text = played_text (get_or words at d).now ++ remarks (drop (at + 1) words);
+      state = record { words = after_remarks (drop (at + 1) words); plays = true };
+      ends = false;
+    }
+turn_played words at d lt is =
+    turn_next words at d lt
+    ∙ ap (λ (b : Bool). if b then record {
+      text = codes "mov";
+      state = record { words = drop (at + 1) words; plays = true };
+      ends = true;
+    }
+    else record {
+      text = played_text (get_or words at d).now ++ remarks (drop (at + 1) words);
+      state = record { words = after_remarks (drop (at + 1) words); plays = true };
+      ends = false;
+    }) is
+
+-- a turn always has the stub play
+pub turn_plays : (words : Words) → (turn words).state.plays ≡ true
+turn_plays [] = refl
+turn_plays (word ∷ words) = plays_by (bytes_eq word.now (codes "end"))
+  where
+    plays_by : (b : Bool) → (if b then record {
+      text = codes "mov";
+      state = record { words = words; plays = true };
+      ends = true;
+    }
+    else record {
+      text = played_text word.now ++ remarks words;
+      state = record { words = after_remarks words; plays = true };
+      ends = false;
+    }).state.plays ≡ true
+    plays_by true = refl
+    plays_by false = refl
+
+-- the state after a turn, by its arguments
+pub turn_state : (words left : Words) → left ≡ (turn words).state.words
+    → record { words = left; plays = true } ≡ (turn words).state
+turn_state words left is =
+    ap (λ (v : Words). record { words = v; plays = true }) is
+    ∙ ap (λ (b : Bool). record { words = (turn words).state.words; plays = b }) (sym (turn_plays words))

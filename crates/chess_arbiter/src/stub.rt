@@ -1,6 +1,6 @@
 //! A stub of an engine, which plays the arguments that it is given.
 
-ghost use Rattle.std.specs.Prelude.{◌≡◌, ◌++◌, ◌∷◌, [], IfOk, codes, decimal, if◌then◌else◌, option_map};
+ghost use Rattle.std.specs.Prelude.{◌≡◌, ◌≤◌, ◌++◌, ◌∷◌, [], IfOk, codes, decimal, drop, if◌then◌else◌, length, option_map};
 ghost use Rattle.byte_devices.specs.Devices.{Puts};
 ghost use Rattle.chess_base.specs.Letters.{new_line};
 ghost use Rattle.chess_cecp.specs.Commands.{command_of};
@@ -69,86 +69,107 @@ fn say_pong<W: Output>(writer: &mut W, number: u32) -> Result<(), WriteFault>
     put(writer, line.as_slice())
 }
 
-// Says the remarks at the front of these arguments.
-fn say_remarks<W: Output>(words: &[&str], writer: &mut W) -> Result<(), WriteFault>
-    ensures { Puts (W.seen writer.old) (W.seen writer.new) result (remarks words.now) }
+// Says the remarks among the arguments from there on, up to the first other one.
+fn say_remarks<W: Output>(words: &[&str], from: usize, writer: &mut W) -> Result<(), WriteFault>
+    requires { from ≤ length words.now }
+    ensures { Puts (W.seen writer.old) (W.seen writer.new) result (remarks (drop from words.now)) }
 {
-    let mut rest = words;
-    while let Some((word, others)) = rest.split_first() {
-        let Some(text) = remark(word) else {
+    let mut at = from;
+    while at < words.len() {
+        let Some(text) = remark(words[at]) else {
             return Ok(());
         };
         put(writer, text)?;
-        rest = others;
+        at += 1;
     }
     Ok(())
 }
 
-// The arguments after the remarks at their front.
-fn after_remarks<'a>(words: &'a [&'a str]) -> &'a [&'a str]
-    ensures { result.now ≡ after_remarks words.now }
+// The index of the first argument from there on that is no remark.
+fn after_remarks(words: &[&str], from: usize) -> usize
+    requires { from ≤ length words.now }
+    ensures in_range { result ≤ length words.now }
+    ensures rest { drop result words.now ≡ after_remarks (drop from words.now) }
 {
-    let mut rest = words;
-    while let Some((word, others)) = rest.split_first() {
-        if remark(word).is_none() {
-            break;
+    let mut at = from;
+    while at < words.len() {
+        if remark(words[at]).is_none() {
+            return at;
         }
-        rest = others;
+        at += 1;
     }
-    rest
+    at
 }
 
-// Says an argument that is played, and the remarks after it.
-fn say_played<W: Output>(word: &str, rest: &[&str], writer: &mut W) -> Result<(), WriteFault>
-    ensures { Puts (W.seen writer.old) (W.seen writer.new) result (played_text word.now ++ remarks rest.now) }
+// Says an argument that is played, and the remarks among the arguments from there on.
+fn say_played<W: Output>(
+    word: &str,
+    words: &[&str],
+    from: usize,
+    writer: &mut W,
+) -> Result<(), WriteFault>
+    requires { from ≤ length words.now }
+    ensures { Puts (W.seen writer.old) (W.seen writer.new) result
+        (played_text word.now ++ remarks (drop from words.now)) }
 {
     say_word(writer, word)?;
-    say_remarks(rest, writer)
+    say_remarks(words, from, writer)
 }
 
-// Says what a turn with these arguments does.
-fn say_turn<W: Output>(words: &[&str], writer: &mut W) -> Result<Go, WriteFault>
-    ensures written { Puts (W.seen writer.old) (W.seen writer.new) result (turn words.now).text }
-    ensures go { IfOk result (λ go. go ≡ (if (turn words.now).ends then Go.Quit else Go.On)) }
+// Says what a turn with the arguments from there on says, and returns whether the stub goes on.
+fn say_turn<W: Output>(words: &[&str], at: usize, writer: &mut W) -> Result<Go, WriteFault>
+    requires { at ≤ length words.now }
+    ensures written { Puts (W.seen writer.old) (W.seen writer.new) result (turn (drop at words.now)).text }
+    ensures go { IfOk result (λ go. go ≡ (if (turn (drop at words.now)).ends then Go.Quit else Go.On)) }
 {
-    let Some((word, rest)) = words.split_first() else {
+    if at == words.len() {
         put(writer, b"resign\n")?;
         return Ok(Go::On);
-    };
-    if *word == "end" {
+    }
+    let word = words[at];
+    if word == "end" {
         put(writer, b"mov")?;
         return Ok(Go::Quit);
     }
-    say_played(word, rest, writer)?;
+    say_played(word, words, at + 1, writer)?;
     Ok(Go::On)
 }
 
-// The arguments that a turn leaves.
-fn after_turn<'a>(words: &'a [&'a str]) -> &'a [&'a str]
-    ensures { result.now ≡ (turn words.now).state.words }
+// The index of the first argument that a turn leaves.
+fn after_turn(words: &[&str], at: usize) -> usize
+    requires { at ≤ length words.now }
+    ensures in_range { result ≤ length words.now }
+    ensures rest { drop result words.now ≡ (turn (drop at words.now)).state.words }
 {
-    let Some((word, rest)) = words.split_first() else {
-        return words;
-    };
-    if *word == "end" { rest } else { after_remarks(rest) }
+    if at == words.len() {
+        return at;
+    }
+    if words[at] == "end" {
+        return at + 1;
+    }
+    after_remarks(words, at + 1)
 }
 
-/// A stub: the arguments that are left, and whether it plays.
+/// A stub: its arguments, how many of them were played or said, and whether it plays.
 #[derive(Drop)]
 pub(crate) struct Stub<'a> {
     words: &'a [&'a str],
+    at: usize,
     plays: bool,
 }
 
 impl<'a> Model for Stub<'a> {
+    ghost use Rattle.std.specs.Prelude.{◌≤◌, drop, length};
     ghost use Rattle.chess_arbiter.specs.Stub.{StubState};
 
     ghost Value = { StubState };
 
     ghost view = { λ s. record {
-      words = s.words.now;
+      words = drop s.at s.words.now;
       plays = s.plays;
     } };
+
+    ghost invariant = { λ s. s.at ≤ length s.words.now };
 }
 
 impl<'a> Stub<'a> {
@@ -158,6 +179,7 @@ impl<'a> Stub<'a> {
     {
         Stub {
             words,
+            at: 0,
             plays: false,
         }
     }
@@ -168,10 +190,10 @@ impl<'a> Stub<'a> {
         ensures written { Puts (W.seen writer.old) (W.seen writer.new) result (turn self.old.words).text }
         ensures go { IfOk result (λ go. go ≡ (if (turn self.old.words).ends then Go.Quit else Go.On)) }
     {
-        let words = self.words;
-        self.words = after_turn(words);
+        let at = self.at;
+        self.at = after_turn(self.words, at);
         self.plays = true;
-        say_turn(words, writer)
+        say_turn(self.words, at, writer)
     }
 
     // A move of the other side: while it plays, it is its turn.

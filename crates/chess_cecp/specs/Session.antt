@@ -115,15 +115,11 @@ move_row limit s text =
     else if nat_le limit (length s.moves) then refuses s (codes "Error (game too long): ") text
     else reading_row s text (reading (current s) text)
 
--- the last move is taken back, if there is one
-abbrev pub undo_row : State → Row
-undo_row s = if nat_le 1 (length s.moves) then becomes (taken_back s 1) else refuses s
-    (codes "Error (command not legal now): ") (codes "undo")
-
--- the last two moves are taken back, if there are two
-abbrev pub remove_row : State → Row
-remove_row s = if nat_le 2 (length s.moves) then becomes (taken_back s 2) else refuses s
-    (codes "Error (command not legal now): ") (codes "remove")
+-- the last n moves are taken back, if there are so many, by the command of that name
+abbrev pub back_row : ℕ → List ℕ → State → Row
+back_row n name s =
+    if nat_le n (length s.moves) then becomes (taken_back s n)
+    else refuses s (codes "Error (command not legal now): ") name
 
 -- a result is declared, unless the text declares none or there is a verdict with another outcome
 abbrev pub result_row : State → List ℕ → Option Declared → Row
@@ -170,8 +166,8 @@ row tags limit s text argument New = becomes (from_start initial_setup)
 row tags limit s text argument SetBoard = setboard_row s (fen_reading_as s.start.variant argument)
 row tags limit s text argument UserMove = move_row limit s argument
 row tags limit s text argument BareMove = move_row limit s text
-row tags limit s text argument Undo = undo_row s
-row tags limit s text argument Remove = remove_row s
+row tags limit s text argument Undo = back_row 1 (codes "undo") s
+row tags limit s text argument Remove = back_row 2 (codes "remove") s
 row tags limit s text argument Declare = result_row s text (declared_by argument)
 row tags limit s text argument Claim = claim_row s
 row tags limit s text argument (Ping n) = says s (joined_line (codes "pong ") (decimal n))

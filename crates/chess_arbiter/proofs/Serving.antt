@@ -1,0 +1,15 @@
+-- A server that began in a state ran from that state.
+use Rattle.std.proofs.Common.{◌≡◌, ℕ, Result, subst}
+use Rattle.byte_devices.specs.Devices.{InputState, OutputState}
+use Rattle.chess_cecp.specs.declared.run.End.{End}
+use Rattle.chess_cecp.specs.declared.run.Fault.{Fault}
+use Rattle.chess_cecp.specs.Run.{Transcript, Ran}
+use Rattle.chess_cecp.specs.Serving.{Server}
+use Rattle.chess_arbiter.specs.Program.{RanServer, status_of}
+
+pub server_ran : {S : Type 0} (respond : Server S) (start : S) (r r' : InputState) (w w' : OutputState) (s s' : S)
+    (outcome : Result End Fault) (status : ℕ)
+    → s ≡ start → (t : Transcript) × Ran respond r r' w w' s s' t outcome → status ≡ status_of outcome
+    → RanServer respond start r r' w w' status
+server_ran respond start r r' w w' s s' outcome status is (t, ran) told =
+    (outcome, s', t, subst (λ v. Ran respond r r' w w' v s' t outcome) is ran, told)
