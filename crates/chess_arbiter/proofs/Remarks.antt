@@ -154,22 +154,22 @@ turn_played words at d lt is =
     }) is
 
 -- a turn always has the stub play
+either_plays : (b : Bool) (r q : Response StubState) → r.state.plays ≡ true → q.state.plays ≡ true
+    → (if b then r else q).state.plays ≡ true
+either_plays true r q h k = h
+either_plays false r q h k = k
+
 pub turn_plays : (words : Words) → (turn words).state.plays ≡ true
 turn_plays [] = refl
-turn_plays (word ∷ words) = plays_by (bytes_eq word.now (codes "end"))
-  where
-    plays_by : (b : Bool) → (if b then record {
-      text = codes "mov";
-      state = record { words = words; plays = true };
-      ends = true;
-    }
-    else record {
+turn_plays (word ∷ words) =
+    either_plays (bytes_eq word.now (codes "end"))
+    (record { text = codes "mov"; state = record { words = words; plays = true }; ends = true })
+    (record {
       text = played_text word.now ++ remarks words;
       state = record { words = after_remarks words; plays = true };
       ends = false;
-    }).state.plays ≡ true
-    plays_by true = refl
-    plays_by false = refl
+    })
+    refl refl
 
 -- the state after a turn, by its arguments
 pub turn_state : (words left : Words) → left ≡ (turn words).state.words

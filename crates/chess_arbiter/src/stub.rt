@@ -266,7 +266,7 @@ impl<'a> LineServer for Stub<'a> {
     ghost respond = { stub_response };
 
     #[tactic(auto, unfolding(crate::specs::Stub::stub_response))]
-    fn answer<W: Output>(
+    fn answer_line<W: Output>(
         &mut self,
         line: &Line<COMMAND_LEN>,
         writer: &mut W,

@@ -40,7 +40,7 @@ pub trait LineServer {
     ///
     /// # Errors
     /// Where a write or the flush failed. The change is kept, and a beginning of the answer was written.
-    fn answer<W: Output>(
+    fn answer_line<W: Output>(
         &mut self,
         line: &Line<COMMAND_LEN>,
         writer: &mut W,
@@ -53,12 +53,12 @@ pub trait LineServer {
 impl<B: Board> LineServer for Session<B> {
     ghost respond = { session_response };
 
-    fn answer<W: Output>(
+    fn answer_line<W: Output>(
         &mut self,
         line: &Line<COMMAND_LEN>,
         writer: &mut W,
     ) -> Result<Go, WriteFault> {
-        Session::answer(self, line, writer)
+        self.answer(line, writer)
     }
 }
 
@@ -84,7 +84,7 @@ pub fn serve_lines<R: Input, W: Output, S: LineServer>(
             Ok(false) => return Ok(End::InputEnded),
             Err(_) => return Err(Fault::Read),
         }
-        match server.answer(&line, writer) {
+        match server.answer_line(&line, writer) {
             Ok(Go::On) => {}
             Ok(Go::Quit) => return Ok(End::Quit),
             Err(_) => return Err(Fault::Write),

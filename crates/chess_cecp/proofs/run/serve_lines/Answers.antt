@@ -29,12 +29,12 @@ returns-in-Ok-Quit g c =
     c.in-Ok-Quit.ensures.written c.in-Ok-Quit.ensures.next
     (over_told _ c.in-Ok-Quit.field-0 c.in-Ok-Quit.ensures.go c.in-Ok-Quit.field-0-is)
 
-pub returns-in-Err-answer : goal.returns-in-Err-answer
-returns-in-Err-answer g c =
+pub returns-in-Err-answer_line : goal.returns-in-Err-answer_line
+returns-in-Err-answer_line g c =
     let n = rw c.in-Ok-true.field-0-test at c.in-Ok-true.ensures.next in
     by_write c.read_line.new.line c.loop-server.invariant.2
     (reached ReadFault _ c.read_line.new.line c.loop-server.invariant.2 n)
-    c.in-Err-answer.ensures.written c.in-Err-answer.ensures.next
+    c.in-Err-answer_line.ensures.written c.in-Err-answer_line.ensures.next
 
 pub returns-then-not-is_ended : goal.returns-then-not-is_ended
 returns-then-not-is_ended g c =
