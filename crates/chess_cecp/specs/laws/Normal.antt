@@ -14,7 +14,6 @@ use Rattle.chess_fen.specs.laws.Normal.{normal_fen, normal_fen_reading}
 use Rattle.chess_text.specs.declared.reading.Reading.{Reading}
 use Rattle.chess_text.specs.declared.reading.Reading.TheVariants as reads
 use Rattle.chess_text.specs.laws.Normal.{normal_moves, normal_reading}
-use Rattle.chess_game.specs.declared.ends.Claims.{Claims}
 use Rattle.chess_game.specs.declared.results.Declared.{Declared}
 use Rattle.chess_game.specs.Game.{State, from_start, played, with_declared, is_other}
 use Rattle.chess_pgn.specs.declared.tags.Tags.{Tags}
