@@ -7,11 +7,14 @@ use Rattle.arbiter_words.specs.declared.plan.Plan.{Plan}
 use Rattle.arbiter_words.specs.declared.plan.Plan.TheVariants.{Session, Verify, Stub, Match}
 use Rattle.arbiter_words.specs.declared.fault.WordsFault.{WordsFault}
 use Rattle.arbiter_words.specs.declared.fault.WordsFault.TheVariants as words
-use Rattle.byte_devices.specs.Devices.{InputState, OutputState, BreaksOff, Sent}
+use Rattle.byte_devices.specs.Devices.{InputState, OutputState, Sends}
+use Rattle.byte_devices.specs.declared.traits.WriteFault.{WriteFault}
 use Rattle.chess_cecp.specs.declared.run.End.{End}
 use Rattle.chess_cecp.specs.declared.run.Fault.{Fault}
-use Rattle.chess_cecp.specs.Held.{SessionSeen, opened_session}
+use Rattle.chess_cecp.specs.Held.{opened_session}
 use Rattle.chess_pgn.specs.Tags.{default_tags}
+use Rattle.chess_cecp.specs.Serving.{Server}
+use Rattle.chess_cecp.specs.Session.{session_response}
 use Rattle.chess_cecp.specs.Run.{Transcript, SessionRan}
 use Rattle.chess_arbiter.specs.declared.fault.ProgramFault.{ProgramFault}
 use Rattle.arbiter_words.specs.declared.plan.MatchPlan.{MatchPlan}
@@ -25,8 +28,7 @@ use Rattle.pgn_verifier.specs.Verify.{Verifies}
 use Rattle.chess_arbiter.specs.Games.{RanGames}
 use Rattle.chess_arbiter.specs.declared.games.GamesFault.{GamesFault}
 use Rattle.chess_arbiter.specs.Log.{LogSeen}
-use Rattle.chess_arbiter.specs.Stub.{StubRan, Words, beginning}
-use Rattle.chess_arbiter.specs.declared.stub.StubFault.{StubFault}
+use Rattle.chess_arbiter.specs.Stub.{beginning, stub_response}
 use Rattle.chess_arbiter.specs.declared.fault.ProgramFault.TheVariants.{WrongWords}
 use Rattle.chess_game.specs.declared.game.TheConstants.{MOST_MOVES}
 
@@ -40,12 +42,17 @@ abbrev pub fault_status : ProgramFault → ℕ
 fault_status WrongWords = 2
 fault_status _ = 1
 
--- a session of at most 20,000 half-moves, from what `new` leaves, ran to an end or up to a fault; or we ran out of
--- memory for one, and nothing was read or written
+-- lines of the input were answered on the output, from this state on, to an end or up to a fault
+abbrev pub RanServer : {S : Type 0} → Server S → S → InputState → InputState → OutputState → OutputState → ℕ → Type 0
+RanServer {S} respond s r r' w w' status =
+    (outcome : Result End Fault) × (s' : S) × (t : Transcript)
+    × SessionRan respond r r' w w' s s' t outcome × (status ≡ status_of outcome)
+
+-- a session of at most 20,000 half-moves ran, from what `new` leaves; or we ran out of memory for one, and nothing was
+-- read or written
 abbrev pub RanSession : InputState → InputState → OutputState → OutputState → ℕ → Type 0
 RanSession r r' w w' status =
-    ((outcome : Result End Fault) × (s : SessionSeen) × (t : Transcript)
-    × SessionRan r r' w w' (opened_session default_tags MOST_MOVES) s t outcome × (status ≡ status_of outcome))
+    RanServer session_response (opened_session default_tags MOST_MOVES) r r' w w' status
     ⊎ ((r' ≡ r) × (w' ≡ w) × (status ≡ 1))
 
 -- what the flags of `verify` ask for
@@ -68,10 +75,12 @@ abbrev pub RanVerify : VerifyPlan → InputState → InputState → OutputState 
 RanVerify plan r r' w w' status = (outcome : Result Verified VerifyFault)
     × VerifiesAs plan.keep_going (options_of plan) r r' w w' outcome × (status ≡ verify_status outcome)
 
--- a text of help was written and flushed; or a beginning of it was written; or we ran out of memory for it
+-- a text of help was written and flushed, or a beginning of it was written; or we ran out of memory for it
 abbrev pub RanHelp : OutputState → OutputState → ℕ → Type 0
-RanHelp w w' status = ((text : List ℕ) × Sent w w' text × (status ≡ 0))
-    ⊎ ((text : List ℕ) × BreaksOff w w' text × (status ≡ 1)) ⊎ ((w' ≡ w) × (status ≡ 1))
+RanHelp w w' status =
+    ((outcome : Result (Unit {0}) WriteFault) × (text : List ℕ) × Sends w w' outcome text
+    × (status ≡ status_of outcome))
+    ⊎ ((w' ≡ w) × (status ≡ 1))
 
 -- what is reported of arguments that ask for nothing: help and the version on the output, all else on the error output
 abbrev pub ReportsArguments : WordsFault → OutputState → OutputState → ℕ → Type 0
@@ -80,11 +89,6 @@ ReportsArguments (words.Words e) w w' status =
     × ((kind_of e ≡ DisplayHelp) ⊎ (kind_of e ≡ DisplayVersion) → RanHelp w w' status)
 ReportsArguments words.NoMemory w w' status = (w' ≡ w) × (status ≡ 1)
 ReportsArguments fault w w' status = (w' ≡ w) × (status ≡ 2)
-
--- a stub ran, and the status says whether a device failed
-abbrev pub RanStub : Words → InputState → InputState → OutputState → OutputState → ℕ → Type 0
-RanStub words r r' w w' status = (outcome : Result (Unit {0}) StubFault) × StubRan r r' w w' (beginning words) outcome
-    × (status ≡ status_of outcome)
 
 -- games were played, written and logged, and the status says whether anything failed; what the error output has is said
 -- for status 0 alone
@@ -98,7 +102,7 @@ abbrev pub RanPlan : Result Plan WordsFault → InputState → InputState → Ou
     → Type 0
 RanPlan (Ok Session) r r' w w' l l' status = RanSession r r' w w' status
 RanPlan (Ok (Verify plan)) r r' w w' l l' status = RanVerify plan r r' w w' status
-RanPlan (Ok (Stub words)) r r' w w' l l' status = RanStub words.items r r' w w' status
+RanPlan (Ok (Stub words)) r r' w w' l l' status = RanServer stub_response (beginning words.items) r r' w w' status
 RanPlan (Ok (Match plan)) r r' w w' l l' status = (r' ≡ r) × RanMatch plan w w' l l' status
 RanPlan (Err fault) r r' w w' l l' status = (r' ≡ r) × ReportsArguments fault w w' status
 

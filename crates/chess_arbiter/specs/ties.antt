@@ -1,5 +1,3 @@
 -- What only joins code to the definitions: no claim rests on it.
-pub mod Outcomes
 pub mod Logging
 pub mod Playing
-pub mod Serving

@@ -4,19 +4,19 @@ ghost use Rattle.std.specs.Prelude.{◌≡◌, IfOk, Ok, Err, map};
 ghost use Rattle.chess_cecp.specs.Held.{opened_session};
 ghost use Rattle.chess_pgn.specs.Tags.{default_tags};
 ghost use Rattle.chess_arbiter.specs.Log.{log_seen};
-ghost use Rattle.chess_arbiter.specs.Program.{RanHelp, RanMatch, RanProgram, RanSession, RanStub, RanVerify, ReportsArguments, VerifiesAs, options_of, verify_status};
-ghost use Rattle.chess_arbiter.specs.ties.Outcomes.{Served, Shown};
+ghost use Rattle.chess_arbiter.specs.Program.{RanHelp, RanMatch, RanProgram, RanServer, RanSession, RanVerify, ReportsArguments, VerifiesAs, options_of, status_of, verify_status};
+ghost use Rattle.chess_arbiter.specs.Stub.{beginning, stub_response};
 ghost use Rattle.chess_game.specs.declared.game.TheConstants.{MOST_MOVES};
 
 use crate::fault::{ProgramFault, report_text, reported};
 use crate::games::play_games;
 use crate::log::Log;
 use crate::output::send;
-use crate::stub::{StubFault, run_stub};
+use crate::stub::Stub;
 use arbiter_words::{MatchPlan, Plan, VerifyPlan, WordsFault, read_words};
-use byte_devices::{Input, Output};
+use byte_devices::{Input, Output, WriteFault};
 use chess_bits::{AttackTables, Bits};
-use chess_cecp::{End, Fault, Session, run_session};
+use chess_cecp::{End, Fault, Session, run_session, serve_lines};
 use chess_game::MOST_MOVES;
 use chess_pgn::Tags;
 use pgn_verifier::{Verified, VerifyFault, VerifyOptions, verify, verify_collection};
@@ -37,28 +37,18 @@ fn open_session<'t>(
     Session::open(alloc, board, scratch, Tags::default(), MOST_MOVES)
 }
 
-// A session on the input and the output.
-fn serve<R: Input, W: Output>(
-    alloc: Global,
-    input: &mut R,
-    output: &mut W,
-) -> Result<End, ProgramFault>
-    ensures { Served (R.seen input.old) (R.seen input.new) (W.seen output.old) (W.seen output.new) result }
+// The status after lines were answered; a fault is reported.
+fn server_status<E: Output>(outcome: Result<End, Fault>, errors: &mut E) -> u8
+    ensures { result ≡ status_of outcome }
 {
-    let Ok(tables) = AttackTables::open(alloc) else {
-        return Err(ProgramFault::NoMemory);
-    };
-    let Ok(mut session) = open_session(alloc, &tables) else {
-        return Err(ProgramFault::NoMemory);
-    };
-    match run_session(input, output, &mut session) {
-        Ok(end) => Ok(end),
-        Err(Fault::Read) => Err(ProgramFault::ReadFailed),
-        Err(Fault::Write) => Err(ProgramFault::WriteFailed),
+    match outcome {
+        Ok(_) => 0,
+        Err(Fault::Read) => reported(errors, &ProgramFault::ReadFailed, 1),
+        Err(Fault::Write) => reported(errors, &ProgramFault::WriteFailed, 1),
     }
 }
 
-// A session, reported, with its status.
+// A session on the input and the output, with its status.
 fn session<R: Input, W: Output, E: Output>(
     alloc: Global,
     input: &mut R,
@@ -67,10 +57,29 @@ fn session<R: Input, W: Output, E: Output>(
 ) -> u8
     ensures { RanSession (R.seen input.old) (R.seen input.new) (W.seen output.old) (W.seen output.new) result }
 {
-    match serve(alloc, input, output) {
-        Ok(_) => 0,
-        Err(fault) => reported(errors, &fault, 1),
-    }
+    let Ok(tables) = AttackTables::open(alloc) else {
+        return reported(errors, &ProgramFault::NoMemory, 1);
+    };
+    let Ok(mut session) = open_session(alloc, &tables) else {
+        return reported(errors, &ProgramFault::NoMemory, 1);
+    };
+    let outcome = run_session(input, output, &mut session);
+    server_status(outcome, errors)
+}
+
+// A stub on the input and the output, with its status.
+fn stub<R: Input, W: Output, E: Output>(
+    words: &[&str],
+    input: &mut R,
+    output: &mut W,
+    errors: &mut E,
+) -> u8
+    ensures { RanServer stub_response (beginning words.now) (R.seen input.old) (R.seen input.new) (W.seen output.old)
+        (W.seen output.new) result }
+{
+    let mut stub = Stub::new(words);
+    let outcome = serve_lines(input, output, &mut stub);
+    server_status(outcome, errors)
 }
 
 // The status after games were verified.
@@ -127,21 +136,17 @@ fn verified<R: Input, W: Output, E: Output>(
     }
 }
 
-// Writes a text of help, as it is displayed.
-fn show<W: Output, D: Display>(alloc: Global, help: &D, output: &mut W) -> Result<(), ProgramFault>
-    ensures { Shown (W.seen output.old) (W.seen output.new) result }
+// The status after a text of help was written; a fault is reported.
+fn help_status<E: Output>(outcome: Result<(), WriteFault>, errors: &mut E) -> u8
+    ensures { result ≡ status_of outcome }
 {
-    let text = match format!(in alloc; "{help}") {
-        Ok(text) => text,
-        Err(_) => return Err(ProgramFault::NoMemory),
-    };
-    match send(output, text.as_bytes()) {
-        Ok(()) => Ok(()),
-        Err(_) => Err(ProgramFault::WriteFailed),
+    match outcome {
+        Ok(()) => 0,
+        Err(_) => reported(errors, &ProgramFault::WriteFailed, 1),
     }
 }
 
-// A text of help, with the status.
+// Writes a text of help, as it is displayed, and returns the status.
 fn help<W: Output, E: Output, D: Display>(
     alloc: Global,
     help: &D,
@@ -150,10 +155,12 @@ fn help<W: Output, E: Output, D: Display>(
 ) -> u8
     ensures { RanHelp (W.seen output.old) (W.seen output.new) result }
 {
-    match show(alloc, help, output) {
-        Ok(()) => 0,
-        Err(fault) => reported(errors, &fault, 1),
-    }
+    let text = match format!(in alloc; "{help}") {
+        Ok(text) => text,
+        Err(_) => return reported(errors, &ProgramFault::NoMemory, 1),
+    };
+    let outcome = send(output, text.as_bytes());
+    help_status(outcome, errors)
 }
 
 // Reports why the arguments ask for nothing: help and the version on the output, all else on the error output.
@@ -177,22 +184,6 @@ fn report_arguments<W: Output, E: Output>(
         WordsFault::BadLevel | WordsFault::BadFen(_) | WordsFault::BadDate => {
             reported(errors, fault, 2)
         }
-    }
-}
-
-// A stub, with its status.
-fn stubbed<R: Input, W: Output, E: Output>(
-    words: &[&str],
-    input: &mut R,
-    output: &mut W,
-    errors: &mut E,
-) -> u8
-    ensures { RanStub words.now (R.seen input.old) (R.seen input.new) (W.seen output.old) (W.seen output.new) result }
-{
-    match run_stub(words, input, output) {
-        Ok(()) => 0,
-        Err(StubFault::Read) => reported(errors, &ProgramFault::ReadFailed, 1),
-        Err(StubFault::Write) => reported(errors, &ProgramFault::WriteFailed, 1),
     }
 }
 
@@ -255,7 +246,7 @@ pub fn run_program<'a, P: Processes + Clock, R: Input, W: Output, E: Output>(
     match plan {
         Plan::Session => session(alloc, input, output, &mut errors.output),
         Plan::Verify(plan) => verified(alloc, plan, input, output, &mut errors.output),
-        Plan::Stub(words) => stubbed(words.as_slice(), input, output, &mut errors.output),
+        Plan::Stub(words) => stub(words.as_slice(), input, output, &mut errors.output),
         Plan::Match(plan) => matched(rt, alloc, &plan, output, errors),
     }
 }

@@ -1,39 +1,18 @@
 //! A stub of an engine, which plays the arguments that it is given.
 
-ghost use Rattle.std.specs.Prelude.{◌≡◌, ◌≤◌, ◌++◌, ◌∷◌, [], codes, decimal, drop, false, length, option_map};
+ghost use Rattle.std.specs.Prelude.{◌≡◌, ◌≤◌, ◌++◌, ◌∷◌, [], IfOk, codes, decimal, drop, if◌then◌else◌, length, option_map};
 ghost use Rattle.byte_devices.specs.Devices.{Puts};
 ghost use Rattle.chess_base.specs.Letters.{new_line};
 ghost use Rattle.chess_cecp.specs.Commands.{command_of};
-ghost use Rattle.chess_arbiter.specs.Stub.{StubRan, beginning, moved, played_text, remark, reply, row, turn};
-ghost use Rattle.chess_arbiter.specs.ties.Serving.{Gives, GivesAndFlushes, SaysRemarks, state_at};
+ghost use Rattle.chess_arbiter.specs.Stub.{after_remarks, beginning, moved, played_text, remark, remarks, row, stub_response, turn};
 
 use arrayvec::ArrayVec;
-use byte_devices::{Input, Output, WriteFault, put, put_parts};
-use chess_cecp::{COMMAND_LEN, Command, Line, Lines, first_word, read_command};
+use byte_devices::{Output, WriteFault, put, put_parts};
+use chess_cecp::{COMMAND_LEN, Command, Go, Line, LineServer, first_word, read_command};
 use itoa::Buffer;
+use std::marker::Model;
 
 const FEATURES: &[u8] = b"feature ping=1 setboard=1 usermove=1 myname=\"stub\" done=1\n";
-
-/// How a stub goes on after a line.
-#[derive(Clone, Copy, Debug, PartialEq, Eq)]
-pub(crate) enum Onward {
-    On,
-    Over,
-}
-
-/// Why a stub broke off: a call of that device failed.
-#[derive(Clone, Copy, Debug, PartialEq, Eq)]
-pub(crate) enum StubFault {
-    Read,
-    Write,
-}
-
-/// The state of a stub: how many of its arguments are left, and whether it plays.
-#[derive(Clone, Copy, Debug, PartialEq, Eq)]
-pub(crate) struct Stub {
-    at: usize,
-    plays: bool,
-}
 
 // What is said for an argument that is a remark after a move.
 fn remark(word: &str) -> Option<&'static [u8]>
@@ -90,177 +69,214 @@ fn say_pong<W: Output>(writer: &mut W, number: u32) -> Result<(), WriteFault>
     put(writer, line.as_slice())
 }
 
-// Says the remarks among the arguments from there on, up to the first other one, and returns its index.
-fn say_remarks<W: Output>(words: &[&str], from: usize, writer: &mut W) -> Result<usize, WriteFault>
+// Says the remarks among the arguments from there on, up to the first other one.
+fn say_remarks<W: Output>(words: &[&str], from: usize, writer: &mut W) -> Result<(), WriteFault>
     requires { from ≤ length words.now }
-    ensures { SaysRemarks words.now from (W.seen writer.old) (W.seen writer.new) result }
+    ensures { Puts (W.seen writer.old) (W.seen writer.new) result (remarks (drop from words.now)) }
 {
     let mut at = from;
     while at < words.len() {
         let Some(text) = remark(words[at]) else {
-            return Ok(at);
+            return Ok(());
         };
         put(writer, text)?;
         at += 1;
     }
-    Ok(at)
+    Ok(())
 }
 
-// Plays the next argument.
-fn play<W: Output>(words: &[&str], at: usize, writer: &mut W) -> Result<(Stub, Onward), WriteFault>
+// The index of the first argument from there on that is no remark.
+fn after_remarks(words: &[&str], from: usize) -> usize
+    requires { from ≤ length words.now }
+    ensures in_range { result ≤ length words.now }
+    ensures rest { drop result words.now ≡ after_remarks (drop from words.now) }
+{
+    let mut at = from;
+    while at < words.len() {
+        if remark(words[at]).is_none() {
+            return at;
+        }
+        at += 1;
+    }
+    at
+}
+
+// Says an argument that is played, and the remarks among the arguments from there on.
+fn say_played<W: Output>(
+    word: &str,
+    words: &[&str],
+    from: usize,
+    writer: &mut W,
+) -> Result<(), WriteFault>
+    requires { from ≤ length words.now }
+    ensures { Puts (W.seen writer.old) (W.seen writer.new) result
+        (played_text word.now ++ remarks (drop from words.now)) }
+{
+    say_word(writer, word)?;
+    say_remarks(words, from, writer)
+}
+
+// Says what a turn with the arguments from there on says, and returns whether the stub goes on.
+fn say_turn<W: Output>(words: &[&str], at: usize, writer: &mut W) -> Result<Go, WriteFault>
     requires { at ≤ length words.now }
-    ensures { Gives words.now (turn (drop at words.now)) (W.seen writer.old) (W.seen writer.new) result }
+    ensures written { Puts (W.seen writer.old) (W.seen writer.new) result (turn (drop at words.now)).text }
+    ensures go { IfOk result (λ go. go ≡ (if (turn (drop at words.now)).ends then Go.Quit else Go.On)) }
 {
     if at == words.len() {
         put(writer, b"resign\n")?;
-        return Ok((Stub { at, plays: true }, Onward::On));
+        return Ok(Go::On);
     }
     let word = words[at];
     if word == "end" {
         put(writer, b"mov")?;
-        return Ok((
-            Stub {
-                at: at + 1,
-                plays: true,
-            },
-            Onward::Over,
-        ));
+        return Ok(Go::Quit);
     }
-    say_word(writer, word)?;
-    let at = say_remarks(words, at + 1, writer)?;
-    Ok((Stub { at, plays: true }, Onward::On))
+    say_played(word, words, at + 1, writer)?;
+    Ok(Go::On)
 }
 
-// It no longer plays.
-fn stopped(stub: Stub) -> Stub
-    ensures { result ≡ record { at = stub.at; plays = false } }
+// The index of the first argument that a turn leaves.
+fn after_turn(words: &[&str], at: usize) -> usize
+    requires { at ≤ length words.now }
+    ensures in_range { result ≤ length words.now }
+    ensures rest { drop result words.now ≡ (turn (drop at words.now)).state.words }
 {
-    Stub {
-        at: stub.at,
-        plays: false,
+    if at == words.len() {
+        return at;
     }
+    if words[at] == "end" {
+        return at + 1;
+    }
+    after_remarks(words, at + 1)
 }
 
-// A move of the other side: while it plays, it is its turn.
-fn moved<W: Output>(
-    words: &[&str],
-    stub: Stub,
-    writer: &mut W,
-) -> Result<(Stub, Onward), WriteFault>
-    requires { stub.at ≤ length words.now }
-    ensures { Gives words.now (moved (state_at words.now stub)) (W.seen writer.old) (W.seen writer.new) result }
-{
-    if stub.plays {
-        play(words, stub.at, writer)
-    } else {
-        Ok((stub, Onward::On))
-    }
+/// A stub: its arguments, how many of them were played or said, and whether it plays.
+#[derive(Drop)]
+pub(crate) struct Stub<'a> {
+    words: &'a [&'a str],
+    at: usize,
+    plays: bool,
 }
 
-// What it says to a line's text.
-fn obey<W: Output>(
-    words: &[&str],
-    stub: Stub,
-    text: &[u8],
-    writer: &mut W,
-) -> Result<(Stub, Onward), WriteFault>
-    requires { stub.at ≤ length words.now }
-    ensures { Gives words.now (row (state_at words.now stub) text.now (command_of text.now)) (W.seen writer.old)
-        (W.seen writer.new) result }
-{
-    match read_command(text) {
-        Command::Protover(_) => {
-            put(writer, FEATURES)?;
-            Ok((stub, Onward::On))
+impl<'a> Model for Stub<'a> {
+    ghost use Rattle.std.specs.Prelude.{◌≤◌, drop, length};
+    ghost use Rattle.chess_arbiter.specs.Stub.{StubState};
+
+    ghost Value = { StubState };
+
+    ghost view = { λ s. record {
+      words = drop s.at s.words.now;
+      plays = s.plays;
+    } };
+
+    ghost invariant = { λ s. s.at ≤ length s.words.now };
+}
+
+impl<'a> Stub<'a> {
+    /// A stub with these arguments, which doesn't play yet.
+    pub(crate) fn new(words: &'a [&'a str]) -> Self
+        ensures { result ≡ beginning words.now }
+    {
+        Stub {
+            words,
+            at: 0,
+            plays: false,
         }
-        Command::Ping(number) => {
-            say_pong(writer, number)?;
-            Ok((stub, Onward::On))
+    }
+
+    // Plays the next argument.
+    fn play<W: Output>(&mut self, writer: &mut W) -> Result<Go, WriteFault>
+        ensures next { self.new ≡ (turn self.old.words).state }
+        ensures written { Puts (W.seen writer.old) (W.seen writer.new) result (turn self.old.words).text }
+        ensures go { IfOk result (λ go. go ≡ (if (turn self.old.words).ends then Go.Quit else Go.On)) }
+    {
+        let at = self.at;
+        self.at = after_turn(self.words, at);
+        self.plays = true;
+        say_turn(self.words, at, writer)
+    }
+
+    // A move of the other side: while it plays, it is its turn.
+    fn moved<W: Output>(&mut self, writer: &mut W) -> Result<Go, WriteFault>
+        ensures next { self.new ≡ (moved self.old).state }
+        ensures written { Puts (W.seen writer.old) (W.seen writer.new) result (moved self.old).text }
+        ensures go { IfOk result (λ go. go ≡ (if (moved self.old).ends then Go.Quit else Go.On)) }
+    {
+        if self.plays {
+            self.play(writer)
+        } else {
+            Ok(Go::On)
         }
-        Command::New => Ok((stopped(stub), Onward::On)),
-        Command::Go => play(words, stub.at, writer),
-        Command::UserMove => moved(words, stub, writer),
-        Command::Unknown => {
-            if first_word(text) == b"usermove".as_slice() {
-                moved(words, stub, writer)
-            } else {
-                Ok((stub, Onward::On))
+    }
+
+    // Does what a line's text commands, and says what it says to it.
+    fn obey<W: Output>(&mut self, text: &[u8], writer: &mut W) -> Result<Go, WriteFault>
+        ensures next { self.new ≡ (row self.old text.now (command_of text.now)).state }
+        ensures written { Puts (W.seen writer.old) (W.seen writer.new) result
+            (row self.old text.now (command_of text.now)).text }
+        ensures go { IfOk result
+            (λ go. go ≡ (if (row self.old text.now (command_of text.now)).ends then Go.Quit else Go.On)) }
+    {
+        match read_command(text) {
+            Command::Protover(_) => {
+                put(writer, FEATURES)?;
+                Ok(Go::On)
             }
-        }
-        Command::Quit => Ok((stub, Onward::Over)),
-        Command::Silent => {
-            if first_word(text) == b"force".as_slice() {
-                Ok((stopped(stub), Onward::On))
-            } else {
-                Ok((stub, Onward::On))
+            Command::Ping(number) => {
+                say_pong(writer, number)?;
+                Ok(Go::On)
             }
+            Command::New => {
+                self.plays = false;
+                Ok(Go::On)
+            }
+            Command::Go => self.play(writer),
+            Command::UserMove => self.moved(writer),
+            Command::Unknown => {
+                if first_word(text) == b"usermove".as_slice() {
+                    self.moved(writer)
+                } else {
+                    Ok(Go::On)
+                }
+            }
+            Command::Quit => Ok(Go::Quit),
+            Command::Silent => {
+                if first_word(text) == b"force".as_slice() {
+                    self.plays = false;
+                }
+                Ok(Go::On)
+            }
+            Command::BareMove
+            | Command::Undo
+            | Command::Remove
+            | Command::Declare
+            | Command::Claim
+            | Command::SetBoard
+            | Command::Variant
+            | Command::ShowFen
+            | Command::ShowMoves
+            | Command::ShowState
+            | Command::ShowPgn
+            | Command::BadNumber => Ok(Go::On),
         }
-        Command::BareMove
-        | Command::Undo
-        | Command::Remove
-        | Command::Declare
-        | Command::Claim
-        | Command::SetBoard
-        | Command::Variant
-        | Command::ShowFen
-        | Command::ShowMoves
-        | Command::ShowState
-        | Command::ShowPgn
-        | Command::BadNumber => Ok((stub, Onward::On)),
     }
 }
 
-// What it says to a line, flushed.
-#[tactic(auto, unfolding(crate::specs::Stub::reply))]
-fn answer<W: Output>(
-    words: &[&str],
-    stub: Stub,
-    line: &Line<COMMAND_LEN>,
-    writer: &mut W,
-) -> Result<(Stub, Onward), WriteFault>
-    requires { stub.at ≤ length words.now }
-    ensures { GivesAndFlushes words.now (reply (state_at words.now stub) line.now) (W.seen writer.old)
-        (W.seen writer.new) result }
-{
-    let given = if line.is_too_long() {
-        (stub, Onward::On)
-    } else {
-        obey(words, stub, line.text(), writer)?
-    };
-    writer.flush()?;
-    Ok(given)
-}
+impl<'a> LineServer for Stub<'a> {
+    ghost respond = { stub_response };
 
-/// Runs a stub with these arguments, line by line, up to its end or the input's.
-///
-/// # Errors
-/// Where a call of the reader or of the writer failed.
-pub(crate) fn run_stub<R: Input, W: Output>(
-    words: &[&str],
-    reader: &mut R,
-    writer: &mut W,
-) -> Result<(), StubFault>
-    ensures { StubRan (R.seen reader.old) (R.seen reader.new) (W.seen writer.old) (W.seen writer.new)
-        (beginning words.now) result }
-{
-    let mut lines: Lines<COMMAND_LEN> = Lines::new();
-    let mut stub = Stub {
-        at: 0,
-        plays: false,
-    };
-    loop {
-        let line = match lines.next(reader) {
-            Ok(Some(line)) => line,
-            Ok(None) => return Ok(()),
-            Err(_) => return Err(StubFault::Read),
+    #[tactic(auto, unfolding(crate::specs::Stub::stub_response))]
+    fn answer_line<W: Output>(
+        &mut self,
+        line: &Line<COMMAND_LEN>,
+        writer: &mut W,
+    ) -> Result<Go, WriteFault> {
+        let go = if line.is_too_long() {
+            Go::On
+        } else {
+            self.obey(line.text(), writer)?
         };
-        match answer(words, stub, &line, writer) {
-            Ok((next, Onward::On)) => stub = next,
-            Ok((_, Onward::Over)) => return Ok(()),
-            Err(_) => return Err(StubFault::Write),
-        }
-        if !line.is_ended() {
-            return Ok(());
-        }
+        writer.flush()?;
+        Ok(go)
     }
 }

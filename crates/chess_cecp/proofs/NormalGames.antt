@@ -12,20 +12,17 @@ use Rattle.chess_base.specs.Attacks.{is_in_check}
 use Rattle.chess_base.specs.Initial.{initial_setup, initial_setup_of}
 use Rattle.chess_base.specs.Men.{other, same_colour}
 use Rattle.chess_base.specs.Moves.{after, is_en_passant}
-use Rattle.chess_base.specs.MoveList.{moves}
 use Rattle.chess_base.specs.laws.Normal.{normal_after}
 use Rattle.chess_base.proofs.NormalKept.{normal_kept as rules_kept}
 use Rattle.chess_fen.specs.Writing.{fen}
 use Rattle.chess_fen.specs.laws.Normal.{normal_fen}
 use Rattle.chess_fen.proofs.NormalWritten.{fen_kept}
-use Rattle.chess_text.specs.San.{san}
 use Rattle.chess_text.specs.laws.Normal.{normal_moves, normal_san}
 use Rattle.chess_text.proofs.NormalTexts.{normal_kept as texts_kept}
-use Rattle.chess_game.specs.declared.ends.Claims.{Claims}
 use Rattle.chess_game.specs.declared.ends.Verdict.{Verdict}
 use Rattle.chess_game.specs.declared.ends.Verdict.TheVariants.{Stalemate, InsufficientMaterial, FivefoldRepetition, SeventyFiveMoves}
 use Rattle.chess_game.specs.Ends.{is_bare, mates, verdict, claims}
-use Rattle.chess_game.specs.Game.{State, current, verdict_now, is_over, outcome_by, outcome_now}
+use Rattle.chess_game.specs.Game.{State, is_over, outcome_by, outcome_now}
 use Rattle.chess_game.specs.Line.{line, last}
 use Rattle.chess_game.specs.Results.{outcome_text}
 use Rattle.chess_game.specs.Same.{live_target, same, same_men, same_rights, same_square, rep}
@@ -34,7 +31,7 @@ use Rattle.chess_pgn.specs.declared.termination.Termination.{Termination}
 use Rattle.chess_pgn.specs.GameText.{is_initial, start_lines_in, last_lines, further_lines, roster_lines, tag_lines, number_token, move_tokens, game_tokens, pgn}
 use Rattle.chess_pgn.specs.Terminations.{termination_text, termination_of}
 use Rattle.chess_pgn.specs.Written.{tag_line, ended, move_text_of}
-use Rattle.chess_cecp.specs.laws.NormalGame.{normal_initial, normal_line, normal_last, normal_current, normal_live_target, normal_same, normal_rep, normal_verdict, normal_claims, normal_verdict_now, normal_is_over, normal_outcome_now}
+use Rattle.chess_cecp.specs.laws.NormalGame.{normal_initial, normal_line, normal_last, normal_live_target, normal_same, normal_rep, normal_verdict, normal_claims, normal_is_over, normal_outcome_now}
 use Rattle.chess_cecp.specs.laws.NormalPgn.{normal_is_initial, normal_start_lines, normal_further_lines, normal_tag_lines, normal_move_tokens, normal_game_tokens, normal_pgn}
 
 pub initial_kept : initial_setup ≡ normal_initial

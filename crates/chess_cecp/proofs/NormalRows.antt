@@ -1,5 +1,5 @@
 -- In a game of normal chess the rows are those of normal chess, but for `variant` and `protover`.
-use Rattle.std.proofs.Common.{◌≡◌, ℕ, nat_le, Bool, true, false, List, [], ◌∷◌, ◌++◌, length, codes, decimal, Option, None, Some, Result, Ok, Err, refl, sym, ap, ◌∙◌, if◌then◌else◌}
+use Rattle.std.proofs.Common.{◌≡◌, ℕ, nat_le, true, List, [], ◌∷◌, ◌++◌, length, codes, decimal, Option, None, Some, Result, Ok, Err, refl, ap, ◌∙◌, if◌then◌else◌}
 use Rattle.std.specs.Prelude.{IfOk}
 use Rattle.std.specs.List.{flat_map}
 use Rattle.chess_base.specs.declared.fault.FenFault.{FenFault}
@@ -22,15 +22,14 @@ use Rattle.chess_game.specs.declared.ends.Claims.{Claims}
 use Rattle.chess_game.specs.declared.ends.Verdict.{Verdict}
 use Rattle.chess_game.specs.declared.results.Declared.{Declared}
 use Rattle.chess_game.specs.Ends.{claims}
-use Rattle.chess_game.specs.Game.{State, from_start, played, with_declared, current, verdict_now, is_over, is_other}
-use Rattle.chess_game.specs.Same.{rep}
+use Rattle.chess_game.specs.Game.{State, from_start, played, with_declared, current, verdict_now, is_other}
 use Rattle.chess_pgn.specs.declared.tags.Tags.{Tags}
 use Rattle.chess_cecp.specs.declared.command.Command.{Command}
 use Rattle.chess_cecp.specs.declared.command.Command.TheVariants.{New, SetBoard, UserMove, BareMove, Undo, Remove, Declare, Claim, Ping, Protover, Variant, Go, ShowFen, ShowMoves, ShowState, ShowPgn, Quit, Silent, BadNumber, Unknown}
 use Rattle.chess_cecp.specs.Declaring.{declared_by, claims_text, verdict_text, declared_text, state_text}
-use Rattle.chess_cecp.specs.Session.{Row, row, says, refuses, becomes, becomes_judged, verdict_line, setboard_row, reading_row, move_row, result_row, claimed, claim_row, moves_line, shown, joined_line}
+use Rattle.chess_cecp.specs.Session.{row, says, refuses, becomes, becomes_judged, verdict_line, setboard_row, reading_row, move_row, result_row, claimed, claim_row, moves_line, shown, joined_line}
 use Rattle.chess_cecp.specs.laws.Normal.{normal_becomes_judged, normal_setboard_row, normal_reading_row, normal_move_row, normal_result_row, normal_claim_row, normal_moves_line, normal_state_text, normal_row_of, keeps_its_row}
-use Rattle.chess_cecp.specs.laws.NormalGame.{normal_current, normal_rep, normal_claims, normal_verdict_now, normal_is_over}
+use Rattle.chess_cecp.specs.laws.NormalGame.{normal_current, normal_rep, normal_claims, normal_is_over}
 use Rattle.chess_cecp.proofs.NormalGames.{initial_kept, last_stays, last_kept, rep_kept, verdict_kept, claims_kept, over_kept, pgn_kept}
 
 judged_kept : (s : State) → s.start.variant ≡ Normal → becomes_judged s ≡ normal_becomes_judged s

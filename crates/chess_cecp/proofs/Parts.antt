@@ -1,7 +1,7 @@
 -- What has come of a line.
 use Rattle.std.proofs.Common.{◌≡◌, ℕ, ◌+◌, ◌<◌, ◌≤◌, ◌==◌, ◌&&◌, nat_lt, nat_eq, min, ◌≢◌, Some, None, Bool, true, false, List, [], ◌∷◌, ◌++◌, length, take, refl, sym, ap, ◌∙◌, arith, if◌then◌else◌}
 use Rattle.std.proofs.lemmas.List.{take-append-le, take_min, take_all, length-take}
-use Rattle.std.proofs.Math.Nat.{min-le_left, min-le_right}
+use Rattle.std.proofs.Math.Nat.{min-le_right}
 use Rattle.std.proofs.lemmas.Grind.{common_steps}
 use Rattle.chess_cecp.specs.ties.Kept.{kept_part, SameLines, HeldLine}
 use Rattle.chess_cecp.specs.Lines.{LineSeen, Held, line_of, lines_from, lines_held, trimmed, is_blank, all_blank, without_front_blanks, without_end_blanks, without_return}

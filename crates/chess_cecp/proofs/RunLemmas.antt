@@ -1,5 +1,5 @@
--- A run of a session, line by line.
-use Rattle.std.proofs.Common.{◌≡◌, ℕ, ◌+◌, ◌-◌, ◌≤◌, inl, inr, ◌||◌, Bool, true, false, List, [], ◌∷◌, ◌++◌, length, take, Some, None, Ok, Err, refl, sym, ap, ◌∙◌, arith, append_assoc, append-nil, length-append, if◌then◌else◌}
+-- A run of a server of lines, line by line.
+use Rattle.std.proofs.Common.{◌≡◌, ℕ, ◌+◌, ◌-◌, ◌≤◌, inl, inr, Bool, true, false, List, [], ◌∷◌, ◌++◌, length, take, Some, None, Ok, Err, refl, sym, ap, ◌∙◌, arith, append_assoc, append-nil, length-append, if◌then◌else◌}
 use Rattle.std.proofs.Math.Seq.{take-append-add}
 use Rattle.chess_cecp.proofs.Reading.{nothing_left}
 use Rattle.std.specs.Option.{IfSome}
@@ -13,73 +13,80 @@ use Rattle.byte_devices.specs.Devices.{InputState, OutputState, Sent, TookThenFa
 use Rattle.byte_devices.proofs.DeviceLaws.{consumes_more, consumes_none, appends_more, appends_none}
 use Rattle.chess_cecp.specs.Lines.{LineSeen, Held, nothing_held, stream_lines, lines_held, lines, whole}
 use Rattle.chess_cecp.specs.Next.{before_piece, Waits, GotLine, GotLast, NextLine}
-use Rattle.chess_cecp.specs.Held.{SessionSeen}
-use Rattle.chess_cecp.specs.Session.{next_state, answer_to, is_quit, standing, answers, has_quit}
-use Rattle.chess_cecp.specs.Run.{Transcript, LeavesUnflushed, SessionRan, Answered, AnsweredKnown, risen_if}
+use Rattle.chess_cecp.specs.Serving.{Response, Server, and_then, responses}
+use Rattle.chess_cecp.specs.Run.{Transcript, LeavesUnflushed, SessionRan, Answered, risen_if}
 use Rattle.chess_cecp.specs.declared.session.Go.{Go}
 use Rattle.chess_cecp.specs.declared.session.Go.TheVariants as goes
 use Rattle.chess_cecp.specs.declared.run.End.TheVariants.{Quit, InputEnded}
 use Rattle.chess_cecp.specs.declared.run.Fault.TheVariants.{Read, Write}
 use Rattle.chess_cecp.specs.declared.session.TheConstants.{COMMAND_LEN}
 
-pub or_left : (a b : Bool) → (a || b) ≡ false → a ≡ false
-or_left true b h = h
-or_left false b h = refl
+-- ---- responses after one another
 
-pub or_right : (a b : Bool) → (a || b) ≡ false → b ≡ false
-or_right true b h = cc
-or_right false b h = h
+-- a response after that text
+abbrev pub with_front : {S : Type 0} → List ℕ → Response S → Response S
+with_front text r = record r { text = text ++ r.text }
 
-or_right_true : (a b : Bool) → b ≡ true → (a || b) ≡ true
-or_right_true true b h = refl
-or_right_true false b h = h
+fronts : {S : Type 0} (a b : List ℕ) (r : Response S) → with_front a (with_front b r) ≡ with_front (a ++ b) r
+fronts a b r = ap (λ t. record r { text = t }) (sym (append_assoc a b r.text))
 
-pub one_cond : (b : Bool) (x : List ℕ) → (if b then x else x ++ []) ≡ x
-one_cond true x = refl
-one_cond false x = append-nil x
+passes_by : {S : Type 0} (b : Bool) (r next : Response S) → b ≡ false
+    → (if b then r else with_front r.text next) ≡ with_front r.text next
+passes_by true r next e = cc
+passes_by false r next e = refl
 
-one_state : (b : Bool) (x : SessionSeen) → (if b then x else x) ≡ x
-one_state true x = refl
-one_state false x = refl
+passes : {S : Type 0} (r next : Response S) → r.ends ≡ false → and_then r next ≡ with_front r.text next
+passes r next e = passes_by r.ends r next e
 
--- lines without a quit: those after them go on from where they left
-pub answers_on : (s : SessionSeen) (xs ys : List LineSeen) → has_quit xs ≡ false
-    → answers s (xs ++ ys) ≡ answers s xs ++ answers (standing s xs) ys
-answers_on s [] ys h = refl
-answers_on s (x ∷ xs) ys h =
-    let n : is_quit x ≡ false = or_left (is_quit x) (has_quit xs) h in
-    let m : has_quit xs ≡ false = or_right (is_quit x) (has_quit xs) h in
-    rw n (ap (λ v. answer_to s x ++ v) (answers_on (next_state s x) xs ys m)
-    ∙ sym (append_assoc (answer_to s x) (answers (next_state s x) xs) (answers (standing (next_state s x) xs) ys)))
+stops_by : {S : Type 0} (b : Bool) (r next : Response S) → b ≡ true → (if b then r else with_front r.text next) ≡ r
+stops_by true r next e = refl
+stops_by false r next e = cc
 
-pub standing_on : (s : SessionSeen) (xs ys : List LineSeen) → has_quit xs ≡ false
-    → standing s (xs ++ ys) ≡ standing (standing s xs) ys
-standing_on s [] ys h = refl
-standing_on s (x ∷ xs) ys h =
-    let n : is_quit x ≡ false = or_left (is_quit x) (has_quit xs) h in
-    let m : has_quit xs ≡ false = or_right (is_quit x) (has_quit xs) h in
-    rw n (standing_on (next_state s x) xs ys m)
+stops : {S : Type 0} (r next : Response S) → r.ends ≡ true → and_then r next ≡ r
+stops r next e = stops_by r.ends r next e
 
-pub no_quit_on : (xs : List LineSeen) (x : LineSeen) → has_quit xs ≡ false → is_quit x ≡ false
-    → has_quit (xs ++ x ∷ []) ≡ false
-no_quit_on [] x h k = rw k refl
-no_quit_on (y ∷ xs) x h k =
-    rw (or_left (is_quit y) (has_quit xs) h) (no_quit_on xs x (or_right (is_quit y) (has_quit xs) h) k)
+-- where the responses go on, the first does
+first_by : {S : Type 0} (b : Bool) (r next : Response S) → r.ends ≡ b
+    → (if b then r else with_front r.text next).ends ≡ false → b ≡ false
+first_by true r next e h = sym e ∙ h
+first_by false r next e h = refl
 
--- one line alone
-pub answers_one : (s : SessionSeen) (x : LineSeen) (ys : List LineSeen) → is_quit x ≡ true
-    → answers s (x ∷ ys) ≡ answer_to s x
-answers_one s x ys h = rw h refl
+first_goes : {S : Type 0} (r next : Response S) → (and_then r next).ends ≡ false → r.ends ≡ false
+first_goes r next h = first_by r.ends r next refl h
 
-pub answers_last : (s : SessionSeen) (x : LineSeen) → answers s (x ∷ []) ≡ answer_to s x
-answers_last s x = one_cond (is_quit x) (answer_to s x)
+alone_by : {S : Type 0} (b : Bool) (r : Response S) → r.ends ≡ b
+    → (if b then r else with_front r.text (record { text = []; state = r.state; ends = false })) ≡ r
+alone_by true r e = refl
+alone_by false r e =
+    ap (λ t. record { text = t; state = r.state; ends = false }) (append-nil r.text)
+    ∙ ap (λ b. record { text = r.text; state = r.state; ends = b }) (sym e)
 
-pub standing_one : (s : SessionSeen) (x : LineSeen) (ys : List LineSeen) → is_quit x ≡ true
-    → standing s (x ∷ ys) ≡ next_state s x
-standing_one s x ys h = rw h refl
+alone : {S : Type 0} (respond : Server S) (s : S) (line : LineSeen) → responses respond s (line ∷ []) ≡ respond s line
+alone respond s line = alone_by (respond s line).ends (respond s line) refl
 
-pub standing_last : (s : SessionSeen) (x : LineSeen) → standing s (x ∷ []) ≡ next_state s x
-standing_last s x = one_state (is_quit x) (next_state s x)
+-- lines with none of which the server ends: those after them go on from where they left it
+responses_on : {S : Type 0} (respond : Server S) (s : S) (xs ys : List LineSeen)
+    → (responses respond s xs).ends ≡ false
+    → responses respond s (xs ++ ys)
+    ≡ with_front (responses respond s xs).text (responses respond (responses respond s xs).state ys)
+responses_on respond s [] ys h = refl
+responses_on {S} respond s (x ∷ xs) ys h =
+    let r = respond s x in
+    let rest = responses respond r.state xs in
+    let n : r.ends ≡ false = first_goes r rest h in
+    let is : and_then r rest ≡ with_front r.text rest = passes r rest n in
+    let m : rest.ends ≡ false = ap (λ (v : Response S). v.ends) (sym is) ∙ h in
+    passes r (responses respond r.state (xs ++ ys)) n
+    ∙ ap (with_front r.text) (responses_on respond r.state xs ys m)
+    ∙ fronts r.text rest.text (responses respond rest.state ys)
+    ∙ ap (λ (v : Response S). with_front v.text (responses respond v.state ys)) (sym is)
+
+-- a response after that text, by its fields
+by_fields : {S : Type 0} (front : List ℕ) (r : Response S) (s : S) (ends : Bool) → s ≡ r.state → r.ends ≡ ends
+    → with_front front r ≡ record { text = front ++ r.text; state = s; ends = ends }
+by_fields front r s ends is e =
+    ap (λ b. record { text = front ++ r.text; state = r.state; ends = b }) e
+    ∙ ap (λ v. record { text = front ++ r.text; state = v; ends = ends }) (sym is)
 
 -- ---- what the writer took and passed on
 
@@ -112,13 +119,13 @@ sent_some w w' w'' x y h k = record {
   unflushed = λ none. k.unflushed ∙ ap (λ n. raised n y) (h.flushed none);
 }
 
--- after some lines were answered, none of them a quit
-pub record SoFar (r r' : InputState) (w w' : OutputState) (s s' : SessionSeen) (held : Held) (given : List ℕ)
-    (done : List LineSeen) : Type 0 where
+-- after some lines were answered, with none of which the server ended
+pub record SoFar {S : Type 0} (respond : Server S) (r r' : InputState) (w w' : OutputState) (s s' : S) (held : Held)
+    (given : List ℕ) (done : List LineSeen) : Type 0 where
   pub bytes : Consumes r.known_bytes r'.known_bytes given
-  pub took : SentAll w w' (answers s done)
-  pub state : s' ≡ standing s done
-  pub no_quit : has_quit done ≡ false
+  pub took : SentAll w w' (responses respond s done).text
+  pub state : s' ≡ (responses respond s done).state
+  pub goes_on : (responses respond s done).ends ≡ false
   pub lines : (told : Bool) (rest : List ℕ)
       → stream_lines COMMAND_LEN told (given ++ rest) ≡ done ++ lines_held COMMAND_LEN told held rest
   pub on_demand : length (whole COMMAND_LEN (before_piece r'.last_len given)) ≤ length done
@@ -131,12 +138,13 @@ no_bytes n = grind (arith, common_steps)
 pub nothing_whole : whole COMMAND_LEN [] ≡ []
 nothing_whole = nothing_left COMMAND_LEN false
 
-pub start : (r : InputState) (w : OutputState) (s : SessionSeen) → SoFar r r w w s s nothing_held [] []
-start r w s = record {
+pub start : {S : Type 0} (respond : Server S) (r : InputState) (w : OutputState) (s : S)
+    → SoFar respond r r w w s s nothing_held [] []
+start respond r w s = record {
   bytes = consumes_none r.known_bytes;
   took = sent_none w;
   state = refl;
-  no_quit = refl;
+  goes_on = refl;
   lines = λ told rest. refl;
   on_demand = (let e : whole COMMAND_LEN (before_piece r.last_len [])
       ≡ [] = ap (whole COMMAND_LEN) (no_bytes r.last_len) ∙ nothing_whole in omega (arith, ap length e));
@@ -145,16 +153,16 @@ start r w s = record {
 }
 
 -- before the last piece of what was given, no line is whole but those that are done
-waited : (r r' r'' : InputState) (w w' : OutputState) (s s' : SessionSeen) (held : Held) (given more : List ℕ)
-    (done : List LineSeen)
-    → SoFar r r' w w' s s' held given done → Waits COMMAND_LEN r' r'' held more
+waited : {S : Type 0} {respond : Server S} (r r' r'' : InputState) {w w' : OutputState} {s s' : S} (held : Held)
+    (given more : List ℕ) (done : List LineSeen)
+    → SoFar respond r r' w w' s s' held given done → Waits COMMAND_LEN r' r'' held more
     → length (whole COMMAND_LEN (before_piece r''.last_len (given ++ more))) ≤ length done
-waited r r' r'' w w' s s' held given more done f (inl (none, same)) =
+waited r r' r'' held given more done f (inl (none, same)) =
     let e : before_piece r''.last_len (given ++ more) ≡ before_piece r'.last_len given =
     ap (λ v. before_piece r''.last_len (given ++ v)) none ∙ ap (before_piece r''.last_len) (append-nil given)
     ∙ ap (λ v. before_piece v given) same in
     rw e f.on_demand
-waited r r' r'' w w' s s' held given more done f (inr (few, none)) =
+waited r r' r'' held given more done f (inr (few, none)) =
     let len : length (given ++ more) ≡ length given + length more = length-append given more in
     let cut : before_piece r''.last_len (given ++ more) ≡ given ++ before_piece r''.last_len more =
     ap (λ v. take v (given ++ more)) (let at : length (given ++ more) - r''.last_len ≡ length given
@@ -194,12 +202,12 @@ pub of_false : (b : Bool) (P Q : Type 0) → b ≡ false → MatchBool b P Q →
 of_false true P Q e p = cc
 of_false false P Q e p = p
 
-pub reached_ended : (r r' r'' : InputState) (w w' : OutputState) (s s' : SessionSeen) (held held' : Held)
-    (given more : List ℕ) (done : List LineSeen) (line : LineSeen)
-    → SoFar r r' w w' s s' held given done → Consumes r'.known_bytes r''.known_bytes more
+pub reached_ended : {S : Type 0} {respond : Server S} (r r' r'' : InputState) {w w' : OutputState} {s s' : S}
+    (held held' : Held) (given more : List ℕ) (done : List LineSeen) (line : LineSeen)
+    → SoFar respond r r' w w' s s' held given done → Consumes r'.known_bytes r''.known_bytes more
     → Waits COMMAND_LEN r' r'' held more → GotLine COMMAND_LEN r' r'' held held' more line
     → Reached r r'' (given ++ more) false done line (lines_held COMMAND_LEN false held' [])
-reached_ended r r' r'' w w' s s' held held' given more done line f bytes waits got = record {
+reached_ended r r' r'' held held' given more done line f bytes waits got = record {
   bytes = consumes_more r.known_bytes r'.known_bytes r''.known_bytes given more f.bytes bytes;
   lines = f.lines false more ∙ ap (λ v. done ++ lines_held COMMAND_LEN false held v) (sym (append-nil more))
       ∙ ap (λ v. done ++ v) (got.lines false []);
@@ -210,23 +218,23 @@ reached_ended r r' r'' w w' s s' held held' given more done line f bytes waits g
         ap (stream_lines COMMAND_LEN true) (append_assoc given more rest)
             ∙ f.lines true (more ++ rest) ∙ ap (λ v. done ++ v) (got.lines true rest),
       ));
-  on_demand = waited r r' r'' w w' s s' held given more done f waits;
+  on_demand = waited r r' r'' held given more done f waits;
   failures = got.failures ∙ f.failures;
   ends = got.ends ∙ f.ends;
 }
 
-pub reached_last : (r r' r'' : InputState) (w w' : OutputState) (s s' : SessionSeen) (held held' : Held)
-    (given more : List ℕ) (done : List LineSeen) (line : LineSeen)
-    → SoFar r r' w w' s s' held given done → Consumes r'.known_bytes r''.known_bytes more
+pub reached_last : {S : Type 0} {respond : Server S} (r r' r'' : InputState) {w w' : OutputState} {s s' : S}
+    (held held' : Held) (given more : List ℕ) (done : List LineSeen) (line : LineSeen)
+    → SoFar respond r r' w w' s s' held given done → Consumes r'.known_bytes r''.known_bytes more
     → Waits COMMAND_LEN r' r'' held more → GotLast COMMAND_LEN r' r'' held held' more line
     → Reached r r'' (given ++ more) true done line []
-reached_last r r' r'' w w' s s' held held' given more done line f bytes waits got = record {
+reached_last r r' r'' held held' given more done line f bytes waits got = record {
   bytes = consumes_more r.known_bytes r'.known_bytes r''.known_bytes given more f.bytes bytes;
   lines = f.lines true more ∙ ap (λ v. done ++ v) got.lines;
   known = Consumes-whole r.known_bytes r''.known_bytes (given ++ more) (BeginsWith done line)
       (consumes_more r.known_bytes r'.known_bytes r''.known_bytes given more f.bytes bytes)
       got.at_end ([], f.lines true more ∙ ap (λ v. done ++ v) got.lines);
-  on_demand = waited r r' r'' w w' s s' held given more done f waits;
+  on_demand = waited r r' r'' held given more done f waits;
   failures = got.failures ∙ f.failures;
   ends = got.ends ∙ ap risen f.ends;
 }
@@ -236,135 +244,123 @@ abbrev pub IsReached : InputState → InputState → List LineSeen → LineSeen 
 IsReached r r' done line = (given : List ℕ) × (told : Bool) × (after : List LineSeen)
     × Reached r r' given told done line after
 
-reached_by : (b : Bool) (E : Type 0) (r r' r'' : InputState) (w w' : OutputState) (s s' : SessionSeen)
-    (held held' : Held) (given : List ℕ) (done : List LineSeen) (line : LineSeen)
-    → SoFar r r' w w' s s' held given done → NextLine {E = E} COMMAND_LEN r' r'' held held' (Ok (Some line))
+reached_by : {S : Type 0} {respond : Server S} (b : Bool) (E : Type 0) (r r' r'' : InputState) {w w' : OutputState}
+    {s s' : S} (held held' : Held) (given : List ℕ) (done : List LineSeen) (line : LineSeen)
+    → SoFar respond r r' w w' s s' held given done → NextLine {E = E} COMMAND_LEN r' r'' held held' (Ok (Some line))
     → line.ended ≡ b → IsReached r r'' done line
-reached_by true E r r' r'' w w' s s' held held' given done line f (more, bytes, waits, got) e = (
+reached_by true E r r' r'' held held' given done line f (more, bytes, waits, got) e = (
   given ++ more,
   false,
   lines_held COMMAND_LEN false held' [],
-  reached_ended r r' r'' w w' s s' held held' given more done line f bytes waits (of_true line.ended _ _ e got),
+  reached_ended r r' r'' held held' given more done line f bytes waits (of_true line.ended _ _ e got),
 )
-reached_by false E r r' r'' w w' s s' held held' given done line f (more, bytes, waits, got) e = (
+reached_by false E r r' r'' held held' given done line f (more, bytes, waits, got) e = (
   given ++ more,
   true,
   [],
-  reached_last r r' r'' w w' s s' held held' given more done line f bytes waits
+  reached_last r r' r'' held held' given more done line f bytes waits
       (of_false line.ended _ _ e got),
 )
 
-pub reached : (E : Type 0) {r r' r'' : InputState} {w w' : OutputState} {s s' : SessionSeen}
+pub reached : {S : Type 0} {respond : Server S} (E : Type 0) {r r' r'' : InputState} {w w' : OutputState} {s s' : S}
     {held : Held} (held' : Held) {given : List ℕ} {done : List LineSeen} (line : LineSeen)
-    → SoFar r r' w w' s s' held given done → NextLine {E = E} COMMAND_LEN r' r'' held held' (Ok (Some line))
+    → SoFar respond r r' w w' s s' held given done → NextLine {E = E} COMMAND_LEN r' r'' held held' (Ok (Some line))
     → IsReached r r'' done line
-reached E {r} {r'} {r''} {w} {w'} {s} {s'} {held} held' {given} {done} line f n =
-    reached_by line.ended E r r' r'' w w' s s' held held' given done line f n refl
+reached E {r} {r'} {r''} {held} held' {given} {done} line f n =
+    reached_by line.ended E r r' r'' held held' given done line f n refl
 
--- the state after a line
-state_on : (s s' s'' : SessionSeen) (done : List LineSeen) (line : LineSeen) → s' ≡ standing s done
-    → s'' ≡ next_state s' line → s'' ≡ next_state (standing s done) line
-state_on s s' s'' done line e n = n ∙ ap (λ v. next_state v line) e
+-- the responses with that to a line, at the state that was reached
+one_more : {S : Type 0} (respond : Server S) (s s' : S) (done : List LineSeen) (line : LineSeen)
+    → s' ≡ (responses respond s done).state → (responses respond s done).ends ≡ false
+    → responses respond s (done ++ line ∷ []) ≡ with_front (responses respond s done).text (respond s' line)
+one_more respond s s' done line is on =
+    responses_on respond s done (line ∷ []) on
+    ∙ ap (with_front (responses respond s done).text)
+    (alone respond (responses respond s done).state line ∙ ap (λ v. respond v line) (sym is))
 
 -- the next line, once it was answered
-pub go_on : (E : Type 0) {r r' r'' : InputState} {w w' w'' : OutputState} {s s' s'' : SessionSeen} {held held' : Held}
-    {given : List ℕ} {done : List LineSeen} (line : LineSeen)
-    → SoFar r r' w w' s s' held given done → NextLine {E = E} COMMAND_LEN r' r'' held held' (Ok (Some line))
-    → line.ended ≡ true
-    → Sent w' w'' (answer_to s' line) → s'' ≡ next_state s' line → is_quit line ≡ false
-    → (given' : List ℕ) × SoFar r r'' w w'' s s'' held' given' (done ++ line ∷ [])
-go_on E {r} {r'} {r''} {w} {w'} {w''} {s} {s'} {s''} {held} {held'} {given} {done} line f
+pub go_on : {S : Type 0} {respond : Server S} (E : Type 0) {r r' r'' : InputState} {w w' w'' : OutputState}
+    {s s' s'' : S} {held held' : Held} {given : List ℕ} {done : List LineSeen} (line : LineSeen)
+    → SoFar respond r r' w w' s s' held given done
+    → NextLine {E = E} COMMAND_LEN r' r'' held held' (Ok (Some line)) → line.ended ≡ true
+    → Sent w' w'' (respond s' line).text → s'' ≡ (respond s' line).state → (respond s' line).ends ≡ false
+    → (given' : List ℕ) × SoFar respond r r'' w w'' s s'' held' given' (done ++ line ∷ [])
+go_on {S} {respond} E {r} {r'} {r''} {w} {w'} {w''} {s} {s'} {s''} {held} {held'} {given} {done} line f
     (more, bytes, waits, got) ended took next on =
     let g : GotLine COMMAND_LEN r' r'' held held' more line = of_true line.ended _ _ ended got in
-    let told_text : answers s (done ++ line ∷ []) ≡ answers s done ++ answer_to s' line =
-    answers_on s done (line ∷ []) f.no_quit ∙ ap (λ v. answers s done ++ v)
-    (answers_last (standing s done) line ∙ ap (λ v. answer_to v line) (sym f.state)) in (
+    let all = sym (one_more respond s s' done line f.state f.goes_on) in (
       given ++ more,
       record {
         bytes = consumes_more r.known_bytes r'.known_bytes r''.known_bytes given more f.bytes bytes;
-        took = rw told_text (sent_more w w' w'' (answers s done) (answer_to s' line) f.took took);
-        state = state_on s s' s'' done line f.state next ∙ sym (standing_last (standing s done) line)
-            ∙ sym (standing_on s done (line ∷ []) f.no_quit);
-        no_quit = no_quit_on done line f.no_quit on;
+        took = subst (λ (v : Response S). SentAll w w'' v.text) all
+            (sent_more w w' w'' (responses respond s done).text (respond s' line).text f.took took);
+        state = next ∙ ap (λ (v : Response S). v.state) all;
+        goes_on = ap (λ (v : Response S). v.ends) (sym all) ∙ on;
         lines = λ told rest. ap (stream_lines COMMAND_LEN told) (append_assoc given more rest)
             ∙ f.lines told (more ++ rest) ∙ ap (λ v. done ++ v) (g.lines told rest)
             ∙ sym (append_assoc done (line ∷ []) (lines_held COMMAND_LEN told held' rest));
-        on_demand = (let a = waited r r' r'' w w' s s' held given more done f waits in omega
+        on_demand = (let a = waited r r' r'' held given more done f waits in omega
             (arith, length-append done (line ∷ [])));
         failures = g.failures ∙ f.failures;
         ends = g.ends ∙ f.ends;
       },
     )
 
--- lines up to a quit, answered
-quit_answered : (r r' : InputState) (w w' : OutputState) (s s' s'' : SessionSeen) (held : Held) (given : List ℕ)
-    (done : List LineSeen) (line : LineSeen) (behind ls : List LineSeen)
-    → SoFar r r' w w' s s' held given done → ls ≡ done ++ line ∷ behind → s'' ≡ next_state s' line → is_quit line ≡ true
-    → Answered s s'' (answers s done ++ answer_to s' line) ls
-quit_answered r r' w w' s s' s'' held given done line behind ls f e next on = record {
-  taken = sym (ap (answers s) e ∙ answers_on s done (line ∷ behind) f.no_quit
-      ∙ ap (λ v. answers s done ++ v) (answers_one (standing s done) line behind on
-      ∙ ap (λ v. answer_to v line) (sym f.state)));
-  state = state_on s s' s'' done line f.state next
-      ∙ sym (ap (standing s) e ∙ standing_on s done (line ∷ behind) f.no_quit
-      ∙ standing_one (standing s done) line behind on);
-}
+-- ---- the ways to end
 
-quit_stands : (done : List LineSeen) (line : LineSeen) (behind : List LineSeen) → is_quit line ≡ true
-    → has_quit (done ++ line ∷ behind) ≡ true
-quit_stands [] line behind on = rw on refl
-quit_stands (x ∷ done) line behind on = or_right_true (is_quit x) (has_quit (done ++ line ∷ behind))
-    (quit_stands done line behind on)
-
--- what was known to come has lines that are all answered, where those that were given are
-known_answered : (r r' : InputState) (s s' : SessionSeen) (t : Transcript) (quit : Bool)
-    → Consumes r.known_bytes r'.known_bytes t.given → IsAtEnd r'.known_bytes
-    → Answered s s' t.taken (lines COMMAND_LEN t.given) → has_quit (lines COMMAND_LEN t.given) ≡ quit
-    → AnsweredKnown r s s' t quit
-known_answered r r' s s' t quit bytes end all is =
-    Consumes-whole r.known_bytes r'.known_bytes t.given
-    (λ xs. Answered s s' t.taken (lines COMMAND_LEN xs) × (has_quit (lines COMMAND_LEN xs) ≡ quit)) bytes end
-    (all, is)
+-- lines up to the one with which the server ends
+ended_answered : {S : Type 0} (respond : Server S) (s s' s'' : S) (done : List LineSeen) (line : LineSeen)
+    (behind ls : List LineSeen)
+    → s' ≡ (responses respond s done).state → (responses respond s done).ends ≡ false → ls ≡ done ++ line ∷ behind
+    → s'' ≡ (respond s' line).state → (respond s' line).ends ≡ true
+    → Answered respond s s'' ((responses respond s done).text ++ (respond s' line).text) true ls
+ended_answered respond s s' s'' done line behind ls state goes_on e next over =
+    let front = (responses respond s done).text in
+    let last = (responses respond s done).state in
+    let here : (respond last line).ends ≡ true = ap (λ v. (respond v line).ends) (sym state) ∙ over in
+    ap (responses respond s) e ∙ responses_on respond s done (line ∷ behind) goes_on
+    ∙ ap (with_front front)
+    (stops (respond last line) (responses respond (respond last line).state behind) here
+    ∙ ap (λ v. respond v line) (sym state))
+    ∙ by_fields front (respond s' line) s'' true next over
 
 -- a run that ends by the line that was reached
-pub by_quit : {r r' r'' : InputState} {w w' w'' : OutputState} {s s' s'' : SessionSeen} {held : Held} {given : List ℕ}
-    {done : List LineSeen} (line : LineSeen)
-    → SoFar r r' w w' s s' held given done → IsReached r r'' done line
-    → Sent w' w'' (answer_to s' line) → s'' ≡ next_state s' line → is_quit line ≡ true
-    → (t : Transcript) × SessionRan r r'' w w'' s s'' t (Ok Quit)
-by_quit {r} {r'} {w} {w'} {w''} {s} {s'} {s''} {held} {given} {done} line f (all, told, after, at) took next on =
-    let both : SentAll w w'' (answers s done ++ answer_to s' line) =
-    sent_more w w' w'' (answers s done) (answer_to s' line) f.took took in (
-      record { given = all; told = told; taken = answers s done ++ answer_to s' line },
+pub by_line : {S : Type 0} {respond : Server S} {r r' r'' : InputState} {w w' w'' : OutputState} {s s' s'' : S}
+    {held : Held} {given : List ℕ} {done : List LineSeen} (line : LineSeen)
+    → SoFar respond r r' w w' s s' held given done → IsReached r r'' done line
+    → Sent w' w'' (respond s' line).text → s'' ≡ (respond s' line).state → (respond s' line).ends ≡ true
+    → (t : Transcript) × SessionRan respond r r'' w w'' s s'' t (Ok Quit)
+by_line {respond} {r} {w} {w'} {w''} {s} {s'} {s''} {done} line f (all, told, after, at) took next over =
+    let text : List ℕ = (responses respond s done).text ++ (respond s' line).text in
+    let both : SentAll w w'' text =
+    sent_more w w' w'' (responses respond s done).text (respond s' line).text f.took took in (
+      record { given = all; told = told; taken = text },
       (
         record { given = at.bytes; taken = both.bytes; told = at.ends; reads = at.failures; writes = both.failures },
         (
           done,
           line,
           after,
-          record { lines = at.lines; no_quit = f.no_quit; on_demand = at.on_demand },
-          on,
-          quit_answered r r' w w' s s' s'' held given done line after _ f at.lines next on,
+          record { lines = at.lines; goes_on = f.goes_on; on_demand = at.on_demand },
+          ap (λ v. (respond v line).ends) (sym f.state) ∙ over,
         ),
+        ended_answered respond s s' s'' done line after _ f.state f.goes_on at.lines next over,
         IfSome_then r.known_bytes at.known
-            (λ xs (behind, e). (
-              quit_answered r r' w w' s s' s'' held given done line behind _ f e next on,
-              ap has_quit e ∙ quit_stands done line behind on,
-            )),
+            (λ xs (behind, e). ended_answered respond s s' s'' done line behind _ f.state f.goes_on e next over),
         both.flushed,
       ),
     )
 
 -- a run that ends at a write that failed
-pub by_write : {r r' r'' : InputState} {w w' w'' : OutputState} {s s' s'' : SessionSeen} {held : Held} {given : List ℕ}
-    {done : List LineSeen} (line : LineSeen)
-    → SoFar r r' w w' s s' held given done → IsReached r r'' done line
-    → BreaksOff w' w'' (answer_to s' line) → s'' ≡ next_state s' line
-    → (t : Transcript) × SessionRan r r'' w w'' s s'' t (Err Write)
-by_write {r} {w} {w'} {w''} {s} {s'} {s''} {given} {done} line f (all, told, after, at)
-    (start, (rest, is), broke) next =
-    let both : SentSome w w'' (answers s done) start = sent_some w w' w'' (answers s done) start f.took broke in (
-      record { given = all; told = told; taken = answers s done ++ start },
+pub by_write : {S : Type 0} {respond : Server S} {r r' r'' : InputState} {w w' w'' : OutputState} {s s' s'' : S}
+    {held : Held} {given : List ℕ} {done : List LineSeen} (line : LineSeen)
+    → SoFar respond r r' w w' s s' held given done → IsReached r r'' done line
+    → BreaksOff w' w'' (respond s' line).text → s'' ≡ (respond s' line).state
+    → (t : Transcript) × SessionRan respond r r'' w w'' s s'' t (Err Write)
+by_write {respond} {r} {w} {w'} {w''} {s} {done} line f (all, told, after, at) (start, (rest, is), broke) next =
+    let both : SentSome w w'' (responses respond s done).text start =
+    sent_some w w' w'' (responses respond s done).text start f.took broke in (
+      record { given = all; told = told; taken = (responses respond s done).text ++ start },
       (
         record { given = at.bytes; taken = both.bytes; told = at.ends; reads = at.failures; writes = both.failures },
         (
@@ -372,11 +368,10 @@ by_write {r} {w} {w'} {w''} {s} {s'} {s''} {given} {done} line f (all, told, aft
           line,
           after,
           start,
-          record { lines = at.lines; no_quit = f.no_quit; on_demand = at.on_demand },
-          (rest, is ∙ ap (λ v. answer_to v line) f.state),
+          record { lines = at.lines; goes_on = f.goes_on; on_demand = at.on_demand },
+          (rest, is ∙ ap (λ v. (respond v line).text) f.state),
           refl,
-          state_on s s' s'' done line f.state next ∙ sym (standing_last (standing s done) line)
-              ∙ sym (standing_on s done (line ∷ []) f.no_quit),
+          next ∙ ap (λ v. (respond v line).state) f.state,
           IfSome_then r.known_bytes at.known
               (λ xs (behind, e). (behind, e ∙ sym (append_assoc done (line ∷ []) behind))),
           both.unflushed,
@@ -384,55 +379,64 @@ by_write {r} {w} {w'} {w''} {s} {s'} {s''} {given} {done} line f (all, told, aft
       ),
     )
 
+-- what was known to come has lines that are all answered, where those that were given are
+known_answered : {S : Type 0} (respond : Server S) (r r' : InputState) (s s' : S) (given text : List ℕ)
+    → Consumes r.known_bytes r'.known_bytes given → IsAtEnd r'.known_bytes
+    → Answered respond s s' text false (lines COMMAND_LEN given)
+    → IfSome r.known_bytes (λ xs. Answered respond s s' text false (lines COMMAND_LEN xs))
+known_answered respond r r' s s' given text bytes end all =
+    Consumes-whole r.known_bytes r'.known_bytes given (λ xs. Answered respond s s' text false (lines COMMAND_LEN xs))
+    bytes end all
+
 -- a run that ends by an unended last line
-pub by_last : (E : Type 0) {r r' r'' : InputState} {w w' w'' : OutputState} {s s' s'' : SessionSeen}
-    {held : Held} (held' : Held) {given : List ℕ} {done : List LineSeen} (line : LineSeen)
-    → SoFar r r' w w' s s' held given done → NextLine {E = E} COMMAND_LEN r' r'' held held' (Ok (Some line))
-    → line.ended ≡ false
-    → Sent w' w'' (answer_to s' line) → s'' ≡ next_state s' line → is_quit line ≡ false
-    → (t : Transcript) × SessionRan r r'' w w'' s s'' t (Ok InputEnded)
-by_last E {r} {r'} {r''} {w} {w'} {w''} {s} {s'} {s''} {held} held' {given} {done} line f
+pub by_last : {S : Type 0} {respond : Server S} (E : Type 0) {r r' r'' : InputState} {w w' w'' : OutputState}
+    {s s' s'' : S} {held : Held} (held' : Held) {given : List ℕ} {done : List LineSeen} (line : LineSeen)
+    → SoFar respond r r' w w' s s' held given done
+    → NextLine {E = E} COMMAND_LEN r' r'' held held' (Ok (Some line)) → line.ended ≡ false
+    → Sent w' w'' (respond s' line).text → s'' ≡ (respond s' line).state → (respond s' line).ends ≡ false
+    → (t : Transcript) × SessionRan respond r r'' w w'' s s'' t (Ok InputEnded)
+by_last {respond} E {r} {r'} {r''} {w} {w'} {w''} {s} {s'} {s''} {held} held' {given} {done} line f
     (more, bytes, waits, got) ended took next on =
     let g : GotLast COMMAND_LEN r' r'' held held' more line = of_false line.ended _ _ ended got in
     let at : Reached r r'' (given ++ more) true done line [] =
-    reached_last r r' r'' w w' s s' held held' given more done line f bytes waits g in
-    let both : SentAll w w'' (answers s done ++ answer_to s' line) =
-    sent_more w w' w'' (answers s done) (answer_to s' line) f.took took in
-    let t : Transcript = record { given = given ++ more; told = true; taken = answers s done ++ answer_to s' line } in
-    let none : has_quit (lines COMMAND_LEN (given ++ more)) ≡ false =
-    ap has_quit at.lines ∙ no_quit_on done line f.no_quit on in
-    let all : Answered s s'' t.taken (lines COMMAND_LEN (given ++ more)) = record {
-      taken = sym (ap (answers s) at.lines ∙ answers_on s done (line ∷ []) f.no_quit
-          ∙ ap (λ v. answers s done ++ v) (answers_last (standing s done) line
-          ∙ ap (λ v. answer_to v line) (sym f.state)));
-      state = state_on s s' s'' done line f.state next
-          ∙ sym (ap (standing s) at.lines ∙ standing_on s done (line ∷ []) f.no_quit
-          ∙ standing_last (standing s done) line);
-    } in (
-      t,
+    reached_last r r' r'' held held' given more done line f bytes waits g in
+    let text : List ℕ = (responses respond s done).text ++ (respond s' line).text in
+    let both : SentAll w w'' text =
+    sent_more w w' w'' (responses respond s done).text (respond s' line).text f.took took in
+    let all : Answered respond s s'' text false (lines COMMAND_LEN (given ++ more)) =
+    ap (responses respond s) at.lines ∙ one_more respond s s' done line f.state f.goes_on
+    ∙ by_fields (responses respond s done).text (respond s' line) s'' false next on in (
+      record { given = given ++ more; told = true; taken = text },
       (
         record { given = at.bytes; taken = both.bytes; told = at.ends; reads = at.failures; writes = both.failures },
-        record { told = refl; at_end = g.at_end; no_quit = none; all = all },
-        known_answered r r'' s s'' t false at.bytes g.at_end all none,
+        refl,
+        g.at_end,
+        all,
+        known_answered respond r r'' s s'' (given ++ more) text at.bytes g.at_end all,
         both.flushed,
       ),
     )
 
+-- the lines that are done are all, where none is left
+done_answered : {S : Type 0} (respond : Server S) (s s' : S) (done ls : List LineSeen)
+    → s' ≡ (responses respond s done).state → (responses respond s done).ends ≡ false → ls ≡ done
+    → Answered respond s s' (responses respond s done).text false ls
+done_answered respond s s' done ls state goes_on is =
+    ap (responses respond s) is ∙ by_fields [] (responses respond s done) s' false state goes_on
+
 -- a run that ends where nothing is left
-pub by_end : (E : Type 0) {r r' r'' : InputState} {w w' : OutputState} {s s' : SessionSeen} {held held' : Held}
-    {given : List ℕ} {done : List LineSeen}
-    → SoFar r r' w w' s s' held given done → NextLine {E = E} COMMAND_LEN r' r'' held held' (Ok None)
-    → (t : Transcript) × SessionRan r r'' w w' s s' t (Ok InputEnded)
-by_end E {r} {r'} {r''} {s} {s'} {given} {done} f (more, bytes, waits, got) =
-    let is : stream_lines COMMAND_LEN true (given ++ more) ≡ done =
-    f.lines true more ∙ ap (λ v. done ++ v) (got.lines true) ∙ append-nil done in
+pub by_end : {S : Type 0} {respond : Server S} (E : Type 0) {r r' r'' : InputState} {w w' : OutputState} {s s' : S}
+    {held held' : Held} {given : List ℕ} {done : List LineSeen}
+    → SoFar respond r r' w w' s s' held given done → NextLine {E = E} COMMAND_LEN r' r'' held held' (Ok None)
+    → (t : Transcript) × SessionRan respond r r'' w w' s s' t (Ok InputEnded)
+by_end {respond} E {r} {r'} {r''} {s} {s'} {given} {done} f (more, bytes, waits, got) =
     let both : Consumes r.known_bytes r''.known_bytes (given ++ more) =
     consumes_more r.known_bytes r'.known_bytes r''.known_bytes given more f.bytes bytes in
-    let t : Transcript = record { given = given ++ more; told = true; taken = answers s done } in
-    let none : has_quit (lines COMMAND_LEN (given ++ more)) ≡ false = ap has_quit is ∙ f.no_quit in
-    let all : Answered s s' t.taken (lines COMMAND_LEN (given ++ more)) =
-    record { taken = sym (ap (answers s) is); state = f.state ∙ sym (ap (standing s) is) } in (
-      t,
+    let text : List ℕ = (responses respond s done).text in
+    let all : Answered respond s s' text false (lines COMMAND_LEN (given ++ more)) =
+    done_answered respond s s' done (lines COMMAND_LEN (given ++ more)) f.state f.goes_on
+    (f.lines true more ∙ ap (λ v. done ++ v) (got.lines true) ∙ append-nil done) in (
+      record { given = given ++ more; told = true; taken = text },
       (
         record {
           given = both;
@@ -441,25 +445,27 @@ by_end E {r} {r'} {r''} {s} {s'} {given} {done} f (more, bytes, waits, got) =
           reads = got.failures ∙ f.failures;
           writes = f.took.failures;
         },
-        record { told = refl; at_end = got.at_end; no_quit = none; all = all },
-        known_answered r r'' s s' t false both got.at_end all none,
+        refl,
+        got.at_end,
+        all,
+        known_answered respond r r'' s s' (given ++ more) text both got.at_end all,
         f.took.flushed,
       ),
     )
 
 -- a run that ends at a read that failed
-pub by_read : {E : Type 0} (e : E) {r r' r'' : InputState} {w w' : OutputState} {s s' : SessionSeen} {held held' : Held}
-    {given : List ℕ} {done : List LineSeen}
-    → SoFar r r' w w' s s' held given done → NextLine {E = E} COMMAND_LEN r' r'' held held' (Err e)
-    → (t : Transcript) × SessionRan r r'' w w' s s' t (Err Read)
-by_read e {r} {r'} {r''} {s} {held'} {given} {done} f (more, bytes, waits, got) =
+pub by_read : {S : Type 0} {respond : Server S} {E : Type 0} (e : E) {r r' r'' : InputState} {w w' : OutputState}
+    {s s' : S} {held held' : Held} {given : List ℕ} {done : List LineSeen}
+    → SoFar respond r r' w w' s s' held given done → NextLine {E = E} COMMAND_LEN r' r'' held held' (Err e)
+    → (t : Transcript) × SessionRan respond r r'' w w' s s' t (Err Read)
+by_read {respond} e {r} {r'} {r''} {s} {s'} {held'} {given} {done} f (more, bytes, waits, got) =
     let is : whole COMMAND_LEN (given ++ more) ≡ done =
     f.lines false more ∙ ap (λ v. done ++ v) got.whole ∙ append-nil done in
     let both : Consumes r.known_bytes r''.known_bytes (given ++ more) =
     consumes_more r.known_bytes r'.known_bytes r''.known_bytes given more f.bytes bytes in
     let P : List ℕ → Type 0 = λ xs. (behind : List LineSeen)
     × (lines COMMAND_LEN xs ≡ whole COMMAND_LEN (given ++ more) ++ behind) in (
-      record { given = given ++ more; told = false; taken = answers s done },
+      record { given = given ++ more; told = false; taken = (responses respond s done).text },
       (
         record {
           given = both;
@@ -468,26 +474,22 @@ by_read e {r} {r'} {r''} {s} {held'} {given} {done} f (more, bytes, waits, got) 
           reads = got.failures ∙ ap risen f.failures;
           writes = f.took.failures;
         },
-        record {
-          told = refl;
-          no_quit = ap has_quit is ∙ f.no_quit;
-          taken = sym (ap (answers s) is);
-          state = f.state ∙ sym (ap (standing s) is);
-          first = known_front r.known_bytes r''.known_bytes (given ++ more) P both
-              (λ rest. (
-                lines_held COMMAND_LEN true held' rest,
-                ap (stream_lines COMMAND_LEN true) (append_assoc given more rest) ∙ f.lines true (more ++ rest)
-                    ∙ ap (λ v. done ++ v) (got.lines true rest)
-                    ∙ ap (λ v. v ++ lines_held COMMAND_LEN true held' rest) (sym is),
-              ));
-        },
+        refl,
+        done_answered respond s s' done (whole COMMAND_LEN (given ++ more)) f.state f.goes_on is,
+        known_front r.known_bytes r''.known_bytes (given ++ more) P both
+            (λ rest. (
+              lines_held COMMAND_LEN true held' rest,
+              ap (stream_lines COMMAND_LEN true) (append_assoc given more rest) ∙ f.lines true (more ++ rest)
+                  ∙ ap (λ v. done ++ v) (got.lines true rest)
+                  ∙ ap (λ v. v ++ lines_held COMMAND_LEN true held' rest) (sym is),
+            )),
         f.took.flushed,
       ),
     )
 
-pub quit_told : (b : Bool) (go : Go) → go ≡ (if b then goes.Quit else goes.On) → go ≡ goes.Quit → b ≡ true
-quit_told true go h k = refl
-quit_told false go h k = cc
+pub over_told : (b : Bool) (go : Go) → go ≡ (if b then goes.Quit else goes.On) → go ≡ goes.Quit → b ≡ true
+over_told true go h k = refl
+over_told false go h k = cc
 
 pub on_told : (b : Bool) (go : Go) → go ≡ (if b then goes.Quit else goes.On) → go ≡ goes.On → b ≡ false
 on_told true go h k = cc

@@ -18,20 +18,19 @@ word_of (c ∷ cs) = if is_blank c then [] else c ∷ word_of cs
 unfoldable pub argument_of : List ℕ → List ℕ
 argument_of text = without_front_blanks (drop (length (word_of text)) text)
 
--- the number that one to nine digits denote
-unfoldable pub command_number : List ℕ → Option ℕ
-command_number text = if nat_lt 0 (length text) && nat_le (length text) 9
+-- the number that at least one and at most so many digits denote
+abbrev pub short_number : ℕ → List ℕ → Option ℕ
+short_number most text = if nat_lt 0 (length text) && nat_le (length text) most
     && list_all is_digit text then Some (value_after 0 text) else None
 
--- `ping` with its number, if it is one
-abbrev pub ping_of : Option ℕ → Command
-ping_of (Some n) = Ping n
-ping_of None = BadNumber
+-- the number that one to nine digits denote
+unfoldable pub command_number : List ℕ → Option ℕ
+command_number text = short_number 9 text
 
--- `protover` with its number, if it is one
-abbrev pub protover_of : Option ℕ → Command
-protover_of (Some n) = Protover n
-protover_of None = BadNumber
+-- a command with its number, if it is one
+abbrev pub with_number : (ℕ → Command) → Option ℕ → Command
+with_number command (Some n) = command n
+with_number command None = BadNumber
 
 -- one of these names
 abbrev pub is_named : List ℕ → List (List ℕ) → Bool
@@ -69,8 +68,8 @@ named_command word argument =
     else if bytes_eq word (codes "remove") then Some Remove
     else if bytes_eq word (codes "result") then Some Declare
     else if bytes_eq word (codes "claim") then Some Claim
-    else if bytes_eq word (codes "ping") then Some (ping_of (command_number argument))
-    else if bytes_eq word (codes "protover") then Some (protover_of (command_number argument))
+    else if bytes_eq word (codes "ping") then Some (with_number Ping (command_number argument))
+    else if bytes_eq word (codes "protover") then Some (with_number Protover (command_number argument))
     else if bytes_eq word (codes "variant") then Some Variant
     else if bytes_eq word (codes "go") then Some Go
     else if bytes_eq word (codes "showfen") then Some ShowFen

@@ -1,6 +1,5 @@
 -- Results as they are declared and reported, and what `showstate` shows of a game.
 use Rattle.std.specs.Prelude.{ℕ, ◌-◌, ◌==◌, ◌&&◌, nat_le, Bool, true, false, if◌then◌else◌, List, [], ◌++◌, length, take, drop, slice_index_or, codes, decimal, Option, None, Some}
-use Rattle.std.specs.Str.{bytes_eq}
 use Rattle.chess_base.specs.Letters.{byte}
 use Rattle.chess_game.specs.Ends.{verdict_outcome, verdict_comment, claims}
 use Rattle.chess_game.specs.Game.{State, current, verdict_now}
@@ -10,17 +9,8 @@ use Rattle.chess_game.specs.declared.ends.Claims.{Claims}
 use Rattle.chess_game.specs.declared.ends.Verdict.{Verdict}
 use Rattle.chess_game.specs.declared.results.Declared.{Declared}
 use Rattle.chess_game.specs.declared.results.Outcome.{Outcome}
-use Rattle.chess_game.specs.declared.results.Outcome.TheVariants.{WhiteWins, BlackWins, Draw, Unfinished}
+use Rattle.chess_pgn.specs.Words.{outcome_of}
 use Rattle.chess_cecp.specs.Commands.{word_of, argument_of}
-
--- the outcome that a word names
-unfoldable pub outcome_named : List ℕ → Option Outcome
-outcome_named word =
-    if bytes_eq word (outcome_text WhiteWins) then Some WhiteWins
-    else if bytes_eq word (outcome_text BlackWins) then Some BlackWins
-    else if bytes_eq word (outcome_text Draw) then Some Draw
-    else if bytes_eq word (outcome_text Unfinished) then Some Unfinished
-    else None
 
 -- a text without its first and its last byte
 abbrev pub inside_braces : List ℕ → List ℕ
@@ -43,7 +33,7 @@ declared_as (Some o) (Some comment) = Some (record { outcome = o; comment = cut_
 -- the result that the argument of `result` declares, if it declares one: an outcome, and after it nothing or a text
 -- from a brace to a last brace, of which the game keeps what a comment can hold
 unfoldable pub declared_by : List ℕ → Option Declared
-declared_by argument = declared_as (outcome_named (word_of argument)) (result_comment (argument_of argument))
+declared_by argument = declared_as (outcome_of (word_of argument)) (result_comment (argument_of argument))
 
 -- an outcome and its comment in braces
 unfoldable pub result_text : Outcome → List ℕ → List ℕ

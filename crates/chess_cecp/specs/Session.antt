@@ -1,5 +1,5 @@
 -- What a session answers: the table of commands, a row for each kind. From one line to the next only the game changes.
-use Rattle.std.specs.Prelude.{◌⊎◌, ℕ, ◌||◌, ◌&&◌, not, nat_le, nat_lt, if◌then◌else◌, Bool, true, false, List, [], ◌∷◌, ◌++◌, length, codes, decimal, Option, None, Some, Result, Ok, Err}
+use Rattle.std.specs.Prelude.{◌⊎◌, ℕ, ◌&&◌, not, nat_le, nat_lt, if◌then◌else◌, Bool, true, false, List, [], ◌∷◌, ◌++◌, length, codes, decimal, Option, None, Some, Result, Ok, Err}
 use Rattle.chess_base.specs.Letters.{new_line, space}
 use Rattle.std.specs.Str.{bytes_eq}
 use Rattle.byte_devices.specs.Devices.{Begins}
@@ -16,6 +16,7 @@ use Rattle.chess_base.specs.MoveList.{moves}
 use Rattle.chess_fen.specs.Reading.{fen_reading_as}
 use Rattle.chess_fen.specs.Writing.{fen}
 use Rattle.chess_cecp.specs.Lines.{LineSeen}
+use Rattle.chess_cecp.specs.Serving.{Response}
 use Rattle.chess_cecp.specs.Held.{SessionSeen}
 use Rattle.chess_pgn.specs.GameText.{pgn}
 use Rattle.chess_pgn.specs.declared.tags.Tags.{Tags}
@@ -114,15 +115,11 @@ move_row limit s text =
     else if nat_le limit (length s.moves) then refuses s (codes "Error (game too long): ") text
     else reading_row s text (reading (current s) text)
 
--- the last move is taken back, if there is one
-abbrev pub undo_row : State → Row
-undo_row s = if nat_le 1 (length s.moves) then becomes (taken_back s 1) else refuses s
-    (codes "Error (command not legal now): ") (codes "undo")
-
--- the last two moves are taken back, if there are two
-abbrev pub remove_row : State → Row
-remove_row s = if nat_le 2 (length s.moves) then becomes (taken_back s 2) else refuses s
-    (codes "Error (command not legal now): ") (codes "remove")
+-- the last n moves are taken back, if there are so many, by the command of that name
+abbrev pub back_row : ℕ → List ℕ → State → Row
+back_row n name s =
+    if nat_le n (length s.moves) then becomes (taken_back s n)
+    else refuses s (codes "Error (command not legal now): ") name
 
 -- a result is declared, unless the text declares none or there is a verdict with another outcome
 abbrev pub result_row : State → List ℕ → Option Declared → Row
@@ -169,8 +166,8 @@ row tags limit s text argument New = becomes (from_start initial_setup)
 row tags limit s text argument SetBoard = setboard_row s (fen_reading_as s.start.variant argument)
 row tags limit s text argument UserMove = move_row limit s argument
 row tags limit s text argument BareMove = move_row limit s text
-row tags limit s text argument Undo = undo_row s
-row tags limit s text argument Remove = remove_row s
+row tags limit s text argument Undo = back_row 1 (codes "undo") s
+row tags limit s text argument Remove = back_row 2 (codes "remove") s
 row tags limit s text argument Declare = result_row s text (declared_by argument)
 row tags limit s text argument Claim = claim_row s
 row tags limit s text argument (Ping n) = says s (joined_line (codes "pong ") (decimal n))
@@ -218,18 +215,6 @@ is_quit_command command = false
 unfoldable pub is_quit : LineSeen → Bool
 is_quit line = not line.too_long && is_quit_command (command_of line.text)
 
--- the session after lines, up to the first `quit`
-abbrev pub standing : SessionSeen → List LineSeen → SessionSeen
-standing seen [] = seen
-standing seen (line ∷ rest) = if is_quit line then next_state seen line else standing (next_state seen line) rest
-
--- the answers to lines, up to the first `quit`
-abbrev pub answers : SessionSeen → List LineSeen → List ℕ
-answers seen [] = []
-answers seen (line ∷ rest) = if is_quit line then answer_to seen line else answer_to seen line
-    ++ answers (next_state seen line) rest
-
--- one of the lines ends the session
-abbrev pub has_quit : List LineSeen → Bool
-has_quit [] = false
-has_quit (line ∷ rest) = is_quit line || has_quit rest
+-- how a session responds to a line
+abbrev pub session_response : SessionSeen → LineSeen → Response SessionSeen
+session_response seen line = record { text = answer_to seen line; state = next_state seen line; ends = is_quit line }

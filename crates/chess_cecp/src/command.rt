@@ -2,7 +2,7 @@
 
 ghost use Rattle.std.specs.Prelude.{◌≡◌, ◌+◌, ◌≤◌, ◌++◌, length};
 ghost use Rattle.chess_cecp.specs.Lines.{is_blank};
-ghost use Rattle.chess_cecp.specs.Commands.{command_of, named_command, word_of, argument_of, command_number, ping_of, protover_of, is_engine_command, is_opponent_or_clock_command};
+ghost use Rattle.chess_cecp.specs.Commands.{command_of, named_command, word_of, argument_of, command_number, with_number, is_engine_command, is_opponent_or_clock_command};
 
 use crate::trim::is_blank;
 use chess_text::has_move_shape;
@@ -105,7 +105,7 @@ pub fn read_number(text: &[u8]) -> Option<u32>
 }
 
 fn ping(argument: &[u8]) -> Command
-    ensures { result ≡ ping_of (command_number argument.now) }
+    ensures { result ≡ with_number Command.Ping (command_number argument.now) }
 {
     match read_number(argument) {
         Some(number) => Command::Ping(number),
@@ -114,7 +114,7 @@ fn ping(argument: &[u8]) -> Command
 }
 
 fn protover(argument: &[u8]) -> Command
-    ensures { result ≡ protover_of (command_number argument.now) }
+    ensures { result ≡ with_number Command.Protover (command_number argument.now) }
 {
     match read_number(argument) {
         Some(number) => Command::Protover(number),

@@ -2,26 +2,22 @@
 
 ghost use Rattle.std.specs.Prelude.{◌≡◌, ◌≤◌, length};
 ghost use Rattle.std.specs.Option.{option_map};
-ghost use Rattle.chess_cecp.specs.Declaring.{outcome_named, result_comment, declared_by, claims_text};
+ghost use Rattle.chess_pgn.specs.Words.{outcome_of};
+ghost use Rattle.chess_cecp.specs.Declaring.{result_comment, declared_by, claims_text};
 
 use crate::command::{argument, first_word};
 use chess_game::{Claims, Comment, Declared, Outcome};
 
 // The outcome that a word names.
-#[tactic(auto, unfolding(crate::specs::Declaring::outcome_named))]
-fn outcome_named(word: &[u8]) -> Option<Outcome>
-    ensures { result ≡ outcome_named word.now }
+fn outcome_of(word: &[u8]) -> Option<Outcome>
+    ensures { result ≡ outcome_of word.now }
 {
-    if word == Outcome::WhiteWins.text() {
-        Some(Outcome::WhiteWins)
-    } else if word == Outcome::BlackWins.text() {
-        Some(Outcome::BlackWins)
-    } else if word == Outcome::Draw.text() {
-        Some(Outcome::Draw)
-    } else if word == Outcome::Unfinished.text() {
-        Some(Outcome::Unfinished)
-    } else {
-        None
+    match word {
+        b"1-0" => Some(Outcome::WhiteWins),
+        b"0-1" => Some(Outcome::BlackWins),
+        b"1/2-1/2" => Some(Outcome::Draw),
+        b"*" => Some(Outcome::Unfinished),
+        _ => None,
     }
 }
 
@@ -45,7 +41,7 @@ fn result_comment(text: &[u8]) -> Option<&[u8]>
 pub(crate) fn declared_by(text: &[u8]) -> Option<Declared>
     ensures { result ≡ declared_by text.now }
 {
-    let outcome = outcome_named(first_word(text))?;
+    let outcome = outcome_of(first_word(text))?;
     match result_comment(argument(text)) {
         Some(comment) => Some(Declared {
             outcome,

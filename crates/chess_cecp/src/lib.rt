@@ -20,6 +20,6 @@ pub use answer::fen_fault_name;
 pub use command::{Command, argument, first_word, read_command, read_number};
 pub use laws::{lines_are_pieces, normal_chess_keeps_its_rows, refusals_change_nothing};
 pub use lines::{Line, Lines};
-pub use run::{End, Fault, run_session};
+pub use run::{End, Fault, LineServer, run_session, serve_lines};
 pub use session::{COMMAND_LEN, Go, Session};
 pub use trim::{is_blank, trim_start};

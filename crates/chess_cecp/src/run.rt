@@ -1,23 +1,25 @@
-//! A session over a reader and a writer.
+//! Lines from a reader, answered on a writer: a session, and whatever else answers lines.
 
-ghost use Rattle.chess_game.specs.Game.{IsPlayable};
+ghost use Rattle.std.specs.Prelude.{◌≡◌, IfOk, if◌then◌else◌};
+ghost use Rattle.byte_devices.specs.Devices.{Sends};
 ghost use Rattle.chess_cecp.specs.Run.{Transcript, SessionRan};
+ghost use Rattle.chess_cecp.specs.Session.{session_response};
 
 use crate::lines::{Line, Lines};
 use crate::session::{COMMAND_LEN, Go, Session};
-use byte_devices::{Input, Output};
+use byte_devices::{Input, Output, WriteFault};
 use chess_moves::Board;
 
-/// How a session ended.
+/// How a run ended.
 #[derive(Clone, Copy, Debug, PartialEq, Eq)]
 pub enum End {
-    /// By the command `quit`.
+    /// By a line, as a session by the command `quit`.
     Quit,
     /// By the end of the input.
     InputEnded,
 }
 
-/// Why a session broke off: a call of that device failed.
+/// Why a run broke off: a call of that device failed.
 #[derive(Clone, Copy, Debug, PartialEq, Eq, thiserror::Error)]
 pub enum Fault {
     #[error("a read failed")]
@@ -26,19 +28,53 @@ pub enum Fault {
     Write,
 }
 
-/// Answers the lines of a stream, one after the other, up to the first `quit` or the end. The next line is read only
-/// once the answer to the one before was written and flushed.
+/// What answers lines.
+pub trait LineServer {
+    ghost use Rattle.chess_cecp.specs.Lines.{LineSeen};
+    ghost use Rattle.chess_cecp.specs.Serving.{Response};
+
+    /// How it responds to a line.
+    ghost respond: { Self → LineSeen → Response Self };
+
+    /// Responds to a line: the state changes, the answer is written, and the writer is flushed.
+    ///
+    /// # Errors
+    /// Where a write or the flush failed. The change is kept, and a beginning of the answer was written.
+    fn answer_line<W: Output>(
+        &mut self,
+        line: &Line<COMMAND_LEN>,
+        writer: &mut W,
+    ) -> Result<Go, WriteFault>
+        ensures next { self.new ≡ (respond self.old line.now).state }
+        ensures written { Sends (W.seen writer.old) (W.seen writer.new) result (respond self.old line.now).text }
+        ensures go { IfOk result (λ go. go ≡ (if (respond self.old line.now).ends then Go.Quit else Go.On)) };
+}
+
+impl<B: Board> LineServer for Session<B> {
+    ghost respond = { session_response };
+
+    fn answer_line<W: Output>(
+        &mut self,
+        line: &Line<COMMAND_LEN>,
+        writer: &mut W,
+    ) -> Result<Go, WriteFault> {
+        self.answer(line, writer)
+    }
+}
+
+/// Has the lines of a stream answered, one after the other, up to the first with which the server ends, or the input's
+/// end. The next line is read only once the answer to the one before was written and flushed.
 ///
 /// # Errors
 /// Where a call of the reader or of the writer failed. After a failed read all whole lines were answered; after a
 /// failed write the change of its line is kept, and a beginning of the answer was written.
-pub fn run_session<R: Input, W: Output, B: Board>(
+pub fn serve_lines<R: Input, W: Output, S: LineServer>(
     reader: &mut R,
     writer: &mut W,
-    session: &mut Session<B>,
+    server: &mut S,
 ) -> Result<End, Fault>
-    ensures { (t : Transcript) × SessionRan (R.seen reader.old) (R.seen reader.new) (W.seen writer.old) (W.seen writer.new)
-        session.old session.new t result }
+    ensures { (t : Transcript) × SessionRan S.respond (R.seen reader.old) (R.seen reader.new) (W.seen writer.old)
+        (W.seen writer.new) server.old server.new t result }
 {
     let mut lines: Lines<COMMAND_LEN> = Lines::new();
     let mut line = Line::new();
@@ -48,7 +84,7 @@ pub fn run_session<R: Input, W: Output, B: Board>(
             Ok(false) => return Ok(End::InputEnded),
             Err(_) => return Err(Fault::Read),
         }
-        match session.answer(&line, writer) {
+        match server.answer_line(&line, writer) {
             Ok(Go::On) => {}
             Ok(Go::Quit) => return Ok(End::Quit),
             Err(_) => return Err(Fault::Write),
@@ -57,4 +93,20 @@ pub fn run_session<R: Input, W: Output, B: Board>(
             return Ok(End::InputEnded);
         }
     }
+}
+
+/// Answers the lines of a stream, one after the other, up to the first `quit` or the end. The next line is read only
+/// once the answer to the one before was written and flushed.
+///
+/// # Errors
+/// As of [`serve_lines`].
+pub fn run_session<R: Input, W: Output, B: Board>(
+    reader: &mut R,
+    writer: &mut W,
+    session: &mut Session<B>,
+) -> Result<End, Fault>
+    ensures { (t : Transcript) × SessionRan session_response (R.seen reader.old) (R.seen reader.new) (W.seen writer.old)
+        (W.seen writer.new) session.old session.new t result }
+{
+    serve_lines(reader, writer, session)
 }

@@ -12,7 +12,7 @@ ghost use Rattle.chess_game.specs.Results.{cut_comment};
 ghost use Rattle.chess_text.specs.Moves.{reading, has_shape, shape, IsLegalReading};
 ghost use Rattle.chess_cecp.specs.Commands.{argument_of, unnamed_command};
 ghost use Rattle.chess_cecp.specs.Declaring.{declared_by};
-ghost use Rattle.chess_cecp.specs.Session.{row, move_row, undo_row, remove_row, result_row, draws, claim_row, setboard_row, normal_row, variant_row, after_row, next_state, answer_to, is_quit, joined_line, moves_line, IsRefusal};
+ghost use Rattle.chess_cecp.specs.Session.{row, move_row, back_row, result_row, draws, claim_row, setboard_row, normal_row, variant_row, after_row, next_state, answer_to, is_quit, joined_line, moves_line, IsRefusal};
 ghost use Rattle.chess_cecp.specs.ties.Replies.{reply_of, reply_to, shows_pgn, asks_for_pgn};
 ghost use Rattle.chess_game.specs.declared.game.TheConstants.{MOST_MOVES};
 ghost use Rattle.chess_cecp.specs.declared.session.TheConstants.{COMMAND_LEN};
@@ -211,8 +211,8 @@ impl<B: Board> Session<B> {
 
     fn undo(&mut self, answer: &mut Answer)
         requires { answer.old.items ≡ [] }
-        ensures next { self.new ≡ after_row self.old (undo_row self.old.state) }
-        ensures text { answer.new.items ≡ (undo_row self.old.state).text }
+        ensures next { self.new ≡ after_row self.old (back_row 1 (codes "undo") self.old.state) }
+        ensures text { answer.new.items ≡ (back_row 1 (codes "undo") self.old.state).text }
     {
         if self.game.take_back().is_err() {
             write_line(answer, b"Error (command not legal now): ", b"undo");
@@ -222,8 +222,8 @@ impl<B: Board> Session<B> {
     // Takes two half-moves back.
     fn remove(&mut self, answer: &mut Answer)
         requires { answer.old.items ≡ [] }
-        ensures next { self.new ≡ after_row self.old (remove_row self.old.state) }
-        ensures text { answer.new.items ≡ (remove_row self.old.state).text }
+        ensures next { self.new ≡ after_row self.old (back_row 2 (codes "remove") self.old.state) }
+        ensures text { answer.new.items ≡ (back_row 2 (codes "remove") self.old.state).text }
     {
         if self.game.ply() < 2 {
             write_line(answer, b"Error (command not legal now): ", b"remove");

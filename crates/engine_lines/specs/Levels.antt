@@ -1,9 +1,9 @@
 -- Levels of time, their spelling, and the time that a level gives (CECP, version 2: command `level`).
 use Rattle.std.specs.Prelude.{ℕ, ◌+◌, ◌-◌, ◌*◌, ◌/◌, ◌%◌, ◌==◌, ◌&&◌, nat_lt, nat_le, not, if◌then◌else◌, List, [], ◌∷◌, ◌++◌, length, take, drop, codes, decimal, Option, None, Some}
-use Rattle.std.specs.List.{list_all, position_or_len}
+use Rattle.std.specs.List.{position_or_len}
 use Rattle.std.specs.Option.{option_map}
-use Rattle.chess_base.specs.Letters.{byte, is_digit, value_after}
-use Rattle.chess_cecp.specs.Commands.{word_of, argument_of}
+use Rattle.chess_base.specs.Letters.{byte}
+use Rattle.chess_cecp.specs.Commands.{word_of, argument_of, short_number}
 use Rattle.chess_cecp.specs.Lines.{without_front_blanks}
 
 -- moves of a session, 0 for one session without end; base and increment in seconds
@@ -13,11 +13,6 @@ pub record LevelSeen : Type 0 where
   pub increment : ℕ
 
 -- ---- spelling
-
--- the number that at most n digits denote, at least one
-abbrev pub short_number : ℕ → List ℕ → Option ℕ
-short_number n text = if nat_lt 0 (length text) && nat_le (length text) n
-    && list_all is_digit text then Some (value_after 0 text) else None
 
 -- how many bytes are before the first colon
 abbrev pub colon_at : List ℕ → ℕ

@@ -1,7 +1,8 @@
 //! Levels of time.
 
 ghost use Rattle.std.specs.Prelude.{◌≡◌, ◌≤◌, ◌<◌, ◌==◌, ◌^◌, IfSome, length};
-ghost use Rattle.engine_lines.specs.Levels.{level_of, level_in, level_behind, base_of, in_seconds, short_number, colon_at, allotted, sessions};
+ghost use Rattle.engine_lines.specs.Levels.{level_of, level_in, level_behind, base_of, in_seconds, colon_at, allotted, sessions};
+ghost use Rattle.chess_cecp.specs.Commands.{short_number};
 ghost use Rattle.chess_game.specs.declared.game.TheConstants.{MOST_MOVES};
 
 use chess_cecp::{argument, first_word, trim_start};

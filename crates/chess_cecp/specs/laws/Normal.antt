@@ -14,14 +14,13 @@ use Rattle.chess_fen.specs.laws.Normal.{normal_fen, normal_fen_reading}
 use Rattle.chess_text.specs.declared.reading.Reading.{Reading}
 use Rattle.chess_text.specs.declared.reading.Reading.TheVariants as reads
 use Rattle.chess_text.specs.laws.Normal.{normal_moves, normal_reading}
-use Rattle.chess_game.specs.declared.ends.Claims.{Claims}
 use Rattle.chess_game.specs.declared.results.Declared.{Declared}
 use Rattle.chess_game.specs.Game.{State, from_start, played, with_declared, is_other}
 use Rattle.chess_pgn.specs.declared.tags.Tags.{Tags}
 use Rattle.chess_cecp.specs.declared.command.Command.{Command}
 use Rattle.chess_cecp.specs.declared.command.Command.TheVariants.{New, SetBoard, UserMove, BareMove, Undo, Remove, Declare, Claim, Ping, Protover, Variant, Go, ShowFen, ShowMoves, ShowState, ShowPgn, Quit, Silent, BadNumber, Unknown}
 use Rattle.chess_cecp.specs.Declaring.{declared_by, claims_text, verdict_text, declared_text}
-use Rattle.chess_cecp.specs.Session.{Row, says, refuses, becomes, verdict_line, fen_fault_name, claimed, joined_line, undo_row, remove_row}
+use Rattle.chess_cecp.specs.Session.{Row, says, refuses, becomes, verdict_line, fen_fault_name, claimed, joined_line, back_row}
 use Rattle.chess_cecp.specs.laws.NormalGame.{normal_initial, normal_current, normal_rep, normal_claims, normal_verdict_now, normal_is_over}
 use Rattle.chess_cecp.specs.laws.NormalPgn.{normal_pgn}
 
@@ -92,8 +91,8 @@ normal_row_of tags limit s text argument New = becomes (from_start normal_initia
 normal_row_of tags limit s text argument SetBoard = normal_setboard_row s (normal_fen_reading argument)
 normal_row_of tags limit s text argument UserMove = normal_move_row limit s argument
 normal_row_of tags limit s text argument BareMove = normal_move_row limit s text
-normal_row_of tags limit s text argument Undo = undo_row s
-normal_row_of tags limit s text argument Remove = remove_row s
+normal_row_of tags limit s text argument Undo = back_row 1 (codes "undo") s
+normal_row_of tags limit s text argument Remove = back_row 2 (codes "remove") s
 normal_row_of tags limit s text argument Declare = normal_result_row s text (declared_by argument)
 normal_row_of tags limit s text argument Claim = normal_claim_row s
 normal_row_of tags limit s text argument (Ping n) = says s (joined_line (codes "pong ") (decimal n))

@@ -1,10 +1,13 @@
--- The status is 0 after a session that ended, and 1 after its fault (Serving.session_ran).
-use Rattle.std.proofs.Common.{Ok, Err, refl}
-use Rattle.chess_arbiter.proofs.Serving.{session_ran}
+use Rattle.std.proofs.Common.{inl}
+use Rattle.chess_cecp.specs.Held.{opened_session}
+use Rattle.chess_cecp.specs.Session.{session_response}
+use Rattle.chess_pgn.specs.Tags.{default_tags}
+use Rattle.chess_game.specs.declared.game.TheConstants.{MOST_MOVES}
+use Rattle.chess_arbiter.proofs.Serving.{server_ran}
 use Rattle.chess_arbiter.proofs.program.session.Goals as goal
 
-pub returns-in-Ok : goal.returns-in-Ok
-returns-in-Ok g c = session_ran _ _ _ _ (Ok c.in-Ok.field-0) 0 c.in-Ok.ensures refl
-
-pub returns-in-Err : goal.returns-in-Err
-returns-in-Err g c = session_ran _ _ _ _ (Err c.in-Err.fault) c.reported.result c.in-Err.ensures c.reported.ensures
+pub returns : goal.returns
+returns g c =
+    inl (server_ran session_response (opened_session default_tags MOST_MOVES) _ _ _ _ _ c.run_session-outcome.new.session
+    c.run_session-outcome.result c.server_status.result c.in-Ok-open_session.ensures c.run_session-outcome.ensures
+    c.server_status.ensures)

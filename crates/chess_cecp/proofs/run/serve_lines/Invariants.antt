@@ -1,0 +1,16 @@
+use Rattle.std.proofs.Common.{List, ℕ}
+use Rattle.chess_cecp.specs.Lines.{LineSeen}
+use Rattle.chess_cecp.specs.Next.{work}
+use Rattle.chess_cecp.proofs.RunLemmas.{SoFar}
+use Rattle.chess_cecp.proofs.run.serve_lines.Given as goal
+
+-- the lines so far were answered, and the server ended with none of them
+abbrev pub invariant-loop-server : goal.invariant-loop-server
+invariant-loop-server g l =
+    let input = g.R.Input.seen in
+    let output = g.W.Output.seen in
+    (given : List ℕ) × (done : List LineSeen) × SoFar g.S.LineServer.respond (input l.fn.reader) (input l.reader)
+    (output l.fn.writer) (output l.writer) l.fn.server l.server l.lines given done
+
+abbrev pub decreases-loop-server : goal.decreases-loop-server
+decreases-loop-server g l = work (g.R.Input.seen l.reader) l.lines
