@@ -223,10 +223,10 @@ fn matched<P: Processes + Clock, W: Output, E: Output>(
 /// the input was too long, a game verified has a fault, or an engine could not be started or failed in a game; 2
 /// for all other arguments.
 ///
-/// The contract says what was read and written, and the status. After a match whose status is 0 the error output has just
-/// the logs of its games if `--log` was given, up to a write that failed, and else nothing more. Which programs a match
-/// ran, and what else is written to the error output, only tests show: `arbiter: FAULT`, after the logs where there are
-/// any; what `clap` says of invalid arguments; and nothing where a game verified has a fault.
+/// The contract says what was read and written, and the status. After a match whose status is 0 the error output has
+/// just the logs of its games if `--log` was given, up to a write that failed, and else nothing more. Which programs
+/// a match ran, and what else is written to the error output, only tests show: `arbiter: FAULT`, after the logs where
+/// there are any; what `clap` says of invalid arguments; and nothing where a game verified has a fault.
 pub fn run_program<'a, P: Processes + Clock, R: Input, W: Output, E: Output>(
     rt: &P,
     alloc: Global,

@@ -34,7 +34,8 @@ impl Moments for Listed<'_> {
     }
 }
 
-/// What two engines send, the side of the first engine, the calls of the devices that fail, 0 for none, and the moments.
+/// What two engines send, the side of the first engine, the calls of the devices that fail, 0 for none, and the
+/// moments.
 #[derive(Clone, Copy)]
 struct Said<'a> {
     white: &'a [u8],

@@ -11,7 +11,8 @@ use arrayvec::ArrayVec;
 use byte_devices::{Input, ReadFault};
 use std::marker::Model;
 
-/// A line: its text, or of one that is too long its first 64 bytes (or N, where N is less); and whether byte 10 ended it.
+/// A line: its text, or of one that is too long its first 64 bytes (or N, where N is less); and whether byte 10 ended
+/// it.
 #[derive(Drop)]
 pub struct Line<const N: usize> {
     text: ArrayVec<u8, N>,

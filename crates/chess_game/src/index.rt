@@ -1,8 +1,8 @@
 //! The index of a game's positions, which finds how often a position occurred with few comparisons.
 //!
-//! A position's hash puts it in one of 32,768 buckets. A bucket's head is the latest position in it. Each played move has an
-//! entry: a link to the latest earlier position in the bucket of its own, and the count of its own. Positions are
-//! numbered from 0, the start, on; a head or a link is a number plus one, or 0 where there is no such position.
+//! A position's hash puts it in one of 32,768 buckets. A bucket's head is the latest position in it. Each played move
+//! has an entry: a link to the latest earlier position in the bucket of its own, and the count of its own. Positions
+//! are numbered from 0, the start, on; a head or a link is a number plus one, or 0 where there is no such position.
 
 ghost use Rattle.std.specs.Prelude.{◌≡◌, ◌≤◌, ◌<◌, ◌+◌, ℕ, suc, false, [], ◌∷◌, ◌++◌, List, length, set, IfOk, cond};
 ghost use Rattle.chess_game.specs.declared.game.PlayedMove.{PlayedMove};
@@ -69,7 +69,8 @@ fn oldest(played_moves: &[PlayedMove], now: &Hashed) -> usize
 }
 
 // How many positions are the same as the one that a further move of a game gave, itself among them. The search follows
-// the links from the head of its bucket to the latest position that is the same, whose played move has the count up to it.
+// the links from the head of its bucket to the latest position that is the same, whose played move has the count up
+// to it.
 fn count_same(head: u16, start: &Hashed, played_moves: &[PlayedMove], now: &Hashed) -> u32
     requires start { IsKnown start.now }
     requires now { IsKnown now.now }

@@ -51,8 +51,8 @@ pub fn texts_have_parts()
     ensures shaped { ShapedByText }
 {}
 
-/// On positions of normal chess the legal moves, the move that a text is read as, SAN, and how lists show a move are those
-/// defined for normal chess alone.
+/// On positions of normal chess the legal moves, the move that a text is read as, SAN, and how lists show a move are
+/// those defined for normal chess alone.
 pub fn normal_is_kept()
     ensures { (p : Setup) → p.variant ≡ Normal → NormalIsKept p }
 {}

@@ -198,8 +198,8 @@ impl PgnPieces {
     /// Goes on to the next piece, and returns whether there is one. Nothing is read where its end is held.
     ///
     /// # Errors
-    /// Where a read failed, we ran out of memory, or nearly 2^63 bytes or more were read. There is no next piece then, as
-    /// far as the input was read: its end was not seen. No clause says what later calls return.
+    /// Where a read failed, we ran out of memory, or nearly 2^63 bytes or more were read. There is no next piece
+    /// then, as far as the input was read: its end was not seen. No clause says what later calls return.
     pub fn next<R: Input>(&mut self, input: &mut R) -> Result<bool, PieceFault>
         ensures next { (r : InputState) (text : List ℕ) → IsStateOf self.old r (R.seen input.old) text
             → Next self.old self.new r (R.seen input.new) text result }
