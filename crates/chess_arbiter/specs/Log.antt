@@ -117,7 +117,7 @@ Logged l l' text = Logs l.broken l'.broken l.output l'.output [] text
 
 -- ---- a match that is logged
 
--- a match ran as `Ran` says, and these are the notes of its transcript
+-- a match ran as `MatchRan` says, and these are the notes of its transcript
 abbrev pub RanNoted : List Note → Setup → LevelSeen → Seen → Seen → MatchEnd → Ports → Ports → (ℕ → Option ℕ)
     → (ℕ → Option ℕ) → Type 0
 RanNoted notes start level g g' end w w' coming coming' =

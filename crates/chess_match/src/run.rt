@@ -79,7 +79,7 @@ pub struct MatchEnd {
 }
 
 /// Plays one game between two engines by the Chess Engine Communication Protocol, version 2, to its end; the game
-/// begins anew from the start, and `scratch` is any board: no use is made of it.
+/// begins anew from the start, and `scratch` is any board, which holds anything afterwards.
 ///
 /// In the contract there is a transcript of the match: the lines, moments, ends and failures in their order. It agrees
 /// with both engines' devices and with the moments, one for each line and one at the end of each turn's opening, and it

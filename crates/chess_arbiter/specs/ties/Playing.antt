@@ -27,7 +27,7 @@ abbrev pub LogsGame : Option Colour → LogSeen → LogSeen → List Note → Ty
 LogsGame None l l' notes = l' ≡ l
 LogsGame (Some first) l l' notes = Logged l l' (log_text first notes)
 
--- a match ran as `Ran` says, and was logged where a log is asked for
+-- a match ran as `MatchRan` says, and was logged where a log is asked for
 abbrev pub Relayed : Option Colour → LogSeen → LogSeen → Setup → LevelSeen → Seen → Seen → MatchEnd → Ports → Ports
     → (ℕ → Option ℕ) → (ℕ → Option ℕ) → Type 0
 Relayed first l l' start level g g' end w w' coming coming' =
