@@ -62,7 +62,7 @@ fn is_plain(bytes: &[u8]) -> bool
     bytes.iter().all(|b| 32 <= *b && *b <= 126)
 }
 
-// Whether a text may be a date.
+// Whether a text can go into the tag Date: at most 60 bytes, each from 32 to 126. It need not be a date.
 fn is_date(text: &str) -> bool
     ensures { result ≡ date_test text.now }
 {
@@ -79,7 +79,7 @@ fn start_of(variant: Variant, fen: Option<&str>) -> Result<Position, FenFault>
     }
 }
 
-// What a match is played by, where level, FEN and date are in their form; else the first of them that isn't.
+// The plan of a match; or the fault of level, FEN or date, the first in this order that is not accepted.
 fn validate<'a>(words: &MatchRequest<'a>) -> Result<MatchPlan<'a>, WordsFault>
     ensures plan { IfOk result (IsJudged words.now) }
     ensures fault { IfErr result (IsJudgedFault words.now) }

@@ -62,12 +62,12 @@ no_score = record { first = 0; second = 0; drawn = 0; unfinished = 0 }
 abbrev pub one_more : ℕ → ℕ
 one_more n = min (n + 1) 65535
 
--- a win of the first engine, or of the second, more
+-- the score after one more win, of the first engine or of the second
 abbrev pub won : Bool → Score → Score
 won true s = record s { first = one_more s.first }
 won false s = record s { second = one_more s.second }
 
--- a game with that outcome more, in which the first engine had White or not
+-- the score after one more game, with that outcome; the flag says whether the first engine had White
 abbrev pub scored : Bool → Outcome → Score → Score
 scored first_has_white WhiteWins s = won first_has_white s
 scored first_has_white BlackWins s = won (not first_has_white) s

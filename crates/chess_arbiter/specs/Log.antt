@@ -26,11 +26,11 @@ abbrev pub engine_text : Bool → List ℕ
 engine_text true = codes "first : "
 engine_text false = codes "second: "
 
--- what a line begins with: the milliseconds, a mark, and which engine
+-- what a line begins with: the milliseconds, a mark (the byte of `<` or `!`), and which engine
 abbrev pub head : ℕ → ℕ → Bool → List ℕ
 head moment mark is_first = decimal moment ++ ((32 ∷ mark ∷ []) ++ engine_text is_first)
 
--- a whole line of the log: its head, the text as it is shown, and byte 10
+-- a whole line of the log: its head, the text with `?` for each byte that can't be shown, and byte 10
 abbrev pub log_line : ℕ → ℕ → Bool → List ℕ → List ℕ
 log_line moment mark is_first text = head moment mark is_first ++ (map shown text ++ new_line ∷ [])
 

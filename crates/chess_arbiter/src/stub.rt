@@ -209,7 +209,7 @@ impl<'a> Stub<'a> {
         }
     }
 
-    // Does what a line's text commands, and says what it says to it.
+    // Carries out the command of a line, and writes the reply, if there is one.
     fn obey<W: Output>(&mut self, text: &[u8], writer: &mut W) -> Result<Go, WriteFault>
         ensures next { self.new ≡ (row self.old text.now (command_of text.now)).state }
         ensures written { Puts (W.seen writer.old) (W.seen writer.new) result

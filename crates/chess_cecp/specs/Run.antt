@@ -61,8 +61,8 @@ AnsweredKnown respond r s s' t ends =
 abbrev pub FirstOfKnown : InputState → List LineSeen → Type 0
 FirstOfKnown r ls = IfSome r.known_bytes (λ xs. (behind : List LineSeen) × (lines COMMAND_LEN xs ≡ ls ++ behind))
 
--- the line after those before, with none of which the server ends, is the one at which the call ended: nothing was read
--- while a whole line was unanswered, so before the last piece no more lines were whole than there are before
+-- the call ended at `line`: the server went on after each line in `before`, and these have each line that was whole
+-- before the last piece was read, so none was unanswered then
 pub record EndsAt {S : Type 0} (respond : Server S) (s : S) (t : Transcript) (last_len : ℕ) (before : List LineSeen)
     (line : LineSeen) (after : List LineSeen) : Type 0 where
   pub lines : lines_given t ≡ before ++ line ∷ after

@@ -12,7 +12,7 @@ pub record Response (S : Type 0) : Type 0 where
 abbrev pub Server : Type 0 → Type 0
 Server S = S → LineSeen → Response S
 
--- a response and what comes after it as one; nothing does where the server ends with the first
+-- two responses as one; the second is left out if the server ends with the first
 abbrev pub and_then : {S : Type 0} → Response S → Response S → Response S
 and_then first next = if first.ends then first else record next { text = first.text ++ next.text }
 

@@ -36,7 +36,8 @@ fn result_comment(text: &[u8]) -> Option<&[u8]>
     }
 }
 
-// The result that the argument of `result` declares, if it declares one.
+// Parses the argument of the command `result`: an outcome, and after it nothing or a comment in braces, which is cut as
+// `Comment::cut` does. `None` for anything else.
 #[tactic(auto, unfolding(crate::specs::Declaring::declared_by))]
 pub(crate) fn declared_by(text: &[u8]) -> Option<Declared>
     ensures { result ≡ declared_by text.now }

@@ -137,7 +137,7 @@ fn beginning(text: &[u8]) -> &[u8]
     if text.len() > 64 { &text[..64] } else { text }
 }
 
-// Puts what a line says whose first bytes are kept into `text`.
+// Puts a line's text into `text`: of a line that is too long the first 64 bytes, else all bytes, trimmed.
 fn put_text<const N: usize>(bytes: &ArrayVec<u8, N>, is_too_long: bool, text: &mut ArrayVec<u8, N>)
     ensures long { is_too_long ≡ true → text.new.items ≡ take 64 bytes.now.items }
     ensures short { is_too_long ≡ false → text.new.items ≡ trimmed bytes.now.items }

@@ -79,8 +79,8 @@ fits r T = fits_from r (entry r start) start T
 
 -- ---- what is sent
 
--- S's block of an event isn't sent where it is due after the block of the other engine, whose line was read, and the
--- write of that one fails
+-- S's block of an event is dropped: the event is a line of the other engine, which is written to first, and the next
+-- event is that this write failed
 abbrev pub is_dropped : Event → List Event → Colour → Bool
 is_dropped (Line c text moment) (FailsToWrite d ∷ es) S = same_colour c d && not (same_colour d S)
 is_dropped _ _ S = false
@@ -90,7 +90,7 @@ abbrev pub fails_at : Event → Colour → Bool
 fails_at (FailsToWrite c) S = same_colour c S
 fails_at _ S = false
 
--- S's block of an event, where it is due one that is sent
+-- S's block of an event, as a list: empty if the block is dropped, or if the event is a failed write to S
 abbrev pub block_at : Rules → Match → Event → List Event → Colour → List (List SentLine)
 block_at r m e es S = if is_dropped e es S || fails_at e S then [] else block r m (after r m e) S ∷ []
 

@@ -24,7 +24,7 @@ use chess_text::{
     Reading, add_check_mark, move_text, read_move, read_moves_are_legal, unmarked_san,
 };
 
-// Whether each piece of that colour is a king.
+// Whether a square has no piece of that colour but a king.
 fn is_king_or_other(colour: Colour, man: Option<Man>) -> bool
     ensures { result ≡ is_king_or_other colour man }
 {
@@ -34,6 +34,7 @@ fn is_king_or_other(colour: Colour, man: Option<Man>) -> bool
     }
 }
 
+// Whether each piece of that colour is a king.
 #[tactic(auto, unfolding(crate::specs::Rules::has_bare_king))]
 fn has_bare_king(colour: Colour, men: &[Option<Man>; 64]) -> bool
     ensures { result ≡ has_bare_king colour men.now }

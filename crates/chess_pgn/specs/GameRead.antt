@@ -128,7 +128,7 @@ abbrev pub go_on : Step → (SoFar → GameRead) → GameRead
 go_on (On g) later = later g
 go_on (Stop read) later = read
 
--- what the tokens that are left leave of a game, one after another
+-- the game that is read from the tokens left, after the game so far
 abbrev pub game_of : ℕ → ℕ → SoFar → List (ℕ × Token) → GameRead
 game_of limit total g [] = at_text_end total g
 game_of limit total g (t ∷ ts) = go_on (step limit total g t.0 t.1) (λ h. game_of limit total h ts)

@@ -444,8 +444,8 @@ fn after_skipped(text: &[u8], at: usize) -> usize
     offset
 }
 
-// Reads the tags from a place on as those of a game of normal chess, and returns the place of the first number, move or
-// termination. `None` where a tag names another variant, or where a fault or the text's end comes first.
+// Reads the tags from an offset on as those of a game of normal chess, and returns the offset of the first number, move
+// or termination. `None` where a tag names another variant, or where a fault or the text's end comes first.
 fn read_normal_tags<B: Board>(
     text: &[u8],
     at: usize,
@@ -476,7 +476,7 @@ fn read_normal_tags<B: Board>(
     }
 }
 
-// Begins a game whose text begins at a place, and returns how far it was read. Most games are of normal chess: so their
+// Begins a game whose text begins at an offset, and returns how far it was read. Most games are of normal chess: so their
 // tags are read, and only where they are not is the variant looked for first.
 #[tactic(auto, using(crate::proofs::GameReads::first))]
 fn begin_game<B: Board>(text: &[u8], at: usize, game: &mut Game<B>) -> (Progress, usize)

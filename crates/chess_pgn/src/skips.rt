@@ -34,7 +34,8 @@ fn has_brace(piece: &[u8]) -> bool
     any
 }
 
-// From the first of the pieces of so many bytes that has a closing brace, else from the last bytes, which are fewer.
+// Skips pieces of `len` bytes without a closing brace. What is left begins with a piece that has one, or is shorter
+// than `len`.
 #[tactic(auto, using(crate::proofs::Skipped::no_brace))]
 #[inline(always)]
 fn near_brace(len: usize, text: &[u8]) -> &[u8]

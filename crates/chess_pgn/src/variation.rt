@@ -22,7 +22,7 @@ fn after_part(line_begins: bool, byte: u8, rest: &[u8]) -> Option<&[u8]>
     }
 }
 
-// How many variations are open in the outermost one after a byte, or `None` where that is closed.
+// How many variations are open inside the outermost one after a byte; `None` if the byte closes the outermost one.
 fn depth_after(depth: usize, byte: u8) -> Option<usize>
     requires { depth + 1 < 2 ^ 64 }
     ensures { result ≡ depth_after depth byte }

@@ -169,7 +169,7 @@ fn is_initial(start: &Position) -> bool
     write_fen(start).as_slice() == write_fen(&Position::initial()).as_slice()
 }
 
-// Puts the tags of a start's FEN.
+// Puts the tags `FEN` and `SetUp` of a start, each on its line.
 fn put_fen<W: Output>(
     lines: &mut LineWriter<'_>,
     writer: &mut W,

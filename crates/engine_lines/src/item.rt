@@ -155,7 +155,7 @@ impl<'a> Value<'a> {
 }
 
 impl Item<'_> {
-    /// Whether the engine takes what that name asks for, once it said this item, and before whether it did.
+    /// Whether the engine takes the feature `name`: by this item if it has that name, else as `before`.
     pub(crate) fn says_or(&self, name: &[u8], before: bool) -> bool
         ensures { result ≡ said_again name.now (item_seen self.now) before }
     {

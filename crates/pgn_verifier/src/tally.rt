@@ -35,7 +35,7 @@ impl Tally {
         }
     }
 
-    // And a game with so many half-moves.
+    // The counts after one more game without a fault, of so many half-moves.
     pub(crate) fn with_game(self, plies: usize) -> Self
         requires games { self.games + 1 < 2 ^ 64 }
         requires half_moves { self.half_moves + plies < 2 ^ 64 }
@@ -49,7 +49,7 @@ impl Tally {
         }
     }
 
-    // And a fault.
+    // The counts after one more fault.
     pub(crate) fn with_fault(self) -> Self
         requires { self.faults + 1 < 2 ^ 64 }
         ensures { result ≡ record { games = self.games; half_moves = self.half_moves; faults = self.faults + 1 } }

@@ -39,7 +39,7 @@ abbrev pub ReadsAlike : List ℕ → ℕ → ℕ → Type 0
 ReadsAlike text a b = (limit : ℕ) (g : SoFar)
     → game_of limit (length text) g (tokens_from text a) ≡ game_of limit (length text) g (tokens_from text b)
 
--- the game of a text from a place on was read up to another, and the rest with what was read gives the whole
+-- the game of a text from an offset on was read up to another, and the rest with what was read gives the whole
 pub record IsReadOn (limit : ℕ) (text : List ℕ) (from : ℕ) (game : Seen) (progress : Progress) (here : ℕ)
     : Type 0 where
   pub behind : from ≤ here
