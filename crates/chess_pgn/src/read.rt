@@ -476,8 +476,8 @@ fn read_normal_tags<B: Board>(
     }
 }
 
-// Begins a game whose text begins at an offset, and returns how far it was read. Most games are of normal chess: so their
-// tags are read, and only where they are not is the variant looked for first.
+// Begins a game whose text begins at an offset, and returns how far it was read. Most games are of normal chess: so
+// their tags are read, and only where they are not is the variant looked for first.
 #[tactic(auto, using(crate::proofs::GameReads::first))]
 fn begin_game<B: Board>(text: &[u8], at: usize, game: &mut Game<B>) -> (Progress, usize)
     requires { at ≤ length text.now }
