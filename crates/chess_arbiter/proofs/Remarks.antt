@@ -1,5 +1,5 @@
 -- What a stub says after its move, remark by remark.
-use Rattle.std.proofs.Common.{◌≡◌, ◌∙◌, ◌<◌, ◌≤◌, ◌+◌, ℕ, Bor, Bool, true, false, List, [], ◌∷◌, ◌++◌, length, drop, get_or, is_some, Option, Some, None, Result, Ok, Err, IsErr, if◌then◌else◌, refl, sym, ap, append_assoc, append-nil, arith, subst}
+use Rattle.std.proofs.Common.{◌≡◌, ◌∙◌, ◌<◌, ◌≤◌, ◌+◌, ℕ, Bor, Bool, true, false, List, [], ◌∷◌, ◌++◌, length, drop, get_or, is_some, option_map, Option, Some, None, Result, Ok, Err, IsErr, if◌then◌else◌, refl, sym, ap, append_assoc, append-nil, arith, subst}
 use Rattle.std.proofs.lemmas.List.{drop_more, at_drop_all}
 use Rattle.byte_devices.specs.Devices.{OutputState, Took, BreaksOff, Puts}
 use Rattle.byte_devices.proofs.DeviceLaws.{took_none, took_more, breaks_more, breaks_longer, puts_exit}
@@ -82,6 +82,12 @@ at_end words from at w w' before past s =
     no_more words from at w w' before s (at_drop_all remarks words at past ∙ remarks_none)
 
 -- ---- what is left after remarks
+
+-- whether an argument is a remark, as code asks it
+pub is_said : (o : Option (Bor (List ℕ))) (r : Option (List ℕ)) (b : Bool) → option_map (λ t. t.now) o ≡ r
+    → is_some o ≡ b → is_some r ≡ b
+is_said None r b e h = sym (ap is_some e) ∙ h
+is_said (Some t) r b e h = sym (ap is_some e) ∙ h
 
 pub after_more : (words : Words) (at : ℕ) (d : Bor (List ℕ)) → at < length words
     → is_some (remark (get_or words at d).now) ≡ true

@@ -185,6 +185,7 @@ impl<'a> Stub<'a> {
     }
 
     // Plays the next argument.
+    #[tactic(auto, using(crate::proofs::Remarks::turn_state))]
     fn play<W: Output>(&mut self, writer: &mut W) -> Result<Go, WriteFault>
         ensures next { self.new ≡ (turn self.old.words).state }
         ensures written { Puts (W.seen writer.old) (W.seen writer.new) result (turn self.old.words).text }
