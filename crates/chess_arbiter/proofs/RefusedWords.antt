@@ -46,7 +46,7 @@ shown : (k : ErrorKind) (fault : WordsFault) (w w' : OutputState) (status : ℕ)
     → RanHelp w w' status
 shown k (words.Words e) w w' status help is told =
     told.1 (subst (λ x. (x ≡ DisplayHelp) ⊎ (x ≡ DisplayVersion)) (sym is) help)
-shown k words.NoMemory w w' status help is (same, ends) = inr (inr (same, ends))
+shown k words.NoMemory w w' status help is (same, ends) = inr (same, ends)
 shown k words.BadLevel w w' status help is told = absurd is
 shown k (words.BadFen f) w w' status help is told = absurd is
 shown k words.BadDate w w' status help is told = absurd is
