@@ -87,7 +87,7 @@ fn verify_pieces<R: Input, W: Output>(
             Ok(false) => return Ok(tally),
             Err(fault) => return Err(piece_fault(fault)),
         }
-        let _place = pieces.offset();
+        let _offset = pieces.offset();
         match verify_piece(options, pieces, game, output, tally) {
             Ok(after) => tally = after,
             Err(_) => return Err(VerifyFault::WriteFailed),
