@@ -2,7 +2,7 @@
 use Rattle.std.proofs.Common.{◌≡◌, ℕ, List, [], ◌∷◌, ◌++◌, ap, sym, ◌∙◌, append_assoc, Some}
 use Rattle.chess_match.specs.Rules.{Rules, rules_of, fen_sent}
 use Rattle.chess_match.specs.Sent.{bytes_of}
-use Rattle.chess_match.proofs.chess.GamePlayed.add_start.Goals as goal
+use Rattle.chess_match.proofs.chess.GameMatchGame.add_start.Goals as goal
 
 in_parts : (items front text : List ℕ) → ((items ++ front) ++ text) ++ 10 ∷ [] ≡ items ++ ((front ++ text) ++ 10 ∷ [])
 in_parts items front text =
