@@ -16,6 +16,7 @@ use chess_moves::Board;
 use engine_lines::Level;
 use games::read_games;
 use lines::count_lines;
+use perft_positions::KIWIPETE;
 use relay::{Script, relay, write_script};
 use std::alloc::{AllocError, Global};
 use std::process::ExitCode;
@@ -24,9 +25,6 @@ use std::{env, fs, io};
 
 const USAGE: &str =
     "usage: bench\n       bench DEPTH [FEN..], with DEPTH from 0 to 255; no FEN is the initial position\n       bench games FILE\n       bench match TIMES";
-
-// A position with many kinds of moves (Chess Programming Wiki, perft results, position 2).
-const MANY_KINDS: &[u8] = b"r3k2r/p1ppqpb1/bn2pnp1/3PN3/1p2P3/2N2Q1p/PPPBBPPP/R3K2R w KQkq - 0 1";
 
 const TWO_GAMES: &[u8] = b"1. e4 e5 1-0 [Event \"x\"] 1. f3 (1. d4) e5 2. g4 *";
 
@@ -156,7 +154,7 @@ fn play_matches<'t>(
 
 // A little of each.
 fn measure_each(rt: &HostRuntime) -> io::Result<ExitCode> {
-    measure_lines(rt, 4, MANY_KINDS)?;
+    measure_lines(rt, 4, KIWIPETE)?;
     measure_games(rt, TWO_GAMES)?;
     measure_matches(rt, 1)
 }

@@ -4,6 +4,7 @@ use chess_base::{Move, Position, Square, Variant};
 use chess_bits::{AttackTables, Bits};
 use chess_fen::{read_fen, read_fen_as};
 use chess_moves::{Board, Plain, make_then_take_back};
+use perft_positions::{FISCHERANDOM, KIWIPETE, NORMAL, Perft};
 use std::process::Abort;
 use std::test::Fail;
 
@@ -31,61 +32,12 @@ fn lines<B: Board>(board: &mut B, depth: u32) -> Result<u64, &'static str>
     Ok(count)
 }
 
-/// A position, and how many lines of 1, 2, 3 and 4 legal moves there are from it, as other programs count them.
-struct Counted {
-    fen: &'static [u8],
-    lines: [u64; 4],
-}
-
-const KIWIPETE: &[u8] = b"r3k2r/p1ppqpb1/bn2pnp1/3PN3/1p2P3/2N2Q1p/PPPBBPPP/R3K2R w KQkq - 0 1";
-
-// The positions that are usual in counting lines (chessprogramming.org, Perft Results), and promotions on both sides.
-const NORMAL: [Counted; 6] = [
-    Counted {
-        fen: b"rnbqkbnr/pppppppp/8/8/8/8/PPPPPPPP/RNBQKBNR w KQkq - 0 1",
-        lines: [20, 400, 8_902, 197_281],
-    },
-    Counted {
-        fen: KIWIPETE,
-        lines: [48, 2_039, 97_862, 4_085_603],
-    },
-    Counted {
-        fen: b"8/2p5/3p4/KP5r/1R3p1k/8/4P1P1/8 w - - 0 1",
-        lines: [14, 191, 2_812, 43_238],
-    },
-    Counted {
-        fen: b"r3k2r/Pppp1ppp/1b3nbN/nP6/BBP1P3/q4N2/Pp1P2PP/R2Q1RK1 w kq - 0 1",
-        lines: [6, 264, 9_467, 422_333],
-    },
-    Counted {
-        fen: b"rnbq1k1r/pp1Pbppp/2p5/8/2B5/8/PPP1NnPP/RNBQK2R w KQ - 1 8",
-        lines: [44, 1_486, 62_379, 2_103_487],
-    },
-    Counted {
-        fen: b"n1n5/PPPk4/8/8/8/8/4Kppp/5N1N b - - 0 1",
-        lines: [24, 496, 9_483, 182_838],
-    },
-];
-
-// Chess960: a usual position, and king and rooks that are beside each other, so that castling
-// moves one of them alone.
-const FISCHERANDOM: [Counted; 2] = [
-    Counted {
-        fen: b"bqnb1rkr/pp3ppp/3ppn2/2p5/5P2/P2P4/NPP1P1PP/BQ1BNRKR w HFhf - 2 9",
-        lines: [21, 528, 12_189, 326_672],
-    },
-    Counted {
-        fen: b"2rkr3/8/8/8/8/8/8/2RKR3 w ECec - 0 1",
-        lines: [20, 330, 6_753, 135_047],
-    },
-];
-
 /// Counts the lines of up to so many moves from each position, whose variant that is.
 fn count<B: Board>(
     rt: &impl Abort,
     board: &mut B,
     variant: Variant,
-    rows: &[Counted],
+    rows: &[Perft],
     most: u32,
 ) -> Result<(), Fail> {
     for row in rows {

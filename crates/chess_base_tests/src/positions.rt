@@ -1,7 +1,9 @@
+use arrayvec::ArrayVec;
 use chess_base::{
     Colour, ColourRights, FenFault, Kind, Man, Move, Position, Rights, Setup, Square, Variant,
 };
 use chess_fen::{read_fen, write_fen};
+use perft_positions::{KIWIPETE, NORMAL};
 use std::test::Fail;
 
 fn man(letter: u8) -> Option<Man> {
@@ -47,63 +49,44 @@ fn setup(rows: &[u8; 64], side: Colour) -> Setup {
     }
 }
 
-fn legal_moves(position: &Position) -> u32 {
-    let promotions = [
-        None,
-        Some(Kind::Queen),
-        Some(Kind::Rook),
-        Some(Kind::Bishop),
-        Some(Kind::Knight),
-    ];
-    let mut count: u32 = 0;
+const PROMOTIONS: [Option<Kind>; 5] = [
+    None,
+    Some(Kind::Queen),
+    Some(Kind::Rook),
+    Some(Kind::Bishop),
+    Some(Kind::Knight),
+];
+
+// The legal moves of a position, by asking for each of the 64 * 64 * 5 that can be written.
+fn legal_moves(position: &Position) -> ArrayVec<Move, 256> {
+    let mut moves = ArrayVec::new();
     for from in 0..64 {
         for to in 0..64 {
-            for promotion in promotions {
+            for promotion in PROMOTIONS {
                 let m = Move {
                     from: Square::new(from),
                     to: Square::new(to),
                     promotion,
                 };
                 if position.is_legal(m) {
-                    count = count.saturating_add(1);
+                    // (no position has 256 legal moves)
+                    let _ = moves.try_push(m);
                 }
             }
         }
     }
-    count
+    moves
 }
 
-fn legal_pairs(position: &Position) -> u32 {
-    let promotions = [
-        None,
-        Some(Kind::Queen),
-        Some(Kind::Rook),
-        Some(Kind::Bishop),
-        Some(Kind::Knight),
-    ];
-    let mut count: u32 = 0;
-    for from in 0..64 {
-        for to in 0..64 {
-            for promotion in promotions {
-                let m = Move {
-                    from: Square::new(from),
-                    to: Square::new(to),
-                    promotion,
-                };
-                let again = m;
-                if position.is_legal(m) {
-                    count = count.saturating_add(legal_moves(&position.after(again)));
-                }
-            }
-        }
+fn legal_pairs(position: &Position) -> u64 {
+    let mut count: u64 = 0;
+    for m in legal_moves(position) {
+        count = count.saturating_add(legal_moves(&position.after(m)).len() as u64);
     }
     count
 }
 
 const INITIAL: &[u8; 64] = b"rnbqkbnrpppppppp................................PPPPPPPPRNBQKBNR";
-
-// The second of the usual test positions of move generators, "Kiwipete".
-const KIWIPETE: &[u8] = b"r3k2r/p1ppqpb1/bn2pnp1/3PN3/1p2P3/2N2Q1p/PPPBBPPP/R3K2R w KQkq - 0 1";
 
 // A sound position whose FEN is as long as one can be: no two empty squares are side by side.
 const LONGEST: &[u8] =
@@ -115,30 +98,16 @@ fn initial_position_has_20_moves(rt: HostRuntime) -> Result<(), Fail> {
     assert!(rt; Position::new(setup(INITIAL, Colour::White)).ok() == Some(position));
     assert_eq!(rt; position.side(), Colour::White);
     assert_eq!(rt; position.setup().fullmove, 1);
-    assert_eq!(rt; legal_moves(&position), 20);
+    assert_eq!(rt; legal_moves(&position).len(), 20);
     assert_eq!(rt; legal_pairs(&position), 400);
     Ok(())
 }
 
-// The usual test positions of move generators, with the number of their moves.
-const COUNTED: [(&[u8], u32); 4] = [
-    (KIWIPETE, 48),
-    (b"8/2p5/3p4/KP5r/1R3p1k/8/4P1P1/8 w - - 0 1", 14),
-    (
-        b"r3k2r/Pppp1ppp/1b3nbN/nP6/BBP1P3/q4N2/Pp1P2PP/R2Q1RK1 w kq - 0 1",
-        6,
-    ),
-    (
-        b"rnbq1k1r/pp1Pbppp/2p5/8/2B5/8/PPP1NnPP/RNBQK2R w KQ - 1 8",
-        44,
-    ),
-];
-
 #[test]
 fn test_positions_have_their_moves(rt: HostRuntime) -> Result<(), Fail> {
-    for (fen, moves) in &COUNTED {
-        let position = read_fen(fen).ok().ok_or("sound")?;
-        assert_eq!(rt; legal_moves(&position), *moves, "at {fen:?}");
+    for row in &NORMAL {
+        let position = read_fen(row.fen).ok().ok_or("sound")?;
+        assert_eq!(rt; legal_moves(&position).len() as u64, row.lines[0]);
     }
     Ok(())
 }
@@ -146,7 +115,7 @@ fn test_positions_have_their_moves(rt: HostRuntime) -> Result<(), Fail> {
 #[test]
 fn a_test_position_has_its_pairs_of_moves(rt: HostRuntime) -> Result<(), Fail> {
     let kiwipete = read_fen(KIWIPETE).ok().ok_or("sound")?;
-    assert_eq!(rt; legal_pairs(&kiwipete), 2039);
+    assert_eq!(rt; legal_pairs(&kiwipete), 2_039);
     Ok(())
 }
 

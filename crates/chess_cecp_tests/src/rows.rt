@@ -861,19 +861,3 @@ Error (game too long): x
 # fen rnbqkbnr/pppp1ppp/8/4p3/4P3/2N5/PPPP1PPP/R1BQKBNR b KQkq - 1 2
 ",
 ];
-
-/// Four well-known test positions, and how the answers begin that count their legal moves.
-pub const COUNTS: &[&[u8]] = &[
-    b"> setboard r3k2r/p1ppqpb1/bn2pnp1/3PN3/1p2P3/2N2Q1p/PPPBBPPP/R3K2R w KQkq - 0 1
-> showmoves
-# moves 48\x20",
-    b"> setboard 8/2p5/3p4/KP5r/1R3p1k/8/4P1P1/8 w - - 0 1
-> showmoves
-# moves 14\x20",
-    b"> setboard r3k2r/Pppp1ppp/1b3nbN/nP6/BBP1P3/q4N2/Pp1P2PP/R2Q1RK1 w kq - 0 1
-> showmoves
-# moves 6\x20",
-    b"> setboard rnbq1k1r/pp1Pbppp/2p5/8/2B5/8/PPP1NnPP/RNBQK2R w KQ - 1 8
-> showmoves
-# moves 44\x20",
-];

@@ -1,7 +1,7 @@
 ghost use Rattle.std.specs.Prelude.{◌≤◌};
 
 use crate::hostile::{Way, check};
-use crate::rows::{CHESS960, COMMANDS, COUNTS, ENDS, LIMITED, LONG, MOVES, STARTS};
+use crate::rows::{CHESS960, COMMANDS, ENDS, LIMITED, LONG, MOVES, STARTS};
 use byte_devices::{Counted, PieceReader, PieceWriter};
 use chess_base::{Move, Position, Square};
 use chess_cecp::{
@@ -11,6 +11,8 @@ use chess_cecp::{
 use chess_fen::write_fen;
 use chess_moves::{Board, Plain};
 use chess_pgn::Tags;
+use itoa::Buffer;
+use perft_positions::{NORMAL, Perft};
 use std::alloc::{AllocError, Global};
 use std::io::{Read, Write};
 use std::process::Abort;
@@ -264,9 +266,24 @@ fn commands_are_named_by_their_first_word(rt: HostRuntime) {
     }
 }
 
+// A session that sets up a position and asks for its moves, with the beginning of the answer.
+fn moves_row(alloc: Global, row: &Perft) -> Result<Vec<u8>, AllocError> {
+    let mut text = Vec::new(alloc);
+    text.extend_from_slice(b"> setboard ")?;
+    text.extend_from_slice(row.fen)?;
+    text.extend_from_slice(b"\n> showmoves\n# moves ")?;
+    text.extend_from_slice(Buffer::new().format(row.lines[0]).as_bytes())?;
+    text.extend_from_slice(b" ")?;
+    Ok(text)
+}
+
 #[test]
 fn moves_of_test_positions_are_counted(rt: HostRuntime) -> Result<(), Fail> {
-    check(&rt, rt.alloc(), Way::Begun, COUNTS, 100)
+    for row in &NORMAL {
+        let text = moves_row(rt.alloc(), row)?;
+        check(&rt, rt.alloc(), Way::Begun, [text.as_slice()].as_slice(), 100)?;
+    }
+    Ok(())
 }
 
 #[test]
