@@ -12,9 +12,11 @@ use Rattle.chess_base.specs.declared.man.Variant.TheVariants.{Normal, Fischerand
 use Rattle.chess_base.specs.declared.setup.Setup.{Setup}
 use Rattle.chess_base.specs.Squares.{file, rank}
 use Rattle.chess_base.specs.Men.{Men, man_at, is_man, first_rank}
-use Rattle.chess_base.specs.Castling.{home_square, king_square, is_to_side, right_is_sound, right_is_sound_at, right_of}
+use Rattle.chess_base.specs.Castling.{home_square, king_square, is_to_side, right_is_sound, right_of}
+use Rattle.chess_base.specs.ties.Splits.{right_is_sound_at}
 use Rattle.chess_fen.specs.Texts.{first_letter, names_file}
-use Rattle.chess_fen.specs.RightNames.{side_letter, is_towards, nowhere, edge_file, rook_among, outer_rook, named_square, only_one_of, right_after_letters}
+use Rattle.chess_fen.specs.RightNames.{side_letter, is_towards, nowhere, edge_file, rook_among, outer_rook, named_square, only_one_of}
+use Rattle.chess_fen.specs.ties.Loops.{right_after_letters}
 use Rattle.chess_fen.specs.Spelling.{IsCastling, IsHeld, SpellsRights}
 use Rattle.chess_base.specs.Sound.{IsSound}
 use Rattle.chess_fen.specs.laws.NamedRooks.{IsOutermost, NamesRook, NamesNone, RightIsNamed}

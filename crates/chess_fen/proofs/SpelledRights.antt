@@ -14,7 +14,7 @@ use Rattle.chess_base.specs.declared.man.Variant.{Variant}
 use Rattle.chess_base.specs.declared.man.Variant.TheVariants.{Normal, Fischerandom}
 use Rattle.chess_base.specs.Men.{Men}
 use Rattle.chess_base.specs.Castling.{home_square, rook_file}
-use Rattle.chess_fen.specs.RightNames.{side_letter, right_named, right_told}
+use Rattle.chess_fen.specs.RightNames.{side_letter, right_named, right_by_letters}
 use Rattle.chess_fen.specs.Spelling.{AreRightLetters, IsCastling, IsHeldBy, IsHeld}
 
 -- ---- how often a letter occurs
@@ -134,12 +134,12 @@ right-spelled letter text right corner s = named (occurs letter text) right corn
 
 -- ---- in both variants
 
-pub spelled-told : (v : Variant) (men : Men) (text : List ℕ) (c : Colour) (w : CastlingSide)
-    → IsHeld v men text c w (right_told v men text c w)
-spelled-told Normal men text c w = spelled-right (side_letter c w) text (home_square c (rook_file w))
-spelled-told Fischerandom men text c w = refl
+pub spelled-by_letters : (v : Variant) (men : Men) (text : List ℕ) (c : Colour) (w : CastlingSide)
+    → IsHeld v men text c w (right_by_letters v men text c w)
+spelled-by_letters Normal men text c w = spelled-right (side_letter c w) text (home_square c (rook_file w))
+spelled-by_letters Fischerandom men text c w = refl
 
-pub told-spelled : (v : Variant) (men : Men) (text : List ℕ) (c : Colour) (w : CastlingSide) (right : Option ℕ)
-    → IsHeld v men text c w right → right_told v men text c w ≡ right
-told-spelled Normal men text c w right s = right-spelled (side_letter c w) text right (home_square c (rook_file w)) s
-told-spelled Fischerandom men text c w right s = sym s
+pub by_letters-spelled : (v : Variant) (men : Men) (text : List ℕ) (c : Colour) (w : CastlingSide) (right : Option ℕ)
+    → IsHeld v men text c w right → right_by_letters v men text c w ≡ right
+by_letters-spelled Normal men text c w right s = right-spelled (side_letter c w) text right (home_square c (rook_file w)) s
+by_letters-spelled Fischerandom men text c w right s = sym s

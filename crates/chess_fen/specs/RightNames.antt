@@ -1,7 +1,9 @@
 -- Which rights the letters of a FEN name: in normal chess K, Q, k and q (PGN standard of 1994, section 16.1.3.3); in
 -- Chess960 a rook by its file (Shredder-FEN), or the outermost one by its side (X-FEN). A text that names a right
 -- wrongly denotes one that is not available.
-use Rattle.std.specs.Prelude.{ℕ, zero, suc, ◌+◌, ◌-◌, ◌==◌, nat_lt, Bool, false, not, ◌&&◌, List, [], ◌∷◌, Option, Some, None, if◌then◌else◌}
+use Rattle.std.specs.Prelude.{ℕ, zero, suc, ◌+◌, ◌-◌, ◌==◌, nat_lt, Bool, false, not, ◌&&◌, List, map, Option, Some, None, if◌then◌else◌}
+use Rattle.std.specs.List.{fold}
+use Rattle.std.specs.Option.{option_map_or}
 use Rattle.chess_base.specs.declared.man.Colour.{Colour}
 use Rattle.chess_base.specs.declared.man.Colour.TheVariants.{White, Black}
 use Rattle.chess_base.specs.declared.man.CastlingSide.{CastlingSide}
@@ -56,8 +58,7 @@ outer_rook men c w = rook_among men c w 8
 
 -- s lies left of the king, if there is one
 abbrev pub is_left_of : Option ℕ → ℕ → Bool
-is_left_of None s = false
-is_left_of (Some k) s = nat_lt s k
+is_left_of king s = option_map_or (λ k. nat_lt s k) king false
 
 -- a square left of the king is on the queen's side, any other on the king's
 abbrev pub is_towards : CastlingSide → Option ℕ → ℕ → Bool
@@ -71,21 +72,15 @@ named_square men c w letter =
     else (if names_file c letter && is_towards w (king_square men c) (home_square c (letter - first_letter c)) then Some
     (home_square c (letter - first_letter c)) else None)
 
--- one of the two, if only one is named; where two are, neither
+-- one of the two, if only one is named; where two are, a square on which no right is available
 abbrev pub only_one_of : Option ℕ → Option ℕ → Option ℕ
 only_one_of None o = o
 only_one_of (Some s) None = Some s
 only_one_of (Some s) (Some t) = Some nowhere
 
--- the right on that side that letters name, where some were found before
-abbrev pub right_after_letters : Men → Colour → CastlingSide → Option ℕ → List ℕ → Option ℕ
-right_after_letters men c w found [] = found
-right_after_letters men c w found (letter ∷ letters) =
-    right_after_letters men c w (only_one_of found (named_square men c w letter)) letters
-
 -- ---- both
 
 -- the right of a colour on that side that the letters name, by the square of its rook
-abbrev pub right_told : Variant → Men → List ℕ → Colour → CastlingSide → Option ℕ
-right_told Normal men letters c w = right_named letters (side_letter c w) (home_square c (rook_file w))
-right_told Fischerandom men letters c w = right_after_letters men c w None letters
+abbrev pub right_by_letters : Variant → Men → List ℕ → Colour → CastlingSide → Option ℕ
+right_by_letters Normal men letters c w = right_named letters (side_letter c w) (home_square c (rook_file w))
+right_by_letters Fischerandom men letters c w = fold only_one_of None (map (named_square men c w) letters)

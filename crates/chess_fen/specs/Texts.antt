@@ -88,11 +88,10 @@ is_castling v (c ∷ cs) = ((c == dash) && (length cs == 0)) || are_letters v (c
 
 -- the field of the target: a dash for none, or the name of a square on rank 3 or 6
 abbrev pub target_of : List ℕ → Option (Option ℕ)
-target_of [] = None
 target_of (c ∷ []) = if c == dash then Some None else None
 target_of (f ∷ r ∷ []) = if nat_le (byte "a") f && nat_le f (byte "h")
     && (r == byte "3" || r == byte "6") then Some (Some (8 * (r - byte "1") + (f - byte "a"))) else None
-target_of (f ∷ r ∷ c ∷ cs) = None
+target_of _ = None
 
 -- ---- fields
 
