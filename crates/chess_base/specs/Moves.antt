@@ -73,8 +73,8 @@ man_that_lands None k = None
 man_that_lands (Some x) None = Some x
 man_that_lands (Some x) (Some k) = Some (record { colour = x.colour; kind = k })
 
--- the square from which a pawn of colour c goes one square ahead to s. Where s is the target of White's e2-e4, that is
--- e3, and c is Black, who captures on e3, it is e4, where the pawn is that is taken en passant
+-- the square one step back from s, as pawns of colour c go: for a black pawn that takes on the target e3 it is e4, where
+-- the pawn is that it takes en passant
 abbrev pub behind : Colour → ℕ → ℕ
 behind c s = forward (other c) s
 

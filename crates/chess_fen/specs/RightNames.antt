@@ -1,7 +1,7 @@
 -- Which rights the letters of a FEN name: in normal chess K, Q, k and q (PGN standard of 1994, section 16.1.3.3); in
 -- Chess960 a rook by its file (Shredder-FEN), or the outermost one by its side (X-FEN). A text that names a right
 -- wrongly denotes one that is not available.
-use Rattle.std.specs.Prelude.{ℕ, zero, suc, ◌+◌, ◌-◌, ◌==◌, nat_lt, Bool, false, not, ◌&&◌, List, map, Option, Some, None, if◌then◌else◌}
+use Rattle.std.specs.Prelude.{ℕ, ◌+◌, ◌-◌, ◌==◌, nat_lt, Bool, false, not, ◌&&◌, List, [], ◌∷◌, map, find, Option, Some, None, unwrap_or, if◌then◌else◌}
 use Rattle.std.specs.List.{fold}
 use Rattle.std.specs.Option.{option_map_or}
 use Rattle.chess_base.specs.declared.man.Colour.{Colour}
@@ -41,20 +41,14 @@ right_named letters letter corner = if occurs letter letters then Some corner el
 abbrev pub nowhere : ℕ
 nowhere = 24
 
--- the files from the edge on that side, k of them left
-abbrev pub edge_file : CastlingSide → ℕ → ℕ
-edge_file KingSide k = k
-edge_file QueenSide k = 7 - k
-
--- the first rook on the first rank from the edge, among the files that are left
-abbrev pub rook_among : Men → Colour → CastlingSide → ℕ → ℕ
-rook_among men c w zero = nowhere
-rook_among men c w (suc k) = if is_man c Rook (man_at men (home_square c (edge_file w k))) then home_square c
-    (edge_file w k) else rook_among men c w k
+-- the squares of a colour's first rank, from the edge on that side to the other
+abbrev pub from_edge : Colour → CastlingSide → List ℕ
+from_edge c KingSide = map (home_square c) (7 ∷ 6 ∷ 5 ∷ 4 ∷ 3 ∷ 2 ∷ 1 ∷ 0 ∷ [])
+from_edge c QueenSide = map (home_square c) (0 ∷ 1 ∷ 2 ∷ 3 ∷ 4 ∷ 5 ∷ 6 ∷ 7 ∷ [])
 
 -- the rook nearest to that side's edge, on whichever side of the king it is; nowhere if there is none
 unfoldable pub outer_rook : Men → Colour → CastlingSide → ℕ
-outer_rook men c w = rook_among men c w 8
+outer_rook men c w = unwrap_or (find (λ s. is_man c Rook (man_at men s)) (from_edge c w)) nowhere
 
 -- s lies left of the king, if there is one
 abbrev pub is_left_of : Option ℕ → ℕ → Bool

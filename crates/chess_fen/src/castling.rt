@@ -2,8 +2,8 @@
 
 ghost use Rattle.std.specs.Prelude.{◌≡◌, ◌<◌, None, codes};
 ghost use Rattle.chess_fen.specs.Texts.{occurs, times, may_name_right, first_letter, names_file, is_castling};
-ghost use Rattle.chess_fen.specs.RightNames.{side_letter, right_letter, right_named, edge_file, outer_rook, is_left_of, is_towards, named_square, only_one_of, right_by_letters};
-ghost use Rattle.chess_fen.specs.ties.Loops.{right_after_letters};
+ghost use Rattle.chess_fen.specs.RightNames.{side_letter, right_letter, right_named, outer_rook, is_left_of, is_towards, named_square, only_one_of, right_by_letters};
+ghost use Rattle.chess_fen.specs.ties.Loops.{edge_file, right_after_letters};
 ghost use Rattle.chess_base.specs.Castling.{home_square, rook_file};
 
 use chess_base::rules::{home_square, is_man, king_square, rook_file};
