@@ -1,7 +1,6 @@
 -- A FEN is read as normal chess as it is defined for normal chess alone.
-use Rattle.std.proofs.Common.{◌≡◌, ℕ, Bool, true, false, not, ◌&&◌, ◌||◌, ◌==◌, nat_lt, nat_le, List, [], ◌∷◌, length, Option, Some, None, Result, Ok, Err, refl, ap, ◌∙◌, if◌then◌else◌}
+use Rattle.std.proofs.Common.{◌≡◌, ℕ, not, ◌&&◌, List, [], ◌∷◌, Option, Some, None, Result, Ok, Err, refl, ap, ◌∙◌, if◌then◌else◌}
 use Rattle.std.specs.Prelude.{codes, max, IfOk}
-use Rattle.std.specs.List.{list_all}
 use Rattle.std.specs.Option.{ok_or}
 use Rattle.chess_base.specs.declared.fault.FenFault.{FenFault}
 use Rattle.chess_base.specs.declared.fault.FenFault.TheVariants as faults
@@ -16,8 +15,8 @@ use Rattle.chess_base.specs.Men.{Men, other}
 use Rattle.chess_base.specs.Sound.{has_one_king, no_pawn_on_end_ranks, has_at_most_16, target_is_behind_double_advance}
 use Rattle.chess_base.proofs.NormalKept.{normal_kept}
 use Rattle.chess_fen.specs.Reading.{◌>>=◌, side_of, rights_of, unless_fault, setup_by, setup_in, fen_reading_as}
-use Rattle.chess_fen.specs.Texts.{may_name_right, names_once, placement_of, target_of, number_of, fields_of, is_castling}
-use Rattle.chess_fen.specs.laws.Normal.{normal_names_once, normal_is_castling, normal_rights_of, normal_rights_named, normal_setup_by, normal_setup_in, normal_rights_are_sound, normal_fault, normal_sound, normal_fen_reading}
+use Rattle.chess_fen.specs.Texts.{may_name_right, placement_of, target_of, number_of, fields_of, is_castling}
+use Rattle.chess_fen.specs.laws.Normal.{normal_is_castling, normal_rights_of, normal_rights_named, normal_setup_by, normal_setup_in, normal_rights_are_sound, normal_fault, normal_sound, normal_fen_reading}
 
 castling_kept : (text : List ℕ) → is_castling Normal text ≡ normal_is_castling text
 unfolding may_name_right

@@ -37,11 +37,23 @@ fn rights_by_letters(variant: Variant, men: &[Option<Man>; 64], letters: &[u8]) 
 {
     let white = ColourRights {
         king_side: right_by_letters(variant, men, letters, Colour::White, CastlingSide::KingSide),
-        queen_side: right_by_letters(variant, men, letters, Colour::White, CastlingSide::QueenSide),
+        queen_side: right_by_letters(
+            variant,
+            men,
+            letters,
+            Colour::White,
+            CastlingSide::QueenSide,
+        ),
     };
     let black = ColourRights {
         king_side: right_by_letters(variant, men, letters, Colour::Black, CastlingSide::KingSide),
-        queen_side: right_by_letters(variant, men, letters, Colour::Black, CastlingSide::QueenSide),
+        queen_side: right_by_letters(
+            variant,
+            men,
+            letters,
+            Colour::Black,
+            CastlingSide::QueenSide,
+        ),
     };
     Rights { white, black }
 }
