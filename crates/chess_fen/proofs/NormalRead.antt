@@ -20,8 +20,7 @@ use Rattle.chess_fen.specs.laws.Normal.{normal_is_castling, normal_rights_of, no
 
 castling_kept : (text : List ℕ) → is_castling Normal text ≡ normal_is_castling text
 unfolding may_name_right
-castling_kept [] = refl
-castling_kept (c ∷ cs) = refl
+castling_kept text = refl
 
 rights_kept : (men : Men) (text : List ℕ) → rights_of Normal men text ≡ normal_rights_of text
 rights_kept men text = ap (λ b. if b then Some (normal_rights_named text) else None) (castling_kept text)

@@ -62,11 +62,12 @@ is_towards QueenSide king s = is_left_of king s
 -- the square of the rook that a letter names on that side
 abbrev pub named_square : Men → Colour → CastlingSide → ℕ → Option ℕ
 named_square men c w letter =
+    let s = home_square c (letter - first_letter c) in
     if letter == side_letter c w then Some (outer_rook men c w)
-    else (if names_file c letter && is_towards w (king_square men c) (home_square c (letter - first_letter c)) then Some
-    (home_square c (letter - first_letter c)) else None)
+    else if names_file c letter && is_towards w (king_square men c) s then Some s
+    else None
 
--- one of the two, if only one is named; where two are, a square on which no right is available
+-- the one that is named, if any is; where two are, a square on which no right is available
 abbrev pub only_one_of : Option ℕ → Option ℕ → Option ℕ
 only_one_of None o = o
 only_one_of (Some s) None = Some s

@@ -49,7 +49,7 @@ fn may_name_right(variant: Variant, letter: u8) -> bool
 pub(crate) fn is_castling(variant: Variant, text: &[u8]) -> bool
     ensures { result ≡ is_castling variant text.now }
 {
-    if let b"-" = text {
+    if text == b"-".as_slice() {
         return true;
     }
     if text.is_empty() || text.len() > 4 {

@@ -1,9 +1,10 @@
 -- FEN as it is defined for normal chess alone (PGN standard of 1994, section 16.1): rights are named by the letters K,
 -- Q, k and q, and king and rook of each are at home. Nothing here takes a variant; what FEN says of pieces, side,
 -- target and counters is shared.
-use Rattle.std.specs.Prelude.{ℕ, max, ◌==◌, nat_lt, nat_le, Bool, false, not, ◌&&◌, ◌||◌, List, [], ◌∷◌, ◌++◌, length, decimal, codes, Option, Some, None, Result, Ok, Err, if◌then◌else◌}
+use Rattle.std.specs.Prelude.{ℕ, max, ◌==◌, nat_lt, nat_le, Bool, not, ◌&&◌, ◌||◌, List, [], ◌∷◌, ◌++◌, length, decimal, codes, Option, Some, None, Result, Ok, Err, if◌then◌else◌}
 use Rattle.std.specs.List.{list_all, join_with_byte}
 use Rattle.std.specs.Option.{ok_or}
+use Rattle.std.specs.Str.{bytes_eq}
 use Rattle.chess_base.specs.declared.fault.FenFault.{FenFault}
 use Rattle.chess_base.specs.declared.fault.FenFault.TheVariants as faults
 use Rattle.chess_base.specs.declared.man.Colour.TheVariants.{White, Black}
@@ -17,7 +18,6 @@ use Rattle.chess_base.specs.Letters.{byte, space}
 use Rattle.chess_base.specs.Men.{other}
 use Rattle.chess_base.specs.Sound.{has_one_king, no_pawn_on_end_ranks, has_at_most_16, target_is_behind_double_advance}
 use Rattle.chess_base.specs.laws.Normal.{normal_right_is_sound_at}
-use Rattle.chess_fen.specs.ManLetters.{dash}
 use Rattle.chess_fen.specs.Reading.{◌>>=◌, side_of, unless_fault}
 use Rattle.chess_fen.specs.RightNames.{right_named}
 use Rattle.chess_fen.specs.Texts.{placement_of, target_of, number_of, fields_of, occurs, times}
@@ -48,10 +48,8 @@ normal_names_once text c = occurs c (codes "KQkq") && (times c text == 1)
 
 -- a dash, or one to four of these letters, none twice
 abbrev pub normal_is_castling : List ℕ → Bool
-normal_is_castling [] = false
-normal_is_castling (c ∷ cs) =
-    ((c == dash) && (length cs == 0))
-    || (nat_lt 0 (length (c ∷ cs)) && nat_le (length (c ∷ cs)) 4 && list_all (normal_names_once (c ∷ cs)) (c ∷ cs))
+normal_is_castling text = bytes_eq text (codes "-")
+    || (nat_lt 0 (length text) && nat_le (length text) 4 && list_all (normal_names_once text) text)
 
 -- the rights that letters name: the rooks are on h1 and a1, h8 and a8
 abbrev pub normal_rights_named : List ℕ → Rights
