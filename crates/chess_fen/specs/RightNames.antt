@@ -5,24 +5,21 @@ use Rattle.std.specs.Prelude.{ℕ, ◌+◌, ◌-◌, ◌==◌, nat_lt, Bool, fal
 use Rattle.std.specs.List.{fold}
 use Rattle.std.specs.Option.{option_map_or}
 use Rattle.chess_base.specs.declared.man.Colour.{Colour}
-use Rattle.chess_base.specs.declared.man.Colour.TheVariants.{White, Black}
 use Rattle.chess_base.specs.declared.man.CastlingSide.{CastlingSide}
 use Rattle.chess_base.specs.declared.man.CastlingSide.TheVariants.{KingSide, QueenSide}
-use Rattle.chess_base.specs.declared.man.Kind.TheVariants.{Rook}
+use Rattle.chess_base.specs.declared.man.Kind.TheVariants.{King, Queen, Rook}
 use Rattle.chess_base.specs.declared.man.Variant.{Variant}
 use Rattle.chess_base.specs.declared.man.Variant.TheVariants.{Normal, Fischerandom}
 use Rattle.chess_base.specs.Squares.{file}
 use Rattle.chess_base.specs.Men.{Men, man_at, is_man}
 use Rattle.chess_base.specs.Castling.{home_square, king_square, rook_file}
-use Rattle.chess_base.specs.Letters.{byte}
+use Rattle.chess_fen.specs.ManLetters.{letter_by}
 use Rattle.chess_fen.specs.Texts.{occurs, first_letter, names_file}
 
--- the letter of a side
+-- the letter of a side: the colour's king's or queen's, so K, Q, k or q
 abbrev pub side_letter : Colour → CastlingSide → ℕ
-side_letter White KingSide = byte "K"
-side_letter White QueenSide = byte "Q"
-side_letter Black KingSide = byte "k"
-side_letter Black QueenSide = byte "q"
+side_letter c KingSide = letter_by c King
+side_letter c QueenSide = letter_by c Queen
 
 -- the letter that is written for the right with the rook on s
 abbrev pub right_letter : Variant → Colour → CastlingSide → ℕ → ℕ
