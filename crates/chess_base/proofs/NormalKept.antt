@@ -11,8 +11,10 @@ use Rattle.chess_base.specs.declared.man.Move.{Move}
 use Rattle.chess_base.specs.declared.man.Variant.TheVariants.{Normal}
 use Rattle.chess_base.specs.declared.setup.Setup.{Setup}
 use Rattle.chess_base.specs.Men.{Men, man_at, is_man, same_colour, same_kind, other}
-use Rattle.chess_base.specs.Moves.{behind, is_en_passant, man_that_lands, castles_or_moves, moves_as, is_pseudo_legal, pawn_moves, second_square_emptied, men_after, rights_after, target_after, halfmove_after, fullmove_after, is_legal, after}
-use Rattle.chess_base.specs.Castling.{names_castling, says_castling, castling, castle_by, castle_of, mover_to, rook_from, rook_to, lands_on, castling_rook_to, castled_king_file, right_of, right_is_sound, right_is_sound_at, home_square, king_home_file}
+use Rattle.chess_base.specs.Moves.{behind, is_en_passant, man_that_lands, moves_as, is_pseudo_legal, pawn_moves, second_square_emptied, men_after, rights_after, target_after, halfmove_after, fullmove_after, is_legal, after}
+use Rattle.chess_base.specs.ties.Splits.{castles_or_moves, names_castling, rook_from, rook_to, right_is_sound_at}
+use Rattle.chess_base.specs.Castling.{says_castling, castling, castle_by, castle_of, lands_on, castling_rook_to, castled_king_file, right_of, right_is_sound, home_square, king_home_file}
+use Rattle.chess_base.specs.Before.{mover_to}
 use Rattle.chess_base.specs.Steps.{men_stepped}
 use Rattle.chess_base.specs.laws.Normal.{normal_right_is_sound_at, normal_says_castling, normal_castling, normal_castle_of, normal_moves_as, normal_has_pattern, normal_men_after, normal_after, normal_is_legal, NormalIsKept}
 

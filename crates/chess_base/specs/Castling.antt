@@ -1,13 +1,13 @@
 -- Castling (Laws of Chess 2023, article 3.8.2): with which rook, between which squares, and when. In Chess960 (Laws of
 -- Chess 2023, Guidelines II) king and rooks begin anywhere on the first rank, the king between the rooks; where both
 -- end stays the same.
-use Rattle.std.specs.Prelude.{ℕ, ◌+◌, ◌*◌, ◌==◌, nat_lt, Bool, true, false, not, ◌&&◌, ◌||◌, Option, Some, None, is_none, position, if◌then◌else◌}
+use Rattle.std.specs.Prelude.{ℕ, ◌+◌, ◌*◌, ◌==◌, nat_lt, Bool, true, false, not, ◌&&◌, ◌||◌, Option, Some, None, is_none, position, if◌then◌else◌, option_and_then}
+use Rattle.std.specs.Option.{option_map, option_map_or}
 use Rattle.chess_base.specs.declared.castling.Castle.{Castle}
 use Rattle.chess_base.specs.declared.man.Colour.{Colour}
 use Rattle.chess_base.specs.declared.man.Colour.TheVariants.{White, Black}
 use Rattle.chess_base.specs.declared.man.CastlingSide.{CastlingSide}
 use Rattle.chess_base.specs.declared.man.CastlingSide.TheVariants.{KingSide, QueenSide}
-use Rattle.chess_base.specs.declared.man.ColourRights.{ColourRights}
 use Rattle.chess_base.specs.declared.man.Kind.TheVariants.{King, Rook}
 use Rattle.chess_base.specs.declared.man.Move.{Move}
 use Rattle.chess_base.specs.declared.man.Rights.{Rights}
@@ -46,14 +46,18 @@ castled_rook_file QueenSide = 3
 -- ---- rights (3.8.2.1)
 
 -- the square of the rook with which a colour may castle on that side, if it may
-abbrev pub right_on : ColourRights → CastlingSide → Option ℕ
-right_on r KingSide = r.king_side
-right_on r QueenSide = r.queen_side
-
--- the same of a colour, from the rights of both
 abbrev pub right_of : Rights → Colour → CastlingSide → Option ℕ
-right_of r White w = right_on r.white w
-right_of r Black w = right_on r.black w
+right_of r White KingSide = r.white.king_side
+right_of r White QueenSide = r.white.queen_side
+right_of r Black KingSide = r.black.king_side
+right_of r Black QueenSide = r.black.queen_side
+
+-- the four rights, each as f gives it for its colour and side
+abbrev pub rights_by : (Colour → CastlingSide → Option ℕ) → Rights
+rights_by f = record {
+  white = record { king_side = f White KingSide; queen_side = f White QueenSide };
+  black = record { king_side = f Black KingSide; queen_side = f Black QueenSide };
+}
 
 -- the square of colour c's king
 unfoldable pub king_square : Men → Colour → Option ℕ
@@ -77,14 +81,9 @@ are_placed_for_castling Normal men c w s =
     && is_man c Rook (man_at men s)
 are_placed_for_castling Fischerandom men c w s = is_beside c w (king_square men c) s && is_man c Rook (man_at men s)
 
--- king and rook are so for a right, given by its rook's square; where there is none nothing is asked
-abbrev pub right_is_sound_at : Variant → Men → Colour → CastlingSide → Option ℕ → Bool
-right_is_sound_at v men c w None = true
-right_is_sound_at v men c w (Some s) = are_placed_for_castling v men c w s
-
--- the right, if it is there, has its king and its rook where they belong
+-- the right, if it is there, has its king and its rook where castling begins
 unfoldable pub right_is_sound : Setup → Colour → CastlingSide → Bool
-right_is_sound p c w = right_is_sound_at p.variant p.men c w (right_of p.rights c w)
+right_is_sound p c w = option_map_or (are_placed_for_castling p.variant p.men c w) (right_of p.rights c w) true
 
 -- ---- which moves are castling
 
@@ -95,15 +94,10 @@ names_castling_with Normal c m w rook = (m.from == home_square c king_home_file)
     && (m.to == home_square c (castled_king_file w))
 names_castling_with Fischerandom c m w rook = (rank m.from == rank rook) && (m.to == rook)
 
--- the right is there, and the squares name castling with its rook
-abbrev pub names_castling : Variant → Colour → Move → CastlingSide → Option ℕ → Bool
-names_castling v c m w None = false
-names_castling v c m w (Some rook) = names_castling_with v c m w rook
-
--- the king goes as castling on that side is named, and the right is there
+-- the king makes the move, the right to castle on that side is there, and the squares name castling with its rook
 unfoldable pub says_castling : Setup → Move → CastlingSide → Bool
 says_castling p m w = is_man p.side King (man_at p.men m.from)
-    && names_castling p.variant p.side m w (right_of p.rights p.side w)
+    && option_map_or (names_castling_with p.variant p.side m w) (right_of p.rights p.side w) false
 
 -- the side of the castling that the move is, if it is one
 unfoldable pub castling : Setup → Move → Option CastlingSide
@@ -121,43 +115,22 @@ castle_from c w k r = record {
   rook_to = home_square c (castled_rook_file w);
 }
 
--- the same with the rook's square, if there is one
-abbrev pub castle_with : Colour → CastlingSide → ℕ → Option ℕ → Option Castle
-castle_with c w k None = None
-castle_with c w k (Some r) = Some (castle_from c w k r)
-
 -- castling of colour c to that side, if it is to one, from the move's start square and with the rook of the right
 abbrev pub castle_by : Colour → Rights → Move → Option CastlingSide → Option Castle
-castle_by c r m None = None
-castle_by c r m (Some w) = castle_with c w m.from (right_of r c w)
+castle_by c r m side = option_and_then (λ w. option_map (castle_from c w m.from) (right_of r c w)) side
 
 -- the castling that the move is, if it is one
 unfoldable pub castle_of : Setup → Move → Option Castle
 castle_of p m = castle_by p.side p.rights m (castling p m)
 
--- the mover's square after the move: the end square that it names, but for a king that castles
-abbrev pub mover_to : Move → Option Castle → ℕ
-mover_to m None = m.to
-mover_to m (Some k) = k.king_to
-
--- the castling rook's square before castling, if there is one
-abbrev pub rook_from : Option Castle → Option ℕ
-rook_from None = None
-rook_from (Some k) = Some k.rook_from
-
--- the castling rook's square after it, if there is one
-abbrev pub rook_to : Option Castle → Option ℕ
-rook_to None = None
-rook_to (Some k) = Some k.rook_to
-
--- the mover's square after the move. In normal chess that is m.to, castling too, since it is named by the king's
--- squares
+-- the mover's square after the move: the king's after castling, else m.to. In normal chess it is always m.to, since
+-- the king's squares name castling
 unfoldable pub lands_on : Setup → Move → ℕ
-lands_on p m = mover_to m (castle_of p m)
+lands_on p m = option_map_or (λ k. k.king_to) (castle_of p m) m.to
 
--- where the castling rook arrives
+-- where the castling rook arrives, if the move is castling
 unfoldable pub castling_rook_to : Setup → Move → Option ℕ
-castling_rook_to p m = rook_to (castle_of p m)
+castling_rook_to p m = option_map (λ k. k.rook_to) (castle_of p m)
 
 -- ---- when castling may be played (3.8.2.2)
 

@@ -1,22 +1,20 @@
 -- The moves: their pattern, the position after one, and which are legal (Laws of Chess 2023, article 3).
 use Rattle.std.specs.Prelude.{ℕ, ◌+◌, ◌==◌, nat_lt, min, Bool, false, not, ◌&&◌, ◌||◌, Option, Some, None, is_none, if◌then◌else◌}
-use Rattle.chess_base.specs.declared.castling.Castle.{Castle}
+use Rattle.std.specs.Option.{option_map, option_map_or}
 use Rattle.chess_base.specs.declared.man.Colour.{Colour}
 use Rattle.chess_base.specs.declared.man.Colour.TheVariants.{White, Black}
-use Rattle.chess_base.specs.declared.man.CastlingSide.TheVariants.{KingSide, QueenSide}
 use Rattle.chess_base.specs.declared.man.Kind.{Kind}
-use Rattle.chess_base.specs.declared.man.Kind.TheVariants.{King, Queen, Rook, Bishop, Knight, Pawn}
+use Rattle.chess_base.specs.declared.man.Kind.TheVariants.{King, Rook, Pawn}
 use Rattle.chess_base.specs.declared.man.Man.{Man}
 use Rattle.chess_base.specs.declared.man.Move.{Move}
 use Rattle.chess_base.specs.declared.man.Rights.{Rights}
-use Rattle.chess_base.specs.declared.man.ColourRights.{ColourRights}
 use Rattle.chess_base.specs.declared.setup.Setup.{Setup}
 use Rattle.chess_base.specs.declared.setup.TheConstants.{COUNTER_LIMIT}
 use Rattle.chess_base.specs.declared.steps.Steps.{Steps}
 use Rattle.chess_base.specs.Squares.{rank, is_square}
 use Rattle.chess_base.specs.Men.{Men, man_at, is_of, is_man, same_colour, same_kind, other, forward, first_rank, pawn_rank}
 use Rattle.chess_base.specs.Attacks.{attacks, is_in_check}
-use Rattle.chess_base.specs.Castling.{right_of, castle_of, castling_rook_to, castles, lands_on, rook_from}
+use Rattle.chess_base.specs.Castling.{right_of, rights_by, castle_of, castling_rook_to, castles, lands_on}
 use Rattle.chess_base.specs.Steps.{men_stepped}
 
 -- there is a promotion, to a queen, rook, bishop or knight, exactly with a move to the last rank (3.7)
@@ -56,17 +54,13 @@ pawn_moves p m =
 unfoldable pub man_moves : Setup → Move → Bool
 man_moves p m = is_none m.promotion && attacks p.men m.from m.to && not (is_of p.side (man_at p.men m.to))
 
--- the castling, if the move is one, is possible; else the piece goes so
-abbrev pub castles_or_moves : Setup → Move → Option Castle → Bool
-castles_or_moves p m None = man_moves p m
-castles_or_moves p m (Some k) = castles p m k
-
--- that piece, if it is one of the side on move, goes so: a pawn as pawns do, any other piece as it moves or castles
+-- that piece, if it is one of the side on move, goes so: a pawn as pawns do, any other piece as it castles, if the move
+-- is castling, or else as it moves
 abbrev pub moves_as : Setup → Move → Option Man → Bool
 moves_as p m None = false
 moves_as p m (Some x) =
-    same_colour p.side x.colour && (if same_kind Pawn x.kind then pawn_moves p m else castles_or_moves p m
-    (castle_of p m))
+    same_colour p.side x.colour
+    && (if same_kind Pawn x.kind then pawn_moves p m else option_map_or (castles p m) (castle_of p m) (man_moves p m))
 
 -- the move has the pattern of a piece's moves: it is pseudo-legal, legal unless it leaves its own king in check;
 -- of castling it is asked here already that no square on the king's way is attacked
@@ -79,13 +73,14 @@ man_that_lands None k = None
 man_that_lands (Some x) None = Some x
 man_that_lands (Some x) (Some k) = Some (record { colour = x.colour; kind = k })
 
--- the square behind the target, of the pawn that is taken en passant
+-- the square one step back from s, as pawns of colour c go: for a black pawn that takes on the target e3 it is e4, where
+-- the pawn is that it takes en passant
 abbrev pub behind : Colour → ℕ → ℕ
 behind c s = forward (other c) s
 
 -- the second square that the move empties: that of the pawn taken en passant, or of the castling rook
 unfoldable pub second_square_emptied : Setup → Move → Option ℕ
-second_square_emptied p m = if is_en_passant p m then Some (behind p.side m.to) else rook_from (castle_of p m)
+second_square_emptied p m = if is_en_passant p m then Some (behind p.side m.to) else option_map (λ k. k.rook_from) (castle_of p m)
 
 -- what the move changes on the board
 abbrev pub steps_of : Setup → Move → Steps
@@ -108,16 +103,9 @@ right_after p m c None = None
 right_after p m c (Some s) =
     if is_man c King (man_at p.men m.from) || (m.from == s) || (m.to == s) then None else Some s
 
--- the rights of colour c after a move
-abbrev pub colour_rights_after : Setup → Move → Colour → ColourRights
-colour_rights_after p m c = record {
-  king_side = right_after p m c (right_of p.rights c KingSide);
-  queen_side = right_after p m c (right_of p.rights c QueenSide);
-}
-
--- the rights of both colours after a move
+-- the four rights after a move
 unfoldable pub rights_after : Setup → Move → Rights
-rights_after p m = record { white = colour_rights_after p m White; black = colour_rights_after p m Black }
+rights_after p m = rights_by (λ c w. right_after p m c (right_of p.rights c w))
 
 -- the square that a double advance crosses
 unfoldable pub target_after : Setup → Move → Option ℕ

@@ -1,11 +1,13 @@
 //! Castling: with which rook, between which squares, and when.
 
 ghost use Rattle.std.specs.Prelude.{◌≡◌, ◌<◌, IfSome, Option};
-ghost use Rattle.chess_base.specs.Castling.{home_square, king_home_file, rook_file, castled_king_file, castled_rook_file, right_on, right_of, king_square, is_to_side, is_beside, are_placed_for_castling, right_is_sound, names_castling, says_castling, castling, castle_from, castle_by, castle_of, mover_to, rook_from, rook_to, lands_on, castling_rook_to, is_on_way, castling_crosses, castling_way_is_empty, castling_way_is_safe, castles};
+ghost use Rattle.chess_base.specs.Castling.{home_square, king_home_file, rook_file, castled_king_file, castled_rook_file, right_of, king_square, is_to_side, is_beside, are_placed_for_castling, right_is_sound, says_castling, castling, castle_from, castle_by, castle_of, lands_on, castling_rook_to, is_on_way, castling_crosses, castling_way_is_empty, castling_way_is_safe, castles};
+ghost use Rattle.chess_base.specs.ties.Splits.{names_castling, rook_from, rook_to};
+ghost use Rattle.chess_base.specs.Before.{mover_to};
 
 use crate::attack::{is_attacked, is_between, is_man};
 use crate::legality::first_rank;
-use crate::man::{CastlingSide, Colour, ColourRights, Kind, Man, Move, Rights, Variant};
+use crate::man::{CastlingSide, Colour, Kind, Man, Move, Rights, Variant};
 use crate::setup::Setup;
 use crate::square::Square;
 
@@ -68,22 +70,15 @@ pub fn castled_rook_file(castling_side: CastlingSide) -> u8
     }
 }
 
-fn right_on(rights: ColourRights, castling_side: CastlingSide) -> Option<Square>
-    ensures { result ≡ right_on rights castling_side }
-{
-    match castling_side {
-        CastlingSide::KingSide => rights.king_side,
-        CastlingSide::QueenSide => rights.queen_side,
-    }
-}
-
 /// The square of the rook with which that colour may castle on that side, if it may.
 pub fn right_of(rights: Rights, colour: Colour, castling_side: CastlingSide) -> Option<Square>
     ensures { result ≡ right_of rights colour castling_side }
 {
-    match colour {
-        Colour::White => right_on(rights.white, castling_side),
-        Colour::Black => right_on(rights.black, castling_side),
+    match (colour, castling_side) {
+        (Colour::White, CastlingSide::KingSide) => rights.white.king_side,
+        (Colour::White, CastlingSide::QueenSide) => rights.white.queen_side,
+        (Colour::Black, CastlingSide::KingSide) => rights.black.king_side,
+        (Colour::Black, CastlingSide::QueenSide) => rights.black.queen_side,
     }
 }
 

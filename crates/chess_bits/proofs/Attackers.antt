@@ -9,7 +9,8 @@ use Rattle.chess_base.specs.declared.man.Kind.TheVariants.{King, Queen, Rook, Bi
 use Rattle.chess_base.specs.declared.man.Man.{Man}
 use Rattle.chess_base.specs.Squares.{file, rank, gap, lies_inside, share_rank_or_file, share_diagonal, is_between, is_between_on_file, is_between_on_rank, is_between_on_diagonal, each_below, each_square, some_below, some_square}
 use Rattle.chess_base.specs.Men.{Men, man_at, other, same_colour, same_kind, is_of, is_man}
-use Rattle.chess_base.specs.Attacks.{is_clear, could_capture, could_capture_as, attacks, is_attacked}
+use Rattle.chess_base.specs.Attacks.{is_clear, could_capture, attacks, is_attacked}
+use Rattle.chess_base.specs.ties.Splits.{could_capture_as}
 use Rattle.chess_bits.specs.declared.line.Line.TheVariants.{Rank, File, Diagonal, Antidiagonal}
 use Rattle.chess_bits.specs.declared.table.Shape.TheVariants as shape
 use mathlib.Core.Bool.{not-not}

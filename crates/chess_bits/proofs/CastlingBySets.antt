@@ -17,7 +17,8 @@ use Rattle.chess_base.specs.Attacks.{is_attacked}
 use Rattle.chess_base.specs.Castling.{home_square, king_home_file, rook_file, castled_king_file, castled_rook_file, right_of, king_square, is_to_side, is_beside, are_placed_for_castling, right_is_sound, names_castling_with, castling, castle_from, castle_of, castles, is_on_way, castling_crosses, castling_way_is_empty, castling_way_is_safe, castling_rook_to, lands_on}
 use Rattle.chess_base.specs.Men.{Men, man_at, other, is_man, first_rank}
 use Rattle.chess_base.specs.MoveList.{triple}
-use Rattle.chess_base.specs.Moves.{is_pseudo_legal, is_legal, castles_or_moves, promotion_fits, man_that_lands, second_square_emptied, steps_of}
+use Rattle.chess_base.specs.Moves.{is_pseudo_legal, is_legal, promotion_fits, man_that_lands, second_square_emptied, steps_of}
+use Rattle.chess_base.specs.ties.Splits.{castles_or_moves}
 use Rattle.chess_base.specs.Sound.{IsSound}
 use Rattle.chess_base.specs.Squares.{rank, is_between, each_below, some_below, each_square, some_square}
 use Rattle.chess_base.proofs.Castlings.{right_stands_of, right_that_stands}

@@ -13,8 +13,10 @@ use Rattle.chess_base.specs.declared.man.Move.{Move}
 use Rattle.chess_base.specs.declared.man.Variant.{Variant}
 use Rattle.chess_base.specs.declared.man.Variant.TheVariants.{Normal}
 use Rattle.chess_base.specs.declared.setup.Setup.{Setup}
-use Rattle.chess_base.specs.Attacks.{is_clear, could_capture_as, attacks, is_attacked}
-use Rattle.chess_base.specs.Castling.{home_square, king_home_file, rook_file, castled_king_file, castled_rook_file, right_of, names_castling_with, are_placed_for_castling, right_is_sound, castling, castle_from, castle_of, is_on_way, castling_way_is_empty, castling_way_is_safe, lands_on, castling_rook_to, mover_to}
+use Rattle.chess_base.specs.Attacks.{is_clear, attacks, is_attacked}
+use Rattle.chess_base.specs.ties.Splits.{could_capture_as}
+use Rattle.chess_base.specs.Castling.{home_square, king_home_file, rook_file, castled_king_file, castled_rook_file, right_of, names_castling_with, are_placed_for_castling, right_is_sound, castling, castle_from, castle_of, is_on_way, castling_way_is_empty, castling_way_is_safe, lands_on, castling_rook_to}
+use Rattle.chess_base.specs.Before.{mover_to}
 use Rattle.chess_base.specs.Men.{Men, man_at, other, is_of, is_man}
 use Rattle.chess_base.specs.Moves.{is_pseudo_legal, is_legal, man_that_lands, men_after, second_square_emptied}
 use Rattle.chess_base.specs.Sound.{IsSound}

@@ -15,8 +15,10 @@ use Rattle.chess_base.specs.declared.man.Move.{Move}
 use Rattle.chess_base.specs.declared.man.Variant.{Variant}
 use Rattle.chess_base.specs.declared.man.Variant.TheVariants.{Normal, Fischerandom}
 use Rattle.chess_base.specs.declared.setup.Setup.{Setup}
-use Rattle.chess_base.specs.Attacks.{is_clear, could_capture, could_capture_as, attacks, is_attacked}
-use Rattle.chess_base.specs.Castling.{home_square, king_home_file, castled_king_file, right_of, names_castling, says_castling, castle_of, mover_to, lands_on, castling_rook_to}
+use Rattle.chess_base.specs.Attacks.{is_clear, could_capture, attacks, is_attacked}
+use Rattle.chess_base.specs.ties.Splits.{could_capture_as, names_castling}
+use Rattle.chess_base.specs.Castling.{home_square, king_home_file, castled_king_file, right_of, says_castling, castle_of, lands_on, castling_rook_to}
+use Rattle.chess_base.specs.Before.{mover_to}
 use Rattle.chess_base.specs.Men.{Men, man_at, other, is_of, is_man}
 use Rattle.chess_base.specs.MoveList.{triple, squares}
 use Rattle.chess_base.specs.Moves.{is_pseudo_legal, is_legal, is_en_passant, man_moves, men_after, second_square_emptied}

@@ -20,7 +20,8 @@ use Rattle.chess_base.specs.declared.setup.Setup.{Setup}
 use Rattle.chess_base.specs.Squares.{is_square}
 use Rattle.chess_base.specs.Men.{Men, man_at, other, is_man, is_of, same_colour, same_kind}
 use Rattle.chess_base.specs.Before.{captured_square, man_on, saved_of}
-use Rattle.chess_base.specs.Castling.{castling_rook_to, home_square, is_beside, king_home_file, king_square, lands_on, right_of, right_is_sound, right_is_sound_at, rook_file, says_castling, are_placed_for_castling}
+use Rattle.chess_base.specs.Castling.{castling_rook_to, home_square, is_beside, king_home_file, king_square, lands_on, right_of, right_is_sound, rook_file, says_castling, are_placed_for_castling}
+use Rattle.chess_base.specs.ties.Splits.{right_is_sound_at}
 use Rattle.chess_base.specs.Sound.{IsSound}
 use Rattle.chess_base.specs.Attacks.{is_in_check}
 use Rattle.chess_base.specs.Moves.{after, fullmove_after, halfmove_after, is_pseudo_legal, is_double_advance, is_legal, man_that_lands, men_after, resets_clock, right_after, rights_after, second_square_emptied, target_after}

@@ -10,7 +10,8 @@ use Rattle.chess_base.specs.declared.man.Man.{Man}
 use Rattle.chess_base.specs.declared.man.Move.{Move}
 use Rattle.chess_base.specs.Squares.{is_square, share_rank_or_file, share_diagonal, is_between}
 use Rattle.chess_base.specs.Men.{Men, man_at, other, is_man, is_of}
-use Rattle.chess_base.specs.Attacks.{is_clear, could_capture, could_capture_as, attacks, is_attacked}
+use Rattle.chess_base.specs.Attacks.{is_clear, could_capture, attacks, is_attacked}
+use Rattle.chess_base.specs.ties.Splits.{could_capture_as}
 use Rattle.chess_base.specs.declared.setup.Setup.{Setup}
 use Rattle.chess_base.specs.Moves.{is_en_passant, man_that_lands, men_after, second_square_emptied, steps_of}
 use Rattle.chess_base.specs.Castling.{castle_of, lands_on, castling_rook_to}

@@ -17,8 +17,9 @@ use Rattle.chess_base.specs.declared.man.Move.{Move}
 use Rattle.chess_base.specs.declared.man.Variant.{Variant}
 use Rattle.chess_base.specs.declared.man.Variant.TheVariants.{Normal, Fischerandom}
 use Rattle.chess_base.specs.declared.setup.Setup.{Setup}
-use Rattle.chess_base.specs.Attacks.{attacks, could_capture, could_capture_as}
-use Rattle.chess_base.specs.Castling.{home_square, king_home_file, castled_king_file, right_of, names_castling, says_castling, castling, castle_of}
+use Rattle.chess_base.specs.Attacks.{attacks, could_capture}
+use Rattle.chess_base.specs.ties.Splits.{could_capture_as, names_castling}
+use Rattle.chess_base.specs.Castling.{home_square, king_home_file, castled_king_file, right_of, says_castling, castling, castle_of}
 use Rattle.chess_base.specs.Men.{man_at, other, is_of, is_man, same_kind, same_colour, kind_number, forward, pawn_rank}
 use Rattle.chess_base.specs.MoveList.{triple}
 use Rattle.chess_base.specs.Moves.{is_legal, is_pseudo_legal, man_moves, pawn_advances, pawn_captures, is_double_advance}

@@ -12,14 +12,17 @@ use Rattle.chess_base.specs.declared.man.Variant.TheVariants.{Normal, Fischerand
 use Rattle.chess_base.specs.declared.setup.Setup.{Setup}
 use Rattle.chess_base.specs.Squares.{file, rank}
 use Rattle.chess_base.specs.Men.{Men, man_at, is_man, first_rank}
-use Rattle.chess_base.specs.Castling.{home_square, king_square, is_to_side, right_is_sound, right_is_sound_at, right_of}
+use Rattle.chess_base.specs.Castling.{home_square, king_square, is_to_side, right_is_sound, right_of}
+use Rattle.chess_base.specs.ties.Splits.{right_is_sound_at}
 use Rattle.chess_fen.specs.Texts.{first_letter, names_file}
-use Rattle.chess_fen.specs.RightNames.{side_letter, is_towards, nowhere, edge_file, rook_among, outer_rook, named_square, only_one_of, right_after_letters}
+use Rattle.chess_fen.specs.RightNames.{side_letter, is_towards, nowhere, outer_rook, named_square, only_one_of}
+use Rattle.chess_fen.specs.ties.Loops.{edge_file, rook_among, right_after_letters}
 use Rattle.chess_fen.specs.Spelling.{IsCastling, IsHeld, SpellsRights}
 use Rattle.chess_base.specs.Sound.{IsSound}
 use Rattle.chess_fen.specs.laws.NamedRooks.{IsOutermost, NamesRook, NamesNone, RightIsNamed}
 use Rattle.chess_fen.specs.laws.Laws.{RightsAreNamed}
 use Rattle.chess_base.proofs.Castlings.{right_stands_of}
+use Rattle.chess_fen.proofs.RookAmong.{outer_among}
 use Rattle.chess_fen.proofs.RightsBack.{Beside, beside, no_side_letter, own_file, file_back, file_in, named_own, only-none, after-append}
 
 -- ---- what is found among the letters
@@ -167,8 +170,8 @@ among men c w s n (suc k) low above e =
 
 outermost : (men : Men) (c : Colour) (w : CastlingSide) (s : ℕ) → s ≢ nowhere → outer_rook men c w ≡ s
     → IsOutermost men c w s
-unfolding outer_rook
-outermost men c w s n e = among men c w s n 8 (omega arith) (λ j low high. absurd (omega (arith, low, high))) e
+outermost men c w s n e = among men c w s n 8 (omega arith) (λ j low high. absurd (omega (arith, low, high)))
+    (sym (outer_among men c w) ∙ e)
 
 found_from : (men : Men) (c : Colour) (w : CastlingSide) (s : ℕ) → IsOutermost men c w s → (k : ℕ) → k ≤ 8
     → files_left w s < k → rook_among men c w k ≡ s
@@ -188,8 +191,7 @@ found_from men c w s o (suc k) low past =
     ]
 
 outer_is : (men : Men) (c : Colour) (w : CastlingSide) (s : ℕ) → IsOutermost men c w s → outer_rook men c w ≡ s
-unfolding outer_rook
-outer_is men c w s o = found_from men c w s o 8 (omega arith) (left_few w s)
+outer_is men c w s o = outer_among men c w ∙ found_from men c w s o 8 (omega arith) (left_few w s)
 
 -- ---- what one letter says
 

@@ -1,5 +1,5 @@
 -- On positions of normal chess a FEN is written as for normal chess alone.
-use Rattle.std.proofs.Common.{◌≡◌, ℕ, List, [], ◌∷◌, Option, Some, None, decimal, refl, ap, ◌∙◌}
+use Rattle.std.proofs.Common.{◌≡◌, ℕ, [], ◌∷◌, Option, Some, None, decimal, refl, ap, ◌∙◌}
 use Rattle.std.specs.List.{join_with_byte}
 use Rattle.chess_base.specs.Letters.{space}
 use Rattle.chess_base.specs.declared.man.Colour.{Colour}

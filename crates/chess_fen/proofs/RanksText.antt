@@ -1,7 +1,8 @@
 -- Writing the ranks from the eighth down.
 use Rattle.std.proofs.Common.{◌≡◌, ℕ, zero, suc, ◌-◌, ◌*◌, ◌<◌, List, [], ◌∷◌, ◌++◌, take, drop, Option, ap, ◌∙◌, append_assoc, arith}
 use Rattle.chess_base.specs.declared.man.Man.{Man}
-use Rattle.chess_fen.specs.Writing.{fen_rank, ranks_text}
+use Rattle.chess_fen.specs.Writing.{fen_rank}
+use Rattle.chess_fen.specs.ties.Loops.{ranks_text}
 
 -- where another rank follows
 pub more_ranks : (left : ℕ) (men row : List (Option Man)) (old ranked new whole : List ℕ) → 0 < left - 1

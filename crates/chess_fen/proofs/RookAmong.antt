@@ -1,11 +1,14 @@
 -- The outermost rook, found from the edge on.
-use Rattle.std.proofs.Common.{◌≡◌, ℕ, zero, suc, ◌+◌, true, false, refl, arith}
+use Rattle.std.proofs.Common.{◌≡◌, ℕ, zero, suc, ◌+◌, Bool, true, false, cond, List, [], ◌∷◌, Option, Some, refl, ap, ◌∙◌, arith}
+use Rattle.std.specs.Prelude.{find, unwrap_or}
 use Rattle.chess_base.specs.declared.man.Colour.{Colour}
 use Rattle.chess_base.specs.declared.man.CastlingSide.{CastlingSide}
+use Rattle.chess_base.specs.declared.man.CastlingSide.TheVariants.{KingSide, QueenSide}
 use Rattle.chess_base.specs.declared.man.Kind.TheVariants.{Rook}
 use Rattle.chess_base.specs.Men.{Men, man_at, is_man}
 use Rattle.chess_base.specs.Castling.{home_square}
-use Rattle.chess_fen.specs.RightNames.{edge_file, rook_among}
+use Rattle.chess_fen.specs.RightNames.{nowhere, outer_rook}
+use Rattle.chess_fen.specs.ties.Loops.{edge_file, rook_among}
 
 pub rook_here : (men : Men) (c : Colour) (w : CastlingSide) (left k : ℕ) → k + 1 ≡ left
     → is_man c Rook (man_at men (home_square c (edge_file w k))) ≡ true
@@ -18,3 +21,32 @@ pub no_rook_here : (men : Men) (c : Colour) (w : CastlingSide) (left k : ℕ) �
     → rook_among men c w k ≡ rook_among men c w left
 no_rook_here men c w zero k e h = absurd (omega (arith, e))
 no_rook_here men c w (suc j) k e h = let same : j ≡ k = omega (arith, e) in rw (same, h) refl
+
+-- ---- the whole rank
+
+-- the first rook among these squares
+abbrev first_rook : Men → Colour → List ℕ → Option ℕ
+first_rook men c squares = find (λ s. is_man c Rook (man_at men s)) squares
+
+found_next : (s : ℕ) (o : Option ℕ) (b : Bool) → unwrap_or (cond b (Some s) o) nowhere ≡ cond b s (unwrap_or o nowhere)
+found_next s o true = refl
+found_next s o false = refl
+
+-- the squares of the files that are left
+squares_left : Colour → CastlingSide → ℕ → List ℕ
+squares_left c w zero = []
+squares_left c w (suc k) = home_square c (edge_file w k) ∷ squares_left c w k
+
+found_among : (men : Men) (c : Colour) (w : CastlingSide) (k : ℕ)
+    → unwrap_or (first_rook men c (squares_left c w k)) nowhere ≡ rook_among men c w k
+unfolding squares_left
+found_among men c w zero = refl
+found_among men c w (suc k) =
+    let s = home_square c (edge_file w k) in
+    found_next s (first_rook men c (squares_left c w k)) (is_man c Rook (man_at men s))
+    ∙ ap (cond (is_man c Rook (man_at men s)) s) (found_among men c w k)
+
+pub outer_among : (men : Men) (c : Colour) (w : CastlingSide) → outer_rook men c w ≡ rook_among men c w 8
+unfolding outer_rook squares_left
+outer_among men c KingSide = found_among men c KingSide 8
+outer_among men c QueenSide = found_among men c QueenSide 8

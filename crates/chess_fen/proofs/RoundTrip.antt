@@ -15,38 +15,28 @@ use Rattle.chess_base.specs.declared.man.Colour.TheVariants.{White, Black}
 use Rattle.chess_base.specs.declared.man.Rights.{Rights}
 use Rattle.chess_base.specs.declared.man.Variant.{Variant}
 use Rattle.chess_base.specs.declared.man.Variant.TheVariants.{Normal, Fischerandom}
-use Rattle.chess_fen.specs.RightNames.{right_letter, right_told}
+use Rattle.chess_fen.specs.RightNames.{right_letter, right_by_letters}
 use Rattle.chess_fen.proofs.RightsBack.{Stand, right_back, text_is_castling}
 use Rattle.chess_fen.proofs.SpelledRights.{castling-spelled}
 use Rattle.chess_base.specs.declared.setup.Setup.{Setup}
 use Rattle.chess_fen.specs.ManLetters.{letter, letter_by}
 use Rattle.chess_base.specs.Letters.{white_letter, byte, is_digit, value_after}
 use Rattle.chess_fen.specs.Texts.{number_of, rank_after, rank_of, stacked, placement_of, occurs, may_name_right, is_castling, target_of, fields_of}
-use Rattle.chess_fen.specs.Writing.{run_text, row_text, fen_rank, ranks_down, ranks_text, placement_text, side_text, right_text, or_dash, rights_text, target_text, fen}
+use Rattle.chess_fen.specs.Writing.{run_text, row_text, fen_rank, ranks_down, placement_text, side_text, right_text, or_dash, rights_text, target_text, fen}
+use Rattle.chess_fen.specs.ties.Loops.{ranks_text}
 use Rattle.chess_base.specs.declared.man.CastlingSide.{CastlingSide}
 use Rattle.chess_base.specs.declared.man.CastlingSide.TheVariants.{KingSide, QueenSide}
 use Rattle.chess_base.specs.Men.{Men, man_at, is_man, other, forward, crossed_rank}
 use Rattle.chess_base.specs.Sound.{IsSound, target_is_behind_double_advance_at, target_is_behind_double_advance}
-use Rattle.chess_base.specs.Castling.{home_square, rook_file, right_of, right_is_sound_at, right_is_sound}
+use Rattle.chess_base.specs.Castling.{home_square, rook_file, right_of, right_is_sound}
+use Rattle.chess_base.specs.ties.Splits.{right_is_sound_at}
 use Rattle.std.proofs.lemmas.Bool.{and_parts, eqb-true}
 use Rattle.std.proofs.Math.Seq.{take-add}
-use Rattle.chess_fen.specs.Reading.{Description, side_of, counters_of, letters_of, described_in, description_of, rights_named, setup_from}
+use Rattle.chess_fen.specs.Reading.{side_of, rights_of, setup_in}
 use Rattle.chess_fen.proofs.Ranks.{squares-digit}
 use Rattle.chess_fen.proofs.SpelledRanks.{squares-letter}
 use Rattle.chess_fen.proofs.Lengths.{short_decimal}
 use Rattle.chess_fen.proofs.Joined.{From, From-append, From-weaker, From-join, slice_split-join, fields_of-join}
-
--- what the text of a position describes
-abbrev pub told : Setup → Description
-told p = record {
-  variant = p.variant;
-  men = p.men;
-  side = p.side;
-  letters = rights_text p.variant p.rights;
-  target = p.target;
-  halfmove = p.halfmove;
-  fullmove = p.fullmove;
-}
 
 -- ---- numbers
 
@@ -149,9 +139,9 @@ on_corner men c w (Some s) e =
     ap Some (sym (eqb-true s (home_square c (rook_file w)) inner.0))
 
 -- what is written for the rights of a position is a text of rights, and denotes them
-record Told (v : Variant) (men : Men) (r : Rights) : Type 0 where
+record ReadBack (v : Variant) (men : Men) (r : Rights) : Type 0 where
   letters : is_castling v (rights_text v r) ≡ true
-  rights : (c : Colour) (w : CastlingSide) → right_told v men (rights_text v r) c w ≡ right_of r c w
+  rights : (c : Colour) (w : CastlingSide) → right_by_letters v men (rights_text v r) c w ≡ right_of r c w
 
 record AllStand (v : Variant) (men : Men) (r : Rights) : Type 0 where
   a : right_is_sound_at v men White KingSide r.white.king_side ≡ true
@@ -159,59 +149,44 @@ record AllStand (v : Variant) (men : Men) (r : Rights) : Type 0 where
   c : right_is_sound_at v men Black KingSide r.black.king_side ≡ true
   d : right_is_sound_at v men Black QueenSide r.black.queen_side ≡ true
 
-told_right : (men : Men) (r : Rights) → AllStand Normal men r → (c : Colour) (w : CastlingSide)
-    → right_told Normal men (rights_text Normal r) c w ≡ right_of r c w
-told_right men r s White KingSide = ap (λ b. cond b (Some 7) None)
+right_read : (men : Men) (r : Rights) → AllStand Normal men r → (c : Colour) (w : CastlingSide)
+    → right_by_letters Normal men (rights_text Normal r) c w ≡ right_of r c w
+right_read men r s White KingSide = ap (λ b. cond b (Some 7) None)
     (tells r.white.king_side r.white.queen_side r.black.king_side r.black.queen_side).first
     ∙ on_corner men White KingSide r.white.king_side s.a
-told_right men r s White QueenSide = ap (λ b. cond b (Some 0) None)
+right_read men r s White QueenSide = ap (λ b. cond b (Some 0) None)
     (tells r.white.king_side r.white.queen_side r.black.king_side r.black.queen_side).second
     ∙ on_corner men White QueenSide r.white.queen_side s.b
-told_right men r s Black KingSide = ap (λ b. cond b (Some 63) None)
+right_read men r s Black KingSide = ap (λ b. cond b (Some 63) None)
     (tells r.white.king_side r.white.queen_side r.black.king_side r.black.queen_side).third
     ∙ on_corner men Black KingSide r.black.king_side s.c
-told_right men r s Black QueenSide = ap (λ b. cond b (Some 56) None)
+right_read men r s Black QueenSide = ap (λ b. cond b (Some 56) None)
     (tells r.white.king_side r.white.queen_side r.black.king_side r.black.queen_side).fourth
     ∙ on_corner men Black QueenSide r.black.queen_side s.d
 
-are_told : (v : Variant) (men : Men) (r : Rights) → AllStand v men r → Told v men r
-are_told Normal men r s =
+are_read : (v : Variant) (men : Men) (r : Rights) → AllStand v men r → ReadBack v men r
+are_read Normal men r s =
     record {
       letters = (tells r.white.king_side r.white.queen_side r.black.king_side r.black.queen_side).letters;
-      rights = told_right men r s;
+      rights = right_read men r s;
     }
-are_told Fischerandom men r s =
+are_read Fischerandom men r s =
     let stand : Stand men r = record { a = s.a; b = s.b; c = s.c; d = s.d } in
     record {
       letters = castling-spelled Fischerandom (rights_text Fischerandom r) (text_is_castling men r stand);
       rights = λ c w. right_back men r c w stand;
     }
 
-told_of : (p : Setup) → IsSound p → Told p.variant p.men p.rights
+read_back : (p : Setup) → IsSound p → ReadBack p.variant p.men p.rights
 unfolding right_is_sound
-told_of p h = are_told p.variant p.men p.rights
+read_back p h = are_read p.variant p.men p.rights
     (record { a = h.white_king_side; b = h.white_queen_side; c = h.black_king_side; d = h.black_queen_side })
 
-letters-text : (p : Setup) → IsSound p → letters_of p.variant (rights_text p.variant p.rights)
-    ≡ Some (rights_text p.variant p.rights)
-letters-text p h = ap (λ b. cond b (Some (rights_text p.variant p.rights)) None) (told_of p h).letters
-
-pub rights_back : (p : Setup) → IsSound p → rights_named (told p) ≡ p.rights
-rights_back p h =
-    let t = (told_of p h).rights in
-    rw (t White KingSide, t White QueenSide, t Black KingSide, t Black QueenSide) refl
-
-pub setup-back : (p : Setup) → IsSound p → setup_from (told p) ≡ p
-setup-back p h =
-    ap (λ r. record {
-      variant = p.variant;
-      men = p.men;
-      side = p.side;
-      rights = r;
-      target = p.target;
-      halfmove = p.halfmove;
-      fullmove = p.fullmove;
-    }) (rights_back p h)
+rights-text : (p : Setup) → IsSound p → rights_of p.variant p.men (rights_text p.variant p.rights) ≡ Some p.rights
+rights-text p h =
+    let back = read_back p h in
+    let t = back.rights in
+    rw (back.letters, t White KingSide, t White QueenSide, t Black KingSide, t Black QueenSide) refl
 
 -- a target has rank 3 or 6
 target_rank : (men : Men) (c : Colour) (target : Option ℕ) → target_is_behind_double_advance_at men c target ≡ true
@@ -412,8 +387,8 @@ target_some (Some t) = omega arith
 
 -- ---- the text
 
-pub describing-fen : (p : Setup) → IsSound p → description_of p.variant (fen p) ≡ Ok (told p)
-describing-fen p h =
+pub setup-fen : (p : Setup) → IsSound p → setup_in p.variant (fields_of (fen p)) ≡ Ok p
+setup-fen p h =
     let halfmove : p.halfmove < 1000000 = let e = h.halfmove in grind (arith, nat_tests, e) in
     let fullmove : p.fullmove < 1000000 = let e = h.fullmove_high in grind (arith, nat_tests, e) in
     let some : 0 < p.fullmove = let e = h.fullmove_low in grind (arith, nat_tests, e) in
@@ -449,12 +424,12 @@ describing-fen p h =
       ),
     ) in
     let counted : max p.fullmove 1 ≡ p.fullmove = omega (arith, some) in
-    let numbers : counters_of (decimal p.halfmove ∷ decimal p.fullmove ∷ []) ≡ Some (p.halfmove, p.fullmove) =
-    rw (number-decimal p.halfmove halfmove, number-decimal p.fullmove fullmove, counted) refl in
-    ap (described_in p.variant) fields ∙ rw (
+    ap (setup_in p.variant) fields ∙ rw (
       placement-text p.men h.board,
       side-text p.side,
-      letters-text p h,
+      rights-text p h,
       target-text p.target (target_fits p h),
-      numbers,
+      number-decimal p.halfmove halfmove,
+      number-decimal p.fullmove fullmove,
+      counted,
     ) refl

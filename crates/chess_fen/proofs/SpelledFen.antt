@@ -1,193 +1,187 @@
--- A text is described exactly where it denotes a position, and what its first fault says.
+-- A text is read exactly where it denotes a position, and what its first fault says.
 use Rattle.std.proofs.Common.{◌≡◌, ◌≢◌, ℕ, ◌⊎◌, inl, inr, Bool, true, false, cond, List, [], ◌∷◌, length, Option, Some, None, Result, Ok, Err, refl, sym, ap, subst, ◌∙◌, arith}
-use Rattle.std.specs.Prelude.{max, IsOk, IfOk, IfErr, ◌↔◌}
+use Rattle.std.specs.Prelude.{codes, max, IsOk, IfOk, IfErr, ◌↔◌}
 use Rattle.std.specs.Option.{ok_or}
-use Rattle.chess_base.specs.declared.man.Man.{Man}
 use Rattle.chess_base.specs.declared.man.Colour.{Colour}
 use Rattle.chess_base.specs.declared.man.Colour.TheVariants.{White, Black}
 use Rattle.chess_base.specs.declared.man.CastlingSide.TheVariants.{KingSide, QueenSide}
+use Rattle.chess_base.specs.declared.man.Rights.{Rights}
 use Rattle.chess_base.specs.declared.man.Variant.{Variant}
 use Rattle.chess_base.specs.declared.setup.Setup.{Setup}
+use Rattle.chess_base.specs.Men.{Men}
+use Rattle.chess_base.specs.Castling.{rights_by}
 use Rattle.chess_base.specs.Sound.{IsSound}
 use Rattle.chess_base.specs.Faults.{setup_fault}
 use Rattle.chess_base.proofs.FaultsLemmas.{no_fault_from_IsSound}
 use Rattle.chess_base.specs.declared.fault.FenFault.{FenFault}
 use Rattle.chess_base.specs.declared.fault.FenFault.TheVariants as faults
+use Rattle.chess_fen.specs.RightNames.{right_by_letters}
 use Rattle.chess_fen.specs.Texts.{number_of, placement_of, is_castling, target_of, fields_of}
-use Rattle.chess_fen.specs.Reading.{◌>>=◌, Description, side_of, numbers_of, counters_of, letters_of, described_by, described_in, description_of, setup_from, unless_fault, sound_from, fen_reading_as}
-use Rattle.chess_fen.specs.Spelling.{SpellsCounters, SpellsRights, SpellsFields, SpellsFenAs}
+use Rattle.chess_fen.specs.Reading.{◌>>=◌, side_of, rights_of, setup_by, setup_in, unless_fault, fen_reading_as}
+use Rattle.chess_fen.specs.Spelling.{IsCastling, SpellsCounters, SpellsRights, SpellsFields, SpellsFenAs}
 use Rattle.chess_fen.specs.FenFaults.{IsFieldFault, HasWrongFieldCount, IsMisspelled, IsFaultAs}
-use Rattle.chess_fen.proofs.SpelledRights.{spelled-castling, castling-spelled, spelled-told, told-spelled}
+use Rattle.chess_fen.proofs.SpelledRights.{spelled-castling, castling-spelled, spelled-by_letters, by_letters-spelled}
 use Rattle.chess_fen.proofs.SpelledFields.{spelled-placement, placement-spelled, spelled-side, side-spelled, spelled-target, target-spelled, spelled-number, number-spelled}
 
 -- ---- counters
 
-spelled-counters : (fields : List (List ℕ)) (n : ℕ × ℕ) → counters_of fields ≡ Some n → SpellsCounters fields n.0 n.1
-spelled-counters [] n e = let is : (0, 1) ≡ n =
-    cc in (sym (ap (λ (p : ℕ × ℕ). p.0) is), sym (ap (λ (p : ℕ × ℕ). p.1) is))
-spelled-counters (a ∷ []) n e = absurd cc
-spelled-counters (a ∷ b ∷ []) n e = by_numbers (number_of a) refl (number_of b) refl e
-  where
-    by_numbers : (h : Option ℕ) → number_of a ≡ h → (m : Option ℕ) → number_of b ≡ m → numbers_of h m ≡ Some n
-        → SpellsCounters (a ∷ b ∷ []) n.0 n.1
-    by_numbers (Some h) p (Some m) q e =
-        let is : (h, max m 1) ≡ n = cc in (
-          spelled-number a n.0 (p ∙ ap (λ (r : ℕ × ℕ). Some r.0) is),
-          (m, spelled-number b m q, sym (ap (λ (r : ℕ × ℕ). r.1) is)),
-        )
-    by_numbers (Some h) p None q e = absurd cc
-    by_numbers None p m q e = absurd cc
-spelled-counters (a ∷ b ∷ c ∷ more) n e = absurd cc
+-- the texts h and f of the counters, which the fields `more` give or leave out
+record AreCounters (more : List (List ℕ)) (h f : List ℕ) : Type 0 where
+  read : (n k : ℕ) → number_of h ≡ Some n → number_of f ≡ Some k → SpellsCounters more n (max k 1)
+  spelled : (n m : ℕ) → SpellsCounters more n m
+      → (k : ℕ) × (number_of h ≡ Some n) × (number_of f ≡ Some k) × (m ≡ max k 1)
 
-counters-spelled : (fields : List (List ℕ)) (halfmove fullmove : ℕ) → SpellsCounters fields halfmove fullmove
-    → counters_of fields ≡ Some (halfmove, fullmove)
-counters-spelled [] h f s = ap (λ (k : ℕ). Some (k, 1)) (sym s.0) ∙ ap (λ (k : ℕ). Some (h, k)) (sym s.1)
-counters-spelled (a ∷ []) h f s = absurd s
-counters-spelled (a ∷ b ∷ []) h f s = rw (number-spelled a h s.0, number-spelled b s.1.0 s.1.1)
-    (ap (λ (k : ℕ). Some (h, k)) (sym s.1.2))
-counters-spelled (a ∷ b ∷ c ∷ more) h f s = absurd s
+left_out : AreCounters [] (codes "0") (codes "1")
+left_out = record { read = read; spelled = λ n m s. (1, ap Some (sym s.0), refl, s.1) }
+  where
+    read : (n k : ℕ) → Some 0 ≡ Some n → Some 1 ≡ Some k → SpellsCounters [] n (max k 1)
+    read n k p q = let a : n ≡ 0 = cc in let b : k ≡ 1 = cc in (a, ap (λ j. max j 1) b)
+
+given : (h f : List ℕ) → AreCounters (h ∷ f ∷ []) h f
+given h f = record {
+  read = λ n k p q. (spelled-number h n p, (k, spelled-number f k q, refl));
+  spelled = λ n m s. (s.1.0, number-spelled h n s.0, number-spelled f s.1.0 s.1.1, s.1.2);
+}
 
 -- ---- the fields in turn
 
 -- what is left of the steps
-abbrev with_numbers : Variant → List (Option Man) → Colour → List ℕ → Option ℕ → List (List ℕ)
-    → Result Description FenFault
-with_numbers v men colour letters passed more =
-    ok_or (counters_of more) faults.Counters >>= λ numbers. Ok
+abbrev with_numbers : Variant → Men → Colour → Rights → Option ℕ → Option ℕ → Option ℕ → Result Setup FenFault
+with_numbers v men colour rights passed h f =
+    ok_or h faults.Counters >>= λ clock. ok_or f faults.Counters >>= λ number. Ok
     (record {
       variant = v;
       men = men;
       side = colour;
-      letters = letters;
+      rights = rights;
       target = passed;
-      halfmove = numbers.0;
-      fullmove = numbers.1;
+      halfmove = clock;
+      fullmove = max number 1;
     })
 
-abbrev with_target : Variant → List (Option Man) → Colour → List ℕ → List ℕ → List (List ℕ)
-    → Result Description FenFault
-with_target v men colour letters d more = ok_or (target_of d) faults.EnPassant >>= λ passed. with_numbers v men colour
-    letters passed more
+abbrev with_target : Variant → Men → Colour → Rights → List ℕ → List ℕ → List ℕ → Result Setup FenFault
+with_target v men colour rights d h f = ok_or (target_of d) faults.EnPassant >>= λ passed. with_numbers v men colour
+    rights passed (number_of h) (number_of f)
 
-abbrev with_letters : Variant → List (Option Man) → Colour → List ℕ → List ℕ → List (List ℕ)
-    → Result Description FenFault
-with_letters v men colour c d more = ok_or (letters_of v c) faults.Castling >>= λ letters. with_target v men colour
-    letters d more
+abbrev with_rights : Variant → Men → Colour → List ℕ → List ℕ → List ℕ → List ℕ → Result Setup FenFault
+with_rights v men colour c d h f = ok_or (rights_of v men c) faults.Castling >>= λ rights. with_target v men colour
+    rights d h f
 
-abbrev with_side : Variant → List (Option Man) → List ℕ → List ℕ → List ℕ → List (List ℕ) → Result Description FenFault
-with_side v men b c d more = ok_or (side_of b) faults.Side >>= λ colour. with_letters v men colour c d more
+abbrev with_side : Variant → Men → List ℕ → List ℕ → List ℕ → List ℕ → List ℕ → Result Setup FenFault
+with_side v men b c d h f = ok_or (side_of b) faults.Side >>= λ colour. with_rights v men colour c d h f
 
--- either the fields denote what they describe, or the first that doesn't is the fault
-abbrev Outcome : Variant → List ℕ → List ℕ → List ℕ → List ℕ → List (List ℕ) → Result Description FenFault → Type 0
-Outcome v a b c d more (Ok described) = (described.variant ≡ v) × SpellsFields a b c d more (setup_from described)
+-- either the fields denote the position, or the first that denotes nothing is the fault
+abbrev Outcome : Variant → List ℕ → List ℕ → List ℕ → List ℕ → List (List ℕ) → Result Setup FenFault → Type 0
+Outcome v a b c d more (Ok p) = (p.variant ≡ v) × SpellsFields a b c d more p
 Outcome v a b c d more (Err f) = IsFieldFault v a b c d more f
 
 some_impossible : {A : Type 0} (o : Option A) (x : A) → o ≡ None → o ≡ Some x → ⊥
 some_impossible o x e h = let f = sym e ∙ h in absurd cc
 
-numbers_outcome : (v : Variant) (a b c d : List ℕ) (more : List (List ℕ)) (men : List (Option Man)) (colour : Colour)
-    (passed : Option ℕ) → placement_of a ≡ Some men → side_of b ≡ Some colour → is_castling v c ≡ true
-    → target_of d ≡ Some passed → Outcome v a b c d more (with_numbers v men colour c passed more)
-numbers_outcome v a b c d more men colour passed hm hs hc ht = by_numbers (counters_of more) refl
+numbers_outcome : (v : Variant) (a b c d h f : List ℕ) (more : List (List ℕ)) (men : Men) (colour : Colour)
+    (passed : Option ℕ) → AreCounters more h f → placement_of a ≡ Some men → side_of b ≡ Some colour
+    → is_castling v c ≡ true → target_of d ≡ Some passed
+    → Outcome v a b c d more
+    (with_numbers v men colour (rights_by (right_by_letters v men c)) passed (number_of h) (number_of f))
+numbers_outcome v a b c d h f more men colour passed counters hm hs hc ht =
+    by_numbers (number_of h) refl (number_of f) refl
   where
-    by_numbers : (o : Option (ℕ × ℕ)) → counters_of more ≡ o
-        → Outcome v a b c d more (ok_or o faults.Counters >>= λ numbers. Ok
-        (record {
-          variant = v;
-          men = men;
-          side = colour;
-          letters = c;
-          target = passed;
-          halfmove = numbers.0;
-          fullmove = numbers.1;
-        }))
-    by_numbers None e = (
+    faulty : ((n m : ℕ) → SpellsCounters more n m → ⊥) → IsFieldFault v a b c d more faults.Counters
+    faulty none = (
       (men, spelled-placement a men hm),
       (colour, spelled-side b colour hs),
       spelled-castling v c hc,
       (passed, spelled-target d passed ht),
-      (λ h f s. some_impossible (counters_of more) (h, f) e
-          (counters-spelled more h f s)),
+      none,
     )
-    by_numbers (Some n) e = (
+
+    by_numbers : (o : Option ℕ) → number_of h ≡ o → (u : Option ℕ) → number_of f ≡ u
+        → Outcome v a b c d more (with_numbers v men colour (rights_by (right_by_letters v men c)) passed o u)
+    by_numbers None e u i = faulty (λ n m s. some_impossible (number_of h) n e (counters.spelled n m s).1)
+    by_numbers (Some n) e None i =
+        faulty (λ n m s. let k = counters.spelled n m s in some_impossible (number_of f) k.0 i k.2)
+    by_numbers (Some n) e (Some k) i = (
       refl,
       record {
         men = spelled-placement a men hm;
         side = spelled-side b colour hs;
         rights = record {
           letters = spelled-castling v c hc;
-          white_king_side = spelled-told v men c White KingSide;
-          white_queen_side = spelled-told v men c White QueenSide;
-          black_king_side =
-              spelled-told v men c Black KingSide;
-          black_queen_side = spelled-told v men c Black QueenSide;
+          white_king_side = spelled-by_letters v men c White KingSide;
+          white_queen_side = spelled-by_letters v men c White QueenSide;
+          black_king_side = spelled-by_letters v men c Black KingSide;
+          black_queen_side = spelled-by_letters v men c Black QueenSide;
         };
         target = spelled-target d passed ht;
-        counters = spelled-counters more n e;
+        counters = counters.read n k e i;
       },
     )
 
-target_outcome : (v : Variant) (a b c d : List ℕ) (more : List (List ℕ)) (men : List (Option Man)) (colour : Colour)
-    → placement_of a ≡ Some men → side_of b ≡ Some colour → is_castling v c ≡ true
-    → Outcome v a b c d more (with_target v men colour c d more)
-target_outcome v a b c d more men colour hm hs hc = by_target (target_of d) refl
+target_outcome : (v : Variant) (a b c d h f : List ℕ) (more : List (List ℕ)) (men : Men) (colour : Colour)
+    → AreCounters more h f → placement_of a ≡ Some men → side_of b ≡ Some colour → is_castling v c ≡ true
+    → Outcome v a b c d more (with_target v men colour (rights_by (right_by_letters v men c)) d h f)
+target_outcome v a b c d h f more men colour counters hm hs hc = by_target (target_of d) refl
   where
     by_target : (o : Option (Option ℕ)) → target_of d ≡ o
-        → Outcome v a b c d more (ok_or o faults.EnPassant >>= λ passed. with_numbers v men colour c passed more)
+        → Outcome v a b c d more (ok_or o faults.EnPassant >>= λ passed. with_numbers v men colour
+        (rights_by (right_by_letters v men c)) passed (number_of h) (number_of f))
     by_target None e = (
       (men, spelled-placement a men hm),
       (colour, spelled-side b colour hs),
       spelled-castling v c hc,
       (λ target s. some_impossible (target_of d) target e (target-spelled d target s)),
     )
-    by_target (Some passed) e = numbers_outcome v a b c d more men colour passed hm hs hc e
+    by_target (Some passed) e = numbers_outcome v a b c d h f more men colour passed counters hm hs hc e
 
-letters_outcome : (v : Variant) (a b c d : List ℕ) (more : List (List ℕ)) (men : List (Option Man)) (colour : Colour)
-    → placement_of a ≡ Some men → side_of b ≡ Some colour → Outcome v a b c d more (with_letters v men colour c d more)
-letters_outcome v a b c d more men colour hm hs = by_test (is_castling v c) refl
+rights_outcome : (v : Variant) (a b c d h f : List ℕ) (more : List (List ℕ)) (men : Men) (colour : Colour)
+    → AreCounters more h f → placement_of a ≡ Some men → side_of b ≡ Some colour
+    → Outcome v a b c d more (with_rights v men colour c d h f)
+rights_outcome v a b c d h f more men colour counters hm hs = by_test (is_castling v c) refl
   where
     by_test : (t : Bool) → is_castling v c ≡ t
-        → Outcome v a b c d more (ok_or (cond t (Some c) None) faults.Castling >>= λ letters. with_target v men colour
-        letters d more)
-    by_test true e = target_outcome v a b c d more men colour hm hs e
+        → Outcome v a b c d more
+        (ok_or (cond t (Some (rights_by (right_by_letters v men c))) None) faults.Castling >>= λ rights. with_target v
+        men colour rights d h f)
+    by_test true e = target_outcome v a b c d h f more men colour counters hm hs e
     by_test false e = (
       (men, spelled-placement a men hm),
       (colour, spelled-side b colour hs),
       (λ s. let t = sym e ∙ castling-spelled v c s in absurd cc),
     )
 
-side_outcome : (v : Variant) (a b c d : List ℕ) (more : List (List ℕ)) (men : List (Option Man))
-    → placement_of a ≡ Some men → Outcome v a b c d more (with_side v men b c d more)
-side_outcome v a b c d more men hm = by_side (side_of b) refl
+side_outcome : (v : Variant) (a b c d h f : List ℕ) (more : List (List ℕ)) (men : Men) → AreCounters more h f
+    → placement_of a ≡ Some men → Outcome v a b c d more (with_side v men b c d h f)
+side_outcome v a b c d h f more men counters hm = by_side (side_of b) refl
   where
     by_side : (o : Option Colour) → side_of b ≡ o
-        → Outcome v a b c d more (ok_or o faults.Side >>= λ colour. with_letters v men colour c d more)
+        → Outcome v a b c d more (ok_or o faults.Side >>= λ colour. with_rights v men colour c d h f)
     by_side None e = (
       (men, spelled-placement a men hm),
       (λ colour s. some_impossible (side_of b) colour e
           (side-spelled b colour s)),
     )
-    by_side (Some colour) e = letters_outcome v a b c d more men colour hm e
+    by_side (Some colour) e = rights_outcome v a b c d h f more men colour counters hm e
 
-outcome : (v : Variant) (a b c d : List ℕ) (more : List (List ℕ)) → Outcome v a b c d more (described_by v a b c d more)
-outcome v a b c d more = by_men (placement_of a) refl
+outcome : (v : Variant) (a b c d h f : List ℕ) (more : List (List ℕ)) → AreCounters more h f
+    → Outcome v a b c d more (setup_by v a b c d h f)
+outcome v a b c d h f more counters = by_men (placement_of a) refl
   where
-    by_men : (o : Option (List (Option Man))) → placement_of a ≡ o
-        → Outcome v a b c d more (ok_or o faults.Placement >>= λ men. with_side v men b c d more)
+    by_men : (o : Option Men) → placement_of a ≡ o
+        → Outcome v a b c d more (ok_or o faults.Placement >>= λ men. with_side v men b c d h f)
     by_men None e = (λ men s. some_impossible (placement_of a) men e (placement-spelled a men s))
-    by_men (Some men) e = side_outcome v a b c d more men e
+    by_men (Some men) e = side_outcome v a b c d h f more men counters e
 
 -- ---- the text
 
--- what a text's description says of it
-abbrev pub TextOutcome : Variant → List ℕ → Result Description FenFault → Type 0
-TextOutcome v text (Ok described) = SpellsFenAs v text (setup_from described)
+-- what the reading of a text says of it
+abbrev pub TextOutcome : Variant → List ℕ → Result Setup FenFault → Type 0
+TextOutcome v text (Ok p) = SpellsFenAs v text p
 TextOutcome v text (Err f) = HasWrongFieldCount text f ⊎ IsMisspelled v text f
 
 of_fields : (v : Variant) (text : List ℕ) (a b c d : List ℕ) (more : List (List ℕ))
-    → fields_of text ≡ a ∷ b ∷ c ∷ d ∷ more → (length more ≡ 0) ⊎ (length more ≡ 2) → (r : Result Description FenFault)
+    → fields_of text ≡ a ∷ b ∷ c ∷ d ∷ more → (length more ≡ 0) ⊎ (length more ≡ 2) → (r : Result Setup FenFault)
     → Outcome v a b c d more r → TextOutcome v text r
-of_fields v text a b c d more are count (Ok described) s = (s.0, (a, b, c, d, more, are, s.1))
+of_fields v text a b c d more are count (Ok p) s = (s.0, (a, b, c, d, more, are, s.1))
 of_fields v text a b c d more are count (Err f) s = inr (a, b, c, d, more, are, count, s)
 
 fieldless : (v : Variant) (text : List ℕ) (n : ℕ) → length (fields_of text) ≡ n → n ≢ 4 → n ≢ 6
@@ -195,87 +189,84 @@ fieldless : (v : Variant) (text : List ℕ) (n : ℕ) → length (fields_of text
 fieldless v text n e four six = inl (refl, (λ h. four (sym e ∙ h)), (λ h. six (sym e ∙ h)))
 
 text_outcome_by : (v : Variant) (text : List ℕ) (fields : List (List ℕ)) → fields_of text ≡ fields
-    → TextOutcome v text (described_in v fields)
+    → TextOutcome v text (setup_in v fields)
 text_outcome_by v text [] e = fieldless v text 0 (ap length e) (λ h. omega (arith, h)) (λ h. omega (arith, h))
 text_outcome_by v text (a ∷ []) e = fieldless v text 1 (ap length e) (λ h. omega (arith, h)) (λ h. omega (arith, h))
 text_outcome_by v text (a ∷ b ∷ []) e = fieldless v text 2 (ap length e) (λ h. omega (arith, h)) (λ h. omega (arith, h))
 text_outcome_by v text (a ∷ b ∷ c ∷ []) e =
     fieldless v text 3 (ap length e) (λ h. omega (arith, h)) (λ h. omega (arith, h))
 text_outcome_by v text (a ∷ b ∷ c ∷ d ∷ []) e =
-    of_fields v text a b c d [] e (inl refl) (described_by v a b c d []) (outcome v a b c d [])
+    of_fields v text a b c d [] e (inl refl) (setup_by v a b c d (codes "0") (codes "1"))
+    (outcome v a b c d (codes "0") (codes "1") [] left_out)
 text_outcome_by v text (a ∷ b ∷ c ∷ d ∷ f ∷ []) e =
     fieldless v text 5 (ap length e) (λ h. omega (arith, h)) (λ h. omega (arith, h))
 text_outcome_by v text (a ∷ b ∷ c ∷ d ∷ f ∷ g ∷ []) e =
-    of_fields v text a b c d (f ∷ g ∷ []) e (inr refl) (described_by v a b c d (f ∷ g ∷ []))
-    (outcome v a b c d (f ∷ g ∷ []))
+    of_fields v text a b c d (f ∷ g ∷ []) e (inr refl) (setup_by v a b c d f g)
+    (outcome v a b c d f g (f ∷ g ∷ []) (given f g))
 text_outcome_by v text (a ∷ b ∷ c ∷ d ∷ f ∷ g ∷ h ∷ more) e =
     fieldless v text (length (a ∷ b ∷ c ∷ d ∷ f ∷ g ∷ h ∷ more)) (ap length e) (λ n. omega (arith, n))
     (λ n. omega (arith, n))
 
-pub text_outcome : (v : Variant) (text : List ℕ) → TextOutcome v text (description_of v text)
+pub text_outcome : (v : Variant) (text : List ℕ) → TextOutcome v text (setup_in v (fields_of text))
 text_outcome v text = text_outcome_by v text (fields_of text) refl
 
 -- ---- and back
 
--- what a text that denotes a position describes
-pub record Describes (v : Variant) (text : List ℕ) (p : Setup) : Type 0 where
-  pub described : Description
-  pub is : description_of v text ≡ Ok described
-  pub named : setup_from described ≡ p
-
-abbrev told_by : List ℕ → Setup → Description
-told_by c p = record {
-  variant = p.variant;
-  men = p.men;
-  side = p.side;
-  letters = c;
-  target = p.target;
-  halfmove = p.halfmove;
-  fullmove = p.fullmove;
-}
-
-fields-described : (a b c d : List ℕ) (more : List (List ℕ)) (p : Setup) → SpellsFields a b c d more p
-    → described_by p.variant a b c d more ≡ Ok (told_by c p)
-fields-described a b c d more p s = rw (
-  placement-spelled a p.men s.men,
-  side-spelled b p.side s.side,
-  castling-spelled p.variant c s.rights.letters,
-  target-spelled d p.target s.target,
-  counters-spelled more p.halfmove p.fullmove s.counters,
-) refl
-
-rights-named : (c : List ℕ) (p : Setup) → SpellsRights c p → setup_from (told_by c p) ≡ p
-rights-named c p s =
+rights-spelled : (c : List ℕ) (p : Setup) → SpellsRights c p → rights_of p.variant p.men c ≡ Some p.rights
+rights-spelled c p s =
     rw (
-      told-spelled p.variant p.men c White KingSide p.rights.white.king_side s.white_king_side,
-      told-spelled p.variant p.men c White QueenSide p.rights.white.queen_side s.white_queen_side,
-      told-spelled p.variant p.men c Black KingSide p.rights.black.king_side s.black_king_side,
-      told-spelled p.variant p.men c Black QueenSide p.rights.black.queen_side s.black_queen_side,
+      castling-spelled p.variant c s.letters,
+      by_letters-spelled p.variant p.men c White KingSide p.rights.white.king_side s.white_king_side,
+      by_letters-spelled p.variant p.men c White QueenSide p.rights.white.queen_side s.white_queen_side,
+      by_letters-spelled p.variant p.men c Black KingSide p.rights.black.king_side s.black_king_side,
+      by_letters-spelled p.variant p.men c Black QueenSide p.rights.black.queen_side s.black_queen_side,
     ) refl
 
+fields-spelled : (a b c d h f : List ℕ) (more : List (List ℕ)) (p : Setup) → AreCounters more h f
+    → SpellsFields a b c d more p → setup_by p.variant a b c d h f ≡ Ok p
+fields-spelled a b c d h f more p counters s =
+    let k = counters.spelled p.halfmove p.fullmove s.counters in
+    rw (
+      placement-spelled a p.men s.men,
+      side-spelled b p.side s.side,
+      rights-spelled c p s.rights,
+      target-spelled d p.target s.target,
+      k.1,
+      k.2,
+    )
+    (ap (λ (n : ℕ). Ok (record {
+      variant = p.variant;
+      men = p.men;
+      side = p.side;
+      rights = p.rights;
+      target = p.target;
+      halfmove = p.halfmove;
+      fullmove = n;
+    }))
+    (sym k.3))
+
 in_fields : (a b c d : List ℕ) (more : List (List ℕ)) (p : Setup) → SpellsFields a b c d more p
-    → described_in p.variant (a ∷ b ∷ c ∷ d ∷ more) ≡ Ok (told_by c p)
-in_fields a b c d [] p s = fields-described a b c d [] p s
+    → setup_in p.variant (a ∷ b ∷ c ∷ d ∷ more) ≡ Ok p
+in_fields a b c d [] p s = fields-spelled a b c d (codes "0") (codes "1") [] p left_out s
 in_fields a b c d (f ∷ []) p s = absurd s.counters
-in_fields a b c d (f ∷ g ∷ []) p s = fields-described a b c d (f ∷ g ∷ []) p s
+in_fields a b c d (f ∷ g ∷ []) p s = fields-spelled a b c d f g (f ∷ g ∷ []) p (given f g) s
 in_fields a b c d (f ∷ g ∷ h ∷ more) p s = absurd s.counters
 
-pub described : (v : Variant) (text : List ℕ) (p : Setup) → SpellsFenAs v text p → Describes v text p
-described v text p (is, s) =
-    record {
-      described = told_by s.2 p;
-      is = ap (λ u. description_of u text) (sym is)
-          ∙ (ap (described_in p.variant) s.5 ∙ in_fields s.0 s.1 s.2 s.3 s.4 p s.6);
-      named = rights-named s.2 p s.6.rights;
-    }
+pub setup-spelled : (v : Variant) (text : List ℕ) (p : Setup) → SpellsFenAs v text p
+    → setup_in v (fields_of text) ≡ Ok p
+setup-spelled v text p (is, s) =
+    ap (λ u. setup_in u (fields_of text)) (sym is)
+    ∙ (ap (setup_in p.variant) s.5 ∙ in_fields s.0 s.1 s.2 s.3 s.4 p s.6)
 
 -- ---- reading
 
+-- the position, if it is sound
+abbrev if_sound : Setup → Result Setup FenFault
+if_sound p = unless_fault p (setup_fault p)
+
 pub reading-spelled : (v : Variant) (text : List ℕ) (p : Setup) → SpellsFenAs v text p → IsSound p
     → fen_reading_as v text ≡ Ok p
-reading-spelled v text p s h =
-    let d = described v text p s in
-    ap (λ r. r >>= sound_from) d.is ∙ ap (λ q. unless_fault q (setup_fault q)) d.named
+reading-spelled v text p s h = ap (λ r. r >>= if_sound) (setup-spelled v text p s)
     ∙ ap (unless_fault p) (no_fault_from_IsSound p h)
 
 -- the text denotes what is read, and the fault is true
@@ -284,7 +275,7 @@ ReadingOutcome v text (Ok p) = SpellsFenAs v text p
 ReadingOutcome v text (Err f) = IsFaultAs v text f
 
 pub reading_outcome : (v : Variant) (text : List ℕ) → ReadingOutcome v text (fen_reading_as v text)
-reading_outcome v text = by_description (description_of v text) (text_outcome v text)
+reading_outcome v text = by_setup (setup_in v (fields_of text)) (text_outcome v text)
   where
     by_sound : (p : Setup) → SpellsFenAs v text p → (o : Option FenFault) → setup_fault p ≡ o
         → ReadingOutcome v text (unless_fault p o)
@@ -295,9 +286,9 @@ reading_outcome v text = by_description (description_of v text) (text_outcome v 
     first_two f (inl h) = inl h
     first_two f (inr h) = inr (inl h)
 
-    by_description : (r : Result Description FenFault) → TextOutcome v text r → ReadingOutcome v text (r >>= sound_from)
-    by_description (Ok d) s = by_sound (setup_from d) s (setup_fault (setup_from d)) refl
-    by_description (Err f) s = first_two f s
+    by_setup : (r : Result Setup FenFault) → TextOutcome v text r → ReadingOutcome v text (r >>= if_sound)
+    by_setup (Ok p) s = by_sound p s (setup_fault p) refl
+    by_setup (Err f) s = first_two f s
 
 pub found : (v : Variant) (text : List ℕ) (p : Setup) → fen_reading_as v text ≡ Ok p → SpellsFenAs v text p
 found v text p e = subst (ReadingOutcome v text) e (reading_outcome v text)
@@ -312,12 +303,10 @@ judged setup (Ok p) sound value fault = ap Ok value
     ∙ sym (ap (unless_fault setup) (no_fault_from_IsSound setup (sound.0 refl)))
 judged setup (Err f) sound value fault = ap (unless_fault setup) fault
 
-pub judged-read : (v : Variant) (text : List ℕ) (d : Description) (setup : Setup) (r : Result Setup FenFault)
-    → description_of v text ≡ Ok d → setup ≡ setup_from d → (IsOk r ↔ IsSound setup) → IfOk r (λ p. p ≡ setup)
+pub judged-read : (v : Variant) (text : List ℕ) (setup : Setup) (r : Result Setup FenFault)
+    → Ok setup ≡ setup_in v (fields_of text) → (IsOk r ↔ IsSound setup) → IfOk r (λ p. p ≡ setup)
     → IfErr r (λ f. Some f ≡ setup_fault setup) → r ≡ fen_reading_as v text
-judged-read v text d setup r is made sound value fault =
-    judged setup r sound value fault ∙ sym (ap (λ o. o >>= sound_from) is
-    ∙ ap (λ q. unless_fault q (setup_fault q)) (sym made))
+judged-read v text setup r is sound value fault = judged setup r sound value fault ∙ ap (λ o. o >>= if_sound) is
 
 -- ---- a fault that is true is the one that is found
 
@@ -330,51 +319,66 @@ no_castling : (v : Variant) (c : List ℕ) → (b : Bool) → is_castling v c �
 no_castling v c true e h = absurd (h e)
 no_castling v c false e h = e
 
-misread : (v : Variant) (a b c d : List ℕ) (more : List (List ℕ)) (f : FenFault) → IsFieldFault v a b c d more f
-    → described_by v a b c d more ≡ Err f
-misread v a b c d more faults.Placement h =
-    rw (none_if (placement_of a) (λ men e. h men (spelled-placement a men e))) refl
-misread v a b c d more faults.Side h = rw (
-  placement-spelled a h.0.0 h.0.1,
-  none_if (side_of b) (λ colour e. h.1 colour (spelled-side b colour e)),
+-- with no counters the reading ends with their fault
+unnumbered : (v : Variant) (men : Men) (colour : Colour) (rights : Rights) (passed : Option ℕ) (h f : List ℕ)
+    (more : List (List ℕ)) → AreCounters more h f → ((n m : ℕ) → SpellsCounters more n m → ⊥)
+    → with_numbers v men colour rights passed (number_of h) (number_of f) ≡ Err faults.Counters
+unnumbered v men colour rights passed h f more counters none = by_numbers (number_of h) refl (number_of f) refl
+  where
+    by_numbers : (o : Option ℕ) → number_of h ≡ o → (u : Option ℕ) → number_of f ≡ u
+        → with_numbers v men colour rights passed o u ≡ Err faults.Counters
+    by_numbers None e u i = refl
+    by_numbers (Some n) e None i = refl
+    by_numbers (Some n) e (Some k) i = absurd (none n (max k 1) (counters.read n k e i))
+
+no_rights : (v : Variant) (men : Men) (c : List ℕ) → (IsCastling v c → ⊥) → rights_of v men c ≡ None
+no_rights v men c h = rw (no_castling v c (is_castling v c) refl (λ e. h (spelled-castling v c e))) refl
+
+some_rights : (v : Variant) (men : Men) (c : List ℕ) → IsCastling v c
+    → rights_of v men c ≡ Some (rights_by (right_by_letters v men c))
+some_rights v men c h = rw (castling-spelled v c h) refl
+
+misread : (v : Variant) (a b c d h f : List ℕ) (more : List (List ℕ)) (fault : FenFault) → AreCounters more h f
+    → IsFieldFault v a b c d more fault → setup_by v a b c d h f ≡ Err fault
+misread v a b c d h f more faults.Placement n s =
+    rw (none_if (placement_of a) (λ men e. s men (spelled-placement a men e))) refl
+misread v a b c d h f more faults.Side n s = rw (
+  placement-spelled a s.0.0 s.0.1,
+  none_if (side_of b) (λ colour e. s.1 colour (spelled-side b colour e)),
 ) refl
-misread v a b c d more faults.Castling h =
+misread v a b c d h f more faults.Castling n s =
+    rw (placement-spelled a s.0.0 s.0.1, side-spelled b s.1.0 s.1.1, no_rights v s.0.0 c s.2) refl
+misread v a b c d h f more faults.EnPassant n s =
     rw (
-      placement-spelled a h.0.0 h.0.1,
-      side-spelled b h.1.0 h.1.1,
-      no_castling v c (is_castling v c) refl (λ e. h.2 (spelled-castling v c e)),
+      placement-spelled a s.0.0 s.0.1,
+      side-spelled b s.1.0 s.1.1,
+      some_rights v s.0.0 c s.2,
+      none_if (target_of d) (λ target e. s.3 target (spelled-target d target e)),
     ) refl
-misread v a b c d more faults.EnPassant h =
+misread v a b c d h f more faults.Counters n s =
     rw (
-      placement-spelled a h.0.0 h.0.1,
-      side-spelled b h.1.0 h.1.1,
-      castling-spelled v c h.2,
-      none_if (target_of d) (λ target e. h.3 target (spelled-target d target e)),
-    ) refl
-misread v a b c d more faults.Counters h =
-    rw (
-      placement-spelled a h.0.0 h.0.1,
-      side-spelled b h.1.0 h.1.1,
-      castling-spelled v c h.2,
-      target-spelled d h.3.0 h.3.1,
-      none_if (counters_of more) (λ n e. h.4 n.0 n.1 (spelled-counters more n e)),
-    ) refl
-misread v a b c d more faults.Fields h = absurd h
-misread v a b c d more faults.Kings h = absurd h
-misread v a b c d more faults.Pawns h = absurd h
-misread v a b c d more faults.Men h = absurd h
-misread v a b c d more faults.Check h = absurd h
+      placement-spelled a s.0.0 s.0.1,
+      side-spelled b s.1.0 s.1.1,
+      some_rights v s.0.0 c s.2,
+      target-spelled d s.3.0 s.3.1,
+    )
+    (unnumbered v s.0.0 s.1.0 (rights_by (right_by_letters v s.0.0 c)) s.3.0 h f more n s.4)
+misread v a b c d h f more faults.Fields n s = absurd s
+misread v a b c d h f more faults.Kings n s = absurd s
+misread v a b c d h f more faults.Pawns n s = absurd s
+misread v a b c d h f more faults.Men n s = absurd s
+misread v a b c d h f more faults.Check n s = absurd s
 
 misread_in : (v : Variant) (a b c d : List ℕ) (more : List (List ℕ)) (f : FenFault)
     → (length more ≡ 0) ⊎ (length more ≡ 2) → IsFieldFault v a b c d more f
-    → described_in v (a ∷ b ∷ c ∷ d ∷ more) ≡ Err f
-misread_in v a b c d [] f count h = misread v a b c d [] f h
+    → setup_in v (a ∷ b ∷ c ∷ d ∷ more) ≡ Err f
+misread_in v a b c d [] f count h = misread v a b c d (codes "0") (codes "1") [] f left_out h
 misread_in v a b c d (e ∷ []) f count h = absurd (not_one count)
   where
     not_one : (length (e ∷ []) ≡ 0) ⊎ (length (e ∷ []) ≡ 2) → ⊥
     not_one (inl n) = omega (arith, n)
     not_one (inr n) = omega (arith, n)
-misread_in v a b c d (e ∷ g ∷ []) f count h = misread v a b c d (e ∷ g ∷ []) f h
+misread_in v a b c d (e ∷ g ∷ []) f count h = misread v a b c d e g (e ∷ g ∷ []) f (given e g) h
 misread_in v a b c d (e ∷ g ∷ k ∷ more) f count h = absurd (not_three count)
   where
     not_three : (length (e ∷ g ∷ k ∷ more) ≡ 0) ⊎ (length (e ∷ g ∷ k ∷ more) ≡ 2) → ⊥
@@ -382,7 +386,7 @@ misread_in v a b c d (e ∷ g ∷ k ∷ more) f count h = absurd (not_three coun
     not_three (inr n) = omega (arith, n)
 
 uncounted : (v : Variant) (fields : List (List ℕ)) → length fields ≢ 4 → length fields ≢ 6
-    → described_in v fields ≡ Err faults.Fields
+    → setup_in v fields ≡ Err faults.Fields
 uncounted v [] four six = refl
 uncounted v (a ∷ []) four six = refl
 uncounted v (a ∷ b ∷ []) four six = refl
@@ -393,9 +397,7 @@ uncounted v (a ∷ b ∷ c ∷ d ∷ f ∷ g ∷ []) four six = absurd (six refl
 uncounted v (a ∷ b ∷ c ∷ d ∷ f ∷ g ∷ h ∷ more) four six = refl
 
 pub fault-read : (v : Variant) (text : List ℕ) (f : FenFault) → IsFaultAs v text f → fen_reading_as v text ≡ Err f
-fault-read v text f (inl h) = ap (λ r. r >>= sound_from) (uncounted v (fields_of text) h.1 h.2) ∙ ap Err (sym h.0)
-fault-read v text f (inr (inl h)) = ap (λ r. r >>= sound_from)
-    (ap (described_in v) h.5 ∙ misread_in v h.0 h.1 h.2 h.3 h.4 f h.6 h.7)
-fault-read v text f (inr (inr h)) =
-    let d = described v text h.0 h.1 in
-    ap (λ r. r >>= sound_from) d.is ∙ ap (λ q. unless_fault q (setup_fault q)) d.named ∙ ap (unless_fault h.0) h.2
+fault-read v text f (inl h) = ap (λ r. r >>= if_sound) (uncounted v (fields_of text) h.1 h.2) ∙ ap Err (sym h.0)
+fault-read v text f (inr (inl h)) = ap (λ r. r >>= if_sound)
+    (ap (setup_in v) h.5 ∙ misread_in v h.0 h.1 h.2 h.3 h.4 f h.6 h.7)
+fault-read v text f (inr (inr h)) = ap (λ r. r >>= if_sound) (setup-spelled v text h.0 h.1) ∙ ap (unless_fault h.0) h.2

@@ -1,20 +1,20 @@
 -- Rights are read exactly where they are well written.
-use Rattle.std.proofs.Common.{◌≡◌, ℕ, ◌+◌, ◌<◌, ◌≤◌, ◌⊎◌, inl, inr, Bool, true, false, cond, eqb, leb, ltb, ◌&&◌, List, [], ◌∷◌, length, Option, Some, None, refl, sym, ap, ◌∙◌, arith}
-use Rattle.std.specs.Prelude.{IsSome, IfSome, IsTrue, ◌↔◌}
+use Rattle.std.proofs.Common.{◌≡◌, ℕ, ◌+◌, ◌<◌, ◌≤◌, inl, inr, Bool, true, false, cond, eqb, leb, ltb, ◌&&◌, List, [], ◌∷◌, length, Option, Some, None, refl, sym, ap, ◌∙◌, arith}
+use Rattle.std.specs.Prelude.{codes, IsSome, IfSome, IsTrue, ◌↔◌}
+use Rattle.std.specs.Str.{bytes_eq}
 use Rattle.std.specs.List.{AllByRecursion, list_all}
 use Rattle.std.proofs.lemmas.Bool.{and_parts, and_from, or_cases, or_right}
 use Rattle.std.proofs.lemmas.Bool.Decides.{nat_tests}
-use Rattle.std.proofs.lemmas.List.{nil_from_length}
 use Rattle.std.proofs.lemmas.List.Sums.{sum_by-cons}
-use Rattle.chess_fen.specs.ManLetters.{dash}
-use Rattle.chess_fen.specs.Texts.{times, occurs, may_name_right, names_once, are_letters, is_castling}
+use Rattle.std.proofs.lemmas.Slice.Eq.{bytes_eq-Decides}
+use Rattle.chess_fen.specs.Texts.{times, occurs, may_name_right, names_once, is_castling}
 use Rattle.chess_base.specs.declared.man.Colour.{Colour}
 use Rattle.chess_base.specs.declared.man.CastlingSide.{CastlingSide}
 use Rattle.chess_base.specs.declared.man.Variant.{Variant}
 use Rattle.chess_base.specs.declared.man.Variant.TheVariants.{Normal, Fischerandom}
 use Rattle.chess_base.specs.Men.{Men}
 use Rattle.chess_base.specs.Castling.{home_square, rook_file}
-use Rattle.chess_fen.specs.RightNames.{side_letter, right_named, right_told}
+use Rattle.chess_fen.specs.RightNames.{side_letter, right_named, right_by_letters}
 use Rattle.chess_fen.specs.Spelling.{AreRightLetters, IsCastling, IsHeldBy, IsHeld}
 
 -- ---- how often a letter occurs
@@ -30,6 +30,10 @@ times-later : (c x : ℕ) (xs : List ℕ) → times c xs ≤ times c (x ∷ xs)
 times-later c x xs = omega (arith, times-cons c x xs)
 
 -- ---- the letters
+
+-- one to four letters, each of which may name a right and is there once
+abbrev are_letters : Variant → List ℕ → Bool
+are_letters v text = ltb 0 (length text) && leb (length text) 4 && list_all (names_once v text) text
 
 each_letter : (v : Variant) (whole text : List ℕ) → list_all (names_once v whole) text ≡ true
     → AllByRecursion (λ c. IsTrue (may_name_right v c)) text
@@ -93,22 +97,15 @@ spelled_letters v text s =
     (names_all v text text (λ c. omega arith) s.distinct s.each)
 
 pub spelled-castling : (v : Variant) (text : List ℕ) → is_castling v text ≡ true → IsCastling v text
-spelled-castling v [] e = absurd cc
-spelled-castling v (c ∷ cs) e = by_case (or_cases (eqb c dash && eqb (length cs) 0) (are_letters v (c ∷ cs)) e)
-  where
-    by_case : ((eqb c dash && eqb (length cs) 0) ≡ true) ⊎ (are_letters v (c ∷ cs) ≡ true) → IsCastling v (c ∷ cs)
-    by_case (inl h) =
-        let parts = and_parts (eqb c dash) (eqb (length cs) 0) h in
-        let at : c ≡ dash = grind (arith, nat_tests, parts.0) in
-        let none : length cs ≡ 0 = grind (arith, nat_tests, parts.1) in
-        inl (ap (λ x. x ∷ cs) at ∙ ap (λ xs. dash ∷ xs) (nil_from_length cs none))
-    by_case (inr h) = inr (letters_spelled v (c ∷ cs) h)
+spelled-castling v text e =
+    elim (or_cases (bytes_eq text (codes "-")) (are_letters v text) e) [
+      | inl h ↦ inl ((bytes_eq-Decides text (codes "-")).0 h)
+      | inr h ↦ inr (letters_spelled v text h)
+    ]
 
 pub castling-spelled : (v : Variant) (text : List ℕ) → IsCastling v text → is_castling v text ≡ true
 castling-spelled v text (inl e) = ap (is_castling v) e
-castling-spelled v [] (inr s) = absurd (omega (arith, s.some))
-castling-spelled v (c ∷ cs) (inr s) = or_right (eqb c dash && eqb (length cs) 0) (are_letters v (c ∷ cs))
-    (spelled_letters v (c ∷ cs) s)
+castling-spelled v text (inr s) = or_right (bytes_eq text (codes "-")) (are_letters v text) (spelled_letters v text s)
 
 -- ---- the rights that they name
 
@@ -134,12 +131,12 @@ right-spelled letter text right corner s = named (occurs letter text) right corn
 
 -- ---- in both variants
 
-pub spelled-told : (v : Variant) (men : Men) (text : List ℕ) (c : Colour) (w : CastlingSide)
-    → IsHeld v men text c w (right_told v men text c w)
-spelled-told Normal men text c w = spelled-right (side_letter c w) text (home_square c (rook_file w))
-spelled-told Fischerandom men text c w = refl
+pub spelled-by_letters : (v : Variant) (men : Men) (text : List ℕ) (c : Colour) (w : CastlingSide)
+    → IsHeld v men text c w (right_by_letters v men text c w)
+spelled-by_letters Normal men text c w = spelled-right (side_letter c w) text (home_square c (rook_file w))
+spelled-by_letters Fischerandom men text c w = refl
 
-pub told-spelled : (v : Variant) (men : Men) (text : List ℕ) (c : Colour) (w : CastlingSide) (right : Option ℕ)
-    → IsHeld v men text c w right → right_told v men text c w ≡ right
-told-spelled Normal men text c w right s = right-spelled (side_letter c w) text right (home_square c (rook_file w)) s
-told-spelled Fischerandom men text c w right s = sym s
+pub by_letters-spelled : (v : Variant) (men : Men) (text : List ℕ) (c : Colour) (w : CastlingSide) (right : Option ℕ)
+    → IsHeld v men text c w right → right_by_letters v men text c w ≡ right
+by_letters-spelled Normal men text c w right s = right-spelled (side_letter c w) text right (home_square c (rook_file w)) s
+by_letters-spelled Fischerandom men text c w right s = sym s

@@ -1,4 +1,4 @@
--- The letters of pieces in a FEN (PGN standard of 1994, section 16.1.3.1), and the bytes with a meaning of their own.
+-- The letters of pieces in a FEN (PGN standard of 1994, section 16.1.3.1), and what is between ranks.
 use Rattle.std.specs.Prelude.{ℕ, ◌+◌, ◌==◌, List, [], ◌∷◌, ◌++◌, map, find, Option}
 use Rattle.chess_base.specs.declared.man.Man.{Man}
 use Rattle.chess_base.specs.declared.man.Kind.{Kind}
@@ -10,10 +10,6 @@ use Rattle.chess_base.specs.Letters.{byte, white_letter}
 -- what is between ranks
 abbrev pub stroke : ℕ
 stroke = byte "/"
-
--- what is written for no right and for no target
-abbrev pub dash : ℕ
-dash = byte "-"
 
 -- White's letters are capital, Black's small
 abbrev pub letter_by : Colour → Kind → ℕ

@@ -11,7 +11,7 @@ use Rattle.chess_base.specs.declared.man.Variant.TheVariants.{Normal, Fischerand
 use Rattle.chess_base.specs.declared.man.Colour.{Colour}
 use Rattle.chess_base.specs.declared.man.CastlingSide.{CastlingSide}
 use Rattle.chess_base.specs.Men.{Men}
-use Rattle.chess_fen.specs.RightNames.{side_letter, right_after_letters}
+use Rattle.chess_fen.specs.RightNames.{side_letter, right_by_letters}
 use Rattle.chess_base.specs.Squares.{rank}
 use Rattle.chess_base.specs.Castling.{right_of, home_square, rook_file}
 use Rattle.chess_base.specs.declared.setup.Setup.{Setup}
@@ -64,7 +64,7 @@ IsHeldBy letter text right corner = (IsSome right ↔ IsTrue (occurs letter text
 -- in normal chess by its own letter; in Chess960 it is the one that the letters name, if any does
 abbrev pub IsHeld : Variant → Men → List ℕ → Colour → CastlingSide → Option ℕ → Type 0
 IsHeld Normal men text c w right = IsHeldBy (side_letter c w) text right (home_square c (rook_file w))
-IsHeld Fischerandom men text c w right = right ≡ right_after_letters men c w None text
+IsHeld Fischerandom men text c w right = right ≡ right_by_letters Fischerandom men text c w
 
 -- each right by its letter; so a dash for none
 pub record SpellsRights (text : List ℕ) (p : Setup) : Type 0 where

@@ -1,16 +1,17 @@
 -- What the fields of a FEN stand for (PGN standard of 1994, section 16.1.3). This project's additions to the standard:
 -- several spaces between fields and at both ends, digits of empty squares one after the other, letters of rights in any
 -- order, leading zeros.
-use Rattle.std.specs.Prelude.{ℕ, codes, count_by, ◌+◌, ◌-◌, ◌*◌, Bool, false, ◌&&◌, ◌||◌, List, [], ◌∷◌, ◌++◌, length, replicate, Option, Some, None, nat_lt, nat_le, ◌==◌, if◌then◌else◌, option_and_then}
+use Rattle.std.specs.Prelude.{ℕ, codes, count_by, ◌+◌, ◌-◌, ◌*◌, Bool, ◌&&◌, ◌||◌, List, [], ◌∷◌, ◌++◌, length, replicate, Option, Some, None, nat_lt, nat_le, ◌==◌, if◌then◌else◌, option_and_then}
 use Rattle.std.specs.List.{slice_split, list_all, list_any, filter}
 use Rattle.std.specs.Option.{option_map}
+use Rattle.std.specs.Str.{bytes_eq}
 use Rattle.chess_base.specs.declared.man.Variant.{Variant}
 use Rattle.chess_base.specs.declared.man.Variant.TheVariants.{Normal, Fischerandom}
 use Rattle.chess_base.specs.declared.man.Colour.{Colour}
 use Rattle.chess_base.specs.declared.man.Colour.TheVariants.{White, Black}
 use Rattle.chess_base.specs.declared.man.Man.{Man}
 use Rattle.chess_base.specs.Letters.{byte, space, is_digit, value_after}
-use Rattle.chess_fen.specs.ManLetters.{stroke, dash, man_with_letter}
+use Rattle.chess_fen.specs.ManLetters.{stroke, man_with_letter}
 
 -- ---- numbers
 
@@ -75,24 +76,19 @@ may_name_right Fischerandom letter = occurs letter (codes "KQkq") || names_file 
 abbrev pub names_once : Variant → List ℕ → ℕ → Bool
 names_once v text c = may_name_right v c && (times c text == 1)
 
--- one to four letters, each of which may name a right and is there once
-abbrev pub are_letters : Variant → List ℕ → Bool
-are_letters v text = nat_lt 0 (length text) && nat_le (length text) 4 && list_all (names_once v text) text
-
--- a dash, or one to four letters, none twice
+-- a dash, or one to four letters, each of which may name a right and is there once
 abbrev pub is_castling : Variant → List ℕ → Bool
-is_castling v [] = false
-is_castling v (c ∷ cs) = ((c == dash) && (length cs == 0)) || are_letters v (c ∷ cs)
+is_castling v text = bytes_eq text (codes "-")
+    || (nat_lt 0 (length text) && nat_le (length text) 4 && list_all (names_once v text) text)
 
 -- ---- target
 
 -- the field of the target: a dash for none, or the name of a square on rank 3 or 6
 abbrev pub target_of : List ℕ → Option (Option ℕ)
-target_of [] = None
-target_of (c ∷ []) = if c == dash then Some None else None
+target_of (c ∷ []) = if c == byte "-" then Some None else None
 target_of (f ∷ r ∷ []) = if nat_le (byte "a") f && nat_le f (byte "h")
     && (r == byte "3" || r == byte "6") then Some (Some (8 * (r - byte "1") + (f - byte "a"))) else None
-target_of (f ∷ r ∷ c ∷ cs) = None
+target_of _ = None
 
 -- ---- fields
 

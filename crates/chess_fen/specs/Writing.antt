@@ -2,6 +2,7 @@
 -- position holds it, whether or not it can be captured on; numbers have no leading zeros.
 use Rattle.std.specs.Prelude.{ℕ, zero, suc, ◌+◌, ◌*◌, List, [], ◌∷◌, ◌++◌, map, take, drop, Option, Some, None, decimal, codes}
 use Rattle.std.specs.List.{join_with_byte}
+use Rattle.std.specs.Option.{option_map_or}
 use Rattle.chess_base.specs.declared.man.Man.{Man}
 use Rattle.chess_base.specs.declared.man.Colour.{Colour}
 use Rattle.chess_base.specs.declared.man.Colour.TheVariants.{White, Black}
@@ -34,13 +35,9 @@ abbrev pub ranks_down : ℕ → List (Option Man) → List (List (Option Man))
 ranks_down zero men = []
 ranks_down (suc rank) men = take 8 (drop (8 * rank) men) ∷ ranks_down rank men
 
--- the text of the n lowest ranks, the highest first, with a stroke between
-abbrev pub ranks_text : ℕ → List (Option Man) → List ℕ
-ranks_text n men = join_with_byte stroke (map fen_rank (ranks_down n men))
-
 -- all eight, with a stroke between
 unfoldable pub placement_text : List (Option Man) → List ℕ
-placement_text men = ranks_text 8 men
+placement_text men = join_with_byte stroke (map fen_rank (ranks_down 8 men))
 
 -- the letter of the side on move
 abbrev pub side_text : Colour → List ℕ
@@ -65,8 +62,7 @@ rights_text v r =
 
 -- a dash for none, else the square's name
 abbrev pub target_text : Option ℕ → List ℕ
-target_text None = codes "-"
-target_text (Some square) = square_text square
+target_text target = option_map_or square_text target (codes "-")
 
 -- six fields, with one space between
 abbrev pub fen : Setup → List ℕ

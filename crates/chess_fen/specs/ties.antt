@@ -1,3 +1,3 @@
 -- What only joins code to the definitions: no claim rests on it.
 pub mod Fields
-pub mod Readings
+pub mod Loops

@@ -2,7 +2,8 @@
 
 ghost use Rattle.std.specs.Prelude.{◌≡◌, ◌<◌, None, codes};
 ghost use Rattle.chess_fen.specs.Texts.{occurs, times, may_name_right, first_letter, names_file, is_castling};
-ghost use Rattle.chess_fen.specs.RightNames.{side_letter, right_letter, right_named, edge_file, outer_rook, is_left_of, is_towards, named_square, only_one_of, right_after_letters, right_told};
+ghost use Rattle.chess_fen.specs.RightNames.{side_letter, right_letter, right_named, outer_rook, is_left_of, is_towards, named_square, only_one_of, right_by_letters};
+ghost use Rattle.chess_fen.specs.ties.Loops.{edge_file, right_after_letters};
 ghost use Rattle.chess_base.specs.Castling.{home_square, rook_file};
 
 use chess_base::rules::{home_square, is_man, king_square, rook_file};
@@ -48,7 +49,7 @@ fn may_name_right(variant: Variant, letter: u8) -> bool
 pub(crate) fn is_castling(variant: Variant, text: &[u8]) -> bool
     ensures { result ≡ is_castling variant text.now }
 {
-    if let b"-" = text {
+    if text == b"-".as_slice() {
         return true;
     }
     if text.is_empty() || text.len() > 4 {
@@ -206,14 +207,14 @@ fn right_of_letters(
 }
 
 // The right on that side that the letters name.
-pub(crate) fn right_told(
+pub(crate) fn right_by_letters(
     variant: Variant,
     men: &[Option<Man>; 64],
     letters: &[u8],
     colour: Colour,
     castling_side: CastlingSide,
 ) -> Option<Square>
-    ensures { result ≡ right_told variant men.now letters.now colour castling_side }
+    ensures { result ≡ right_by_letters variant men.now letters.now colour castling_side }
 {
     match variant {
         Variant::Normal => right_named(letters, colour, castling_side),

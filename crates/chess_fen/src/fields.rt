@@ -63,14 +63,15 @@ pub(crate) fn next_part(text: &[u8], separator: u8) -> (&[u8], Option<&[u8]>)
     }
 }
 
-// The fields of a text, with those of the counters where they are given.
+// The six fields of a text; where the counters are left out, they are 0 and 1.
 #[derive(Clone, Copy)]
 pub(crate) struct Fields<'a> {
     pub placement: &'a [u8],
     pub side: &'a [u8],
     pub castling: &'a [u8],
     pub target: &'a [u8],
-    pub counters: Option<(&'a [u8], &'a [u8])>,
+    pub halfmove: &'a [u8],
+    pub fullmove: &'a [u8],
 }
 
 // The fields of a text with four or six of them.
@@ -81,14 +82,14 @@ pub(crate) fn read_fields(text: &[u8]) -> Option<Fields<'_>>
     let (side, rest) = next_field(rest)?;
     let (castling, rest) = next_field(rest)?;
     let (target, rest) = next_field(rest)?;
-    let counters = match next_field(rest) {
-        None => None,
+    let (halfmove, fullmove) = match next_field(rest) {
+        None => (b"0".as_slice(), b"1".as_slice()),
         Some((halfmove, rest)) => {
             let (fullmove, rest) = next_field(rest)?;
             if next_field(rest).is_some() {
                 return None;
             }
-            Some((halfmove, fullmove))
+            (halfmove, fullmove)
         }
     };
     Some(Fields {
@@ -96,6 +97,7 @@ pub(crate) fn read_fields(text: &[u8]) -> Option<Fields<'_>>
         side,
         castling,
         target,
-        counters,
+        halfmove,
+        fullmove,
     })
 }

@@ -1,35 +1,24 @@
 //! Reading a FEN.
 
 ghost use Rattle.std.specs.Prelude.{◌≡◌, IfOk, IfErr};
+ghost use Rattle.chess_base.specs.Castling.{rights_by};
 ghost use Rattle.chess_base.specs.declared.setup.Setup.{Setup};
 ghost use Rattle.chess_base.specs.Sound.{IsSound};
 ghost use Rattle.chess_base.specs.declared.fault.FenFault.{FenFault};
 ghost use Rattle.chess_fen.specs.FenFaults.{IsFault, IsFaultAs};
-ghost use Rattle.chess_fen.specs.Reading.{side_of, counters_of, description_of, rights_named, setup_from, fen_reading, fen_reading_as};
-ghost use Rattle.chess_fen.specs.ties.Readings.{description, IsDescribed};
+ghost use Rattle.chess_fen.specs.Texts.{fields_of};
+ghost use Rattle.chess_fen.specs.RightNames.{right_by_letters};
+ghost use Rattle.chess_fen.specs.Reading.{side_of, rights_of, setup_by, setup_in, fen_reading, fen_reading_as};
 ghost use Rattle.chess_fen.specs.Spelling.{SpellsFen, SpellsFenAs};
-ghost use Rattle.chess_fen.specs.ties.Fields.{counter_fields};
 
-use crate::castling::{is_castling, right_told};
-use crate::fields::read_fields;
+use crate::castling::{is_castling, right_by_letters};
+use crate::fields::{Fields, read_fields};
 use crate::number::read_number;
 use crate::placement::read_placement;
 use crate::target::read_target;
 use chess_base::{
     CastlingSide, Colour, ColourRights, FenFault, Man, Position, Rights, Setup, Square, Variant,
 };
-
-// What the fields of a text denote. The rights are still letters.
-#[derive(Clone, Copy)]
-pub(crate) struct Described<'a> {
-    variant: Variant,
-    men: [Option<Man>; 64],
-    side: Colour,
-    letters: &'a [u8],
-    target: Option<Square>,
-    halfmove: u32,
-    fullmove: u32,
-}
 
 // White or Black, by its letter.
 fn read_side(text: &[u8]) -> Option<Colour>
@@ -42,51 +31,13 @@ fn read_side(text: &[u8]) -> Option<Colour>
     }
 }
 
-// The halfmove clock and the fullmove number.
-fn read_counters(counters: Option<(&[u8], &[u8])>) -> Option<(u32, u32)>
-    ensures { result ≡ counters_of (counter_fields counters.entry) }
-{
-    let Some((halfmove, fullmove)) = counters else {
-        return Some((0, 1));
-    };
-    let halfmove = read_number(halfmove)?;
-    let fullmove = read_number(fullmove)?;
-    Some((halfmove, fullmove.max(1)))
-}
-
-// What the fields of a text denote, or the first field that is wrong.
-fn describe(variant: Variant, text: &[u8]) -> Result<Described<'_>, FenFault>
-    ensures { IsDescribed result (description_of variant text.now) }
-{
-    let fields = read_fields(text).ok_or(FenFault::Fields)?;
-    let men = read_placement(fields.placement).ok_or(FenFault::Placement)?;
-    let side = read_side(fields.side).ok_or(FenFault::Side)?;
-    if !is_castling(variant, fields.castling) {
-        return Err(FenFault::Castling);
-    }
-    let target = read_target(fields.target).ok_or(FenFault::EnPassant)?;
-    let (halfmove, fullmove) = read_counters(fields.counters).ok_or(FenFault::Counters)?;
-    Ok(Described {
-        variant,
-        men,
-        side,
-        letters: fields.castling,
-        target,
-        halfmove,
-        fullmove,
-    })
-}
-
 // The rights that the letters name.
-fn rights_named(described: &Described<'_>) -> Rights
-    ensures { result ≡ rights_named (description described.now) }
+fn rights_by_letters(variant: Variant, men: &[Option<Man>; 64], letters: &[u8]) -> Rights
+    ensures { result ≡ rights_by (right_by_letters variant men.now letters.now) }
 {
-    let variant = described.variant;
-    let men = &described.men;
-    let letters = described.letters;
     let white = ColourRights {
-        king_side: right_told(variant, men, letters, Colour::White, CastlingSide::KingSide),
-        queen_side: right_told(
+        king_side: right_by_letters(variant, men, letters, Colour::White, CastlingSide::KingSide),
+        queen_side: right_by_letters(
             variant,
             men,
             letters,
@@ -95,8 +46,8 @@ fn rights_named(described: &Described<'_>) -> Rights
         ),
     };
     let black = ColourRights {
-        king_side: right_told(variant, men, letters, Colour::Black, CastlingSide::KingSide),
-        queen_side: right_told(
+        king_side: right_by_letters(variant, men, letters, Colour::Black, CastlingSide::KingSide),
+        queen_side: right_by_letters(
             variant,
             men,
             letters,
@@ -107,18 +58,46 @@ fn rights_named(described: &Described<'_>) -> Rights
     Rights { white, black }
 }
 
-// What a text describes, its rights named.
-fn setup_from(described: &Described<'_>) -> Setup
-    ensures { result ≡ setup_from (description described.now) }
+// The rights that the field of rights names.
+fn read_rights(variant: Variant, men: &[Option<Man>; 64], text: &[u8]) -> Option<Rights>
+    ensures { result ≡ rights_of variant men.now text.now }
 {
-    Setup {
-        variant: described.variant,
-        men: described.men,
-        side: described.side,
-        rights: rights_named(described),
-        target: described.target,
-        halfmove: described.halfmove,
-        fullmove: described.fullmove,
+    if is_castling(variant, text) {
+        Some(rights_by_letters(variant, men, text))
+    } else {
+        None
+    }
+}
+
+// The position that the fields denote, sound or not, or the fault of the first that is wrong.
+fn setup_by(variant: Variant, fields: &Fields<'_>) -> Result<Setup, FenFault>
+    ensures { result ≡ setup_by variant fields.now.placement.now fields.now.side.now fields.now.castling.now
+        fields.now.target.now fields.now.halfmove.now fields.now.fullmove.now }
+{
+    let men = read_placement(fields.placement).ok_or(FenFault::Placement)?;
+    let side = read_side(fields.side).ok_or(FenFault::Side)?;
+    let rights = read_rights(variant, &men, fields.castling).ok_or(FenFault::Castling)?;
+    let target = read_target(fields.target).ok_or(FenFault::EnPassant)?;
+    let halfmove = read_number(fields.halfmove).ok_or(FenFault::Counters)?;
+    let fullmove = read_number(fields.fullmove).ok_or(FenFault::Counters)?;
+    Ok(Setup {
+        variant,
+        men,
+        side,
+        rights,
+        target,
+        halfmove,
+        fullmove: fullmove.max(1),
+    })
+}
+
+// The position that a text denotes, sound or not, or the first fault.
+fn read_setup(variant: Variant, text: &[u8]) -> Result<Setup, FenFault>
+    ensures { result ≡ setup_in variant (fields_of text.now) }
+{
+    match read_fields(text) {
+        None => Err(FenFault::Fields),
+        Some(fields) => setup_by(variant, &fields),
     }
 }
 
@@ -127,8 +106,8 @@ fn spelled_position(variant: Variant, text: &[u8]) -> Result<Position, FenFault>
     ensures value { result ≡ fen_reading_as variant text.now }
     ensures sound { IfOk result IsSound }
 {
-    match describe(variant, text) {
-        Ok(described) => Position::new(setup_from(&described)),
+    match read_setup(variant, text) {
+        Ok(setup) => Position::new(setup),
         Err(fault) => Err(fault),
     }
 }

@@ -13,9 +13,10 @@ use Rattle.chess_base.specs.declared.man.Move.{Move}
 use Rattle.chess_base.specs.declared.setup.Setup.{Setup}
 use Rattle.chess_base.specs.Attacks.{attacks, is_in_check}
 use Rattle.chess_base.specs.Men.{is_of, man_at, other, same_colour, same_kind, is_man, first_rank}
-use Rattle.chess_base.specs.Moves.{is_legal, is_pseudo_legal, after, moves_as, castles_or_moves, man_moves, pawn_moves, pawn_advances, pawn_captures, promotion_fits}
+use Rattle.chess_base.specs.Moves.{is_legal, is_pseudo_legal, after, moves_as, man_moves, pawn_moves, pawn_advances, pawn_captures, promotion_fits}
+use Rattle.chess_base.specs.ties.Splits.{castles_or_moves, names_castling}
 use Rattle.chess_base.specs.declared.castling.Castle.{Castle}
-use Rattle.chess_base.specs.Castling.{castling, names_castling, says_castling, castled_king_file, castle_of, home_square, king_home_file, right_of}
+use Rattle.chess_base.specs.Castling.{castling, says_castling, castled_king_file, castle_of, home_square, king_home_file, right_of}
 use Rattle.chess_base.specs.Squares.{rank}
 use Rattle.chess_base.proofs.MenFacts.{same_colour-true, is_none-None}
 use Rattle.chess_base.proofs.Landing.{says_from_castling}

@@ -11,7 +11,8 @@ use Rattle.chess_base.specs.declared.man.Variant.TheVariants.{Normal}
 use Rattle.chess_base.specs.declared.setup.Setup.{Setup}
 use Rattle.chess_base.specs.Attacks.{is_in_check}
 use Rattle.chess_base.specs.Coordinates.{coordinate}
-use Rattle.chess_base.specs.Castling.{castling, says_castling, names_castling, right_of, home_square, king_home_file, castled_king_file}
+use Rattle.chess_base.specs.Castling.{castling, says_castling, right_of, home_square, king_home_file, castled_king_file}
+use Rattle.chess_base.specs.ties.Splits.{names_castling}
 use Rattle.chess_base.specs.Men.{man_at, is_man, same_kind}
 use Rattle.chess_base.specs.Moves.{after}
 use Rattle.chess_base.specs.MoveList.{all_triples, moves}

@@ -2,6 +2,7 @@
 -- these is the definition of the same name without `normal_`, with castling named by the king's squares: from the
 -- e-file to the g-file or the c-file.
 use Rattle.std.specs.Prelude.{◌≡◌, ℕ, ◌==◌, nat_lt, Bool, false, true, not, ◌&&◌, Option, Some, None, is_some, if◌then◌else◌}
+use Rattle.std.specs.Option.{option_map, option_map_or}
 use Rattle.chess_base.specs.declared.castling.Castle.{Castle}
 use Rattle.chess_base.specs.declared.steps.Steps.{Steps}
 use Rattle.chess_base.specs.declared.man.Colour.{Colour}
@@ -14,9 +15,9 @@ use Rattle.chess_base.specs.declared.man.Variant.TheVariants.{Normal}
 use Rattle.chess_base.specs.declared.setup.Setup.{Setup}
 use Rattle.chess_base.specs.Men.{Men, man_at, is_man, same_colour, same_kind, other}
 use Rattle.chess_base.specs.Attacks.{is_in_check}
-use Rattle.chess_base.specs.Castling.{right_of, rook_file, king_home_file, home_square, right_is_sound, castled_king_file, castle_by, mover_to, rook_from, rook_to}
+use Rattle.chess_base.specs.Castling.{right_of, rook_file, king_home_file, home_square, right_is_sound, castled_king_file, castle_by, castles}
 use Rattle.chess_base.specs.Steps.{men_stepped}
-use Rattle.chess_base.specs.Moves.{pawn_moves, is_en_passant, behind, castles_or_moves, man_that_lands, rights_after, target_after, halfmove_after, fullmove_after, is_legal, after}
+use Rattle.chess_base.specs.Moves.{pawn_moves, is_en_passant, behind, man_moves, man_that_lands, rights_after, target_after, halfmove_after, fullmove_after, is_legal, after}
 
 abbrev pub normal_right_is_sound_at : Men → Colour → CastlingSide → Option ℕ → Bool
 normal_right_is_sound_at men c w None = true
@@ -41,8 +42,9 @@ normal_castle_of p m = castle_by p.side p.rights m (normal_castling p m)
 abbrev pub normal_moves_as : Setup → Move → Option Man → Bool
 normal_moves_as p m None = false
 normal_moves_as p m (Some x) =
-    same_colour p.side x.colour && (if same_kind Pawn x.kind then pawn_moves p m else castles_or_moves p m
-    (normal_castle_of p m))
+    same_colour p.side x.colour
+    && (if same_kind Pawn x.kind then pawn_moves p m else option_map_or (castles p m) (normal_castle_of p m)
+    (man_moves p m))
 
 unfoldable pub normal_has_pattern : Setup → Move → Bool
 normal_has_pattern p m = nat_lt m.from 64 && nat_lt m.to 64 && normal_moves_as p m (man_at p.men m.from)
@@ -50,10 +52,11 @@ normal_has_pattern p m = nat_lt m.from 64 && nat_lt m.to 64 && normal_moves_as p
 abbrev pub normal_steps_of : Setup → Move → Steps
 normal_steps_of p m = record {
   from = m.from;
-  second_from = if is_en_passant p m then Some (behind p.side m.to) else rook_from (normal_castle_of p m);
-  second_to = rook_to (normal_castle_of p m);
+  second_from = if is_en_passant p m then Some (behind p.side m.to) else option_map (λ k. k.rook_from)
+      (normal_castle_of p m);
+  second_to = option_map (λ k. k.rook_to) (normal_castle_of p m);
   second = Some (record { colour = p.side; kind = Rook });
-  to = mover_to m (normal_castle_of p m);
+  to = option_map_or (λ k. k.king_to) (normal_castle_of p m) m.to;
   mover = man_that_lands (man_at p.men m.from) m.promotion;
 }
 

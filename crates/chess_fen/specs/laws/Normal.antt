@@ -1,9 +1,10 @@
 -- FEN as it is defined for normal chess alone (PGN standard of 1994, section 16.1): rights are named by the letters K,
 -- Q, k and q, and king and rook of each are at home. Nothing here takes a variant; what FEN says of pieces, side,
 -- target and counters is shared.
-use Rattle.std.specs.Prelude.{ℕ, ◌==◌, nat_lt, nat_le, Bool, false, not, ◌&&◌, ◌||◌, List, [], ◌∷◌, ◌++◌, length, decimal, codes, Option, Some, None, Result, Ok, Err, if◌then◌else◌}
+use Rattle.std.specs.Prelude.{ℕ, max, ◌==◌, nat_lt, nat_le, Bool, not, ◌&&◌, ◌||◌, List, [], ◌∷◌, ◌++◌, length, decimal, codes, Option, Some, None, Result, Ok, Err, if◌then◌else◌}
 use Rattle.std.specs.List.{list_all, join_with_byte}
 use Rattle.std.specs.Option.{ok_or}
+use Rattle.std.specs.Str.{bytes_eq}
 use Rattle.chess_base.specs.declared.fault.FenFault.{FenFault}
 use Rattle.chess_base.specs.declared.fault.FenFault.TheVariants as faults
 use Rattle.chess_base.specs.declared.man.Colour.TheVariants.{White, Black}
@@ -17,10 +18,9 @@ use Rattle.chess_base.specs.Letters.{byte, space}
 use Rattle.chess_base.specs.Men.{other}
 use Rattle.chess_base.specs.Sound.{has_one_king, no_pawn_on_end_ranks, has_at_most_16, target_is_behind_double_advance}
 use Rattle.chess_base.specs.laws.Normal.{normal_right_is_sound_at}
-use Rattle.chess_fen.specs.ManLetters.{dash}
-use Rattle.chess_fen.specs.Reading.{◌>>=◌, side_of, counters_of, unless_fault}
+use Rattle.chess_fen.specs.Reading.{◌>>=◌, side_of, unless_fault}
 use Rattle.chess_fen.specs.RightNames.{right_named}
-use Rattle.chess_fen.specs.Texts.{placement_of, target_of, fields_of, occurs, times}
+use Rattle.chess_fen.specs.Texts.{placement_of, target_of, number_of, fields_of, occurs, times}
 use Rattle.chess_fen.specs.Writing.{placement_text, side_text, target_text, or_dash}
 
 -- ---- written
@@ -48,14 +48,8 @@ normal_names_once text c = occurs c (codes "KQkq") && (times c text == 1)
 
 -- a dash, or one to four of these letters, none twice
 abbrev pub normal_is_castling : List ℕ → Bool
-normal_is_castling [] = false
-normal_is_castling (c ∷ cs) =
-    ((c == dash) && (length cs == 0))
-    || (nat_lt 0 (length (c ∷ cs)) && nat_le (length (c ∷ cs)) 4 && list_all (normal_names_once (c ∷ cs)) (c ∷ cs))
-
--- the field of rights, if it is one
-abbrev pub normal_letters_of : List ℕ → Option (List ℕ)
-normal_letters_of text = if normal_is_castling text then Some text else None
+normal_is_castling text = bytes_eq text (codes "-")
+    || (nat_lt 0 (length text) && nat_le (length text) 4 && list_all (normal_names_once text) text)
 
 -- the rights that letters name: the rooks are on h1 and a1, h8 and a8
 abbrev pub normal_rights_named : List ℕ → Rights
@@ -70,28 +64,33 @@ normal_rights_named letters = record {
   };
 }
 
+-- the same, if the field of rights is one
+abbrev pub normal_rights_of : List ℕ → Option Rights
+normal_rights_of text = if normal_is_castling text then Some (normal_rights_named text) else None
+
 -- the position that the fields denote; the first field that is wrong is the fault
-abbrev pub normal_setup_by : List ℕ → List ℕ → List ℕ → List ℕ → List (List ℕ) → Result Setup FenFault
-normal_setup_by placement side castling target counters = do
+abbrev pub normal_setup_by : List ℕ → List ℕ → List ℕ → List ℕ → List ℕ → List ℕ → Result Setup FenFault
+normal_setup_by placement side castling target halfmove fullmove = do
   men ← ok_or (placement_of placement) faults.Placement
   colour ← ok_or (side_of side) faults.Side
-  letters ← ok_or (normal_letters_of castling) faults.Castling
+  rights ← ok_or (normal_rights_of castling) faults.Castling
   passed ← ok_or (target_of target) faults.EnPassant
-  numbers ← ok_or (counters_of counters) faults.Counters
+  clock ← ok_or (number_of halfmove) faults.Counters
+  number ← ok_or (number_of fullmove) faults.Counters
   Ok (record {
     variant = Normal;
     men = men;
     side = colour;
-    rights = normal_rights_named letters;
+    rights = rights;
     target = passed;
-    halfmove = numbers.0;
-    fullmove = numbers.1;
+    halfmove = clock;
+    fullmove = max number 1;
   })
 
--- four fields, or six
+-- six fields, or four, and then the counters are 0 and 1
 abbrev pub normal_setup_in : List (List ℕ) → Result Setup FenFault
-normal_setup_in (a ∷ b ∷ c ∷ d ∷ []) = normal_setup_by a b c d []
-normal_setup_in (a ∷ b ∷ c ∷ d ∷ e ∷ f ∷ []) = normal_setup_by a b c d (e ∷ f ∷ [])
+normal_setup_in (a ∷ b ∷ c ∷ d ∷ []) = normal_setup_by a b c d (codes "0") (codes "1")
+normal_setup_in (a ∷ b ∷ c ∷ d ∷ e ∷ f ∷ []) = normal_setup_by a b c d e f
 normal_setup_in _ = Err faults.Fields
 
 -- each right that is there has king and rook at home

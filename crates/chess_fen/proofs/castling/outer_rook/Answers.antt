@@ -1,12 +1,10 @@
 -- No rook is on the files already passed, so the first rook among those left is the outermost of all (RookAmong).
-use Rattle.std.proofs.Common.{◌-◌, ◌∙◌, sym, refl, arith}
-use Rattle.chess_fen.specs.RightNames.{outer_rook}
-use Rattle.chess_fen.proofs.RookAmong.{rook_here, no_rook_here}
+use Rattle.std.proofs.Common.{◌-◌, ◌∙◌, sym, arith}
+use Rattle.chess_fen.proofs.RookAmong.{rook_here, no_rook_here, outer_among}
 use Rattle.chess_fen.proofs.castling.outer_rook.Goals as goal
 
 pub loop-left-init : goal.loop-left-init
-unfolding outer_rook
-loop-left-init c = refl
+loop-left-init c = sym (outer_among c.args.men.now c.args.colour c.args.castling_side)
 
 pub returns-then-is_man : goal.returns-then-is_man
 returns-then-is_man c =

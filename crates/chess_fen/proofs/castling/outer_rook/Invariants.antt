@@ -1,5 +1,6 @@
 use Rattle.std.proofs.Common.{◌≡◌}
-use Rattle.chess_fen.specs.RightNames.{rook_among, outer_rook}
+use Rattle.chess_fen.specs.RightNames.{outer_rook}
+use Rattle.chess_fen.specs.ties.Loops.{rook_among}
 use Rattle.chess_fen.proofs.castling.outer_rook.Given as goal
 
 -- what is left gives the whole

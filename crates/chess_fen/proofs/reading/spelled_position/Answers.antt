@@ -1,8 +1,7 @@
-use Rattle.chess_fen.specs.ties.Readings.{description}
 use Rattle.chess_fen.proofs.SpelledFen.{judged-read}
 use Rattle.chess_fen.proofs.reading.spelled_position.Goals as goal
 
 pub returns-in-Ok-clause-value : goal.returns-in-Ok-clause-value
 returns-in-Ok-clause-value c =
-    judged-read c.args.variant c.args.text.now (description c.in-Ok.described) c.setup_from.result c.new.result
-    c.in-Ok.ensures c.setup_from.ensures c.new.ensures.sound c.new.ensures.value c.new.ensures.fault
+    judged-read c.args.variant c.args.text.now c.in-Ok.setup c.new.result c.in-Ok.ensures c.new.ensures.sound
+    c.new.ensures.value c.new.ensures.fault
