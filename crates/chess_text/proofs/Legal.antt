@@ -1,6 +1,7 @@
 -- What each legal move has.
 use Rattle.std.proofs.Common.{◌≡◌, ℕ, ◌<◌, Bool, true, false, ◌&&◌, ◌||◌, not, cond, Option, Some, None, is_none, refl, sym, ap, ◌∙◌, ◌==◌, nat_lt}
 use Rattle.std.specs.Prelude.{IfSome}
+use Rattle.std.specs.Option.{option_map}
 use Rattle.std.proofs.lemmas.Bool.{and_parts, ltb-true, eqb-true}
 use Rattle.chess_base.specs.declared.man.CastlingSide.{CastlingSide}
 use Rattle.chess_base.specs.declared.man.Colour.{Colour}
@@ -23,7 +24,7 @@ use Rattle.chess_base.proofs.TakesBack.{castles_unpromoted}
 use Rattle.chess_text.specs.declared.described.Described.{Described}
 use Rattle.chess_text.specs.laws.Laws.{CanPromote}
 use Rattle.chess_text.specs.ties.Forms.{castling_end}
-use Rattle.chess_text.specs.Moves.{captures, described, described_as}
+use Rattle.chess_text.specs.Moves.{captures, described}
 
 -- what a text can say of a move of that piece
 abbrev pub told_of : Setup → Move → Kind → Described
@@ -35,6 +36,10 @@ told_of p m k = record {
   captures = captures p m;
   castles = castling p m;
 }
+
+-- the same of the piece, if there is one
+abbrev pub described_by : Setup → Move → Option Man → Option Described
+described_by p m o = option_map (λ (x : Man). told_of p m x.kind) o
 
 -- by the kind of piece: a pawn's move, or one without a promotion
 abbrev pub MovesAs : Setup → Move → Kind → Type 0
@@ -152,4 +157,4 @@ legal_move p m e =
 
 pub described_is : (p : Setup) (m : Move) (h : IsMove p m) → described p m ≡ Some (told_of p m h.man)
 unfolding described
-described_is p m h = ap (described_as p m) h.at_from
+described_is p m h = ap (described_by p m) h.at_from

@@ -9,6 +9,7 @@ pub mod AllMoves
 pub mod Marks
 pub mod Told
 pub mod Pawns
+pub mod PieceText
 pub mod Alone
 pub mod CoordinateLaw
 pub mod Solid

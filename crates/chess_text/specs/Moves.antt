@@ -1,14 +1,14 @@
 -- The texts of moves: which moves a text denotes (PGN standard of 1994, section 8.2.3). This project's additions to the
 -- standard: castling with the digit 0, a promotion in a small letter or without `=`, a capture without `x`, more of the
 -- start square than is needed, and any run of marks.
-use Rattle.std.specs.Prelude.{ℕ, ◌==◌, Bool, true, false, not, ◌&&◌, ◌||◌, if◌then◌else◌, List, [], ◌∷◌, Option, Some, None, is_some, is_none, IsTrue, codes}
+use Rattle.std.specs.Prelude.{ℕ, ◌==◌, Bool, true, false, not, ◌&&◌, ◌||◌, if◌then◌else◌, List, [], ◌∷◌, Option, is_some, is_none, IsTrue, codes}
 use Rattle.std.specs.List.{list_any, filter}
+use Rattle.std.specs.Option.{option_eq, option_map, option_map_or}
 use Rattle.std.specs.Str.{bytes_eq}
 use Rattle.chess_base.specs.declared.man.CastlingSide.{CastlingSide}
 use Rattle.chess_base.specs.declared.man.CastlingSide.TheVariants.{KingSide, QueenSide}
 use Rattle.chess_base.specs.declared.man.Kind.{Kind}
 use Rattle.chess_base.specs.declared.man.Kind.TheVariants.{Pawn}
-use Rattle.chess_base.specs.declared.man.Man.{Man}
 use Rattle.chess_base.specs.declared.man.Move.{Move}
 use Rattle.chess_base.specs.declared.setup.Setup.{Setup}
 use Rattle.chess_base.specs.Men.{man_at, is_of, other, same_kind}
@@ -29,52 +29,40 @@ use Rattle.chess_text.specs.Parts.{unmarked, has_parts}
 unfoldable pub captures : Setup → Move → Bool
 captures p m = is_of (other p.side) (man_at p.men m.to) || is_en_passant p m
 
--- the description of a move of the piece on its start square, if there is one
-abbrev pub described_as : Setup → Move → Option Man → Option Described
-described_as p m None = None
-described_as p m (Some x) =
-    Some (record {
+-- the description of a move in a position: the piece on its start square, both squares, the promotion, whether it
+-- captures, and to which side it castles; nothing where no piece is there
+unfoldable pub described : Setup → Move → Option Described
+described p m =
+    option_map (λ x. record {
       man = x.kind;
       from = m.from;
       to = m.to;
       promotion = m.promotion;
       captures = captures p m;
       castles = castling p m;
-    })
-
--- the description of a move in a position: the piece on its start square, both squares, the promotion, whether it
--- captures, and to which side it castles; nothing where no piece is there
-unfoldable pub described : Setup → Move → Option Described
-described p m = described_as p m (man_at p.men m.from)
+    }) (man_at p.men m.from)
 
 -- ---- the forms of a text
 
 -- if the text names a file or rank, it is this one
 abbrev pub admits : Option ℕ → ℕ → Bool
-admits None n = true
-admits (Some told) n = told == n
+admits told n = option_map_or (λ t. t == n) told true
 
 -- the text names it
 abbrev pub names : Option ℕ → ℕ → Bool
-names None n = false
-names (Some told) n = told == n
+names told n = option_map_or (λ t. t == n) told false
 
 -- the text names this kind of piece
 abbrev pub names_kind : Option Kind → Kind → Bool
-names_kind None k = false
-names_kind (Some told) k = same_kind told k
+names_kind told k = option_map_or (λ t. same_kind t k) told false
 
 -- with a promotion only moves with that promotion are denoted, without one only moves without
 abbrev pub promotes_so : Option Promotion → Option Kind → Bool
-promotes_so None None = true
-promotes_so None (Some k) = false
-promotes_so (Some told) None = false
-promotes_so (Some told) (Some k) = same_kind told.kind k
+promotes_so told o = option_eq same_kind (option_map (λ t. t.kind) told) o
 
 -- the promotion is written with `=`
 abbrev pub has_equals : Option Promotion → Bool
-has_equals None = false
-has_equals (Some told) = told.equals
+has_equals told = option_map_or (λ t. t.equals) told false
 
 -- any piece from one square to another, castling too; a promotion is written without `=`
 unfoldable pub is_by_squares : Parts → Described → Bool
@@ -120,8 +108,7 @@ is_castling_text text w = list_any (bytes_eq (unmarked text)) (castling_texts w)
 
 -- something is there, and passes the test
 abbrev pub passes : {A : Type 0} → (A → Bool) → Option A → Bool
-passes test None = false
-passes test (Some x) = test x
+passes test o = option_map_or test o false
 
 -- the text has a move's shape: castling's, or that of parts of a form
 unfoldable pub shape : List ℕ → Bool
@@ -137,18 +124,18 @@ spells p text m = passes (spells_described text) (described p m)
 
 -- ---- reading
 
--- what a text is that denotes these legal moves
+-- the reading of a text that denotes just these legal moves
 abbrev pub one_of : List Move → Reading
 one_of [] = reads.NoSuch
 one_of (m ∷ []) = reads.Move m
 one_of (m ∷ n ∷ ms) = reads.Ambiguous
 
--- what a text is in a position, by the legal moves that it denotes: one is the move, several are ambiguous, none is no
--- such move. What has no move's shape is no move
+-- the reading of a text in a position: without a move's shape it is no move; else it is the one legal move that it
+-- denotes, ambiguous if it denotes several, and no such move if it denotes none
 unfoldable pub reading : Setup → List ℕ → Reading
 reading p text = if shape text then one_of (filter (λ m. spells p text m) (moves p)) else reads.NotAMove
 
--- what was read has a move's shape
+-- the text that was read so has a move's shape
 abbrev pub has_shape : Reading → Bool
 has_shape reads.NotAMove = false
 has_shape _ = true
