@@ -104,11 +104,11 @@ no_promotion p m None e =
     is_none-None m.promotion (and_parts (is_none m.promotion) (attacks p.men m.from m.to) two.0).0
 no_promotion p m (Some k) e = castles_unpromoted p m k e
 
-abbrev officer_moves : Setup → Move → Bool
-officer_moves p m = castles_or_moves p m (castle_of p m)
+abbrev lettered_moves : Setup → Move → Bool
+lettered_moves p m = castles_or_moves p m (castle_of p m)
 
 kind_moves : (p : Setup) (m : Move) (k : Kind) → man_at p.men m.from ≡ Some (record { colour = p.side; kind = k })
-    → cond (same_kind Pawn k) (pawn_moves p m) (officer_moves p m) ≡ true → MovesAs p m k
+    → cond (same_kind Pawn k) (pawn_moves p m) (lettered_moves p m) ≡ true → MovesAs p m k
 kind_moves p m Pawn at e = (e, pawn_castles_not p m at (castling p m) refl)
 kind_moves p m King at e = no_promotion p m (castle_of p m) e
 kind_moves p m Queen at e = no_promotion p m (castle_of p m) e
@@ -132,7 +132,7 @@ move_by : (p : Setup) (m : Move) (o : Option Man) → man_at p.men m.from ≡ o 
 move_by p m None at f t e = absurd cc
 move_by p m (Some x) at f t e =
     let both = and_parts (same_colour p.side x.colour)
-    (cond (same_kind Pawn x.kind) (pawn_moves p m) (officer_moves p m)) e in
+    (cond (same_kind Pawn x.kind) (pawn_moves p m) (lettered_moves p m)) e in
     let own : x.colour ≡ p.side = sym (same_colour-true p.side x.colour both.0) in
     let at' : man_at p.men m.from ≡ Some (record { colour = p.side; kind = x.kind }) =
     at ∙ ap (λ (c : Colour). let man : Man = record { colour = c; kind = x.kind } in Some man) own in

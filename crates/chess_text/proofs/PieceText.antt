@@ -11,7 +11,8 @@ use Rattle.chess_base.specs.Squares.{file, rank}
 use Rattle.chess_text.specs.declared.described.Described.{Described}
 use Rattle.chess_text.specs.declared.parts.Promotion.{Promotion}
 use Rattle.chess_text.specs.declared.writing.Disambiguation.{Disambiguation}
-use Rattle.chess_text.specs.Parts.{when, kind_text, file_text, rank_text, promotion_text, parts_text}
+use Rattle.chess_text.specs.Parts.{when, kind_text, file_text, rank_text}
+use Rattle.chess_text.specs.ties.Fitting.{promotion_text, parts_text}
 use Rattle.chess_text.specs.San.{start_text, piece_text}
 use Rattle.chess_text.specs.ties.SanParts.{some_on_file, some_on_rank, distinction, disambiguate, if_written, pawn_parts, lettered_parts, piece_parts}
 

@@ -18,7 +18,8 @@ use Rattle.chess_text.specs.declared.described.Described.{Described}
 use Rattle.chess_text.specs.declared.form.Form.{Form}
 use Rattle.chess_text.specs.declared.form.Form.TheVariants.{Castling, Piece}
 use Rattle.chess_text.specs.declared.parts.Parts.{Parts}
-use Rattle.chess_text.specs.Moves.{described, is_by_squares, is_by_letter, is_straight, is_from_file, parts_fit, passes}
+use Rattle.chess_text.specs.Moves.{described, passes}
+use Rattle.chess_text.specs.ties.Fitting.{is_by_squares, is_by_letter, is_straight, is_from_file, parts_fit}
 use Rattle.chess_text.specs.ties.Forms.{same_side, form_fits, is_spelled, castling_end, end_square, spelled_with}
 use Rattle.chess_text.proofs.Alone.{castled}
 use Rattle.chess_text.proofs.AllMoves.{filter-both, none-kept, kept, alone-square}

@@ -2,7 +2,7 @@
 use Rattle.std.proofs.Common.{◌≡◌, ◌≢◌, ℕ, Bool, true, false, not, cond, List, [], ◌∷◌, refl, ap, arith}
 use Rattle.std.proofs.lemmas.Bool.{eqb-true, eq-eqb}
 use Rattle.chess_base.specs.Squares.{file, rank}
-use Rattle.chess_text.specs.Moves.{admits}
+use Rattle.chess_text.specs.ties.Fitting.{admits}
 use Rattle.chess_text.specs.ties.SanParts.{some_on_file, some_on_rank, distinction, disambiguate, if_written}
 
 -- the start itself is as written

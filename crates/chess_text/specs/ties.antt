@@ -2,3 +2,4 @@
 pub mod Forms
 pub mod Reader
 pub mod SanParts
+pub mod Fitting

@@ -26,7 +26,8 @@ use Rattle.chess_text.specs.ties.Reader.{parts_at}
 use Rattle.chess_moves.specs.Sets.{has}
 use Rattle.chess_text.specs.declared.reading.Reading.{Reading}
 use Rattle.chess_text.specs.declared.reading.Reading.TheVariants as reads
-use Rattle.chess_text.specs.Moves.{admits, captures, castling_texts, described, parts_fit, is_form, names, passes}
+use Rattle.chess_text.specs.Moves.{captures, castling_texts, described, passes}
+use Rattle.chess_text.specs.ties.Fitting.{admits, parts_fit, is_form, names}
 
 -- the side of the castling that a text without marks names
 abbrev pub castling_named : List ℕ → Option CastlingSide
