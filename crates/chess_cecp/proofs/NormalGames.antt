@@ -3,6 +3,7 @@
 use Rattle.std.proofs.Common.{◌≡◌, ℕ, ◌+◌, ◌==◌, cond, nat_le, Bool, true, false, ◌&&◌, ◌||◌, List, [], ◌∷◌, ◌++◌, length, codes, Option, None, Some, is_some, refl, sym, ap, ◌∙◌, if◌then◌else◌}
 use Rattle.std.specs.Prelude.{count_by}
 use Rattle.std.specs.List.{list_any}
+use Rattle.std.specs.Option.{option_map_or}
 use Rattle.std.specs.Str.{bytes_eq}
 use Rattle.std.proofs.lemmas.List.Sums.{sum_by-cons}
 use Rattle.chess_base.specs.declared.man.Move.{Move}
@@ -21,8 +22,10 @@ use Rattle.chess_text.specs.laws.Normal.{normal_moves, normal_san}
 use Rattle.chess_text.proofs.NormalTexts.{normal_kept as texts_kept}
 use Rattle.chess_game.specs.declared.ends.Verdict.{Verdict}
 use Rattle.chess_game.specs.declared.ends.Verdict.TheVariants.{Stalemate, InsufficientMaterial, FivefoldRepetition, SeventyFiveMoves}
-use Rattle.chess_game.specs.Ends.{is_bare, mates, verdict, claims}
-use Rattle.chess_game.specs.Game.{State, is_over, outcome_by, outcome_now}
+use Rattle.chess_game.specs.declared.results.Declared.{Declared}
+use Rattle.chess_game.specs.declared.results.Outcome.TheVariants.{Unfinished}
+use Rattle.chess_game.specs.Ends.{has_insufficient_material, mates, verdict, verdict_outcome, claims}
+use Rattle.chess_game.specs.Game.{State, is_over, outcome_now}
 use Rattle.chess_game.specs.Line.{line, last}
 use Rattle.chess_game.specs.Results.{outcome_text}
 use Rattle.chess_game.specs.Same.{live_target, same, same_men, same_rights, same_square, rep}
@@ -99,7 +102,7 @@ rep_kept p e ms =
 judged : Setup → List Move → ℕ → Option Verdict
 judged p ms n =
     if length ms == 0 then (if is_in_check p.men p.side then Some (mates (other p.side)) else Some Stalemate)
-    else if is_bare p.men then Some InsufficientMaterial
+    else if has_insufficient_material p.men then Some InsufficientMaterial
     else if nat_le 5 n then Some FivefoldRepetition
     else if nat_le 150 p.halfmove then Some SeventyFiveMoves
     else None
@@ -121,7 +124,9 @@ pub over_kept : (s : State) → s.start.variant ≡ Normal → is_over s ≡ nor
 over_kept s e = ap (λ v. is_some v || is_some s.declared) (verdict_kept s.start e s.moves)
 
 pub outcome_kept : (s : State) → s.start.variant ≡ Normal → outcome_now s ≡ normal_outcome_now s
-outcome_kept s e = ap (λ v. outcome_by v s.declared) (verdict_kept s.start e s.moves)
+outcome_kept s e =
+    ap (λ v. option_map_or verdict_outcome v (option_map_or (λ (d : Declared). d.outcome) s.declared Unfinished))
+    (verdict_kept s.start e s.moves)
 
 -- ---- the text
 

@@ -1,11 +1,11 @@
 //! A session: one game, and the answers to lines.
 
-ghost use Rattle.std.specs.Prelude.{◌≡◌, ◌≤◌, [], if◌then◌else◌, IfOk, false, length, codes};
+ghost use Rattle.std.specs.Prelude.{◌≡◌, ◌≢◌, ◌≤◌, [], if◌then◌else◌, Some, IfOk, false, length, codes};
 ghost use Rattle.byte_devices.specs.Devices.{Sends};
 ghost use Rattle.chess_base.specs.MoveList.{moves};
 ghost use Rattle.chess_fen.specs.Reading.{fen_reading_as};
 ghost use Rattle.chess_fen.specs.Writing.{fen};
-ghost use Rattle.chess_game.specs.Game.{current, is_over, IsPlayable};
+ghost use Rattle.chess_game.specs.Game.{current, is_over, refusal_now, IsPlayable};
 ghost use Rattle.chess_cecp.specs.Held.{opened_session, game_held};
 ghost use Rattle.chess_pgn.specs.GameText.{pgn};
 ghost use Rattle.chess_game.specs.Results.{cut_comment};
@@ -27,7 +27,7 @@ use crate::lines::Line;
 use byte_devices::{Output, WriteFault, put};
 use chess_base::{Position, Variant};
 use chess_fen::{read_fen_as, write_fen};
-use chess_game::{Comment, Game, Outcome};
+use chess_game::{Comment, Game, Outcome, PlayRefusal};
 use chess_moves::Board;
 use chess_pgn::{Tags, write_pgn};
 use chess_text::{Reading, read_move};
@@ -112,16 +112,15 @@ impl<B: Board> Session<B> {
         read_move(self.game.board(), text)
     }
 
-    // Whether the game is over, found with the help of a legal move if one was read.
-    fn is_over(&self, read: &Reading) -> bool
+    // Why no move at all is played, if none is; found with the help of a legal move if one was read.
+    fn refusal(&self, read: &Reading) -> Option<PlayRefusal>
         requires { IsLegalReading (current self.now.state) read.now }
-        ensures { result ≡ is_over self.now.state }
+        ensures value { result ≡ refusal_now (game_held self.now) }
+        ensures possible { result ≢ Some PlayRefusal.Illegal }
     {
         match read {
-            Reading::Move(m) => {
-                self.game.declared().is_some() || self.game.verdict_of_moving(m).is_some()
-            }
-            Reading::Ambiguous | Reading::NoSuch | Reading::NotAMove => self.game.is_over(),
+            Reading::Move(m) => self.game.refusal_of_moving(m),
+            Reading::Ambiguous | Reading::NoSuch | Reading::NotAMove => self.game.refusal(),
         }
     }
 
@@ -134,13 +133,15 @@ impl<B: Board> Session<B> {
         ensures next { self.new ≡ after_row self.old (move_row self.old.limit self.old.state text.now) }
         ensures text { answer.new.items ≡ (move_row self.old.limit self.old.state text.now).text }
     {
-        if self.is_over(&read) {
-            write_line(answer, b"Illegal move (game over): ", text);
-            return;
-        }
-        if self.game.is_full() {
-            write_line(answer, b"Error (game too long): ", text);
-            return;
+        match self.refusal(&read) {
+            Some(PlayRefusal::Over) => {
+                return write_line(answer, b"Illegal move (game over): ", text);
+            }
+            Some(PlayRefusal::TooLong) => {
+                return write_line(answer, b"Error (game too long): ", text);
+            }
+            Some(PlayRefusal::Illegal) => unreachable!(),
+            None => {}
         }
         match read {
             Reading::Move(m) => {

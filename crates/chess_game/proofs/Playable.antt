@@ -1,5 +1,6 @@
 -- Where a move may be played, the game is not over, there is room, and the move is legal.
-use Rattle.std.proofs.Common.{◌≡◌, Bool, true, false, not, None, Some, refl, if◌then◌else◌}
+use Rattle.std.proofs.Common.{◌≡◌, Bool, true, false, None, Some, refl, if◌then◌else◌}
+use Rattle.std.specs.Option.{option_or}
 use Rattle.chess_base.specs.declared.man.Move.{Move}
 use Rattle.chess_base.specs.Moves.{is_legal}
 use Rattle.chess_game.specs.Game.{Seen, current, is_over, is_full, play_refusal}
@@ -10,8 +11,8 @@ pub record MayPlay (o f l : Bool) : Type 0 where
   pub room : f ≡ false
   pub legal : l ≡ true
 
-by_tests : (o f l : Bool) → (if o then Some Over else if f then Some TooLong else if not l then Some Illegal else None)
-    ≡ None → MayPlay o f l
+by_tests : (o f l : Bool) → option_or (if o then Some Over else if f then Some TooLong else None)
+    (if l then None else Some Illegal) ≡ None → MayPlay o f l
 by_tests true f l h = absurd cc
 by_tests false true l h = absurd cc
 by_tests false false false h = absurd cc

@@ -13,7 +13,8 @@ use Rattle.chess_base.specs.Men.{Men, man_at, is_man, same_colour, same_kind}
 use Rattle.chess_base.specs.Sound.{IsSound}
 use Rattle.chess_base.specs.Squares.{some_below, some_square}
 use Rattle.chess_moves.specs.Sets.{has}
-use Rattle.chess_game.specs.Ends.{is_kind, is_pawn_rook_or_queen}
+use Rattle.chess_game.specs.Ends.{is_kind}
+use Rattle.chess_game.specs.ties.Material.{is_pawn_rook_or_queen}
 
 -- ---- over lists
 

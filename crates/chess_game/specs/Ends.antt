@@ -2,6 +2,7 @@
 -- and what a player may claim (articles 9.2 and 9.3).
 use Rattle.std.specs.Prelude.{ℕ, ◌+◌, ◌%◌, ◌==◌, nat_le, Bool, false, not, ◌&&◌, ◌||◌, if◌then◌else◌, List, length, count_by, codes, Option, None, Some}
 use Rattle.std.specs.List.{list_any}
+use Rattle.std.specs.Option.{option_map_or}
 use Rattle.chess_base.specs.declared.man.Colour.{Colour}
 use Rattle.chess_base.specs.declared.man.Colour.TheVariants.{White, Black}
 use Rattle.chess_base.specs.declared.man.Kind.{Kind}
@@ -27,16 +28,7 @@ square_colour s = if (file s + rank s) % 2 == 0 then Black else White
 
 -- a piece of this kind is there
 abbrev pub is_kind : Kind → Option Man → Bool
-is_kind k None = false
-is_kind k (Some x) = same_kind k x.kind
-
--- with a pawn, a rook or a queen on the board, material alone makes no dead position
-abbrev pub is_pawn_rook_or_queen : Option Man → Bool
-is_pawn_rook_or_queen o = is_kind Pawn o || is_kind Rook o || is_kind Queen o
-
--- a minor piece is there: a bishop or a knight
-abbrev pub is_minor : Option Man → Bool
-is_minor o = is_kind Bishop o || is_kind Knight o
+is_kind k o = option_map_or (λ x. same_kind k x.kind) o false
 
 -- a bishop is on a square of this colour
 unfoldable pub has_bishop_on : Colour → Men → Bool
@@ -44,10 +36,10 @@ has_bishop_on c men = some_square (λ s. same_colour c (square_colour s) && is_k
 
 -- no pawn, rook or queen, and at most one bishop or knight in all, or no knight and all bishops on squares of one
 -- colour (5.2.2): the dead positions by material alone; others are not judged
-unfoldable pub is_bare : Men → Bool
-is_bare men =
-    not (list_any is_pawn_rook_or_queen men)
-    && (nat_le (count_by is_minor men) 1 || (not (list_any (is_kind Knight) men)
+unfoldable pub has_insufficient_material : Men → Bool
+has_insufficient_material men =
+    not (list_any (λ o. is_kind Pawn o || is_kind Rook o || is_kind Queen o) men)
+    && (nat_le (count_by (λ o. is_kind Bishop o || is_kind Knight o) men) 1 || (not (list_any (is_kind Knight) men)
     && not (has_bishop_on White men && has_bishop_on Black men)))
 
 -- the verdict that the side of this colour mates
@@ -55,13 +47,13 @@ abbrev pub mates : Colour → Verdict
 mates White = WhiteMates
 mates Black = BlackMates
 
--- the first end that holds at the end of the line: without a legal move mate in check, else stalemate; bare material;
+-- the first end that holds at the end of the line: without a legal move mate in check, else stalemate; insufficient material;
 -- the position for the fifth time; 75 moves of each side, 150 half-moves, without a pawn move or capture
 unfoldable pub verdict : Setup → List Move → Option Verdict
 verdict start ms =
     let p = last start ms in
     if length (moves p) == 0 then (if is_in_check p.men p.side then Some (mates (other p.side)) else Some Stalemate)
-    else if is_bare p.men then Some InsufficientMaterial
+    else if has_insufficient_material p.men then Some InsufficientMaterial
     else if nat_le 5 (rep start ms) then Some FivefoldRepetition
     else if nat_le 150 p.halfmove then Some SeventyFiveMoves
     else None

@@ -1,5 +1,6 @@
 -- A game: where it started, the current moves, and what was declared. All else follows from these.
 use Rattle.std.specs.Prelude.{◌≡◌, ℕ, ◌-◌, ◌≤◌, ◌<◌, ◌||◌, not, nat_le, Bool, false, if◌then◌else◌, List, [], ◌∷◌, ◌++◌, length, take, slice_get, Option, None, Some, is_some, Result, Ok, Err}
+use Rattle.std.specs.Option.{option_map_or, option_or}
 use Rattle.chess_base.specs.declared.man.Move.{Move}
 use Rattle.chess_base.specs.declared.setup.Setup.{Setup}
 use Rattle.chess_base.specs.Moves.{is_legal}
@@ -40,15 +41,9 @@ verdict_now s = verdict s.start s.moves
 abbrev pub is_over : State → Bool
 is_over s = is_some (verdict_now s) || is_some s.declared
 
--- the outcome of the verdict, else of the declared result, else none yet
-abbrev pub outcome_by : Option Verdict → Option Declared → Outcome
-outcome_by (Some v) d = verdict_outcome v
-outcome_by None (Some d) = d.outcome
-outcome_by None None = Unfinished
-
--- the outcome of a game in its present state
+-- the outcome of a game in its present state: that of the verdict, else of the declared result, else none yet
 abbrev pub outcome_now : State → Outcome
-outcome_now s = outcome_by (verdict_now s) s.declared
+outcome_now s = option_map_or verdict_outcome (verdict_now s) (option_map_or (λ d. d.outcome) s.declared Unfinished)
 
 -- a game from this start, with no moves and nothing declared
 abbrev pub from_start : Setup → State
@@ -78,13 +73,13 @@ opened limit = record { limit = limit; state = from_start initial_setup }
 abbrev pub is_full : Seen → Bool
 is_full g = nat_le g.limit (length g.state.moves)
 
+-- why no move at all is played, if none is: the game is over, or else the limit allows no more half-moves
+abbrev pub refusal_now : Seen → Option PlayRefusal
+refusal_now g = if is_over g.state then Some Over else if is_full g then Some TooLong else None
+
 -- why a move is not played, if it is not: the first reason
 abbrev pub play_refusal : Seen → Move → Option PlayRefusal
-play_refusal g m =
-    if is_over g.state then Some Over
-    else if is_full g then Some TooLong
-    else if not (is_legal (current g.state) m) then Some Illegal
-    else None
+play_refusal g m = option_or (refusal_now g) (if is_legal (current g.state) m then None else Some Illegal)
 
 -- refused, if there is a reason
 abbrev pub unless_refused : {E : Type 0} → Option E → Result (Unit {0}) E
@@ -110,8 +105,7 @@ after_take_back g = if nat_le 1 (length g.state.moves) then at g (taken_back g.s
 
 -- there is a verdict, and its outcome is another
 abbrev pub is_other : Option Verdict → Outcome → Bool
-is_other None o = false
-is_other (Some v) o = not (same_outcome (verdict_outcome v) o)
+is_other verdict o = option_map_or (λ v. not (same_outcome (verdict_outcome v) o)) verdict false
 
 -- the game after a result was declared, unless there is a verdict with another outcome
 abbrev pub after_declare : Seen → Declared → Seen

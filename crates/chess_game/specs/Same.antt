@@ -1,6 +1,7 @@
 -- When two positions are the same, and how often a position occurred (Laws of Chess 2023, article 9.2.3).
-use Rattle.std.specs.Prelude.{ℕ, ◌==◌, Bool, true, false, ◌&&◌, if◌then◌else◌, List, count_by, Option, None, Some}
+use Rattle.std.specs.Prelude.{ℕ, ◌==◌, Bool, ◌&&◌, if◌then◌else◌, List, count_by, Option, None}
 use Rattle.std.specs.List.{list_any}
+use Rattle.std.specs.Option.{option_eq}
 use Rattle.chess_base.specs.declared.man.Man.{Man}
 use Rattle.chess_base.specs.declared.man.Move.{Move}
 use Rattle.chess_base.specs.declared.man.Rights.{Rights}
@@ -14,9 +15,7 @@ use Rattle.chess_game.specs.Line.{line, last}
 
 -- pieces of the same kind and colour are there, or none is
 abbrev pub same_man : Option Man → Option Man → Bool
-same_man None None = true
-same_man (Some x) (Some y) = same_colour x.colour y.colour && same_kind x.kind y.kind
-same_man _ _ = false
+same_man o r = option_eq (λ x y. same_colour x.colour y.colour && same_kind x.kind y.kind) o r
 
 -- on each square
 unfoldable pub same_men : Men → Men → Bool
@@ -24,9 +23,7 @@ same_men men others = each_square (λ s. same_man (man_at men s) (man_at others 
 
 -- it is the same square, or both are none
 abbrev pub same_square : Option ℕ → Option ℕ → Bool
-same_square None None = true
-same_square (Some s) (Some t) = s == t
-same_square _ _ = false
+same_square o r = option_eq (λ s t. s == t) o r
 
 -- the rights of a colour are the same
 abbrev pub same_colour_rights : ColourRights → ColourRights → Bool

@@ -3,3 +3,4 @@ pub mod PlayedMoves
 pub mod Buckets
 pub mod Packed
 pub mod Captures
+pub mod Material

@@ -3,7 +3,8 @@
 ghost use Rattle.std.specs.Prelude.{◌≡◌, ◌≤◌, ◌<◌, Some, length, count_by};
 ghost use Rattle.std.specs.List.{list_any};
 ghost use Rattle.chess_base.specs.Sound.{IsSound};
-ghost use Rattle.chess_game.specs.Ends.{is_kind, is_pawn_rook_or_queen, is_minor, has_bishop_on, is_bare, square_colour, mates, verdict_outcome, verdict_comment};
+ghost use Rattle.chess_game.specs.Ends.{is_kind, has_bishop_on, has_insufficient_material, square_colour, mates, verdict_outcome, verdict_comment};
+ghost use Rattle.chess_game.specs.ties.Material.{is_pawn_rook_or_queen, is_minor};
 
 use crate::packed::squares_of;
 use crate::results::Outcome;
@@ -161,10 +162,11 @@ fn minor_count(men: &[Option<Man>; 64]) -> usize
     men.iter().filter(|man| is_minor(**man)).count()
 }
 
-// Whether the pieces are too few to mate with.
-#[tactic(auto, unfolding(crate::specs::Ends::is_bare))]
-pub(crate) fn is_bare<B: Board>(board: &B) -> bool
-    ensures { result ≡ is_bare (B.position board.now).men }
+// Whether there is no pawn, rook or queen, and at most one bishop or knight, or bishops alone, all on squares of one
+// colour: no moves lead from there to a mate.
+#[tactic(auto, unfolding(crate::specs::Ends::has_insufficient_material))]
+pub(crate) fn has_insufficient_material<B: Board>(board: &B) -> bool
+    ensures { result ≡ has_insufficient_material (B.position board.now).men }
 {
     let men = &board.setup().men;
     !has_pawn_rook_or_queen(board)

@@ -1,6 +1,6 @@
 //! One game: the current moves, and the positions that they gave.
 
-ghost use Rattle.std.specs.Prelude.{false, ◌≡◌, ◌≤◌, ◌<◌, ◌+◌, ◌↔◌, IsTrue, IsFalse, IsNone, IsOk, IsErr, IfOk, OnOk, OnErr, Err, None, Some, [], ◌∷◌, ◌++◌, length, take, slice_get, nat_le, nat_lt};
+ghost use Rattle.std.specs.Prelude.{false, ◌≡◌, ◌≢◌, ◌≤◌, ◌<◌, ◌+◌, ◌↔◌, IsTrue, IsFalse, IsNone, IsOk, IsErr, IfOk, OnOk, OnErr, Err, None, Some, [], ◌∷◌, ◌++◌, length, take, slice_get, nat_le, nat_lt};
 ghost use Rattle.chess_base.specs.MoveList.{moves};
 ghost use Rattle.chess_base.specs.Moves.{is_legal};
 ghost use Rattle.chess_game.specs.declared.game.TheConstants.{MOST_MOVES};
@@ -8,12 +8,12 @@ ghost use Rattle.std.specs.Option.{option_map};
 ghost use Rattle.chess_game.specs.Line.{last};
 ghost use Rattle.chess_game.specs.Same.{rep};
 ghost use Rattle.chess_game.specs.Ends.{verdict, claims};
-ghost use Rattle.chess_game.specs.Game.{at, from_start, with_declared, current, verdict_now, outcome_now, opened, is_over, is_full, play_refusal, unless_refused, after_play, last_move, after_take_back, declare_refusal, after_declare, IsPlayable};
+ghost use Rattle.chess_game.specs.Game.{at, from_start, with_declared, current, verdict_now, outcome_now, opened, is_over, is_full, refusal_now, play_refusal, unless_refused, after_play, last_move, after_take_back, declare_refusal, after_declare, IsPlayable};
 ghost use Rattle.chess_game.specs.ties.PlayedMoves.{moves_of, Follows, IsKept};
 ghost use Rattle.chess_game.specs.ties.Buckets.{HaveEntries};
 ghost use Rattle.chess_game.specs.declared.repetition.Hashed.{Hashed};
 
-use crate::ends::{Claims, Verdict, is_bare, mates};
+use crate::ends::{Claims, Verdict, has_insufficient_material, mates};
 use crate::index::{Entry, Index};
 use crate::repetition::Hashed;
 use crate::results::{Comment, Declared, Outcome};
@@ -110,7 +110,7 @@ fn verdict_of_moving<B: Board>(board: &B, played_moves: &[PlayedMove]) -> Option
     ensures { (start : Hashed) → IsKept B.word_of start played_moves.now (B.position board.now)
         → HaveEntries start played_moves.now → result ≡ verdict start.position (moves_of played_moves.now) }
 {
-    if is_bare(board) {
+    if has_insufficient_material(board) {
         Some(Verdict::InsufficientMaterial)
     } else if repetitions(played_moves) >= 5 {
         Some(Verdict::FivefoldRepetition)
@@ -193,11 +193,8 @@ impl<B: Board> Game<B> {
         ensures undeclared { OnOk result (IsNone self.new.state.declared) }
         ensures kept { (self.new.limit ≡ self.old.limit) × (self.new.state.start ≡ self.old.state.start) }
     {
-        if self.is_over() {
-            return Err(PlayRefusal::Over);
-        }
-        if self.is_full() {
-            return Err(PlayRefusal::TooLong);
+        if let Some(refusal) = self.refusal() {
+            return Err(refusal);
         }
         // The prover wants two variables here: one move is lent, and one is given away.
         let judged = m;
@@ -417,6 +414,41 @@ impl<B: Board> Game<B> {
         ensures { result ≡ is_over self.now.state }
     {
         self.declared.is_some() || self.verdict().is_some()
+    }
+
+    // Why no move at all is played, by whether the game is over.
+    #[inline(always)]
+    fn refusal_by(&self, over: bool) -> Option<PlayRefusal>
+        requires { over ≡ is_over self.now.state }
+        ensures value { result ≡ refusal_now self.now }
+        ensures possible { result ≢ Some PlayRefusal.Illegal }
+    {
+        if over {
+            Some(PlayRefusal::Over)
+        } else if self.is_full() {
+            Some(PlayRefusal::TooLong)
+        } else {
+            None
+        }
+    }
+
+    /// Why no move at all is played, if none is: the game is over, or else as many half-moves are current as the limit
+    /// allows.
+    pub fn refusal(&self) -> Option<PlayRefusal>
+        ensures value { result ≡ refusal_now self.now }
+        ensures possible { result ≢ Some PlayRefusal.Illegal }
+    {
+        self.refusal_by(self.is_over())
+    }
+
+    /// The same, found with the help of a legal move, as `verdict_of_moving` finds the verdict.
+    #[inline(always)]
+    pub fn refusal_of_moving(&self, m: &Move) -> Option<PlayRefusal>
+        requires { IsTrue (is_legal (current self.now.state) m.now) }
+        ensures value { result ≡ refusal_now self.now }
+        ensures possible { result ≢ Some PlayRefusal.Illegal }
+    {
+        self.refusal_by(self.declared.is_some() || self.verdict_of_moving(m).is_some())
     }
 
     /// Whether as many half-moves are current as the limit allows.

@@ -6,11 +6,14 @@ use Rattle.chess_base.specs.declared.man.Move.{Move}
 use Rattle.chess_base.specs.declared.setup.Setup.{Setup}
 use Rattle.byte_devices.specs.Devices.{InputState, OutputState}
 use Rattle.chess_cecp.specs.Lines.{Held}
-use Rattle.chess_game.specs.Ends.{verdict}
+use Rattle.std.specs.Option.{option_map_or}
+use Rattle.chess_game.specs.Ends.{verdict, verdict_outcome}
 use Rattle.chess_game.specs.Game as game
-use Rattle.chess_game.specs.Game.{outcome_by, outcome_now, with_declared, verdict_now}
+use Rattle.chess_game.specs.Game.{outcome_now, with_declared, verdict_now}
 use Rattle.chess_game.specs.declared.ends.Verdict.{Verdict}
+use Rattle.chess_game.specs.declared.results.Declared.{Declared}
 use Rattle.chess_game.specs.declared.results.Outcome.{Outcome}
+use Rattle.chess_game.specs.declared.results.Outcome.TheVariants.{Unfinished}
 use Rattle.chess_match.specs.ties.Delivering.{by_side}
 use Rattle.engine_lines.specs.Levels.{LevelSeen}
 use Rattle.chess_match.specs.Match.{Event, seat}
@@ -53,6 +56,10 @@ game_kept g h h' start level T reason s l m e =
     ∙ ap (λ (n : ℕ). ended n h.state.start h.state.moves reason) l
     ∙ ap (λ (a : Setup). ended g.limit a h.state.moves reason) s
     ∙ ap (λ (ms : List Move). ended g.limit start ms reason) m
+
+-- the outcome of a verdict, else of what was declared
+abbrev outcome_by : Option Verdict → Option Declared → Outcome
+outcome_by v d = option_map_or verdict_outcome v (option_map_or (λ (x : Declared). x.outcome) d Unfinished)
 
 -- where the game has no verdict, its outcome is the one that is reported
 pub told_outcome : (h h' : game.Seen) (reason : Reason) (outcome : Outcome)

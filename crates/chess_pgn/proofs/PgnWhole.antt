@@ -14,7 +14,9 @@ use Rattle.chess_fen.specs.Reading.{fen_reading_as}
 use Rattle.chess_base.specs.Sound.{IsSound}
 use Rattle.chess_fen.specs.Writing.{fen}
 use Rattle.chess_game.specs.declared.ends.Verdict.{Verdict}
-use Rattle.chess_game.specs.Game.{State, from_start, outcome_by, outcome_now, verdict_now, IsPlayable}
+use Rattle.chess_game.specs.Game.{State, from_start, outcome_now, verdict_now, IsPlayable}
+use Rattle.std.specs.Option.{option_map_or}
+use Rattle.chess_game.specs.Ends.{verdict_outcome}
 use Rattle.chess_game.specs.Results.{outcome_text}
 use Rattle.chess_game.specs.declared.results.Declared.{Declared}
 use Rattle.chess_game.specs.declared.results.Outcome.{Outcome}
@@ -246,6 +248,10 @@ pgn_long tags s =
     (filled_long 0 (move_tokens true s.start s.moves) t (outcome_some (outcome_now s)))
 
 -- ---- the law
+
+-- the outcome of a verdict, else of what was declared
+abbrev outcome_by : Option Verdict → Option Declared → Outcome
+outcome_by v d = option_map_or verdict_outcome v (option_map_or (λ (x : Declared). x.outcome) d Unfinished)
 
 declared_again : (o : Outcome) → outcome_by None (declared_after false o) ≡ o
 declared_again WhiteWins = refl

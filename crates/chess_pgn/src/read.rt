@@ -1,8 +1,8 @@
 //! Reading a game.
 
 ghost use Rattle.std.specs.Prelude.{◌≡◌, ℕ, ◌+◌, ◌-◌, ◌^◌, ◌≤◌, ◌<◌, true, false, length, None, IfOk, Err, is_some, IsNone, IsTrue, OnErr};
-ghost use Rattle.std.specs.Option.{IfSome};
-ghost use Rattle.chess_game.specs.Game.{State, at as left_at, with_declared, current, verdict_now};
+ghost use Rattle.std.specs.Option.{IfSome, option_map_or};
+ghost use Rattle.chess_game.specs.Game.{State, at as left_at, with_declared, current, verdict_now, refusal_now};
 ghost use Rattle.chess_base.specs.declared.man.Variant.TheVariants.{Normal};
 ghost use Rattle.chess_base.specs.Moves.{is_legal};
 ghost use Rattle.chess_text.specs.Moves.{reading};
@@ -11,7 +11,7 @@ ghost use Rattle.chess_pgn.specs.Words.{kind_of};
 ghost use Rattle.chess_pgn.specs.ties.Seen.{token_seen, fault_seen};
 ghost use Rattle.chess_pgn.specs.GameRead.{declared_after, termination_after, move_step, word_step, tag_step, step, variant_named, variant_after, tagged_variant, pgn_read};
 ghost use Rattle.chess_pgn.specs.Tokens.{tokens_from};
-ghost use Rattle.chess_pgn.specs.ties.GameSteps.{EndsIn, so_far, step_seen, IsWithin, IsReadOn, ReadsAlike};
+ghost use Rattle.chess_pgn.specs.ties.GameSteps.{refusal_kind, EndsIn, so_far, step_seen, IsWithin, IsReadOn, ReadsAlike};
 
 use crate::bytes::is_passed;
 use crate::skips::after_brace;
@@ -21,7 +21,7 @@ use crate::token::{Token, TokenFault, after_byte_order_mark, next_token};
 use crate::word::{WordKind, word_kind};
 use chess_base::{Move, Position, Variant};
 use chess_fen::read_fen_as;
-use chess_game::{Comment, Game, Outcome};
+use chess_game::{Comment, Game, Outcome, PlayRefusal};
 use chess_moves::Board;
 use chess_text::{Reading, read_move};
 
@@ -157,6 +157,27 @@ fn is_decided<B: Board>(game: &Game<B>) -> bool
     game.verdict().is_some()
 }
 
+// The fault of a move that is refused.
+fn refusal_kind(refusal: PlayRefusal) -> PgnFaultKind
+    ensures { result ≡ refusal_kind refusal }
+{
+    match refusal {
+        PlayRefusal::Over => PgnFaultKind::AfterEnd,
+        PlayRefusal::TooLong => PgnFaultKind::TooLong,
+        PlayRefusal::Illegal => PgnFaultKind::IllegalMove,
+    }
+}
+
+// The fault of a word that denotes no one move: first that no move at all is played there.
+fn unplayed_kind<B: Board>(game: &Game<B>, kind: PgnFaultKind) -> PgnFaultKind
+    ensures { result ≡ option_map_or refusal_kind (refusal_now game.now) kind }
+{
+    match game.refusal() {
+        Some(refusal) => refusal_kind(refusal),
+        None => kind,
+    }
+}
+
 // Plays a legal move that is written at an offset. The verdict is asked with the help of that move, which costs less
 // than to look for one.
 #[inline(always)]
@@ -173,13 +194,12 @@ fn play_move<B: Board>(
     ensures step { step_seen game.new.state result
         ≡ move_step game.old.limit (so_far game.old.state progress) offset (reads.Move m.now) }
 {
-    let kind = if game.verdict_of_moving(m).is_some() {
-        PgnFaultKind::AfterEnd
-    } else if game.is_full() {
-        PgnFaultKind::TooLong
-    } else {
-        game.play_legal(*m);
-        return Ok(Step::On(progress.begun()));
+    let kind = match game.refusal_of_moving(m) {
+        Some(refusal) => refusal_kind(refusal),
+        None => {
+            game.play_legal(*m);
+            return Ok(Step::On(progress.begun()));
+        }
     };
     Err(PgnFault { kind, offset })
 }
@@ -201,10 +221,8 @@ fn play_word<B: Board>(
     let kind = match read_move(game.board(), word) {
         Reading::NotAMove => PgnFaultKind::BadToken,
         Reading::Move(m) => return play_move(game, progress, offset, &m),
-        _ if is_decided(game) => PgnFaultKind::AfterEnd,
-        _ if game.is_full() => PgnFaultKind::TooLong,
-        Reading::Ambiguous => PgnFaultKind::AmbiguousMove,
-        Reading::NoSuch => PgnFaultKind::IllegalMove,
+        Reading::Ambiguous => unplayed_kind(game, PgnFaultKind::AmbiguousMove),
+        Reading::NoSuch => unplayed_kind(game, PgnFaultKind::IllegalMove),
     };
     Err(PgnFault { kind, offset })
 }

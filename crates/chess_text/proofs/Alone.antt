@@ -4,24 +4,26 @@ use Rattle.std.proofs.lemmas.Bool.{false_from_ne_true, or_cases}
 use Rattle.chess_base.specs.declared.man.CastlingSide.{CastlingSide}
 use Rattle.chess_base.specs.declared.man.CastlingSide.TheVariants.{KingSide, QueenSide}
 use Rattle.chess_base.specs.declared.man.Kind.{Kind}
-use Rattle.chess_base.specs.declared.man.Kind.TheVariants.{King, Queen, Rook, Bishop, Knight, Pawn}
 use Rattle.chess_base.specs.declared.man.Move.{Move}
 use Rattle.chess_base.specs.declared.setup.Setup.{Setup}
-use Rattle.chess_base.specs.Men.{same_kind}
 use Rattle.chess_base.specs.Moves.{is_legal}
 use Rattle.chess_text.specs.declared.described.Described.{Described}
 use Rattle.chess_text.specs.declared.parts.Parts.{Parts}
 use Rattle.chess_text.specs.declared.parts.Promotion.{Promotion}
 use Rattle.chess_text.specs.declared.reading.Reading.TheVariants as reads
-use Rattle.chess_text.specs.laws.Laws.{SpellsAlone, IsSpelled, IsShaped, AreParts}
-use Rattle.chess_text.specs.Parts.{unmarked, parts_text, has_parts}
+use Rattle.chess_text.specs.laws.Laws.{SpellsAlone, IsShaped, AreParts}
+use Rattle.chess_text.specs.Parts.{unmarked}
+use Rattle.chess_text.specs.ties.Fitting.{parts_text, has_parts}
 use Rattle.chess_text.specs.ties.Reader.{parts_at}
-use Rattle.chess_text.specs.Moves.{is_castling_text, passes, is_form, parts_fit, shape, spells_described, spells, one_of, reading, promotes_so}
+use Rattle.chess_text.specs.Moves.{is_castling_text, passes, shape, spells_described, spells, one_of, reading}
+use Rattle.chess_text.specs.ties.Fitting.{is_form, parts_fit, promotes_so, has_form, fits_text}
 use Rattle.chess_text.specs.ties.Forms.{same_side}
 use Rattle.chess_text.proofs.AllMoves.{only-move}
-use Rattle.chess_text.proofs.AllParts.{has-read}
 use Rattle.chess_text.proofs.Castlings.{IsCastling, names_side, castling_from_name}
-use Rattle.chess_text.proofs.FormFacts.{spelled_castling as castling_spelled}
+use Rattle.chess_text.proofs.FormFacts.{has-read, spelled_castling as castling_spelled}
+use Rattle.chess_text.proofs.SameKinds.{same_kind-self, same_kind-true}
+use Rattle.chess_text.proofs.Shaped.{shape_is}
+use Rattle.chess_text.proofs.Spellings.{spells_is}
 use Rattle.chess_text.proofs.Grammar.{spelled-parts, parts-spelled}
 use Rattle.chess_text.proofs.Legal.{IsMove, told_of, described_is}
 
@@ -48,87 +50,50 @@ read_parts : (text : List ℕ) (q : Parts) → unmarked text ≡ parts_text q �
 read_parts text q e h = ap parts_at e ∙ parts-spelled q h
 
 pub spelled_parts : (text : List ℕ) (q : Parts) (d : Described) → unmarked text ≡ parts_text q → AreParts q
-    → spells_described text d ≡ parts_fit q d
-unfolding spells_described is_castling_text
+    → fits_text text d ≡ parts_fit q d
+unfolding fits_text is_castling_text
 spelled_parts text q d e h =
     let at = read_parts text q e h in
     ap (λ t. t || has_parts (λ r. parts_fit r d) text) (no_side (unmarked text) q at d.castles)
     ∙ has-read (λ r. parts_fit r d) text ∙ ap (passes (λ r. parts_fit r d)) at
 
-pub shape_parts : (text : List ℕ) (q : Parts) → unmarked text ≡ parts_text q → AreParts q → is_form q ≡ true
-    → shape text ≡ true
-unfolding shape is_castling_text
-shape_parts text q e h form =
+form_parts : (text : List ℕ) (q : Parts) → unmarked text ≡ parts_text q → AreParts q → is_form q ≡ true
+    → has_form text ≡ true
+unfolding has_form is_castling_text
+form_parts text q e h form =
     let at = read_parts text q e h in
     let king = no_name (unmarked text) q at KingSide in
     let queen = no_name (unmarked text) q at QueenSide in
     rw (king, queen) (has-read is_form text ∙ ap (passes is_form) at ∙ form)
 
+pub shape_parts : (text : List ℕ) (q : Parts) → unmarked text ≡ parts_text q → AreParts q → is_form q ≡ true
+    → shape text ≡ true
+shape_parts text q e h form = shape_is text ∙ form_parts text q e h form
+
 -- ---- the text of castling
 
 pub spelled_castling : (text : List ℕ) (w : CastlingSide) (d : Described) → IsCastling (unmarked text) w
-    → spells_described text d ≡ passes (same_side w) d.castles
-unfolding spells_described is_castling_text
+    → fits_text text d ≡ passes (same_side w) d.castles
+unfolding fits_text is_castling_text
 spelled_castling text w d h = ap (λ t. passes (is_castling_text text) d.castles || t) (has-read (λ q. parts_fit q d) text)
     ∙ castling_spelled (unmarked text) w d h
 
+form_castling : (text : List ℕ) (w : CastlingSide) → IsCastling (unmarked text) w → has_form text ≡ true
+unfolding has_form is_castling_text
+form_castling text KingSide h = rw (h.names KingSide) refl
+form_castling text QueenSide h = rw (h.names KingSide, h.names QueenSide) refl
+
 pub shape_castling : (text : List ℕ) (w : CastlingSide) → IsCastling (unmarked text) w → shape text ≡ true
-unfolding shape is_castling_text
-shape_castling text KingSide h = rw (h.names KingSide) refl
-shape_castling text QueenSide h = rw (h.names KingSide, h.names QueenSide) refl
+shape_castling text w h = shape_is text ∙ form_castling text w h
 
 -- ---- of a legal move
 
 pub spells_move : (p : Setup) (text : List ℕ) (m : Move) (h : IsMove p m)
-    → spells p text m ≡ spells_described text (told_of p m h.man)
+    → spells p text m ≡ fits_text text (told_of p m h.man)
 unfolding spells
-spells_move p text m h = ap (passes (spells_described text)) (described_is p m h)
-
-pub same_kind-self : (k : Kind) → same_kind k k ≡ true
-same_kind-self King = refl
-same_kind-self Queen = refl
-same_kind-self Rook = refl
-same_kind-self Bishop = refl
-same_kind-self Knight = refl
-same_kind-self Pawn = refl
-
-pub same_kind-true : (k l : Kind) → same_kind k l ≡ true → k ≡ l
-same_kind-true King King e = refl
-same_kind-true King Queen e = absurd cc
-same_kind-true King Rook e = absurd cc
-same_kind-true King Bishop e = absurd cc
-same_kind-true King Knight e = absurd cc
-same_kind-true King Pawn e = absurd cc
-same_kind-true Queen King e = absurd cc
-same_kind-true Queen Queen e = refl
-same_kind-true Queen Rook e = absurd cc
-same_kind-true Queen Bishop e = absurd cc
-same_kind-true Queen Knight e = absurd cc
-same_kind-true Queen Pawn e = absurd cc
-same_kind-true Rook King e = absurd cc
-same_kind-true Rook Queen e = absurd cc
-same_kind-true Rook Rook e = refl
-same_kind-true Rook Bishop e = absurd cc
-same_kind-true Rook Knight e = absurd cc
-same_kind-true Rook Pawn e = absurd cc
-same_kind-true Bishop King e = absurd cc
-same_kind-true Bishop Queen e = absurd cc
-same_kind-true Bishop Rook e = absurd cc
-same_kind-true Bishop Bishop e = refl
-same_kind-true Bishop Knight e = absurd cc
-same_kind-true Bishop Pawn e = absurd cc
-same_kind-true Knight King e = absurd cc
-same_kind-true Knight Queen e = absurd cc
-same_kind-true Knight Rook e = absurd cc
-same_kind-true Knight Bishop e = absurd cc
-same_kind-true Knight Knight e = refl
-same_kind-true Knight Pawn e = absurd cc
-same_kind-true Pawn King e = absurd cc
-same_kind-true Pawn Queen e = absurd cc
-same_kind-true Pawn Rook e = absurd cc
-same_kind-true Pawn Bishop e = absurd cc
-same_kind-true Pawn Knight e = absurd cc
-same_kind-true Pawn Pawn e = refl
+spells_move p text m h =
+    ap (passes (spells_described text)) (described_is p m h)
+    ∙ spells_is text (told_of p m h.man) h.from_in h.to_in h.promotion_is
 
 pub move_is : (n m : Move) → n.from ≡ m.from → n.to ≡ m.to → n.promotion ≡ m.promotion → n ≡ m
 move_is n m a b k =
@@ -163,29 +128,6 @@ of_parts : (test : Parts → Bool) (o : Option Parts) → passes test o ≡ true
 of_parts test None e = absurd cc
 of_parts test (Some q) e = (q, refl, e)
 
-is_spelled_so : (text : List ℕ) (d : Described) → spells_described text d ≡ true → IsSpelled text d
-unfolding spells_described
-is_spelled_so text d e =
-    elim (or_cases (passes (is_castling_text text) d.castles) (has_parts (λ q. parts_fit q d) text) e) [
-      | inl h ↦ inl (castled (is_castling_text text) d.castles h)
-      | inr h ↦
-          let of = of_parts (λ q. parts_fit q d) (parts_at (unmarked text)) (sym (has-read (λ q. parts_fit q d) text) ∙ h) in
-          let is = spelled-parts (unmarked text) of.0 of.1 in
-          inr (of.0, is.0, is.1, of.2)
-    ]
-
-castling_spells : (text : List ℕ) (d : Described) (w : CastlingSide) → d.castles ≡ Some w
-    → is_castling_text text w ≡ true → spells_described text d ≡ true
-unfolding spells_described
-castling_spells text d w e h = rw (e, h) refl
-
-spelled_so : (text : List ℕ) (d : Described) → IsSpelled text d → spells_described text d ≡ true
-spelled_so text d (inl h) = castling_spells text d h.0 h.1 h.2
-spelled_so text d (inr h) = spelled_parts text h.0 d h.2 h.1 ∙ h.3
-
-pub spelled_by_text : (text : List ℕ) (d : Described) → IsTrue (spells_described text d) ↔ IsSpelled text d
-spelled_by_text text d = (is_spelled_so text d, spelled_so text d)
-
 -- ---- which texts have a move's shape, with no list of parts
 
 either_side : (text : List ℕ) → (is_castling_text text KingSide || is_castling_text text QueenSide) ≡ true
@@ -196,9 +138,9 @@ either_side text e =
       | inr h ↦ (QueenSide, h)
     ]
 
-is_shaped_so : (text : List ℕ) → shape text ≡ true → IsShaped text
-unfolding shape
-is_shaped_so text e =
+is_formed_so : (text : List ℕ) → has_form text ≡ true → IsShaped text
+unfolding has_form
+is_formed_so text e =
     elim (or_cases (is_castling_text text KingSide || is_castling_text text QueenSide) (has_parts is_form text) e) [
       | inl h ↦ inl (either_side text h)
       | inr h ↦
@@ -207,8 +149,8 @@ is_shaped_so text e =
           inr (of.0, is.0, is.1, of.2)
     ]
 
-castling_shapes : (text : List ℕ) (w : CastlingSide) → is_castling_text text w ≡ true → shape text ≡ true
-unfolding shape
+castling_shapes : (text : List ℕ) (w : CastlingSide) → is_castling_text text w ≡ true → has_form text ≡ true
+unfolding has_form
 castling_shapes text KingSide h = rw h refl
 castling_shapes text QueenSide h = rw h (by_king (is_castling_text text KingSide))
   where
@@ -217,8 +159,8 @@ castling_shapes text QueenSide h = rw h (by_king (is_castling_text text KingSide
     by_king false = refl
 
 shaped_so : (text : List ℕ) → IsShaped text → shape text ≡ true
-shaped_so text (inl h) = castling_shapes text h.0 h.1
+shaped_so text (inl h) = shape_is text ∙ castling_shapes text h.0 h.1
 shaped_so text (inr h) = shape_parts text h.0 h.2 h.1 h.3
 
 pub shaped_by_text : (text : List ℕ) → IsTrue (shape text) ↔ IsShaped text
-shaped_by_text text = (is_shaped_so text, shaped_so text)
+shaped_by_text text = (λ e. is_formed_so text (sym (shape_is text) ∙ e), shaped_so text)

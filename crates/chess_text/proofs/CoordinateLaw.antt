@@ -14,8 +14,10 @@ use Rattle.chess_base.specs.Squares.{file, rank}
 use Rattle.chess_text.specs.declared.parts.Parts.{Parts}
 use Rattle.chess_text.specs.declared.reading.Reading.TheVariants as reads
 use Rattle.chess_text.specs.laws.Laws.{SpellsAlone, AreParts, CanPromote}
-use Rattle.chess_text.specs.Parts.{unmarked, promotion_text, parts_text}
-use Rattle.chess_text.specs.Moves.{has_equals, promotes_so, is_form, parts_fit, is_by_squares, is_by_letter, is_straight, is_from_file, shape, reading}
+use Rattle.chess_text.specs.Parts.{unmarked}
+use Rattle.chess_text.specs.ties.Fitting.{promotion_text, parts_text}
+use Rattle.chess_text.specs.Moves.{shape, reading}
+use Rattle.chess_text.specs.ties.Fitting.{has_equals, promotes_so, is_form, parts_fit, is_by_squares, is_by_letter, is_straight, is_from_file}
 use Rattle.chess_text.proofs.Alone.{read_alone, spelled_parts, shape_parts, spells_move, move_is, written, promotes-self, promotes-same}
 use Rattle.chess_text.proofs.Legal.{IsMove, legal_move, told_of}
 use Rattle.chess_text.proofs.Solid.{bare_parts}

@@ -1,12 +1,11 @@
 -- What a text is read as fixes its shape and what it denotes.
-use Rattle.std.proofs.Common.{◌≡◌, ℕ, Bool, true, false, ◌&&◌, ◌||◌, cond, List, [], ◌∷◌, Option, Some, None, is_some, refl, sym, ap, ◌∙◌}
-use Rattle.std.proofs.lemmas.Bool.{and_parts, and_right}
+use Rattle.std.proofs.Common.{◌≡◌, ℕ, inl, inr, Bool, true, false, ◌&&◌, ◌||◌, cond, List, [], ◌∷◌, Option, Some, None, is_some, refl, sym, ap, ◌∙◌}
+use Rattle.std.proofs.lemmas.Bool.{and_parts, cases_Bool}
 use Rattle.std.proofs.lemmas.List.Elements.{filter_agree}
 use Rattle.std.specs.List.{list_any, filter}
 use Rattle.std.specs.Str.{bytes_eq}
 use Rattle.chess_base.specs.declared.man.CastlingSide.{CastlingSide}
 use Rattle.chess_base.specs.declared.man.CastlingSide.TheVariants.{KingSide, QueenSide}
-use Rattle.chess_base.specs.declared.man.Kind.{Kind}
 use Rattle.chess_base.specs.declared.man.Move.{Move}
 use Rattle.chess_base.specs.declared.setup.Setup.{Setup}
 use Rattle.chess_base.specs.Moves.{is_legal}
@@ -15,17 +14,23 @@ use Rattle.chess_text.specs.declared.described.Described.{Described}
 use Rattle.chess_text.specs.declared.form.Form.{Form}
 use Rattle.chess_text.specs.declared.form.Form.TheVariants.{Piece}
 use Rattle.chess_text.specs.declared.parts.Parts.{Parts}
-use Rattle.chess_text.specs.declared.parts.Promotion.{Promotion}
 use Rattle.chess_text.specs.declared.reading.Reading.{Reading}
 use Rattle.chess_text.specs.declared.reading.Reading.TheVariants as reads
 use mathlib.Core.Bool.{or-false}
 use Rattle.chess_text.specs.Parts.{unmarked}
 use Rattle.chess_text.specs.ties.Reader.{parts_at}
-use Rattle.chess_text.specs.Moves.{castling_texts, is_castling_text, passes, is_form, parts_fit, is_by_squares, is_by_letter, is_straight, is_from_file, shape, spells_described, spells, described, one_of, reading, IsLegalReading}
+use Rattle.chess_text.specs.Moves.{castling_texts, is_castling_text, passes, shape, spells_described, spells, one_of, reading, IsLegalReading}
+use Rattle.chess_text.specs.ties.Fitting.{is_form, parts_fit, has_parts, has_form, fits_text}
 use Rattle.chess_text.specs.ties.Forms.{form_of_parts, form_at, form_of, same_side, form_fits, is_spelled}
 use Rattle.chess_text.proofs.AllMoves.{filter-both}
-use Rattle.chess_text.proofs.AllParts.{has-read}
+use Rattle.chess_text.proofs.Legal.{legal_move, told_of, described_is}
+use Rattle.chess_text.proofs.Shaped.{no_form, shape_is}
+use Rattle.chess_text.proofs.Spellings.{spells_is}
 use Rattle.chess_text.proofs.Castlings.{IsCastling, castling_from_name}
+
+pub has-read : (test : Parts → Bool) (text : List ℕ) → has_parts test text ≡ passes test (parts_at (unmarked text))
+unfolding has_parts
+has-read test text = refl
 
 -- ---- the shape
 
@@ -43,32 +48,15 @@ shape_by text true b = refl
 shape_by text false true = refl
 shape_by text false false = shape_by_parts (parts_at text)
 
-pub shape-form : (text : List ℕ) → shape text ≡ is_some (form_of text)
-unfolding shape form_of is_castling_text
-shape-form text = rw (has-read is_form text) (shape_by (unmarked text) (list_any (bytes_eq (unmarked text)) (castling_texts KingSide))
+has-form : (text : List ℕ) → has_form text ≡ is_some (form_of text)
+unfolding has_form form_of is_castling_text
+has-form text = rw (has-read is_form text) (shape_by (unmarked text) (list_any (bytes_eq (unmarked text)) (castling_texts KingSide))
     (list_any (bytes_eq (unmarked text)) (castling_texts QueenSide)))
 
--- ---- what is denoted
+pub shape-form : (text : List ℕ) → shape text ≡ is_some (form_of text)
+shape-form text = shape_is text ∙ has-form text
 
--- parts of no form fit no move
-no_form : (letter : Option Kind) (f r : Option ℕ) (takes : Bool) (to : ℕ) (promotion : Option Promotion) (d : Described)
-    → is_form
-    (record { letter = letter; file = f; rank = r; takes = takes; end = record { to = to; promotion = promotion } })
-    ≡ false
-    → parts_fit (record {
-      letter = letter;
-      file = f;
-      rank = r;
-      takes = takes;
-      end = record { to = to; promotion = promotion };
-    }) d ≡ false
-unfolding is_form parts_fit is_by_squares is_by_letter is_straight is_from_file
-no_form (Some k) f r takes to (Some x) d e = simp (and_right)
-no_form (Some k) f r takes to None d e = absurd cc
-no_form None (Some n) r takes to promotion d e = absurd cc
-no_form None None (Some n) takes to promotion d e = refl
-no_form None None None true to promotion d e = refl
-no_form None None None false to promotion d e = absurd cc
+-- ---- what is denoted
 
 fits_by_form : (d : Described) (o : Option Parts)
     → passes (λ q. parts_fit q d) o ≡ passes (λ f. form_fits f d) (form_of_parts o)
@@ -108,23 +96,41 @@ spelled_by text d false true ea eb = spelled_castling text QueenSide d (castling
 spelled_by text d false false ea eb = ap (λ t. t || passes (λ q. parts_fit q d) (parts_at text))
     (not_named text ea eb d.castles) ∙ fits_by_form d (parts_at text)
 
-pub spells-form : (text : List ℕ) (d : Described) → spells_described text d ≡ passes (λ f. form_fits f d) (form_of text)
-unfolding spells_described form_of is_castling_text
-spells-form text d = rw (has-read (λ q. parts_fit q d) text)
+fits-form : (text : List ℕ) (d : Described) → fits_text text d ≡ passes (λ f. form_fits f d) (form_of text)
+unfolding fits_text form_of is_castling_text
+fits-form text d = rw (has-read (λ q. parts_fit q d) text)
     (spelled_by (unmarked text) d (list_any (bytes_eq (unmarked text)) (castling_texts KingSide))
     (list_any (bytes_eq (unmarked text)) (castling_texts QueenSide)) refl refl)
 
 -- ---- the reading
 
-spelled_as : (form : Form) (text : List ℕ) → form_of text ≡ Some form → (o : Option Described)
-    → passes (spells_described text) o ≡ passes (form_fits form) o
-spelled_as form text e None = refl
-spelled_as form text e (Some d) = spells-form text d ∙ ap (passes (λ f. form_fits f d)) e
-
-pub spells-read : (form : Form) (text : List ℕ) (p : Setup) (m : Move) → form_of text ≡ Some form
+pub spells-read : (form : Form) (text : List ℕ) (p : Setup) (m : Move) → is_legal p m ≡ true → form_of text ≡ Some form
     → spells p text m ≡ is_spelled form p m
 unfolding spells is_spelled
-spells-read form text p m e = spelled_as form text e (described p m)
+spells-read form text p m legal e =
+    let h = legal_move p m legal in
+    let d = told_of p m h.man in
+    ap (passes (spells_described text)) (described_is p m h)
+    ∙ spells_is text d h.from_in h.to_in h.promotion_is
+    ∙ fits-form text d
+    ∙ ap (passes (λ f. form_fits f d)) e
+    ∙ sym (ap (passes (form_fits form)) (described_is p m h))
+
+-- two tests that agree on legal moves keep the same of them
+legal_agree : (p : Setup) (t u : Move → Bool) → ((m : Move) → is_legal p m ≡ true → t m ≡ u m)
+    → filter t (moves p) ≡ filter u (moves p)
+unfolding moves
+legal_agree p t u h =
+    filter-both (λ m. is_legal p m) t all_triples
+    ∙ filter_agree (λ m. is_legal p m && t m) (λ m. is_legal p m && u m) both all_triples
+    ∙ sym (filter-both (λ m. is_legal p m) u all_triples)
+  where
+    both : (m : Move) → (is_legal p m && t m) ≡ (is_legal p m && u m)
+    both m =
+        elim (cases_Bool (is_legal p m)) [
+          | inl legal ↦ ap (λ b. is_legal p m && b) (h m legal)
+          | inr off ↦ rw off refl
+        ]
 
 pub reading_spelled : (p : Setup) (text : List ℕ) (form : Form) → form_of text ≡ Some form
     → one_of (filter (λ m. is_spelled form p m) (moves p)) ≡ reading p text
@@ -132,8 +138,8 @@ unfolding reading
 reading_spelled p text form e =
     let has : shape text ≡ true = shape-form text ∙ ap is_some e in
     rw has (ap one_of
-    (sym (filter_agree (λ m. spells p text m) (λ m. is_spelled form p m) (λ m. spells-read form text p m e)
-    (moves p))))
+    (sym (legal_agree p (λ m. spells p text m) (λ m. is_spelled form p m)
+    (λ m legal. spells-read form text p m legal e))))
 
 pub reading_nothing : (p : Setup) (text : List ℕ) → form_of text ≡ None → reads.NotAMove ≡ reading p text
 unfolding reading

@@ -11,8 +11,10 @@ use Rattle.chess_base.proofs.Choices.{chosen}
 use Rattle.chess_text.specs.declared.parts.Parts.{Parts}
 use Rattle.chess_text.specs.declared.parts.End.{End}
 use Rattle.chess_text.specs.declared.parts.Promotion.{Promotion}
-use Rattle.chess_text.specs.Parts.{when, kind_text, promotion_letter, promotion_text, end_text, parts_text, officers, promoted}
-use Rattle.chess_text.specs.laws.Laws.{CanPromote, IsOfficer, AreParts}
+use Rattle.chess_text.specs.Parts.{when, kind_text}
+use Rattle.chess_text.specs.ties.Fitting.{promotion_letter, promotion_text, end_text, parts_text}
+use Rattle.chess_text.specs.ties.Reader.{lettered_kinds, promoted}
+use Rattle.chess_text.specs.laws.Laws.{CanPromote, HasLetter, AreParts}
 use Rattle.chess_text.specs.ties.Reader.{kind_from, is_file_letter, is_rank_digit, or_else, promotion_by, promotion_at, end_at, takes_at, rank_at, with_parts, file_at, at_letter, parts_at}
 
 mapped : {A B : Type 0} (f : A → B) (o : Option A) (y : B) → option_map f o ≡ Some y
@@ -341,24 +343,24 @@ file-spelled letter (Some f) o b x h k e =
 
 -- ---- the letter
 
-officer_is : (k : Kind) → kind_from officers (white_letter k) ≡ Some k → IsOfficer k
-officer_is Pawn e = absurd cc
-officer_is Knight e = tt
-officer_is Bishop e = tt
-officer_is Rook e = tt
-officer_is Queen e = tt
-officer_is King e = tt
+lettered_is : (k : Kind) → kind_from lettered_kinds (white_letter k) ≡ Some k → HasLetter k
+lettered_is Pawn e = absurd cc
+lettered_is Knight e = tt
+lettered_is Bishop e = tt
+lettered_is Rook e = tt
+lettered_is Queen e = tt
+lettered_is King e = tt
 
-officer_read : (k : Kind) → IsOfficer k → kind_from officers (white_letter k) ≡ Some k
-officer_read Pawn h = absurd h
-officer_read Knight h = refl
-officer_read Bishop h = refl
-officer_read Rook h = refl
-officer_read Queen h = refl
-officer_read King h = refl
+lettered_read : (k : Kind) → HasLetter k → kind_from lettered_kinds (white_letter k) ≡ Some k
+lettered_read Pawn h = absurd h
+lettered_read Knight h = refl
+lettered_read Bishop h = refl
+lettered_read Rook h = refl
+lettered_read Queen h = refl
+lettered_read King h = refl
 
-no_officer : (c : ℕ) → (c < 66) ⊎ (90 < c) → kind_from officers c ≡ None
-no_officer c h =
+no_lettered : (c : ℕ) → (c < 66) ⊎ (90 < c) → kind_from lettered_kinds c ≡ None
+no_lettered c h =
     let t0 : eqb 75 c ≡ false = grind (arith, nat_tests) in
     let t1 : eqb 81 c ≡ false = grind (arith, nat_tests) in
     let t2 : eqb 82 c ≡ false = grind (arith, nat_tests) in
@@ -366,11 +368,11 @@ no_officer c h =
     let t4 : eqb 78 c ≡ false = grind (arith, nat_tests) in
     rw (t0, t1, t2, t3, t4) refl
 
-parts_of : (letter : Option Kind) (text : List ℕ) (q : Parts) → IfSome letter IsOfficer → IsBody letter text q
+parts_of : (letter : Option Kind) (text : List ℕ) (q : Parts) → IfSome letter HasLetter → IsBody letter text q
     → AreParts q × (optional kind_text letter ++ text ≡ parts_text q)
 parts_of letter text q h b = (
   record {
-    letter_is = subst (λ (o : Option Kind). IfSome o IsOfficer) (sym b.letter_is) h;
+    letter_is = subst (λ (o : Option Kind). IfSome o HasLetter) (sym b.letter_is) h;
     file_is = b.file_is;
     rank_is = b.rank_is;
     to_is = b.end_is.0;
@@ -382,14 +384,14 @@ parts_of letter text q h b = (
 
 pub spelled-parts : (text : List ℕ) (q : Parts) → parts_at text ≡ Some q → AreParts q × (text ≡ parts_text q)
 spelled-parts [] q e = absurd cc
-spelled-parts (c ∷ rest) q e = by_letter (kind_from officers c) refl e
+spelled-parts (c ∷ rest) q e = by_letter (kind_from lettered_kinds c) refl e
   where
-    by_letter : (o : Option Kind) → kind_from officers c ≡ o → at_letter o c rest ≡ Some q
+    by_letter : (o : Option Kind) → kind_from lettered_kinds c ≡ o → at_letter o c rest ≡ Some q
         → AreParts q × (c ∷ rest ≡ parts_text q)
     by_letter None is e = parts_of None (c ∷ rest) q tt (spelled-file None (c ∷ rest) q e)
     by_letter (Some k) is e =
-        let at = found officers c k is in
-        let p = parts_of (Some k) rest q (officer_is k (ap (kind_from officers) at ∙ is))
+        let at = found lettered_kinds c k is in
+        let p = parts_of (Some k) rest q (lettered_is k (ap (kind_from lettered_kinds) at ∙ is))
         (spelled-file (Some k) rest q e) in
         (p.0, ap (λ x. x ∷ rest) (sym at) ∙ p.1)
 
@@ -397,12 +399,12 @@ parts-body : (file o : Option ℕ) (b : Bool) (x : End) → IfSome file (λ f. f
     → parts_at (optional (λ f. (97 + f) ∷ []) file ++ tail_text o b x)
     ≡ file_at None (optional (λ f. (97 + f) ∷ []) file ++ tail_text o b x)
 parts-body (Some f) o b x h k = ap (λ l. at_letter l (97 + f) (tail_text o b x))
-    (no_officer (97 + f) (inr (omega arith)))
+    (no_lettered (97 + f) (inr (omega arith)))
 parts-body None (Some r) b x h k = ap (λ l. at_letter l (49 + r) (takes_text b x))
-    (no_officer (49 + r) (inl (omega arith)))
+    (no_lettered (49 + r) (inl (omega arith)))
 parts-body None None true x h k = refl
 parts-body None None false x h k = ap (λ l. at_letter l (97 + x.to % 8)
-    ((49 + x.to / 8) ∷ optional promotion_text x.promotion)) (no_officer (97 + x.to % 8) (inr (omega arith)))
+    ((49 + x.to / 8) ∷ optional promotion_text x.promotion)) (no_lettered (97 + x.to % 8) (inr (omega arith)))
 
 pub parts-spelled : (q : Parts) → AreParts q → parts_at (parts_text q) ≡ Some q
 parts-spelled q h = by_letter q.letter h.letter_is
@@ -410,7 +412,7 @@ parts-spelled q h = by_letter q.letter h.letter_is
     body : (letter : Option Kind) → file_at letter (body_text q) ≡ Some (record q { letter = letter })
     body letter = file-spelled letter q.file q.rank q.takes q.end h.file_is h.rank_is (h.to_is, h.promotion_is)
 
-    by_letter : (o : Option Kind) → IfSome o IsOfficer
+    by_letter : (o : Option Kind) → IfSome o HasLetter
         → parts_at (optional kind_text o ++ body_text q) ≡ Some (record q { letter = o })
     by_letter None i = parts-body q.file q.rank q.takes q.end h.file_is h.rank_is ∙ body None
-    by_letter (Some k) i = ap (λ l. at_letter l (white_letter k) (body_text q)) (officer_read k i) ∙ body (Some k)
+    by_letter (Some k) i = ap (λ l. at_letter l (white_letter k) (body_text q)) (lettered_read k i) ∙ body (Some k)

@@ -1,6 +1,7 @@
 -- What each legal move has.
 use Rattle.std.proofs.Common.{◌≡◌, ℕ, ◌<◌, Bool, true, false, ◌&&◌, ◌||◌, not, cond, Option, Some, None, is_none, refl, sym, ap, ◌∙◌, ◌==◌, nat_lt}
 use Rattle.std.specs.Prelude.{IfSome}
+use Rattle.std.specs.Option.{option_map}
 use Rattle.std.proofs.lemmas.Bool.{and_parts, ltb-true, eqb-true}
 use Rattle.chess_base.specs.declared.man.CastlingSide.{CastlingSide}
 use Rattle.chess_base.specs.declared.man.Colour.{Colour}
@@ -24,7 +25,7 @@ use Rattle.chess_base.proofs.TakesBack.{castles_unpromoted}
 use Rattle.chess_text.specs.declared.described.Described.{Described}
 use Rattle.chess_text.specs.laws.Laws.{CanPromote}
 use Rattle.chess_text.specs.ties.Forms.{castling_end}
-use Rattle.chess_text.specs.Moves.{captures, described, described_as}
+use Rattle.chess_text.specs.Moves.{captures, described}
 
 -- what a text can say of a move of that piece
 abbrev pub told_of : Setup → Move → Kind → Described
@@ -36,6 +37,10 @@ told_of p m k = record {
   captures = captures p m;
   castles = castling p m;
 }
+
+-- the same of the piece, if there is one
+abbrev pub described_by : Setup → Move → Option Man → Option Described
+described_by p m o = option_map (λ (x : Man). told_of p m x.kind) o
 
 -- by the kind of piece: a pawn's move, or one without a promotion
 abbrev pub MovesAs : Setup → Move → Kind → Type 0
@@ -100,11 +105,11 @@ no_promotion p m None e =
     is_none-None m.promotion (and_parts (is_none m.promotion) (attacks p.men m.from m.to) two.0).0
 no_promotion p m (Some k) e = castles_unpromoted p m k e
 
-abbrev officer_moves : Setup → Move → Bool
-officer_moves p m = castles_or_moves p m (castle_of p m)
+abbrev lettered_moves : Setup → Move → Bool
+lettered_moves p m = castles_or_moves p m (castle_of p m)
 
 kind_moves : (p : Setup) (m : Move) (k : Kind) → man_at p.men m.from ≡ Some (record { colour = p.side; kind = k })
-    → cond (same_kind Pawn k) (pawn_moves p m) (officer_moves p m) ≡ true → MovesAs p m k
+    → cond (same_kind Pawn k) (pawn_moves p m) (lettered_moves p m) ≡ true → MovesAs p m k
 kind_moves p m Pawn at e = (e, pawn_castles_not p m at (castling p m) refl)
 kind_moves p m King at e = no_promotion p m (castle_of p m) e
 kind_moves p m Queen at e = no_promotion p m (castle_of p m) e
@@ -128,7 +133,7 @@ move_by : (p : Setup) (m : Move) (o : Option Man) → man_at p.men m.from ≡ o 
 move_by p m None at f t e = absurd cc
 move_by p m (Some x) at f t e =
     let both = and_parts (same_colour p.side x.colour)
-    (cond (same_kind Pawn x.kind) (pawn_moves p m) (officer_moves p m)) e in
+    (cond (same_kind Pawn x.kind) (pawn_moves p m) (lettered_moves p m)) e in
     let own : x.colour ≡ p.side = sym (same_colour-true p.side x.colour both.0) in
     let at' : man_at p.men m.from ≡ Some (record { colour = p.side; kind = x.kind }) =
     at ∙ ap (λ (c : Colour). let man : Man = record { colour = c; kind = x.kind } in Some man) own in
@@ -153,4 +158,4 @@ legal_move p m e =
 
 pub described_is : (p : Setup) (m : Move) (h : IsMove p m) → described p m ≡ Some (told_of p m h.man)
 unfolding described
-described_is p m h = ap (described_as p m) h.at_from
+described_is p m h = ap (described_by p m) h.at_from

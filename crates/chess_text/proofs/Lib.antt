@@ -1,6 +1,9 @@
 pub mod SpelledMoves
 pub mod Grammar
-pub mod AllParts
+pub mod Lists
+pub mod SameKinds
+pub mod Spellings
+pub mod Shaped
 pub mod Castlings
 pub mod FormFacts
 pub mod Legal
@@ -9,6 +12,7 @@ pub mod AllMoves
 pub mod Marks
 pub mod Told
 pub mod Pawns
+pub mod PieceText
 pub mod Alone
 pub mod CoordinateLaw
 pub mod Solid

@@ -1,6 +1,7 @@
 -- On positions of normal chess the texts are those of normal chess.
 use Rattle.std.proofs.Common.{◌≡◌, ℕ, Bool, true, false, not, ◌&&◌, ◌==◌, List, ◌++◌, length, map, filter, codes, Option, Some, None, is_some, refl, ap, ◌∙◌, if◌then◌else◌}
 use Rattle.std.proofs.Math.Path.{fun_ext}
+use Rattle.std.specs.Option.{option_map}
 use Rattle.chess_base.specs.declared.man.CastlingSide.{CastlingSide}
 use Rattle.chess_base.specs.declared.man.CastlingSide.TheVariants.{KingSide, QueenSide}
 use Rattle.chess_base.specs.declared.man.Colour.{Colour}
@@ -10,7 +11,7 @@ use Rattle.chess_base.specs.declared.man.Move.{Move}
 use Rattle.chess_base.specs.declared.man.Variant.TheVariants.{Normal}
 use Rattle.chess_base.specs.declared.setup.Setup.{Setup}
 use Rattle.chess_base.specs.Attacks.{is_in_check}
-use Rattle.chess_base.specs.Coordinates.{coordinate}
+use Rattle.chess_base.specs.Coordinates.{coordinate, optional}
 use Rattle.chess_base.specs.Castling.{castling, says_castling, right_of, home_square, king_home_file, castled_king_file}
 use Rattle.chess_base.specs.ties.Splits.{names_castling}
 use Rattle.chess_base.specs.Men.{man_at, is_man, same_kind}
@@ -20,10 +21,10 @@ use Rattle.chess_base.specs.laws.Normal.{normal_says_castling, normal_castling, 
 use Rattle.chess_base.proofs.NormalKept.{normal_kept as rules_kept}
 use Rattle.chess_text.specs.declared.described.Described.{Described}
 use Rattle.chess_text.specs.declared.reading.Reading.TheVariants.{NotAMove}
-use Rattle.chess_text.specs.Moves.{described, described_as, captures, passes, shape, spells, spells_described, one_of, reading}
+use Rattle.chess_text.specs.Moves.{described, captures, passes, shape, spells, spells_described, one_of, reading}
 use Rattle.chess_text.specs.Parts.{when}
-use Rattle.chess_text.specs.San.{is_rival, rival_starts, check_mark, san, san_as, unmarked_san, shown_as, shown_move}
-use Rattle.chess_text.specs.laws.Normal.{NormalIsKept, normal_moves, normal_described, normal_described_as, normal_spells, normal_reading, normal_is_rival, normal_rival_starts, normal_check_mark, normal_san, normal_san_as}
+use Rattle.chess_text.specs.San.{is_rival, rival_starts, check_mark, san, unmarked_san, shown_as, shown_move}
+use Rattle.chess_text.specs.laws.Normal.{NormalIsKept, normal_moves, normal_described, normal_spells, normal_reading, normal_is_rival, normal_rival_starts, normal_check_mark, normal_san}
 
 pub moves_kept : (p : Setup) → p.variant ≡ Normal → moves p ≡ normal_moves p
 unfolding moves normal_moves
@@ -60,23 +61,20 @@ castling_kept p e m = rw (says_kept p e m KingSide, says_kept p e m QueenSide) r
 
 -- ---- read
 
-described_by : (p : Setup) → p.variant ≡ Normal → (m : Move) (o : Option Man)
-    → described_as p m o ≡ normal_described_as p m o
-described_by p e m None = refl
-described_by p e m (Some x) =
-    ap (λ o. Some (record {
+abbrev with_castles : Setup → Move → Option Man → Option CastlingSide → Option Described
+with_castles p m man o =
+    option_map (λ (x : Man). record {
       man = x.kind;
       from = m.from;
       to = m.to;
       promotion = m.promotion;
       captures = captures p m;
       castles = o;
-    }))
-    (castling_kept p e m)
+    }) man
 
 described_kept : (p : Setup) → p.variant ≡ Normal → (m : Move) → described p m ≡ normal_described p m
 unfolding described normal_described
-described_kept p e m = described_by p e m (man_at p.men m.from)
+described_kept p e m = ap (with_castles p m (man_at p.men m.from)) (castling_kept p e m)
 
 spells_kept : (p : Setup) → p.variant ≡ Normal → (text : List ℕ) (m : Move) → spells p text m ≡ normal_spells p text m
 unfolding spells normal_spells
@@ -119,7 +117,9 @@ mark_after : (p : Setup) → p.variant ≡ Normal → (m : Move)
     → check_mark (after p m) ≡ normal_check_mark (normal_after p m)
 mark_after p e m = mark_kept (after p m) (stays p m ∙ e) ∙ ap normal_check_mark ((rules_kept p e).after m)
 
-san_by : (p : Setup) → p.variant ≡ Normal → (m : Move) (o : Option Described) → san_as p m o ≡ normal_san_as p m o
+san_by : (p : Setup) → p.variant ≡ Normal → (m : Move) (o : Option Described)
+    → optional (λ d. unmarked_san (rival_starts p (moves p) d) d ++ check_mark (after p m)) o
+    ≡ optional (λ d. unmarked_san (normal_rival_starts p d) d ++ normal_check_mark (normal_after p m)) o
 san_by p e m None = refl
 san_by p e m (Some d) =
     ap (λ starts. unmarked_san starts d ++ check_mark (after p m)) (rivals_kept p e d)
@@ -127,7 +127,10 @@ san_by p e m (Some d) =
 
 san_kept : (p : Setup) → p.variant ≡ Normal → (m : Move) → san p m ≡ normal_san p m
 unfolding san normal_san
-san_kept p e m = san_by p e m (described p m) ∙ ap (normal_san_as p m) (described_kept p e m)
+san_kept p e m =
+    san_by p e m (described p m)
+    ∙ ap (optional (λ d. unmarked_san (normal_rival_starts p d) d ++ normal_check_mark (normal_after p m)))
+    (described_kept p e m)
 
 shown_kept : (p : Setup) → p.variant ≡ Normal → (m : Move) → shown_move p m ≡ coordinate m
 unfolding shown_move

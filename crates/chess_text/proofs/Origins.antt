@@ -24,11 +24,12 @@ use Rattle.chess_text.specs.declared.form.Form.TheVariants.{Castling, Piece}
 use Rattle.chess_text.specs.declared.parts.Parts.{Parts}
 use Rattle.chess_text.specs.declared.reading.Reading.{Reading}
 use Rattle.chess_text.specs.declared.reading.Reading.TheVariants as reads
-use Rattle.chess_text.specs.Moves.{one_of, described, described_as, names, admits, is_by_squares, is_by_letter, is_straight, is_from_file, parts_fit, passes}
+use Rattle.chess_text.specs.Moves.{one_of, described, passes}
+use Rattle.chess_text.specs.ties.Fitting.{names, admits, is_by_squares, is_by_letter, is_straight, is_from_file, parts_fit}
 use Rattle.chess_text.specs.ties.Forms.{same_side, form_fits, is_spelled, end_square, spelled_with, with_move, with_moves, named_square, IsStart}
 use Rattle.chess_text.proofs.Alone.{castled}
 use Rattle.chess_text.proofs.AllMoves.{none-kept}
-use Rattle.chess_text.proofs.Legal.{castling_says, legal_move, IsMove, told_of, described_is}
+use Rattle.chess_text.proofs.Legal.{described_by, castling_says, legal_move, IsMove, told_of, described_is}
 use Rattle.chess_text.proofs.SpelledMoves.{spelled_ends, all_spelled}
 
 -- the piece of a legal move, as a test
@@ -166,7 +167,7 @@ by_pawn p q w at square origins = λ m spelled legal.
     (spelled_ends (Piece q) p m spelled)
 
 king_by : (v : CastlingSide) (p : Setup) (m : Move) (o : Option Man)
-    → passes (form_fits (Castling v)) (described_as p m o) ≡ true → is_man p.side King (man_at p.men m.from) ≡ true
+    → passes (form_fits (Castling v)) (described_by p m o) ≡ true → is_man p.side King (man_at p.men m.from) ≡ true
 king_by v p m None h = cc
 king_by v p m (Some x) h = let c = castled (same_side v) _ h in (castling_says p m c.0 c.1).0
 

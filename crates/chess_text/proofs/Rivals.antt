@@ -1,4 +1,4 @@
--- The rivals of an officer's move begin on the squares from which another piece of its kind has the legal move to the
+-- The rivals of the move of a piece that has a letter begin on the squares from which another piece of its kind has the legal move to the
 -- end square.
 use mathlib.Core.Bool.{and-false}
 use Rattle.std.proofs.Common.{◌≡◌, ◌≢◌, ℕ, zero, suc, ◌<◌, ◌+◌, ◌≤◌, inl, inr, Bool, true, false, not, ◌&&◌, ◌==◌, if◌then◌else◌, cond, Some, None, List, [], ◌∷◌, ◌++◌, map, refl, sym, ap, ◌∙◌, arith}
@@ -22,8 +22,9 @@ use Rattle.chess_moves.proofs.Parts.{filter-flat_map}
 use Rattle.chess_moves.proofs.SomeMember.{any-filter, any-square}
 use Rattle.chess_text.specs.declared.described.Described.{Described}
 use Rattle.chess_text.specs.Moves.{described, passes}
-use Rattle.chess_text.specs.San.{is_rival, rival_starts, said, some_on_file, some_on_rank, disambiguate}
-use Rattle.chess_text.proofs.Alone.{same_kind-self, same_kind-true}
+use Rattle.chess_text.specs.San.{is_rival, rival_starts}
+use Rattle.chess_text.specs.ties.SanParts.{distinction, some_on_file, some_on_rank, disambiguate}
+use Rattle.chess_text.proofs.SameKinds.{same_kind-self, same_kind-true}
 use Rattle.chess_text.proofs.AllMoves.{filter-both, none-kept, kept, alone-square}
 use Rattle.chess_text.proofs.Legal.{IsMove, legal_move, described_is}
 use Rattle.chess_text.proofs.Starts.{unpromoted, one_kept}
@@ -47,9 +48,9 @@ of_move : (p : Setup) (d : Described) (m : Move) (h : IsMove p m)
 unfolding is_rival
 of_move p d m h = ap (λ o. is_other d m && passes (λ x. same_kind x.man d.man) o) (described_is p m h)
 
-officer : (j k : Kind) → same_kind j k ≡ true → same_kind k Pawn ≡ false
+lettered : (j k : Kind) → same_kind j k ≡ true → same_kind k Pawn ≡ false
     → (same_kind k j ≡ true) × (same_kind Pawn k ≡ false)
-officer j k e other = (same k j (same_kind-true j k e), apart k other)
+lettered j k e other = (same k j (same_kind-true j k e), apart k other)
   where
     same : (k j : Kind) → j ≡ k → same_kind k j ≡ true
     same k j e = rw e (same_kind-self k)
@@ -67,7 +68,7 @@ stays : (p : Setup) (d : Described) (m : Move) → same_kind d.man Pawn ≡ fals
 stays p d m other e =
     let both = and_parts (is_legal p m) (is_rival p d m) e in
     let h = legal_move p m both.0 in
-    let kinds = officer h.man d.man
+    let kinds = lettered h.man d.man
     (and_parts (is_other d m) (same_kind h.man d.man) (sym (of_move p d m h) ∙ both.1)).1 other in
     unpromoted p m d.man h.man h.moves_as kinds.0 kinds.1
 
@@ -176,13 +177,13 @@ some_member w some =
           absurd cc
     ]
 
-pub alone : (from w : ℕ) → w ≡ 0 → said false false ≡ disambiguate from (members w)
+pub alone : (from w : ℕ) → w ≡ 0 → distinction false false ≡ disambiguate from (members w)
 alone from w none = ap (disambiguate from) (sym (members_none w none))
 
 -- beside others it is by their files and ranks
 pub beside_others : (from w : ℕ) (empty : Bool) → empty ≡ not (some_square (λ k. has w k)) → empty ≡ false
-    → (if not (some_on_file (file from) (members w)) then said true false
-    else (if not (some_on_rank (rank from) (members w)) then said false true else said true true))
+    → (if not (some_on_file (file from) (members w)) then distinction true false
+    else (if not (some_on_rank (rank from) (members w)) then distinction false true else distinction true true))
     ≡ disambiguate from (members w)
 beside_others from w empty is off = by_others from (members w) (some_member w (occupied empty (some_square (λ k. has w k)) is off))
   where
@@ -191,17 +192,17 @@ beside_others from w empty is off = by_others from (members w) (some_member w (o
     occupied empty false is off = cc
 
     by_others : (from : ℕ) (xs : List ℕ) → list_any (λ s. true) xs ≡ true
-        → (if not (some_on_file (file from) xs) then said true false
-        else (if not (some_on_rank (rank from) xs) then said false true else said true true)) ≡ disambiguate from xs
+        → (if not (some_on_file (file from) xs) then distinction true false
+        else (if not (some_on_rank (rank from) xs) then distinction false true else distinction true true)) ≡ disambiguate from xs
     by_others from [] h = absurd cc
     by_others from (x ∷ xs) h = refl
 
 pub file_said : (from f w : ℕ) (empty on : Bool) → empty ≡ not (some_square (λ k. has w k)) → empty ≡ false
-    → f ≡ file from → on ≡ some_on_file f (members w) → on ≡ false → said true false ≡ disambiguate from (members w)
+    → f ≡ file from → on ≡ some_on_file f (members w) → on ≡ false → distinction true false ≡ disambiguate from (members w)
 file_said from f w empty on is full at found off =
     let none : some_on_file (file from) (members w) ≡ false = ap (λ n. some_on_file n (members w)) (sym at) ∙ sym found
     ∙ off in
-    sym (ap (λ b. if not b then said true false
-    else (if not (some_on_rank (rank from) (members w)) then said false true else said true true))
+    sym (ap (λ b. if not b then distinction true false
+    else (if not (some_on_rank (rank from) (members w)) then distinction false true else distinction true true))
     none)
     ∙ beside_others from w empty is full

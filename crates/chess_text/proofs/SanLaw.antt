@@ -1,7 +1,7 @@
 -- The SAN of a legal move denotes it alone.
 use Rattle.std.proofs.Common.{◌≡◌, ℕ, ◌<◌, ◌≤◌, inl, inr, Bool, true, false, not, ◌&&◌, ◌||◌, List, ◌++◌, length, Option, Some, None, is_none, refl, sym, ap, subst, ◌∙◌, arith, ◌==◌}
 use Rattle.std.specs.Prelude.{IfSome, IsTrue}
-use Rattle.std.specs.Option.{option_map}
+use Rattle.std.specs.Option.{option_map, option_map_or}
 use Rattle.std.proofs.lemmas.Bool.{and_parts, and_from, or_cases, eqb-true, eq-eqb, both_ways}
 use Rattle.std.specs.List.{list_any, list_all, filter}
 use Rattle.chess_base.specs.declared.man.CastlingSide.{CastlingSide}
@@ -12,6 +12,7 @@ use Rattle.chess_base.specs.declared.man.Man.{Man}
 use Rattle.chess_base.specs.declared.man.Move.{Move}
 use Rattle.chess_base.specs.declared.setup.Setup.{Setup}
 use Rattle.chess_base.specs.Attacks.{is_rank_ahead}
+use Rattle.chess_base.specs.Coordinates.{optional}
 use Rattle.chess_base.specs.Men.{man_at, same_kind}
 use Rattle.chess_base.specs.Moves.{is_legal, after, pawn_moves}
 use Rattle.chess_base.specs.Castling.{castling, right_of}
@@ -27,18 +28,23 @@ use Rattle.chess_base.proofs.MenFacts.{is_none-None}
 use Rattle.chess_base.proofs.StaysSound.{one_king_of}
 use Rattle.chess_moves.proofs.SomeMember.{any-filter}
 use Rattle.chess_text.specs.declared.writing.Disambiguation.{Disambiguation}
-use Rattle.chess_text.specs.laws.Laws.{SpellsAlone, is_san_byte, begins_with_letter, AreParts, IsOfficer, CanPromote}
-use Rattle.chess_text.specs.Parts.{unmarked, parts_text}
-use Rattle.chess_text.specs.Moves.{captures, passes, admits, has_equals, promotes_so, is_form, parts_fit, is_by_squares, is_by_letter, is_straight, is_from_file, shape, reading}
+use Rattle.chess_text.specs.laws.Laws.{SpellsAlone, is_san_byte, begins_with_letter, AreParts, HasLetter, CanPromote}
+use Rattle.chess_text.specs.Parts.{unmarked}
+use Rattle.chess_text.specs.ties.Fitting.{parts_text}
+use Rattle.chess_text.specs.Moves.{captures, passes, shape, reading}
+use Rattle.chess_text.specs.ties.Fitting.{admits, has_equals, promotes_so, is_form, parts_fit, is_by_squares, is_by_letter, is_straight, is_from_file}
 use Rattle.chess_text.specs.ties.Forms.{same_side}
-use Rattle.chess_text.specs.San.{castling_text, disambiguate, if_said, pawn_parts, officer_parts, walk_parts, is_rival, rival_starts, text_by_castling, check_mark, san_as, san}
-use Rattle.chess_text.proofs.Alone.{read_alone, spelled_parts, shape_parts, spelled_castling, shape_castling, spells_move, same_kind-self, same_kind-true, move_is, written, promotes-self, promotes-same}
+use Rattle.chess_text.specs.San.{castling_text, is_rival, rival_starts, piece_text, unmarked_san, check_mark, san}
+use Rattle.chess_text.specs.ties.SanParts.{disambiguate, if_written, pawn_parts, lettered_parts, piece_parts}
+use Rattle.chess_text.proofs.Alone.{read_alone, spelled_parts, shape_parts, spelled_castling, shape_castling, spells_move, move_is, written, promotes-self, promotes-same}
+use Rattle.chess_text.proofs.SameKinds.{same_kind-self, same_kind-true}
 use Rattle.chess_text.proofs.AllMoves.{any-move}
-use Rattle.chess_text.proofs.AllParts.{any-map}
+use Rattle.chess_text.proofs.Lists.{any-map}
 use Rattle.chess_text.proofs.Castlings.{IsCastling, letters_kingside, letters_queenside}
 use Rattle.chess_text.proofs.Legal.{MovesAs, IsMove, legal_move, told_of, described_is, castling_says, names_end}
 use Rattle.chess_text.proofs.Pawns.{pawn_of, pawn_stands, advances_on_file, same_advance, advances_without, advances_straight, captures_ahead, same_ahead}
 use Rattle.chess_text.proofs.Solid.{bare_parts, bare_castling, bare_marked}
+use Rattle.chess_text.proofs.PieceText.{piece_written}
 use Rattle.chess_text.proofs.Words.{IsWord, Word, file_letter, man_letter, parts_bytes, castling_word, castling_bytes, marked_word}
 use Rattle.chess_text.proofs.Told.{told_admits, told_apart}
 
@@ -87,7 +93,7 @@ same_castling p m n w sound h g e f =
 abbrev pawn_named : Bool → ℕ → ℕ → Option Promotion → Parts
 pawn_named c from to promotion = record {
   letter = None;
-  file = if_said c (file from);
+  file = if_written c (file from);
   rank = None;
   takes = c;
   end = record { to = to; promotion = promotion };
@@ -102,11 +108,11 @@ pawn_is : (p : Setup) (m : Move) (k : Kind)
     → pawn_parts (told_of p m k) ≡ pawn_named (captures p m) m.from m.to (written true false m.promotion)
 pawn_is p m k = ap (pawn_named (captures p m) m.from m.to) (as_written m.promotion)
 
-said_file : (c : Bool) (s : ℕ) → IfSome (if_said c (file s)) (λ f. f < 8)
+said_file : (c : Bool) (s : ℕ) → IfSome (if_written c (file s)) (λ f. f < 8)
 said_file true s = omega arith
 said_file false s = tt
 
-said_rank : (c : Bool) (s : ℕ) → s < 64 → IfSome (if_said c (rank s)) (λ r. r < 8)
+said_rank : (c : Bool) (s : ℕ) → s < 64 → IfSome (if_written c (rank s)) (λ r. r < 8)
 said_rank true s h = omega arith
 said_rank false s h = tt
 
@@ -269,50 +275,50 @@ pawn_on_file p m sound h is e =
 abbrev rivals : Setup → Move → Kind → List ℕ
 rivals p m k = rival_starts p (moves p) (told_of p m k)
 
-abbrev officer_named : Kind → Disambiguation → Bool → ℕ → ℕ → Parts
-officer_named k start c from to =
+abbrev lettered_named : Kind → Disambiguation → Bool → ℕ → ℕ → Parts
+lettered_named k start c from to =
     record {
       letter = Some k;
-      file = if_said start.file (file from);
-      rank = if_said start.rank (rank from);
+      file = if_written start.file (file from);
+      rank = if_written start.rank (rank from);
       takes = c;
       end = record { to = to; promotion = None };
     }
 
-officer_is : (p : Setup) (m : Move) (k : Kind) (others : List ℕ) → m.promotion ≡ None
-    → officer_parts others (told_of p m k) ≡ officer_named k (disambiguate m.from others) (captures p m) m.from m.to
-officer_is p m k others none =
+lettered_is : (p : Setup) (m : Move) (k : Kind) (others : List ℕ) → m.promotion ≡ None
+    → lettered_parts others (told_of p m k) ≡ lettered_named k (disambiguate m.from others) (captures p m) m.from m.to
+lettered_is p m k others none =
     ap (λ (o : Option Kind). let start = disambiguate m.from others in
     let q : Parts = record {
       letter = Some k;
-      file = if_said start.file (file m.from);
-      rank = if_said start.rank (rank m.from);
+      file = if_written start.file (file m.from);
+      rank = if_written start.rank (rank m.from);
       takes = captures p m;
       end =
           record { to = m.to; promotion = option_map (λ k. record { kind = k; equals = true; small = false }) o };
     } in
     q) none
 
-officer_are_parts : (k : Kind) (start : Disambiguation) (c : Bool) (from to : ℕ) → IsOfficer k → from < 64 → to < 64
-    → AreParts (officer_named k start c from to)
-officer_are_parts k start c from to officer f t =
+lettered_are_parts : (k : Kind) (start : Disambiguation) (c : Bool) (from to : ℕ) → HasLetter k → from < 64 → to < 64
+    → AreParts (lettered_named k start c from to)
+lettered_are_parts k start c from to lettered f t =
     record {
-      letter_is = officer;
+      letter_is = lettered;
       file_is = said_file start.file from;
       rank_is = said_rank start.rank from f;
       to_is = t;
       promotion_is = tt;
     }
 
-officer_form : (k : Kind) (start : Disambiguation) (c : Bool) (from to : ℕ)
-    → is_form (officer_named k start c from to) ≡ true
+lettered_form : (k : Kind) (start : Disambiguation) (c : Bool) (from to : ℕ)
+    → is_form (lettered_named k start c from to) ≡ true
 unfolding is_form
-officer_form k start c from to = refl
+lettered_form k start c from to = refl
 
-officer_fits : (p : Setup) (m : Move) (k : Kind) (start : Disambiguation) → castling p m ≡ None
-    → parts_fit (officer_named k start (captures p m) m.from m.to) (told_of p m k) ≡ true
+lettered_fits : (p : Setup) (m : Move) (k : Kind) (start : Disambiguation) → castling p m ≡ None
+    → parts_fit (lettered_named k start (captures p m) m.from m.to) (told_of p m k) ≡ true
 unfolding parts_fit is_by_squares is_by_letter is_straight is_from_file
-officer_fits p m k start none =
+lettered_fits p m k start none =
     let a = same_kind-self k in
     let b = told_admits start.file (file m.from) in
     let c = told_admits start.rank (rank m.from) in
@@ -323,45 +329,45 @@ officer_fits p m k start none =
 record Goes (p : Setup) (m n : Move) (k l : Kind) (start : Disambiguation) : Type 0 where
   man : l ≡ k
   walks : castling p n ≡ None
-  file_fits : admits (if_said start.file (file m.from)) (file n.from) ≡ true
-  rank_fits : admits (if_said start.rank (rank m.from)) (rank n.from) ≡ true
+  file_fits : admits (if_written start.file (file m.from)) (file n.from) ≡ true
+  rank_fits : admits (if_written start.rank (rank m.from)) (rank n.from) ≡ true
   to : n.to ≡ m.to
 
-officer_goes : (p : Setup) (m n : Move) (k l : Kind) (start : Disambiguation) (c : Bool)
-    → parts_fit (officer_named k start c m.from m.to) (told_of p n l) ≡ true → Goes p m n k l start
+lettered_goes : (p : Setup) (m n : Move) (k l : Kind) (start : Disambiguation) (c : Bool)
+    → parts_fit (lettered_named k start c m.from m.to) (told_of p n l) ≡ true → Goes p m n k l start
 unfolding parts_fit is_by_squares is_by_letter is_straight is_from_file
-officer_goes p m n k l start c e =
-    let by_letter : (same_kind k l && is_none (castling p n) && admits (if_said start.file (file m.from)) (file n.from)
-    && admits (if_said start.rank (rank m.from)) (rank n.from) && (not c || captures p n) && (m.to == n.to) && true)
+lettered_goes p m n k l start c e =
+    let by_letter : (same_kind k l && is_none (castling p n) && admits (if_written start.file (file m.from)) (file n.from)
+    && admits (if_written start.rank (rank m.from)) (rank n.from) && (not c || captures p n) && (m.to == n.to) && true)
     ≡ true =
     elim (or_cases
-    ((same_kind k l && is_none (castling p n) && admits (if_said start.file (file m.from)) (file n.from)
-    && admits (if_said start.rank (rank m.from)) (rank n.from) && (not c || captures p n) && (m.to == n.to)
+    ((same_kind k l && is_none (castling p n) && admits (if_written start.file (file m.from)) (file n.from)
+    && admits (if_written start.rank (rank m.from)) (rank n.from) && (not c || captures p n) && (m.to == n.to)
     && true) || false) false e) [
       | inr h ↦ absurd cc
       | inl h ↦ elim
-          (or_cases (same_kind k l && is_none (castling p n) && admits (if_said start.file (file m.from)) (file n.from)
-          && admits (if_said start.rank (rank m.from)) (rank n.from) && (not c || captures p n) && (m.to == n.to)
+          (or_cases (same_kind k l && is_none (castling p n) && admits (if_written start.file (file m.from)) (file n.from)
+          && admits (if_written start.rank (rank m.from)) (rank n.from) && (not c || captures p n) && (m.to == n.to)
           && true) false h) [
             | inr g ↦ absurd cc
             | inl g ↦ g
           ]
     ] in
     let e5 = and_parts (same_kind k l && is_none (castling p n)
-    && admits (if_said start.file (file m.from)) (file n.from)
-    && admits (if_said start.rank (rank m.from)) (rank n.from) && (not c || captures p n) && (m.to == n.to)) true
+    && admits (if_written start.file (file m.from)) (file n.from)
+    && admits (if_written start.rank (rank m.from)) (rank n.from) && (not c || captures p n) && (m.to == n.to)) true
     by_letter in
     let e4 = and_parts (same_kind k l && is_none (castling p n)
-    && admits (if_said start.file (file m.from)) (file n.from)
-    && admits (if_said start.rank (rank m.from)) (rank n.from) && (not c || captures p n)) (m.to == n.to) e5.0 in
+    && admits (if_written start.file (file m.from)) (file n.from)
+    && admits (if_written start.rank (rank m.from)) (rank n.from) && (not c || captures p n)) (m.to == n.to) e5.0 in
     let e3 = and_parts (same_kind k l && is_none (castling p n)
-    && admits (if_said start.file (file m.from)) (file n.from)
-    && admits (if_said start.rank (rank m.from)) (rank n.from)) (not c || captures p n) e4.0 in
+    && admits (if_written start.file (file m.from)) (file n.from)
+    && admits (if_written start.rank (rank m.from)) (rank n.from)) (not c || captures p n) e4.0 in
     let e2 = and_parts (same_kind k l && is_none (castling p n)
-    && admits (if_said start.file (file m.from)) (file n.from))
-    (admits (if_said start.rank (rank m.from)) (rank n.from)) e3.0 in
+    && admits (if_written start.file (file m.from)) (file n.from))
+    (admits (if_written start.rank (rank m.from)) (rank n.from)) e3.0 in
     let e1 = and_parts (same_kind k l && is_none (castling p n))
-    (admits (if_said start.file (file m.from)) (file n.from)) e2.0 in
+    (admits (if_written start.file (file m.from)) (file n.from)) e2.0 in
     let e0 = and_parts (same_kind k l) (is_none (castling p n)) e1.0 in
     record {
       man = sym (same_kind-true k l e0.0);
@@ -390,27 +396,27 @@ rival_is p m n k g man to apart =
     let c : same_kind g.man k ≡ true = ap (λ v. same_kind v k) man ∙ same_kind-self k in
     rw (a, apart, b, c) refl
 
-no_promotion : (p : Setup) (n : Move) (k : Kind) → IsOfficer k → MovesAs p n k → n.promotion ≡ None
-no_promotion p n Pawn officer h = absurd officer
-no_promotion p n King officer h = h
-no_promotion p n Queen officer h = h
-no_promotion p n Rook officer h = h
-no_promotion p n Bishop officer h = h
-no_promotion p n Knight officer h = h
+no_promotion : (p : Setup) (n : Move) (k : Kind) → HasLetter k → MovesAs p n k → n.promotion ≡ None
+no_promotion p n Pawn lettered h = absurd lettered
+no_promotion p n King lettered h = h
+no_promotion p n Queen lettered h = h
+no_promotion p n Rook lettered h = h
+no_promotion p n Bishop lettered h = h
+no_promotion p n Knight lettered h = h
 
-officer_alone : (p : Setup) (m n : Move) (k : Kind) → IsOfficer k → m.promotion ≡ None → is_legal p n ≡ true
+lettered_alone : (p : Setup) (m n : Move) (k : Kind) → HasLetter k → m.promotion ≡ None → is_legal p n ≡ true
     → (g : IsMove p n)
-    → parts_fit (officer_named k (disambiguate m.from (rivals p m k)) (captures p m) m.from m.to) (told_of p n g.man) ≡ true
+    → parts_fit (lettered_named k (disambiguate m.from (rivals p m k)) (captures p m) m.from m.to) (told_of p n g.man) ≡ true
     → n ≡ m
-officer_alone p m n k officer none legal g fit = by_start (n.from == m.from) refl
+lettered_alone p m n k lettered none legal g fit = by_start (n.from == m.from) refl
   where
     goes : Goes p m n k g.man (disambiguate m.from (rivals p m k))
-    goes = officer_goes p m n k g.man (disambiguate m.from (rivals p m k)) (captures p m) fit
+    goes = lettered_goes p m n k g.man (disambiguate m.from (rivals p m k)) (captures p m) fit
 
     by_start : (t : Bool) → (n.from == m.from) ≡ t → n ≡ m
     by_start true e =
         let so : MovesAs p n k = subst (MovesAs p n) goes.man g.moves_as in
-        move_is n m (eqb-true n.from m.from e) goes.to (no_promotion p n k officer so ∙ sym none)
+        move_is n m (eqb-true n.from m.from e) goes.to (no_promotion p n k lettered so ∙ sym none)
     by_start false e =
         let rival = rival_is p m n k g goes.man goes.to e in
         absurd (told_apart m.from n.from (rivals p m k)
@@ -427,11 +433,11 @@ pawn_word true from to (Some k) = record { short = omega arith; long = omega ari
 pawn_word false from to None = record { short = omega arith; long = omega arith; letter = file_letter to }
 pawn_word false from to (Some k) = record { short = omega arith; long = omega arith; letter = file_letter to }
 
-officer_word : (k : Kind) (start : Disambiguation) (c : Bool) (from to : ℕ)
-    → IsWord (parts_text (officer_named k start c from to))
-officer_word k start c from to = by_said start.file start.rank c
+lettered_word : (k : Kind) (start : Disambiguation) (c : Bool) (from to : ℕ)
+    → IsWord (parts_text (lettered_named k start c from to))
+lettered_word k start c from to = by_said start.file start.rank c
   where
-    by_said : (f r c : Bool) → IsWord (parts_text (officer_named k (record { file = f; rank = r }) c from to))
+    by_said : (f r c : Bool) → IsWord (parts_text (lettered_named k (record { file = f; rank = r }) c from to))
     by_said true true true = record { short = omega arith; long = omega arith; letter = man_letter k }
     by_said true true false = record { short = omega arith; long = omega arith; letter = man_letter k }
     by_said true false true = record { short = omega arith; long = omega arith; letter = man_letter k }
@@ -459,45 +465,46 @@ pawn_parts_of p m sound h is = record {
   alone = λ n legal g fit. pawn_alone p m n (captures p m) sound h is g refl fit;
 }
 
-officer_parts_of : (p : Setup) (m : Move) (k : Kind) → IsOfficer k → castling p m ≡ None → m.promotion ≡ None
+lettered_parts_of : (p : Setup) (m : Move) (k : Kind) → HasLetter k → castling p m ≡ None → m.promotion ≡ None
     → m.from < 64 → m.to < 64
-    → HasParts p m k (officer_named k (disambiguate m.from (rivals p m k)) (captures p m) m.from m.to)
-officer_parts_of p m k officer walks none f t = record {
-  are = officer_are_parts k (disambiguate m.from (rivals p m k)) (captures p m) m.from m.to officer f t;
-  form = officer_form k (disambiguate m.from (rivals p m k)) (captures p m) m.from m.to;
-  word = officer_word k (disambiguate m.from (rivals p m k)) (captures p m) m.from m.to;
-  fits_it = officer_fits p m k (disambiguate m.from (rivals p m k)) walks;
-  alone = λ n legal g fit. officer_alone p m n k officer none legal g fit;
+    → HasParts p m k (lettered_named k (disambiguate m.from (rivals p m k)) (captures p m) m.from m.to)
+lettered_parts_of p m k lettered walks none f t = record {
+  are = lettered_are_parts k (disambiguate m.from (rivals p m k)) (captures p m) m.from m.to lettered f t;
+  form = lettered_form k (disambiguate m.from (rivals p m k)) (captures p m) m.from m.to;
+  word = lettered_word k (disambiguate m.from (rivals p m k)) (captures p m) m.from m.to;
+  fits_it = lettered_fits p m k (disambiguate m.from (rivals p m k)) walks;
+  alone = λ n legal g fit. lettered_alone p m n k lettered none legal g fit;
 }
 
 along : (p : Setup) (m : Move) (k : Kind) (q r : Parts) → r ≡ q → HasParts p m k q → HasParts p m k r
 along p m k q r e h = rw e h
 
-officer_by : (p : Setup) (m : Move) (h : IsMove p m) → castling p m ≡ None → (k : Kind) → IsOfficer k → h.man ≡ k
-    → HasParts p m k (officer_parts (rivals p m k) (told_of p m k))
-officer_by p m h walks k officer is =
+lettered_by : (p : Setup) (m : Move) (h : IsMove p m) → castling p m ≡ None → (k : Kind) → HasLetter k → h.man ≡ k
+    → HasParts p m k (lettered_parts (rivals p m k) (told_of p m k))
+lettered_by p m h walks k lettered is =
     let so : MovesAs p m k = subst (MovesAs p m) is h.moves_as in
-    let none = no_promotion p m k officer so in
-    along p m k _ _ (officer_is p m k (rivals p m k) none) (officer_parts_of p m k officer walks none h.from_in h.to_in)
+    let none = no_promotion p m k lettered so in
+    along p m k _ _ (lettered_is p m k (rivals p m k) none) (lettered_parts_of p m k lettered walks none h.from_in h.to_in)
 
 walk_by : (p : Setup) (m : Move) → IsSound p → (h : IsMove p m) → castling p m ≡ None → (k : Kind) → h.man ≡ k
-    → HasParts p m k (walk_parts (rivals p m k) (told_of p m k))
-unfolding walk_parts
+    → HasParts p m k (piece_parts (rivals p m k) (told_of p m k))
+unfolding piece_parts
 walk_by p m sound h walks Pawn is = along p m Pawn _ _ (pawn_is p m Pawn) (pawn_parts_of p m sound h is)
-walk_by p m sound h walks King is = officer_by p m h walks King tt is
-walk_by p m sound h walks Queen is = officer_by p m h walks Queen tt is
-walk_by p m sound h walks Rook is = officer_by p m h walks Rook tt is
-walk_by p m sound h walks Bishop is = officer_by p m h walks Bishop tt is
-walk_by p m sound h walks Knight is = officer_by p m h walks Knight tt is
+walk_by p m sound h walks King is = lettered_by p m h walks King tt is
+walk_by p m sound h walks Queen is = lettered_by p m h walks Queen tt is
+walk_by p m sound h walks Rook is = lettered_by p m h walks Rook tt is
+walk_by p m sound h walks Bishop is = lettered_by p m h walks Bishop tt is
+walk_by p m sound h walks Knight is = lettered_by p m h walks Knight tt is
 
 walk_has_parts : (p : Setup) (m : Move) → IsSound p → (h : IsMove p m) → castling p m ≡ None
-    → HasParts p m h.man (walk_parts (rivals p m h.man) (told_of p m h.man))
+    → HasParts p m h.man (piece_parts (rivals p m h.man) (told_of p m h.man))
 walk_has_parts p m sound h walks = walk_by p m sound h walks h.man refl
 
 san_text : (p : Setup) (m : Move) (h : IsMove p m)
-    → san p m ≡ text_by_castling (castling p m) (rivals p m h.man) (told_of p m h.man) ++ check_mark (after p m)
+    → san p m ≡ option_map_or castling_text (castling p m) (piece_text (rivals p m h.man) (told_of p m h.man)) ++ check_mark (after p m)
 unfolding san
-san_text p m h = ap (san_as p m) (described_is p m h)
+san_text p m h =
+    ap (optional (λ d. unmarked_san (rival_starts p (moves p) d) d ++ check_mark (after p m))) (described_is p m h)
 
 -- what the laws say of a text
 pub record Law (p : Setup) (m : Move) (text : List ℕ) : Type 0 where
@@ -537,18 +544,20 @@ walk_law p m text q h parts bare = record {
 
 law_by : (p : Setup) (m : Move) (text : List ℕ) → IsSound p → (h : IsMove p m) → (o : Option CastlingSide)
     → castling p m ≡ o
-    → text ≡ text_by_castling o (rivals p m h.man) (told_of p m h.man) ++ check_mark (after p m)
+    → text ≡ option_map_or castling_text o (piece_text (rivals p m h.man) (told_of p m h.man)) ++ check_mark (after p m)
     → Law p m text × Word text
 law_by p m text sound h (Some w) e is = (
   castling_law p m text w sound h e (ap unmarked is ∙ bare_marked (after p m) (castling_text w) (bare_castling w)),
   marked_word (after p m) (castling_text w) text (castling_word w) (castling_bytes w) is,
 )
 law_by p m text sound h None e is =
-    let q = walk_parts (rivals p m h.man) (told_of p m h.man) in
-    let parts = walk_has_parts p m sound h e in (
-      walk_law p m text q h parts (ap unmarked is ∙ bare_marked (after p m) (parts_text q)
+    let q = piece_parts (rivals p m h.man) (told_of p m h.man) in
+    let parts = walk_has_parts p m sound h e in
+    let written : text ≡ parts_text q ++ check_mark (after p m) =
+    is ∙ ap (λ v. v ++ check_mark (after p m)) (piece_written (rivals p m h.man) (told_of p m h.man)) in (
+      walk_law p m text q h parts (ap unmarked written ∙ bare_marked (after p m) (parts_text q)
           (bare_parts q parts.are.to_is)),
-      marked_word (after p m) (parts_text q) text parts.word (parts_bytes q parts.are) is,
+      marked_word (after p m) (parts_text q) text parts.word (parts_bytes q parts.are) written,
     )
 
 law : (p : Setup) (m : Move) → IsSound p → is_legal p m ≡ true → Law p m (san p m) × Word (san p m)

@@ -6,10 +6,11 @@ use Rattle.chess_base.specs.declared.man.Kind.TheVariants.{King, Queen, Rook, Bi
 use Rattle.chess_base.specs.declared.man.Move.{Move}
 use Rattle.chess_base.specs.declared.setup.Setup.{Setup}
 use Rattle.chess_base.specs.Moves.{is_legal, after}
+use Rattle.chess_base.specs.Coordinates.{optional}
 use Rattle.chess_base.specs.MoveList.{moves}
 use Rattle.chess_text.specs.declared.described.Described.{Described}
 use Rattle.chess_text.specs.Moves.{described}
-use Rattle.chess_text.specs.San.{rival_starts, unmarked_san, check_mark, san_as, san}
+use Rattle.chess_text.specs.San.{rival_starts, unmarked_san, check_mark, san}
 use Rattle.chess_text.specs.ties.Forms.{promotes_as_a_pawn}
 use Rattle.chess_text.proofs.Legal.{MovesAs, legal_move, described_is, told_of}
 
@@ -41,4 +42,5 @@ always_described p m h e =
 pub san_marked : (p : Setup) (m : Move) (d : Described) (unmarked : List ℕ) → Some d ≡ described p m
     → unmarked ≡ unmarked_san (rival_starts p (moves p) d) d → unmarked ++ check_mark (after p m) ≡ san p m
 unfolding san
-san_marked p m d unmarked is body = ap (λ v. v ++ check_mark (after p m)) body ∙ ap (san_as p m) is
+san_marked p m d unmarked is body = ap (λ v. v ++ check_mark (after p m)) body
+    ∙ ap (optional (λ e. unmarked_san (rival_starts p (moves p) e) e ++ check_mark (after p m))) is

@@ -14,7 +14,8 @@ use Rattle.chess_base.specs.MoveList.{moves}
 use Rattle.chess_base.specs.Squares.{file, rank}
 use Rattle.chess_text.specs.declared.parts.Parts.{Parts}
 use Rattle.chess_text.specs.declared.parts.Promotion.{Promotion}
-use Rattle.chess_text.specs.Parts.{is_mark, unmarked, when, kind_text, file_text, rank_text, promotion_letter, promotion_text, end_text, parts_text}
+use Rattle.chess_text.specs.Parts.{is_mark, unmarked, when, kind_text, file_text, rank_text}
+use Rattle.chess_text.specs.ties.Fitting.{promotion_letter, promotion_text, end_text, parts_text}
 use Rattle.chess_text.specs.San.{castling_text, check_mark}
 use Rattle.chess_text.proofs.Marks.{unmarked-solid, unmarked-marked}
 

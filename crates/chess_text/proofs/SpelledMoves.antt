@@ -18,11 +18,12 @@ use Rattle.chess_text.specs.declared.described.Described.{Described}
 use Rattle.chess_text.specs.declared.form.Form.{Form}
 use Rattle.chess_text.specs.declared.form.Form.TheVariants.{Castling, Piece}
 use Rattle.chess_text.specs.declared.parts.Parts.{Parts}
-use Rattle.chess_text.specs.Moves.{described, described_as, is_by_squares, is_by_letter, is_straight, is_from_file, parts_fit, passes}
+use Rattle.chess_text.specs.Moves.{described, passes}
+use Rattle.chess_text.specs.ties.Fitting.{is_by_squares, is_by_letter, is_straight, is_from_file, parts_fit}
 use Rattle.chess_text.specs.ties.Forms.{same_side, form_fits, is_spelled, castling_end, end_square, spelled_with}
 use Rattle.chess_text.proofs.Alone.{castled}
 use Rattle.chess_text.proofs.AllMoves.{filter-both, none-kept, kept, alone-square}
-use Rattle.chess_text.proofs.Legal.{castling_says, names_end, legal_move}
+use Rattle.chess_text.proofs.Legal.{described_by, castling_says, names_end, legal_move}
 
 -- ---- where a denoted move ends
 
@@ -62,7 +63,7 @@ same_side-true QueenSide QueenSide h = refl
 same_side-true KingSide QueenSide h = cc
 same_side-true QueenSide KingSide h = cc
 
-form_ends : (form : Form) (p : Setup) (m : Move) (o : Option Man) → passes (form_fits form) (described_as p m o) ≡ true
+form_ends : (form : Form) (p : Setup) (m : Move) (o : Option Man) → passes (form_fits form) (described_by p m o) ≡ true
     → m.to ≡ end_square form p
 form_ends form p m None h = cc
 form_ends (Piece q) p m (Some x) h = fitting_ends q _ h

@@ -19,7 +19,8 @@ use Rattle.chess_text.specs.declared.form.Form.TheVariants.{Piece}
 use Rattle.chess_text.specs.declared.parts.Parts.{Parts}
 use Rattle.chess_text.specs.declared.parts.Promotion.{Promotion}
 use Rattle.chess_text.specs.declared.reading.Reading.{Reading}
-use Rattle.chess_text.specs.Moves.{one_of, promotes_so, is_by_squares, is_by_letter, is_straight, is_from_file, parts_fit}
+use Rattle.chess_text.specs.Moves.{one_of}
+use Rattle.chess_text.specs.ties.Fitting.{promotes_so, is_by_squares, is_by_letter, is_straight, is_from_file, parts_fit}
 use Rattle.chess_text.specs.ties.Forms.{is_spelled, spelled_with, named_square, kind_by, one_kind, is_spelled_of, spelled_start, IsStart}
 use Rattle.chess_text.proofs.Legal.{legal_move, MovesAs, told_of}
 use Rattle.chess_text.proofs.Origins.{man_is, fits_told, letter_fits, pawn_named, spelled_from}

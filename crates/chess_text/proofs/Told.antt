@@ -2,15 +2,15 @@
 use Rattle.std.proofs.Common.{◌≡◌, ◌≢◌, ℕ, Bool, true, false, not, cond, List, [], ◌∷◌, refl, ap, arith}
 use Rattle.std.proofs.lemmas.Bool.{eqb-true, eq-eqb}
 use Rattle.chess_base.specs.Squares.{file, rank}
-use Rattle.chess_text.specs.Moves.{admits}
-use Rattle.chess_text.specs.San.{some_on_file, some_on_rank, said, disambiguate, if_said}
+use Rattle.chess_text.specs.ties.Fitting.{admits}
+use Rattle.chess_text.specs.ties.SanParts.{some_on_file, some_on_rank, distinction, disambiguate, if_written}
 
 -- the start itself is as written
-pub told_admits : (b : Bool) (n : ℕ) → admits (if_said b n) n ≡ true
+pub told_admits : (b : Bool) (n : ℕ) → admits (if_written b n) n ≡ true
 told_admits true n = eq-eqb n n refl
 told_admits false n = refl
 
-admitted : (n k : ℕ) → admits (if_said true n) k ≡ true → n ≡ k
+admitted : (n k : ℕ) → admits (if_written true n) k ≡ true → n ≡ k
 admitted n k e = eqb-true n k e
 
 pub same_square : (a b : ℕ) → file a ≡ file b → rank a ≡ rank b → b ≡ a
@@ -19,16 +19,16 @@ same_square a b f r = omega arith
 -- no other start among the others is
 pub told_apart : (from s : ℕ) (others : List ℕ) → some_on_file (file s) others ≡ true
     → some_on_rank (rank s) others ≡ true → s ≢ from
-    → admits (if_said (disambiguate from others).file (file from)) (file s) ≡ true
-    → admits (if_said (disambiguate from others).rank (rank from)) (rank s) ≡ true → ⊥
+    → admits (if_written (disambiguate from others).file (file from)) (file s) ≡ true
+    → admits (if_written (disambiguate from others).rank (rank from)) (rank s) ≡ true → ⊥
 told_apart from s [] f r differs a b = cc
 told_apart from s (o ∷ os) f r differs a b = by_tests (some_on_file (file from) (o ∷ os)) refl
     (some_on_rank (rank from) (o ∷ os)) refl a b
   where
     by_tests : (x : Bool) → some_on_file (file from) (o ∷ os) ≡ x → (y : Bool) → some_on_rank (rank from) (o ∷ os) ≡ y
-        → admits (if_said (cond (not x) (said true false) (cond (not y) (said false true) (said true true))).file
+        → admits (if_written (cond (not x) (distinction true false) (cond (not y) (distinction false true) (distinction true true))).file
         (file from)) (file s) ≡ true
-        → admits (if_said (cond (not x) (said true false) (cond (not y) (said false true) (said true true))).rank
+        → admits (if_written (cond (not x) (distinction true false) (cond (not y) (distinction false true) (distinction true true))).rank
         (rank from)) (rank s) ≡ true → ⊥
     by_tests false none y q a b =
         let same = ap (λ n. some_on_file n (o ∷ os)) (admitted (file from) (file s) a) in

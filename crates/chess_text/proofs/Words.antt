@@ -17,7 +17,8 @@ use Rattle.chess_base.specs.Squares.{file, rank}
 use Rattle.chess_text.specs.declared.parts.Parts.{Parts}
 use Rattle.chess_text.specs.declared.parts.Promotion.{Promotion}
 use Rattle.chess_text.specs.laws.Laws.{is_san_byte, begins_with_letter, AreParts}
-use Rattle.chess_text.specs.Parts.{when, kind_text, file_text, rank_text, promotion_letter, promotion_text, parts_text}
+use Rattle.chess_text.specs.Parts.{when, kind_text, file_text, rank_text}
+use Rattle.chess_text.specs.ties.Fitting.{promotion_letter, promotion_text, parts_text}
 use Rattle.chess_text.specs.San.{castling_text, check_mark}
 
 -- a text before its mark; with it

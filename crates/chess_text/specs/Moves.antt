@@ -1,27 +1,27 @@
 -- The texts of moves: which moves a text denotes (PGN standard of 1994, section 8.2.3). This project's additions to the
 -- standard: castling with the digit 0, a promotion in a small letter or without `=`, a capture without `x`, more of the
 -- start square than is needed, and any run of marks.
-use Rattle.std.specs.Prelude.{ℕ, ◌==◌, Bool, true, false, not, ◌&&◌, ◌||◌, if◌then◌else◌, List, [], ◌∷◌, Option, Some, None, is_some, is_none, IsTrue, codes}
+use Rattle.std.specs.Prelude.{ℕ, ◌==◌, Bool, true, false, ◌||◌, if◌then◌else◌, List, [], ◌∷◌, ◌++◌, Option, Some, None, is_some, IsTrue, codes}
 use Rattle.std.specs.List.{list_any, filter}
+use Rattle.std.specs.Option.{option_map, option_map_or}
 use Rattle.std.specs.Str.{bytes_eq}
 use Rattle.chess_base.specs.declared.man.CastlingSide.{CastlingSide}
 use Rattle.chess_base.specs.declared.man.CastlingSide.TheVariants.{KingSide, QueenSide}
 use Rattle.chess_base.specs.declared.man.Kind.{Kind}
-use Rattle.chess_base.specs.declared.man.Kind.TheVariants.{Pawn}
-use Rattle.chess_base.specs.declared.man.Man.{Man}
+use Rattle.chess_base.specs.declared.man.Kind.TheVariants.{King, Queen, Rook, Bishop, Knight, Pawn}
 use Rattle.chess_base.specs.declared.man.Move.{Move}
 use Rattle.chess_base.specs.declared.setup.Setup.{Setup}
+use Rattle.chess_base.specs.Coordinates.{small_letter_text}
+use Rattle.chess_base.specs.Letters.{square_text}
 use Rattle.chess_base.specs.Men.{man_at, is_of, other, same_kind}
 use Rattle.chess_base.specs.Moves.{is_en_passant, is_legal}
 use Rattle.chess_base.specs.Castling.{castling}
-use Rattle.chess_base.specs.MoveList.{moves}
+use Rattle.chess_base.specs.MoveList.{promotions, squares, moves}
 use Rattle.chess_base.specs.Squares.{file, rank}
 use Rattle.chess_text.specs.declared.described.Described.{Described}
-use Rattle.chess_text.specs.declared.parts.Parts.{Parts}
-use Rattle.chess_text.specs.declared.parts.Promotion.{Promotion}
 use Rattle.chess_text.specs.declared.reading.Reading.{Reading}
 use Rattle.chess_text.specs.declared.reading.Reading.TheVariants as reads
-use Rattle.chess_text.specs.Parts.{unmarked, has_parts}
+use Rattle.chess_text.specs.Parts.{unmarked, kind_text, file_text, rank_text, for_each}
 
 -- ---- what a text can say of a move
 
@@ -29,85 +29,62 @@ use Rattle.chess_text.specs.Parts.{unmarked, has_parts}
 unfoldable pub captures : Setup → Move → Bool
 captures p m = is_of (other p.side) (man_at p.men m.to) || is_en_passant p m
 
--- the description of a move of the piece on its start square, if there is one
-abbrev pub described_as : Setup → Move → Option Man → Option Described
-described_as p m None = None
-described_as p m (Some x) =
-    Some (record {
+-- the description of a move in a position: the piece on its start square, both squares, the promotion, whether it
+-- captures, and to which side it castles; nothing where no piece is there
+unfoldable pub described : Setup → Move → Option Described
+described p m =
+    option_map (λ x. record {
       man = x.kind;
       from = m.from;
       to = m.to;
       promotion = m.promotion;
       captures = captures p m;
       castles = castling p m;
-    })
+    }) (man_at p.men m.from)
 
--- the description of a move in a position: the piece on its start square, both squares, the promotion, whether it
--- captures, and to which side it castles; nothing where no piece is there
-unfoldable pub described : Setup → Move → Option Described
-described p m = described_as p m (man_at p.men m.from)
+-- ---- the texts of a move
 
--- ---- the forms of a text
+-- the start square, as far as it is written: not at all, by its file, by its rank, or in full
+abbrev pub start_texts : ℕ → List (List ℕ)
+start_texts from = [] ∷ file_text (file from) ∷ rank_text (rank from) ∷ square_text from ∷ []
 
--- if the text names a file or rank, it is this one
-abbrev pub admits : Option ℕ → ℕ → Bool
-admits None n = true
-admits (Some told) n = told == n
+-- a capture is written with `x` or without it, any other move without it
+abbrev pub capture_texts : Bool → List (List ℕ)
+capture_texts captures = [] ∷ (if captures then codes "x" ∷ [] else [])
 
--- the text names it
-abbrev pub names : Option ℕ → ℕ → Bool
-names None n = false
-names (Some told) n = told == n
+-- a promotion is written as a letter, capital or small, after one of these signs
+abbrev pub promotion_texts : List (List ℕ) → Option Kind → List (List ℕ)
+promotion_texts signs None = [] ∷ []
+promotion_texts signs (Some k) = for_each signs (λ sign. (sign ++ kind_text k) ∷ (sign ++ small_letter_text k) ∷ [])
 
--- the text names this kind of piece
-abbrev pub names_kind : Option Kind → Kind → Bool
-names_kind None k = false
-names_kind (Some told) k = same_kind told k
+-- any move by its two squares, castling too; a promotion is written without `=`
+abbrev pub texts_by_squares : Described → List (List ℕ)
+texts_by_squares d =
+    for_each (promotion_texts ([] ∷ []) d.promotion) (λ promotion.
+    (square_text d.from ++ (square_text d.to ++ promotion)) ∷ [])
 
--- with a promotion only moves with that promotion are denoted, without one only moves without
-abbrev pub promotes_so : Option Promotion → Option Kind → Bool
-promotes_so None None = true
-promotes_so None (Some k) = false
-promotes_so (Some told) None = false
-promotes_so (Some told) (Some k) = same_kind told.kind k
+-- a move of another piece than a pawn by its letter, if it is not castling
+abbrev pub texts_by_letter : Described → List (List ℕ)
+texts_by_letter d =
+    if same_kind d.man Pawn || is_some d.castles then []
+    else for_each (start_texts d.from) (λ start. for_each (capture_texts d.captures) (λ takes.
+    (kind_text d.man ++ (start ++ (takes ++ square_text d.to))) ∷ []))
 
--- the promotion is written with `=`
-abbrev pub has_equals : Option Promotion → Bool
-has_equals None = false
-has_equals (Some told) = told.equals
+-- what a pawn's text has before the end square: nothing, if the pawn stays on its file; or its file or its square, and
+-- perhaps `x`
+abbrev pub pawn_starts : Described → List (List ℕ)
+pawn_starts d =
+    (if file d.from == file d.to then [] ∷ [] else [])
+    ++ for_each (file_text (file d.from) ∷ square_text d.from ∷ []) (λ start.
+    for_each (capture_texts d.captures) (λ takes. (start ++ takes) ∷ []))
 
--- any piece from one square to another, castling too; a promotion is written without `=`
-unfoldable pub is_by_squares : Parts → Described → Bool
-is_by_squares q d =
-    is_none q.letter && names q.file (file d.from) && names q.rank (rank d.from) && not q.takes && (q.end.to == d.to)
-    && not (has_equals q.end.promotion) && promotes_so q.end.promotion d.promotion
-
--- a piece that is no pawn, not castling; with `x` only a capture
-unfoldable pub is_by_letter : Parts → Described → Bool
-is_by_letter q d =
-    names_kind q.letter d.man && is_none d.castles && admits q.file (file d.from) && admits q.rank (rank d.from)
-    && (not q.takes || d.captures) && (q.end.to == d.to) && is_none q.end.promotion
-
--- a pawn that goes straight to the square
-unfoldable pub is_straight : Parts → Described → Bool
-is_straight q d =
-    is_none q.letter && is_none q.file && is_none q.rank && not q.takes && same_kind Pawn d.man
-    && (file d.from == file d.to)
-    && (q.end.to == d.to) && promotes_so q.end.promotion d.promotion
-
--- a pawn from the file; with `x` only a capture
-unfoldable pub is_from_file : Parts → Described → Bool
-is_from_file q d =
-    is_none q.letter && names q.file (file d.from) && admits q.rank (rank d.from) && same_kind Pawn d.man
-    && (not q.takes || d.captures) && (q.end.to == d.to) && promotes_so q.end.promotion d.promotion
-
--- the parts fit the move in one of these four forms
-unfoldable pub parts_fit : Parts → Described → Bool
-parts_fit q d = is_by_squares q d || is_by_letter q d || is_straight q d || is_from_file q d
-
--- the parts are those of one of these forms: a letter and no promotion, or no letter and a file, or a square alone
-unfoldable pub is_form : Parts → Bool
-is_form q = if is_some q.letter then is_none q.end.promotion else is_some q.file || (is_none q.rank && not q.takes)
+-- a pawn's move; a promotion is written with `=` or without it
+abbrev pub texts_of_pawn : Described → List (List ℕ)
+texts_of_pawn d =
+    if same_kind Pawn d.man
+    then for_each (pawn_starts d) (λ start. for_each (promotion_texts ([] ∷ codes "=" ∷ []) d.promotion) (λ promotion.
+    (start ++ (square_text d.to ++ promotion)) ∷ []))
+    else []
 
 -- castling is written with the letter O, or with the digit 0
 abbrev pub castling_texts : CastlingSide → List (List ℕ)
@@ -120,16 +97,24 @@ is_castling_text text w = list_any (bytes_eq (unmarked text)) (castling_texts w)
 
 -- something is there, and passes the test
 abbrev pub passes : {A : Type 0} → (A → Bool) → Option A → Bool
-passes test None = false
-passes test (Some x) = test x
+passes test o = option_map_or test o false
 
--- the text has a move's shape: castling's, or that of parts of a form
-unfoldable pub shape : List ℕ → Bool
-shape text = is_castling_text text KingSide || is_castling_text text QueenSide || has_parts is_form text
-
--- the text denotes the move that is described: as castling, or by parts that fit it
+-- without its marks, the text denotes the move that is described: as castling, by two squares, by a letter, or as a pawn's
 unfoldable pub spells_described : List ℕ → Described → Bool
-spells_described text d = passes (is_castling_text text) d.castles || has_parts (λ q. parts_fit q d) text
+spells_described text d = passes (is_castling_text text) d.castles
+    || list_any (bytes_eq (unmarked text)) (texts_by_squares d ++ (texts_by_letter d ++ texts_of_pawn d))
+
+-- all descriptions of moves, whether or not there is such a move: any piece, from any square to any other
+unfoldable pub all_described : List Described
+all_described =
+    for_each (King ∷ Queen ∷ Rook ∷ Bishop ∷ Knight ∷ Pawn ∷ []) (λ man. for_each squares (λ from. for_each squares (λ to.
+    for_each promotions (λ promotion. for_each (false ∷ true ∷ []) (λ takes.
+    for_each (None ∷ Some KingSide ∷ Some QueenSide ∷ []) (λ castles.
+    record { man = man; from = from; to = to; promotion = promotion; captures = takes; castles = castles } ∷ []))))))
+
+-- the text has a move's shape: it denotes a move of some description
+unfoldable pub shape : List ℕ → Bool
+shape text = list_any (λ d. spells_described text d) all_described
 
 -- the text denotes this move of the position
 unfoldable pub spells : Setup → List ℕ → Move → Bool
@@ -137,18 +122,18 @@ spells p text m = passes (spells_described text) (described p m)
 
 -- ---- reading
 
--- what a text is that denotes these legal moves
+-- the reading of a text that denotes just these legal moves
 abbrev pub one_of : List Move → Reading
 one_of [] = reads.NoSuch
 one_of (m ∷ []) = reads.Move m
 one_of (m ∷ n ∷ ms) = reads.Ambiguous
 
--- what a text is in a position, by the legal moves that it denotes: one is the move, several are ambiguous, none is no
--- such move. What has no move's shape is no move
+-- the reading of a text in a position: without a move's shape it is no move; else it is the one legal move that it
+-- denotes, ambiguous if it denotes several, and no such move if it denotes none
 unfoldable pub reading : Setup → List ℕ → Reading
 reading p text = if shape text then one_of (filter (λ m. spells p text m) (moves p)) else reads.NotAMove
 
--- what was read has a move's shape
+-- the text that was read so has a move's shape
 abbrev pub has_shape : Reading → Bool
 has_shape reads.NotAMove = false
 has_shape _ = true

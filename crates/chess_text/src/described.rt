@@ -1,7 +1,8 @@
 //! What a text can say of a move.
 
 ghost use Rattle.std.specs.Prelude.{◌≡◌, ◌==◌};
-ghost use Rattle.chess_text.specs.Moves.{captures, described, admits, names, names_kind, promotes_so, has_equals, is_by_squares, is_by_letter, is_straight, is_from_file, parts_fit, is_form};
+ghost use Rattle.chess_text.specs.Moves.{captures, described};
+ghost use Rattle.chess_text.specs.ties.Fitting.{admits, names, names_kind, promotes_so, has_equals, is_by_squares, is_by_letter, is_straight, is_from_file, parts_fit, is_form};
 
 use crate::parts::{Parts, Promotion};
 use chess_base::rules::{castling, is_en_passant, is_of};
@@ -91,7 +92,7 @@ fn has_equals(told: Option<Promotion>) -> bool
     }
 }
 
-#[tactic(auto, unfolding(crate::specs::Moves::is_by_squares))]
+#[tactic(auto, unfolding(crate::specs::ties::Fitting::is_by_squares))]
 fn is_by_squares(parts: &Parts, d: &Described) -> bool
     ensures { result ≡ is_by_squares parts.now d.now }
 {
@@ -104,7 +105,7 @@ fn is_by_squares(parts: &Parts, d: &Described) -> bool
         && promotes_so(parts.end.promotion, d.promotion)
 }
 
-#[tactic(auto, unfolding(crate::specs::Moves::is_by_letter))]
+#[tactic(auto, unfolding(crate::specs::ties::Fitting::is_by_letter))]
 fn is_by_letter(parts: &Parts, d: &Described) -> bool
     ensures { result ≡ is_by_letter parts.now d.now }
 {
@@ -117,7 +118,7 @@ fn is_by_letter(parts: &Parts, d: &Described) -> bool
         && parts.end.promotion.is_none()
 }
 
-#[tactic(auto, unfolding(crate::specs::Moves::is_straight))]
+#[tactic(auto, unfolding(crate::specs::ties::Fitting::is_straight))]
 fn is_straight(parts: &Parts, d: &Described) -> bool
     ensures { result ≡ is_straight parts.now d.now }
 {
@@ -131,7 +132,7 @@ fn is_straight(parts: &Parts, d: &Described) -> bool
         && promotes_so(parts.end.promotion, d.promotion)
 }
 
-#[tactic(auto, unfolding(crate::specs::Moves::is_from_file))]
+#[tactic(auto, unfolding(crate::specs::ties::Fitting::is_from_file))]
 fn is_from_file(parts: &Parts, d: &Described) -> bool
     ensures { result ≡ is_from_file parts.now d.now }
 {
@@ -145,7 +146,7 @@ fn is_from_file(parts: &Parts, d: &Described) -> bool
 }
 
 // Whether the parts denote the move in one of the forms of a text.
-#[tactic(auto, unfolding(crate::specs::Moves::parts_fit))]
+#[tactic(auto, unfolding(crate::specs::ties::Fitting::parts_fit))]
 pub(crate) fn parts_fit(parts: &Parts, d: &Described) -> bool
     ensures { result ≡ parts_fit parts.now d.now }
 {
@@ -156,7 +157,7 @@ pub(crate) fn parts_fit(parts: &Parts, d: &Described) -> bool
 }
 
 // Whether the parts are those of a form: a letter and no promotion, or no letter and a file, or a square alone.
-#[tactic(auto, unfolding(crate::specs::Moves::is_form))]
+#[tactic(auto, unfolding(crate::specs::ties::Fitting::is_form))]
 pub(crate) fn is_form(parts: &Parts) -> bool
     ensures { result ≡ is_form parts.now }
 {

@@ -83,7 +83,7 @@ fn named_square(file: Option<u8>, rank: Option<u8>) -> Option<Square>
 
 // Squares among which each legal move begins that the parts denote.
 #[tactic(auto, using(crate::proofs::Origins::by_letter, crate::proofs::Origins::by_squares, crate::proofs::Origins::by_pawn))]
-fn walk_origins<B: Board>(board: &B, parts: &Parts) -> SquareSet
+fn piece_origins<B: Board>(board: &B, parts: &Parts) -> SquareSet
     ensures { IsStart (B.position board.now) (Piece parts.now) result }
 {
     if let Some(kind) = parts.letter {
@@ -103,11 +103,11 @@ fn form_origins<B: Board>(board: &B, form: &Form, to: Square) -> SquareSet
 {
     match form {
         Form::Castling(_) => board.origins(Kind::King, to),
-        Form::Piece(parts) => walk_origins(board, parts),
+        Form::Piece(parts) => piece_origins(board, parts),
     }
 }
 
-// What a text is that denotes this move too.
+// The reading of a text that denotes this legal move beside those found before.
 fn with_move(found: Reading, m: Move) -> Reading
     ensures { result ≡ with_move found m }
 {
@@ -118,8 +118,8 @@ fn with_move(found: Reading, m: Move) -> Reading
     }
 }
 
-// What a text is that denotes the legal moves too from there to there, with one of those promotions,
-// that the form denotes.
+// The reading of a text of that form, by what was found before and the legal moves between two squares that it denotes,
+// with one of those promotions.
 fn with_spelled<B: Board>(
     board: &B,
     form: &Form,
@@ -144,7 +144,7 @@ fn with_spelled<B: Board>(
     found
 }
 
-// What a text is that denotes the legal moves too from there to there that the form denotes.
+// The reading of a text of that form, by what was found before and the legal moves between two squares that it denotes.
 #[tactic(auto, using(crate::proofs::Promoting::all_promote, crate::proofs::Promoting::none_promotes))]
 fn with_spelled_between<B: Board>(
     board: &B,
@@ -220,7 +220,8 @@ fn is_spelled_of(parts: &Parts, setup: &Setup, kind: Kind, m: &Move) -> bool
     }
 }
 
-// What a text of these parts is that denotes the legal move from that square too, if it denotes it.
+// The reading of a text of these parts, by what was found before and the legal move from that square, if it denotes
+// that.
 #[inline(always)]
 fn with_start(found: Reading, setup: &Setup, parts: &Parts, kind: Kind, from: Square) -> Reading
     ensures { result ≡ with_moves found (spelled_start parts.now setup.now kind from) }
@@ -237,8 +238,8 @@ fn with_start(found: Reading, setup: &Setup, parts: &Parts, kind: Kind, from: Sq
     }
 }
 
-// What a text of these parts is that denotes the legal moves from those squares too, as far as it denotes them. Few
-// texts name a square to which several pieces of a kind go, so it is kept out of what calls it.
+// The same, for the legal moves from each of those squares. Few texts name a square to which several pieces of a kind
+// go, so it is kept out of what calls it.
 #[inline(never)]
 fn with_starts(
     before: Reading,
@@ -257,7 +258,8 @@ fn with_starts(
     found
 }
 
-// What a text of these parts is, whose legal moves are of pieces of that kind, and begin on those squares.
+// The reading of a text of these parts, whose moves are of pieces of that kind that have the legal move from those
+// squares.
 #[inline(always)]
 fn spelled_among(setup: &Setup, parts: &Parts, kind: Kind, starts: SquareSet) -> Reading
     ensures { result ≡ one_of (flat_map (spelled_start parts.now setup.now kind) (members starts)) }
@@ -273,7 +275,7 @@ fn spelled_among(setup: &Setup, parts: &Parts, kind: Kind, starts: SquareSet) ->
     with_starts(found, setup, parts, kind, rest)
 }
 
-// What a text of these parts is, that denotes moves of pieces of that kind alone and none that promotes.
+// The reading of a text of these parts, whose moves are of pieces of that kind alone and don't promote.
 #[inline(always)]
 fn spelled_by_kind<B: Board>(board: &B, parts: &Parts, kind: Kind) -> Reading
     requires { one_kind parts.now ≡ Some kind }
@@ -288,7 +290,7 @@ fn spelled_by_kind<B: Board>(board: &B, parts: &Parts, kind: Kind) -> Reading
     )
 }
 
-// What a text of that form is, by the moves that it denotes from all squares where one may begin.
+// The reading of a text of that form, found from all squares where a move that it denotes may begin.
 #[inline(never)]
 fn spelled_from_origins<B: Board>(board: &B, form: &Form) -> Reading
     ensures { result ≡ one_of
@@ -303,7 +305,7 @@ fn spelled_from_origins<B: Board>(board: &B, form: &Form) -> Reading
     found
 }
 
-// What a text of that form is: of the legal moves it may denote one, several or none.
+// The reading of a text of that form: it denotes one legal move, several or none.
 #[inline(always)]
 fn spelled<B: Board>(board: &B, form: &Form) -> Reading
     ensures { result ≡ one_of

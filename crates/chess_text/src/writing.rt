@@ -8,9 +8,11 @@ ghost use Rattle.chess_base.specs.Men.{same_kind};
 ghost use Rattle.chess_base.specs.MoveList.{moves};
 ghost use Rattle.chess_base.specs.Moves.{is_legal, after};
 ghost use Rattle.chess_moves.specs.Sets.{members};
-ghost use Rattle.chess_text.specs.Parts.{when, parts_text};
-ghost use Rattle.chess_text.specs.San.{castling_text, some_on_file, some_on_rank, said, disambiguate, pawn_parts, officer_parts, rival_starts, unmarked_san, check_mark, san};
+ghost use Rattle.chess_text.specs.Parts.{when};
+ghost use Rattle.chess_text.specs.ties.Fitting.{parts_text};
+ghost use Rattle.chess_text.specs.San.{castling_text, rival_starts, unmarked_san, check_mark, san};
 ghost use Rattle.chess_text.specs.ties.Forms.{promotes_as_a_pawn};
+ghost use Rattle.chess_text.specs.ties.SanParts.{some_on_file, some_on_rank, distinction, disambiguate, pawn_parts, lettered_parts};
 
 use crate::described::{Described, describe};
 use arrayvec::ArrayVec;
@@ -20,7 +22,7 @@ use chess_moves::{Board, SquareSet};
 /// The SAN of a move: two to seven bytes.
 pub type SanText = ArrayVec<u8, 7>;
 
-/// What is said of a start square: its file, its rank, both or nothing.
+/// What is written of a start square: its file, its rank, both or nothing.
 #[derive(Clone, Copy, Debug, PartialEq, Eq)]
 pub struct Disambiguation {
     pub file: bool,
@@ -53,25 +55,25 @@ fn some_on_rank(rank: u8, squares: SquareSet) -> bool
     false
 }
 
-fn said(file: bool, rank: bool) -> Disambiguation
-    ensures { result ≡ said file rank }
+fn distinction(file: bool, rank: bool) -> Disambiguation
+    ensures { result ≡ distinction file rank }
 {
     Disambiguation { file, rank }
 }
 
-// What has to be said of a start square beside the starts of other moves that the text would denote without it.
+// What distinguishes a start square from those of the rivals, whose moves the text would denote without it.
 #[tactic(auto, using(crate::proofs::Rivals::alone, crate::proofs::Rivals::beside_others))]
 fn disambiguate(from: Square, others: SquareSet) -> Disambiguation
     ensures { result ≡ disambiguate from (members others) }
 {
     if others.is_empty() {
-        said(false, false)
+        distinction(false, false)
     } else if !some_on_file(from.file(), others) {
-        said(true, false)
+        distinction(true, false)
     } else if !some_on_rank(from.rank(), others) {
-        said(false, true)
+        distinction(false, true)
     } else {
-        said(true, true)
+        distinction(true, true)
     }
 }
 
@@ -84,13 +86,13 @@ fn rival_starts<B: Board>(board: &B, d: &Described) -> SquareSet
     starts.without(SquareSet::single(d.from))
 }
 
-// Adds a byte where it is to be said.
-fn push_if(text: &mut SanText, said: bool, byte: u8)
+// Adds a byte where it is to be written.
+fn push_if(text: &mut SanText, is_written: bool, byte: u8)
     requires room { array_vec_len text.old < 7 }
-    ensures text { text.new.items ≡ text.old.items ++ when said (byte ∷ []) }
+    ensures text { text.new.items ≡ text.old.items ++ when is_written (byte ∷ []) }
     ensures len { array_vec_len text.new ≤ array_vec_len text.old + 1 }
 {
-    if said {
+    if is_written {
         text.push(byte);
     }
 }
@@ -145,9 +147,9 @@ fn pawn_text(d: &Described) -> SanText
     text
 }
 
-fn officer_text(others: SquareSet, d: &Described) -> SanText
+fn lettered_text(others: SquareSet, d: &Described) -> SanText
     requires { d.now.promotion ≡ None }
-    ensures text { result.items ≡ parts_text (officer_parts (members others) d.now) }
+    ensures text { result.items ≡ parts_text (lettered_parts (members others) d.now) }
     ensures len { array_vec_len result ≤ 6 }
 {
     let start = disambiguate(d.from, others);
@@ -161,7 +163,6 @@ fn officer_text(others: SquareSet, d: &Described) -> SanText
 }
 
 // The text of a described move without its mark, beside the board's legal moves.
-#[tactic(auto, unfolding(crate::specs::San::walk_parts))]
 fn described_text<B: Board>(board: &B, d: &Described) -> SanText
     requires promotes { promotes_as_a_pawn d.now }
     ensures text { result.items
@@ -174,7 +175,7 @@ fn described_text<B: Board>(board: &B, d: &Described) -> SanText
     if d.man == Kind::Pawn {
         return pawn_text(d);
     }
-    officer_text(rival_starts(board, d), d)
+    lettered_text(rival_starts(board, d), d)
 }
 
 /// The SAN of a legal move without its mark, which is that of the position after the move: [`add_check_mark`] adds it

@@ -2,6 +2,7 @@
 -- over the rules of normal chess alone (laws/Normal of chess_base and of chess_text). Nothing here takes a variant.
 use Rattle.std.specs.Prelude.{ℕ, ◌==◌, nat_le, Bool, ◌&&◌, ◌||◌, if◌then◌else◌, List, [], ◌∷◌, length, count_by, Option, None, Some, is_some}
 use Rattle.std.specs.List.{list_any}
+use Rattle.std.specs.Option.{option_map_or}
 use Rattle.chess_base.specs.declared.man.Colour.TheVariants.{White}
 use Rattle.chess_base.specs.declared.man.Move.{Move}
 use Rattle.chess_base.specs.declared.man.Variant.TheVariants.{Normal}
@@ -16,8 +17,9 @@ use Rattle.chess_game.specs.declared.ends.Claims.{Claims}
 use Rattle.chess_game.specs.declared.ends.Verdict.{Verdict}
 use Rattle.chess_game.specs.declared.ends.Verdict.TheVariants.{Stalemate, InsufficientMaterial, FivefoldRepetition, SeventyFiveMoves}
 use Rattle.chess_game.specs.declared.results.Outcome.{Outcome}
-use Rattle.chess_game.specs.Ends.{is_bare, mates}
-use Rattle.chess_game.specs.Game.{State, outcome_by}
+use Rattle.chess_game.specs.declared.results.Outcome.TheVariants.{Unfinished}
+use Rattle.chess_game.specs.Ends.{has_insufficient_material, mates, verdict_outcome}
+use Rattle.chess_game.specs.Game.{State}
 use Rattle.chess_game.specs.Same.{same_men, same_rights, same_square}
 
 -- the initial position: each king may castle with the rooks of files h and a
@@ -75,7 +77,7 @@ normal_verdict start ms =
     let p = normal_last start ms in
     if length (normal_moves p) == 0
     then (if is_in_check p.men p.side then Some (mates (other p.side)) else Some Stalemate)
-    else if is_bare p.men then Some InsufficientMaterial
+    else if has_insufficient_material p.men then Some InsufficientMaterial
     else if nat_le 5 (normal_rep start ms) then Some FivefoldRepetition
     else if nat_le 150 p.halfmove then Some SeventyFiveMoves
     else None
@@ -95,4 +97,5 @@ abbrev pub normal_is_over : State → Bool
 normal_is_over s = is_some (normal_verdict_now s) || is_some s.declared
 
 abbrev pub normal_outcome_now : State → Outcome
-normal_outcome_now s = outcome_by (normal_verdict_now s) s.declared
+normal_outcome_now s =
+    option_map_or verdict_outcome (normal_verdict_now s) (option_map_or (λ d. d.outcome) s.declared Unfinished)

@@ -1,12 +1,22 @@
 -- What the reader of a game answers, step by step, in the words of the definitions.
 use Rattle.std.specs.Prelude.{◌≡◌, ℕ, ◌<◌, ◌≤◌, List, length, Result, Ok, Err, None, Some}
 use Rattle.chess_game.specs.Game.{Seen, State}
+use Rattle.chess_game.specs.declared.game.PlayRefusal.{PlayRefusal}
+use Rattle.chess_game.specs.declared.game.PlayRefusal.TheVariants.{Over, TooLong, Illegal}
 use Rattle.chess_pgn.specs.declared.read.PgnFault.{PgnFault}
+use Rattle.chess_pgn.specs.declared.read.PgnFaultKind.{PgnFaultKind}
+use Rattle.chess_pgn.specs.declared.read.PgnFaultKind.TheVariants as faults
 use Rattle.chess_pgn.specs.declared.read.Progress.{Progress}
 use Rattle.chess_pgn.specs.declared.read.Step as code
 use Rattle.chess_pgn.specs.declared.read.Step.TheVariants as does
 use Rattle.chess_pgn.specs.Tokens.{Token, Skip, Tag, Word, Bad_tag, Unclosed_comment, Unclosed_variation, Bad, tokens_from}
 use Rattle.chess_pgn.specs.GameRead.{SoFar, Step, On, Stop, game_of, tokens_read}
+
+-- the fault of a move that is refused
+abbrev pub refusal_kind : PlayRefusal → PgnFaultKind
+refusal_kind Over = faults.AfterEnd
+refusal_kind TooLong = faults.TooLong
+refusal_kind Illegal = faults.IllegalMove
 
 -- the game so far
 abbrev pub so_far : State → Progress → SoFar

@@ -11,17 +11,19 @@ use Rattle.chess_base.specs.Sound.{IsSound}
 use Rattle.chess_text.specs.declared.described.Described.{Described}
 use Rattle.chess_text.specs.declared.parts.Parts.{Parts}
 use Rattle.chess_text.specs.declared.reading.Reading.TheVariants as reads
-use Rattle.chess_text.specs.Parts.{unmarked, parts_text}
+use Rattle.chess_text.specs.Parts.{unmarked}
+use Rattle.chess_text.specs.ties.Fitting.{parts_text}
 use Rattle.chess_text.specs.ties.Reader.{parts_at}
-use Rattle.chess_text.specs.Moves.{is_castling_text, is_form, parts_fit, spells_described, spells, shape, reading}
+use Rattle.chess_text.specs.Moves.{is_castling_text, spells_described, spells, shape, reading}
+use Rattle.chess_text.specs.ties.Fitting.{is_form, parts_fit}
 use Rattle.chess_text.specs.San.{san, shown_move}
 use Rattle.chess_base.specs.declared.man.Kind.{Kind}
 use Rattle.chess_base.specs.declared.man.Kind.TheVariants.{King, Pawn}
 
 -- a letter names pieces of this kind; a pawn may become one
-abbrev pub IsOfficer : Kind → Type 0
-IsOfficer Pawn = ⊥
-IsOfficer k = Unit {0}
+abbrev pub HasLetter : Kind → Type 0
+HasLetter Pawn = ⊥
+HasLetter k = Unit {0}
 
 abbrev pub CanPromote : Kind → Type 0
 CanPromote Pawn = ⊥
@@ -30,7 +32,7 @@ CanPromote k = Unit {0}
 
 -- parts that a text can have
 pub record AreParts (q : Parts) : Type 0 where
-  pub letter_is : IfSome q.letter IsOfficer
+  pub letter_is : IfSome q.letter HasLetter
   pub file_is : IfSome q.file (λ f. f < 8)
   pub rank_is : IfSome q.rank (λ r. r < 8)
   pub to_is : q.end.to < 64
@@ -105,11 +107,11 @@ PartsAreTheTexts = (text : List ℕ) → (q : Parts) → parts_at text ≡ Some 
 abbrev pub PartsAreRead : Type 0
 PartsAreRead = (q : Parts) → AreParts q → parts_at (parts_text q) ≡ Some q
 
--- a text denotes what its castling names, or what parts fit whose text it is without marks: said with no list of parts
+-- a text denotes what its castling names, or what parts fit whose text it is without marks: said with no list of texts
 abbrev pub IsSpelled : List ℕ → Described → Type 0
 IsSpelled text d =
     ((w : CastlingSide) × (d.castles ≡ Some w) × IsTrue (is_castling_text text w))
-    ⊎ ((q : Parts) × AreParts q × (unmarked text ≡ parts_text q) × IsTrue (parts_fit q d))
+    ⊎ ((q : Parts) × IfSome q.letter HasLetter × (unmarked text ≡ parts_text q) × IsTrue (parts_fit q d))
 
 abbrev pub SpelledByText : Type 0
 SpelledByText = (text : List ℕ) → (d : Described) → IsTrue (spells_described text d) ↔ IsSpelled text d

@@ -1,12 +1,12 @@
 -- The texts of moves as they are defined for normal chess alone: each of these is the definition of the same name
 -- without `normal_`, over the rules of normal chess alone (laws/Normal of chess_base). Nothing here takes a variant.
 -- What a text is, and which described moves it denotes, is shared.
-use Rattle.std.specs.Prelude.{◌≡◌, ℕ, ◌==◌, Bool, not, ◌&&◌, List, [], ◌++◌, length, map, filter, codes, Option, Some, None, if◌then◌else◌}
-use Rattle.chess_base.specs.declared.man.Man.{Man}
+use Rattle.std.specs.Prelude.{◌≡◌, ℕ, ◌==◌, Bool, not, ◌&&◌, List, ◌++◌, length, map, filter, codes, Option, if◌then◌else◌}
+use Rattle.std.specs.Option.{option_map}
 use Rattle.chess_base.specs.declared.man.Move.{Move}
 use Rattle.chess_base.specs.declared.setup.Setup.{Setup}
 use Rattle.chess_base.specs.Attacks.{is_in_check}
-use Rattle.chess_base.specs.Coordinates.{coordinate}
+use Rattle.chess_base.specs.Coordinates.{coordinate, optional}
 use Rattle.chess_base.specs.Men.{man_at, same_kind}
 use Rattle.chess_base.specs.MoveList.{all_triples, moves}
 use Rattle.chess_base.specs.laws.Normal.{normal_is_legal, normal_castling, normal_after}
@@ -23,22 +23,17 @@ normal_moves p = filter (λ m. normal_is_legal p m) all_triples
 
 -- ---- read
 
--- the description of a move of the piece on its start square, if there is one: castling is the king's move of two
--- squares
-abbrev pub normal_described_as : Setup → Move → Option Man → Option Described
-normal_described_as p m None = None
-normal_described_as p m (Some x) =
-    Some (record {
+-- the description of a move: castling is the king's move of two squares
+unfoldable pub normal_described : Setup → Move → Option Described
+normal_described p m =
+    option_map (λ x. record {
       man = x.kind;
       from = m.from;
       to = m.to;
       promotion = m.promotion;
       captures = captures p m;
       castles = normal_castling p m;
-    })
-
-unfoldable pub normal_described : Setup → Move → Option Described
-normal_described p m = normal_described_as p m (man_at p.men m.from)
+    }) (man_at p.men m.from)
 
 -- the text denotes this move of the position
 unfoldable pub normal_spells : Setup → List ℕ → Move → Bool
@@ -64,13 +59,10 @@ unfoldable pub normal_check_mark : Setup → List ℕ
 normal_check_mark p =
     when (is_in_check p.men p.side) (if length (normal_moves p) == 0 then codes "#" else codes "+")
 
--- the text of the move that is described, with its mark
-abbrev pub normal_san_as : Setup → Move → Option Described → List ℕ
-normal_san_as p m None = []
-normal_san_as p m (Some d) = unmarked_san (normal_rival_starts p d) d ++ normal_check_mark (normal_after p m)
-
+-- the text of a legal move, with the mark of the position after it
 unfoldable pub normal_san : Setup → Move → List ℕ
-normal_san p m = normal_san_as p m (normal_described p m)
+normal_san p m = optional (λ d. unmarked_san (normal_rival_starts p d) d ++ normal_check_mark (normal_after p m))
+    (normal_described p m)
 
 -- on positions of normal chess what is said of both variants is this; lists and lines of moves show all by their
 -- squares

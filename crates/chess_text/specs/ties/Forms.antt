@@ -26,7 +26,8 @@ use Rattle.chess_text.specs.ties.Reader.{parts_at}
 use Rattle.chess_moves.specs.Sets.{has}
 use Rattle.chess_text.specs.declared.reading.Reading.{Reading}
 use Rattle.chess_text.specs.declared.reading.Reading.TheVariants as reads
-use Rattle.chess_text.specs.Moves.{admits, captures, castling_texts, described, parts_fit, is_form, names, passes}
+use Rattle.chess_text.specs.Moves.{captures, castling_texts, described, passes}
+use Rattle.chess_text.specs.ties.Fitting.{admits, parts_fit, is_form, names}
 
 -- the side of the castling that a text without marks names
 abbrev pub castling_named : List ℕ → Option CastlingSide
@@ -77,14 +78,14 @@ end_square (Piece q) p = q.end.to
 abbrev pub spelled_with : Form → Setup → ℕ → ℕ → List (Option Kind) → List Move
 spelled_with form p a b ks = filter (λ m. is_spelled form p m && is_legal p m) (map (triple a b) ks)
 
--- what a text is that denotes this move too
+-- the reading of a text that denotes this move beside those found before
 abbrev pub with_move : Reading → Move → Reading
 with_move reads.NoSuch m = reads.Move m
 with_move (reads.Move n) m = reads.Ambiguous
 with_move reads.Ambiguous m = reads.Ambiguous
 with_move reads.NotAMove m = reads.NotAMove
 
--- what a text is that denotes these moves too
+-- the same of these moves
 abbrev pub with_moves : Reading → List Move → Reading
 with_moves found [] = found
 with_moves found (m ∷ ms) = with_moves (with_move found m) ms

@@ -7,7 +7,15 @@ use Rattle.chess_base.specs.Letters.{byte, white_letter}
 use Rattle.chess_text.specs.declared.parts.Parts.{Parts}
 use Rattle.chess_text.specs.declared.parts.End.{End}
 use Rattle.chess_text.specs.declared.parts.Promotion.{Promotion}
-use Rattle.chess_text.specs.Parts.{officers, promoted}
+use Rattle.chess_base.specs.declared.man.Kind.TheVariants.{King, Queen, Rook, Bishop, Knight}
+
+-- the pieces that a letter names
+abbrev pub lettered_kinds : List Kind
+lettered_kinds = King ∷ Queen ∷ Rook ∷ Bishop ∷ Knight ∷ []
+
+-- the pieces that a pawn may become (3.7)
+abbrev pub promoted : List Kind
+promoted = Queen ∷ Rook ∷ Bishop ∷ Knight ∷ []
 
 -- the kind of this letter
 abbrev pub kind_from : List Kind → ℕ → Option Kind
@@ -80,4 +88,4 @@ at_letter (Some k) c rest = file_at (Some k) rest
 -- the parts whose text it is, if there are such
 abbrev pub parts_at : List ℕ → Option Parts
 parts_at [] = None
-parts_at (c ∷ rest) = at_letter (kind_from officers c) c rest
+parts_at (c ∷ rest) = at_letter (kind_from lettered_kinds c) c rest

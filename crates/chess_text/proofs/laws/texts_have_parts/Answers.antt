@@ -1,6 +1,7 @@
 -- Each part shows by its first byte, but for a file, which is the start's just where a square follows: so parts and
 -- their texts fit one to one (Grammar). Else a text denotes castling or nothing (Alone).
-use Rattle.chess_text.proofs.Alone.{spelled_by_text, shaped_by_text}
+use Rattle.chess_text.proofs.Alone.{shaped_by_text}
+use Rattle.chess_text.proofs.Spellings.{spelled_by_text}
 use Rattle.chess_text.proofs.Grammar.{spelled-parts, parts-spelled}
 use Rattle.chess_text.proofs.laws.texts_have_parts.Goals as goal
 

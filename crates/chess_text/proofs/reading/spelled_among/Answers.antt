@@ -1,6 +1,6 @@
 -- The first square and those that are left are all (more_found of Origins); where none is left, nothing follows
 -- (last_found).
-use Rattle.std.proofs.Common.{◌≡◌, ◌==◌, true, sym, ap, ◌∙◌}
+use Rattle.std.proofs.Common.{sym, ap, ◌∙◌}
 use Rattle.std.proofs.lemmas.Bool.{eqb-true}
 use Rattle.std.specs.List.{flat_map}
 use Rattle.chess_moves.specs.Sets.{members}

@@ -1,6 +1,6 @@
 use Rattle.std.proofs.Common.{◌≡◌, length}
 use Rattle.chess_moves.specs.Sets.{members}
-use Rattle.chess_text.specs.San.{some_on_file}
+use Rattle.chess_text.specs.ties.SanParts.{some_on_file}
 use Rattle.chess_text.proofs.writing.some_on_file.Given as goal
 
 -- one of the squares that are left is on the file, if any is

@@ -1,6 +1,6 @@
 use Rattle.std.proofs.Common.{◌≡◌, length}
 use Rattle.chess_moves.specs.Sets.{members}
-use Rattle.chess_text.specs.San.{some_on_rank}
+use Rattle.chess_text.specs.ties.SanParts.{some_on_rank}
 use Rattle.chess_text.proofs.writing.some_on_rank.Given as goal
 
 -- one of the squares that are left is on the rank, if any is

@@ -1,0 +1,330 @@
+-- A text has a move's shape where it names castling, or where its parts are those of a form.
+use Rattle.std.proofs.Common.{◌≡◌, ℕ, ◌+◌, ◌*◌, ◌<◌, inl, inr, Bool, true, false, not, ◌||◌, Option, Some, None, List, [], ◌∷◌, refl, sym, ap, ◌∙◌, arith}
+use Rattle.std.specs.Prelude.{IfSome, unwrap_or}
+use Rattle.std.specs.Option.{option_map}
+use Rattle.std.specs.List.{flat_map}
+use Rattle.std.proofs.lemmas.Bool.{and_right, or_cases, or_right, eq-eqb, both_ways}
+use Rattle.chess_base.specs.declared.man.CastlingSide.{CastlingSide}
+use Rattle.chess_base.specs.declared.man.CastlingSide.TheVariants.{KingSide, QueenSide}
+use Rattle.chess_base.specs.declared.man.Kind.{Kind}
+use Rattle.chess_base.specs.declared.man.Kind.TheVariants.{King, Queen, Rook, Bishop, Knight, Pawn}
+use Rattle.chess_base.specs.MoveList.{promotions, squares}
+use Rattle.chess_base.specs.Squares.{file, rank}
+use Rattle.chess_text.specs.declared.described.Described.{Described}
+use Rattle.chess_text.specs.declared.parts.Parts.{Parts}
+use Rattle.chess_text.specs.declared.parts.Promotion.{Promotion}
+use Rattle.chess_text.specs.Parts.{unmarked}
+use Rattle.chess_text.specs.Moves.{is_castling_text, passes, spells_described, all_described, shape}
+use Rattle.chess_text.specs.ties.Fitting.{parts_text, admits, promotes_so, is_by_squares, is_by_letter, is_straight, is_from_file, parts_fit, is_form, has_parts, has_form, fits_text}
+use Rattle.chess_text.specs.ties.Reader.{parts_at}
+use Rattle.chess_text.specs.laws.Laws.{CanPromote, AreParts, IsSpelled}
+use Rattle.chess_text.proofs.Grammar.{spelled-parts, parts-spelled}
+use Rattle.chess_text.proofs.SameKinds.{same_kind-self}
+use Rattle.chess_text.proofs.Lists.{IsIn, Each, here, later, in-flat_map, in-one, in-below, each-nil, each-cons, each-flat_map, each-one, each-below}
+use Rattle.chess_text.proofs.Spellings.{of, fit_letter, fit_straight, fit_file, by_letter_fits, straight_fits, file_fits, castled, of_parts, bool_same, spelled_so, spells_is}
+
+-- ---- all descriptions
+
+abbrev Any : (A : Type 0) → A → Type 0
+Any A x = Unit {0}
+
+each_any : (A : Type 0) (xs : List A) → Each A (Any A) xs
+each_any A [] = each-nil (Any A)
+each_any A (x ∷ xs) = each-cons (Any A) x xs tt (each_any A xs)
+
+abbrev kinds : List Kind
+kinds = King ∷ Queen ∷ Rook ∷ Bishop ∷ Knight ∷ Pawn ∷ []
+
+abbrev both : List Bool
+both = false ∷ true ∷ []
+
+abbrev sides : List (Option CastlingSide)
+sides = None ∷ Some KingSide ∷ Some QueenSide ∷ []
+
+kind_in : (k : Kind) → IsIn Kind kinds k
+kind_in King = here King (Queen ∷ Rook ∷ Bishop ∷ Knight ∷ Pawn ∷ [])
+kind_in Queen = later King (Queen ∷ Rook ∷ Bishop ∷ Knight ∷ Pawn ∷ []) Queen
+    (here Queen (Rook ∷ Bishop ∷ Knight ∷ Pawn ∷ []))
+kind_in Rook = later King (Queen ∷ Rook ∷ Bishop ∷ Knight ∷ Pawn ∷ []) Rook
+    (later Queen (Rook ∷ Bishop ∷ Knight ∷ Pawn ∷ []) Rook (here Rook (Bishop ∷ Knight ∷ Pawn ∷ [])))
+kind_in Bishop = later King (Queen ∷ Rook ∷ Bishop ∷ Knight ∷ Pawn ∷ []) Bishop
+    (later Queen (Rook ∷ Bishop ∷ Knight ∷ Pawn ∷ []) Bishop
+    (later Rook (Bishop ∷ Knight ∷ Pawn ∷ []) Bishop (here Bishop (Knight ∷ Pawn ∷ []))))
+kind_in Knight = later King (Queen ∷ Rook ∷ Bishop ∷ Knight ∷ Pawn ∷ []) Knight
+    (later Queen (Rook ∷ Bishop ∷ Knight ∷ Pawn ∷ []) Knight
+    (later Rook (Bishop ∷ Knight ∷ Pawn ∷ []) Knight
+    (later Bishop (Knight ∷ Pawn ∷ []) Knight (here Knight (Pawn ∷ [])))))
+kind_in Pawn = later King (Queen ∷ Rook ∷ Bishop ∷ Knight ∷ Pawn ∷ []) Pawn
+    (later Queen (Rook ∷ Bishop ∷ Knight ∷ Pawn ∷ []) Pawn
+    (later Rook (Bishop ∷ Knight ∷ Pawn ∷ []) Pawn
+    (later Bishop (Knight ∷ Pawn ∷ []) Pawn (later Knight (Pawn ∷ []) Pawn (here Pawn [])))))
+
+both_in : (b : Bool) → IsIn Bool both b
+both_in false = here false (true ∷ [])
+both_in true = later false (true ∷ []) true (here true [])
+
+side_in : (o : Option CastlingSide) → IsIn (Option CastlingSide) sides o
+side_in None = here None (Some KingSide ∷ Some QueenSide ∷ [])
+side_in (Some KingSide) = later None (Some KingSide ∷ Some QueenSide ∷ []) (Some KingSide)
+    (here (Some KingSide) (Some QueenSide ∷ []))
+side_in (Some QueenSide) = later None (Some KingSide ∷ Some QueenSide ∷ []) (Some QueenSide)
+    (later (Some KingSide) (Some QueenSide ∷ []) (Some QueenSide) (here (Some QueenSide) []))
+
+abbrev Becomes : Option Kind → Type 0
+Becomes o = IfSome o CanPromote
+
+each_promotion : Each (Option Kind) Becomes promotions
+each_promotion =
+    each-cons Becomes None (Some Queen ∷ Some Rook ∷ Some Bishop ∷ Some Knight ∷ []) tt
+    (each-cons Becomes (Some Queen) (Some Rook ∷ Some Bishop ∷ Some Knight ∷ []) tt
+    (each-cons Becomes (Some Rook) (Some Bishop ∷ Some Knight ∷ []) tt
+    (each-cons Becomes (Some Bishop) (Some Knight ∷ []) tt
+    (each-cons Becomes (Some Knight) [] tt (each-nil Becomes)))))
+
+promotion_in : (o : Option Kind) → Becomes o → IsIn (Option Kind) promotions o
+promotion_in None h = here None (Some Queen ∷ Some Rook ∷ Some Bishop ∷ Some Knight ∷ [])
+promotion_in (Some King) h = absurd h
+promotion_in (Some Pawn) h = absurd h
+promotion_in (Some Queen) h = later None (Some Queen ∷ Some Rook ∷ Some Bishop ∷ Some Knight ∷ []) (Some Queen)
+    (here (Some Queen) (Some Rook ∷ Some Bishop ∷ Some Knight ∷ []))
+promotion_in (Some Rook) h = later None (Some Queen ∷ Some Rook ∷ Some Bishop ∷ Some Knight ∷ []) (Some Rook)
+    (later (Some Queen) (Some Rook ∷ Some Bishop ∷ Some Knight ∷ []) (Some Rook)
+    (here (Some Rook) (Some Bishop ∷ Some Knight ∷ [])))
+promotion_in (Some Bishop) h = later None (Some Queen ∷ Some Rook ∷ Some Bishop ∷ Some Knight ∷ []) (Some Bishop)
+    (later (Some Queen) (Some Rook ∷ Some Bishop ∷ Some Knight ∷ []) (Some Bishop)
+    (later (Some Rook) (Some Bishop ∷ Some Knight ∷ []) (Some Bishop) (here (Some Bishop) (Some Knight ∷ []))))
+promotion_in (Some Knight) h = later None (Some Queen ∷ Some Rook ∷ Some Bishop ∷ Some Knight ∷ []) (Some Knight)
+    (later (Some Queen) (Some Rook ∷ Some Bishop ∷ Some Knight ∷ []) (Some Knight)
+    (later (Some Rook) (Some Bishop ∷ Some Knight ∷ []) (Some Knight)
+    (later (Some Bishop) (Some Knight ∷ []) (Some Knight) (here (Some Knight) []))))
+
+abbrev with_castles : Kind → ℕ → ℕ → Option Kind → Bool → Option CastlingSide → Described
+with_castles man from to promotion takes castles =
+    record { man = man; from = from; to = to; promotion = promotion; captures = takes; castles = castles }
+
+abbrev with_takes : Kind → ℕ → ℕ → Option Kind → Bool → List Described
+with_takes man from to promotion takes = flat_map (λ castles. with_castles man from to promotion takes castles ∷ []) sides
+
+abbrev with_promotion : Kind → ℕ → ℕ → Option Kind → List Described
+with_promotion man from to promotion = flat_map (with_takes man from to promotion) both
+
+abbrev with_to : Kind → ℕ → ℕ → List Described
+with_to man from to = flat_map (with_promotion man from to) promotions
+
+abbrev with_from : Kind → ℕ → List Described
+with_from man from = flat_map (with_to man from) squares
+
+abbrev with_man : Kind → List Described
+with_man man = flat_map (with_from man) squares
+
+record IsOnBoard (d : Described) : Type 0 where
+  from_in : d.from < 64
+  to_in : d.to < 64
+  becomes : Becomes d.promotion
+
+each_square : Each ℕ (λ s. s < 64) squares
+unfolding squares
+each_square = each-below (λ s. s < 64) 64 (λ s. s) (λ k l. l)
+
+square_in : (s : ℕ) → s < 64 → IsIn ℕ squares s
+unfolding squares
+square_in s h = in-below 64 (λ s. s) s h
+
+each_described : Each Described IsOnBoard all_described
+unfolding all_described
+each_described =
+    each-flat_map (Any Kind) IsOnBoard with_man kinds (each_any Kind kinds)
+    (λ man u. each-flat_map (λ s. s < 64) IsOnBoard (with_from man) squares each_square
+    (λ from f. each-flat_map (λ s. s < 64) IsOnBoard (with_to man from) squares each_square
+    (λ to t. each-flat_map Becomes IsOnBoard (with_promotion man from to) promotions each_promotion
+    (λ promotion k. each-flat_map (Any Bool) IsOnBoard (with_takes man from to promotion) both (each_any Bool both)
+    (λ takes v. each-one (Any (Option CastlingSide)) IsOnBoard (with_castles man from to promotion takes) sides
+    (each_any (Option CastlingSide) sides) (λ castles w. record { from_in = f; to_in = t; becomes = k }))))))
+
+described_in : (d : Described) → IsOnBoard d → IsIn Described all_described d
+unfolding all_described
+described_in d h =
+    in-flat_map with_man kinds d.man d (kind_in d.man)
+    (in-flat_map (with_from d.man) squares d.from d (square_in d.from h.from_in)
+    (in-flat_map (with_to d.man d.from) squares d.to d (square_in d.to h.to_in)
+    (in-flat_map (with_promotion d.man d.from d.to) promotions d.promotion d (promotion_in d.promotion h.becomes)
+    (in-flat_map (with_takes d.man d.from d.to d.promotion) both d.captures d (both_in d.captures)
+    (in-one (with_castles d.man d.from d.to d.promotion d.captures) sides d.castles (side_in d.castles))))))
+
+-- ---- parts that fit a move have a form
+
+pub no_form : (letter : Option Kind) (f r : Option ℕ) (takes : Bool) (to : ℕ) (promotion : Option Promotion) (d : Described)
+    → is_form (of letter f r takes to promotion) ≡ false → parts_fit (of letter f r takes to promotion) d ≡ false
+unfolding is_form parts_fit is_by_squares is_by_letter is_straight is_from_file
+no_form (Some k) f r takes to (Some x) d e = simp (and_right)
+no_form (Some k) f r takes to None d e = absurd cc
+no_form None (Some n) r takes to promotion d e = absurd cc
+no_form None None (Some n) takes to promotion d e = refl
+no_form None None None true to promotion d e = refl
+no_form None None None false to promotion d e = absurd cc
+
+fit_form : (q : Parts) (d : Described) → parts_fit q d ≡ true → is_form q ≡ true
+fit_form q d fit = by_test (is_form q) refl
+  where
+    by_test : (b : Bool) → is_form q ≡ b → is_form q ≡ true
+    by_test true e = e
+    by_test false e = absurd (both_ways (parts_fit q d)
+        (no_form q.letter q.file q.rank q.takes q.end.to q.end.promotion d e) fit)
+
+-- ---- parts of a form fit some move
+
+abbrev kind_of : Option Promotion → Option Kind
+kind_of p = option_map (λ (x : Promotion). x.kind) p
+
+record Fits (q : Parts) : Type 0 where
+  d : Described
+  on_board : IsOnBoard d
+  fits : parts_fit q d ≡ true
+
+abbrev or_zero : Option ℕ → ℕ
+or_zero o = unwrap_or o 0
+
+abbrev start_of : Option ℕ → Option ℕ → ℕ
+start_of f r = 8 * or_zero r + or_zero f
+
+start_in : (f r : Option ℕ) → IfSome f (λ x. x < 8) → IfSome r (λ x. x < 8) → start_of f r < 64
+start_in None None a b = omega arith
+start_in (Some x) None a b = omega arith
+start_in None (Some y) a b = omega arith
+start_in (Some x) (Some y) a b = omega arith
+
+admits_file : (f r : Option ℕ) → IfSome f (λ x. x < 8) → IfSome r (λ x. x < 8)
+    → admits f (file (start_of f r)) ≡ true
+admits_file None r a b = refl
+admits_file (Some x) None a b = eq-eqb x (file (8 * 0 + x)) (omega arith)
+admits_file (Some x) (Some y) a b = eq-eqb x (file (8 * y + x)) (omega arith)
+
+admits_rank : (f r : Option ℕ) → IfSome f (λ x. x < 8) → IfSome r (λ x. x < 8)
+    → admits r (rank (start_of f r)) ≡ true
+admits_rank f None a b = refl
+admits_rank None (Some y) a b = eq-eqb y (rank (8 * y + 0)) (omega arith)
+admits_rank (Some x) (Some y) a b = eq-eqb y (rank (8 * y + x)) (omega arith)
+
+may_take : (t : Bool) → (not t || true) ≡ true
+may_take true = refl
+may_take false = refl
+
+own_promotion : (p : Option Promotion) → promotes_so p (kind_of p) ≡ true
+own_promotion None = refl
+own_promotion (Some x) = same_kind-self x.kind
+
+becomes_of : (p : Option Promotion) → IfSome p (λ x. CanPromote x.kind) → Becomes (kind_of p)
+becomes_of None h = tt
+becomes_of (Some x) h = h
+
+fits_by : (letter : Option Kind) (f r : Option ℕ) (takes : Bool) (to : ℕ) (p : Option Promotion)
+    → AreParts (of letter f r takes to p) → is_form (of letter f r takes to p) ≡ true → Fits (of letter f r takes to p)
+unfolding is_form
+fits_by (Some k) f r takes to None h form =
+    let d : Described =
+    record { man = k; from = start_of f r; to = to; promotion = None; captures = true; castles = None } in
+    record {
+      d = d;
+      on_board = record { from_in = start_in f r h.file_is h.rank_is; to_in = h.to_is; becomes = tt };
+      fits = fit_letter (of (Some k) f r takes to None) d
+          (by_letter_fits d f r takes refl (admits_file f r h.file_is h.rank_is) (admits_rank f r h.file_is h.rank_is)
+          (may_take takes));
+    }
+fits_by (Some k) f r takes to (Some x) h form = absurd cc
+fits_by None (Some x) r takes to p h form =
+    let d : Described =
+    record { man = Pawn; from = start_of (Some x) r; to = to; promotion = kind_of p; captures = true; castles = None } in
+    record {
+      d = d;
+      on_board = record {
+        from_in = start_in (Some x) r h.file_is h.rank_is;
+        to_in = h.to_is;
+        becomes = becomes_of p h.promotion_is;
+      };
+      fits = fit_file (of None (Some x) r takes to p) d
+          (file_fits d (Some x) r takes p refl (admits_file (Some x) r h.file_is h.rank_is)
+          (admits_rank (Some x) r h.file_is h.rank_is) (may_take takes) (own_promotion p));
+    }
+fits_by None None (Some y) takes to p h form = absurd cc
+fits_by None None None true to p h form = absurd cc
+fits_by None None None false to p h form =
+    let d : Described =
+    record { man = Pawn; from = to; to = to; promotion = kind_of p; captures = true; castles = None } in
+    record {
+      d = d;
+      on_board = record { from_in = h.to_is; to_in = h.to_is; becomes = becomes_of p h.promotion_is };
+      fits = fit_straight (of None None None false to p) d
+          (straight_fits d p refl (eq-eqb (file to) (file to) refl) (own_promotion p));
+    }
+
+-- ---- the shape
+
+castling_has : (text : List ℕ) (w : CastlingSide) → is_castling_text text w ≡ true → has_form text ≡ true
+unfolding has_form
+castling_has text KingSide h = rw h refl
+castling_has text QueenSide h = rw h (by_king (is_castling_text text KingSide))
+  where
+    by_king : (b : Bool) → ((b || true) || has_parts is_form text) ≡ true
+    by_king true = refl
+    by_king false = refl
+
+parts_have : (text : List ℕ) (q : Parts) → AreParts q → unmarked text ≡ parts_text q → is_form q ≡ true
+    → has_form text ≡ true
+unfolding has_form has_parts
+parts_have text q are is form =
+    or_right (is_castling_text text KingSide || is_castling_text text QueenSide)
+    (passes is_form (parts_at (unmarked text)))
+    (ap (passes is_form) (ap parts_at is ∙ parts-spelled q are) ∙ form)
+
+form_so : (text : List ℕ) (d : Described) → fits_text text d ≡ true → has_form text ≡ true
+unfolding fits_text has_parts
+form_so text d e =
+    elim (or_cases (passes (is_castling_text text) d.castles) (passes (λ r. parts_fit r d) (parts_at (unmarked text))) e) [
+      | inl h ↦ let c = castled (is_castling_text text) d.castles h in castling_has text c.0 c.2
+      | inr h ↦
+          let of = of_parts (λ r. parts_fit r d) (parts_at (unmarked text)) h in
+          let is = spelled-parts (unmarked text) of.0 of.1 in
+          parts_have text of.0 is.0 is.1 (fit_form of.0 d of.2)
+    ]
+
+has_so : (text : List ℕ) → shape text ≡ true → has_form text ≡ true
+unfolding shape
+has_so text e =
+    let f = each_described (λ d. spells_described text d) e in
+    form_so text f.0 (sym (spells_is text f.0 f.1.from_in f.1.to_in f.1.becomes) ∙ f.2)
+
+shaped_by : (text : List ℕ) (d : Described) → IsOnBoard d → IsSpelled text d → shape text ≡ true
+unfolding shape
+shaped_by text d on_board spelled =
+    described_in d on_board (λ e. spells_described text e) (spelled_so text d spelled)
+
+abbrev castling_to : CastlingSide → Described
+castling_to w = record { man = King; from = 0; to = 0; promotion = None; captures = false; castles = Some w }
+
+castling_shape : (text : List ℕ) (w : CastlingSide) → is_castling_text text w ≡ true → shape text ≡ true
+castling_shape text w h =
+    shaped_by text (castling_to w) (record { from_in = omega arith; to_in = omega arith; becomes = tt }) (inl (w, refl, h))
+
+parts_shape : (text : List ℕ) (q : Parts) → AreParts q → unmarked text ≡ parts_text q → is_form q ≡ true
+    → shape text ≡ true
+parts_shape text q are is form =
+    let f = fits_by q.letter q.file q.rank q.takes q.end.to q.end.promotion are form in
+    shaped_by text f.d f.on_board (inr (q, are.letter_is, is, f.fits))
+
+shape_so : (text : List ℕ) → has_form text ≡ true → shape text ≡ true
+unfolding has_form has_parts
+shape_so text e =
+    elim (or_cases (is_castling_text text KingSide || is_castling_text text QueenSide)
+    (passes is_form (parts_at (unmarked text))) e) [
+      | inl h ↦ elim (or_cases (is_castling_text text KingSide) (is_castling_text text QueenSide) h) [
+        | inl g ↦ castling_shape text KingSide g
+        | inr g ↦ castling_shape text QueenSide g
+      ]
+      | inr h ↦
+          let of = of_parts is_form (parts_at (unmarked text)) h in
+          let is = spelled-parts (unmarked text) of.0 of.1 in
+          parts_shape text of.0 is.0 is.1 of.2
+    ]
+
+pub shape_is : (text : List ℕ) → shape text ≡ has_form text
+shape_is text = bool_same (shape text) (has_form text) (has_so text) (shape_so text)

@@ -1,0 +1,105 @@
+-- The parts of a text and whether they fit a move: [letter][file][rank][x]square[[=]promotion].
+use Rattle.std.specs.Prelude.{ℕ, ◌+◌, ◌==◌, Bool, true, false, not, ◌&&◌, ◌||◌, if◌then◌else◌, List, [], ◌∷◌, ◌++◌, Option, is_some, is_none}
+use Rattle.std.specs.Option.{option_eq, option_map, option_map_or}
+use Rattle.chess_base.specs.declared.man.CastlingSide.TheVariants.{KingSide, QueenSide}
+use Rattle.chess_base.specs.declared.man.Kind.{Kind}
+use Rattle.chess_base.specs.declared.man.Kind.TheVariants.{Pawn}
+use Rattle.chess_base.specs.Coordinates.{optional}
+use Rattle.chess_base.specs.Letters.{byte, white_letter, square_text}
+use Rattle.chess_base.specs.Men.{same_kind}
+use Rattle.chess_base.specs.Squares.{file, rank}
+use Rattle.chess_text.specs.declared.described.Described.{Described}
+use Rattle.chess_text.specs.declared.parts.End.{End}
+use Rattle.chess_text.specs.declared.parts.Parts.{Parts}
+use Rattle.chess_text.specs.declared.parts.Promotion.{Promotion}
+use Rattle.chess_text.specs.Parts.{unmarked, when, kind_text, file_text, rank_text}
+use Rattle.chess_text.specs.Moves.{is_castling_text, passes}
+use Rattle.chess_text.specs.ties.Reader.{parts_at}
+
+-- ---- the text of parts
+
+-- a promotion's letter, capital or small
+abbrev pub promotion_letter : Promotion → ℕ
+promotion_letter p = if p.small then white_letter p.kind + 32 else white_letter p.kind
+
+-- what the pawn becomes, after `=` where that is written
+abbrev pub promotion_text : Promotion → List ℕ
+promotion_text p = when p.equals (byte "=" ∷ []) ++ promotion_letter p ∷ []
+
+-- the end square, and what the pawn becomes
+abbrev pub end_text : End → List ℕ
+end_text e = square_text e.to ++ optional promotion_text e.promotion
+
+-- all parts that are there, in this order
+abbrev pub parts_text : Parts → List ℕ
+parts_text q = optional kind_text q.letter
+    ++ (optional file_text q.file ++ (optional rank_text q.rank ++ (when q.takes (byte "x" ∷ []) ++ end_text q.end)))
+
+-- ---- the forms
+
+-- if the text names a file or rank, it is this one
+abbrev pub admits : Option ℕ → ℕ → Bool
+admits told n = option_map_or (λ t. t == n) told true
+
+-- the text names it
+abbrev pub names : Option ℕ → ℕ → Bool
+names told n = option_map_or (λ t. t == n) told false
+
+-- the text names this kind of piece
+abbrev pub names_kind : Option Kind → Kind → Bool
+names_kind told k = option_map_or (λ t. same_kind t k) told false
+
+-- with a promotion only moves with that promotion are denoted, without one only moves without
+abbrev pub promotes_so : Option Promotion → Option Kind → Bool
+promotes_so told o = option_eq same_kind (option_map (λ t. t.kind) told) o
+
+-- the promotion is written with `=`
+abbrev pub has_equals : Option Promotion → Bool
+has_equals told = option_map_or (λ t. t.equals) told false
+
+-- any piece from one square to another, castling too; a promotion is written without `=`
+unfoldable pub is_by_squares : Parts → Described → Bool
+is_by_squares q d =
+    is_none q.letter && names q.file (file d.from) && names q.rank (rank d.from) && not q.takes && (q.end.to == d.to)
+    && not (has_equals q.end.promotion) && promotes_so q.end.promotion d.promotion
+
+-- a piece that is no pawn, not castling; with `x` only a capture
+unfoldable pub is_by_letter : Parts → Described → Bool
+is_by_letter q d =
+    names_kind q.letter d.man && is_none d.castles && admits q.file (file d.from) && admits q.rank (rank d.from)
+    && (not q.takes || d.captures) && (q.end.to == d.to) && is_none q.end.promotion
+
+-- a pawn that goes straight to the square
+unfoldable pub is_straight : Parts → Described → Bool
+is_straight q d =
+    is_none q.letter && is_none q.file && is_none q.rank && not q.takes && same_kind Pawn d.man
+    && (file d.from == file d.to)
+    && (q.end.to == d.to) && promotes_so q.end.promotion d.promotion
+
+-- a pawn from the file; with `x` only a capture
+unfoldable pub is_from_file : Parts → Described → Bool
+is_from_file q d =
+    is_none q.letter && names q.file (file d.from) && admits q.rank (rank d.from) && same_kind Pawn d.man
+    && (not q.takes || d.captures) && (q.end.to == d.to) && promotes_so q.end.promotion d.promotion
+
+-- the parts fit the move in one of these four forms
+unfoldable pub parts_fit : Parts → Described → Bool
+parts_fit q d = is_by_squares q d || is_by_letter q d || is_straight q d || is_from_file q d
+
+-- the parts are those of one of these forms: a letter and no promotion, or no letter and a file, or a square alone
+unfoldable pub is_form : Parts → Bool
+is_form q = if is_some q.letter then is_none q.end.promotion else is_some q.file || (is_none q.rank && not q.takes)
+
+-- ---- by the parts of a text
+
+-- without its marks, the text is the text of parts that pass the test
+unfoldable pub has_parts : (Parts → Bool) → List ℕ → Bool
+has_parts test text = passes test (parts_at (unmarked text))
+
+-- the text names castling, or its parts are those of a form
+unfoldable pub has_form : List ℕ → Bool
+has_form text = is_castling_text text KingSide || is_castling_text text QueenSide || has_parts is_form text
+
+-- the text names the castling, or its parts fit the move that is described
+unfoldable pub fits_text : List ℕ → Described → Bool
+fits_text text d = passes (is_castling_text text) d.castles || has_parts (λ q. parts_fit q d) text

@@ -1,0 +1,69 @@
+-- The parts of the text that is written for a move, as code puts them together.
+use Rattle.std.specs.Prelude.{ℕ, ◌==◌, Bool, true, false, not, if◌then◌else◌, List, [], ◌∷◌, Option, Some, None}
+use Rattle.std.specs.List.{list_any}
+use Rattle.std.specs.Option.{option_map}
+use Rattle.chess_base.specs.declared.man.Kind.TheVariants.{Pawn}
+use Rattle.chess_base.specs.Men.{same_kind}
+use Rattle.chess_base.specs.Squares.{file, rank}
+use Rattle.chess_text.specs.declared.described.Described.{Described}
+use Rattle.chess_text.specs.declared.parts.End.{End}
+use Rattle.chess_text.specs.declared.parts.Parts.{Parts}
+use Rattle.chess_text.specs.declared.writing.Disambiguation.{Disambiguation}
+
+-- one of these squares is on the file
+abbrev pub some_on_file : ℕ → List ℕ → Bool
+some_on_file f squares = list_any (λ s. file s == f) squares
+
+-- one of these squares is on the rank
+abbrev pub some_on_rank : ℕ → List ℕ → Bool
+some_on_rank r squares = list_any (λ s. rank s == r) squares
+
+-- whether the file is written, and whether the rank is
+abbrev pub distinction : Bool → Bool → Disambiguation
+distinction f r = record { file = f; rank = r }
+
+-- what is written of the start square given other starts: nothing where there are none; the file where none is on it;
+-- else the rank where none is on it; else both
+abbrev pub disambiguate : ℕ → List ℕ → Disambiguation
+disambiguate from [] = distinction false false
+disambiguate from (other ∷ others) =
+    if not (some_on_file (file from) (other ∷ others)) then distinction true false
+    else (if not (some_on_rank (rank from) (other ∷ others)) then distinction false true else distinction true true)
+
+-- the number, where it is written
+abbrev pub if_written : Bool → ℕ → Option ℕ
+if_written b n = if b then Some n else None
+
+-- the end square, and `=` with what the pawn becomes
+abbrev pub end_of : Described → End
+end_of d = record {
+  to = d.to;
+  promotion = option_map (λ k. record { kind = k; equals = true; small = false })
+      d.promotion;
+}
+
+-- the parts of the text of a pawn's move: for a capture its file comes first
+abbrev pub pawn_parts : Described → Parts
+pawn_parts d = record {
+  letter = None;
+  file = if_written d.captures (file d.from);
+  rank = None;
+  takes = d.captures;
+  end = end_of d;
+}
+
+-- and of another piece's, where others of its kind start from these squares and go to the same
+abbrev pub lettered_parts : List ℕ → Described → Parts
+lettered_parts others d =
+    let start = disambiguate d.from others in
+    record {
+      letter = Some d.man;
+      file = if_written start.file (file d.from);
+      rank = if_written start.rank (rank d.from);
+      takes = d.captures;
+      end = end_of d;
+    }
+
+-- the parts of the text of a move that is not castling
+unfoldable pub piece_parts : List ℕ → Described → Parts
+piece_parts others d = if same_kind d.man Pawn then pawn_parts d else lettered_parts others d
