@@ -10,9 +10,10 @@ use Rattle.chess_base.specs.declared.setup.Setup.{Setup}
 use Rattle.chess_base.specs.Initial.{initial_setup_of}
 use Rattle.chess_fen.specs.Reading.{fen_reading_as}
 use Rattle.chess_game.specs.Game.{State, from_start, played, with_declared, current, verdict_now}
+use Rattle.chess_game.specs.Results.{same_outcome}
 use Rattle.chess_game.specs.declared.results.Declared.{Declared}
 use Rattle.chess_game.specs.declared.results.Outcome.{Outcome}
-use Rattle.chess_game.specs.declared.results.Outcome.TheVariants.{WhiteWins, BlackWins, Draw, Unfinished}
+use Rattle.chess_game.specs.declared.results.Outcome.TheVariants.{Unfinished}
 use Rattle.chess_text.specs.declared.reading.Reading.{Reading}
 use Rattle.chess_text.specs.declared.reading.Reading.TheVariants as reads
 use Rattle.chess_pgn.specs.declared.read.PgnEnd.{PgnEnd}
@@ -53,9 +54,8 @@ fails g kind offset = Stop (record { state = g.state; answer = Err (record { kin
 
 -- the outcome named at a game's end is declared where there is no verdict and it is not `*`
 abbrev pub declared_after : Bool → Outcome → Option Declared
-declared_after true o = None
-declared_after false Unfinished = None
-declared_after false o = Some (record { outcome = o; comment = [] })
+declared_after is_decided o =
+    if is_decided || same_outcome o Unfinished then None else Some (record { outcome = o; comment = [] })
 
 -- the game ends with this outcome, at an offset after its text
 abbrev pub ends : SoFar → Outcome → ℕ → Step
@@ -117,11 +117,8 @@ step limit total g left Bad = fails g BadToken (total - left)
 
 -- at the text's end there is no game, or one without a result
 abbrev pub at_text_end : ℕ → SoFar → GameRead
-at_text_end total g = record {
-  state = g.state;
-  answer = if g.is_met then Err
-      (record { kind = NoResult; offset = total }) else Ok None;
-}
+at_text_end total g =
+    record { state = g.state; answer = if g.is_met then Err (record { kind = NoResult; offset = total }) else Ok None }
 
 -- what is read later, unless reading has ended
 abbrev pub go_on : Step → (SoFar → GameRead) → GameRead

@@ -2,9 +2,10 @@
 -- comments, `%` lines, `$` glyphs and variations are skipped; tags and words are kept; the first token that can't be
 -- read is the last. This project's own: the bytes of a word; that a `%` line is skipped also in a tag and in a
 -- variation; that a string may have tabs and more than 255 bytes; and that the bytes EF BB BF at offset 0 are skipped.
-use Rattle.std.specs.Prelude.{ℕ, zero, suc, ◌-◌, Bool, true, false, not, ◌&&◌, ◌||◌, List, [], ◌∷◌, ◌++◌, length, take, drop, slice_index, Option, Some, None, ◌==◌, nat_le, if◌then◌else◌}
+use Rattle.std.specs.Prelude.{ℕ, zero, suc, ◌-◌, Bool, true, false, not, ◌&&◌, ◌||◌, List, [], ◌∷◌, ◌++◌, length, take, drop, slice_index, Option, Some, None, codes, ◌==◌, nat_le, if◌then◌else◌}
 use Rattle.chess_base.specs.Letters.{is_digit, is_letter, byte, carriage_return, new_line, space, tab}
-use Rattle.std.specs.List.{prefix_len, position_or_len, take_while}
+use Rattle.std.specs.List.{list_any, prefix_len, position_or_len, take_while}
+use Rattle.std.specs.Option.{option_map, option_map_or}
 use Rattle.std.specs.Str.{bytes_eq}
 
 -- what a token is. An offset in it is given by how many bytes of the text are left there
@@ -31,12 +32,7 @@ is_name_byte c = is_letter c || (is_digit c || c == byte "_")
 
 -- these, `+`, `#`, `=`, `-`, `/`, `!`, `?` and `:`
 abbrev pub is_word_byte : ℕ → Bool
-is_word_byte c =
-    is_name_byte c
-    || (c == byte "+"
-    || (c == byte "#"
-    || (c == byte "="
-    || (c == byte "-" || (c == byte "/" || (c == byte "!" || (c == byte "?" || c == byte ":")))))))
+is_word_byte c = is_name_byte c || list_any (λ b. c == b) (codes "+#=-/!?:")
 
 -- ---- what is skipped
 
@@ -53,9 +49,9 @@ after_brace (c ∷ rest) = if c == byte "}" then Some rest else after_brace rest
 abbrev pub after_gap : Bool → Bool → List ℕ → List ℕ
 after_gap skips begins [] = []
 after_gap true begins (c ∷ rest) = after_gap (not (c == new_line)) true rest
-after_gap false begins (c ∷ rest) = if begins
-    && c == byte "%" then after_gap true false rest else
-    (if is_white_space c then after_gap false (c == new_line) rest else c ∷ rest)
+after_gap false begins (c ∷ rest) =
+    if begins && c == byte "%" then after_gap true false rest
+    else (if is_white_space c then after_gap false (c == new_line) rest else c ∷ rest)
 
 -- ---- variations
 
@@ -89,8 +85,7 @@ variation_at Line line_begins (suc depth) (c ∷ rest) =
 
 -- a string that goes on after these bytes
 abbrev pub onto : List ℕ → Option (List ℕ × List ℕ) → Option (List ℕ × List ℕ)
-onto front None = None
-onto front (Some found) = Some (front ++ found.0, found.1)
+onto front string = option_map (λ found. (front ++ found.0, found.1)) string
 
 -- a string's bytes up to its closing quote, and what follows it; none where a line or the text ends before. A
 -- backslash keeps the next byte from ending it
@@ -141,8 +136,7 @@ tag_at text = let inner = after_gap false false text in with_name (take_while is
 
 -- a comment in braces, with what follows it, if it is closed
 abbrev pub comment_at : ℕ → Option (List ℕ) → Token × List ℕ
-comment_at left None = (Unclosed_comment left, [])
-comment_at left (Some rest) = (Skip, rest)
+comment_at left behind = option_map_or (λ rest. (Skip, rest)) behind (Unclosed_comment left, [])
 
 -- the first token of a text that isn't empty, where a line begins or not, and what follows it; nothing is read
 -- after one that can't be read
