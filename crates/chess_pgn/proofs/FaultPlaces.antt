@@ -131,7 +131,7 @@ pub fault_in_place : FaultsHaveOffsets
 unfolding pgn_read tokens_from
 fault_in_place limit text at h =
     let offset : ℕ = after_byte_order_mark text at in
-    let g : SoFar = nothing_read (tagged_variant Normal (tokens_from text offset)) in
+    let g : SoFar = nothing_read (tagged_variant (tokens_from text offset)) in
     let later = behind text at h in
     let low = later.0 in
     let high = later.1 in

@@ -119,7 +119,7 @@ pub half_moves_have_bytes : HalfMovesHaveBytes
 unfolding pgn_read tokens_from
 half_moves_have_bytes limit text at h =
     let offset : ℕ = after_byte_order_mark text at in
-    let g : SoFar = nothing_read (tagged_variant Normal (tokens_from text offset)) in
+    let g : SoFar = nothing_read (tagged_variant (tokens_from text offset)) in
     let inside = behind text at h in
     let low = inside.0 in
     let high = inside.1 in

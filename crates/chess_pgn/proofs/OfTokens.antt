@@ -378,12 +378,12 @@ module _ (limit total : ℕ) (v : Variant) where
       by_step tokens done t ts all later (On k) l = later k l
 
 pub game_of_tokens : (limit : ℕ) (text : List ℕ) (at : ℕ)
-    → IsOfTokens limit (length text) (tagged_variant Normal (tokens_from text (after_byte_order_mark text at)))
+    → IsOfTokens limit (length text) (tagged_variant (tokens_from text (after_byte_order_mark text at)))
     (tokens_from text (after_byte_order_mark text at)) (pgn_read limit text at)
 unfolding pgn_read
 game_of_tokens limit text at =
     let tokens : List (ℕ × Token) = tokens_from text (after_byte_order_mark text at) in
-    let v : Variant = tagged_variant Normal tokens in
+    let v : Variant = tagged_variant tokens in
     of_tokens limit (length text) v tokens [] tokens (nothing_read v) refl
     (record {
       can_be = refl;

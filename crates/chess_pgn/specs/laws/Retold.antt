@@ -211,5 +211,5 @@ pub record IsOfTokens (limit total : ℕ) (v : Variant) (tokens : List (ℕ × T
 abbrev pub GamesAreOfTokens : Type 0
 GamesAreOfTokens =
     (limit : ℕ) (text : List ℕ) (at : ℕ) → let tokens =
-    tokens_from text (after_byte_order_mark text at) in IsOfTokens limit (length text) (tagged_variant Normal tokens) tokens
+    tokens_from text (after_byte_order_mark text at) in IsOfTokens limit (length text) (tagged_variant tokens) tokens
     (pgn_read limit text at)
