@@ -55,31 +55,20 @@ after_gap false begins (c ∷ rest) =
 
 -- ---- variations
 
--- where a variation's bytes are: in no comment, in a brace comment that began with so many bytes left, or in a line
--- that is skipped to its end
-pub data Inside : Type 0 where
-  Plain : Inside
-  Brace : (left : ℕ) → Inside
-  Line : Inside
-
--- a variation after its `(`, where so many are open
-abbrev pub variation_at : Inside → Bool → ℕ → List ℕ → Token × List ℕ
-variation_at inside line_begins zero text = (Skip, text)
-variation_at Plain line_begins (suc depth) [] = (Unclosed_variation, [])
-variation_at (Brace left) line_begins (suc depth) [] = (Unclosed_comment left, [])
-variation_at Line line_begins (suc depth) [] = (Unclosed_variation, [])
-variation_at Plain line_begins (suc depth) (c ∷ rest) =
-    if line_begins && c == byte "%" then variation_at Line false (suc depth) rest
-    else (if c == byte "{" then variation_at (Brace (length (c ∷ rest))) false (suc depth) rest
-    else (if c == byte ";" then variation_at Line false (suc depth) rest
-    else (if c == byte "(" then variation_at Plain false (suc (suc depth)) rest
-    else (if c == byte ")" then variation_at Plain false depth rest
-    else variation_at Plain (c == new_line) (suc depth) rest))))
-variation_at (Brace left) line_begins (suc depth) (c ∷ rest) =
-    if c == byte "}" then variation_at Plain false (suc depth) rest else variation_at (Brace left) false (suc depth)
-    rest
-variation_at Line line_begins (suc depth) (c ∷ rest) =
-    if c == new_line then variation_at Plain true (suc depth) rest else variation_at Line false (suc depth) rest
+-- a variation after its `(`, where so many are open. In a comment or in a line that is skipped, the first argument is the
+-- byte that ends that, and the token if there is no such byte
+abbrev pub variation_at : Option (ℕ × Token) → Bool → ℕ → List ℕ → Token × List ℕ
+variation_at comment line_begins zero text = (Skip, text)
+variation_at comment line_begins (suc depth) [] = (option_map_or (λ skipped. skipped.1) comment Unclosed_variation, [])
+variation_at (Some comment) line_begins (suc depth) (c ∷ rest) =
+    variation_at (if c == comment.0 then None else Some comment) (c == new_line) (suc depth) rest
+variation_at None line_begins (suc depth) (c ∷ rest) =
+    if line_begins && c == byte "%" || c == byte ";"
+    then variation_at (Some (new_line, Unclosed_variation)) false (suc depth) rest
+    else (if c == byte "{" then variation_at (Some (byte "}", Unclosed_comment (length (c ∷ rest)))) false (suc depth) rest
+    else (if c == byte "(" then variation_at None false (suc (suc depth)) rest
+    else (if c == byte ")" then variation_at None false depth rest
+    else variation_at None (c == new_line) (suc depth) rest)))
 
 -- ---- tags
 
@@ -147,7 +136,7 @@ token_at line_begins c rest =
     else (if c == byte "{" then comment_at (length (c ∷ rest)) (after_brace rest)
     else (if c == byte ";" then (Skip, line_end rest)
     else (if c == byte "$" then (Skip, drop (prefix_len is_digit rest) rest)
-    else (if c == byte "(" then variation_at Plain false 1 rest
+    else (if c == byte "(" then variation_at None false 1 rest
     else (if c == byte "[" then tag_at rest
     else (if c == byte "*" then (Word (c ∷ []), rest)
     else (if is_word_byte c then (
