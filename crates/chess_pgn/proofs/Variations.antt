@@ -72,9 +72,10 @@ IsPart begins depth c rest = variation_at None begins (suc depth) (c ∷ rest) �
 -- a byte that begins a line which is skipped is no other
 line_byte : (begins : Bool) (c k : ℕ) → (begins && eqb c 37 || eqb c 59) ≡ true → eqb 37 k ≡ false → eqb 59 k ≡ false
     → eqb c k ≡ false
-line_byte begins c k h a b = elim (or_cases (begins && eqb c 37) (eqb c 59) h)
-    [ inl e ↦ (let is : eqb c 37 ≡ true = (and_parts begins (eqb c 37) e).1 in grind (arith, nat_tests))
-    | inr e ↦ grind (arith, nat_tests) ]
+line_byte begins c k h a b = elim (or_cases (begins && eqb c 37) (eqb c 59) h) [
+  | inl e ↦ (let is : eqb c 37 ≡ true = (and_parts begins (eqb c 37) e).1 in grind (arith, nat_tests))
+  | inr e ↦ grind (arith, nat_tests)
+]
 
 pub by_part : (begins : Bool) (depth c : ℕ) (rest : List ℕ) → variation_at None begins (suc depth) (c ∷ rest)
     ≡ behind (suc (length rest)) (eqb c 10) (after_part begins c rest) (depth_after depth c)

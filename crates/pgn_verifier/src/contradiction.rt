@@ -3,7 +3,7 @@
 ghost use Rattle.std.specs.Prelude.{◌≡◌, ◌≤◌, length, Some};
 ghost use Rattle.std.specs.Option.{IfSome, option_eq, option_or};
 ghost use Rattle.chess_game.specs.Game.{is_other, verdict_now};
-ghost use Rattle.chess_pgn.specs.ResultTags.{result_tag_of};
+ghost use Rattle.chess_pgn.specs.LastTags.{result_tag_of};
 ghost use Rattle.chess_game.specs.Results.{same_outcome};
 ghost use Rattle.pgn_verifier.specs.GameFaults.{result_differs, board_says_otherwise, contradiction};
 
