@@ -1,5 +1,5 @@
 -- The last tag Result, token by token: what is left gives the whole.
-use Rattle.std.proofs.Common.{◌≡◌, ◌≤◌, ℕ, ◌-◌, Bool, true, false, List, ◌∷◌, length, Option, Some, None, IfSome, refl, ap, sym, subst, ◌∙◌, arith}
+use Rattle.std.proofs.Common.{◌≡◌, ◌≤◌, ℕ, ◌-◌, true, false, List, ◌∷◌, length, Option, None, IfSome, ap, sym, subst, ◌∙◌, arith}
 use Rattle.std.specs.Prelude.{if◌then◌else◌, codes}
 use Rattle.std.specs.Option.{option_map}
 use Rattle.std.specs.Str.{bytes_eq}
@@ -9,7 +9,7 @@ use Rattle.chess_pgn.specs.LastTags.{may_precede_tags, last_tag}
 use Rattle.chess_pgn.specs.ties.TagSteps.{result_after, result_from}
 use Rattle.chess_pgn.specs.Words.{outcome_of}
 use Rattle.chess_pgn.proofs.TagScans.{results_are}
-use Rattle.chess_pgn.specs.Tokens.{Token, Skip, Tag, Word, Bad_tag, Unclosed_comment, Unclosed_variation, Bad, after_byte_order_mark, tokens_from}
+use Rattle.chess_pgn.specs.Tokens.{Token, Skip, Tag, Word, Bad_tag, Unclosed_comment, Unclosed_variation, Bad, tokens_from}
 use Rattle.chess_pgn.proofs.Cuts.{pick}
 
 abbrev pub InText : ℕ → Option ResultTag → Type 0
