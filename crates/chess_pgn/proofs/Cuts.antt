@@ -1,11 +1,13 @@
 -- What a token takes of a text: a front that ends with a byte other than 10, unless the token is one byte 10.
-use Rattle.std.proofs.Common.{◌≡◌, ℕ, zero, suc, ◌+◌, Bool, true, false, cond, not, eqb, List, [], ◌∷◌, ◌++◌, length, drop, Option, Some, None, IfSome, refl, sym, ap, ◌∙◌, inl, inr, ◌⊎◌, append_assoc, arith}
+use Rattle.std.proofs.Common.{◌≡◌, ℕ, zero, suc, ◌+◌, Bool, true, false, cond, not, eqb, List, [], ◌∷◌, ◌++◌, length, drop, Option, Some, None, IfSome, refl, sym, ap, subst, ◌∙◌, inl, inr, ◌⊎◌, append_assoc, arith}
 use Rattle.std.specs.Prelude.{◌&&◌, ◌||◌}
 use Rattle.std.specs.List.{prefix_len, take_while}
 use Rattle.std.proofs.lemmas.Bool.Decides.{nat_tests}
 use Rattle.std.proofs.lemmas.List.{take-append-drop}
-use Rattle.chess_pgn.specs.Tokens.{Token, Unclosed_comment, Unclosed_variation, is_white_space, is_word_byte, is_name_byte, after_brace, after_gap, string_at, onto, after_byte, after_next, closed, with_text, with_string, with_name, tag_at, variation_at, comment_at, token_at}
+use Rattle.chess_pgn.specs.Tokens.{Token, Unclosed_comment, Unclosed_variation, is_white_space, is_word_byte, is_name_byte, after_brace, after_gap, string_at, onto, after_byte, after_next, variation_at, comment_at, token_at}
+use Rattle.chess_pgn.specs.ties.TagParts.{closed, with_text, with_string, with_name, tag_by_parts}
 use Rattle.chess_base.specs.Letters.{is_digit}
+use Rattle.chess_pgn.proofs.TagParts.{parts_are}
 
 -- the rest of a text after a byte other than 10
 pub record Cut (text rest : List ℕ) : Type 0 where
@@ -192,7 +194,7 @@ pub name_left : (name from : List ℕ) → LeavesOf from (with_name name from)
 name_left [] from = inl refl
 name_left (n ∷ ns) from = string_left (n ∷ ns) from (after_next 34 from) (next_cut 34 from refl)
 
-tag_left : (text : List ℕ) → LeavesOf text (tag_at text)
+tag_left : (text : List ℕ) → LeavesOf text (tag_by_parts text)
 tag_left text = by_name (after_gap false false text) (gap_suffix false false text)
   where
     by_name : (inner : List ℕ) → Suffix text inner
@@ -227,7 +229,7 @@ token_left begins c rest e =
     pick (LeavesOf (c ∷ rest)) (eqb c 59) _ _ (λ _. inr (run_cut (λ b. not (eqb b 10)) refl c rest e)) (λ _.
     pick (LeavesOf (c ∷ rest)) (eqb c 36) _ _ (λ _. inr (run_cut is_digit refl c rest e)) (λ _.
     pick (LeavesOf (c ∷ rest)) (eqb c 40) _ _ (λ _. left_more c rest _ (variation_cut None false 0 rest)) (λ _.
-    pick (LeavesOf (c ∷ rest)) (eqb c 91) _ _ (λ _. left_more c rest _ (tag_left rest)) (λ _.
+    pick (LeavesOf (c ∷ rest)) (eqb c 91) _ _ (λ _. left_more c rest _ (subst (LeavesOf rest) (sym (parts_are rest)) (tag_left rest))) (λ _.
     pick (LeavesOf (c ∷ rest)) (eqb c 42) _ _ (λ _. inr (cut_here c rest e)) (λ _.
     pick (LeavesOf (c ∷ rest)) (is_word_byte c) _ _ (λ k. word_left c rest e k) (λ _. inl refl)))))))))
 

@@ -20,6 +20,7 @@ pub mod ShortTokens
 pub mod Skipped
 pub mod Strings
 pub mod TagLines
+pub mod TagParts
 pub mod TagScans
 pub mod TagTexts
 pub mod TokenPlaces

@@ -3,9 +3,11 @@ use Rattle.std.proofs.Common.{◌≡◌, ℕ, zero, suc, ◌-◌, ◌≤◌, Boo
 use Rattle.std.specs.Prelude.{◌&&◌, ◌||◌}
 use Rattle.std.specs.List.{prefix_len, take_while}
 use Rattle.std.proofs.lemmas.List.{length-append, length-drop, take-append-drop}
-use Rattle.chess_pgn.specs.Tokens.{Token, Unclosed_comment, Unclosed_variation, is_white_space, is_word_byte, is_name_byte, after_brace, after_gap, string_at, after_next, closed, with_text, with_string, with_name, tag_at, variation_at, comment_at, token_at, begins_line, tokens_from}
+use Rattle.chess_pgn.specs.Tokens.{Token, Unclosed_comment, Unclosed_variation, is_white_space, is_word_byte, is_name_byte, after_brace, after_gap, string_at, after_next, variation_at, comment_at, token_at, begins_line, tokens_from}
+use Rattle.chess_pgn.specs.ties.TagParts.{closed, with_text, with_string, with_name, tag_by_parts}
 use Rattle.chess_pgn.specs.ties.GameSteps.{IsWithin}
 use Rattle.chess_pgn.proofs.Cuts.{Cut, Suffix, pick, gap_suffix, next_cut}
+use Rattle.chess_pgn.proofs.TagParts.{parts_are}
 use Rattle.chess_pgn.proofs.Walk.{no_token, token_more}
 
 abbrev Within : ℕ → Token × List ℕ → Type 0
@@ -59,7 +61,7 @@ name_within : (n : ℕ) (name from : List ℕ) → length from ≤ n → Within 
 name_within n [] from h = tt
 name_within n (c ∷ cs) from h = string_within n (c ∷ cs) from (after_next 34 from) h (next_cut 34 from refl)
 
-tag_within : (n : ℕ) (text : List ℕ) → length text ≤ n → Within n (tag_at text)
+tag_within : (n : ℕ) (text : List ℕ) → length text ≤ n → Within n (tag_by_parts text)
 tag_within n text h = by_name (after_gap false false text) (gap_suffix false false text)
   where
     by_name : (inner : List ℕ) → Suffix text inner
@@ -88,7 +90,7 @@ within begins c rest =
     pick (Within n) (eqb c 59) _ _ (λ _. tt) (λ _.
     pick (Within n) (eqb c 36) _ _ (λ _. tt) (λ _.
     pick (Within n) (eqb c 40) _ _ (λ _. variation_within n None false 0 rest fewer tt) (λ _.
-    pick (Within n) (eqb c 91) _ _ (λ _. tag_within n rest fewer) (λ _.
+    pick (Within n) (eqb c 91) _ _ (λ _. subst (Within n) (sym (parts_are rest)) (tag_within n rest fewer)) (λ _.
     pick (Within n) (eqb c 42) _ _ (λ _. omega arith) (λ _.
     pick (Within n) (is_word_byte c) _ _ (λ _. front_fewer (prefix_len is_word_byte (c ∷ rest)) (c ∷ rest))
     (λ _. tt)))))))))

@@ -5,7 +5,7 @@
 use Rattle.std.specs.Prelude.{ℕ, zero, suc, ◌-◌, Bool, true, false, not, ◌&&◌, ◌||◌, List, [], ◌∷◌, ◌++◌, length, take, drop, slice_index, Option, Some, None, codes, ◌==◌, if◌then◌else◌}
 use Rattle.chess_base.specs.Letters.{is_digit, is_letter, byte, carriage_return, new_line, space, tab}
 use Rattle.std.specs.List.{list_any, prefix_len, position_or_len, take_while}
-use Rattle.std.specs.Option.{option_map, option_map_or}
+use Rattle.std.specs.Option.{option_and_then, option_map, option_map_or, unwrap_or}
 use Rattle.std.specs.Str.{bytes_eq}
 
 -- what a token is. An offset in it is given by how many bytes of the text are left there
@@ -72,6 +72,11 @@ variation_at None line_begins (suc depth) (c ∷ rest) =
 
 -- ---- tags
 
+infixl 10 ◌>>=◌
+-- f of the value, if there is one
+abbrev pub ◌>>=◌ : {A B : Type 0} → Option A → (A → Option B) → Option B
+o >>= f = option_and_then f o
+
 -- a string that goes on after these bytes
 abbrev pub onto : List ℕ → Option (List ℕ × List ℕ) → Option (List ℕ × List ℕ)
 onto front string = option_map (λ found. (front ++ found.0, found.1)) string
@@ -96,30 +101,19 @@ after_byte b (c ∷ rest) = if c == b then Some rest else None
 abbrev pub after_next : ℕ → List ℕ → Option (List ℕ)
 after_next b text = after_byte b (after_gap false false text)
 
--- a tag with what follows its bracket
-abbrev pub closed : List ℕ → ℕ → List ℕ → Option (List ℕ) → Token × List ℕ
-closed name left text None = (Bad_tag, [])
-closed name left text (Some rest) = (Tag name text left, rest)
+-- a name, which has a byte at least, and what follows it
+abbrev pub name_at : List ℕ → Option (List ℕ × List ℕ)
+name_at text = let name = take_while is_name_byte text in
+    if length name == 0 then None else Some (name, drop (length name) text)
 
--- a tag with its string, if that is closed; its closing bracket comes after a gap
-abbrev pub with_text : List ℕ → ℕ → Option (List ℕ × List ℕ) → Token × List ℕ
-with_text name left None = (Bad_tag, [])
-with_text name left (Some found) = closed name left found.0 (after_next (byte "]") found.1)
-
--- a tag with what follows its opening quote, if there is one
-abbrev pub with_string : List ℕ → Option (List ℕ) → Token × List ℕ
-with_string name None = (Bad_tag, [])
-with_string name (Some string) = with_text name (length string) (string_at string)
-
--- a tag with its name, which has a byte at least, and what follows that
-abbrev pub with_name : List ℕ → List ℕ → Token × List ℕ
-with_name [] rest = (Bad_tag, [])
-with_name (n ∷ ns) rest = with_string (n ∷ ns) (after_next (byte "\"") rest)
-
--- a tag after its opening bracket: a name, a string and the closing bracket, with gaps before each
-abbrev pub tag_at : List ℕ → Token × List ℕ
-tag_at text = let inner = after_gap false false text in with_name (take_while is_name_byte inner)
-    (drop (prefix_len is_name_byte inner) inner)
+-- a tag after its opening bracket, and what follows it: a name, a string and the closing bracket, with gaps before each
+abbrev pub tag_at : List ℕ → Option (Token × List ℕ)
+tag_at text = do
+  name ← name_at (after_gap false false text)
+  string ← after_next (byte "\"") name.1
+  inside ← string_at string
+  rest ← after_next (byte "]") inside.1
+  Some (Tag name.0 inside.0 (length string), rest)
 
 -- ---- tokens
 
@@ -137,7 +131,7 @@ token_at line_begins c rest =
     else (if c == byte ";" then (Skip, line_end rest)
     else (if c == byte "$" then (Skip, drop (prefix_len is_digit rest) rest)
     else (if c == byte "(" then variation_at None false 1 rest
-    else (if c == byte "[" then tag_at rest
+    else (if c == byte "[" then unwrap_or (tag_at rest) (Bad_tag, [])
     else (if c == byte "*" then (Word (c ∷ []), rest)
     else (if is_word_byte c then (
       Word (take_while is_word_byte (c ∷ rest)),
