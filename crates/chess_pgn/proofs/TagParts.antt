@@ -1,10 +1,10 @@
 -- A tag by its parts is the one of the definition.
-use Rattle.std.proofs.Common.{◌≡◌, ℕ, suc, Bool, false, cond, eqb, List, [], ◌∷◌, length, drop, Option, Some, None, refl, sym, ap, ◌∙◌, arith}
+use Rattle.std.proofs.Common.{◌≡◌, ℕ, false, cond, eqb, List, [], ◌∷◌, length, drop, Option, Some, None, refl, ap, ◌∙◌, arith}
 use Rattle.std.proofs.lemmas.Bool.Decides.{nat_tests}
 use Rattle.std.proofs.lemmas.List.{length-take-le}
 use Rattle.std.proofs.lemmas.List.Sums.{prefix_len-le-length}
 use Rattle.std.specs.List.{prefix_len, take_while}
-use Rattle.std.specs.Option.{option_and_then, option_map, unwrap_or}
+use Rattle.std.specs.Option.{option_and_then, unwrap_or}
 use Rattle.chess_pgn.specs.Tokens.{Token, Tag, Bad_tag, is_name_byte, after_gap, after_next, string_at, tag_at}
 use Rattle.chess_pgn.specs.ties.TagParts.{closed, with_text, with_string, with_name, tag_by_parts}
 
