@@ -134,12 +134,8 @@ game_of limit total g (t ∷ ts) = go_on (step limit total g t.0 t.1) (λ h. gam
 
 -- a game of a variant from its initial position, of which nothing was read
 abbrev pub nothing_read : Variant → SoFar
-nothing_read v = record {
-  state = from_start (initial_setup_of v);
-  is_met = false;
-  is_begun = false;
-  termination = None;
-}
+nothing_read v =
+    record { state = from_start (initial_setup_of v); is_met = false; is_begun = false; termination = None }
 
 -- ---- the variant
 

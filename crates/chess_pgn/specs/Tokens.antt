@@ -133,18 +133,16 @@ token_at line_begins c rest =
     else (if c == byte "(" then variation_at None false 1 rest
     else (if c == byte "[" then unwrap_or (tag_at rest) (Bad_tag, [])
     else (if c == byte "*" then (Word (c ∷ []), rest)
-    else (if is_word_byte c then (
-      Word (take_while is_word_byte (c ∷ rest)),
-      drop (prefix_len is_word_byte (c ∷ rest)) (c ∷ rest),
-    )
+    else (if is_word_byte c
+    then (Word (take_while is_word_byte (c ∷ rest)), drop (prefix_len is_word_byte (c ∷ rest)) (c ∷ rest))
     else (Bad, [])))))))))
 
 -- the tokens of a text, each with how many bytes are left where it begins; at most `most` of them
 unfoldable pub tokens_of : ℕ → Bool → List ℕ → List (ℕ × Token)
 tokens_of zero line_begins text = []
 tokens_of (suc most) line_begins [] = []
-tokens_of (suc most) line_begins (c ∷ rest) = let t =
-    token_at line_begins c rest in (length (c ∷ rest), t.0) ∷ tokens_of most (c == new_line) t.1
+tokens_of (suc most) line_begins (c ∷ rest) =
+    let t = token_at line_begins c rest in (length (c ∷ rest), t.0) ∷ tokens_of most (c == new_line) t.1
 
 -- ---- a text from an offset on
 

@@ -94,7 +94,5 @@ verified t = if t.faults == 0 then EachGame else FaultTold
 -- the line of the counts
 unfoldable pub counts_line : Tally → List ℕ
 counts_line t =
-    codes "games "
-    ++ (decimal t.games
-    ++ (codes " half-moves "
-    ++ (decimal t.half_moves ++ (codes " faults " ++ (decimal t.faults ++ new_line ∷ [])))))
+    codes "games " ++ (decimal t.games ++ (codes " half-moves " ++ (decimal t.half_moves
+    ++ (codes " faults " ++ (decimal t.faults ++ new_line ∷ [])))))
