@@ -1,12 +1,12 @@
 -- A text that is cut in two where a piece begins has the pieces of the one part and then those of the other.
-use Rattle.std.proofs.Common.{◌≡◌, ◌≤◌, ◌<◌, ℕ, zero, suc, ◌+◌, ltb, Bool, true, false, List, [], ◌∷◌, ◌++◌, length, take, refl, sym, ap, subst, ◌∙◌, append_assoc, length-append, arith}
-use Rattle.std.specs.Prelude.{◌&&◌, ◌||◌, ◌==◌, codes}
+use Rattle.std.proofs.Common.{◌≡◌, ◌≤◌, ◌<◌, ℕ, zero, suc, ltb, Bool, true, false, List, [], ◌∷◌, ◌++◌, length, take, refl, sym, ap, ◌∙◌, append_assoc, length-append, arith}
+use Rattle.std.specs.Prelude.{◌||◌, ◌==◌, codes}
 use Rattle.std.specs.List.{list_any, onto_first}
 use Rattle.std.specs.Str.{bytes_eq}
 use Rattle.std.proofs.lemmas.Bool.{and_parts, ltb-true}
 use Rattle.std.proofs.lemmas.Bool.Decides.{nat_tests}
 use Rattle.std.proofs.lemmas.Slice.Eq.{bytes_eq-Decides}
-use Rattle.pgn_pieces.specs.Pieces.{begins_event, ends_piece, cut}
+use Rattle.pgn_pieces.specs.Pieces.{ends_piece, cut}
 use Rattle.pgn_pieces.specs.laws.Shards.{ShardsAreCut}
 use Rattle.pgn_pieces.proofs.Cuts.{same_end}
 use Rattle.pgn_pieces.proofs.Whole.{cut_on, cut_here, has_piece}

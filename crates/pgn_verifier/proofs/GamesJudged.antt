@@ -1,5 +1,5 @@
 -- A game that was read is judged: what its answer says, and where its fault is.
-use Rattle.std.proofs.Common.{◌≡◌, ℕ, ◌+◌, ◌-◌, ◌≤◌, Bool, true, false, List, length, Option, Some, None, Result, Ok, Err, refl, sym, ap, subst, ◌∙◌, arith}
+use Rattle.std.proofs.Common.{◌≡◌, ℕ, ◌+◌, ◌≤◌, Bool, true, false, List, length, Option, Some, None, Result, Ok, Err, sym, ap, subst, ◌∙◌, arith}
 use Rattle.std.specs.Prelude.{if◌then◌else◌, IfOk, IfErr, IfSome}
 use Rattle.std.specs.Option.{option_eq, option_map_or, option_or}
 use Rattle.chess_game.specs.Game.{Seen, at as left_at, is_other, verdict_now}

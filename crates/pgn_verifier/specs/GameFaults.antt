@@ -5,7 +5,6 @@ use Rattle.chess_game.specs.Game.{is_other, verdict_now}
 use Rattle.chess_game.specs.Results.{outcome_text, same_outcome}
 use Rattle.chess_game.specs.declared.ends.Verdict.{Verdict}
 use Rattle.chess_game.specs.declared.game.TheConstants.{MOST_MOVES}
-use Rattle.chess_game.specs.declared.results.Outcome.{Outcome}
 use Rattle.chess_pgn.specs.GameRead.{GameRead, pgn_read}
 use Rattle.chess_pgn.specs.LastTags.{result_tag_of}
 use Rattle.chess_pgn.specs.declared.read.PgnEnd.{PgnEnd}
