@@ -35,6 +35,8 @@ SHORT = {
     "game_tests": "chess_game_tests",
     "text_tests": "chess_text_tests",
     "pgn_tests": "chess_pgn_tests",
+    "pieces_tests": "pgn_pieces_tests",
+    "verifier_tests": "pgn_verifier_tests",
     "cecp_tests": "chess_cecp_tests",
     "words_tests": "arbiter_words_tests",
     "arbiter_tests": "chess_arbiter_tests",

@@ -1,11 +1,13 @@
 -- What a token takes of a text: a front that ends with a byte other than 10, unless the token is one byte 10.
-use Rattle.std.proofs.Common.{◌≡◌, ℕ, zero, suc, ◌+◌, Bool, true, false, cond, not, eqb, List, [], ◌∷◌, ◌++◌, length, drop, Option, Some, None, IfSome, refl, sym, ap, ◌∙◌, inl, inr, ◌⊎◌, append_assoc, arith}
+use Rattle.std.proofs.Common.{◌≡◌, ℕ, zero, suc, ◌+◌, Bool, true, false, cond, not, eqb, List, [], ◌∷◌, ◌++◌, length, drop, Option, Some, None, IfSome, refl, sym, ap, subst, ◌∙◌, inl, inr, ◌⊎◌, append_assoc, arith}
 use Rattle.std.specs.Prelude.{◌&&◌, ◌||◌}
 use Rattle.std.specs.List.{prefix_len, take_while}
 use Rattle.std.proofs.lemmas.Bool.Decides.{nat_tests}
 use Rattle.std.proofs.lemmas.List.{take-append-drop}
-use Rattle.chess_pgn.specs.Tokens.{Token, Plain, Brace, Line, Inside, is_white_space, is_word_byte, is_name_byte, after_brace, after_gap, string_at, onto, after_byte, after_next, closed, with_text, with_string, with_name, tag_at, variation_at, comment_at, token_at}
+use Rattle.chess_pgn.specs.Tokens.{Token, Unclosed_comment, Unclosed_variation, is_white_space, is_word_byte, is_name_byte, after_brace, after_gap, string_at, onto, after_byte, after_next, variation_at, comment_at, token_at}
+use Rattle.chess_pgn.specs.ties.TagParts.{closed, with_text, with_string, with_name, tag_by_parts}
 use Rattle.chess_base.specs.Letters.{is_digit}
+use Rattle.chess_pgn.proofs.TagParts.{parts_are}
 
 -- the rest of a text after a byte other than 10
 pub record Cut (text rest : List ℕ) : Type 0 where
@@ -69,34 +71,23 @@ brace_cut (c ∷ rest) = pick (λ o. IfSome o (Cut (c ∷ rest))) (eqb c 125) (S
 
 -- ---- variations
 
-pub variation_cut : (inside : Inside) (begins : Bool) (depth : ℕ) (text : List ℕ)
-    → Left text (variation_at inside begins (suc depth) text).1
-variation_cut Plain begins depth [] = inl refl
-variation_cut (Brace left) begins depth [] = inl refl
-variation_cut Line begins depth [] = inl refl
-variation_cut Line begins depth (c ∷ rest) =
-    pick (LeavesOf (c ∷ rest)) (eqb c 10) (variation_at Plain true (suc depth) rest)
-    (variation_at Line false (suc depth) rest)
-    (λ e. left_more c rest _ (variation_cut Plain true depth rest))
-    (λ e. left_more c rest _ (variation_cut Line false depth rest))
-variation_cut (Brace left) begins depth (c ∷ rest) =
-    pick (LeavesOf (c ∷ rest)) (eqb c 125) (variation_at Plain false (suc depth) rest)
-    (variation_at (Brace left) false (suc depth) rest)
-    (λ e. left_more c rest _ (variation_cut Plain false depth rest))
-    (λ e. left_more c rest _ (variation_cut (Brace left) false depth rest))
-variation_cut Plain begins depth (c ∷ rest) =
-    pick (LeavesOf (c ∷ rest)) (begins && eqb c 37) _ _ (λ _. left_more c rest _ (variation_cut Line false depth rest))
-    (λ _.
+pub variation_cut : (comment : Option (ℕ × Token)) (begins : Bool) (depth : ℕ) (text : List ℕ)
+    → Left text (variation_at comment begins (suc depth) text).1
+variation_cut None begins depth [] = inl refl
+variation_cut (Some comment) begins depth [] = inl refl
+variation_cut (Some comment) begins depth (c ∷ rest) =
+    left_more c rest _ (variation_cut (cond (eqb c comment.0) None (Some comment)) (eqb c 10) depth rest)
+variation_cut None begins depth (c ∷ rest) =
+    pick (LeavesOf (c ∷ rest)) (begins && eqb c 37 || eqb c 59) _ _
+    (λ _. left_more c rest _ (variation_cut (Some (10, Unclosed_variation)) false depth rest)) (λ _.
     pick (LeavesOf (c ∷ rest)) (eqb c 123) _ _
-    (λ _. left_more c rest _ (variation_cut (Brace (suc (length rest))) false depth rest)) (λ _.
-    pick (LeavesOf (c ∷ rest)) (eqb c 59) _ _ (λ _. left_more c rest _ (variation_cut Line false depth rest)) (λ _.
-    pick (LeavesOf (c ∷ rest)) (eqb c 40) _ _ (λ _. left_more c rest _ (variation_cut Plain false (suc depth) rest))
-    (λ _.
-    pick (LeavesOf (c ∷ rest)) (eqb c 41) _ _ (λ e. closing depth e (λ d. variation_cut Plain false d rest)) (λ _.
-    left_more c rest _ (variation_cut Plain (eqb c 10) depth rest))))))
+    (λ _. left_more c rest _ (variation_cut (Some (125, Unclosed_comment (suc (length rest)))) false depth rest)) (λ _.
+    pick (LeavesOf (c ∷ rest)) (eqb c 40) _ _ (λ _. left_more c rest _ (variation_cut None false (suc depth) rest)) (λ _.
+    pick (LeavesOf (c ∷ rest)) (eqb c 41) _ _ (λ e. closing depth e (λ d. variation_cut None false d rest)) (λ _.
+    left_more c rest _ (variation_cut None (eqb c 10) depth rest)))))
   where
-    closing : (n : ℕ) → eqb c 41 ≡ true → ((d : ℕ) → Left rest (variation_at Plain false (suc d) rest).1)
-        → Left (c ∷ rest) (variation_at Plain false n rest).1
+    closing : (n : ℕ) → eqb c 41 ≡ true → ((d : ℕ) → Left rest (variation_at None false (suc d) rest).1)
+        → Left (c ∷ rest) (variation_at None false n rest).1
     closing zero e more = inr (cut_here c rest (grind (arith, nat_tests)))
     closing (suc d) e more = left_more c rest _ (more d)
 
@@ -203,7 +194,7 @@ pub name_left : (name from : List ℕ) → LeavesOf from (with_name name from)
 name_left [] from = inl refl
 name_left (n ∷ ns) from = string_left (n ∷ ns) from (after_next 34 from) (next_cut 34 from refl)
 
-tag_left : (text : List ℕ) → LeavesOf text (tag_at text)
+tag_left : (text : List ℕ) → LeavesOf text (tag_by_parts text)
 tag_left text = by_name (after_gap false false text) (gap_suffix false false text)
   where
     by_name : (inner : List ℕ) → Suffix text inner
@@ -237,8 +228,8 @@ token_left begins c rest e =
     (λ _. comment_left c (suc (length rest)) rest (after_brace rest) (brace_cut rest)) (λ _.
     pick (LeavesOf (c ∷ rest)) (eqb c 59) _ _ (λ _. inr (run_cut (λ b. not (eqb b 10)) refl c rest e)) (λ _.
     pick (LeavesOf (c ∷ rest)) (eqb c 36) _ _ (λ _. inr (run_cut is_digit refl c rest e)) (λ _.
-    pick (LeavesOf (c ∷ rest)) (eqb c 40) _ _ (λ _. left_more c rest _ (variation_cut Plain false 0 rest)) (λ _.
-    pick (LeavesOf (c ∷ rest)) (eqb c 91) _ _ (λ _. left_more c rest _ (tag_left rest)) (λ _.
+    pick (LeavesOf (c ∷ rest)) (eqb c 40) _ _ (λ _. left_more c rest _ (variation_cut None false 0 rest)) (λ _.
+    pick (LeavesOf (c ∷ rest)) (eqb c 91) _ _ (λ _. left_more c rest _ (subst (LeavesOf rest) (sym (parts_are rest)) (tag_left rest))) (λ _.
     pick (LeavesOf (c ∷ rest)) (eqb c 42) _ _ (λ _. inr (cut_here c rest e)) (λ _.
     pick (LeavesOf (c ∷ rest)) (is_word_byte c) _ _ (λ k. word_left c rest e k) (λ _. inl refl)))))))))
 

@@ -7,7 +7,6 @@ use Rattle.std.proofs.lemmas.List.{length-drop, length-take}
 use Rattle.std.proofs.lemmas.Bool.Decides.{nat_tests}
 use Rattle.std.proofs.lemmas.Slice.Eq.{bytes_eq-Decides}
 use Rattle.chess_base.specs.declared.fault.FenFault.{FenFault}
-use Rattle.chess_base.specs.declared.man.Variant.TheVariants.{Normal}
 use Rattle.chess_base.specs.declared.setup.Setup.{Setup}
 use Rattle.chess_fen.specs.Reading.{fen_reading_as}
 use Rattle.chess_game.specs.Game.{current, verdict_now}
@@ -131,7 +130,7 @@ pub fault_in_place : FaultsHaveOffsets
 unfolding pgn_read tokens_from
 fault_in_place limit text at h =
     let offset : ℕ = after_byte_order_mark text at in
-    let g : SoFar = nothing_read (tagged_variant Normal (tokens_from text offset)) in
+    let g : SoFar = nothing_read (tagged_variant (tokens_from text offset)) in
     let later = behind text at h in
     let low = later.0 in
     let high = later.1 in

@@ -24,9 +24,11 @@ use Rattle.chess_text.specs.declared.reading.Reading.TheVariants as reads
 use Rattle.chess_text.specs.Moves.{reading}
 use Rattle.chess_pgn.specs.Words.{kind_of}
 use Rattle.chess_pgn.specs.Tokens.{Token, Skip, Tag, Word, Bad_tag, Unclosed_comment, Unclosed_variation, Bad, after_byte_order_mark, is_white_space, after_brace, token_at, begins_line, tokens_from}
-use Rattle.chess_pgn.specs.GameRead.{SoFar, Step, On, Stop, unless_full, move_step, word_step, fen_step, tag_step, step, go_on, game_of, nothing_read, variant_after, variant_then, tagged_variant, tokens_read, pgn_read}
+use Rattle.chess_pgn.specs.GameRead.{SoFar, Step, On, Stop, unless_full, move_step, word_step, fen_step, tag_step, step, go_on, game_of, nothing_read, tagged_variant, tokens_read, pgn_read}
+use Rattle.chess_pgn.specs.ties.TagSteps.{variant_after, variant_then, variant_from}
 use Rattle.chess_pgn.specs.ties.GameSteps.{so_far, IsReadOn, ReadsAlike, step_seen}
 use Rattle.chess_pgn.proofs.Cuts.{pick}
+use Rattle.chess_pgn.proofs.TagScans.{variants_are}
 use Rattle.chess_pgn.proofs.Walk.{NextToken, next_token, token_more}
 
 -- ---- nothing is declared before the game's end, and nothing after a fault
@@ -122,7 +124,7 @@ nothing_met = record { is_met = false; is_begun = false; termination = None }
 
 pub first : (old game : Seen) (start : Setup) (v : Variant) (p : Progress) (text : List ℕ) (here : ℕ)
     → game ≡ left_at old (from_start start) → start ≡ initial_setup_of v
-    → v ≡ tagged_variant Normal (tokens_from text here)
+    → v ≡ tagged_variant (tokens_from text here)
     → p ≡ record { is_met = false; is_begun = false; termination = None } → here ≤ length text
     → IsReadOn old.limit text here game p here
 unfolding nothing_met
@@ -142,22 +144,25 @@ first old game start v p text here restarted initial variant none h =
 
 pub record Tells (text : List ℕ) (from : ℕ) (v : Variant) (here : ℕ) : Type 0 where
   pub offset : here ≤ length text
-  pub whole : tagged_variant v (tokens_from text here) ≡ tagged_variant Normal (tokens_from text from)
+  pub whole : variant_from v (tokens_from text here) ≡ tagged_variant (tokens_from text from)
+
+pub tells_begun : (text : List ℕ) (from : ℕ) → from ≤ length text → Tells text from Normal from
+tells_begun text from h = record { offset = h; whole = variants_are (tokens_from text from) }
 
 pub told_more : (text : List ℕ) (from : ℕ) (v u : Variant) (here behind : ℕ) (t : Token) → Tells text from v here
     → tokens_from text here ≡ (length text - here, t) ∷ tokens_from text behind → behind ≤ length text
     → Some u ≡ variant_after v t → Tells text from u behind
 told_more text from v u here behind t r is h told = record {
   offset = h;
-  whole = ap (λ o. variant_then v o (λ w. tagged_variant w (tokens_from text behind))) told ∙ ap (tagged_variant v) (sym is)
+  whole = ap (λ o. variant_then v o (λ w. variant_from w (tokens_from text behind))) told ∙ ap (variant_from v) (sym is)
       ∙ r.whole;
 }
 
 pub told_last : (text : List ℕ) (from : ℕ) (v : Variant) (here : ℕ) (t : Token) (ts : List (ℕ × Token))
     → Tells text from v here → tokens_from text here ≡ (length text - here, t) ∷ ts → None ≡ variant_after v t
-    → v ≡ tagged_variant Normal (tokens_from text from)
-told_last text from v here t ts r is told = ap (λ o. variant_then v o (λ w. tagged_variant w ts)) told
-    ∙ ap (tagged_variant v) (sym is) ∙ r.whole
+    → v ≡ tagged_variant (tokens_from text from)
+told_last text from v here t ts r is told = ap (λ o. variant_then v o (λ w. variant_from w ts)) told
+    ∙ ap (variant_from v) (sym is) ∙ r.whole
 
 -- a token: what its step gives is gone on with
 stepped : (limit : ℕ) (text : List ℕ) (from : ℕ) (game : Seen) (p : Progress) (here : ℕ) (t : Token)
@@ -205,7 +210,7 @@ first_normal old game start p text here restarted initial none h =
     in
     record {
       behind = omega arith;
-      tells = record { offset = h; whole = refl };
+      tells = tells_begun text here h;
       undeclared = ap (λ s. s.declared) state;
       same_limit = ap (λ g. g.limit) restarted;
       whole =

@@ -21,7 +21,7 @@ use Rattle.chess_pgn.specs.GameText.{roster_lines, start_lines_in, last_lines, f
 use Rattle.chess_pgn.specs.ties.Lines.{placed_all, column_after_all}
 use Rattle.chess_text.specs.San.{san}
 use Rattle.chess_pgn.specs.ties.Waiting.{TookSome, Adds}
-use Rattle.chess_pgn.specs.Written.{ended, placed, next_column, line_close, filled_from, move_text_of}
+use Rattle.chess_pgn.specs.Written.{ended, wrapped_token, next_column, line_close, filled_from, move_text_of}
 use Rattle.chess_pgn.proofs.Added.{added_more, added_break, break_longer, adds_more, finished}
 
 -- a number of 32 bits has at most ten digits
@@ -127,8 +127,8 @@ pub placed_all-append : (prefix : List ℕ) (column : ℕ) (ts us : List (List �
     ++ placed_all prefix (column_after_all column ts) us
 placed_all-append prefix column [] us = refl
 placed_all-append prefix column (t ∷ ts) us =
-    ap (λ v. placed prefix column t ++ v) (placed_all-append prefix (next_column column t) ts us)
-    ∙ sym (append_assoc (placed prefix column t) (placed_all prefix (next_column column t) ts)
+    ap (λ v. wrapped_token prefix column t ++ v) (placed_all-append prefix (next_column column t) ts us)
+    ∙ sym (append_assoc (wrapped_token prefix column t) (placed_all prefix (next_column column t) ts)
     (placed_all prefix (column_after_all column (t ∷ ts)) us))
 
 pub column_after_all-append : (column : ℕ) (ts us : List (List ℕ))
@@ -141,15 +141,15 @@ pub filled_from-append : (prefix : List ℕ) (column : ℕ) (ts us : List (List 
     ++ filled_from prefix (column_after_all column ts) us
 filled_from-append prefix column [] us = refl
 filled_from-append prefix column (t ∷ ts) us =
-    ap (λ v. placed prefix column t ++ v) (filled_from-append prefix (next_column column t) ts us)
-    ∙ sym (append_assoc (placed prefix column t) (placed_all prefix (next_column column t) ts)
+    ap (λ v. wrapped_token prefix column t ++ v) (filled_from-append prefix (next_column column t) ts us)
+    ∙ sym (append_assoc (wrapped_token prefix column t) (placed_all prefix (next_column column t) ts)
     (filled_from prefix (column_after_all column (t ∷ ts)) us))
 
 -- the moves of a game, its outcome, and the end of the line
 pub moves_are : (prefix before outcome : List ℕ) (column col end : ℕ) (s : State) → column ≡ 0 → before ≡ prefix
     → col ≡ column_after_all column (move_tokens true s.start s.moves) → outcome ≡ outcome_text (outcome_now s)
     → end ≡ next_column col outcome
-    → HasParts (placed_all prefix column (move_tokens true s.start s.moves)) (placed before col outcome)
+    → HasParts (placed_all prefix column (move_tokens true s.start s.moves)) (wrapped_token before col outcome)
     (line_close end) (move_text_of prefix (game_tokens s))
 moves_are prefix before outcome column col end s none b is o e =
     record {
@@ -160,10 +160,10 @@ moves_are prefix before outcome column col end s none b is o e =
 -- ---- the tokens of a move
 
 one_placed : (prefix before text token : List ℕ) (column col : ℕ) → before ≡ prefix → col ≡ column → text ≡ token
-    → placed before col text ≡ placed_all prefix column (token ∷ [])
+    → wrapped_token before col text ≡ placed_all prefix column (token ∷ [])
 one_placed prefix before text token column col p c t =
-    ap (λ v. placed v col text) p ∙ ap (λ n. placed prefix n text) c ∙ ap (λ v. placed prefix column v) t
-    ∙ sym (append-nil (placed prefix column token))
+    ap (λ v. wrapped_token v col text) p ∙ ap (λ n. wrapped_token prefix n text) c ∙ ap (λ v. wrapped_token prefix column v) t
+    ∙ sym (append-nil (wrapped_token prefix column token))
 
 -- the number could not be put
 pub number_broke : (a b : OutputState) (w prefix : List ℕ) (column : ℕ) (f : Bool) (p q : Setup) (m : Move) → q ≡ p
@@ -181,7 +181,7 @@ pub move_broke : (a b c : OutputState) (w x prefix before text : List ℕ) (colu
     (m : Move) → q ≡ p → before ≡ prefix → col ≡ column_after_all column (number_token q.side f q.fullmove)
     → text ≡ san p m
     → TookSome a b w x (placed_all prefix column (number_token q.side f q.fullmove))
-    → BreaksOff b c (x ++ placed before col text)
+    → BreaksOff b c (x ++ wrapped_token before col text)
     → BreaksOff a c (w ++ placed_all prefix column (tokens_of_move f p m))
 move_broke a b c w x prefix before text column col f p q m same pre is said h k =
     let number : List (List ℕ) = number_token p.side f p.fullmove in
@@ -199,7 +199,7 @@ pub move_put : (a b c : OutputState) (w x y prefix before text : List ℕ) (colu
     (m : Move) → q ≡ p → before ≡ prefix → col ≡ column_after_all column (number_token q.side f q.fullmove)
     → text ≡ san p m
     → TookSome a b w x (placed_all prefix column (number_token q.side f q.fullmove))
-    → TookSome b c x y (placed before col text) → TookSome a c w y (placed_all prefix column (tokens_of_move f p m))
+    → TookSome b c x y (wrapped_token before col text) → TookSome a c w y (placed_all prefix column (tokens_of_move f p m))
 move_put a b c w x y prefix before text column col f p q m same pre is said h k =
     let number : List (List ℕ) = number_token p.side f p.fullmove in
     let here : col ≡ column_after_all column number =

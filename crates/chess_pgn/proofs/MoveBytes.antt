@@ -5,7 +5,6 @@ use Rattle.std.specs.Str.{bytes_eq}
 use Rattle.std.proofs.lemmas.List.{length-append, length-drop}
 use Rattle.chess_base.specs.declared.fault.FenFault.{FenFault}
 use Rattle.chess_base.specs.declared.man.Move.{Move as Played}
-use Rattle.chess_base.specs.declared.man.Variant.TheVariants.{Normal}
 use Rattle.chess_base.specs.declared.setup.Setup.{Setup}
 use Rattle.chess_fen.specs.Reading.{fen_reading_as}
 use Rattle.chess_game.specs.Game.{current, verdict_now}
@@ -119,7 +118,7 @@ pub half_moves_have_bytes : HalfMovesHaveBytes
 unfolding pgn_read tokens_from
 half_moves_have_bytes limit text at h =
     let offset : ℕ = after_byte_order_mark text at in
-    let g : SoFar = nothing_read (tagged_variant Normal (tokens_from text offset)) in
+    let g : SoFar = nothing_read (tagged_variant (tokens_from text offset)) in
     let inside = behind text at h in
     let low = inside.0 in
     let high = inside.1 in

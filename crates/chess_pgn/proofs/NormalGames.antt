@@ -1,5 +1,5 @@
 -- On starts of normal chess, and in texts that name no variant, games are written and read as in normal chess.
-use Rattle.std.proofs.Common.{◌≡◌, ℕ, ◌-◌, Bool, true, false, not, cond, ◌&&◌, List, [], ◌∷◌, ◌++◌, length, None, is_some, Result, Ok, Err, refl, ap, ◌∙◌}
+use Rattle.std.proofs.Common.{◌≡◌, ℕ, ◌-◌, Bool, true, false, not, cond, ◌&&◌, List, [], ◌∷◌, ◌++◌, length, None, is_some, Result, Ok, Err, refl, sym, ap, ◌∙◌}
 use Rattle.std.specs.Prelude.{nat_lt, codes}
 use Rattle.std.specs.Str.{bytes_eq}
 use Rattle.chess_base.specs.declared.fault.FenFault.{FenFault}
@@ -14,12 +14,14 @@ use Rattle.chess_text.specs.Moves.{reading}
 use Rattle.chess_pgn.specs.declared.read.PgnFaultKind.TheVariants.{NoResult}
 use Rattle.chess_pgn.specs.declared.word.WordKind.{WordKind}
 use Rattle.chess_pgn.specs.declared.word.WordKind.TheVariants.{End, Number, Marks, Move}
-use Rattle.chess_pgn.specs.GameRead.{SoFar, Step, On, Stop, fails, fen_step, tag_step, move_step, word_step, step, unless_full, go_on, game_of, nothing_read, variant_after_word, variant_then, tagged_variant, pgn_read, termination_after}
+use Rattle.chess_pgn.specs.GameRead.{SoFar, Step, On, Stop, fails, fen_step, tag_step, move_step, word_step, step, unless_full, go_on, game_of, nothing_read, pgn_read, termination_after}
 use Rattle.chess_pgn.specs.GameText.{start_lines_in, last_lines}
+use Rattle.chess_pgn.specs.ties.TagSteps.{variant_after_word, variant_then, variant_from}
 use Rattle.chess_pgn.specs.laws.Normal.{normal_tag_step, normal_step, normal_game_of, normal_read, is_mark_word, names_no_variant, NormalIsKept}
 use Rattle.chess_pgn.specs.Tokens.{Token, Skip, Tag, Word, Bad_tag, Unclosed_comment, Unclosed_variation, Bad, after_byte_order_mark, tokens_from}
 use Rattle.chess_pgn.specs.Words.{kind_of}
 use Rattle.chess_pgn.proofs.Cuts.{pick}
+use Rattle.chess_pgn.proofs.TagScans.{variants_are}
 use Rattle.chess_pgn.proofs.FenVariants.{read_variant, initial_variant}
 
 -- ---- the variant that is named
@@ -28,7 +30,7 @@ both : (a b : Bool) → (not a && b) ≡ true → (a ≡ false) × (b ≡ true)
 both true b e = absurd (cc)
 both false b e = (refl, e)
 
-normal_told : (ts : List (ℕ × Token)) → names_no_variant ts ≡ true → tagged_variant Normal ts ≡ Normal
+normal_told : (ts : List (ℕ × Token)) → names_no_variant ts ≡ true → variant_from Normal ts ≡ Normal
 normal_told [] h = refl
 normal_told ((left, Skip) ∷ ts) h = normal_told ts h
 normal_told ((left, Tag name text string) ∷ ts) h =
@@ -36,9 +38,9 @@ normal_told ((left, Tag name text string) ∷ ts) h =
     rw none.0 (normal_told ts none.1)
 normal_told ((left, Word word) ∷ ts) h = by_kind (λ e. normal_told ts e) (kind_of word) h
   where
-    by_kind : (names_no_variant ts ≡ true → tagged_variant Normal ts ≡ Normal) → (k : WordKind)
+    by_kind : (names_no_variant ts ≡ true → variant_from Normal ts ≡ Normal) → (k : WordKind)
         → cond (not (is_mark_word k)) true (not false && names_no_variant ts) ≡ true
-        → variant_then Normal (variant_after_word Normal k) (λ u. tagged_variant u ts) ≡ Normal
+        → variant_then Normal (variant_after_word Normal k) (λ u. variant_from u ts) ≡ Normal
     by_kind later (End o) e = refl
     by_kind later Number e = refl
     by_kind later Marks e = later e
@@ -133,7 +135,7 @@ read_so : (limit : ℕ) (text : List ℕ) (at : ℕ) → names_no_variant (token
 unfolding pgn_read
 read_so limit text at none =
     let tokens : List (ℕ × Token) = tokens_from text (after_byte_order_mark text at) in
-    ap (λ v. game_of limit (length text) (nothing_read v) tokens) (normal_told tokens none)
+    ap (λ v. game_of limit (length text) (nothing_read v) tokens) (sym (variants_are tokens) ∙ normal_told tokens none)
     ∙ same_game limit (length text) (nothing_read Normal) tokens (initial_variant Normal)
     ∙ ap (λ p. normal_game_of limit (length text)
     (record { state = from_start p; is_met = false; is_begun = false; termination = None }) tokens) initial_is

@@ -1,6 +1,6 @@
 -- A game that is read is that of its tokens.
 use mathlib.Core.Bool.{or-true, or-false, or_assoc}
-use Rattle.std.proofs.Common.{◌≡◌, ℕ, ◌+◌, ◌-◌, ◌<◌, Bool, true, false, not, cond, ◌||◌, List, [], ◌∷◌, ◌++◌, length, Option, Some, None, Result, Ok, Err, refl, sym, ap, subst, ◌∙◌, append_assoc, append-nil}
+use Rattle.std.proofs.Common.{◌≡◌, ℕ, ◌-◌, ◌<◌, Bool, true, false, not, cond, ◌||◌, List, [], ◌∷◌, ◌++◌, length, Option, Some, None, Result, Ok, Err, refl, sym, ap, subst, ◌∙◌, append_assoc, append-nil}
 use Rattle.std.specs.Prelude.{codes, is_some, nat_lt}
 use Rattle.std.specs.List.{list_any}
 use Rattle.std.specs.Str.{bytes_eq}
@@ -11,7 +11,6 @@ use Rattle.std.proofs.lemmas.Slice.Eq.{bytes_eq-Decides}
 use Rattle.chess_base.specs.declared.fault.FenFault.{FenFault}
 use Rattle.chess_base.specs.declared.man.Move.{Move as Played}
 use Rattle.chess_base.specs.declared.man.Variant.{Variant}
-use Rattle.chess_base.specs.declared.man.Variant.TheVariants.{Normal}
 use Rattle.chess_base.specs.declared.setup.Setup.{Setup}
 use Rattle.chess_base.specs.Initial.{initial_setup_of}
 use Rattle.chess_fen.specs.Reading.{fen_reading_as}
@@ -378,12 +377,12 @@ module _ (limit total : ℕ) (v : Variant) where
       by_step tokens done t ts all later (On k) l = later k l
 
 pub game_of_tokens : (limit : ℕ) (text : List ℕ) (at : ℕ)
-    → IsOfTokens limit (length text) (tagged_variant Normal (tokens_from text (after_byte_order_mark text at)))
+    → IsOfTokens limit (length text) (tagged_variant (tokens_from text (after_byte_order_mark text at)))
     (tokens_from text (after_byte_order_mark text at)) (pgn_read limit text at)
 unfolding pgn_read
 game_of_tokens limit text at =
     let tokens : List (ℕ × Token) = tokens_from text (after_byte_order_mark text at) in
-    let v : Variant = tagged_variant Normal tokens in
+    let v : Variant = tagged_variant tokens in
     of_tokens limit (length text) v tokens [] tokens (nothing_read v) refl
     (record {
       can_be = refl;

@@ -1,5 +1,5 @@
 -- Reading the moves of a game's text, which are in filled lines.
-use Rattle.std.proofs.Common.{◌≡◌, ℕ, suc, ◌+◌, ◌-◌, ◌<◌, ◌≤◌, Bool, true, false, cond, eqb, leb, List, [], ◌∷◌, ◌++◌, length, take, Option, None, refl, sym, ap, ◌∙◌, append_assoc, append-nil, arith}
+use Rattle.std.proofs.Common.{◌≡◌, ℕ, suc, ◌+◌, ◌-◌, ◌<◌, ◌≤◌, Bool, true, false, not, ◌&&◌, cond, eqb, leb, List, [], ◌∷◌, ◌++◌, length, take, Option, None, refl, sym, ap, ◌∙◌, append_assoc, append-nil, arith}
 use Rattle.std.specs.Prelude.{codes, decimal}
 use Rattle.std.proofs.Math.Seq.{take-append_seam}
 use Rattle.std.proofs.lemmas.Bool.{leb-true}
@@ -22,19 +22,18 @@ use Rattle.chess_pgn.specs.GameRead.{SoFar, GameRead}
 use Rattle.chess_pgn.specs.GameText.{number_token, move_tokens}
 use Rattle.chess_text.specs.San.{san}
 use Rattle.chess_pgn.specs.Tokens.{is_word_byte}
-use Rattle.chess_pgn.specs.Written.{placed, next_column, line_close, filled_from}
+use Rattle.chess_pgn.specs.Written.{fits, wrapped_token, next_column, line_close, filled_from}
 use Rattle.chess_pgn.proofs.PgnPieces.{read_on, Takes, begun, white_number, black_number, san_takes, skip_space, skip_line_end, ended_game, outcome_ends}
 use Rattle.chess_text.proofs.SanLaw.{san_short}
 
 -- ---- tokens in filled lines
 
 column_after : (column : ℕ) (t : List ℕ) → 0 < length t → 0 < next_column column t
-column_after column t some = by_test (eqb column 0) (leb (column + 1 + length t) 79)
+column_after column t some = by_test (fits column t)
   where
-    by_test : (a b : Bool) → 0 < cond a (length t) (cond b (column + 1 + length t) (length t))
-    by_test true b = some
-    by_test false true = omega arith
-    by_test false false = some
+    by_test : (b : Bool) → 0 < cond b (column + 1 + length t) (length t)
+    by_test true = omega arith
+    by_test false = some
 
 close_after : (column : ℕ) → 0 < column → line_close column ≡ 10 ∷ []
 close_after column some = let e : eqb column 0 ≡ false = grind (arith, nat_tests) in rw e refl
@@ -59,15 +58,15 @@ filled_ends column (t ∷ ts) rest some = by_test (eqb column 0) (grind (arith, 
     (leb (column + 1 + length t) 79) (filled_from [] (next_column column t) ts)
   where
     by_test : (a : Bool) → a ≡ false → (b : Bool) (more : List ℕ)
-        → EndsWord ((cond a t (cond b (32 ∷ t) (10 ∷ t)) ++ more) ++ rest)
+        → EndsWord ((cond (not a && b) (32 ∷ t) (cond a [] (10 ∷ []) ++ t) ++ more) ++ rest)
     by_test true e b more = absurd (cc)
     by_test false e true more = record { first = 32; rest = (t ++ more) ++ rest; is = refl; off = refl }
     by_test false e false more = record { first = 10; rest = (t ++ more) ++ rest; is = refl; off = refl }
 
-placed_long : (column : ℕ) (t : List ℕ) → length t ≤ length (placed [] column t)
+placed_long : (column : ℕ) (t : List ℕ) → length t ≤ length (wrapped_token [] column t)
 placed_long column t = by_test (eqb column 0) (leb (column + 1 + length t) 79)
   where
-    by_test : (a b : Bool) → length t ≤ length (cond a t (cond b (32 ∷ t) (10 ∷ t)))
+    by_test : (a b : Bool) → length t ≤ length (cond (not a && b) (32 ∷ t) (cond a [] (10 ∷ []) ++ t))
     by_test true b = omega arith
     by_test false true = omega arith
     by_test false false = omega arith
@@ -78,14 +77,14 @@ pub filled_long : (column : ℕ) (ts : List (List ℕ)) (t : List ℕ) → 0 < l
 filled_long column [] t some =
     omega (
       arith,
-      length-append (placed [] column t) (line_close (next_column column t)),
+      length-append (wrapped_token [] column t) (line_close (next_column column t)),
       placed_long column t,
       ap length (close_after (next_column column t) (column_after column t some)),
     )
 filled_long column (u ∷ ts) t some =
     omega (
       arith,
-      length-append (placed [] column u) (filled_from [] (next_column column u) (ts ++ t ∷ [])),
+      length-append (wrapped_token [] column u) (filled_from [] (next_column column u) (ts ++ t ∷ [])),
       filled_long (next_column column u) ts t some,
     )
 
@@ -114,10 +113,11 @@ module _ (limit total : ℕ) where
   -- what is before a token in its line is skipped
   placed_read : (g : SoFar) (begins : Bool) (column : ℕ) (t more : List ℕ) (r : GameRead)
       → ((b : Bool) → read_on limit total g b (t ++ more) ≡ r)
-      → read_on limit total g begins (placed [] column t ++ more) ≡ r
+      → read_on limit total g begins (wrapped_token [] column t ++ more) ≡ r
   placed_read g begins column t more r reads = by_test (eqb column 0) (leb (column + 1 + length t) 79)
     where
-      by_test : (a b : Bool) → read_on limit total g begins (cond a t (cond b (32 ∷ t) (10 ∷ t)) ++ more) ≡ r
+      by_test : (a b : Bool)
+          → read_on limit total g begins (cond (not a && b) (32 ∷ t) (cond a [] (10 ∷ []) ++ t) ++ more) ≡ r
       by_test true b = reads begins
       by_test false true = skip_space limit total g begins (t ++ more) ∙ reads false
       by_test false false = skip_line_end limit total g begins (t ++ more) ∙ reads true
@@ -130,7 +130,7 @@ module _ (limit total : ℕ) where
   token_read g h begins column t ts rest r takes some reads =
       let more : List ℕ = filled_from [] (next_column column t) ts in
       let next = filled_ends (next_column column t) ts rest (column_after column t some) in
-      ap (read_on limit total g begins) (append_assoc (placed [] column t) more rest)
+      ap (read_on limit total g begins) (append_assoc (wrapped_token [] column t) more rest)
       ∙ placed_read g begins column t (more ++ rest) r (λ b.
       ap (λ xs. read_on limit total g b (t ++ xs)) next.is ∙ takes b next.first next.rest next.off
       ∙ ap (read_on limit total h false) (sym next.is) ∙ reads)
@@ -141,7 +141,7 @@ module _ (limit total : ℕ) where
       ≡ ended_game g.termination g.state o (total - length (outcome_text o ++ 10 ∷ rest) + length (outcome_text o))
   outcome_read g begins column o rest =
       let t : List ℕ = outcome_text o in
-      ap (read_on limit total g begins) (append_assoc (placed [] column t) (line_close (next_column column t)) rest)
+      ap (read_on limit total g begins) (append_assoc (wrapped_token [] column t) (line_close (next_column column t)) rest)
       ∙ placed_read g begins column t (line_close (next_column column t) ++ rest) _ (λ b.
       ap (λ xs. read_on limit total g b (t ++ (xs ++ rest)))
       (close_after (next_column column t) (column_after column t (outcome_some o)))

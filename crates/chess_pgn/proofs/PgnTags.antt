@@ -3,9 +3,11 @@ use Rattle.std.proofs.Common.{◌≡◌, ℕ, ◌≤◌, Bool, true, false, not,
 use Rattle.std.specs.List.{list_all, prefix_len, take_while, AllByRecursion}
 use Rattle.std.proofs.lemmas.Bool.{and_parts, and_from, or_parts}
 use Rattle.std.proofs.lemmas.Bool.Decides.{nat_tests}
-use Rattle.chess_pgn.specs.Tokens.{Tag, is_name_byte, after_gap, string_at, onto, with_text, with_name, tag_at, token_at}
+use Rattle.chess_pgn.specs.Tokens.{Tag, is_name_byte, after_gap, string_at, onto, token_at}
+use Rattle.chess_pgn.specs.ties.TagParts.{with_text, with_name, tag_by_parts}
 use Rattle.chess_pgn.specs.Written.{IsTagText, escaped, tag_line}
 use Rattle.chess_pgn.proofs.PgnWords.{whole_run, not_byte, no_percent}
+use Rattle.chess_pgn.proofs.TagParts.{parts_are}
 use Rattle.chess_pgn.proofs.Strings.{string_quote, string_other}
 
 -- ---- a string
@@ -99,7 +101,7 @@ with_name_written n ns text rest h = ap (with_text (n ∷ ns) (length (escaped t
     (string_written text (93 ∷ rest) h)
 
 tag_written : (n : ℕ) (ns text rest : List ℕ) → list_all is_name_byte (n ∷ ns) ≡ true → list_all is_in_line text ≡ true
-    → tag_at (n ∷ (ns ++ 32 ∷ 34 ∷ (escaped text ++ 34 ∷ 93 ∷ rest)))
+    → tag_by_parts (n ∷ (ns ++ 32 ∷ 34 ∷ (escaped text ++ 34 ∷ 93 ∷ rest)))
     ≡ (Tag (n ∷ ns) (escaped text) (length (escaped text ++ 34 ∷ 93 ∷ rest)), rest)
 tag_written n ns text rest name h =
     let behind : List ℕ = 34 ∷ (escaped text ++ 34 ∷ 93 ∷ rest) in
@@ -119,7 +121,7 @@ unfolding token_at
 tag_token begins [] text rest name h = absurd (cc)
 tag_token begins (n ∷ ns) text rest name h =
     no_percent begins 91 (n ∷ (ns ++ 32 ∷ 34 ∷ (escaped text ++ 34 ∷ 93 ∷ rest))) refl
-    ∙ tag_written n ns text rest name h
+    ∙ parts_are (n ∷ (ns ++ 32 ∷ 34 ∷ (escaped text ++ 34 ∷ 93 ∷ rest))) ∙ tag_written n ns text rest name h
 
 -- a tag's line as its bytes
 pub tag_line_bytes : (name text rest : List ℕ)

@@ -32,6 +32,7 @@ use Rattle.chess_pgn.specs.Written.{tag_line, ended, filled_from}
 use Rattle.chess_pgn.proofs.PgnMoves.{outcome_some, filled_long, outcome_read, read_so_far, moves_read}
 use Rattle.chess_pgn.proofs.PgnPieces.{read_on, TakesLine, empty_line, tagged, ended_game, plain_tag, termination_tag, fen_tag}
 use Rattle.chess_pgn.proofs.PgnTags.{tag_text_in_line}
+use Rattle.chess_pgn.proofs.TagScans.{variants_are}
 use Rattle.chess_pgn.proofs.VariantTold.{told_on, tags_tell, moves_tell, outcome_in_line}
 use Rattle.chess_pgn.proofs.Walk.{enough}
 use Rattle.chess_pgn.proofs.FenVariants.{initial_variant}
@@ -221,7 +222,8 @@ read_behind limit before text v offset told =
     ∙ ap (tokens_read limit (length whole))
     (enough (length whole) (length text) (begins_line whole (length before)) text fewer (omega arith))
     ∙ ap (λ u. game_of limit (length whole) (nothing_read u)
-    (tokens_of (length text) (begins_line whole (length before)) text)) told
+    (tokens_of (length text) (begins_line whole (length before)) text))
+    (sym (variants_are (tokens_of (length text) (begins_line whole (length before)) text)) ∙ told)
 
 -- the variant that a game's text names
 variant_is : (tags : Tags) → AreTagTexts tags → (s : State) → IsSound s.start → (begins : Bool) (rest : List ℕ)

@@ -1,5 +1,5 @@
 -- Words as they are written in a game: each is one token where a byte of no word follows, and of its own kind.
-use Rattle.std.proofs.Common.{◌≡◌, ◌⊎◌, ℕ, ◌<◌, ◌≤◌, Bool, true, false, ◌||◌, eqb, List, [], ◌∷◌, ◌++◌, length, get_or, take, drop, None, refl, sym, ap, ◌-◌, ◌∙◌, inl, inr, arith}
+use Rattle.std.proofs.Common.{◌≡◌, ◌⊎◌, ℕ, ◌<◌, ◌≤◌, Bool, true, false, ◌||◌, eqb, List, [], ◌∷◌, ◌++◌, length, get_or, take, drop, Option, None, refl, sym, ap, ◌-◌, ◌∙◌, inl, inr, arith}
 use Rattle.std.proofs.Math.Seq.{take-append_seam}
 use Rattle.std.proofs.lemmas.Bool.{and_parts, and_from, or_cases}
 use Rattle.std.proofs.lemmas.Bool.Decides.{nat_tests}
@@ -9,18 +9,20 @@ use Rattle.std.proofs.lemmas.Slice.Eq.{bytes_eq-Decides}
 use Rattle.std.proofs.lemmas.Str.Parse.{digit_from_value}
 use Rattle.std.specs.Fmt.{decimal}
 use Rattle.std.specs.List.{list_all, prefix_len, take_while}
-use Rattle.std.specs.Prelude.{nat_le}
+use Rattle.std.specs.Option.{option_map_or}
+use Rattle.std.specs.Prelude.{nat_le, if◌then◌else◌}
 use Rattle.std.specs.Str.{bytes_eq}
 use Rattle.std.specs.Str.Parse.{AllDigits}
 use Rattle.chess_game.specs.Results.{outcome_text}
 use Rattle.chess_game.specs.declared.results.Outcome.{Outcome}
 use Rattle.chess_game.specs.declared.results.Outcome.TheVariants.{WhiteWins, BlackWins, Draw, Unfinished}
-use Rattle.chess_pgn.specs.declared.word.WordKind.TheVariants.{End, Number, Move}
+use Rattle.chess_pgn.specs.declared.word.WordKind.{WordKind}
+use Rattle.chess_pgn.specs.declared.word.WordKind.TheVariants.{End, Number, Marks, Move}
 use Rattle.chess_text.specs.laws.Laws.{is_san_byte, begins_with_letter}
 use Rattle.chess_pgn.specs.Tokens.{Word, is_word_byte, token_at, begins_line}
 use Rattle.chess_pgn.specs.ties.Begins.{begins_from_a}
 use Rattle.chess_base.specs.Letters.{is_digit, is_letter}
-use Rattle.chess_pgn.specs.Words.{outcome_of, kind_by, kind_of}
+use Rattle.chess_pgn.specs.Words.{outcome_of, kind_of}
 use Rattle.chess_pgn.proofs.Walk.{NextToken, next_token}
 
 -- ---- a run of bytes that pass
@@ -121,6 +123,11 @@ word_token begins c cs d rest all ends =
     ∙ ap (λ left. (Word (c ∷ cs), left)) run.left
 
 -- ---- kinds of words
+
+abbrev kind_by : List ℕ → Option Outcome → WordKind
+kind_by word o = option_map_or End o
+    (if list_all is_digit word then Number
+    else (if list_all (λ c. eqb c 33 || eqb c 63) word then Marks else Move))
 
 -- an outcome's text that fails a test is not a text that passes it
 other_text : (p : List ℕ → Bool) (text word : List ℕ) → p text ≡ false → p word ≡ true → bytes_eq text word ≡ false
@@ -247,7 +254,7 @@ digit_in_word c h = by_letter (is_letter c) (is_digit c) h
   where
     by_letter : (a b : Bool) → b ≡ true
         → ((a || (b || eqb c 95))
-        || (eqb c 43 || (eqb c 35 || (eqb c 61 || (eqb c 45 || (eqb c 47 || (eqb c 33 || (eqb c 63 || eqb c 58))))))))
+        || (eqb c 43 || (eqb c 35 || (eqb c 61 || (eqb c 45 || (eqb c 47 || (eqb c 33 || (eqb c 63 || (eqb c 58 || false)))))))))
         ≡ true
     by_letter true b e = refl
     by_letter false true e = refl
@@ -270,7 +277,7 @@ among false false false false false false false others e = cc
 
 san_in_word : (c : ℕ) → is_san_byte c ≡ true → is_word_byte c ≡ true
 san_in_word c h = among (is_letter c) (is_digit c) (eqb c 43) (eqb c 35) (eqb c 61) (eqb c 45) (eqb c 95)
-    (eqb c 47 || (eqb c 33 || (eqb c 63 || eqb c 58))) h
+    (eqb c 47 || (eqb c 33 || (eqb c 63 || (eqb c 58 || false)))) h
 
 pub san_bytes_in_word : (text : List ℕ) → list_all (λ c. is_san_byte c) text ≡ true → list_all is_word_byte text ≡ true
 san_bytes_in_word = all_of (λ c. is_san_byte c) is_word_byte san_in_word

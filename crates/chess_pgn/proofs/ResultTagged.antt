@@ -1,21 +1,32 @@
 -- The last tag Result, token by token: what is left gives the whole.
-use Rattle.std.proofs.Common.{◌≡◌, ◌≤◌, ℕ, ◌-◌, Bool, true, false, List, ◌∷◌, length, Option, Some, None, IfSome, refl, ap, sym, subst, ◌∙◌, arith}
+use Rattle.std.proofs.Common.{◌≡◌, ◌≤◌, ℕ, ◌-◌, true, false, List, ◌∷◌, length, Option, None, IfSome, ap, sym, subst, ◌∙◌, arith}
 use Rattle.std.specs.Prelude.{if◌then◌else◌, codes}
+use Rattle.std.specs.Option.{option_map}
 use Rattle.std.specs.Str.{bytes_eq}
 use Rattle.chess_pgn.specs.declared.results.ResultTag.{ResultTag}
 use Rattle.chess_pgn.specs.ties.GameSteps.{IsWithin}
-use Rattle.chess_pgn.specs.ResultTags.{may_precede_tags, result_after, last_result, result_tag_of}
-use Rattle.chess_pgn.specs.Tokens.{Token, Skip, Tag, Word, Bad_tag, Unclosed_comment, Unclosed_variation, Bad, after_byte_order_mark, tokens_from}
+use Rattle.chess_pgn.specs.LastTags.{may_precede_tags, last_tag}
+use Rattle.chess_pgn.specs.ties.TagSteps.{result_after, result_from}
+use Rattle.chess_pgn.specs.Words.{outcome_of}
+use Rattle.chess_pgn.proofs.TagScans.{results_are}
+use Rattle.chess_pgn.specs.Tokens.{Token, Skip, Tag, Word, Bad_tag, Unclosed_comment, Unclosed_variation, Bad, tokens_from}
 use Rattle.chess_pgn.proofs.Cuts.{pick}
 
 abbrev pub InText : ℕ → Option ResultTag → Type 0
 InText total tag = IfSome tag (λ t. t.offset ≤ total)
 
+-- the tag Result of tokens in a text of so many bytes
+abbrev pub tagged : ℕ → List (ℕ × Token) → Option ResultTag
+tagged total tokens = option_map (λ tag. record { outcome = outcome_of tag.0; offset = total - tag.1 })
+    (last_tag (codes "Result") tokens)
+
 pub record Reads (text : List ℕ) (from : ℕ) (last : Option ResultTag) (here : ℕ) : Type 0 where
   pub offset : here ≤ length text
   pub within : InText (length text) last
-  pub whole : last_result (length text) last (tokens_from text here)
-      ≡ last_result (length text) None (tokens_from text from)
+  pub whole : result_from (length text) last (tokens_from text here) ≡ tagged (length text) (tokens_from text from)
+
+pub begun : (text : List ℕ) (from : ℕ) → from ≤ length text → Reads text from None from
+begun text from h = record { offset = h; within = tt; whole = results_are (length text) (tokens_from text from) }
 
 pub fewer : (total n : ℕ) (t : Token) → IsWithin (total - n) t → IsWithin total t
 fewer total n Skip h = tt
@@ -44,15 +55,15 @@ pub one_more : (text : List ℕ) (from : ℕ) (last next : Option ResultTag) (he
 one_more text from last next here behind t r is within may after = record {
   offset = within;
   within = subst (InText (length text)) (sym after) (stays_within (length text) last t r.within);
-  whole = ap (λ tag. last_result (length text) tag (tokens_from text behind)) after
-      ∙ ap (λ b. if b then last_result (length text) (result_after (length text) last t) (tokens_from text behind)
+  whole = ap (λ tag. result_from (length text) tag (tokens_from text behind)) after
+      ∙ ap (λ b. if b then result_from (length text) (result_after (length text) last t) (tokens_from text behind)
       else last) may
-      ∙ ap (last_result (length text) last) (sym is) ∙ r.whole;
+      ∙ ap (result_from (length text) last) (sym is) ∙ r.whole;
 }
 
 pub no_more : (text : List ℕ) (from : ℕ) (last : Option ResultTag) (here : ℕ) (t : Token) (ts : List (ℕ × Token))
     → Reads text from last here → tokens_from text here ≡ (length text - here, t) ∷ ts → false ≡ may_precede_tags t
-    → last ≡ last_result (length text) None (tokens_from text from)
+    → last ≡ tagged (length text) (tokens_from text from)
 no_more text from last here t ts r is may =
-    ap (λ b. if b then last_result (length text) (result_after (length text) last t) ts else last) may
-    ∙ ap (last_result (length text) last) (sym is) ∙ r.whole
+    ap (λ b. if b then result_from (length text) (result_after (length text) last t) ts else last) may
+    ∙ ap (result_from (length text) last) (sym is) ∙ r.whole

@@ -4,7 +4,8 @@ use Rattle.std.proofs.Math.Seq.{take-suc}
 use Rattle.std.proofs.lemmas.Bool.Decides.{nat_tests}
 use Rattle.std.proofs.lemmas.List.{at_drop_more, take_rest}
 use Rattle.std.specs.List.{prefix_len, take_while}
-use Rattle.chess_pgn.specs.Tokens.{Bad_tag, is_name_byte, after_gap, onto, string_at, after_next, closed, with_text, with_string, with_name, tag_at}
+use Rattle.chess_pgn.specs.Tokens.{Bad_tag, is_name_byte, after_gap, onto, string_at, after_next}
+use Rattle.chess_pgn.specs.ties.TagParts.{closed, with_text, with_string, with_name, tag_by_parts}
 
 -- a string whose first byte a backslash keeps, or not
 abbrev pub string_behind : Bool → List ℕ → Option (List ℕ × List ℕ)
@@ -121,7 +122,7 @@ unclosed (n ∷ ns) rest string text behind a b e =
 pub tag_unclosed : (from inner name rest string text behind : List ℕ) → inner ≡ after_gap false false from
     → name ≡ take_while is_name_byte inner → rest ≡ drop (prefix_len is_name_byte inner) inner
     → Some string ≡ after_next 34 rest → Some (text, behind) ≡ string_at string → None ≡ after_next 93 behind
-    → tag_at from ≡ (Bad_tag, [])
+    → tag_by_parts from ≡ (Bad_tag, [])
 tag_unclosed from inner name rest string text behind i n r a b e =
     ap (λ xs. with_name (take_while is_name_byte xs) (drop (prefix_len is_name_byte xs) xs)) (sym i)
     ∙ ap (λ xs. with_name xs (drop (prefix_len is_name_byte inner) inner)) (sym n)

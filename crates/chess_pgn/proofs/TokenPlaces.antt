@@ -1,11 +1,13 @@
 -- The offsets that a token gives are in the text.
-use Rattle.std.proofs.Common.{◌≡◌, ℕ, zero, suc, ◌-◌, ◌≤◌, Bool, true, false, eqb, List, [], ◌∷◌, length, take, drop, Option, Some, None, IfSome, refl, sym, ap, subst, ◌∙◌, arith}
+use Rattle.std.proofs.Common.{◌≡◌, ℕ, zero, suc, ◌-◌, ◌≤◌, Bool, false, cond, eqb, List, [], ◌∷◌, length, take, drop, Option, Some, None, IfSome, refl, sym, ap, subst, ◌∙◌, arith}
 use Rattle.std.specs.Prelude.{◌&&◌, ◌||◌}
 use Rattle.std.specs.List.{prefix_len, take_while}
 use Rattle.std.proofs.lemmas.List.{length-append, length-drop, take-append-drop}
-use Rattle.chess_pgn.specs.Tokens.{Token, Plain, Brace, Line, Inside, is_white_space, is_word_byte, is_name_byte, after_brace, after_gap, string_at, after_next, closed, with_text, with_string, with_name, tag_at, variation_at, comment_at, token_at, begins_line, tokens_from}
+use Rattle.chess_pgn.specs.Tokens.{Token, Unclosed_comment, Unclosed_variation, is_white_space, is_word_byte, is_name_byte, after_brace, after_gap, string_at, after_next, variation_at, comment_at, token_at, begins_line, tokens_from}
+use Rattle.chess_pgn.specs.ties.TagParts.{closed, with_text, with_string, with_name, tag_by_parts}
 use Rattle.chess_pgn.specs.ties.GameSteps.{IsWithin}
 use Rattle.chess_pgn.proofs.Cuts.{Cut, Suffix, pick, gap_suffix, next_cut}
+use Rattle.chess_pgn.proofs.TagParts.{parts_are}
 use Rattle.chess_pgn.proofs.Walk.{no_token, token_more}
 
 abbrev Within : ℕ → Token × List ℕ → Type 0
@@ -13,35 +15,29 @@ Within n t = IsWithin n t.0
 
 -- ---- variations
 
-abbrev BeganWithin : ℕ → Inside → Type 0
-BeganWithin n Plain = Unit {0}
-BeganWithin n (Brace left) = left ≤ n
-BeganWithin n Line = Unit {0}
+abbrev BeganWithin : ℕ → Option (ℕ × Token) → Type 0
+BeganWithin n comment = IfSome comment (λ (skipped : ℕ × Token). IsWithin n skipped.1)
 
-variation_within : (n : ℕ) (inside : Inside) (begins : Bool) (depth : ℕ) (text : List ℕ) → length text ≤ n
-    → BeganWithin n inside → Within n (variation_at inside begins (suc depth) text)
-variation_within n Plain begins depth [] h k = tt
-variation_within n (Brace left) begins depth [] h k = k
-variation_within n Line begins depth [] h k = tt
-variation_within n Line begins depth (c ∷ rest) h k =
+variation_within : (n : ℕ) (comment : Option (ℕ × Token)) (begins : Bool) (depth : ℕ) (text : List ℕ) → length text ≤ n
+    → BeganWithin n comment → Within n (variation_at comment begins (suc depth) text)
+variation_within n None begins depth [] h k = tt
+variation_within n (Some comment) begins depth [] h k = k
+variation_within n (Some comment) begins depth (c ∷ rest) h k =
     let fewer : length rest ≤ n = omega (arith, h) in
-    pick (Within n) (eqb c 10) _ _ (λ _. variation_within n Plain true depth rest fewer tt)
-    (λ _. variation_within n Line false depth rest fewer tt)
-variation_within n (Brace left) begins depth (c ∷ rest) h k =
+    variation_within n (cond (eqb c comment.0) None (Some comment)) (eqb c 10) depth rest fewer
+    (pick (BeganWithin n) (eqb c comment.0) None (Some comment) (λ _. tt) (λ _. k))
+variation_within n None begins depth (c ∷ rest) h k =
     let fewer : length rest ≤ n = omega (arith, h) in
-    pick (Within n) (eqb c 125) _ _ (λ _. variation_within n Plain false depth rest fewer tt)
-    (λ _. variation_within n (Brace left) false depth rest fewer k)
-variation_within n Plain begins depth (c ∷ rest) h k =
-    let fewer : length rest ≤ n = omega (arith, h) in
-    pick (Within n) (begins && eqb c 37) _ _ (λ _. variation_within n Line false depth rest fewer tt) (λ _.
-    pick (Within n) (eqb c 123) _ _ (λ _. variation_within n (Brace (suc (length rest))) false depth rest fewer h) (λ _.
-    pick (Within n) (eqb c 59) _ _ (λ _. variation_within n Line false depth rest fewer tt) (λ _.
-    pick (Within n) (eqb c 40) _ _ (λ _. variation_within n Plain false (suc depth) rest fewer tt) (λ _.
-    pick (Within n) (eqb c 41) _ _ (λ _. closing depth (λ d. variation_within n Plain false d rest fewer tt)) (λ _.
-    variation_within n Plain (eqb c 10) depth rest fewer tt)))))
+    pick (Within n) (begins && eqb c 37 || eqb c 59) _ _
+    (λ _. variation_within n (Some (10, Unclosed_variation)) false depth rest fewer tt) (λ _.
+    pick (Within n) (eqb c 123) _ _
+    (λ _. variation_within n (Some (125, Unclosed_comment (suc (length rest)))) false depth rest fewer h) (λ _.
+    pick (Within n) (eqb c 40) _ _ (λ _. variation_within n None false (suc depth) rest fewer tt) (λ _.
+    pick (Within n) (eqb c 41) _ _ (λ _. closing depth (λ d. variation_within n None false d rest fewer tt)) (λ _.
+    variation_within n None (eqb c 10) depth rest fewer tt))))
   where
-    closing : (m : ℕ) → ((d : ℕ) → Within n (variation_at Plain false (suc d) rest))
-        → Within n (variation_at Plain false m rest)
+    closing : (m : ℕ) → ((d : ℕ) → Within n (variation_at None false (suc d) rest))
+        → Within n (variation_at None false m rest)
     closing zero more = tt
     closing (suc d) more = more d
 
@@ -65,7 +61,7 @@ name_within : (n : ℕ) (name from : List ℕ) → length from ≤ n → Within 
 name_within n [] from h = tt
 name_within n (c ∷ cs) from h = string_within n (c ∷ cs) from (after_next 34 from) h (next_cut 34 from refl)
 
-tag_within : (n : ℕ) (text : List ℕ) → length text ≤ n → Within n (tag_at text)
+tag_within : (n : ℕ) (text : List ℕ) → length text ≤ n → Within n (tag_by_parts text)
 tag_within n text h = by_name (after_gap false false text) (gap_suffix false false text)
   where
     by_name : (inner : List ℕ) → Suffix text inner
@@ -93,8 +89,8 @@ within begins c rest =
     pick (Within n) (eqb c 123) _ _ (λ _. comment_within n (after_brace rest)) (λ _.
     pick (Within n) (eqb c 59) _ _ (λ _. tt) (λ _.
     pick (Within n) (eqb c 36) _ _ (λ _. tt) (λ _.
-    pick (Within n) (eqb c 40) _ _ (λ _. variation_within n Plain false 0 rest fewer tt) (λ _.
-    pick (Within n) (eqb c 91) _ _ (λ _. tag_within n rest fewer) (λ _.
+    pick (Within n) (eqb c 40) _ _ (λ _. variation_within n None false 0 rest fewer tt) (λ _.
+    pick (Within n) (eqb c 91) _ _ (λ _. subst (Within n) (sym (parts_are rest)) (tag_within n rest fewer)) (λ _.
     pick (Within n) (eqb c 42) _ _ (λ _. omega arith) (λ _.
     pick (Within n) (is_word_byte c) _ _ (λ _. front_fewer (prefix_len is_word_byte (c ∷ rest)) (c ∷ rest))
     (λ _. tt)))))))))

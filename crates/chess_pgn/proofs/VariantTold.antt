@@ -20,7 +20,7 @@ use Rattle.chess_pgn.specs.declared.tags.Tags.{Tags}
 use Rattle.chess_pgn.specs.declared.word.WordKind.TheVariants.{Number}
 use Rattle.chess_pgn.specs.declared.termination.Termination.{Termination}
 use Rattle.chess_pgn.specs.Terminations.{termination_text, termination_of}
-use Rattle.chess_pgn.specs.GameRead.{variant_after_word, variant_after, variant_then, tagged_variant}
+use Rattle.chess_pgn.specs.ties.TagSteps.{variant_after_word, variant_after, variant_then, variant_from}
 use Rattle.chess_pgn.specs.GameText.{is_initial, fen_lines, start_lines_in, last_lines, further_lines, tag_lines, number_token, move_tokens, game_tokens}
 use Rattle.chess_pgn.specs.laws.PgnLaw.{AreTagTexts}
 use Rattle.chess_text.specs.San.{san}
@@ -36,10 +36,10 @@ use Rattle.chess_pgn.proofs.Walk.{enough, shorter}
 
 -- the variant named from a text on
 abbrev pub told_on : Variant → Bool → List ℕ → Variant
-told_on v begins text = tagged_variant v (tokens_of (length text) begins text)
+told_on v begins text = variant_from v (tokens_of (length text) begins text)
 
 behind : Variant → ℕ → Token × List ℕ → ℕ → Variant
-behind v c t most = variant_then v (variant_after v t.0) (λ u. tagged_variant u (tokens_of most (eqb c 10) t.1))
+behind v c t most = variant_then v (variant_after v t.0) (λ u. variant_from u (tokens_of most (eqb c 10) t.1))
 
 token_tells : (v u : Variant) (begins : Bool) (c : ℕ) (rest : List ℕ) (token : Token) (more : List ℕ)
     → token_at begins c rest ≡ (token, more) → variant_after v token ≡ Some u
@@ -49,15 +49,15 @@ token_tells v u begins c rest token more is told =
     let few : length more ≤ length rest = subst (λ (t : Token × List ℕ). length t.1 ≤ length rest) is
     (shorter begins c rest) in
     ap (λ (t : Token × List ℕ). behind v c t (length rest)) is
-    ∙ ap (λ o. variant_then v o (λ w. tagged_variant w (tokens_of (length rest) (eqb c 10) more))) told
-    ∙ ap (tagged_variant u) (enough (length rest) (length more) (eqb c 10) more few (omega arith))
+    ∙ ap (λ o. variant_then v o (λ w. variant_from w (tokens_of (length rest) (eqb c 10) more))) told
+    ∙ ap (variant_from u) (enough (length rest) (length more) (eqb c 10) more few (omega arith))
 
 token_stops : (v : Variant) (begins : Bool) (c : ℕ) (rest : List ℕ) (token : Token) (more : List ℕ)
     → token_at begins c rest ≡ (token, more) → variant_after v token ≡ None → told_on v begins (c ∷ rest) ≡ v
 unfolding tokens_of behind
 token_stops v begins c rest token more is told =
     ap (λ (t : Token × List ℕ). behind v c t (length rest)) is
-    ∙ ap (λ o. variant_then v o (λ w. tagged_variant w (tokens_of (length rest) (eqb c 10) more))) told
+    ∙ ap (λ o. variant_then v o (λ w. variant_from w (tokens_of (length rest) (eqb c 10) more))) told
 
 line_end_tells : (v : Variant) (begins : Bool) (rest : List ℕ) → told_on v begins (10 ∷ rest) ≡ told_on v true rest
 unfolding token_at

@@ -2,6 +2,7 @@
 -- after token: the tag FEN gives the start, a move's word its move by its reading in the position reached, and an
 -- outcome ends the game. The first token that can't be taken is the fault, with its offset.
 use Rattle.std.specs.Prelude.{ℕ, ◌+◌, ◌-◌, nat_lt, ◌||◌, Bool, true, false, if◌then◌else◌, List, [], ◌∷◌, length, Option, Some, None, is_some, Result, Ok, Err, codes}
+use Rattle.std.specs.Option.{option_map_or}
 use Rattle.std.specs.Str.{bytes_eq, str_eq_ignore_ascii_case}
 use Rattle.chess_base.specs.declared.fault.FenFault.{FenFault}
 use Rattle.chess_base.specs.declared.man.Variant.{Variant}
@@ -10,9 +11,10 @@ use Rattle.chess_base.specs.declared.setup.Setup.{Setup}
 use Rattle.chess_base.specs.Initial.{initial_setup_of}
 use Rattle.chess_fen.specs.Reading.{fen_reading_as}
 use Rattle.chess_game.specs.Game.{State, from_start, played, with_declared, current, verdict_now}
+use Rattle.chess_game.specs.Results.{same_outcome}
 use Rattle.chess_game.specs.declared.results.Declared.{Declared}
 use Rattle.chess_game.specs.declared.results.Outcome.{Outcome}
-use Rattle.chess_game.specs.declared.results.Outcome.TheVariants.{WhiteWins, BlackWins, Draw, Unfinished}
+use Rattle.chess_game.specs.declared.results.Outcome.TheVariants.{Unfinished}
 use Rattle.chess_text.specs.declared.reading.Reading.{Reading}
 use Rattle.chess_text.specs.declared.reading.Reading.TheVariants as reads
 use Rattle.chess_pgn.specs.declared.read.PgnEnd.{PgnEnd}
@@ -23,6 +25,7 @@ use Rattle.chess_pgn.specs.declared.word.WordKind.{WordKind}
 use Rattle.chess_pgn.specs.declared.word.WordKind.TheVariants.{End, Number, Marks, Move}
 use Rattle.chess_pgn.specs.declared.termination.Termination.{Termination}
 use Rattle.chess_text.specs.Moves.{reading}
+use Rattle.chess_pgn.specs.LastTags.{last_tag}
 use Rattle.chess_pgn.specs.Terminations.{termination_named}
 use Rattle.chess_pgn.specs.Tokens.{Token, Skip, Tag, Word, Bad_tag, Unclosed_comment, Unclosed_variation, Bad, after_byte_order_mark, tokens_from}
 use Rattle.chess_pgn.specs.Words.{kind_of}
@@ -53,9 +56,8 @@ fails g kind offset = Stop (record { state = g.state; answer = Err (record { kin
 
 -- the outcome named at a game's end is declared where there is no verdict and it is not `*`
 abbrev pub declared_after : Bool → Outcome → Option Declared
-declared_after true o = None
-declared_after false Unfinished = None
-declared_after false o = Some (record { outcome = o; comment = [] })
+declared_after is_decided o =
+    if is_decided || same_outcome o Unfinished then None else Some (record { outcome = o; comment = [] })
 
 -- the game ends with this outcome, at an offset after its text
 abbrev pub ends : SoFar → Outcome → ℕ → Step
@@ -117,11 +119,8 @@ step limit total g left Bad = fails g BadToken (total - left)
 
 -- at the text's end there is no game, or one without a result
 abbrev pub at_text_end : ℕ → SoFar → GameRead
-at_text_end total g = record {
-  state = g.state;
-  answer = if g.is_met then Err
-      (record { kind = NoResult; offset = total }) else Ok None;
-}
+at_text_end total g =
+    record { state = g.state; answer = if g.is_met then Err (record { kind = NoResult; offset = total }) else Ok None }
 
 -- what is read later, unless reading has ended
 abbrev pub go_on : Step → (SoFar → GameRead) → GameRead
@@ -135,14 +134,10 @@ game_of limit total g (t ∷ ts) = go_on (step limit total g t.0 t.1) (λ h. gam
 
 -- a game of a variant from its initial position, of which nothing was read
 abbrev pub nothing_read : Variant → SoFar
-nothing_read v = record {
-  state = from_start (initial_setup_of v);
-  is_met = false;
-  is_begun = false;
-  termination = None;
-}
+nothing_read v =
+    record { state = from_start (initial_setup_of v); is_met = false; is_begun = false; termination = None }
 
--- ---- the variant: the last that tags name before the game's first number, move or outcome, as far as they can be read
+-- ---- the variant
 
 -- the variant that a tag's text names, in letters of either size: Chess960 by three names. Any other text stands for
 -- normal chess, also one that names another variant
@@ -152,33 +147,15 @@ variant_named text =
     || str_eq_ignore_ascii_case text (codes "chess960") then Fischerandom
     else Normal
 
--- the variant after a word, if more tags may follow it: after marks alone
-abbrev pub variant_after_word : Variant → WordKind → Option Variant
-variant_after_word v Marks = Some v
-variant_after_word v _ = None
-
--- the variant after a token, if more tags may follow it
-abbrev pub variant_after : Variant → Token → Option Variant
-variant_after v Skip = Some v
-variant_after v (Tag name text left) = Some (if bytes_eq name (codes "Variant") then variant_named text else v)
-variant_after v (Word word) = variant_after_word v (kind_of word)
-variant_after v _ = None
-
--- the variant so far where no more tags may follow, else what `later` gives
-abbrev pub variant_then : Variant → Option Variant → (Variant → Variant) → Variant
-variant_then v None later = v
-variant_then v (Some u) later = later u
-
--- the variant that tokens name
-abbrev pub tagged_variant : Variant → List (ℕ × Token) → Variant
-tagged_variant v [] = v
-tagged_variant v (t ∷ ts) = variant_then v (variant_after v t.1) (λ u. tagged_variant u ts)
+-- the variant that the last tag Variant names: normal chess where there is none
+abbrev pub tagged_variant : List (ℕ × Token) → Variant
+tagged_variant tokens = option_map_or (λ tag. variant_named tag.0) (last_tag (codes "Variant") tokens) Normal
 
 -- ---- the game
 
 -- what tokens of a text of so many bytes are read as, for a game of at most so many half-moves
 abbrev pub tokens_read : ℕ → ℕ → List (ℕ × Token) → GameRead
-tokens_read limit total tokens = game_of limit total (nothing_read (tagged_variant Normal tokens)) tokens
+tokens_read limit total tokens = game_of limit total (nothing_read (tagged_variant tokens)) tokens
 
 -- what a text is read as from an offset on
 unfoldable pub pgn_read : ℕ → List ℕ → ℕ → GameRead

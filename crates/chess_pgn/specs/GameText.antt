@@ -24,10 +24,9 @@ use Rattle.chess_pgn.specs.Written.{tag_line, ended, move_text_of}
 -- the seven tags that each game has, in their order
 abbrev pub roster_lines : Tags → Outcome → List (List ℕ)
 roster_lines t o =
-    tag_line (codes "Event") t.event ∷ tag_line (codes "Site") t.site ∷ tag_line (codes "Date") t.date ∷ tag_line
-    (codes "Round") t.round
-    ∷ tag_line (codes "White") t.white ∷ tag_line (codes "Black") t.black ∷ tag_line (codes "Result") (outcome_text o) ∷
-    []
+    tag_line (codes "Event") t.event ∷ tag_line (codes "Site") t.site ∷ tag_line (codes "Date") t.date
+    ∷ tag_line (codes "Round") t.round ∷ tag_line (codes "White") t.white ∷ tag_line (codes "Black") t.black
+    ∷ tag_line (codes "Result") (outcome_text o) ∷ []
 
 -- a start of normal chess is the initial position exactly where its FEN is, since no two positions have the same FEN
 abbrev pub is_initial : Setup → Bool

@@ -3,8 +3,8 @@ pub mod Words
 pub mod Written
 pub mod Tags
 pub mod Terminations
+pub mod LastTags
 pub mod GameRead
 pub mod GameText
-pub mod ResultTags
 pub mod laws
 pub mod ties

@@ -2,7 +2,7 @@
 use Rattle.std.specs.Prelude.{ℕ, List, [], ◌∷◌, Option, find, codes}
 use Rattle.std.specs.Str.{str_eq_ignore_ascii_case}
 use Rattle.chess_game.specs.declared.results.Outcome.{Outcome}
-use Rattle.chess_game.specs.declared.results.Outcome.TheVariants.{WhiteWins, BlackWins, Draw, Unfinished}
+use Rattle.chess_game.specs.declared.results.Outcome.TheVariants.{Unfinished}
 use Rattle.chess_pgn.specs.declared.tags.HowEnded.{HowEnded}
 use Rattle.chess_pgn.specs.declared.tags.HowEnded.TheVariants as how
 use Rattle.chess_pgn.specs.declared.termination.Termination.{Termination}
@@ -20,21 +20,16 @@ termination_text TimeForfeit = codes "time forfeit"
 termination_text Unterminated = codes "unterminated"
 
 -- all of them
-abbrev pub all_terminations : List Termination
-all_terminations = Abandoned ∷ Adjudication ∷ Death ∷ Emergency ∷ Normal ∷ RulesInfraction ∷ TimeForfeit ∷ Unterminated
-    ∷ []
+abbrev pub terminations : List Termination
+terminations = Abandoned ∷ Adjudication ∷ Death ∷ Emergency ∷ Normal ∷ RulesInfraction ∷ TimeForfeit ∷ Unterminated ∷ []
 
 -- the one that a tag's text names, in letters of either size
 unfoldable pub termination_named : List ℕ → Option Termination
-termination_named text = find (λ t. str_eq_ignore_ascii_case text (termination_text t)) all_terminations
+termination_named text = find (λ t. str_eq_ignore_ascii_case text (termination_text t)) terminations
 
--- that of a game which ended so
-abbrev pub termination_by : HowEnded → Termination
-termination_by how.Normal = Normal
-termination_by how.TimeForfeit = TimeForfeit
-termination_by how.RulesInfraction = RulesInfraction
-
--- that of a game with this outcome: `unterminated` where there is none yet
+-- that of a game which ended so, with this outcome: `unterminated` where there is none yet
 abbrev pub termination_of : HowEnded → Outcome → Termination
 termination_of ended Unfinished = Unterminated
-termination_of ended _ = termination_by ended
+termination_of how.Normal _ = Normal
+termination_of how.TimeForfeit _ = TimeForfeit
+termination_of how.RulesInfraction _ = RulesInfraction

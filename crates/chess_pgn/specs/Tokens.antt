@@ -2,9 +2,10 @@
 -- comments, `%` lines, `$` glyphs and variations are skipped; tags and words are kept; the first token that can't be
 -- read is the last. This project's own: the bytes of a word; that a `%` line is skipped also in a tag and in a
 -- variation; that a string may have tabs and more than 255 bytes; and that the bytes EF BB BF at offset 0 are skipped.
-use Rattle.std.specs.Prelude.{ℕ, zero, suc, ◌-◌, Bool, true, false, not, ◌&&◌, ◌||◌, List, [], ◌∷◌, ◌++◌, length, take, drop, slice_index, Option, Some, None, ◌==◌, nat_le, if◌then◌else◌}
+use Rattle.std.specs.Prelude.{ℕ, zero, suc, ◌-◌, Bool, true, false, not, ◌&&◌, ◌||◌, List, [], ◌∷◌, ◌++◌, length, take, drop, slice_index, Option, Some, None, codes, ◌==◌, if◌then◌else◌}
 use Rattle.chess_base.specs.Letters.{is_digit, is_letter, byte, carriage_return, new_line, space, tab}
-use Rattle.std.specs.List.{prefix_len, position_or_len, take_while}
+use Rattle.std.specs.List.{list_any, prefix_len, position_or_len, take_while}
+use Rattle.std.specs.Option.{option_and_then, option_map, option_map_or, unwrap_or}
 use Rattle.std.specs.Str.{bytes_eq}
 
 -- what a token is. An offset in it is given by how many bytes of the text are left there
@@ -31,12 +32,7 @@ is_name_byte c = is_letter c || (is_digit c || c == byte "_")
 
 -- these, `+`, `#`, `=`, `-`, `/`, `!`, `?` and `:`
 abbrev pub is_word_byte : ℕ → Bool
-is_word_byte c =
-    is_name_byte c
-    || (c == byte "+"
-    || (c == byte "#"
-    || (c == byte "="
-    || (c == byte "-" || (c == byte "/" || (c == byte "!" || (c == byte "?" || c == byte ":")))))))
+is_word_byte c = is_name_byte c || list_any (λ b. c == b) (codes "+#=-/!?:")
 
 -- ---- what is skipped
 
@@ -53,44 +49,37 @@ after_brace (c ∷ rest) = if c == byte "}" then Some rest else after_brace rest
 abbrev pub after_gap : Bool → Bool → List ℕ → List ℕ
 after_gap skips begins [] = []
 after_gap true begins (c ∷ rest) = after_gap (not (c == new_line)) true rest
-after_gap false begins (c ∷ rest) = if begins
-    && c == byte "%" then after_gap true false rest else
-    (if is_white_space c then after_gap false (c == new_line) rest else c ∷ rest)
+after_gap false begins (c ∷ rest) =
+    if begins && c == byte "%" then after_gap true false rest
+    else (if is_white_space c then after_gap false (c == new_line) rest else c ∷ rest)
 
 -- ---- variations
 
--- where a variation's bytes are: in no comment, in a brace comment that began with so many bytes left, or in a line
--- that is skipped to its end
-pub data Inside : Type 0 where
-  Plain : Inside
-  Brace : (left : ℕ) → Inside
-  Line : Inside
-
--- a variation after its `(`, where so many are open
-abbrev pub variation_at : Inside → Bool → ℕ → List ℕ → Token × List ℕ
-variation_at inside line_begins zero text = (Skip, text)
-variation_at Plain line_begins (suc depth) [] = (Unclosed_variation, [])
-variation_at (Brace left) line_begins (suc depth) [] = (Unclosed_comment left, [])
-variation_at Line line_begins (suc depth) [] = (Unclosed_variation, [])
-variation_at Plain line_begins (suc depth) (c ∷ rest) =
-    if line_begins && c == byte "%" then variation_at Line false (suc depth) rest
-    else (if c == byte "{" then variation_at (Brace (length (c ∷ rest))) false (suc depth) rest
-    else (if c == byte ";" then variation_at Line false (suc depth) rest
-    else (if c == byte "(" then variation_at Plain false (suc (suc depth)) rest
-    else (if c == byte ")" then variation_at Plain false depth rest
-    else variation_at Plain (c == new_line) (suc depth) rest))))
-variation_at (Brace left) line_begins (suc depth) (c ∷ rest) =
-    if c == byte "}" then variation_at Plain false (suc depth) rest else variation_at (Brace left) false (suc depth)
-    rest
-variation_at Line line_begins (suc depth) (c ∷ rest) =
-    if c == new_line then variation_at Plain true (suc depth) rest else variation_at Line false (suc depth) rest
+-- a variation after its `(`, where so many are open. In a comment or in a line that is skipped, the first argument is the
+-- byte that ends that, and the token if there is no such byte
+abbrev pub variation_at : Option (ℕ × Token) → Bool → ℕ → List ℕ → Token × List ℕ
+variation_at comment line_begins zero text = (Skip, text)
+variation_at comment line_begins (suc depth) [] = (option_map_or (λ skipped. skipped.1) comment Unclosed_variation, [])
+variation_at (Some comment) line_begins (suc depth) (c ∷ rest) =
+    variation_at (if c == comment.0 then None else Some comment) (c == new_line) (suc depth) rest
+variation_at None line_begins (suc depth) (c ∷ rest) =
+    if line_begins && c == byte "%" || c == byte ";"
+    then variation_at (Some (new_line, Unclosed_variation)) false (suc depth) rest
+    else (if c == byte "{" then variation_at (Some (byte "}", Unclosed_comment (length (c ∷ rest)))) false (suc depth) rest
+    else (if c == byte "(" then variation_at None false (suc (suc depth)) rest
+    else (if c == byte ")" then variation_at None false depth rest
+    else variation_at None (c == new_line) (suc depth) rest)))
 
 -- ---- tags
 
+infixl 10 ◌>>=◌
+-- f of the value, if there is one
+abbrev pub ◌>>=◌ : {A B : Type 0} → Option A → (A → Option B) → Option B
+o >>= f = option_and_then f o
+
 -- a string that goes on after these bytes
 abbrev pub onto : List ℕ → Option (List ℕ × List ℕ) → Option (List ℕ × List ℕ)
-onto front None = None
-onto front (Some found) = Some (front ++ found.0, found.1)
+onto front string = option_map (λ found. (front ++ found.0, found.1)) string
 
 -- a string's bytes up to its closing quote, and what follows it; none where a line or the text ends before. A
 -- backslash keeps the next byte from ending it
@@ -112,37 +101,25 @@ after_byte b (c ∷ rest) = if c == b then Some rest else None
 abbrev pub after_next : ℕ → List ℕ → Option (List ℕ)
 after_next b text = after_byte b (after_gap false false text)
 
--- a tag with what follows its bracket
-abbrev pub closed : List ℕ → ℕ → List ℕ → Option (List ℕ) → Token × List ℕ
-closed name left text None = (Bad_tag, [])
-closed name left text (Some rest) = (Tag name text left, rest)
+-- a name, which has a byte at least, and what follows it
+abbrev pub name_at : List ℕ → Option (List ℕ × List ℕ)
+name_at text = let name = take_while is_name_byte text in
+    if length name == 0 then None else Some (name, drop (length name) text)
 
--- a tag with its string, if that is closed; its closing bracket comes after a gap
-abbrev pub with_text : List ℕ → ℕ → Option (List ℕ × List ℕ) → Token × List ℕ
-with_text name left None = (Bad_tag, [])
-with_text name left (Some found) = closed name left found.0 (after_next (byte "]") found.1)
-
--- a tag with what follows its opening quote, if there is one
-abbrev pub with_string : List ℕ → Option (List ℕ) → Token × List ℕ
-with_string name None = (Bad_tag, [])
-with_string name (Some string) = with_text name (length string) (string_at string)
-
--- a tag with its name, which has a byte at least, and what follows that
-abbrev pub with_name : List ℕ → List ℕ → Token × List ℕ
-with_name [] rest = (Bad_tag, [])
-with_name (n ∷ ns) rest = with_string (n ∷ ns) (after_next (byte "\"") rest)
-
--- a tag after its opening bracket: a name, a string and the closing bracket, with gaps before each
-abbrev pub tag_at : List ℕ → Token × List ℕ
-tag_at text = let inner = after_gap false false text in with_name (take_while is_name_byte inner)
-    (drop (prefix_len is_name_byte inner) inner)
+-- a tag after its opening bracket, and what follows it: a name, a string and the closing bracket, with gaps before each
+abbrev pub tag_at : List ℕ → Option (Token × List ℕ)
+tag_at text = do
+  name ← name_at (after_gap false false text)
+  string ← after_next (byte "\"") name.1
+  inside ← string_at string
+  rest ← after_next (byte "]") inside.1
+  Some (Tag name.0 inside.0 (length string), rest)
 
 -- ---- tokens
 
 -- a comment in braces, with what follows it, if it is closed
 abbrev pub comment_at : ℕ → Option (List ℕ) → Token × List ℕ
-comment_at left None = (Unclosed_comment left, [])
-comment_at left (Some rest) = (Skip, rest)
+comment_at left behind = option_map_or (λ rest. (Skip, rest)) behind (Unclosed_comment left, [])
 
 -- the first token of a text that isn't empty, where a line begins or not, and what follows it; nothing is read
 -- after one that can't be read
@@ -153,21 +130,19 @@ token_at line_begins c rest =
     else (if c == byte "{" then comment_at (length (c ∷ rest)) (after_brace rest)
     else (if c == byte ";" then (Skip, line_end rest)
     else (if c == byte "$" then (Skip, drop (prefix_len is_digit rest) rest)
-    else (if c == byte "(" then variation_at Plain false 1 rest
-    else (if c == byte "[" then tag_at rest
+    else (if c == byte "(" then variation_at None false 1 rest
+    else (if c == byte "[" then unwrap_or (tag_at rest) (Bad_tag, [])
     else (if c == byte "*" then (Word (c ∷ []), rest)
-    else (if is_word_byte c then (
-      Word (take_while is_word_byte (c ∷ rest)),
-      drop (prefix_len is_word_byte (c ∷ rest)) (c ∷ rest),
-    )
+    else (if is_word_byte c
+    then (Word (take_while is_word_byte (c ∷ rest)), drop (prefix_len is_word_byte (c ∷ rest)) (c ∷ rest))
     else (Bad, [])))))))))
 
 -- the tokens of a text, each with how many bytes are left where it begins; at most `most` of them
 unfoldable pub tokens_of : ℕ → Bool → List ℕ → List (ℕ × Token)
 tokens_of zero line_begins text = []
 tokens_of (suc most) line_begins [] = []
-tokens_of (suc most) line_begins (c ∷ rest) = let t =
-    token_at line_begins c rest in (length (c ∷ rest), t.0) ∷ tokens_of most (c == new_line) t.1
+tokens_of (suc most) line_begins (c ∷ rest) =
+    let t = token_at line_begins c rest in (length (c ∷ rest), t.0) ∷ tokens_of most (c == new_line) t.1
 
 -- ---- a text from an offset on
 

@@ -1,7 +1,8 @@
 -- What a word of a game's text is (PGN standard of 1994, sections 8.2.2, 8.2.3.8 and 8.2.6).
-use Rattle.std.specs.Prelude.{ℕ, ◌||◌, List, [], ◌∷◌, Option, Some, None, find, ◌==◌, if◌then◌else◌}
+use Rattle.std.specs.Prelude.{ℕ, ◌||◌, List, [], ◌∷◌, Option, find, ◌==◌, if◌then◌else◌}
 use Rattle.chess_base.specs.Letters.{byte, is_digit}
 use Rattle.std.specs.List.{list_all}
+use Rattle.std.specs.Option.{option_map_or}
 use Rattle.std.specs.Str.{bytes_eq}
 use Rattle.chess_game.specs.Results.{outcome_text}
 use Rattle.chess_game.specs.declared.results.Outcome.{Outcome}
@@ -13,14 +14,8 @@ use Rattle.chess_pgn.specs.declared.word.WordKind.TheVariants.{End, Number, Mark
 abbrev pub outcome_of : List ℕ → Option Outcome
 outcome_of word = find (λ o. bytes_eq (outcome_text o) word) (WhiteWins ∷ BlackWins ∷ Draw ∷ Unfinished ∷ [])
 
--- a word that is no outcome: digits alone, marks alone, or anything else
-abbrev pub kind_by : List ℕ → Option Outcome → WordKind
-kind_by word (Some o) = End o
-kind_by word None =
-    if list_all is_digit word then Number
-    else (if list_all (λ c. c == byte "!" || c == byte "?") word then Marks
-    else Move)
-
--- what a word is
+-- what a word is: an outcome, or else digits alone, marks alone, or what may be a move
 abbrev pub kind_of : List ℕ → WordKind
-kind_of word = kind_by word (outcome_of word)
+kind_of word = option_map_or End (outcome_of word)
+    (if list_all is_digit word then Number
+    else (if list_all (λ c. c == byte "!" || c == byte "?") word then Marks else Move))

@@ -1,33 +1,32 @@
 -- A game's text as it is written (PGN standard of 1994, sections 4.3, 8.1 and 8.2): the tags' lines and the lines of
 -- moves.
-use Rattle.std.specs.Prelude.{ℕ, ◌+◌, ◌≤◌, ◌||◌, List, [], ◌∷◌, ◌++◌, length, map, take, codes, ◌==◌, nat_le, nat_lt, if◌then◌else◌}
+use Rattle.std.specs.Prelude.{ℕ, ◌+◌, ◌≤◌, Bool, not, ◌&&◌, ◌||◌, List, [], ◌∷◌, ◌++◌, length, map, take, codes, ◌==◌, nat_le, nat_lt, if◌then◌else◌}
 use Rattle.chess_base.specs.Letters.{byte, new_line, space}
 use Rattle.std.specs.List.{flat_map, AllByRecursion}
 
--- ---- the same from left to right, by how many bytes the line has so far
+-- ---- tokens in lines from left to right, by how many bytes the line that is begun has so far; with 0 none is begun
 
--- what a token puts into the text: the space or the new line before it, and itself
-abbrev pub placed : List ℕ → ℕ → List ℕ → List ℕ
-placed prefix column token =
-    if column == 0 then prefix ++ token
-    else (if nat_le (column + 1 + length token) 79 then space ∷ token
-    else new_line ∷ prefix ++ token)
+-- a token goes on in a line that is begun if that has at most 79 bytes with a space and the token more
+abbrev pub fits : ℕ → List ℕ → Bool
+fits column token = not (column == 0) && nat_le (column + 1 + length token) 79
+
+-- what ends a line that is begun
+abbrev pub line_close : ℕ → List ℕ
+line_close column = if column == 0 then [] else new_line ∷ []
+
+-- a token, after the space or the new line that comes before it
+abbrev pub wrapped_token : List ℕ → ℕ → List ℕ → List ℕ
+wrapped_token prefix column token =
+    if fits column token then space ∷ token else line_close column ++ (prefix ++ token)
 
 -- how many bytes the line has after it
 abbrev pub next_column : ℕ → List ℕ → ℕ
-next_column column token =
-    if column == 0 then length token
-    else (if nat_le (column + 1 + length token) 79 then column + 1 + length token
-    else length token)
-
--- what ends the last line, if there is one
-abbrev pub line_close : ℕ → List ℕ
-line_close column = if column == 0 then [] else new_line ∷ []
+next_column column token = if fits column token then column + 1 + length token else length token
 
 -- the text of tokens after a line of so many bytes
 abbrev pub filled_from : List ℕ → ℕ → List (List ℕ) → List ℕ
 filled_from prefix column [] = line_close column
-filled_from prefix column (t ∷ ts) = placed prefix column t ++ filled_from prefix (next_column column t) ts
+filled_from prefix column (t ∷ ts) = wrapped_token prefix column t ++ filled_from prefix (next_column column t) ts
 
 -- the text of moves: the one that is a move text (the law `lines_are_filled`)
 abbrev pub move_text_of : List ℕ → List (List ℕ) → List ℕ

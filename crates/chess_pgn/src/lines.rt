@@ -5,7 +5,7 @@ ghost use Rattle.std.specs.Prelude.{◌≡◌, ◌+◌, ◌≤◌, ◌<◌, [], 
 ghost use Rattle.byte_devices.specs.Devices.{Puts};
 ghost use Rattle.chess_base.specs.Letters.{new_line};
 ghost use Rattle.chess_pgn.specs.ties.Waiting.{Adds};
-ghost use Rattle.chess_pgn.specs.Written.{placed, next_column, line_close};
+ghost use Rattle.chess_pgn.specs.Written.{wrapped_token, next_column, line_close};
 
 use crate::buffer::TextBuffer;
 use byte_devices::{Output, WriteFault};
@@ -66,7 +66,7 @@ impl<'a> LineWriter<'a> {
         requires some { 0 < length token.now }
         requires short { length token.now ≤ LINE_LEN }
         ensures added { Adds (W.seen writer.old) (W.seen writer.new) self.old.waiting self.new.waiting result
-            (placed self.old.prefix.now self.old.column token.now) }
+            (wrapped_token self.old.prefix.now self.old.column token.now) }
         ensures column { self.new.column ≡ next_column self.old.column token.now }
         ensures prefix { self.new.prefix.now ≡ self.old.prefix.now }
     {

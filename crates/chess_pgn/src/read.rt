@@ -3,13 +3,13 @@
 ghost use Rattle.std.specs.Prelude.{◌≡◌, ℕ, ◌+◌, ◌-◌, ◌^◌, ◌≤◌, ◌<◌, true, false, length, None, IfOk, Err, is_some, IsNone, IsTrue, OnErr};
 ghost use Rattle.std.specs.Option.{IfSome, option_map_or};
 ghost use Rattle.chess_game.specs.Game.{State, at as left_at, with_declared, current, verdict_now, refusal_now};
-ghost use Rattle.chess_base.specs.declared.man.Variant.TheVariants.{Normal};
 ghost use Rattle.chess_base.specs.Moves.{is_legal};
 ghost use Rattle.chess_text.specs.Moves.{reading};
 ghost use Rattle.chess_text.specs.declared.reading.Reading.TheVariants as reads;
 ghost use Rattle.chess_pgn.specs.Words.{kind_of};
 ghost use Rattle.chess_pgn.specs.ties.Seen.{token_seen, fault_seen};
-ghost use Rattle.chess_pgn.specs.GameRead.{declared_after, termination_after, move_step, word_step, tag_step, step, variant_named, variant_after, tagged_variant, pgn_read};
+ghost use Rattle.chess_pgn.specs.GameRead.{declared_after, termination_after, move_step, word_step, tag_step, step, variant_named, tagged_variant, pgn_read};
+ghost use Rattle.chess_pgn.specs.ties.TagSteps.{variant_after};
 ghost use Rattle.chess_pgn.specs.Tokens.{tokens_from};
 ghost use Rattle.chess_pgn.specs.ties.GameSteps.{refusal_kind, EndsIn, so_far, step_seen, IsWithin, IsReadOn, ReadsAlike};
 
@@ -393,7 +393,7 @@ pub(crate) fn variant_after(variant: Variant, token: &Token<'_>) -> Option<Varia
 // The variant that the tags name from an offset on: the last that they name before a number, move or termination.
 fn tagged_variant(text: &[u8], at: usize) -> Variant
     requires { at ≤ length text.now }
-    ensures { result ≡ tagged_variant Normal (tokens_from text.now at) }
+    ensures { result ≡ tagged_variant (tokens_from text.now at) }
 {
     let mut offset = at;
     let mut variant = Variant::Normal;

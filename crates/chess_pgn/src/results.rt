@@ -4,7 +4,8 @@ ghost use Rattle.std.specs.Prelude.{◌≡◌, ◌≤◌, ◌-◌, length};
 ghost use Rattle.std.specs.Option.{IfSome};
 ghost use Rattle.chess_pgn.specs.ties.Seen.{token_seen};
 ghost use Rattle.chess_pgn.specs.ties.GameSteps.{IsWithin};
-ghost use Rattle.chess_pgn.specs.ResultTags.{may_precede_tags, result_after_tag, result_after, result_tag_of};
+ghost use Rattle.chess_pgn.specs.LastTags.{may_precede_tags, result_tag_of};
+ghost use Rattle.chess_pgn.specs.ties.TagSteps.{result_after_tag, result_after};
 
 use crate::tag::Tag;
 use crate::token::{Token, after_byte_order_mark, next_token};

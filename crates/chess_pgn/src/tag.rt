@@ -3,7 +3,8 @@
 ghost use Rattle.std.specs.Prelude.{◌≡◌, drop, take_while, Option};
 ghost use Rattle.std.specs.List.{prefix_len};
 ghost use Rattle.std.specs.Option.{option_map};
-ghost use Rattle.chess_pgn.specs.Tokens.{is_name_byte, after_next, string_at, tag_at};
+ghost use Rattle.chess_pgn.specs.Tokens.{is_name_byte, after_next, string_at};
+ghost use Rattle.chess_pgn.specs.ties.TagParts.{tag_by_parts};
 ghost use Rattle.chess_pgn.specs.ties.Seen.{tag_seen};
 
 use crate::bytes::is_name_byte;
@@ -63,7 +64,7 @@ pub(crate) fn split_string(text: &[u8]) -> Option<(&[u8], &[u8])>
 
 // A tag after its opening bracket, and what follows it.
 pub(crate) fn read_tag(text: &[u8]) -> Option<(Tag<'_>, &[u8])>
-    ensures { tag_seen result ≡ tag_at text.now }
+    ensures { tag_seen result ≡ tag_by_parts text.now }
 {
     let (name, rest) = split_name(after_gap(text));
     if name.is_empty() {

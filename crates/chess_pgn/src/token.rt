@@ -1,8 +1,9 @@
 //! The tokens of a game's text.
 
-ghost use Rattle.std.specs.Prelude.{◌≡◌, ◌≤◌, ◌∷◌, length, drop, false};
+ghost use Rattle.std.specs.Prelude.{◌≡◌, ◌≤◌, ◌∷◌, length, drop, false, [], None};
 ghost use Rattle.std.specs.List.{prefix_len, take_while};
-ghost use Rattle.chess_pgn.specs.Tokens.{is_word_byte, token_at, comment_at, after_brace, variation_at, Plain, tag_at, begins_line, after_byte_order_mark};
+ghost use Rattle.std.specs.Option.{unwrap_or};
+ghost use Rattle.chess_pgn.specs.Tokens.{is_word_byte, token_at, comment_at, after_brace, variation_at, tag_at, Bad_tag, begins_line, after_byte_order_mark};
 ghost use Rattle.chess_base.specs.Letters.{is_digit};
 ghost use Rattle.chess_pgn.specs.ties.Seen.{first_seen, IsNextToken};
 
@@ -72,7 +73,7 @@ fn read_comment(left: usize, text: &[u8]) -> Result<(Token<'_>, &[u8]), TokenFau
 // A variation after its bracket.
 #[inline(never)]
 fn read_variation(text: &[u8]) -> Result<(Token<'_>, &[u8]), TokenFault>
-    ensures { first_seen result ≡ variation_at Plain false 1 text.now }
+    ensures { first_seen result ≡ variation_at None false 1 text.now }
 {
     match after_variation(text) {
         Ok(rest) => Ok((Token::Skip, rest)),
@@ -81,9 +82,10 @@ fn read_variation(text: &[u8]) -> Result<(Token<'_>, &[u8]), TokenFault>
 }
 
 // A tag after its bracket.
+#[tactic(auto, using(crate::proofs::TagParts::parts_are))]
 #[inline(never)]
 fn read_bracket(text: &[u8]) -> Result<(Token<'_>, &[u8]), TokenFault>
-    ensures { first_seen result ≡ tag_at text.now }
+    ensures { first_seen result ≡ unwrap_or (tag_at text.now) (Bad_tag, []) }
 {
     match read_tag(text) {
         Some((tag, rest)) => Ok((Token::Tag(tag), rest)),

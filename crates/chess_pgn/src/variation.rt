@@ -1,8 +1,8 @@
 //! Skipping a variation.
 
-ghost use Rattle.std.specs.Prelude.{◌≡◌, ◌+◌, ◌≤◌, ◌<◌, ◌^◌, length, false, IfSome, Option, Result};
+ghost use Rattle.std.specs.Prelude.{◌≡◌, ◌+◌, ◌≤◌, ◌<◌, ◌^◌, length, false, IfSome, None, Option, Result};
 ghost use Rattle.std.specs.Option.{option_map};
-ghost use Rattle.chess_pgn.specs.Tokens.{variation_at, Plain};
+ghost use Rattle.chess_pgn.specs.Tokens.{variation_at};
 ghost use Rattle.chess_pgn.specs.ties.VariationParts.{after_part, depth_after};
 ghost use Rattle.chess_pgn.specs.ties.Seen.{variation_seen};
 
@@ -36,7 +36,7 @@ fn depth_after(depth: usize, byte: u8) -> Option<usize>
 
 // The text after a variation, whose `(` comes before the text.
 pub(crate) fn after_variation(text: &[u8]) -> Result<&[u8], TokenFault>
-    ensures { variation_seen result ≡ variation_at Plain false 1 text.now }
+    ensures { variation_seen result ≡ variation_at None false 1 text.now }
 {
     let mut rest = text;
     let mut line_begins = false;

@@ -5,25 +5,25 @@ use Rattle.std.specs.Str.{bytes_eq}
 use Rattle.std.proofs.lemmas.Bool.{or_parts}
 use Rattle.std.proofs.lemmas.List.{take-append-le}
 use Rattle.pgn_pieces.specs.Pieces.{piece_at, ends_piece}
-use Rattle.pgn_pieces.specs.Stream.{pieces_from}
+use Rattle.pgn_pieces.specs.Stream.{pieces_after_part}
 use Rattle.pgn_pieces.specs.ties.Held.{Passes, has_line_end}
 
 -- ---- one byte
 
 pub goes_on : (ended : Bool) (offset : ℕ) (part : List ℕ) (c : ℕ) (cs : List ℕ) → ends_piece c cs ≡ false
-    → pieces_from ended offset part (c ∷ cs) ≡ pieces_from ended offset (part ++ c ∷ []) cs
-unfolding pieces_from
+    → pieces_after_part ended offset part (c ∷ cs) ≡ pieces_after_part ended offset (part ++ c ∷ []) cs
+unfolding pieces_after_part
 goes_on ended offset part c cs h =
-    ap (λ b. if b then piece_at offset (part ++ c ∷ []) ∷ pieces_from ended (offset + (length part + 1)) [] cs
-    else pieces_from ended offset (part ++ c ∷ []) cs) h
+    ap (λ b. if b then piece_at offset (part ++ c ∷ []) ∷ pieces_after_part ended (offset + (length part + 1)) [] cs
+    else pieces_after_part ended offset (part ++ c ∷ []) cs) h
 
 pub ends_here : (ended : Bool) (offset : ℕ) (part : List ℕ) (c : ℕ) (cs : List ℕ) → ends_piece c cs ≡ true
-    → pieces_from ended offset part (c ∷ cs)
-    ≡ piece_at offset (part ++ c ∷ []) ∷ pieces_from ended (offset + (length part + 1)) [] cs
-unfolding pieces_from
+    → pieces_after_part ended offset part (c ∷ cs)
+    ≡ piece_at offset (part ++ c ∷ []) ∷ pieces_after_part ended (offset + (length part + 1)) [] cs
+unfolding pieces_after_part
 ends_here ended offset part c cs h =
-    ap (λ b. if b then piece_at offset (part ++ c ∷ []) ∷ pieces_from ended (offset + (length part + 1)) [] cs
-    else pieces_from ended offset (part ++ c ∷ []) cs) h
+    ap (λ b. if b then piece_at offset (part ++ c ∷ []) ∷ pieces_after_part ended (offset + (length part + 1)) [] cs
+    else pieces_after_part ended offset (part ++ c ∷ []) cs) h
 
 -- ---- a byte with seven after it
 
@@ -47,37 +47,37 @@ byte_at text rest k h = ap (λ xs. xs ++ rest) (drop-cons text k 0 h)
 pub passes : (text : List ℕ) (k : ℕ) → k + 7 < length text
     → ends_piece (get_or text k 0) (drop (k + 1) text) ≡ false
     → (ended : Bool) (offset : ℕ) (part rest : List ℕ)
-    → pieces_from ended offset (part ++ take k text) (drop k text ++ rest)
-    ≡ pieces_from ended offset (part ++ take (k + 1) text) (drop (k + 1) text ++ rest)
+    → pieces_after_part ended offset (part ++ take k text) (drop k text ++ rest)
+    ≡ pieces_after_part ended offset (part ++ take (k + 1) text) (drop (k + 1) text ++ rest)
 passes text k h none ended offset part rest =
     let few : k < length text = omega (arith, h) in
-    ap (pieces_from ended offset (part ++ take k text)) (byte_at text rest k few)
+    ap (pieces_after_part ended offset (part ++ take k text)) (byte_at text rest k few)
     ∙ goes_on ended offset (part ++ take k text) (get_or text k 0) (drop (k + 1) text ++ rest)
     (same_end (get_or text k 0) (drop (k + 1) text) rest (seven text k h) ∙ none)
-    ∙ ap (λ xs. pieces_from ended offset xs (drop (k + 1) text ++ rest)) (one_more text part k few)
+    ∙ ap (λ xs. pieces_after_part ended offset xs (drop (k + 1) text ++ rest)) (one_more text part k few)
 
 pub ends : (text : List ℕ) (k : ℕ) → k + 7 < length text
     → ends_piece (get_or text k 0) (drop (k + 1) text) ≡ true
     → (ended : Bool) (offset : ℕ) (part rest : List ℕ)
-    → pieces_from ended offset (part ++ take k text) (drop k text ++ rest)
+    → pieces_after_part ended offset (part ++ take k text) (drop k text ++ rest)
     ≡ piece_at offset (part ++ take (k + 1) text)
-    ∷ pieces_from ended (offset + length (part ++ take (k + 1) text)) [] (drop (k + 1) text ++ rest)
+    ∷ pieces_after_part ended (offset + length (part ++ take (k + 1) text)) [] (drop (k + 1) text ++ rest)
 ends text k h is ended offset part rest =
     let few : k < length text = omega (arith, h) in
     let front = part ++ take k text in
     let more = one_more text part k few in
-    ap (pieces_from ended offset front) (byte_at text rest k few)
+    ap (pieces_after_part ended offset front) (byte_at text rest k few)
     ∙ ends_here ended offset front (get_or text k 0) (drop (k + 1) text ++ rest)
     (same_end (get_or text k 0) (drop (k + 1) text) rest (seven text k h) ∙ is)
     ∙ ap (λ n. piece_at offset (front ++ get_or text k 0 ∷ [])
-    ∷ pieces_from ended (offset + n) [] (drop (k + 1) text ++ rest)) (sym (length-append front (get_or text k 0 ∷ [])))
-    ∙ ap (λ xs. piece_at offset xs ∷ pieces_from ended (offset + length xs) [] (drop (k + 1) text ++ rest)) more
+    ∷ pieces_after_part ended (offset + n) [] (drop (k + 1) text ++ rest)) (sym (length-append front (get_or text k 0 ∷ [])))
+    ∙ ap (λ xs. piece_at offset xs ∷ pieces_after_part ended (offset + length xs) [] (drop (k + 1) text ++ rest)) more
 
 -- ---- bytes without a byte 10
 
 moved : (text : List ℕ) (a b : ℕ) → a ≡ b → Passes text a b
 moved text a b same ended offset part rest =
-    ap (λ n. pieces_from ended offset (part ++ take n text) (drop n text ++ rest)) same
+    ap (λ n. pieces_after_part ended offset (part ++ take n text) (drop n text ++ rest)) same
 
 pub joins : (text : List ℕ) (a b c : ℕ) → Passes text a b → Passes text b c → Passes text a c
 joins text a b c h k ended offset part rest = h ended offset part rest ∙ k ended offset part rest

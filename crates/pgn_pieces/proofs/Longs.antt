@@ -4,7 +4,7 @@ use Rattle.std.specs.Prelude.{if◌then◌else◌, ◌&&◌, nat_lt, nat_le, rep
 use Rattle.std.proofs.lemmas.Bool.Decides.{nat_tests}
 use Rattle.std.proofs.lemmas.List.{length-take-le, length-replicate}
 use Rattle.pgn_pieces.specs.Pieces.{piece_at, ends_piece}
-use Rattle.pgn_pieces.specs.Stream.{pieces_from, pieces_held}
+use Rattle.pgn_pieces.specs.Stream.{pieces_after_part, pieces_held}
 
 too_long : (xs : List ℕ) → 16777216 < length xs → nat_le (length xs) 16777216 ≡ false
 too_long xs h = grind (arith, nat_tests, h)
@@ -19,8 +19,8 @@ both : {A : Type 0} (b : Bool) (x x' y y' : A) → x ≡ x' → y ≡ y' → (if
 both b x x' y y' h k = cc (h, k)
 
 pub same_long : (ended : Bool) (offset : ℕ) (p q rest : List ℕ) → length p ≡ length q → 16777216 < length p
-    → pieces_from ended offset p rest ≡ pieces_from ended offset q rest
-unfolding pieces_from
+    → pieces_after_part ended offset p rest ≡ pieces_after_part ended offset q rest
+unfolding pieces_after_part
 same_long ended offset p q [] h k =
     ap (λ n. if ended && nat_lt 0 n then piece_at offset p ∷ [] else []) h
     ∙ ap (λ x. if ended && nat_lt 0 (length q) then x ∷ [] else []) (same_piece offset p q h k)
@@ -28,12 +28,12 @@ same_long ended offset p q (c ∷ cs) h k =
     let lp = length-append p (c ∷ []) in
     let lq = length-append q (c ∷ []) in
     both (ends_piece c cs)
-    (piece_at offset (p ++ c ∷ []) ∷ pieces_from ended (offset + (length p + 1)) [] cs)
-    (piece_at offset (q ++ c ∷ []) ∷ pieces_from ended (offset + (length q + 1)) [] cs)
-    (pieces_from ended offset (p ++ c ∷ []) cs) (pieces_from ended offset (q ++ c ∷ []) cs)
-    (ap (λ x. x ∷ pieces_from ended (offset + (length p + 1)) [] cs)
+    (piece_at offset (p ++ c ∷ []) ∷ pieces_after_part ended (offset + (length p + 1)) [] cs)
+    (piece_at offset (q ++ c ∷ []) ∷ pieces_after_part ended (offset + (length q + 1)) [] cs)
+    (pieces_after_part ended offset (p ++ c ∷ []) cs) (pieces_after_part ended offset (q ++ c ∷ []) cs)
+    (ap (λ x. x ∷ pieces_after_part ended (offset + (length p + 1)) [] cs)
     (same_piece offset (p ++ c ∷ []) (q ++ c ∷ []) (omega (arith, lp, lq, h)) (omega (arith, lp, k)))
-    ∙ ap (λ n. piece_at offset (q ++ c ∷ []) ∷ pieces_from ended (offset + (n + 1)) [] cs) h)
+    ∙ ap (λ n. piece_at offset (q ++ c ∷ []) ∷ pieces_after_part ended (offset + (n + 1)) [] cs) h)
     (same_long ended offset (p ++ c ∷ []) (q ++ c ∷ []) cs (omega (arith, lp, lq, h)) (omega (arith, lp, k)))
 
 part_len : (gone at len : ℕ) (held : List ℕ) → at + len ≤ length held
@@ -66,5 +66,5 @@ let_gone held at len gone offset over ended rest h k =
     same_long ended offset (replicate gone 0 ++ take len (drop at held))
     (replicate (gone + len) 0 ++ take 0 (drop (at + len) held)) (drop (at + len) held ++ rest)
     (omega (arith, old, new)) (omega (arith, old, k))
-    ∙ ap (λ n. pieces_from ended offset (replicate (gone + len) 0 ++ take 0 (drop (at + len) held)) (drop n held ++ rest))
+    ∙ ap (λ n. pieces_after_part ended offset (replicate (gone + len) 0 ++ take 0 (drop (at + len) held)) (drop n held ++ rest))
     (sym same)

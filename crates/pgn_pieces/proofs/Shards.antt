@@ -1,12 +1,12 @@
 -- A text that is cut in two where a piece begins has the pieces of the one part and then those of the other.
-use Rattle.std.proofs.Common.{◌≡◌, ◌≤◌, ◌<◌, ℕ, zero, suc, ◌+◌, ltb, Bool, true, false, List, [], ◌∷◌, ◌++◌, length, take, refl, sym, ap, subst, ◌∙◌, append_assoc, length-append, arith}
-use Rattle.std.specs.Prelude.{◌&&◌, ◌||◌, ◌==◌, codes}
-use Rattle.std.specs.List.{list_any}
+use Rattle.std.proofs.Common.{◌≡◌, ◌≤◌, ◌<◌, ℕ, zero, suc, ltb, Bool, true, false, List, [], ◌∷◌, ◌++◌, length, take, refl, sym, ap, ◌∙◌, append_assoc, length-append, arith}
+use Rattle.std.specs.Prelude.{◌||◌, ◌==◌, codes}
+use Rattle.std.specs.List.{list_any, onto_first}
 use Rattle.std.specs.Str.{bytes_eq}
 use Rattle.std.proofs.lemmas.Bool.{and_parts, ltb-true}
 use Rattle.std.proofs.lemmas.Bool.Decides.{nat_tests}
 use Rattle.std.proofs.lemmas.Slice.Eq.{bytes_eq-Decides}
-use Rattle.pgn_pieces.specs.Pieces.{begins_event, ends_piece, with_byte, cut}
+use Rattle.pgn_pieces.specs.Pieces.{ends_piece, cut}
 use Rattle.pgn_pieces.specs.laws.Shards.{ShardsAreCut}
 use Rattle.pgn_pieces.proofs.Cuts.{same_end}
 use Rattle.pgn_pieces.proofs.Whole.{cut_on, cut_here, has_piece}
@@ -48,18 +48,18 @@ still_ends c cs ys = by_test (ltb (length cs) 7) refl
         let many : 7 ≤ length cs = grind (arith, nat_tests, e) in
         same_end c (cs ++ 10 ∷ []) ys (omega (arith, all, many))
 
-with_byte_after : (c : ℕ) (cs : List ℕ) (more : List (List ℕ))
-    → with_byte c (cut (cs ++ 10 ∷ []) ++ more) ≡ with_byte c (cut (cs ++ 10 ∷ [])) ++ more
-with_byte_after c [] more = in_front (has_piece 10 [])
+onto_first_after : (c : ℕ) (cs : List ℕ) (more : List (List ℕ))
+    → onto_first c (cut (cs ++ 10 ∷ []) ++ more) ≡ onto_first c (cut (cs ++ 10 ∷ [])) ++ more
+onto_first_after c [] more = in_front (has_piece 10 [])
   where
     in_front : (piece : List ℕ) × (rest : List (List ℕ)) × (cut (10 ∷ []) ≡ piece ∷ rest)
-        → with_byte c (cut (10 ∷ []) ++ more) ≡ with_byte c (cut (10 ∷ [])) ++ more
-    in_front (piece, rest, is) = ap (λ ps. with_byte c (ps ++ more)) is ∙ sym (ap (λ ps. with_byte c ps ++ more) is)
-with_byte_after c (d ∷ ds) more = in_front (has_piece d (ds ++ 10 ∷ []))
+        → onto_first c (cut (10 ∷ []) ++ more) ≡ onto_first c (cut (10 ∷ [])) ++ more
+    in_front (piece, rest, is) = ap (λ ps. onto_first c (ps ++ more)) is ∙ sym (ap (λ ps. onto_first c ps ++ more) is)
+onto_first_after c (d ∷ ds) more = in_front (has_piece d (ds ++ 10 ∷ []))
   where
     in_front : (piece : List ℕ) × (rest : List (List ℕ)) × (cut (d ∷ (ds ++ 10 ∷ [])) ≡ piece ∷ rest)
-        → with_byte c (cut (d ∷ (ds ++ 10 ∷ [])) ++ more) ≡ with_byte c (cut (d ∷ (ds ++ 10 ∷ []))) ++ more
-    in_front (piece, rest, is) = ap (λ ps. with_byte c (ps ++ more)) is ∙ sym (ap (λ ps. with_byte c ps ++ more) is)
+        → onto_first c (cut (d ∷ (ds ++ 10 ∷ [])) ++ more) ≡ onto_first c (cut (d ∷ (ds ++ 10 ∷ []))) ++ more
+    in_front (piece, rest, is) = ap (λ ps. onto_first c (ps ++ more)) is ∙ sym (ap (λ ps. onto_first c ps ++ more) is)
 
 pub shards_are_cut : ShardsAreCut
 shards_are_cut [] ys h = cut_here 10 ys h
@@ -72,5 +72,5 @@ shards_are_cut (c ∷ cs) ys h = by_test (ends_piece c (cs ++ 10 ∷ [])) refl (
         cut_here c ((cs ++ 10 ∷ []) ++ ys) (still_ends c cs ys ∙ e) ∙ ap (λ ps. (c ∷ []) ∷ ps) on
         ∙ sym (ap (λ ps. ps ++ cut ys) (cut_here c (cs ++ 10 ∷ []) e))
     by_test false e on =
-        cut_on c ((cs ++ 10 ∷ []) ++ ys) (still_ends c cs ys ∙ e) ∙ ap (with_byte c) on
-        ∙ with_byte_after c cs (cut ys) ∙ sym (ap (λ ps. ps ++ cut ys) (cut_on c (cs ++ 10 ∷ []) e))
+        cut_on c ((cs ++ 10 ∷ []) ++ ys) (still_ends c cs ys ∙ e) ∙ ap (onto_first c) on
+        ∙ onto_first_after c cs (cut ys) ∙ sym (ap (λ ps. ps ++ cut ys) (cut_on c (cs ++ 10 ∷ []) e))

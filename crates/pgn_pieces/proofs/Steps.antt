@@ -10,7 +10,7 @@ use Rattle.byte_devices.specs.Devices.{InputState, GavePiece}
 use Rattle.pgn_pieces.specs.declared.pieces.PieceFault.{PieceFault}
 use Rattle.pgn_pieces.specs.declared.pieces.PieceFault.TheVariants.{ReadFailed, NoMemory, InputTooLong}
 use Rattle.pgn_pieces.specs.Pieces.{piece_at, ends_piece, HasRead, IsCause}
-use Rattle.pgn_pieces.specs.Stream.{State, IsStateOf, Next, MayFollow, past_piece, current, pieces_from, pieces_held}
+use Rattle.pgn_pieces.specs.Stream.{State, IsStateOf, Next, MayFollow, past_piece, current, pieces_after_part, pieces_held}
 use Rattle.pgn_pieces.specs.ties.Held.{Keeps, SamePieces, FindsEnd, Adds, passed, with_more}
 use Rattle.pgn_pieces.proofs.Cuts.{goes_on}
 use Rattle.pgn_pieces.proofs.Inputs.{read_on, broke_off}
@@ -30,28 +30,28 @@ short_end c cs h = by_test (ends_piece c cs) refl
 
 -- no piece ends in so few bytes
 pub short_rest : (ended : Bool) (offset : ℕ) (part xs : List ℕ) → length xs ≤ 7
-    → pieces_from ended offset part xs ≡ pieces_from ended offset (part ++ xs) []
-short_rest ended offset part [] h = ap (λ p. pieces_from ended offset p []) (sym (append-nil part))
+    → pieces_after_part ended offset part xs ≡ pieces_after_part ended offset (part ++ xs) []
+short_rest ended offset part [] h = ap (λ p. pieces_after_part ended offset p []) (sym (append-nil part))
 short_rest ended offset part (c ∷ cs) h =
     goes_on ended offset part c cs (short_end c cs (omega (arith, h)))
     ∙ short_rest ended offset (part ++ c ∷ []) cs (omega (arith, h))
-    ∙ ap (λ p. pieces_from ended offset p []) (append_assoc part (c ∷ []) cs)
+    ∙ ap (λ p. pieces_after_part ended offset p []) (append_assoc part (c ∷ []) cs)
 
 last_piece : (offset : ℕ) (part : List ℕ) → nat_lt 0 (length part) ≡ true
-    → pieces_from true offset part [] ≡ piece_at offset part ∷ []
-unfolding pieces_from
+    → pieces_after_part true offset part [] ≡ piece_at offset part ∷ []
+unfolding pieces_after_part
 last_piece offset part h = ap (λ b. if b then piece_at offset part ∷ [] else []) h
 
-no_piece : (offset : ℕ) (part : List ℕ) → nat_lt 0 (length part) ≡ false → pieces_from true offset part [] ≡ []
-unfolding pieces_from
+no_piece : (offset : ℕ) (part : List ℕ) → nat_lt 0 (length part) ≡ false → pieces_after_part true offset part [] ≡ []
+unfolding pieces_after_part
 no_piece offset part h = ap (λ b. if b then piece_at offset part ∷ [] else []) h
 
-not_whole : (offset : ℕ) (part : List ℕ) → pieces_from false offset part [] ≡ []
-unfolding pieces_from
+not_whole : (offset : ℕ) (part : List ℕ) → pieces_after_part false offset part [] ≡ []
+unfolding pieces_after_part
 not_whole offset part = refl
 
-nothing : (ended : Bool) (offset : ℕ) → pieces_from ended offset [] [] ≡ []
-unfolding pieces_from
+nothing : (ended : Bool) (offset : ℕ) → pieces_after_part ended offset [] [] ≡ []
+unfolding pieces_after_part
 nothing true offset = refl
 nothing false offset = refl
 
@@ -107,7 +107,7 @@ looked_on s s1 s2 s3 r1 r2 r3 gave looked going (kept, same, few) same' kept' re
       λ ended rest.
           ap (λ xs. pieces_held ended (past_piece s) xs) (append_assoc m gave rest)
           ∙ found.3 ended (gave ++ rest) ∙ same ended (gave ++ rest) ∙ same' ended (gave ++ rest)
-          ∙ ap (pieces_from ended s3.offset s3.part) (sym (append_assoc s3.coming gave rest)),
+          ∙ ap (pieces_after_part ended s3.offset s3.part) (sym (append_assoc s3.coming gave rest)),
     )
 
 -- ---- what the call comes to
@@ -134,9 +134,9 @@ next_found s s1 s2 r1 r2 looked (kept, next, some) r text stands =
     )
 
 held_last : (s1 s2 : State) (ended : Bool) → SamePieces s1 s2 → length s2.coming ≤ 7
-    → pieces_held ended s1 [] ≡ pieces_from ended s2.offset (s2.part ++ s2.coming) []
+    → pieces_held ended s1 [] ≡ pieces_after_part ended s2.offset (s2.part ++ s2.coming) []
 held_last s1 s2 ended same few = same ended []
-    ∙ ap (pieces_from ended s2.offset s2.part) (append-nil s2.coming)
+    ∙ ap (pieces_after_part ended s2.offset s2.part) (append-nil s2.coming)
     ∙ short_rest ended s2.offset s2.part s2.coming few
 
 pub next_last : (s s1 s2 s3 : State) (r1 r2 : InputState) (b : Bool) → Looked s s1 r1 r2 → FindsEnd s1 s2 false
@@ -151,11 +151,11 @@ next_last s s1 s2 s3 r1 r2 true looked (kept, same, few) over kept' is e r text 
     let ended' : s3.ended ≡ true = kept'.ended ∙ over in
     let all : pieces_held true (past_piece s) (m ++ []) ≡ current s3 ∷ pieces_held true (past_piece s3) [] =
     found.3 true [] ∙ held_last s1 s2 true same few
-    ∙ ap (λ xs. pieces_from true s2.offset xs []) (sym part)
-    ∙ ap (λ n. pieces_from true n s3.part []) (sym kept'.offset)
+    ∙ ap (λ xs. pieces_after_part true s2.offset xs []) (sym part)
+    ∙ ap (λ n. pieces_after_part true n s3.part []) (sym kept'.offset)
     ∙ last_piece s3.offset s3.part (sym e)
     ∙ ap (λ xs. piece_at s3.offset s3.part ∷ xs) (sym
-    (ap (λ xs. pieces_from true (s3.offset + length s3.part) [] (xs ++ []))
+    (ap (λ xs. pieces_after_part true (s3.offset + length s3.part) [] (xs ++ []))
     coming ∙ nothing true (s3.offset + length s3.part))) in (
       m,
       stands_on s2 s3 r r2 (text ++ m) (stands_on s1 s2 r r2 (text ++ m) found.1 kept) kept',
@@ -177,7 +177,7 @@ next_last s s1 s2 s3 r1 r2 false looked (kept, same, few) over kept' is e r text
       λ h. (found.2 h).1,
       ap (λ xs. pieces_held true (past_piece s) xs) (sym (append-nil m))
           ∙ found.3 true [] ∙ held_last s1 s2 true same few
-          ∙ ap (λ xs. pieces_from true s2.offset xs []) (sym part)
+          ∙ ap (λ xs. pieces_after_part true s2.offset xs []) (sym part)
           ∙ no_piece s2.offset s3.part (sym e),
     )
 

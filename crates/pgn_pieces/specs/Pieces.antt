@@ -1,6 +1,7 @@
 -- A collection of games is cut into pieces: each is read as a text of its own.
-use Rattle.std.specs.Prelude.{◌≡◌, ◌≤◌, ◌^◌, ℕ, ◌+◌, Bool, true, false, ◌&&◌, ◌==◌, nat_le, if◌then◌else◌, List, [], ◌∷◌, length, take, codes, Option, Some, None}
+use Rattle.std.specs.Prelude.{◌≡◌, ◌≤◌, ◌^◌, ℕ, ◌+◌, ◌-◌, Bool, true, false, ◌&&◌, ◌==◌, nat_le, if◌then◌else◌, List, [], ◌∷◌, length, take, codes, Option, Some, None}
 use Rattle.std.specs.Io.KnownBytes.{Consumes, IsAtEnd}
+use Rattle.std.specs.List.{onto_first}
 use Rattle.std.specs.Str.{bytes_eq}
 use Rattle.byte_devices.specs.Devices.{InputState, risen}
 use Rattle.pgn_pieces.specs.declared.pieces.PieceFault.{PieceFault}
@@ -17,21 +18,10 @@ begins_event text = bytes_eq (take 7 text) (codes "[Event ")
 abbrev pub ends_piece : ℕ → List ℕ → Bool
 ends_piece c rest = (c == 10) && begins_event rest
 
--- this byte is put before those of the first piece
-abbrev pub with_byte : ℕ → List (List ℕ) → List (List ℕ)
-with_byte c [] = (c ∷ []) ∷ []
-with_byte c (piece ∷ rest) = (c ∷ piece) ∷ rest
-
--- the pieces of a text, from its first byte on
+-- the pieces of a text, from its first byte on: a byte that ends no piece is the first of the piece that goes on
 abbrev pub cut : List ℕ → List (List ℕ)
 cut [] = []
-cut (c ∷ cs) = if ends_piece c cs then (c ∷ []) ∷ cut cs else with_byte c (cut cs)
-
--- all pieces but the last
-abbrev pub without_last : List (List ℕ) → List (List ℕ)
-without_last [] = []
-without_last (piece ∷ []) = []
-without_last (piece ∷ next ∷ rest) = piece ∷ without_last (next ∷ rest)
+cut (c ∷ cs) = if ends_piece c cs then (c ∷ []) ∷ cut cs else onto_first c (cut cs)
 
 -- a piece: the offset at which it begins in the text, and its bytes, unless it has more than 16,777,216
 pub record Piece : Type 0 where
@@ -44,13 +34,13 @@ piece_at offset bytes =
     record { offset = offset; bytes = if nat_le (length bytes) PIECE_LEN then Some bytes else None }
 
 -- the pieces of these bytes, one after another, of which the first begins there
-abbrev pub placed : ℕ → List (List ℕ) → List Piece
-placed offset [] = []
-placed offset (bytes ∷ rest) = piece_at offset bytes ∷ placed (offset + length bytes) rest
+abbrev pub with_offsets : ℕ → List (List ℕ) → List Piece
+with_offsets offset [] = []
+with_offsets offset (bytes ∷ rest) = piece_at offset bytes ∷ with_offsets (offset + length bytes) rest
 
--- the pieces of a text of which this was read: how the last one goes on is known only once the text has ended
+-- the pieces of a text of which this was read: until the text has ended, all but the last, which may go on
 unfoldable pub pieces : Bool → List ℕ → List Piece
-pieces ended text = placed 0 (if ended then cut text else without_last (cut text))
+pieces ended text = let all = cut text in with_offsets 0 (if ended then all else take (length all - 1) all)
 
 -- ---- what was read of an input
 

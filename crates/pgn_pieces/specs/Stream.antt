@@ -24,16 +24,17 @@ past_piece s = record { offset = s.offset + length s.part; part = []; coming = s
 abbrev pub current : State → Piece
 current s = piece_at s.offset s.part
 
--- the pieces of a text of which these bytes are left: the first one begins at that offset, and this part of it is read
-unfoldable pub pieces_from : Bool → ℕ → List ℕ → List ℕ → List Piece
-pieces_from ended offset part [] = if ended && nat_lt 0 (length part) then piece_at offset part ∷ [] else []
-pieces_from ended offset part (c ∷ cs) =
-    if ends_piece c cs then piece_at offset (part ++ c ∷ []) ∷ pieces_from ended (offset + (length part + 1)) [] cs
-    else pieces_from ended offset (part ++ c ∷ []) cs
+-- the pieces that are still to come of a text: the first of them begins at that offset, `part` is what was read of it,
+-- and the last argument is the text after that part
+unfoldable pub pieces_after_part : Bool → ℕ → List ℕ → List ℕ → List Piece
+pieces_after_part ended offset part [] = if ended && nat_lt 0 (length part) then piece_at offset part ∷ [] else []
+pieces_after_part ended offset part (c ∷ cs) =
+    if ends_piece c cs then piece_at offset (part ++ c ∷ []) ∷ pieces_after_part ended (offset + (length part + 1)) [] cs
+    else pieces_after_part ended offset (part ++ c ∷ []) cs
 
--- the pieces of what is held and of these bytes after it
+-- the pieces that are still to come where a state is held, and these bytes follow what is held
 abbrev pub pieces_held : Bool → State → List ℕ → List Piece
-pieces_held ended s rest = pieces_from ended s.offset s.part (s.coming ++ rest)
+pieces_held ended s rest = pieces_after_part ended s.offset s.part (s.coming ++ rest)
 
 -- once a text has ended nothing may follow it
 abbrev pub MayFollow : Bool → Bool → List ℕ → Type 0

@@ -49,7 +49,7 @@ fn is_plain(text: &[u8], offset: usize) -> bool
     !has_line_end(&text[offset..offset + 16])
 }
 
-// Goes on from an offset over bytes without byte 10, by 16 at a time: no piece ends there.
+// The offset after the bytes without byte 10 from an offset on, as far as 16 of them at a time go: no piece ends there.
 #[inline(always)]
 fn behind_plain(text: &[u8], at: usize) -> usize
     requires { at + 7 ≤ length text.now }
@@ -64,8 +64,8 @@ fn behind_plain(text: &[u8], at: usize) -> usize
     offset
 }
 
-// Goes on from an offset at which no piece ends. A piece ends at the end of a line, so after one it goes fast to the
-// next.
+// The offset from which to look on for a piece's end, where none is at this one. Right after the end of a line, 16 bytes
+// at a time are passed as long as no line ends in them: a piece ends where a line does.
 #[inline(always)]
 fn further(text: &[u8], at: usize) -> usize
     requires some { 0 < at }
@@ -80,7 +80,8 @@ fn further(text: &[u8], at: usize) -> usize
     behind_plain(text, at)
 }
 
-// How many bytes of a text belong to its first piece, if that ends there: after the last seven it can't be seen.
+// How many bytes the first piece of a text has, if its end can be seen there: it is seen by the seven bytes `[Event `
+// after it, so not in the text's last seven bytes.
 pub(crate) fn first_end(text: &[u8]) -> Option<usize>
     ensures { EndsAfter text.now result }
 {

@@ -7,15 +7,15 @@ use Rattle.byte_devices.proofs.DeviceLaws.{breaks_longer}
 use Rattle.pgn_pieces.specs.Pieces.{Piece, pieces, IsCause}
 use Rattle.pgn_pieces.specs.declared.pieces.PieceFault.{PieceFault}
 use Rattle.pgn_pieces.specs.declared.pieces.PieceFault.TheVariants as piece
-use Rattle.pgn_pieces.specs.Stream.{State, IsStateOf, Next, MayFollow, past_piece, current, unread, pieces_from, pieces_held}
+use Rattle.pgn_pieces.specs.Stream.{State, IsStateOf, Next, MayFollow, past_piece, current, unread, pieces_after_part, pieces_held}
 use Rattle.pgn_pieces.specs.laws.HandedOut.{PiecesAreCut}
 use Rattle.pgn_pieces.proofs.Inputs.{nothing_read}
 use Rattle.pgn_verifier.specs.declared.options.VerifyOptions.{VerifyOptions}
 use Rattle.pgn_verifier.specs.declared.tally.Tally.{Tally}
 use Rattle.pgn_verifier.specs.declared.fault.VerifyFault.TheVariants.{WriteFailed}
-use Rattle.pgn_verifier.specs.Reports.{reports_in, reports_of, lines_of, counts_line, counted, counts_of}
+use Rattle.pgn_verifier.specs.Reports.{reports_in, lines_of, counts_line, counts_of}
 use Rattle.pgn_verifier.specs.Collection.{collection_reports, collection_lines, VerifiesCollection}
-use Rattle.pgn_verifier.specs.ties.OnTheWay.{WritesCollection, next_number, GrowsBy}
+use Rattle.pgn_verifier.specs.ties.OnTheWay.{WritesCollection, next_number, GrowsBy, reports_of, counted}
 use Rattle.pgn_verifier.specs.ties.Faults.{piece_fault}
 use Rattle.pgn_verifier.proofs.LinesWritten.{took_after, broke_after, lines_after, wrote_none, counted_after}
 
@@ -30,7 +30,7 @@ pub record SoFar (options : VerifyOptions) (r r' : InputState) (w w' : OutputSta
   pub done : List Piece
   pub stands : IsStateOf s r r' text
   pub due : (ended : Bool) (rest : List ℕ) → MayFollow s.ended ended rest
-      → pieces_from ended 0 [] (text ++ rest) ≡ done ++ pieces_held ended (past_piece s) rest
+      → pieces_after_part ended 0 [] (text ++ rest) ≡ done ++ pieces_held ended (past_piece s) rest
   pub took : Took w w' (lines_of options.quiet 1 (reports_of options.strict done))
   pub is : tally ≡ counted none (reports_of options.strict done)
   pub few : tally.games + tally.faults ≤ 2 * (s.offset + length s.part)
@@ -63,10 +63,10 @@ module _ (options : VerifyOptions) (r r' r'' : InputState) (w w' : OutputState) 
     (so : SoFar options r r' w w' s tally) where
   -- the pieces that are known when the next has come
   come : (next : Next s s' r r'' so.text (Ok true)) → (ended : Bool) (rest : List ℕ) → MayFollow s'.ended ended rest
-      → pieces_from ended 0 [] ((so.text ++ next.0) ++ rest)
+      → pieces_after_part ended 0 [] ((so.text ++ next.0) ++ rest)
       ≡ (so.done ++ current s' ∷ []) ++ pieces_held ended (past_piece s') rest
   come next ended rest follows =
-      ap (pieces_from ended 0 []) (append_assoc so.text next.0 rest)
+      ap (pieces_after_part ended 0 []) (append_assoc so.text next.0 rest)
       ∙ so.due ended (next.0 ++ rest) (follows_on s.ended s'.ended ended next.0 rest next.2 follows)
       ∙ ap (λ ps. so.done ++ ps) (next.3 ended rest follows)
       ∙ sym (append_assoc so.done (current s' ∷ []) (pieces_held ended (past_piece s') rest))
@@ -80,7 +80,7 @@ module _ (options : VerifyOptions) (r r' r'' : InputState) (w w' : OutputState) 
       → pieces s'.ended (so.text ++ next.0) ≡ (so.done ++ current s' ∷ []) ++ pieces_held s'.ended (past_piece s') []
   all_known law next =
       law s'.ended (so.text ++ next.0)
-      ∙ ap (pieces_from s'.ended 0 []) (sym (append-nil (so.text ++ next.0)))
+      ∙ ap (pieces_after_part s'.ended 0 []) (sym (append-nil (so.text ++ next.0)))
       ∙ come next s'.ended [] (known s'.ended)
 
   reports_more : reports_of options.strict (so.done ++ current s' ∷ [])

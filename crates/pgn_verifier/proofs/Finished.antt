@@ -7,10 +7,10 @@ use Rattle.pgn_verifier.specs.declared.options.VerifyOptions.{VerifyOptions}
 use Rattle.pgn_verifier.specs.declared.tally.Tally.{Tally}
 use Rattle.pgn_verifier.specs.declared.tally.Verified.{Verified}
 use Rattle.pgn_verifier.specs.declared.fault.VerifyFault.TheVariants.{WriteFailed}
-use Rattle.pgn_verifier.specs.Reports.{reports_on, lines_of, counts_line, counted, counts_of, verified}
+use Rattle.pgn_verifier.specs.Reports.{reports_on, lines_of, counts_line, counts_of, verified}
 use Rattle.pgn_verifier.specs.Verify.{text_lines}
 use Rattle.pgn_verifier.specs.Collection.{collection_reports, collection_lines, VerifiesCollection}
-use Rattle.pgn_verifier.specs.ties.OnTheWay.{WritesCollection, next_number}
+use Rattle.pgn_verifier.specs.ties.OnTheWay.{WritesCollection, next_number, counted}
 
 abbrev pub none : Tally
 none = record { games = 0; half_moves = 0; faults = 0 }

@@ -5,8 +5,8 @@ use Rattle.byte_devices.proofs.DeviceLaws.{took_none, took_more, breaks_more, br
 use Rattle.pgn_verifier.specs.declared.report.Report.{Report}
 use Rattle.pgn_verifier.specs.declared.report.Report.TheVariants.{Game, Faulty}
 use Rattle.pgn_verifier.specs.declared.tally.Tally.{Tally}
-use Rattle.pgn_verifier.specs.Reports.{written_line, lines_of, with_report, counted}
-use Rattle.pgn_verifier.specs.ties.OnTheWay.{next_number, Writes}
+use Rattle.pgn_verifier.specs.Reports.{written_line, lines_of, with_report}
+use Rattle.pgn_verifier.specs.ties.OnTheWay.{next_number, Writes, counted}
 
 -- ---- reports and those after them
 

@@ -8,8 +8,8 @@ use Rattle.pgn_verifier.specs.declared.options.VerifyOptions.{VerifyOptions}
 use Rattle.pgn_verifier.specs.declared.report.Report.{Report}
 use Rattle.pgn_verifier.specs.declared.report.Report.TheVariants.{Game, Faulty}
 use Rattle.pgn_verifier.specs.declared.tally.Tally.{Tally}
-use Rattle.pgn_verifier.specs.Reports.{report_then, reports_from, reports_on, moved, written_line, lines_of, with_report, counted}
-use Rattle.pgn_verifier.specs.ties.OnTheWay.{next_number, Writes, GrowsBy}
+use Rattle.pgn_verifier.specs.Reports.{report_then, reports_from, reports_on, written_line, lines_of, with_report}
+use Rattle.pgn_verifier.specs.ties.OnTheWay.{next_number, Writes, GrowsBy, moved, counted}
 use Rattle.pgn_verifier.proofs.LinesWritten.{wrote_none, took_after, broke_after, writes_after, one_line, first_broke, counted_after}
 
 -- ---- the reports that are left

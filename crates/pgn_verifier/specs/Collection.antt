@@ -1,6 +1,7 @@
 -- What verifying a collection writes: however the input is cut into reads and however long it is, the lines are those
 -- of its pieces.
 use Rattle.std.specs.Prelude.{◌≡◌, ◌≤◌, ◌^◌, ℕ, ◌+◌, Bool, true, false, if◌then◌else◌, List, [], ◌++◌, length, Result, Ok, Err}
+use Rattle.std.specs.List.{flat_map}
 use Rattle.byte_devices.specs.Devices.{InputState, OutputState, Took, Sent, BreaksOff}
 use Rattle.pgn_pieces.specs.Pieces.{pieces, HasRead, BrokeOff}
 use Rattle.pgn_verifier.specs.declared.fault.VerifyFault.{VerifyFault}
@@ -8,11 +9,11 @@ use Rattle.pgn_verifier.specs.declared.fault.VerifyFault.TheVariants.{ReadFailed
 use Rattle.pgn_verifier.specs.declared.options.VerifyOptions.{VerifyOptions}
 use Rattle.pgn_verifier.specs.declared.report.Report.{Report}
 use Rattle.pgn_verifier.specs.declared.tally.Verified.{Verified}
-use Rattle.pgn_verifier.specs.Reports.{reports_of, lines_of, counts_line, counts_of, verified}
+use Rattle.pgn_verifier.specs.Reports.{reports_in, lines_of, counts_line, counts_of, verified}
 
--- the reports on a collection of which this was read: its last piece counts once its end was read
+-- the reports on the pieces of a collection of which this was read: its last piece counts once its end was read
 abbrev pub collection_reports : Bool → Bool → List ℕ → List Report
-collection_reports strict ended text = reports_of strict (pieces ended text)
+collection_reports strict ended text = flat_map (reports_in strict) (pieces ended text)
 
 -- their lines
 abbrev pub collection_lines : VerifyOptions → Bool → List ℕ → List ℕ

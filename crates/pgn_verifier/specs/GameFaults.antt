@@ -1,13 +1,12 @@
 -- The faults of a game, and when its result contradicts its text or the board.
-use Rattle.std.specs.Prelude.{ℕ, ◌+◌, ◌-◌, Bool, true, false, if◌then◌else◌, List, length, codes, Option, Some, None, Result, Ok, Err}
-use Rattle.chess_game.specs.Ends.{verdict_outcome}
+use Rattle.std.specs.Prelude.{ℕ, ◌-◌, Bool, if◌then◌else◌, List, length, codes, Option, Some, None, Result, Ok, Err}
+use Rattle.std.specs.Option.{option_eq, option_map_or, option_or}
 use Rattle.chess_game.specs.Game.{is_other, verdict_now}
 use Rattle.chess_game.specs.Results.{outcome_text, same_outcome}
 use Rattle.chess_game.specs.declared.ends.Verdict.{Verdict}
 use Rattle.chess_game.specs.declared.game.TheConstants.{MOST_MOVES}
-use Rattle.chess_game.specs.declared.results.Outcome.{Outcome}
 use Rattle.chess_pgn.specs.GameRead.{GameRead, pgn_read}
-use Rattle.chess_pgn.specs.ResultTags.{result_tag_of}
+use Rattle.chess_pgn.specs.LastTags.{result_tag_of}
 use Rattle.chess_pgn.specs.declared.read.PgnEnd.{PgnEnd}
 use Rattle.chess_pgn.specs.declared.read.PgnFault.{PgnFault}
 use Rattle.chess_pgn.specs.declared.read.PgnFaultKind.{PgnFaultKind}
@@ -19,15 +18,11 @@ use Rattle.pgn_verifier.specs.declared.game_fault.GameFault.{GameFault}
 
 -- ---- contradictions
 
--- the tag's text is that of this outcome: each outcome has one text
-abbrev pub is_text_of : Outcome → Option Outcome → Bool
-is_text_of outcome None = false
-is_text_of outcome (Some denoted) = same_outcome denoted outcome
-
--- the tag Result has another text than the termination; the offset is the first byte of its string
+-- the tag Result has another text than the termination: each outcome has one text. The offset is the first byte of the
+-- tag's string
 abbrev pub result_differs : Option ResultTag → PgnEnd → Option GameFault
 result_differs None end = None
-result_differs (Some tag) end = if is_text_of end.outcome tag.outcome then None
+result_differs (Some tag) end = if option_eq same_outcome tag.outcome (Some end.outcome) then None
     else Some (record { kind = ResultDiffers; offset = tag.offset })
 
 -- the board has a verdict with another outcome than the termination; the offset is the termination's first byte
@@ -35,33 +30,20 @@ abbrev pub board_says_otherwise : Option Verdict → PgnEnd → Option GameFault
 board_says_otherwise verdict end = if is_other verdict end.outcome
     then Some (record { kind = BoardSaysOtherwise; offset = end.offset - length (outcome_text end.outcome) }) else None
 
--- the first of two faults, if there is one
-abbrev pub first_fault : Option GameFault → Option GameFault → Option GameFault
-first_fault (Some fault) second = Some fault
-first_fault None second = second
-
--- the contradiction of a game that was read to its termination; without `strict` none is looked for
+-- the contradiction of a game that was read to its termination, that of the tag first; without `strict` none is looked
+-- for
 abbrev pub contradiction : Bool → Option ResultTag → Option Verdict → PgnEnd → Option GameFault
 contradiction strict tag verdict end =
-    if strict then first_fault (result_differs tag end) (board_says_otherwise verdict end) else None
+    if strict then option_or (result_differs tag end) (board_says_otherwise verdict end) else None
 
 -- ---- a game
 
--- a fault of a game's text
-abbrev pub pgn_fault : PgnFault → GameFault
-pgn_fault fault = record { kind = Pgn fault.kind; offset = fault.offset }
-
--- the fault, if there is one, else the game's end
-abbrev pub unless_fault : Option GameFault → PgnEnd → Result (Option PgnEnd) GameFault
-unless_fault None end = Ok (Some end)
-unless_fault (Some fault) end = Err fault
-
--- how a game with that tag Result and that verdict is judged, by how its text was read
+-- how a game with that tag Result and that verdict is judged, by how its text was read: a contradiction is a fault too
 abbrev pub judged : Bool → Option ResultTag → Option Verdict → Result (Option PgnEnd) PgnFault
     → Result (Option PgnEnd) GameFault
 judged strict tag verdict (Ok None) = Ok None
-judged strict tag verdict (Ok (Some end)) = unless_fault (contradiction strict tag verdict end) end
-judged strict tag verdict (Err fault) = Err (pgn_fault fault)
+judged strict tag verdict (Ok (Some end)) = option_map_or Err (contradiction strict tag verdict end) (Ok (Some end))
+judged strict tag verdict (Err fault) = Err (record { kind = Pgn fault.kind; offset = fault.offset })
 
 -- a game of a text from an offset on, of at most 20,000 half-moves
 abbrev pub read_at : List ℕ → ℕ → GameRead

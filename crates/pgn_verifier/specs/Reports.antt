@@ -1,6 +1,7 @@
 -- The reports on the games of a text and of pieces, their lines and their counts.
 use Rattle.std.specs.Prelude.{ℕ, zero, suc, ◌+◌, ◌==◌, Bool, true, not, if◌then◌else◌, List, [], ◌∷◌, ◌++◌, length, codes, decimal, Option, Some, None, Result, Ok, Err}
-use Rattle.std.specs.List.{flat_map}
+use Rattle.std.specs.List.{fold}
+use Rattle.std.specs.Option.{option_map_or}
 use Rattle.chess_base.specs.Letters.{new_line}
 use Rattle.chess_game.specs.Results.{outcome_text}
 use Rattle.chess_pgn.specs.declared.read.PgnEnd.{PgnEnd}
@@ -19,15 +20,12 @@ use Rattle.pgn_verifier.specs.declared.tally.Verified.TheVariants.{EachGame, Fau
 
 -- ---- the reports on the games of a text
 
--- the fault, its offset counted from the input's first byte, where its text begins at `start`
-abbrev pub moved : ℕ → GameFault → GameFault
-moved start fault = record { kind = fault.kind; offset = start + fault.offset }
-
--- the report on a game with so many half-moves, and then those on the games after its end; a fault is the last
+-- the report on a game with so many half-moves, and then those on the games after its end; a fault is the last, and its
+-- offset is counted from the input's first byte, where the text begins at `start`
 abbrev pub report_then : ℕ → Result (Option PgnEnd) GameFault → ℕ → (ℕ → List Report) → List Report
 report_then start (Ok None) plies later = []
 report_then start (Ok (Some end)) plies later = Game plies end.outcome end.termination ∷ later end.offset
-report_then start (Err fault) plies later = Faulty (moved start fault) ∷ []
+report_then start (Err fault) plies later = Faulty (record fault { offset = start + fault.offset }) ∷ []
 
 -- the reports on the games of a text from an offset on, of which there are no more than n
 unfoldable pub reports_from : Bool → ℕ → ℕ → List ℕ → ℕ → List Report
@@ -42,25 +40,16 @@ reports_on strict start text = reports_from strict start (length text + 1) text 
 
 -- ---- the reports on the games of pieces
 
--- the reports on a piece that begins there: without its bytes it is too long
-abbrev pub reports_by : Bool → ℕ → Option (List ℕ) → List Report
-reports_by strict start (Some text) = reports_on strict start text
-reports_by strict start None = Faulty (record { kind = Pgn TooLong; offset = start }) ∷ []
-
--- the reports on a piece
+-- the reports on a piece, which is read as a text of its own; without its bytes it is too long
 abbrev pub reports_in : Bool → Piece → List Report
-reports_in strict piece = reports_by strict piece.offset piece.bytes
-
--- the reports on pieces: each is read as a text of its own
-abbrev pub reports_of : Bool → List Piece → List Report
-reports_of strict pieces = flat_map (reports_in strict) pieces
+reports_in strict piece = option_map_or (reports_on strict piece.offset) piece.bytes
+    (Faulty (record { kind = Pgn TooLong; offset = piece.offset }) ∷ [])
 
 -- ---- their lines
 
 -- how the game ended, if its text says so
 abbrev pub termination_part : Option Termination → List ℕ
-termination_part None = []
-termination_part (Some t) = codes ", " ++ termination_text t
+termination_part termination = option_map_or (λ t. codes ", " ++ termination_text t) termination []
 
 -- the text of a report
 abbrev pub report_text : Report → List ℕ
@@ -94,14 +83,9 @@ with_report t (Game plies outcome termination) =
     record t { games = t.games + 1; half_moves = t.half_moves + plies }
 with_report t (Faulty fault) = record t { faults = t.faults + 1 }
 
--- the counts with these reports
-abbrev pub counted : Tally → List Report → Tally
-counted t [] = t
-counted t (report ∷ rest) = counted (with_report t report) rest
-
 -- the counts of these reports
 abbrev pub counts_of : List Report → Tally
-counts_of reports = counted (record { games = 0; half_moves = 0; faults = 0 }) reports
+counts_of reports = fold with_report (record { games = 0; half_moves = 0; faults = 0 }) reports
 
 -- whether a fault was counted
 abbrev pub verified : Tally → Verified
@@ -110,7 +94,5 @@ verified t = if t.faults == 0 then EachGame else FaultTold
 -- the line of the counts
 unfoldable pub counts_line : Tally → List ℕ
 counts_line t =
-    codes "games "
-    ++ (decimal t.games
-    ++ (codes " half-moves "
-    ++ (decimal t.half_moves ++ (codes " faults " ++ (decimal t.faults ++ new_line ∷ [])))))
+    codes "games " ++ (decimal t.games ++ (codes " half-moves " ++ (decimal t.half_moves
+    ++ (codes " faults " ++ (decimal t.faults ++ new_line ∷ [])))))

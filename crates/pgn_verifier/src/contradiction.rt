@@ -1,10 +1,11 @@
 //! Whether a game's result contradicts its text or the board.
 
-ghost use Rattle.std.specs.Prelude.{◌≡◌, ◌≤◌, length};
-ghost use Rattle.std.specs.Option.{IfSome};
+ghost use Rattle.std.specs.Prelude.{◌≡◌, ◌≤◌, length, Some};
+ghost use Rattle.std.specs.Option.{IfSome, option_eq, option_or};
 ghost use Rattle.chess_game.specs.Game.{is_other, verdict_now};
-ghost use Rattle.chess_pgn.specs.ResultTags.{result_tag_of};
-ghost use Rattle.pgn_verifier.specs.GameFaults.{is_text_of, result_differs, board_says_otherwise, first_fault, contradiction};
+ghost use Rattle.chess_pgn.specs.LastTags.{result_tag_of};
+ghost use Rattle.chess_game.specs.Results.{same_outcome};
+ghost use Rattle.pgn_verifier.specs.GameFaults.{result_differs, board_says_otherwise, contradiction};
 
 use crate::game_fault::{FaultKind, GameFault};
 use chess_game::{Game, Outcome, Verdict};
@@ -13,7 +14,7 @@ use chess_pgn::{PgnEnd, ResultTag, result_tag};
 
 // Whether a tag's text, which denotes this outcome, is that of the termination.
 fn is_text_of(outcome: Outcome, denoted: Option<Outcome>) -> bool
-    ensures { result ≡ is_text_of outcome denoted }
+    ensures { result ≡ option_eq same_outcome denoted (Some outcome) }
 {
     match denoted {
         Some(denoted) => denoted == outcome,
@@ -60,7 +61,7 @@ fn board_says_otherwise(verdict: Option<Verdict>, end: PgnEnd) -> Option<GameFau
 
 // The first of two faults, if there is one.
 fn first_fault(first: Option<GameFault>, second: Option<GameFault>) -> Option<GameFault>
-    ensures { result ≡ first_fault first second }
+    ensures { result ≡ option_or first second }
 {
     match first {
         Some(fault) => Some(fault),

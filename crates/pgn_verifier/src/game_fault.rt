@@ -1,8 +1,9 @@
 //! What is wrong with a game.
 
 ghost use Rattle.std.specs.Prelude.{◌≡◌, ◌≤◌, ◌<◌, ◌+◌, ◌^◌, length};
-ghost use Rattle.pgn_verifier.specs.GameFaults.{pgn_fault, pgn_fault_name, fault_name};
-ghost use Rattle.pgn_verifier.specs.Reports.{moved};
+ghost use Rattle.pgn_verifier.specs.declared.game_fault.FaultKind.TheVariants.{Pgn};
+ghost use Rattle.pgn_verifier.specs.GameFaults.{pgn_fault_name, fault_name};
+ghost use Rattle.pgn_verifier.specs.ties.OnTheWay.{moved};
 
 use chess_pgn::{PgnFault, PgnFaultKind};
 
@@ -29,7 +30,7 @@ pub(crate) struct GameFault {
 impl GameFault {
     // A fault of a game's text.
     pub(crate) fn of_pgn(fault: PgnFault) -> Self
-        ensures { result ≡ pgn_fault fault }
+        ensures { result ≡ record { kind = Pgn fault.kind; offset = fault.offset } }
     {
         GameFault {
             kind: FaultKind::Pgn(fault.kind),

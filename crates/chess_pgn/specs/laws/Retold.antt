@@ -8,7 +8,6 @@ use Rattle.std.specs.Str.{bytes_eq}
 use Rattle.chess_base.specs.declared.fault.FenFault.{FenFault}
 use Rattle.chess_base.specs.declared.man.Move.{Move as Played}
 use Rattle.chess_base.specs.declared.man.Variant.{Variant}
-use Rattle.chess_base.specs.declared.man.Variant.TheVariants.{Normal}
 use Rattle.chess_base.specs.declared.setup.Setup.{Setup}
 use Rattle.chess_base.specs.Initial.{initial_setup_of}
 use Rattle.chess_fen.specs.Reading.{fen_reading_as}
@@ -211,5 +210,5 @@ pub record IsOfTokens (limit total : ℕ) (v : Variant) (tokens : List (ℕ × T
 abbrev pub GamesAreOfTokens : Type 0
 GamesAreOfTokens =
     (limit : ℕ) (text : List ℕ) (at : ℕ) → let tokens =
-    tokens_from text (after_byte_order_mark text at) in IsOfTokens limit (length text) (tagged_variant Normal tokens) tokens
+    tokens_from text (after_byte_order_mark text at) in IsOfTokens limit (length text) (tagged_variant tokens) tokens
     (pgn_read limit text at)

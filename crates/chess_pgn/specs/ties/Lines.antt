@@ -1,7 +1,7 @@
 -- Tags and tokens that are put into lines.
 use Rattle.std.specs.Prelude.{List, ℕ, map, [], ◌∷◌, ◌++◌}
 use Rattle.chess_pgn.specs.declared.tags.TagPair.{TagPair}
-use Rattle.chess_pgn.specs.Written.{tag_line, placed, next_column}
+use Rattle.chess_pgn.specs.Written.{tag_line, wrapped_token, next_column}
 
 -- the lines of tags
 abbrev pub tag_lines_of : List TagPair → List (List ℕ)
@@ -12,7 +12,7 @@ tag_lines_of pairs = map (λ p. tag_line p.name.now p.text.now) pairs
 -- what the tokens put into the text
 abbrev pub placed_all : List ℕ → ℕ → List (List ℕ) → List ℕ
 placed_all prefix column [] = []
-placed_all prefix column (t ∷ ts) = placed prefix column t ++ placed_all prefix (next_column column t) ts
+placed_all prefix column (t ∷ ts) = wrapped_token prefix column t ++ placed_all prefix (next_column column t) ts
 
 -- how many bytes the last line has after them
 abbrev pub column_after_all : ℕ → List (List ℕ) → ℕ

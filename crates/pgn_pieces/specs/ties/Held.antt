@@ -5,7 +5,7 @@ use Rattle.byte_devices.specs.Devices.{InputState, GavePiece, FailedToRead}
 use Rattle.pgn_pieces.specs.declared.pieces.PieceFault.{PieceFault}
 use Rattle.pgn_pieces.specs.declared.pieces.PieceFault.TheVariants.{ReadFailed, NoMemory, InputTooLong}
 use Rattle.pgn_pieces.specs.Pieces.{piece_at}
-use Rattle.pgn_pieces.specs.Stream.{State, past_piece, current, pieces_from, pieces_held}
+use Rattle.pgn_pieces.specs.Stream.{State, past_piece, current, pieces_after_part, pieces_held}
 
 -- the first so many of the bytes that are held after the piece come to it
 abbrev pub passed : ℕ → State → State
@@ -28,19 +28,19 @@ has_line_end = list_any (λ c. c == 10)
 -- no piece ends from one offset of a text to another: however the text goes on, the pieces are the same
 abbrev pub Passes : List ℕ → ℕ → ℕ → Type 0
 Passes text a b = (ended : Bool) (offset : ℕ) (part rest : List ℕ)
-    → pieces_from ended offset (part ++ take a text) (drop a text ++ rest)
-    ≡ pieces_from ended offset (part ++ take b text) (drop b text ++ rest)
+    → pieces_after_part ended offset (part ++ take a text) (drop a text ++ rest)
+    ≡ pieces_after_part ended offset (part ++ take b text) (drop b text ++ rest)
 
 -- the first so many bytes of a text belong to its piece, which ends there; or all but the last seven do, and it goes on
 abbrev pub EndsAfter : List ℕ → Option ℕ → Type 0
 EndsAfter text (Some n) = (0 < n) × (n ≤ length text)
     × ((ended : Bool) (offset : ℕ) (part rest : List ℕ)
-    → pieces_from ended offset part (text ++ rest)
+    → pieces_after_part ended offset part (text ++ rest)
     ≡ piece_at offset (part ++ take n text)
-    ∷ pieces_from ended (offset + length (part ++ take n text)) [] (drop n text ++ rest))
+    ∷ pieces_after_part ended (offset + length (part ++ take n text)) [] (drop n text ++ rest))
 EndsAfter text None = (ended : Bool) (offset : ℕ) (part rest : List ℕ)
-    → pieces_from ended offset part (text ++ rest)
-    ≡ pieces_from ended offset (part ++ take (length text - 7) text) (drop (length text - 7) text ++ rest)
+    → pieces_after_part ended offset part (text ++ rest)
+    ≡ pieces_after_part ended offset (part ++ take (length text - 7) text) (drop (length text - 7) text ++ rest)
 
 -- the piece begins where it began, and as many bytes are held
 pub record Keeps (s s' : State) : Type 0 where

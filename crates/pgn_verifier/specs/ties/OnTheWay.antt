@@ -1,14 +1,16 @@
 -- What becomes of verifying on the way: of a text that is read as a whole, and of pieces before their counts are written.
 use Rattle.std.specs.Prelude.{◌≡◌, ◌<◌, ℕ, true, false, List, length, Result, Ok, Err, ◌≤◌, ◌+◌, Bool}
+use Rattle.std.specs.List.{flat_map, fold}
 use Rattle.byte_devices.specs.Devices.{InputState, OutputState, Took, Sent, BreaksOff}
-use Rattle.pgn_pieces.specs.Pieces.{HasRead, BrokeOff}
+use Rattle.pgn_pieces.specs.Pieces.{Piece, HasRead, BrokeOff}
 use Rattle.pgn_pieces.specs.declared.pieces.TheConstants.{PIECE_LEN}
 use Rattle.pgn_verifier.specs.declared.fault.VerifyFault.{VerifyFault}
 use Rattle.pgn_verifier.specs.declared.fault.VerifyFault.TheVariants.{ReadFailed, WriteFailed, NoMemory, InputTooLong}
+use Rattle.pgn_verifier.specs.declared.game_fault.GameFault.{GameFault}
 use Rattle.pgn_verifier.specs.declared.options.VerifyOptions.{VerifyOptions}
 use Rattle.pgn_verifier.specs.declared.tally.Tally.{Tally}
 use Rattle.pgn_verifier.specs.declared.tally.Verified.{Verified}
-use Rattle.pgn_verifier.specs.Reports.{reports_on, counts_of, verified, lines_of, counted}
+use Rattle.pgn_verifier.specs.Reports.{reports_on, reports_in, with_report, counts_of, verified, lines_of}
 use Rattle.pgn_verifier.specs.Verify.{text_lines}
 use Rattle.pgn_verifier.specs.Collection.{collection_reports, collection_lines, VerifiesCollection}
 use Rattle.pgn_verifier.specs.declared.report.Report.{Report}
@@ -33,6 +35,18 @@ WritesCollection options r r' w w' (Ok tally) =
     (text : List ℕ) × HasRead true r r' text × Took w w' (collection_lines options true text)
     × (tally ≡ counts_of (collection_reports options.strict true text))
 WritesCollection options r r' w w' (Err fault) = VerifiesCollection options r r' w w' (Err fault)
+
+-- the fault, its offset counted from the input's first byte, where its text begins at `start`
+abbrev pub moved : ℕ → GameFault → GameFault
+moved start fault = record fault { offset = start + fault.offset }
+
+-- the reports on pieces
+abbrev pub reports_of : Bool → List Piece → List Report
+reports_of strict pieces = flat_map (reports_in strict) pieces
+
+-- the counts with these reports
+abbrev pub counted : Tally → List Report → Tally
+counted t reports = fold with_report t reports
 
 -- the number of the next game
 abbrev pub next_number : Tally → ℕ

@@ -1,10 +1,10 @@
-use Rattle.std.proofs.Common.{◌≡◌, ◌+◌, ◌≤◌, suc, false, length}
-use Rattle.chess_pgn.specs.Tokens.{variation_at, Plain}
+use Rattle.std.proofs.Common.{◌≡◌, ◌+◌, ◌≤◌, suc, false, None, length}
+use Rattle.chess_pgn.specs.Tokens.{variation_at}
 use Rattle.chess_pgn.proofs.variation.after_variation.Given as goal
 
 abbrev pub invariant-loop-rest : goal.invariant-loop-rest
 invariant-loop-rest l = record {
-  left : variation_at Plain l.line_begins (suc l.depth) l.rest ≡ variation_at Plain false 1 l.text;
+  left : variation_at None l.line_begins (suc l.depth) l.rest ≡ variation_at None false 1 l.text;
   few : l.depth + length l.rest ≤ length l.text;
 }
 

@@ -1,5 +1,5 @@
 -- What was read is judged (GamesJudged).
-use Rattle.std.proofs.Common.{◌≡◌, ◌≤◌, length, Ok, Err, Some, None, refl, sym, subst}
+use Rattle.std.proofs.Common.{◌≤◌, length, Ok, Err, Some, None, refl, sym, subst}
 use Rattle.chess_game.specs.Game.{verdict_now}
 use Rattle.pgn_verifier.specs.declared.game_fault.GameFault.{GameFault}
 use Rattle.pgn_verifier.proofs.GamesJudged.{answered, moves_are, none_judged, fault_judged, end_judged, few_moves, fault_within}

@@ -1,14 +1,13 @@
 -- The games up to here were reported (TextVerified.SoFar). A game more keeps that; no game, a fault and a failed write
 -- each end it by one lemma.
-use Rattle.std.proofs.Common.{◌≡◌, ◌≤◌, ◌+◌, ◌∙◌, ◌++◌, ◌∷◌, [], length, Ok, Err, Some, None, sym, subst, arith}
+use Rattle.std.proofs.Common.{◌≤◌, ◌+◌, ◌∙◌, ◌++◌, ◌∷◌, [], Ok, sym, subst, arith}
 use Rattle.byte_devices.specs.Devices.{Took, BreaksOff}
 use Rattle.byte_devices.specs.declared.traits.WriteFault.{WriteFault}
-use Rattle.pgn_verifier.specs.GameFaults.{read_at}
 use Rattle.pgn_verifier.specs.declared.game_fault.GameFault.{GameFault}
 use Rattle.pgn_verifier.specs.declared.report.Report.TheVariants.{Game, Faulty}
 use Rattle.pgn_verifier.specs.declared.tally.Tally.{Tally}
-use Rattle.pgn_verifier.specs.Reports.{moved, written_line, reports_on}
-use Rattle.pgn_verifier.specs.ties.OnTheWay.{Writes}
+use Rattle.pgn_verifier.specs.Reports.{written_line, reports_on}
+use Rattle.pgn_verifier.specs.ties.OnTheWay.{Writes, moved}
 use Rattle.pgn_verifier.proofs.TextVerified.{SoFar, begun, all_written, game_written, game_broke, fault_written, fault_broke}
 use Rattle.pgn_verifier.proofs.games.verify_text.Goals as goal
 

@@ -1,0 +1,5 @@
+//! The pieces that collections are cut into, however they are read.
+#![tactic(auto)]
+
+#[cfg(test)]
+mod tests;

@@ -1,0 +1,117 @@
+ghost use Rattle.std.specs.Prelude.{◌<◌};
+
+use byte_devices::{Counted, Input, PieceReader};
+use pgn_pieces::{PIECE_LEN, PgnPieces, PieceFault};
+use std::process::Abort;
+use std::test::Fail;
+
+// The pieces go on to one that begins at an offset and has these bytes; `None` where it is too long.
+fn gives<R: Input>(
+    rt: &impl Abort,
+    pieces: &mut PgnPieces,
+    input: &mut R,
+    offset: usize,
+    wanted: Option<&[u8]>,
+) {
+    assert_eq!(rt; pieces.next(input), Ok(true), "a piece at {offset}");
+    assert_eq!(rt; pieces.offset(), offset);
+    assert!(rt; pieces.text() == wanted, "the piece at {offset}");
+}
+
+// There are no more pieces, for this reason.
+fn ends<R: Input>(
+    rt: &impl Abort,
+    pieces: &mut PgnPieces,
+    input: &mut R,
+    answer: Result<bool, PieceFault>,
+) {
+    assert_eq!(rt; pieces.next(input), answer);
+}
+
+// A text that is read by at most `cut` bytes at a time has pieces of these lengths.
+fn check_cut(
+    rt: &impl Abort,
+    host: &HostRuntime,
+    text: &'static [u8],
+    cut: usize,
+    lens: &[usize],
+) -> Result<(), Fail>
+    requires { 0 < cut }
+{
+    let mut input = Counted::reading(PieceReader::new(text, cut, 0));
+    let mut pieces = PgnPieces::open(host.alloc())?;
+    let mut rest = text;
+    for len in lens {
+        let offset = text.len().saturating_sub(rest.len());
+        let (piece, others) = rest.split_at_checked(*len).ok_or("a length")?;
+        gives(rt, &mut pieces, &mut input, offset, Some(piece));
+        rest = others;
+    }
+    assert!(rt; rest.is_empty(), "bytes after the last piece");
+    ends(rt, &mut pieces, &mut input, Ok(false));
+    Ok(())
+}
+
+// Texts, and the lengths of their pieces: each ends with byte 10 before `[Event `, or with the text.
+const CUTS: [(&[u8], &[usize]); 8] = [
+    (b"", &[]),
+    (b"1. e4 *", &[7]),
+    (b"[Event \"a\"]\n1. e4 *\n\n[Event \"b\"]\n*", &[21, 13]),
+    (b"\n[Event \"a\"]\n", &[1, 12]),
+    (b"a\n[Event \n[Event ", &[2, 8, 7]),
+    // In the middle of a line no piece begins, nor after another byte than 10.
+    (b"x [Event \"a\"]\r[Event \"b\"]\n", &[26]),
+    // Nor where the line begins in another way.
+    (
+        b"*\n [Event \"a\"]\n[Events \"b\"]\n[event \"c\"]\n[Event",
+        &[46],
+    ),
+    (b"1. e4 {x\r\n[Event \"a\"]\r\n*\r\n", &[10, 16]),
+];
+
+#[test]
+fn pieces_begin_at_events(rt: HostRuntime) -> Result<(), Fail> {
+    for (text, lens) in &CUTS {
+        for cut in 1..50 {
+            check_cut(&rt, &rt, text, cut, lens)?;
+        }
+    }
+    Ok(())
+}
+
+const COLLECTION: &[u8] = b"[Event \"a\"]\n*\n[Event \"b\"]\n*";
+
+// After a read that failed there is no piece whose end was not read.
+#[test]
+fn failed_reads_end_the_pieces(rt: HostRuntime) -> Result<(), Fail> {
+    let mut input = Counted::reading(PieceReader::new(COLLECTION, 21, 2));
+    let mut pieces = PgnPieces::open(rt.alloc())?;
+    gives(&rt, &mut pieces, &mut input, 0, Some(b"[Event \"a\"]\n*\n"));
+    ends(&rt, &mut pieces, &mut input, Err(PieceFault::ReadFailed));
+    let mut short = Counted::reading(PieceReader::new(COLLECTION, 20, 2));
+    let mut none = PgnPieces::open(rt.alloc())?;
+    ends(&rt, &mut none, &mut short, Err(PieceFault::ReadFailed));
+    Ok(())
+}
+
+// A piece of so many bytes before one of 7 bytes.
+fn check_long(rt: &impl Abort, host: &HostRuntime, len: usize, is_short: bool) -> Result<(), Fail> {
+    let mut text = vec![in host.alloc(); b'x'; len.saturating_sub(1)]?;
+    text.push(b'\n')?;
+    text.extend_from_slice(b"[Event ")?;
+    let mut input = Counted::reading(text.as_slice());
+    let mut pieces = PgnPieces::open(host.alloc())?;
+    assert_eq!(rt; pieces.next(&mut input), Ok(true));
+    assert_eq!(rt; pieces.text().is_some(), is_short, "a piece of {len} bytes");
+    gives(rt, &mut pieces, &mut input, len, Some(b"[Event "));
+    ends(rt, &mut pieces, &mut input, Ok(false));
+    Ok(())
+}
+
+// A piece has at most 16,777,216 bytes, or it has no text; the next one comes at its offset.
+#[test]
+fn long_pieces_have_no_text(rt: HostRuntime) -> Result<(), Fail> {
+    assert_eq!(rt; PIECE_LEN, 16_777_216);
+    check_long(&rt, &rt, PIECE_LEN, true)?;
+    check_long(&rt, &rt, 16_777_217, false)
+}

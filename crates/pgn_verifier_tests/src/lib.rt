@@ -1,0 +1,5 @@
+//! What verifying a text or a collection writes, however it is read.
+#![tactic(auto)]
+
+#[cfg(test)]
+mod tests;

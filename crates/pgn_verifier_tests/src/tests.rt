@@ -1,0 +1,122 @@
+ghost use Rattle.std.specs.Prelude.{◌<◌};
+
+use byte_devices::{Counted, PieceReader};
+use pgn_verifier::{Verified, VerifyFault, VerifyOptions, verify, verify_collection};
+use std::process::Abort;
+
+const ALL: VerifyOptions = VerifyOptions {
+    quiet: false,
+    strict: false,
+};
+
+const STRICT: VerifyOptions = VerifyOptions {
+    quiet: true,
+    strict: true,
+};
+
+// A text that is read by at most `cut` bytes at a time, and of which the read numbered `fails_at` fails.
+#[derive(Clone, Copy)]
+struct Given {
+    text: &'static [u8],
+    cut: usize,
+    fails_at: u64,
+    ghost cut_some: { 0 < cut },
+}
+
+// A text or a collection is verified with this answer, and these lines are written.
+fn check(
+    rt: &impl Abort,
+    host: &HostRuntime,
+    is_collection: bool,
+    options: VerifyOptions,
+    given: Given,
+    wanted: Result<Verified, VerifyFault>,
+    lines: &[u8],
+) {
+    let mut input = Counted::reading(PieceReader::new(given.text, given.cut, given.fails_at));
+    let mut output = Counted::writing(Vec::<u8>::new(host.alloc()));
+    let answer = if is_collection {
+        verify_collection(host.alloc(), options, &mut input, &mut output)
+    } else {
+        verify(host.alloc(), options, &mut input, &mut output)
+    };
+    assert_eq!(rt; answer, wanted);
+    assert!(rt; output.writer().as_slice() == lines, "other lines");
+}
+
+// The same of a text without a failed read, however it is cut.
+fn check_cuts(
+    rt: &impl Abort,
+    host: &HostRuntime,
+    is_collection: bool,
+    options: VerifyOptions,
+    text: &'static [u8],
+    wanted: Verified,
+    lines: &[u8],
+) {
+    for cut in 1..6 {
+        let given = Given {
+            text,
+            cut,
+            fails_at: 0,
+        };
+        check(rt, host, is_collection, options, given, Ok(wanted), lines);
+    }
+}
+
+#[test]
+fn texts_have_a_line_for_each_game(rt: HostRuntime) {
+    check_cuts(&rt, &rt, false, ALL, b"", Verified::EachGame, b"");
+    check_cuts(
+        &rt,
+        &rt,
+        false,
+        ALL,
+        b"1. f3 e5 2. g4 Qh4# 0-1\n\n1. e4 e4 *",
+        Verified::FaultTold,
+        b"game 1: 4 half-moves, 0-1\ngame 2: illegal move at byte 31\n",
+    );
+    check_cuts(
+        &rt,
+        &rt,
+        false,
+        STRICT,
+        b"[Result \"1-0\"]\n1. e4 0-1",
+        Verified::FaultTold,
+        b"game 1: result differs at byte 9\n",
+    );
+}
+
+#[test]
+fn collections_go_on_after_a_fault(rt: HostRuntime) {
+    check_cuts(
+        &rt,
+        &rt,
+        true,
+        ALL,
+        b"[Event \"a\"]\n1. e4\n[Event \"b\"]\n1. d4 *",
+        Verified::FaultTold,
+        b"game 1: no result at byte 18\ngame 2: 1 half-moves, *\ngames 1 half-moves 1 faults 1\n",
+    );
+}
+
+#[test]
+fn failed_reads_leave_the_lines_that_are_known(rt: HostRuntime) {
+    let given = Given {
+        text: b"1. e4 *\n[Event \"a\"]\n1. d4 *",
+        cut: 15,
+        fails_at: 2,
+    };
+    let failed = Err(VerifyFault::ReadFailed);
+    check(&rt, &rt, false, ALL, given, failed, b"");
+    let line = b"game 1: 1 half-moves, *\n";
+    check(
+        &rt,
+        &rt,
+        true,
+        ALL,
+        given,
+        Err(VerifyFault::ReadFailed),
+        line,
+    );
+}
