@@ -1,6 +1,6 @@
 -- Items, one after the other.
-use Rattle.std.proofs.Common.{◌≡◌, ℕ, zero, suc, ◌+◌, ◌-◌, ◌≤◌, ◌<◌, Bool, true, false, List, [], ◌∷◌, ◌++◌, length, take, drop, refl, ap, sym, ◌∙◌, Option, None, Some, arith, length-append, length-drop, append_assoc, append-nil}
-use Rattle.std.proofs.lemmas.List.{take-append-drop}
+use Rattle.std.proofs.Common.{◌≡◌, ℕ, zero, suc, ◌+◌, ◌-◌, ◌≤◌, ◌<◌, Bool, true, false, List, [], ◌∷◌, ◌++◌, length, take, drop, get_or, refl, ap, sym, ◌∙◌, Option, None, Some, arith, length-append, length-drop, append_assoc, append-nil}
+use Rattle.std.proofs.lemmas.List.{take-append-drop, take_all}
 use Rattle.std.specs.Prelude.{if◌then◌else◌, ◌==◌, ◌&&◌, nat_lt, codes, option_and_then, take_while}
 use Rattle.std.specs.Option.{option_map_or}
 use Rattle.std.specs.Str.{bytes_eq}
@@ -56,6 +56,26 @@ value_shorter (c ∷ cs) p e = by_tests ((c == 34) && nat_lt (quote_at cs) (leng
         let s : length p.1 ≡ length (drop (prefix_len is_digit (c ∷ cs)) (c ∷ cs)) = cc in
         omega arith
     by_tests false false k e = cc
+
+-- what follows the first byte, as code cuts it
+after_first : List ℕ → List ℕ
+after_first text = take (length text - 1) (drop 1 text)
+
+after_first-is : (c : ℕ) (cs : List ℕ) → after_first (c ∷ cs) ≡ cs
+unfolding after_first
+after_first-is c cs = take_all (length (c ∷ cs) - 1) cs (omega arith)
+
+-- a quote with no other after it is no value
+pub unclosed : (text : List ℕ) (at : ℕ) → get_or text 0 0 ≡ 34 → at ≡ quote_at (take (length text - 1) (drop 1 text))
+    → length (take (length text - 1) (drop 1 text)) ≤ at → None ≡ value_of text
+unfolding after_first
+unclosed [] at h e k = refl
+unclosed (c ∷ cs) at h e k =
+    let rest : take (length (c ∷ cs) - 1) cs ≡ cs = after_first-is c cs in
+    let place : at ≡ quote_at cs = e ∙ ap (λ (l : List ℕ). quote_at l) rest in
+    let same : length (take (length (c ∷ cs) - 1) cs) ≡ length cs = ap (λ (l : List ℕ). length l) rest in
+    let none : nat_lt (quote_at cs) (length cs) ≡ false = grind (arith, place, same, k) in
+    rw (h, none) refl
 
 abbrev name_or : List ℕ → Option (Item × List ℕ) → List ℕ
 name_or default None = default
