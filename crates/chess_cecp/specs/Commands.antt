@@ -57,10 +57,7 @@ named_command word argument =
     if bytes_eq word [] || is_ignored word then Some Silent
     else option_map (λ (c : List ℕ × Command). c.1) (find (λ (c : List ℕ × Command). bytes_eq word c.0) (commands argument))
 
--- a line whose first word is no command's name, and that has a move's shape, is a move
-abbrev pub unnamed_command : List ℕ → Command
-unnamed_command text = if shape text then BareMove else Unknown
-
--- what a line with this text commands
+-- what a line with this text commands; where its first word is no command's name, it may have a move's shape
 unfoldable pub command_of : List ℕ → Command
-command_of text = unwrap_or (named_command (word_of text) (argument_of text)) (unnamed_command text)
+command_of text =
+    unwrap_or (named_command (word_of text) (argument_of text)) (if shape text then BareMove else Unknown)

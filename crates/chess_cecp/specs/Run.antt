@@ -91,11 +91,9 @@ abbrev pub SessionRan : {S : Type 0} → Server S → InputState → InputState 
     → Result End Fault → Type 0
 SessionRan respond r r' w w' s s' t (Ok Quit) = FitsDevices r r' w w' t false false × ByLine respond s t r'.last_len
     × AnsweredAll respond r s s' t true × LeavesUnflushed w w' []
-SessionRan respond r r' w w' s s' t (Ok InputEnded) = FitsDevices r r' w w' t false false
-    × (t.end_reported ≡ true) × IsAtEnd r'.known_bytes
-    × AnsweredAll respond r s s' t false × LeavesUnflushed w w' []
-SessionRan respond r r' w w' s s' t (Err Read) = FitsDevices r r' w w' t true false
-    × (t.end_reported ≡ false) × Answered respond s s' t.written false (lines_read t)
-    × FirstOfKnown r (lines_read t) × LeavesUnflushed w w' []
+SessionRan respond r r' w w' s s' t (Ok InputEnded) = FitsDevices r r' w w' t false false × (t.end_reported ≡ true)
+    × IsAtEnd r'.known_bytes × AnsweredAll respond r s s' t false × LeavesUnflushed w w' []
+SessionRan respond r r' w w' s s' t (Err Read) = FitsDevices r r' w w' t true false × (t.end_reported ≡ false)
+    × Answered respond s s' t.written false (lines_read t) × FirstOfKnown r (lines_read t) × LeavesUnflushed w w' []
 SessionRan respond r r' w w' s s' t (Err Write) = FitsDevices r r' w w' t false true
     × ByWrite respond r w w' s s' t r'.last_len

@@ -10,10 +10,10 @@ ghost use Rattle.chess_cecp.specs.Held.{opened_session, game_held};
 ghost use Rattle.chess_pgn.specs.GameText.{pgn};
 ghost use Rattle.chess_game.specs.Results.{cut_comment};
 ghost use Rattle.chess_text.specs.Moves.{reading, has_shape, shape, IsLegalReading};
-ghost use Rattle.chess_cecp.specs.Commands.{argument_of, unnamed_command};
+ghost use Rattle.chess_cecp.specs.Commands.{argument_of};
 ghost use Rattle.chess_cecp.specs.Declaring.{read_result};
 ghost use Rattle.chess_cecp.specs.Session.{row, move_row, back_row, result_row, draws, claim_row, setboard_row, normal_row, variant_row, session_response, joined_line, moves_line, IsRefusal};
-ghost use Rattle.chess_cecp.specs.ties.Replies.{after_row, reply_of, reply_to, shows_pgn, asks_for_pgn};
+ghost use Rattle.chess_cecp.specs.ties.Replies.{after_row, unnamed_command, reply_of, reply_to, shows_pgn, asks_for_pgn};
 ghost use Rattle.chess_game.specs.declared.game.TheConstants.{MOST_MOVES};
 ghost use Rattle.chess_cecp.specs.declared.session.TheConstants.{COMMAND_LEN};
 

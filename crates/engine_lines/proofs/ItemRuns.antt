@@ -43,8 +43,8 @@ value_shorter (c ∷ cs) p e = by_tests ((c == 34) && nat_lt (quote_at cs) (leng
     by_tests : (a b : Bool) → is_digit c ≡ b
         → (if a then Some (Quoted (take (quote_at cs) cs), drop (quote_at cs + 1) cs)
         else if b then Some (Digits (take_while is_digit (c ∷ cs)), drop (prefix_len is_digit (c ∷ cs)) (c ∷ cs))
-        else None)
-        ≡ Some p → length p.1 < length (c ∷ cs)
+        else None) ≡ Some p
+        → length p.1 < length (c ∷ cs)
     by_tests true b k e =
         let d : length (drop (quote_at cs + 1) cs) ≡ length cs - (quote_at cs + 1) = length-drop (quote_at cs + 1) cs in
         let s : length p.1 ≡ length (drop (quote_at cs + 1) cs) = cc in

@@ -67,7 +67,7 @@ ends_hello i = bytes_eq i.name (codes "done") && is_one i.value
 abbrev pub first_items : ℕ → List ℕ → List Item
 first_items zero text = []
 first_items (suc n) text =
-    option_map_or (λ (p : Item × List ℕ). if ends_hello p.0 then p.0 ∷ [] else p.0 ∷ first_items n p.1) (item_of text) []
+    option_map_or (λ p. if ends_hello p.0 then p.0 ∷ [] else p.0 ∷ first_items n p.1) (item_of text) []
 
 -- an item has at least three bytes, so a text has no more items than bytes
 unfoldable pub items_of : List ℕ → List Item

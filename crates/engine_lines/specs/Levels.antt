@@ -35,11 +35,12 @@ unfoldable pub level_of : List ℕ → Option LevelSeen
 level_of text =
     let first = without_front_blanks text in
     let second = argument_of first in
-    let third = argument_of second in do
+    let third = argument_of second in
+    if nat_lt 0 (length (argument_of third)) then None else do
       moves ← short_number 3 (word_of first)
       base ← base_of (word_of second)
       increment ← short_number 3 (word_of third)
-      if length (argument_of third) == 0 then Some (record { moves = moves; base = base; increment = increment }) else None
+      Some (record { moves = moves; base = base; increment = increment })
 
 -- ---- writing
 

@@ -115,18 +115,17 @@ impl Level {
         let first = trim_start(text);
         let second = argument(first);
         let third = argument(second);
+        if !argument(third).is_empty() {
+            return None;
+        }
         let moves = short_number(first_word(first), 3)?;
         let base = base(first_word(second))?;
         let increment = short_number(first_word(third), 3)?;
-        if argument(third).is_empty() {
-            Some(Level {
-                moves,
-                base,
-                increment,
-            })
-        } else {
-            None
-        }
+        Some(Level {
+            moves,
+            base,
+            increment,
+        })
     }
 
     /// How many moves a session has; 0 for one session without end.

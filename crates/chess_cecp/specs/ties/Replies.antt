@@ -1,5 +1,5 @@
 -- What answers a line: a text that is put together, or the game's text; and the session after it.
-use Rattle.std.specs.Prelude.{if◌then◌else◌, ◌&&◌, not, Bool, true, false}
+use Rattle.std.specs.Prelude.{if◌then◌else◌, ◌&&◌, not, ℕ, List, Bool, true, false}
 use Rattle.chess_cecp.specs.Lines.{LineSeen}
 use Rattle.chess_cecp.specs.Held.{SessionSeen}
 use Rattle.chess_cecp.specs.Serving.{Response}
@@ -9,7 +9,8 @@ use Rattle.chess_cecp.specs.declared.session.Go.TheVariants.{On, Quit}
 use Rattle.chess_cecp.specs.declared.session.Reply.{Reply}
 use Rattle.chess_cecp.specs.declared.session.Reply.TheVariants.{Text, Pgn}
 use Rattle.chess_cecp.specs.Commands.{command_of}
-use Rattle.chess_cecp.specs.declared.command.Command.TheVariants.{ShowPgn}
+use Rattle.chess_cecp.specs.declared.command.Command.TheVariants.{BareMove, ShowPgn, Unknown}
+use Rattle.chess_text.specs.Moves.{shape}
 use Rattle.chess_cecp.specs.declared.command.Command.TheVariants as commands
 
 -- the session after a row: its tags and its limit stay
@@ -24,6 +25,10 @@ is_quit_command command = false
 -- the line ends the session
 unfoldable pub is_quit : LineSeen → Bool
 is_quit line = not line.too_long && is_quit_command (command_of line.text)
+
+-- what a line commands whose first word is no command's name
+abbrev pub unnamed_command : List ℕ → Command
+unnamed_command text = if shape text then BareMove else Unknown
 
 -- the one command whose answer may be long: the game's text
 abbrev pub shows_pgn : Command → Bool
