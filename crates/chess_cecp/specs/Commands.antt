@@ -55,7 +55,7 @@ commands argument =
 unfoldable pub named_command : List ℕ → List ℕ → Option Command
 named_command word argument =
     if bytes_eq word [] || is_ignored word then Some Silent
-    else option_map (λ (c : List ℕ × Command). c.1) (find (λ (c : List ℕ × Command). bytes_eq word c.0) (commands argument))
+    else option_map (λ c. c.1) (find (λ c. bytes_eq word c.0) (commands argument))
 
 -- what a line with this text commands; where its first word is no command's name, it may have a move's shape
 unfoldable pub command_of : List ℕ → Command

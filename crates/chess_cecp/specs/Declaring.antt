@@ -1,5 +1,5 @@
 -- Results as they are declared and reported, and what `showstate` shows of a game.
-use Rattle.std.specs.Prelude.{ℕ, ◌-◌, ◌==◌, ◌&&◌, nat_le, Bool, true, false, if◌then◌else◌, List, [], ◌++◌, length, take, drop, slice_index_or, codes, decimal, Option, None, Some}
+use Rattle.std.specs.Prelude.{ℕ, ◌-◌, ◌==◌, ◌&&◌, nat_le, if◌then◌else◌, List, [], ◌++◌, length, take, drop, slice_index_or, codes, decimal, Option, None, Some}
 use Rattle.std.specs.Option.{option_map_or}
 use Rattle.chess_base.specs.Letters.{byte}
 use Rattle.chess_game.specs.Ends.{verdict_outcome, verdict_comment, claims}

@@ -1,8 +1,8 @@
 //! What a line commands.
 
-ghost use Rattle.std.specs.Prelude.{◌≡◌, ◌+◌, ◌≤◌, ◌++◌, length};
+ghost use Rattle.std.specs.Prelude.{◌≡◌, ◌+◌, ◌^◌, ◌<◌, ◌≤◌, ◌++◌, IfSome, length};
 ghost use Rattle.chess_cecp.specs.Lines.{is_blank};
-ghost use Rattle.chess_cecp.specs.Commands.{command_of, named_command, word_of, argument_of, command_number, is_ignored};
+ghost use Rattle.chess_cecp.specs.Commands.{command_of, named_command, word_of, argument_of, short_number, command_number, is_ignored};
 ghost use Rattle.chess_cecp.specs.ties.Ignored.{is_engine_command, is_opponent_or_clock_command};
 ghost use Rattle.std.specs.Option.{option_map_or};
 
@@ -93,7 +93,16 @@ pub fn argument(text: &[u8]) -> &[u8]
 pub fn read_number(text: &[u8]) -> Option<u32>
     ensures { result ≡ command_number text.now }
 {
-    if text.is_empty() || text.len() > 9 {
+    short_number(text, 9)
+}
+
+/// The number that a text of at least one and at most so many digits denotes.
+pub fn short_number(text: &[u8], most: usize) -> Option<u32>
+    requires { most ≤ 9 }
+    ensures value { result ≡ short_number most text.now }
+    ensures small { IfSome result (λ n. n < 10 ^ most) }
+{
+    if text.is_empty() || text.len() > most {
         return None;
     }
     let mut number = 0;

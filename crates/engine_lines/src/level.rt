@@ -2,10 +2,9 @@
 
 ghost use Rattle.std.specs.Prelude.{◌≡◌, ◌≤◌, ◌<◌, ◌==◌, ◌^◌, IfSome, length};
 ghost use Rattle.engine_lines.specs.Levels.{level_of, base_of, in_seconds, colon_at, allotted, sessions};
-ghost use Rattle.chess_cecp.specs.Commands.{short_number};
 ghost use Rattle.chess_game.specs.declared.game.TheConstants.{MOST_MOVES};
 
-use chess_cecp::{argument, first_word, trim_start};
+use chess_cecp::{argument, first_word, short_number, trim_start};
 use std::marker::Model;
 
 /// A level of time (CECP, version 2, command `level`): so many moves a session, 0 for one session without end, and a
@@ -32,25 +31,6 @@ impl Model for Level {
     ghost invariant = { λ l. IsLevel (record { moves = l.moves; base = l.base; increment = l.increment }) };
 
     ghost inverse = { λ v. record { moves = v.moves; base = v.base; increment = v.increment } };
-}
-
-// The number that at most so many digits denote.
-fn short_number(text: &[u8], most: usize) -> Option<u32>
-    requires { most ≤ 3 }
-    ensures value { result ≡ short_number most text.now }
-    ensures small { IfSome result (λ n. n ≤ 999) }
-{
-    if text.is_empty() || text.len() > most {
-        return None;
-    }
-    let mut number = 0;
-    for byte in text {
-        if !byte.is_ascii_digit() {
-            return None;
-        }
-        number = 10 * number + u32::from(*byte - b'0');
-    }
-    Some(number)
 }
 
 // Counts the bytes before the first colon.
