@@ -222,6 +222,8 @@ class Specs:
                 found |= self.resolve(equation, names, aliases, (key.crate, key.module), bound_in(equation, key.name))
         if "do" in re.findall(WORD, "\n".join(definition.body)):
             found |= {k for k in self.infix if (k.crate, k.module) == (key.crate, key.module) and k.name == "◌>>=◌"}
+            if "◌>>=◌" in names:
+                found.add(self.find(*names["◌>>=◌"]))
         found.discard(key)
         return found
 

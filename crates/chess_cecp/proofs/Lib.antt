@@ -5,5 +5,6 @@ pub mod Words
 pub mod RunLemmas
 pub mod Refusals
 pub mod PgnRow
+pub mod Ends
 pub mod NormalGames
 pub mod NormalRows

@@ -16,6 +16,7 @@ use Rattle.chess_fen.proofs.NormalWritten.{fen_kept}
 use Rattle.chess_text.specs.declared.reading.Reading.{Reading}
 use Rattle.chess_text.specs.declared.reading.Reading.TheVariants as reads
 use Rattle.chess_text.specs.Moves.{reading}
+use Rattle.chess_text.specs.San.{shown_move}
 use Rattle.chess_text.specs.laws.Normal.{normal_moves, normal_reading}
 use Rattle.chess_text.proofs.NormalTexts.{normal_kept as texts_kept}
 use Rattle.chess_game.specs.declared.ends.Claims.{Claims}
@@ -26,14 +27,14 @@ use Rattle.chess_game.specs.Game.{State, from_start, played, with_declared, curr
 use Rattle.chess_pgn.specs.declared.tags.Tags.{Tags}
 use Rattle.chess_cecp.specs.declared.command.Command.{Command}
 use Rattle.chess_cecp.specs.declared.command.Command.TheVariants.{New, SetBoard, UserMove, BareMove, Undo, Remove, Declare, Claim, Ping, Protover, Variant, Go, ShowFen, ShowMoves, ShowState, ShowPgn, Quit, Silent, BadNumber, Unknown}
-use Rattle.chess_cecp.specs.Declaring.{declared_by, claims_text, verdict_text, declared_text, state_text}
-use Rattle.chess_cecp.specs.Session.{row, says, refuses, becomes, becomes_judged, verdict_line, setboard_row, reading_row, move_row, result_row, claimed, claim_row, moves_line, shown, joined_line}
+use Rattle.chess_cecp.specs.Declaring.{read_result, claims_text, verdict_text, declared_text, state_text}
+use Rattle.chess_cecp.specs.Session.{row, says, refuses, becomes, becomes_judged, verdict_line, setboard_row, reading_row, move_row, result_row, claimed, claim_row, moves_line, joined_line}
 use Rattle.chess_cecp.specs.laws.Normal.{normal_becomes_judged, normal_setboard_row, normal_reading_row, normal_move_row, normal_result_row, normal_claim_row, normal_moves_line, normal_state_text, normal_row_of, keeps_its_row}
 use Rattle.chess_cecp.specs.laws.NormalGame.{normal_current, normal_rep, normal_claims, normal_is_over}
 use Rattle.chess_cecp.proofs.NormalGames.{initial_kept, last_stays, last_kept, rep_kept, verdict_kept, claims_kept, over_kept, pgn_kept}
 
 judged_kept : (s : State) → s.start.variant ≡ Normal → becomes_judged s ≡ normal_becomes_judged s
-judged_kept s e = ap (λ (v : Option Verdict). record { text = verdict_line v; next = s }) (verdict_kept s.start e s.moves)
+judged_kept s e = ap (λ (v : Option Verdict). says s (verdict_line v)) (verdict_kept s.start e s.moves)
 
 -- ---- setboard
 
@@ -96,10 +97,10 @@ claim_kept s e =
 fen_shown : (s : State) → s.start.variant ≡ Normal → fen (current s) ≡ normal_fen (normal_current s)
 fen_shown s e = fen_kept (current s) (last_stays s.start s.moves ∙ e) ∙ ap normal_fen (last_kept s.start e s.moves)
 
-listed : (p : Setup) (ms : List Move) → p.variant ≡ Normal → flat_map (shown p) ms ≡ flat_map (λ m. 32 ∷ coordinate m)
-    ms
+listed : (p : Setup) (ms : List Move) → p.variant ≡ Normal
+    → flat_map (λ m. 32 ∷ shown_move p m) ms ≡ flat_map (λ m. 32 ∷ coordinate m) ms
 listed p [] e = refl
-listed p (m ∷ ms) e = ap (λ text. (32 ∷ text) ++ flat_map (shown p) ms) ((texts_kept p e).shown m)
+listed p (m ∷ ms) e = ap (λ text. (32 ∷ text) ++ flat_map (λ m. 32 ∷ shown_move p m) ms) ((texts_kept p e).shown m)
     ∙ ap (λ rest. (32 ∷ coordinate m) ++ rest) (listed p ms e)
 
 line_listed : (p : Setup) (ms : List Move) → p.variant ≡ Normal → moves_line p ms ≡ normal_moves_line ms
@@ -141,7 +142,7 @@ normal_rows tags limit s text argument UserMove e h = move_kept limit s e argume
 normal_rows tags limit s text argument BareMove e h = move_kept limit s e text
 normal_rows tags limit s text argument Undo e h = refl
 normal_rows tags limit s text argument Remove e h = refl
-normal_rows tags limit s text argument Declare e h = result_kept s e text (declared_by argument)
+normal_rows tags limit s text argument Declare e h = result_kept s e text (read_result argument)
 normal_rows tags limit s text argument Claim e h = claim_kept s e
 normal_rows tags limit s text argument (Ping n) e h = refl
 normal_rows tags limit s text argument (Protover n) e h = absurd (cc)

@@ -1,10 +1,11 @@
 -- What has come of a line.
-use Rattle.std.proofs.Common.{◌≡◌, ℕ, ◌+◌, ◌<◌, ◌≤◌, ◌==◌, ◌&&◌, nat_lt, nat_eq, min, ◌≢◌, Some, None, Bool, true, false, List, [], ◌∷◌, ◌++◌, length, take, refl, sym, ap, ◌∙◌, arith, if◌then◌else◌}
+use Rattle.std.proofs.Common.{◌≡◌, ℕ, ◌+◌, ◌-◌, ◌<◌, ◌≤◌, ◌==◌, ◌&&◌, nat_lt, nat_eq, min, ◌≢◌, Some, None, Bool, true, false, List, [], ◌∷◌, ◌++◌, length, take, get_or, refl, sym, ap, ◌∙◌, arith, if◌then◌else◌}
+use Rattle.std.specs.List.{list_all}
 use Rattle.std.proofs.lemmas.List.{take-append-le, take_min, take_all, length-take}
 use Rattle.std.proofs.Math.Nat.{min-le_right}
 use Rattle.std.proofs.lemmas.Grind.{common_steps}
 use Rattle.chess_cecp.specs.ties.Kept.{kept_part, SameLines, HeldLine}
-use Rattle.chess_cecp.specs.Lines.{LineSeen, Held, line_of, lines_from, lines_held, trimmed, is_blank, all_blank, without_front_blanks, without_end_blanks, without_return}
+use Rattle.chess_cecp.specs.Lines.{LineSeen, Held, line_of, lines_from, lines_held, trimmed, is_blank, without_front_blanks, without_end_blanks, without_return}
 
 lt_true : (m n : ℕ) → m < n → nat_lt m n ≡ true
 lt_true m n h = grind arith
@@ -88,16 +89,6 @@ front_cond : (b : Bool) (c : ℕ) (cs xs : List ℕ) → length xs ≤ length cs
 front_cond true c cs xs h = grind arith
 front_cond false c cs xs h = grind arith
 
-one_cond : (b : Bool) (c : ℕ) → length (if b then [] else c ∷ []) ≤ length (c ∷ [])
-one_cond true c = omega arith
-one_cond false c = omega arith
-
-ended_cond : (b : Bool) (x y : List ℕ) (e : Bool)
-    → (let l : LineSeen = if b then record { text = x; too_long = true; ended = e } else
-    record { text = y; too_long = false; ended = e } in l.ended) ≡ e
-ended_cond true x y e = refl
-ended_cond false x y e = refl
-
 line_short : (n : ℕ) (e : Bool) (x : List ℕ) → length x ≤ n
     → line_of n e x ≡ record { text = trimmed x; too_long = false; ended = e }
 unfolding line_of
@@ -133,7 +124,7 @@ pub web_short : (xs : List ℕ) → length (without_end_blanks xs) ≤ length xs
 web_short [] = omega arith
 web_short (c ∷ cs) =
     let ih : length (without_end_blanks cs) ≤ length cs = web_short cs in
-    cond_short (is_blank c && all_blank cs) c (without_end_blanks cs) cs ih
+    cond_short (is_blank c && list_all is_blank cs) c (without_end_blanks cs) cs ih
 
 pub wfb_short : (xs : List ℕ) → length (without_front_blanks xs) ≤ length xs
 wfb_short [] = omega arith
@@ -142,11 +133,14 @@ wfb_short (c ∷ cs) =
     front_cond (is_blank c) c cs (without_front_blanks cs) ih
 
 pub wr_short : (xs : List ℕ) → length (without_return xs) ≤ length xs
-wr_short [] = omega arith
-wr_short (c ∷ []) = one_cond (c == 13) c
-wr_short (c ∷ d ∷ cs) =
-    let ih : length (without_return (d ∷ cs)) ≤ length (d ∷ cs) = wr_short (d ∷ cs) in
-    grind arith
+wr_short xs = at (get_or xs (length xs - 1) 0 == 13)
+  where
+    at : (b : Bool) → length (if b then take (length xs - 1) xs else xs) ≤ length xs
+    at true =
+        let is : length (take (length xs - 1) xs) ≡ min (length xs - 1) (length xs) = length-take (length xs - 1) xs in
+        let le : min (length xs - 1) (length xs) ≤ length xs = min-le_right (length xs - 1) (length xs) in
+        omega (arith, is, le)
+    at false = omega arith
 
 pub trimmed_short : (xs : List ℕ) → length (trimmed xs) ≤ length xs
 unfolding trimmed
@@ -179,7 +173,7 @@ none_from n part = refl
 
 pub line_ended : (n : ℕ) (e : Bool) (piece : List ℕ) → (line_of n e piece).ended ≡ e
 unfolding line_of
-line_ended n e piece = ended_cond (nat_lt n (length piece)) (take (min 64 n) piece) (trimmed piece) e
+line_ended n e piece = refl
 
 pub found_line : (n : ℕ) (held : Held) (part part' window window' : List ℕ) (b : ℕ) (line : LineSeen)
     → Spelled n held part window → length window ≤ length held.coming

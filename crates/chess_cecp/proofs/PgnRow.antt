@@ -5,8 +5,10 @@ use Rattle.chess_pgn.specs.GameText.{pgn}
 use Rattle.chess_cecp.specs.Commands.{command_of, argument_of}
 use Rattle.chess_cecp.specs.Held.{SessionSeen}
 use Rattle.chess_cecp.specs.Lines.{LineSeen}
-use Rattle.chess_cecp.specs.Session.{row, row_on, says, after_row, next_state, answer_to, is_quit, is_quit_command}
-use Rattle.chess_cecp.specs.ties.Replies.{reply_to, shows_pgn, asks_for_pgn}
+use Rattle.chess_cecp.specs.Serving.{Response}
+use Rattle.chess_cecp.specs.Session.{row, row_on, says, session_response}
+use Rattle.chess_cecp.specs.ties.Replies.{after_row, is_quit, reply_to, shows_pgn, asks_for_pgn}
+use Rattle.chess_game.specs.Game.{State}
 use Rattle.chess_cecp.specs.declared.session.Go.{Go as Further}
 use Rattle.chess_cecp.specs.declared.session.Go.TheVariants as further
 use Rattle.chess_cecp.specs.declared.session.Reply.TheVariants.{Text, Pgn}
@@ -35,34 +37,36 @@ is_show_pgn Unknown e = cc
 is_show_pgn (Ping n) e = cc
 is_show_pgn (Protover n) e = cc
 
--- the game's text is answered, and nothing changes
-pub record IsPgnRow (seen : SessionSeen) (line : LineSeen) : Type 0 where
-  pub next : next_state seen line ≡ seen
-  pub text : answer_to seen line ≡ pgn (codes "# ") seen.tags seen.state
-  pub no_quit : is_quit line ≡ false
+-- the session's response to a line, by the row of it
+abbrev in_session : SessionSeen → Response State → Response SessionSeen
+in_session seen r = record { text = r.text; state = after_row seen r; ends = r.ends }
 
-pgn_row : (seen : SessionSeen) (line : LineSeen) → asks_for_pgn line ≡ true → IsPgnRow seen line
-unfolding asks_for_pgn next_state answer_to is_quit
+-- the game's text is answered, and nothing changes
+pgn_row : (seen : SessionSeen) (line : LineSeen) → asks_for_pgn line ≡ true
+    → session_response seen line ≡ record { text = pgn (codes "# ") seen.tags seen.state; state = seen; ends = false }
+unfolding asks_for_pgn session_response
 pgn_row seen line asks =
     let both = and_parts (not line.too_long) (shows_pgn (command_of line.text)) asks in
     let short : line.too_long ≡ false = not-true line.too_long both.0 in
     let command : command_of line.text ≡ ShowPgn = is_show_pgn (command_of line.text) both.1 in
     let at : row_on seen line ≡ says seen.state (pgn (codes "# ") seen.tags seen.state) =
     rw short (ap (row seen.tags seen.limit seen.state line.text (argument_of line.text)) command) in
-    record { next = ap (after_row seen) at; text = ap (λ r. r.text) at; no_quit = rw short (ap is_quit_command command) }
+    ap (in_session seen) at
 
 -- a line that is answered by the game's text, once it is obeyed
 pub record IsPgnReply (seen obeyed : SessionSeen) (line : LineSeen) : Type 0 where
-  pub text : answer_to seen line ≡ pgn (codes "# ") obeyed.tags obeyed.state
-  pub no_quit : is_quit line ≡ false
+  pub text : (session_response seen line).text ≡ pgn (codes "# ") obeyed.tags obeyed.state
+  pub goes_on : (session_response seen line).ends ≡ false
 
-pub by_pgn : (seen obeyed : SessionSeen) (line : LineSeen) → Pgn ≡ reply_to line → obeyed ≡ next_state seen line
-    → IsPgnReply seen obeyed line
+pub by_pgn : (seen obeyed : SessionSeen) (line : LineSeen) → Pgn ≡ reply_to line
+    → obeyed ≡ (session_response seen line).state → IsPgnReply seen obeyed line
 by_pgn seen obeyed line e is =
     let row = pgn_row seen line (asks (asks_for_pgn line) (if is_quit line then further.Quit else further.On) e) in
+    let same : obeyed ≡ seen = is ∙ ap (λ (r : Response SessionSeen). r.state) row in
     record {
-      text = row.text ∙ ap (λ (s : SessionSeen). pgn (codes "# ") s.tags s.state) (sym (is ∙ row.next));
-      no_quit = row.no_quit;
+      text = ap (λ (r : Response SessionSeen). r.text) row
+          ∙ ap (λ (s : SessionSeen). pgn (codes "# ") s.tags s.state) (sym same);
+      goes_on = ap (λ (r : Response SessionSeen). r.ends) row;
     }
   where
     asks : (b : Bool) (go : Further) → Pgn ≡ (if b then Pgn else Text go) → b ≡ true

@@ -22,10 +22,11 @@ use Rattle.chess_game.specs.declared.results.Declared.{Declared}
 use Rattle.chess_game.specs.declared.results.Outcome.{Outcome}
 use Rattle.chess_game.specs.declared.results.Outcome.TheVariants.{WhiteWins, BlackWins, Draw, Unfinished}
 use Rattle.chess_game.specs.declared.ends.Claims.{Claims}
-use Rattle.chess_cecp.specs.Declaring.{declared_by, result_text}
+use Rattle.chess_cecp.specs.Declaring.{read_result, result_text}
 use Rattle.chess_cecp.specs.declared.command.Command.{Command}
 use Rattle.chess_cecp.specs.declared.command.Command.TheVariants.{New, SetBoard, UserMove, BareMove, Undo, Remove, Declare, Claim, Ping, Protover, Variant, Go, ShowFen, ShowMoves, ShowState, ShowPgn, Quit, Silent, BadNumber, Unknown}
-use Rattle.chess_cecp.specs.Session.{Row, row, says, refuses, becomes, becomes_judged, result_line, verdict_line, result_row, draws, claimed, setboard_row, normal_row, feature_text, joined_line, reading_row, move_row, IsRefusal, answer_to, next_state}
+use Rattle.chess_cecp.specs.Serving.{Response}
+use Rattle.chess_cecp.specs.Session.{row, says, refuses, becomes, becomes_judged, result_line, verdict_line, result_row, draws, claimed, setboard_row, normal_row, feature_text, joined_line, reading_row, move_row, IsRefusal, session_response}
 
 -- the first bytes of refusals: E, I and t
 abbrev pub begins_refusal : List ℕ → Bool
@@ -37,14 +38,15 @@ refusal_begins text (inr (inl (rest, is))) = ap begins_refusal (sym is)
 refusal_begins text (inr (inr (rest, is))) = ap begins_refusal (sym is)
 
 -- the row changes nothing, if its text is a refusal
-abbrev pub KeepsRefused : State → Row → Type 0
-KeepsRefused s r = IsRefusal r.text → r.next ≡ s
+abbrev pub KeepsRefused : State → Response State → Type 0
+KeepsRefused s r = IsRefusal r.text → r.state ≡ s
 
 -- a row whose text begins otherwise
-accepted : (s : State) (r : Row) → begins_refusal r.text ≡ false → KeepsRefused s r
+accepted : (s : State) (r : Response State) → begins_refusal r.text ≡ false → KeepsRefused s r
 accepted s r e h = let t : begins_refusal r.text ≡ true = refusal_begins r.text h in cc
 
-by_test : (b : Bool) (s : State) (x y : Row) → KeepsRefused s x → KeepsRefused s y → KeepsRefused s (if b then x else y)
+by_test : (b : Bool) (s : State) (x y : Response State) → KeepsRefused s x → KeepsRefused s y
+    → KeepsRefused s (if b then x else y)
 by_test true s x y h k = h
 by_test false s x y h k = k
 
@@ -67,7 +69,7 @@ reading_keeps s text reads.NoSuch = λ h. refl
 reading_keeps s text reads.NotAMove = λ h. refl
 
 -- the row of a move where the game is not over
-abbrev room_row : ℕ → State → List ℕ → Row
+abbrev room_row : ℕ → State → List ℕ → Response State
 room_row limit s text = if nat_le limit (length s.moves) then refuses s (codes "Error (game too long): ") text else
     reading_row s text (reading (current s) text)
 
@@ -123,7 +125,7 @@ row_keeps tags limit s text argument Remove =
     (refuses s (codes "Error (command not legal now): ") (codes "remove"))
     (accepted s (becomes (taken_back s 2)) refl)
     (λ h. refl)
-row_keeps tags limit s text argument Declare = result_keeps s text (declared_by argument)
+row_keeps tags limit s text argument Declare = result_keeps s text (read_result argument)
 row_keeps tags limit s text argument Claim =
     by_test (is_over s) s (refuses s (codes "Error (command not legal now): ") (codes "claim"))
     (claimed s (claims s.start s.moves)) (λ h. refl) (claimed_keeps s (claims s.start s.moves))
@@ -147,9 +149,9 @@ row_keeps tags limit s text argument Silent = λ h. refl
 row_keeps tags limit s text argument BadNumber = λ h. refl
 row_keeps tags limit s text argument Unknown = λ h. refl
 
-pub refused_keeps : (seen : SessionSeen) (line : LineSeen) → IsRefusal (answer_to seen line)
-    → next_state seen line ≡ seen
-unfolding answer_to next_state
+pub refused_keeps : (seen : SessionSeen) (line : LineSeen) → IsRefusal (session_response seen line).text
+    → (session_response seen line).state ≡ seen
+unfolding session_response
 refused_keeps seen line h =
     ap (λ v. record { tags = seen.tags; limit = seen.limit; state = v })
     (by_test line.too_long seen.state (refuses seen.state (codes "Error (line too long): ") line.text)
@@ -159,13 +161,14 @@ refused_keeps seen line h =
     h)
 
 -- the same of a session that is left; and tags and limit stay in any case
-pub refused : (seen left : SessionSeen) (line : LineSeen) → left ≡ next_state seen line
-    → IsRefusal (answer_to seen line)
+pub refused : (seen left : SessionSeen) (line : LineSeen) → left ≡ (session_response seen line).state
+    → IsRefusal (session_response seen line).text
     → left ≡ seen
 refused seen left line is h = is ∙ refused_keeps seen line h
 
-pub tags_and_limit_stay : (seen left : SessionSeen) (line : LineSeen) → left ≡ next_state seen line
+pub tags_and_limit_stay : (seen left : SessionSeen) (line : LineSeen)
+    → left ≡ (session_response seen line).state
     → (left.tags ≡ seen.tags)
     × (left.limit ≡ seen.limit)
-unfolding next_state
+unfolding session_response
 tags_and_limit_stay seen left line is = (ap (λ (s : SessionSeen). s.tags) is, ap (λ (s : SessionSeen). s.limit) is)

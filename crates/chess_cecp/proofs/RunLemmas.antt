@@ -334,9 +334,15 @@ by_line {respond} {r} {w} {w'} {w''} {s} {s'} {s''} {done} line f (all, told, af
     let text : List ℕ = (responses respond s done).text ++ (respond s' line).text in
     let both : SentAll w w'' text =
     sent_more w w' w'' (responses respond s done).text (respond s' line).text f.took took in (
-      record { given = all; told = told; taken = text },
+      record { read = all; end_reported = told; written = text },
       (
-        record { given = at.bytes; taken = both.bytes; told = at.ends; reads = at.failures; writes = both.failures },
+        record {
+          read = at.bytes;
+          written = both.bytes;
+          ends = at.ends;
+          read_failures = at.failures;
+          write_failures = both.failures;
+        },
         (
           done,
           line,
@@ -344,9 +350,11 @@ by_line {respond} {r} {w} {w'} {w''} {s} {s'} {s''} {done} line f (all, told, af
           record { lines = at.lines; goes_on = f.goes_on; on_demand = at.on_demand },
           ap (λ v. (respond v line).ends) (sym f.state) ∙ over,
         ),
-        ended_answered respond s s' s'' done line after _ f.state f.goes_on at.lines next over,
-        IfSome_then r.known_bytes at.known
-            (λ xs (behind, e). ended_answered respond s s' s'' done line behind _ f.state f.goes_on e next over),
+        (
+          ended_answered respond s s' s'' done line after _ f.state f.goes_on at.lines next over,
+          IfSome_then r.known_bytes at.known
+              (λ xs (behind, e). ended_answered respond s s' s'' done line behind _ f.state f.goes_on e next over),
+        ),
         both.flushed,
       ),
     )
@@ -360,9 +368,15 @@ pub by_write : {S : Type 0} {respond : Server S} {r r' r'' : InputState} {w w' w
 by_write {respond} {r} {w} {w'} {w''} {s} {done} line f (all, told, after, at) (start, (rest, is), broke) next =
     let both : SentSome w w'' (responses respond s done).text start =
     sent_some w w' w'' (responses respond s done).text start f.took broke in (
-      record { given = all; told = told; taken = (responses respond s done).text ++ start },
+      record { read = all; end_reported = told; written = (responses respond s done).text ++ start },
       (
-        record { given = at.bytes; taken = both.bytes; told = at.ends; reads = at.failures; writes = both.failures },
+        record {
+          read = at.bytes;
+          written = both.bytes;
+          ends = at.ends;
+          read_failures = at.failures;
+          write_failures = both.failures;
+        },
         (
           done,
           line,
@@ -406,13 +420,18 @@ by_last {respond} E {r} {r'} {r''} {w} {w'} {w''} {s} {s'} {s''} {held} held' {g
     let all : Answered respond s s'' text false (lines COMMAND_LEN (given ++ more)) =
     ap (responses respond s) at.lines ∙ one_more respond s s' done line f.state f.goes_on
     ∙ by_fields (responses respond s done).text (respond s' line) s'' false next on in (
-      record { given = given ++ more; told = true; taken = text },
+      record { read = given ++ more; end_reported = true; written = text },
       (
-        record { given = at.bytes; taken = both.bytes; told = at.ends; reads = at.failures; writes = both.failures },
+        record {
+          read = at.bytes;
+          written = both.bytes;
+          ends = at.ends;
+          read_failures = at.failures;
+          write_failures = both.failures;
+        },
         refl,
         g.at_end,
-        all,
-        known_answered respond r r'' s s'' (given ++ more) text at.bytes g.at_end all,
+        (all, known_answered respond r r'' s s'' (given ++ more) text at.bytes g.at_end all),
         both.flushed,
       ),
     )
@@ -436,19 +455,18 @@ by_end {respond} E {r} {r'} {r''} {s} {s'} {given} {done} f (more, bytes, waits,
     let all : Answered respond s s' text false (lines COMMAND_LEN (given ++ more)) =
     done_answered respond s s' done (lines COMMAND_LEN (given ++ more)) f.state f.goes_on
     (f.lines true more ∙ ap (λ v. done ++ v) (got.lines true) ∙ append-nil done) in (
-      record { given = given ++ more; told = true; taken = text },
+      record { read = given ++ more; end_reported = true; written = text },
       (
         record {
-          given = both;
-          taken = f.took.bytes;
-          told = got.ends ∙ ap risen f.ends;
-          reads = got.failures ∙ f.failures;
-          writes = f.took.failures;
+          read = both;
+          written = f.took.bytes;
+          ends = got.ends ∙ ap risen f.ends;
+          read_failures = got.failures ∙ f.failures;
+          write_failures = f.took.failures;
         },
         refl,
         got.at_end,
-        all,
-        known_answered respond r r'' s s' (given ++ more) text both got.at_end all,
+        (all, known_answered respond r r'' s s' (given ++ more) text both got.at_end all),
         f.took.flushed,
       ),
     )
@@ -465,14 +483,14 @@ by_read {respond} e {r} {r'} {r''} {s} {s'} {held'} {given} {done} f (more, byte
     consumes_more r.known_bytes r'.known_bytes r''.known_bytes given more f.bytes bytes in
     let P : List ℕ → Type 0 = λ xs. (behind : List LineSeen)
     × (lines COMMAND_LEN xs ≡ whole COMMAND_LEN (given ++ more) ++ behind) in (
-      record { given = given ++ more; told = false; taken = (responses respond s done).text },
+      record { read = given ++ more; end_reported = false; written = (responses respond s done).text },
       (
         record {
-          given = both;
-          taken = f.took.bytes;
-          told = got.ends ∙ f.ends;
-          reads = got.failures ∙ ap risen f.failures;
-          writes = f.took.failures;
+          read = both;
+          written = f.took.bytes;
+          ends = got.ends ∙ f.ends;
+          read_failures = got.failures ∙ ap risen f.failures;
+          write_failures = f.took.failures;
         },
         refl,
         done_answered respond s s' done (whole COMMAND_LEN (given ++ more)) f.state f.goes_on is,

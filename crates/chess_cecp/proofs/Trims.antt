@@ -1,15 +1,15 @@
 -- Spaces, tabs and a byte 13 at the ends of a list.
 use mathlib.Core.Bool.{and-false}
 use Rattle.std.proofs.Common.{◌≡◌, ℕ, ◌+◌, ◌-◌, ◌<◌, ◌≤◌, true, false, List, [], ◌∷◌, ◌++◌, length, get_or, take, refl, sym, ap, ◌∙◌, ◌==◌, ◌≢◌, arith}
-use Rattle.std.proofs.Math.Seq.{take-length}
+use Rattle.std.specs.List.{list_all}
 use Rattle.std.proofs.lemmas.Grind.{common_steps}
-use Rattle.chess_cecp.specs.Lines.{is_blank, all_blank, without_end_blanks, without_return}
+use Rattle.chess_cecp.specs.Lines.{is_blank, without_end_blanks, without_return}
 
-all_with : (xs : List ℕ) (b : ℕ) → is_blank b ≡ true → all_blank (xs ++ b ∷ []) ≡ all_blank xs
+all_with : (xs : List ℕ) (b : ℕ) → is_blank b ≡ true → list_all is_blank (xs ++ b ∷ []) ≡ list_all is_blank xs
 all_with [] b h = rw h refl
 all_with (c ∷ cs) b h = rw (all_with cs b h) refl
 
-all_without : (xs : List ℕ) (b : ℕ) → is_blank b ≡ false → all_blank (xs ++ b ∷ []) ≡ false
+all_without : (xs : List ℕ) (b : ℕ) → is_blank b ≡ false → list_all is_blank (xs ++ b ∷ []) ≡ false
 all_without [] b h = rw h refl
 all_without (c ∷ cs) b h = rw (all_without cs b h) (and-false (is_blank c))
 
@@ -20,16 +20,6 @@ end_blank (c ∷ cs) b h = rw (all_with cs b h, end_blank cs b h) refl
 pub end_solid : (xs : List ℕ) (b : ℕ) → is_blank b ≡ false → without_end_blanks (xs ++ b ∷ []) ≡ xs ++ b ∷ []
 end_solid [] b h = rw h refl
 end_solid (c ∷ cs) b h = rw (all_without cs b h, and-false (is_blank c), end_solid cs b h) refl
-
-pub return_cut : (xs : List ℕ) (b : ℕ) → b ≡ 13 → without_return (xs ++ b ∷ []) ≡ xs
-return_cut [] b h = rw h refl
-return_cut (c ∷ []) b h = rw h refl
-return_cut (c ∷ d ∷ cs) b h = ap (λ v. c ∷ v) (return_cut (d ∷ cs) b h)
-
-pub return_kept : (xs : List ℕ) (b : ℕ) → (b == 13) ≡ false → without_return (xs ++ b ∷ []) ≡ xs ++ b ∷ []
-return_kept [] b h = rw h refl
-return_kept (c ∷ []) b h = rw h refl
-return_kept (c ∷ d ∷ cs) b h = ap (λ v. c ∷ v) (return_kept (d ∷ cs) b h)
 
 -- a list by its last element
 pub by_last : (xs : List ℕ) (i : ℕ) → i < length xs → take (i + 1) xs ≡ take i xs ++ get_or xs i 0 ∷ []
@@ -49,18 +39,11 @@ pub end_stop : (xs : List ℕ) (i : ℕ) → 0 < i → i ≤ length xs → is_bl
 end_stop xs i h k b = ap without_end_blanks (last_of xs i h k) ∙ end_solid (take (i - 1) xs) (get_or xs (i - 1) 0) b
     ∙ sym (last_of xs i h k)
 
-pub return_then : (xs : List ℕ) → 0 < length xs → get_or xs (length xs - 1) 0 ≡ 13
-    → take (length xs - 1) xs ≡ without_return xs
-return_then xs h b =
-    let n = length xs in
-    sym (ap without_return (sym (take-length xs) ∙ last_of xs n h (omega arith))
-    ∙ return_cut (take (n - 1) xs) (get_or xs (n - 1) 0) b)
+pub return_then : (xs : List ℕ) → get_or xs (length xs - 1) 0 ≡ 13 → take (length xs - 1) xs ≡ without_return xs
+return_then xs b = rw b refl
 
-pub return_else : (xs : List ℕ) → 0 < length xs → (get_or xs (length xs - 1) 0 ≢ 13) → xs ≡ without_return xs
-return_else xs h b =
-    let n = length xs in
-    let e : xs ≡ take (n - 1) xs ++ get_or xs (n - 1) 0 ∷ [] = sym (take-length xs) ∙ last_of xs n h (omega arith) in
-    e ∙ sym (ap without_return e ∙ return_kept (take (n - 1) xs) (get_or xs (n - 1) 0) (grind arith))
+pub return_else : (xs : List ℕ) → (get_or xs (length xs - 1) 0 ≢ 13) → xs ≡ without_return xs
+return_else xs b = let e : (get_or xs (length xs - 1) 0 == 13) ≡ false = grind arith in rw e refl
 
 pub empty_by_length : (xs : List ℕ) → length xs ≡ 0 → xs ≡ []
 empty_by_length [] h = refl

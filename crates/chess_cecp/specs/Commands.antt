@@ -1,7 +1,8 @@
 -- What a line commands, by its first word (Chess Engine Communication Protocol, version 2; `claim`, `showfen`,
 -- `showmoves`, `showpgn` and `showstate` are this project's own).
 use Rattle.std.specs.Prelude.{ℕ, ◌==◌, ◌&&◌, ◌||◌, nat_lt, nat_le, if◌then◌else◌, Bool, List, [], ◌∷◌, length, drop, codes, Option, None, Some, unwrap_or}
-use Rattle.std.specs.List.{list_all, list_any}
+use Rattle.std.specs.List.{find, list_all, list_any}
+use Rattle.std.specs.Option.{option_map, option_map_or}
 use Rattle.std.specs.Str.{bytes_eq}
 use Rattle.chess_base.specs.Letters.{is_digit, value_after}
 use Rattle.chess_cecp.specs.Lines.{is_blank, without_front_blanks}
@@ -27,62 +28,36 @@ short_number most text = if nat_lt 0 (length text) && nat_le (length text) most
 unfoldable pub command_number : List ℕ → Option ℕ
 command_number text = short_number 9 text
 
--- a command with its number, if it is one
-abbrev pub with_number : (ℕ → Command) → Option ℕ → Command
-with_number command (Some n) = command n
-with_number command None = BadNumber
-
--- one of these names
-abbrev pub is_named : List ℕ → List (List ℕ) → Bool
-is_named word names = list_any (bytes_eq word) names
-
--- commands to an engine that plays, which an arbiter accepts and ignores: of the protocol, and of how the engine is to
--- play (`?` is: at once)
-abbrev pub engine_commands : List (List ℕ)
-engine_commands =
+-- commands to an engine that plays, which an arbiter accepts and ignores: of the protocol, of how the engine is to play
+-- (`?` is: at once), of its opponent, who may offer a draw, of the clocks and of the depth
+abbrev pub ignored_commands : List (List ℕ)
+ignored_commands =
     codes "xboard" ∷ codes "accepted" ∷ codes "rejected" ∷ codes "force" ∷ codes "random" ∷ codes "hard" ∷ codes "easy"
-    ∷ codes "post" ∷ codes "nopost" ∷ codes "?" ∷ []
+    ∷ codes "post" ∷ codes "nopost" ∷ codes "?" ∷ codes "computer" ∷ codes "name" ∷ codes "rating" ∷ codes "ics"
+    ∷ codes "draw" ∷ codes "level" ∷ codes "st" ∷ codes "sd" ∷ codes "time" ∷ codes "otim" ∷ []
 
--- and of its opponent, who may offer a draw, and of the clocks and the depth
-abbrev pub opponent_and_clock_commands : List (List ℕ)
-opponent_and_clock_commands =
-    codes "computer" ∷ codes "name" ∷ codes "rating" ∷ codes "ics" ∷ codes "draw" ∷ codes "level" ∷ codes "st"
-    ∷ codes "sd" ∷ codes "time" ∷ codes "otim" ∷ []
+-- the word is the name of one of these
+unfoldable pub is_ignored : List ℕ → Bool
+is_ignored word = list_any (bytes_eq word) ignored_commands
 
--- it says to an engine how to play
-unfoldable pub is_engine_command : List ℕ → Bool
-is_engine_command word = is_named word engine_commands
-
--- it informs an engine of its opponent or of the clocks
-unfoldable pub is_opponent_or_clock_command : List ℕ → Bool
-is_opponent_or_clock_command word = is_named word opponent_and_clock_commands
+-- all other commands by their names, with this argument: `usermove` needs a move, `ping` and `protover` need a number
+abbrev pub commands : List ℕ → List (List ℕ × Command)
+commands argument =
+    (codes "new", New) ∷ (codes "setboard", SetBoard)
+    ∷ (codes "usermove", if length argument == 0 then Unknown else UserMove)
+    ∷ (codes "undo", Undo) ∷ (codes "remove", Remove) ∷ (codes "result", Declare) ∷ (codes "claim", Claim)
+    ∷ (codes "ping", option_map_or Ping (command_number argument) BadNumber)
+    ∷ (codes "protover", option_map_or Protover (command_number argument) BadNumber)
+    ∷ (codes "variant", Variant) ∷ (codes "go", Go) ∷ (codes "showfen", ShowFen) ∷ (codes "showmoves", ShowMoves)
+    ∷ (codes "showstate", ShowState) ∷ (codes "showpgn", ShowPgn) ∷ (codes "quit", Quit) ∷ []
 
 -- the command that a first word names, with this argument; none where it is no command's name
 unfoldable pub named_command : List ℕ → List ℕ → Option Command
 named_command word argument =
-    if bytes_eq word [] || is_engine_command word || is_opponent_or_clock_command word then Some Silent
-    else if bytes_eq word (codes "new") then Some New
-    else if bytes_eq word (codes "setboard") then Some SetBoard
-    else if bytes_eq word (codes "usermove") then (if length argument == 0 then Some Unknown else Some UserMove)
-    else if bytes_eq word (codes "undo") then Some Undo
-    else if bytes_eq word (codes "remove") then Some Remove
-    else if bytes_eq word (codes "result") then Some Declare
-    else if bytes_eq word (codes "claim") then Some Claim
-    else if bytes_eq word (codes "ping") then Some (with_number Ping (command_number argument))
-    else if bytes_eq word (codes "protover") then Some (with_number Protover (command_number argument))
-    else if bytes_eq word (codes "variant") then Some Variant
-    else if bytes_eq word (codes "go") then Some Go
-    else if bytes_eq word (codes "showfen") then Some ShowFen
-    else if bytes_eq word (codes "showmoves") then Some ShowMoves
-    else if bytes_eq word (codes "showstate") then Some ShowState
-    else if bytes_eq word (codes "showpgn") then Some ShowPgn
-    else if bytes_eq word (codes "quit") then Some Quit
-    else None
+    if bytes_eq word [] || is_ignored word then Some Silent
+    else option_map (λ c. c.1) (find (λ c. bytes_eq word c.0) (commands argument))
 
--- a line whose first word is no command's name, and that has a move's shape, is a move
-abbrev pub unnamed_command : List ℕ → Command
-unnamed_command text = if shape text then BareMove else Unknown
-
--- what a line with this text commands
+-- what a line with this text commands; where its first word is no command's name, it may have a move's shape
 unfoldable pub command_of : List ℕ → Command
-command_of text = unwrap_or (named_command (word_of text) (argument_of text)) (unnamed_command text)
+command_of text =
+    unwrap_or (named_command (word_of text) (argument_of text)) (if shape text then BareMove else Unknown)

@@ -1,5 +1,6 @@
 -- Results as they are declared and reported, and what `showstate` shows of a game.
-use Rattle.std.specs.Prelude.{ℕ, ◌-◌, ◌==◌, ◌&&◌, nat_le, Bool, true, false, if◌then◌else◌, List, [], ◌++◌, length, take, drop, slice_index_or, codes, decimal, Option, None, Some}
+use Rattle.std.specs.Prelude.{ℕ, ◌-◌, ◌==◌, ◌&&◌, nat_le, if◌then◌else◌, List, [], ◌++◌, length, take, drop, slice_index_or, codes, decimal, Option, None, Some}
+use Rattle.std.specs.Option.{option_map_or}
 use Rattle.chess_base.specs.Letters.{byte}
 use Rattle.chess_game.specs.Ends.{verdict_outcome, verdict_comment, claims}
 use Rattle.chess_game.specs.Game.{State, current, verdict_now}
@@ -11,29 +12,23 @@ use Rattle.chess_game.specs.declared.results.Declared.{Declared}
 use Rattle.chess_game.specs.declared.results.Outcome.{Outcome}
 use Rattle.chess_pgn.specs.Words.{outcome_of}
 use Rattle.chess_cecp.specs.Commands.{word_of, argument_of}
-
--- a text without its first and its last byte
-abbrev pub inside_braces : List ℕ → List ℕ
-inside_braces text = take (length text - 2) (drop 1 text)
+use Rattle.chess_cecp.specs.Options.{◌>>=◌}
 
 -- the comment after an outcome: none, or a text in braces
 unfoldable pub result_comment : List ℕ → Option (List ℕ)
 result_comment text =
     if length text == 0 then Some []
     else if nat_le 2 (length text) && (slice_index_or text 0 0 == byte "{")
-    && (slice_index_or text (length text - 1) 0 == byte "}") then Some (inside_braces text)
+    && (slice_index_or text (length text - 1) 0 == byte "}") then Some (take (length text - 2) (drop 1 text))
     else None
-
--- a result, where both an outcome and a comment were given
-abbrev pub declared_as : Option Outcome → Option (List ℕ) → Option Declared
-declared_as None comment = None
-declared_as (Some o) None = None
-declared_as (Some o) (Some comment) = Some (record { outcome = o; comment = cut_comment comment })
 
 -- the result that the argument of `result` declares, if it declares one: an outcome, and after it nothing or a text
 -- from a brace to a last brace, of which the game keeps what a comment can hold
-unfoldable pub declared_by : List ℕ → Option Declared
-declared_by argument = declared_as (outcome_of (word_of argument)) (result_comment (argument_of argument))
+unfoldable pub read_result : List ℕ → Option Declared
+read_result argument = do
+  outcome ← outcome_of (word_of argument)
+  comment ← result_comment (argument_of argument)
+  Some (record { outcome = outcome; comment = cut_comment comment })
 
 -- an outcome and its comment in braces
 unfoldable pub result_text : Outcome → List ℕ → List ℕ
@@ -41,24 +36,17 @@ result_text o comment = outcome_text o ++ (codes " {" ++ (comment ++ codes "}"))
 
 -- a verdict, or that there is none
 abbrev pub verdict_text : Option Verdict → List ℕ
-verdict_text None = codes "none"
-verdict_text (Some v) = result_text (verdict_outcome v) (verdict_comment v)
+verdict_text verdict = option_map_or (λ v. result_text (verdict_outcome v) (verdict_comment v)) verdict (codes "none")
 
 -- what was declared, or that nothing was
 abbrev pub declared_text : Option Declared → List ℕ
-declared_text None = codes "none"
-declared_text (Some d) = result_text d.outcome d.comment
+declared_text declared = option_map_or (λ d. result_text d.outcome d.comment) declared (codes "none")
 
--- what can be claimed: the threefold repetition, the 50 moves
-abbrev pub claims_by : Bool → Bool → List ℕ
-claims_by true true = codes "threefold+50"
-claims_by true false = codes "threefold"
-claims_by false true = codes "50"
-claims_by false false = codes "none"
-
--- the claims as `showstate` shows them
+-- the claims as `showstate` shows them: the threefold repetition, the 50 moves
 abbrev pub claims_text : Claims → List ℕ
-claims_text c = claims_by c.threefold c.fifty_moves
+claims_text c =
+    if c.threefold then (if c.fifty_moves then codes "threefold+50" else codes "threefold")
+    else (if c.fifty_moves then codes "50" else codes "none")
 
 -- current half-moves, how often the position occurred (1 at its first time), the halfmove clock, claims, verdict and
 -- declared result

@@ -1,3 +1,4 @@
+pub mod Options
 pub mod Lines
 pub mod Next
 pub mod Serving

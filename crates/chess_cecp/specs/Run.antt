@@ -1,6 +1,6 @@
 -- What a run of a server of lines promises, as of a session, for each of its four ends: by a line such as `quit`, by
 -- the input's end, by a read that failed, by a write or a flush that failed.
-use Rattle.std.specs.Prelude.{◌≡◌, ℕ, ◌≤◌, Bool, true, false, List, [], ◌∷◌, ◌++◌, length, Result, Ok, Err}
+use Rattle.std.specs.Prelude.{◌≡◌, ℕ, ◌≤◌, Bool, true, false, List, [], ◌∷◌, ◌++◌, length, if◌then◌else◌, Result, Ok, Err}
 use Rattle.std.specs.Option.{IfSome}
 use Rattle.std.specs.Io.KnownBytes.{Consumes, Appends, IsAtEnd}
 use Rattle.byte_devices.specs.Devices.{InputState, OutputState, risen, raised, Begins}
@@ -13,61 +13,57 @@ use Rattle.chess_cecp.specs.declared.run.Fault.{Fault}
 use Rattle.chess_cecp.specs.declared.run.Fault.TheVariants.{Read, Write}
 use Rattle.chess_cecp.specs.declared.session.TheConstants.{COMMAND_LEN}
 
--- what passed in a call: the bytes that the reader gave, whether it reported its end, and the bytes that the writer
--- took
+-- what passed in a call: the bytes that were read, whether the reader reported its end, and the bytes that were written
 pub record Transcript : Type 0 where
-  pub given : List ℕ
-  pub told : Bool
-  pub taken : List ℕ
+  pub read : List ℕ
+  pub end_reported : Bool
+  pub written : List ℕ
 
 -- a count that rises where this is so
 abbrev pub risen_if : Bool → ℕ → ℕ
-risen_if true n = risen n
-risen_if false n = n
+risen_if rises n = if rises then risen n else n
 
 -- the transcript is that of the devices, as far as they report it. Their counts show that a device failed exactly where
 -- that is said of it here
 pub record FitsDevices (r r' : InputState) (w w' : OutputState) (t : Transcript)
     (read_failed write_failed : Bool) : Type 0 where
-  pub given : Consumes r.known_bytes r'.known_bytes t.given
-  pub taken : Appends w.known_bytes w'.known_bytes t.taken
-  pub told : r'.end_count ≡ risen_if t.told r.end_count
-  pub reads : r'.failure_count ≡ risen_if read_failed r.failure_count
-  pub writes : w'.failure_count ≡ risen_if write_failed w.failure_count
+  pub read : Consumes r.known_bytes r'.known_bytes t.read
+  pub written : Appends w.known_bytes w'.known_bytes t.written
+  pub ends : r'.end_count ≡ risen_if t.end_reported r.end_count
+  pub read_failures : r'.failure_count ≡ risen_if read_failed r.failure_count
+  pub write_failures : w'.failure_count ≡ risen_if write_failed w.failure_count
 
 -- where nothing was unflushed before the call, just these bytes are now
 abbrev pub LeavesUnflushed : OutputState → OutputState → List ℕ → Type 0
 LeavesUnflushed w w' text = w.unflushed ≡ 0 → w'.unflushed ≡ raised 0 text
 
--- the lines that were given: an unended last one counts where the end was reported
-abbrev pub lines_given : Transcript → List LineSeen
-lines_given t = stream_lines COMMAND_LEN t.told t.given
+-- the lines that were read: an unended last one counts where the end was reported
+abbrev pub lines_read : Transcript → List LineSeen
+lines_read t = stream_lines COMMAND_LEN t.end_reported t.read
 
 -- these lines were answered by this text, up to the first with which the server ends, if it ends with one; and the
 -- state is the one after them
 abbrev pub Answered : {S : Type 0} → Server S → S → S → List ℕ → Bool → List LineSeen → Type 0
 Answered respond s s' text ends ls = responses respond s ls ≡ record { text = text; state = s'; ends = ends }
 
--- all lines that were given were answered
-abbrev pub AnsweredAll : {S : Type 0} → Server S → S → S → Transcript → Bool → Type 0
-AnsweredAll respond s s' t ends = Answered respond s s' t.taken ends (lines_given t)
-
--- where the bytes that were still to come were known, all their lines were answered, however they were cut
-abbrev pub AnsweredKnown : {S : Type 0} → Server S → InputState → S → S → Transcript → Bool → Type 0
-AnsweredKnown respond r s s' t ends =
-    IfSome r.known_bytes (λ xs. Answered respond s s' t.taken ends (lines COMMAND_LEN xs))
+-- all lines that were read were answered; and where the bytes that were still to come were known, all their lines,
+-- however they were cut
+abbrev pub AnsweredAll : {S : Type 0} → Server S → InputState → S → S → Transcript → Bool → Type 0
+AnsweredAll respond r s s' t ends =
+    Answered respond s s' t.written ends (lines_read t)
+    × IfSome r.known_bytes (λ xs. Answered respond s s' t.written ends (lines COMMAND_LEN xs))
 
 -- where the bytes that were still to come were known, these lines are the first of theirs
 abbrev pub FirstOfKnown : InputState → List LineSeen → Type 0
-FirstOfKnown r ls = IfSome r.known_bytes (λ xs. (behind : List LineSeen) × (lines COMMAND_LEN xs ≡ ls ++ behind))
+FirstOfKnown r ls = IfSome r.known_bytes (λ xs. (after : List LineSeen) × (lines COMMAND_LEN xs ≡ ls ++ after))
 
 -- the call ended at `line`: the server went on after each line in `before`, and these have each line that was whole
 -- before the last piece was read, so none was unanswered then
 pub record EndsAt {S : Type 0} (respond : Server S) (s : S) (t : Transcript) (last_len : ℕ) (before : List LineSeen)
     (line : LineSeen) (after : List LineSeen) : Type 0 where
-  pub lines : lines_given t ≡ before ++ line ∷ after
+  pub lines : lines_read t ≡ before ++ line ∷ after
   pub goes_on : (responses respond s before).ends ≡ false
-  pub on_demand : length (whole COMMAND_LEN (before_piece last_len t.given)) ≤ length before
+  pub on_demand : length (whole COMMAND_LEN (before_piece last_len t.read)) ≤ length before
 
 -- an end by the first line with which the server ends
 abbrev pub ByLine : {S : Type 0} → Server S → S → Transcript → ℕ → Type 0
@@ -83,7 +79,7 @@ ByWrite respond r w w' s s' t last_len =
     (before : List LineSeen) × (line : LineSeen) × (after : List LineSeen) × (start : List ℕ)
     × EndsAt respond s t last_len before line after
     × Begins start (respond (responses respond s before).state line).text
-    × (t.taken ≡ (responses respond s before).text ++ start)
+    × (t.written ≡ (responses respond s before).text ++ start)
     × (s' ≡ (respond (responses respond s before).state line).state)
     × FirstOfKnown r (before ++ line ∷ [])
     × LeavesUnflushed w w' start
@@ -94,11 +90,10 @@ ByWrite respond r w w' s s' t last_len =
 abbrev pub SessionRan : {S : Type 0} → Server S → InputState → InputState → OutputState → OutputState → S → S → Transcript
     → Result End Fault → Type 0
 SessionRan respond r r' w w' s s' t (Ok Quit) = FitsDevices r r' w w' t false false × ByLine respond s t r'.last_len
-    × AnsweredAll respond s s' t true × AnsweredKnown respond r s s' t true × LeavesUnflushed w w' []
-SessionRan respond r r' w w' s s' t (Ok InputEnded) = FitsDevices r r' w w' t false false
-    × (t.told ≡ true) × IsAtEnd r'.known_bytes
-    × AnsweredAll respond s s' t false × AnsweredKnown respond r s s' t false × LeavesUnflushed w w' []
-SessionRan respond r r' w w' s s' t (Err Read) = FitsDevices r r' w w' t true false
-    × (t.told ≡ false) × AnsweredAll respond s s' t false × FirstOfKnown r (lines_given t) × LeavesUnflushed w w' []
+    × AnsweredAll respond r s s' t true × LeavesUnflushed w w' []
+SessionRan respond r r' w w' s s' t (Ok InputEnded) = FitsDevices r r' w w' t false false × (t.end_reported ≡ true)
+    × IsAtEnd r'.known_bytes × AnsweredAll respond r s s' t false × LeavesUnflushed w w' []
+SessionRan respond r r' w w' s s' t (Err Read) = FitsDevices r r' w w' t true false × (t.end_reported ≡ false)
+    × Answered respond s s' t.written false (lines_read t) × FirstOfKnown r (lines_read t) × LeavesUnflushed w w' []
 SessionRan respond r r' w w' s s' t (Err Write) = FitsDevices r r' w w' t false true
     × ByWrite respond r w w' s s' t r'.last_len

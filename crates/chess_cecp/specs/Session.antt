@@ -1,5 +1,5 @@
 -- What a session answers: the table of commands, a row for each kind. From one line to the next only the game changes.
-use Rattle.std.specs.Prelude.{◌⊎◌, ℕ, ◌&&◌, not, nat_le, nat_lt, if◌then◌else◌, Bool, true, false, List, [], ◌∷◌, ◌++◌, length, codes, decimal, Option, None, Some, Result, Ok, Err}
+use Rattle.std.specs.Prelude.{◌⊎◌, ℕ, nat_le, nat_lt, if◌then◌else◌, true, false, List, [], ◌∷◌, ◌++◌, length, codes, decimal, Option, None, Some, Result, Ok, Err}
 use Rattle.chess_base.specs.Letters.{new_line, space}
 use Rattle.std.specs.Str.{bytes_eq}
 use Rattle.byte_devices.specs.Devices.{Begins}
@@ -12,6 +12,7 @@ use Rattle.chess_game.specs.declared.results.Outcome.{Outcome}
 use Rattle.chess_base.specs.declared.setup.Setup.{Setup}
 use Rattle.chess_base.specs.Initial.{initial_setup, initial_setup_of}
 use Rattle.std.specs.List.{flat_map}
+use Rattle.std.specs.Option.{option_map_or}
 use Rattle.chess_base.specs.MoveList.{moves}
 use Rattle.chess_fen.specs.Reading.{fen_reading_as}
 use Rattle.chess_fen.specs.Writing.{fen}
@@ -25,7 +26,7 @@ use Rattle.chess_text.specs.San.{shown_move}
 use Rattle.chess_text.specs.declared.reading.Reading.{Reading}
 use Rattle.chess_text.specs.declared.reading.Reading.TheVariants as reads
 use Rattle.chess_cecp.specs.Commands.{command_of, argument_of}
-use Rattle.chess_cecp.specs.Declaring.{declared_by, result_text, state_text}
+use Rattle.chess_cecp.specs.Declaring.{read_result, result_text, state_text}
 use Rattle.chess_game.specs.Ends.{verdict_outcome, verdict_comment, claims}
 use Rattle.chess_game.specs.Game.{State, from_start, played, taken_back, with_declared, current, verdict_now, is_over, is_other}
 use Rattle.chess_game.specs.declared.ends.Claims.{Claims}
@@ -39,22 +40,17 @@ use Rattle.chess_cecp.specs.declared.command.Command.TheVariants.{New, SetBoard,
 abbrev pub joined_line : List ℕ → List ℕ → List ℕ
 joined_line front text = front ++ (text ++ new_line ∷ [])
 
--- one row of the table: the text of the answer, and the game after it
-pub record Row : Type 0 where
-  pub text : List ℕ
-  pub next : State
-
--- a text is answered, and nothing changes
-abbrev pub says : State → List ℕ → Row
-says s text = record { text = text; next = s }
+-- this text is answered, and the session goes on with this game
+abbrev pub says : State → List ℕ → Response State
+says s text = record { text = text; state = s; ends = false }
 
 -- the command is refused with this line, and nothing changes
-abbrev pub refuses : State → List ℕ → List ℕ → Row
+abbrev pub refuses : State → List ℕ → List ℕ → Response State
 refuses s front text = says s (joined_line front text)
 
 -- the game changes, with no answer
-abbrev pub becomes : State → Row
-becomes s = record { text = []; next = s }
+abbrev pub becomes : State → Response State
+becomes s = says s []
 
 -- the line of a result
 unfoldable pub result_line : Outcome → List ℕ → List ℕ
@@ -62,20 +58,15 @@ result_line o comment = joined_line (result_text o comment) []
 
 -- the line of a verdict, if there is one
 abbrev pub verdict_line : Option Verdict → List ℕ
-verdict_line None = []
-verdict_line (Some v) = result_line (verdict_outcome v) (verdict_comment v)
+verdict_line verdict = option_map_or (λ v. result_line (verdict_outcome v) (verdict_comment v)) verdict []
 
 -- the game changes, and the verdict on it is answered
-abbrev pub becomes_judged : State → Row
-becomes_judged s = record { text = verdict_line (verdict_now s); next = s }
+abbrev pub becomes_judged : State → Response State
+becomes_judged s = says s (verdict_line (verdict_now s))
 
--- a move after a space
-abbrev pub shown : Setup → Move → List ℕ
-shown p m = space ∷ shown_move p m
-
--- the line that lists moves
+-- the line that lists moves, each after a space
 unfoldable pub moves_line : Setup → List Move → List ℕ
-moves_line p ms = joined_line (codes "# moves ") (decimal (length ms) ++ flat_map (shown p) ms)
+moves_line p ms = joined_line (codes "# moves ") (decimal (length ms) ++ flat_map (λ m. space ∷ shown_move p m) ms)
 
 -- the name of a fault of a FEN
 abbrev pub fen_fault_name : FenFault → List ℕ
@@ -92,7 +83,7 @@ fen_fault_name Check = codes "check"
 
 -- the game starts anew from the sound position that a FEN denotes; a FEN that denotes none is refused by its first
 -- fault
-abbrev pub setboard_row : State → Result Setup FenFault → Row
+abbrev pub setboard_row : State → Result Setup FenFault → Response State
 setboard_row s (Ok start) = becomes_judged (from_start start)
 setboard_row s (Err fault) = refuses s (codes "tellusererror Illegal position (") (fen_fault_name fault ++ codes ")")
 
@@ -102,73 +93,70 @@ feature_text =
     codes "feature ping=1 setboard=1 playother=0 san=0 usermove=1 time=1 draw=1 sigint=0 sigterm=0 reuse=1 analyze=0 colors=0 debug=1 myname=\"CECP arbiter\" variants=\"normal,fischerandom\" done=1"
 
 -- the one legal move that a text denotes is played
-abbrev pub reading_row : State → List ℕ → Reading → Row
+abbrev pub reading_row : State → List ℕ → Reading → Response State
 reading_row s text (reads.Move m) = becomes_judged (played s m)
 reading_row s text reads.Ambiguous = refuses s (codes "Error (ambiguous move): ") text
 reading_row s text reads.NoSuch = refuses s (codes "Illegal move: ") text
 reading_row s text reads.NotAMove = refuses s (codes "Illegal move: ") text
 
 -- a move with this text is asked for
-abbrev pub move_row : ℕ → State → List ℕ → Row
+abbrev pub move_row : ℕ → State → List ℕ → Response State
 move_row limit s text =
     if is_over s then refuses s (codes "Illegal move (game over): ") text
     else if nat_le limit (length s.moves) then refuses s (codes "Error (game too long): ") text
     else reading_row s text (reading (current s) text)
 
 -- the last n moves are taken back, if there are so many, by the command of that name
-abbrev pub back_row : ℕ → List ℕ → State → Row
+abbrev pub back_row : ℕ → List ℕ → State → Response State
 back_row n name s =
     if nat_le n (length s.moves) then becomes (taken_back s n)
     else refuses s (codes "Error (command not legal now): ") name
 
 -- a result is declared, unless the text declares none or there is a verdict with another outcome
-abbrev pub result_row : State → List ℕ → Option Declared → Row
+abbrev pub result_row : State → List ℕ → Option Declared → Response State
 result_row s text None = refuses s (codes "Error (bad result): ") text
 result_row s text (Some d) =
     if is_other (verdict_now s) d.outcome then refuses s (codes "Error (the board says otherwise): ") text
     else becomes (with_declared s (Some d))
 
 -- a draw is declared and answered
-abbrev pub draws : State → List ℕ → Row
-draws s comment = record {
-  text = result_line Draw comment;
-  next = with_declared s
-      (Some (record { outcome = Draw; comment = comment }));
-}
+abbrev pub draws : State → List ℕ → Response State
+draws s comment =
+    says (with_declared s (Some (record { outcome = Draw; comment = comment }))) (result_line Draw comment)
 
 -- a draw is declared by the first claim that holds
-abbrev pub claimed : State → Claims → Row
+abbrev pub claimed : State → Claims → Response State
 claimed s c =
     if c.threefold then draws s (codes "Threefold repetition")
     else if c.fifty_moves then draws s (codes "50-move rule")
     else refuses s (codes "Error (no claim): ") (codes "claim")
 
 -- a draw is claimed
-abbrev pub claim_row : State → Row
+abbrev pub claim_row : State → Response State
 claim_row s = if is_over s then refuses s (codes "Error (command not legal now): ") (codes "claim") else claimed s
     (claims s.start s.moves)
 
 -- normal chess is asked for: no answer in a game of it; in one of Chess960 the game starts anew, as after `new`
-abbrev pub normal_row : State → Rules → Row
+abbrev pub normal_row : State → Rules → Response State
 normal_row s Normal = says s []
 normal_row s Fischerandom = becomes (from_start initial_setup)
 
 -- the variant of an argument
-abbrev pub variant_row : State → List ℕ → List ℕ → Row
+abbrev pub variant_row : State → List ℕ → List ℕ → Response State
 variant_row s text argument =
     if bytes_eq argument (codes "fischerandom") then becomes (from_start (initial_setup_of Fischerandom))
     else if bytes_eq argument (codes "normal") then normal_row s s.start.variant
     else refuses s (codes "Error (unsupported variant): ") text
 
 -- the table: the row of a command, in this game, for a line with this text and this argument in it
-abbrev pub row : Tags → ℕ → State → List ℕ → List ℕ → Command → Row
+abbrev pub row : Tags → ℕ → State → List ℕ → List ℕ → Command → Response State
 row tags limit s text argument New = becomes (from_start initial_setup)
 row tags limit s text argument SetBoard = setboard_row s (fen_reading_as s.start.variant argument)
 row tags limit s text argument UserMove = move_row limit s argument
 row tags limit s text argument BareMove = move_row limit s text
 row tags limit s text argument Undo = back_row 1 (codes "undo") s
 row tags limit s text argument Remove = back_row 2 (codes "remove") s
-row tags limit s text argument Declare = result_row s text (declared_by argument)
+row tags limit s text argument Declare = result_row s text (read_result argument)
 row tags limit s text argument Claim = claim_row s
 row tags limit s text argument (Ping n) = says s (joined_line (codes "pong ") (decimal n))
 row tags limit s text argument (Protover n) = if nat_lt n 2 then says s [] else says s (joined_line feature_text [])
@@ -178,43 +166,24 @@ row tags limit s text argument ShowFen = says s (joined_line (codes "# fen ") (f
 row tags limit s text argument ShowMoves = says s (moves_line (current s) (moves (current s)))
 row tags limit s text argument ShowState = says s (joined_line (codes "# state ply ") (state_text s))
 row tags limit s text argument ShowPgn = says s (pgn (codes "# ") tags s)
-row tags limit s text argument Quit = says s []
+row tags limit s text argument Quit = record (says s []) { ends = true }
 row tags limit s text argument Silent = says s []
 row tags limit s text argument BadNumber = refuses s (codes "Error (bad number): ") text
 row tags limit s text argument Unknown = refuses s (codes "Error (unknown command): ") text
 
 -- the row of a line; one that is too long is refused by its first bytes
-abbrev pub row_on : SessionSeen → LineSeen → Row
+abbrev pub row_on : SessionSeen → LineSeen → Response State
 row_on seen line =
     if line.too_long then refuses seen.state (codes "Error (line too long): ") line.text
     else row seen.tags seen.limit seen.state line.text (argument_of line.text) (command_of line.text)
 
--- the session after a row: its tags and its limit stay
-abbrev pub after_row : SessionSeen → Row → SessionSeen
-after_row seen r = record { tags = seen.tags; limit = seen.limit; state = r.next }
-
--- the session after a line
-unfoldable pub next_state : SessionSeen → LineSeen → SessionSeen
-next_state seen line = after_row seen (row_on seen line)
-
--- the answer to a line
-unfoldable pub answer_to : SessionSeen → LineSeen → List ℕ
-answer_to seen line = (row_on seen line).text
+-- how a session responds to a line: as the table says; its tags and its limit stay
+unfoldable pub session_response : SessionSeen → LineSeen → Response SessionSeen
+session_response seen line =
+    let r = row_on seen line in
+    record { text = r.text; state = record seen { state = r.state }; ends = r.ends }
 
 -- the texts of refusals
 abbrev pub IsRefusal : List ℕ → Type 0
 IsRefusal text = Begins (codes "Error") text
     ⊎ (Begins (codes "Illegal move") text ⊎ Begins (codes "tellusererror") text)
-
--- the command that ends a session
-abbrev pub is_quit_command : Command → Bool
-is_quit_command Quit = true
-is_quit_command command = false
-
--- the line ends the session
-unfoldable pub is_quit : LineSeen → Bool
-is_quit line = not line.too_long && is_quit_command (command_of line.text)
-
--- how a session responds to a line
-abbrev pub session_response : SessionSeen → LineSeen → Response SessionSeen
-session_response seen line = record { text = answer_to seen line; state = next_state seen line; ends = is_quit line }

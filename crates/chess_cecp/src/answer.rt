@@ -2,11 +2,13 @@
 
 ghost use Rattle.chess_cecp.specs.declared.answer.TheConstants.{ANSWER_LEN};
 ghost use Rattle.std.specs.List.{flat_map};
-ghost use Rattle.std.specs.Prelude.{◌≡◌, ◌+◌, ◌*◌, ◌≤◌, ◌++◌, [], if◌then◌else◌, length, codes, decimal};
+ghost use Rattle.std.specs.Prelude.{◌≡◌, ◌+◌, ◌*◌, ◌≤◌, ◌++◌, ◌∷◌, [], if◌then◌else◌, length, codes, decimal};
 ghost use Rattle.arrayvec.specs.ArrayVec.{array_vec_len};
 ghost use Rattle.std.specs.Option.{option_map};
+ghost use Rattle.chess_base.specs.Letters.{space};
+ghost use Rattle.chess_text.specs.San.{shown_move};
 ghost use Rattle.chess_cecp.specs.Declaring.{result_text, verdict_text, declared_text, state_text};
-ghost use Rattle.chess_cecp.specs.Session.{moves_line, shown, result_line, verdict_line, fen_fault_name, feature_text, joined_line};
+ghost use Rattle.chess_cecp.specs.Session.{moves_line, result_line, verdict_line, fen_fault_name, feature_text, joined_line};
 
 use crate::declaring::claims_text;
 use arrayvec::ArrayVec;
@@ -203,7 +205,7 @@ pub(crate) fn write_moves(answer: &mut Answer, position: &Position, moves: &[Mov
 // Each move after a space.
 fn write_each(answer: &mut Answer, position: &Position, moves: &[Move])
     requires { array_vec_len answer.old + 6 * length moves.now ≤ ANSWER_LEN }
-    ensures text { answer.new.items ≡ answer.old.items ++ flat_map (shown position.now) moves.now }
+    ensures text { answer.new.items ≡ answer.old.items ++ flat_map (λ m. space ∷ shown_move position.now m) moves.now }
     ensures len { array_vec_len answer.new ≤ array_vec_len answer.old + 6 * length moves.now }
 {
     for m in moves {

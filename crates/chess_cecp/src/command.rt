@@ -1,8 +1,10 @@
 //! What a line commands.
 
-ghost use Rattle.std.specs.Prelude.{◌≡◌, ◌+◌, ◌≤◌, ◌++◌, length};
+ghost use Rattle.std.specs.Prelude.{◌≡◌, ◌+◌, ◌^◌, ◌<◌, ◌≤◌, ◌++◌, IfSome, length};
 ghost use Rattle.chess_cecp.specs.Lines.{is_blank};
-ghost use Rattle.chess_cecp.specs.Commands.{command_of, named_command, word_of, argument_of, command_number, with_number, is_engine_command, is_opponent_or_clock_command};
+ghost use Rattle.chess_cecp.specs.Commands.{command_of, named_command, word_of, argument_of, short_number, command_number, is_ignored};
+ghost use Rattle.chess_cecp.specs.ties.Ignored.{is_engine_command, is_opponent_or_clock_command};
+ghost use Rattle.std.specs.Option.{option_map_or};
 
 use crate::trim::is_blank;
 use chess_text::has_move_shape;
@@ -91,7 +93,16 @@ pub fn argument(text: &[u8]) -> &[u8]
 pub fn read_number(text: &[u8]) -> Option<u32>
     ensures { result ≡ command_number text.now }
 {
-    if text.is_empty() || text.len() > 9 {
+    short_number(text, 9)
+}
+
+/// The number that a text of at least one and at most so many digits denotes.
+pub fn short_number(text: &[u8], most: usize) -> Option<u32>
+    requires { most ≤ 9 }
+    ensures value { result ≡ short_number most text.now }
+    ensures small { IfSome result (λ n. n < 10 ^ most) }
+{
+    if text.is_empty() || text.len() > most {
         return None;
     }
     let mut number = 0;
@@ -105,7 +116,7 @@ pub fn read_number(text: &[u8]) -> Option<u32>
 }
 
 fn ping(argument: &[u8]) -> Command
-    ensures { result ≡ with_number Command.Ping (command_number argument.now) }
+    ensures { result ≡ option_map_or Command.Ping (command_number argument.now) Command.BadNumber }
 {
     match read_number(argument) {
         Some(number) => Command::Ping(number),
@@ -114,7 +125,7 @@ fn ping(argument: &[u8]) -> Command
 }
 
 fn protover(argument: &[u8]) -> Command
-    ensures { result ≡ with_number Command.Protover (command_number argument.now) }
+    ensures { result ≡ option_map_or Command.Protover (command_number argument.now) Command.BadNumber }
 {
     match read_number(argument) {
         Some(number) => Command::Protover(number),
@@ -122,9 +133,8 @@ fn protover(argument: &[u8]) -> Command
     }
 }
 
-// Whether the word is one that an arbiter accepts and ignores, of the protocol or of how an engine is to play; `?` is:
-// at once.
-#[tactic(auto, unfolding(crate::specs::Commands::is_engine_command))]
+// Whether the word is an ignored command of the protocol or of how an engine is to play; `?` is: at once.
+#[tactic(auto, unfolding(crate::specs::ties::Ignored::is_engine_command))]
 fn is_engine_command(word: &[u8]) -> bool
     ensures { result ≡ is_engine_command word.now }
 {
@@ -140,8 +150,8 @@ fn is_engine_command(word: &[u8]) -> bool
         || word == b"?".as_slice()
 }
 
-// Whether the word is one of the others: of the opponent, who may offer a draw, of the clocks and the depth.
-#[tactic(auto, unfolding(crate::specs::Commands::is_opponent_or_clock_command))]
+// Whether the word is one of the other ignored commands: of the opponent, who may offer a draw, of the clocks and the depth.
+#[tactic(auto, unfolding(crate::specs::ties::Ignored::is_opponent_or_clock_command))]
 fn is_opponent_or_clock_command(word: &[u8]) -> bool
     ensures { result ≡ is_opponent_or_clock_command word.now }
 {
@@ -157,12 +167,19 @@ fn is_opponent_or_clock_command(word: &[u8]) -> bool
         || word == b"otim".as_slice()
 }
 
+// Whether the word is a command to an engine that plays, which an arbiter accepts and ignores.
+fn is_ignored(word: &[u8]) -> bool
+    ensures { result ≡ is_ignored word.now }
+{
+    is_engine_command(word) || is_opponent_or_clock_command(word)
+}
+
 // The command that a first word names, with this argument; none where the word is no command's name.
 #[tactic(auto, unfolding(crate::specs::Commands::named_command))]
 pub(crate) fn named_command(word: &[u8], argument: &[u8]) -> Option<Command>
     ensures { result ≡ named_command word.now argument.now }
 {
-    if word.is_empty() || is_engine_command(word) || is_opponent_or_clock_command(word) {
+    if word.is_empty() || is_ignored(word) {
         Some(Command::Silent)
     } else if word == b"new".as_slice() {
         Some(Command::New)

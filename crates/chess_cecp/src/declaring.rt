@@ -3,7 +3,7 @@
 ghost use Rattle.std.specs.Prelude.{◌≡◌, ◌≤◌, length};
 ghost use Rattle.std.specs.Option.{option_map};
 ghost use Rattle.chess_pgn.specs.Words.{outcome_of};
-ghost use Rattle.chess_cecp.specs.Declaring.{result_comment, declared_by, claims_text};
+ghost use Rattle.chess_cecp.specs.Declaring.{result_comment, read_result, claims_text};
 
 use crate::command::{argument, first_word};
 use chess_game::{Claims, Comment, Declared, Outcome};
@@ -38,9 +38,9 @@ fn result_comment(text: &[u8]) -> Option<&[u8]>
 
 // Parses the argument of the command `result`: an outcome, and after it nothing or a comment in braces, which is cut as
 // `Comment::cut` does. `None` for anything else.
-#[tactic(auto, unfolding(crate::specs::Declaring::declared_by))]
-pub(crate) fn declared_by(text: &[u8]) -> Option<Declared>
-    ensures { result ≡ declared_by text.now }
+#[tactic(auto, unfolding(crate::specs::Declaring::read_result))]
+pub(crate) fn read_result(text: &[u8]) -> Option<Declared>
+    ensures { result ≡ read_result text.now }
 {
     let outcome = outcome_of(first_word(text))?;
     match result_comment(argument(text)) {

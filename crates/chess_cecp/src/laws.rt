@@ -10,7 +10,7 @@ ghost use Rattle.chess_cecp.specs.Held.{SessionSeen};
 ghost use Rattle.chess_cecp.specs.Lines.{LineSeen, stream_lines, line_of};
 ghost use Rattle.chess_cecp.specs.laws.Unended.{HasNoEnd};
 ghost use Rattle.chess_cecp.specs.laws.Normal.{normal_row_of, keeps_its_row};
-ghost use Rattle.chess_cecp.specs.Session.{row, next_state, answer_to, IsRefusal};
+ghost use Rattle.chess_cecp.specs.Session.{row, session_response, IsRefusal};
 
 /// The lines are the pieces that byte 10 ends, and what follows the last one, if it isn't empty and the end was
 /// reported.
@@ -25,8 +25,8 @@ pub fn lines_are_pieces()
 
 /// A line whose answer is a refusal leaves start, moves and declared result as they were.
 pub fn refusals_change_nothing()
-    ensures { (session : SessionSeen) (line : LineSeen) → IsRefusal (answer_to session line)
-        → next_state session line ≡ session }
+    ensures { (session : SessionSeen) (line : LineSeen) → IsRefusal (session_response session line).text
+        → (session_response session line).state ≡ session }
 {}
 
 /// In a game of normal chess each command but `variant` and `protover` has the row that the table of normal chess alone

@@ -10,10 +10,10 @@ ghost use Rattle.chess_cecp.specs.Held.{opened_session, game_held};
 ghost use Rattle.chess_pgn.specs.GameText.{pgn};
 ghost use Rattle.chess_game.specs.Results.{cut_comment};
 ghost use Rattle.chess_text.specs.Moves.{reading, has_shape, shape, IsLegalReading};
-ghost use Rattle.chess_cecp.specs.Commands.{argument_of, unnamed_command};
-ghost use Rattle.chess_cecp.specs.Declaring.{declared_by};
-ghost use Rattle.chess_cecp.specs.Session.{row, move_row, back_row, result_row, draws, claim_row, setboard_row, normal_row, variant_row, after_row, next_state, answer_to, is_quit, joined_line, moves_line, IsRefusal};
-ghost use Rattle.chess_cecp.specs.ties.Replies.{reply_of, reply_to, shows_pgn, asks_for_pgn};
+ghost use Rattle.chess_cecp.specs.Commands.{argument_of};
+ghost use Rattle.chess_cecp.specs.Declaring.{read_result};
+ghost use Rattle.chess_cecp.specs.Session.{row, move_row, back_row, result_row, draws, claim_row, setboard_row, normal_row, variant_row, session_response, joined_line, moves_line, IsRefusal};
+ghost use Rattle.chess_cecp.specs.ties.Replies.{after_row, unnamed_command, reply_of, reply_to, shows_pgn, asks_for_pgn};
 ghost use Rattle.chess_game.specs.declared.game.TheConstants.{MOST_MOVES};
 ghost use Rattle.chess_cecp.specs.declared.session.TheConstants.{COMMAND_LEN};
 
@@ -22,7 +22,7 @@ use crate::answer::{
     write_result, write_state, write_verdict,
 };
 use crate::command::{Command, named_command, split_word};
-use crate::declaring::declared_by;
+use crate::declaring::read_result;
 use crate::lines::Line;
 use byte_devices::{Output, WriteFault, put};
 use chess_base::{Position, Variant};
@@ -238,10 +238,10 @@ impl<B: Board> Session<B> {
     fn declare(&mut self, text: &[u8], argument: &[u8], answer: &mut Answer)
         requires short { length text.now ≤ COMMAND_LEN }
         requires empty { answer.old.items ≡ [] }
-        ensures next { self.new ≡ after_row self.old (result_row self.old.state text.now (declared_by argument.now)) }
-        ensures text { answer.new.items ≡ (result_row self.old.state text.now (declared_by argument.now)).text }
+        ensures next { self.new ≡ after_row self.old (result_row self.old.state text.now (read_result argument.now)) }
+        ensures text { answer.new.items ≡ (result_row self.old.state text.now (read_result argument.now)).text }
     {
-        let Some(declared) = declared_by(argument) else {
+        let Some(declared) = read_result(argument) else {
             write_line(answer, b"Error (bad result): ", text);
             return;
         };
@@ -364,11 +364,12 @@ impl<B: Board> Session<B> {
     }
 
     // Does what the row of a line says, and puts the answer together unless it is the game's text.
-    #[tactic(auto, unfolding(crate::specs::Session::next_state, crate::specs::Session::answer_to, crate::specs::Session::is_quit, crate::specs::ties::Replies::asks_for_pgn, crate::specs::Commands::command_of))]
+    #[tactic(auto, unfolding(crate::specs::Session::session_response, crate::specs::ties::Replies::is_quit, crate::specs::ties::Replies::asks_for_pgn, crate::specs::Commands::command_of))]
     fn obey_line(&mut self, line: &Line<COMMAND_LEN>, answer: &mut Answer) -> Reply
         requires { answer.old.items ≡ [] }
-        ensures next { self.new ≡ next_state self.old line.now }
-        ensures text { asks_for_pgn line.now ≡ false → answer.new.items ≡ answer_to self.old line.now }
+        ensures next { self.new ≡ (session_response self.old line.now).state }
+        ensures text { asks_for_pgn line.now ≡ false
+            → answer.new.items ≡ (session_response self.old line.now).text }
         ensures reply { result ≡ reply_to line.now }
     {
         let text = line.text();
@@ -405,12 +406,14 @@ impl<B: Board> Session<B> {
         line: &Line<COMMAND_LEN>,
         writer: &mut W,
     ) -> Result<Go, WriteFault>
-        ensures next { self.new ≡ next_state self.old line.now }
-        ensures written { Sends (W.seen writer.old) (W.seen writer.new) result (answer_to self.old line.now) }
-        ensures go { IfOk result (λ go. go ≡ (if is_quit line.now then Go.Quit else Go.On)) }
+        ensures next { self.new ≡ (session_response self.old line.now).state }
+        ensures written { Sends (W.seen writer.old) (W.seen writer.new) result
+            (session_response self.old line.now).text }
+        ensures go { IfOk result
+            (λ go. go ≡ (if (session_response self.old line.now).ends then Go.Quit else Go.On)) }
 
         // In single facts, in addition to the table.
-        ensures refused { IsRefusal (answer_to self.old line.now) → self.new ≡ self.old }
+        ensures refused { IsRefusal (session_response self.old line.now).text → self.new ≡ self.old }
         ensures kept { (self.new.tags ≡ self.old.tags) × (self.new.limit ≡ self.old.limit) }
     {
         let mut answer = Answer::new();

@@ -1,11 +1,12 @@
 -- The items of a line are a part of it.
 use Rattle.std.proofs.Common.{◌≡◌, ℕ, ◌-◌, ◌≤◌, Bool, true, false, ◌&&◌, List, length, drop, take, length-drop, ap, Option, Some, None, arith}
 use Rattle.std.specs.Prelude.{if◌then◌else◌, codes}
+use Rattle.std.specs.Option.{option_map_or}
 use Rattle.std.specs.Str.{bytes_eq}
 use Rattle.chess_base.specs.declared.man.Colour.TheVariants.{White, Black}
 use Rattle.chess_cecp.specs.Commands.{word_of, argument_of, command_number}
 use Rattle.chess_cecp.proofs.Parts.{wfb_short}
-use Rattle.engine_lines.specs.EngineLines.{LineKind, Features, Moves, Resigns, OffersDraw, ClaimsDraw, ClaimsWin, Rejects, SaysElse, pong_of, kind_of}
+use Rattle.engine_lines.specs.EngineLines.{LineKind, Features, Moves, Resigns, OffersDraw, ClaimsDraw, ClaimsWin, Rejects, Answers, SaysElse, kind_of}
 
 argument_short : (text : List ℕ) → length (argument_of text) ≤ length text
 unfolding argument_of
@@ -18,7 +19,7 @@ abbrev items_text : List ℕ → LineKind → List ℕ
 items_text default (Features text) = text
 items_text default _ = default
 
-no_pong : (o : Option ℕ) (text : List ℕ) {P : Type 0} → pong_of o ≡ Features text → P
+no_pong : (o : Option ℕ) (text : List ℕ) {P : Type 0} → option_map_or Answers o SaysElse ≡ Features text → P
 no_pong (Some n) text e = absurd cc
 no_pong None text e = absurd cc
 
@@ -34,7 +35,8 @@ features_short line text e =
     by_tests : (a b c d o f g h p : Bool)
         → (if a then Rejects else if b then Features (argument_of line) else if c then Moves (argument_of line)
         else if d then Resigns else if o then OffersDraw else if f then ClaimsDraw else if g then ClaimsWin White
-        else if h then ClaimsWin Black else if p then pong_of (command_number (argument_of line)) else SaysElse)
+        else if h then ClaimsWin Black
+        else if p then option_map_or Answers (command_number (argument_of line)) SaysElse else SaysElse)
         ≡ Features text → length text ≤ length line
     by_tests true b c d o f g h p e = absurd cc
     by_tests false true c d o f g h p e =

@@ -1,14 +1,15 @@
 -- Items, one after the other.
-use Rattle.std.proofs.Common.{◌≡◌, ℕ, zero, suc, ◌+◌, ◌-◌, ◌≤◌, ◌<◌, Bool, true, false, List, [], ◌∷◌, ◌++◌, length, take, drop, refl, ap, sym, ◌∙◌, Option, None, Some, arith, length-append, length-drop, append_assoc, append-nil}
-use Rattle.std.proofs.lemmas.List.{take-append-drop}
-use Rattle.std.specs.Prelude.{if◌then◌else◌, ◌==◌, codes, option_and_then}
+use Rattle.std.proofs.Common.{◌≡◌, ℕ, zero, suc, ◌+◌, ◌-◌, ◌≤◌, ◌<◌, Bool, true, false, List, [], ◌∷◌, ◌++◌, length, take, drop, get_or, refl, ap, sym, ◌∙◌, Option, None, Some, arith, length-append, length-drop, append_assoc, append-nil}
+use Rattle.std.proofs.lemmas.List.{take-append-drop, take_all}
+use Rattle.std.specs.Prelude.{if◌then◌else◌, ◌==◌, ◌&&◌, nat_lt, codes, option_and_then, take_while}
+use Rattle.std.specs.Option.{option_map_or}
 use Rattle.std.specs.Str.{bytes_eq}
 use Rattle.chess_base.specs.Letters.{is_digit}
 use Rattle.chess_cecp.specs.Lines.{without_front_blanks}
 use Rattle.chess_cecp.proofs.Parts.{wfb_short}
 use Rattle.chess_pgn.specs.Tokens.{is_name_byte}
 use Rattle.std.specs.List.{prefix_len}
-use Rattle.engine_lines.specs.Items.{Item, Value, Digits, Quoted, quoted, quote_at, value_of, is_apart, with_value, with_name, item_of, ends_hello, first_items, items_of, has_done, unquoted, last_said, takes, is_one, value_text, has_word, plays_fischerandom}
+use Rattle.engine_lines.specs.Items.{Item, Value, Digits, Quoted, quote_at, value_of, is_apart, with_value, with_name, item_of, ends_hello, first_items, items_of, has_done, last_said, takes, is_one, value_text, has_word, plays_fischerandom}
 use Rattle.engine_lines.specs.ties.Taken.{said_again, fischerandom_again}
 use Rattle.engine_lines.specs.Seen.{features_of}
 use Rattle.engine_lines.specs.declared.features.Features.{Features}
@@ -35,25 +36,19 @@ fischerandom-snoc items i =
 
 -- ---- an item takes a byte
 
-quoted_shorter : (cs : List ℕ) (b : Bool) (p : Value × List ℕ)
-    → (if b then None else Some (Quoted (take (quote_at cs) cs), drop (quote_at cs + 1) cs)) ≡ Some p
-    → length p.1 ≤ length cs
-quoted_shorter cs true p e = cc
-quoted_shorter cs false p e =
-    let d : length (drop (quote_at cs + 1) cs) ≡ length cs - (quote_at cs + 1) = length-drop (quote_at cs + 1) cs in
-    let s : length p.1 ≡ length (drop (quote_at cs + 1) cs) =
-    (let q : Some p ≡ Some (Quoted (take (quote_at cs) cs), drop (quote_at cs + 1) cs) = sym e in cc) in
-    omega arith
-
 value_shorter : (text : List ℕ) (p : Value × List ℕ) → value_of text ≡ Some p → length p.1 < length text
 value_shorter [] p e = cc
-value_shorter (c ∷ cs) p e = by_tests (c == 34) (is_digit c) refl e
+value_shorter (c ∷ cs) p e = by_tests ((c == 34) && nat_lt (quote_at cs) (length cs)) (is_digit c) refl e
   where
     by_tests : (a b : Bool) → is_digit c ≡ b
-        → (if a then quoted cs else if b then
-        Some (unquoted (c ∷ cs)) else None)
-        ≡ Some p → length p.1 < length (c ∷ cs)
-    by_tests true b k e = let q = quoted_shorter cs (quote_at cs == length cs) p e in omega arith
+        → (if a then Some (Quoted (take (quote_at cs) cs), drop (quote_at cs + 1) cs)
+        else if b then Some (Digits (take_while is_digit (c ∷ cs)), drop (prefix_len is_digit (c ∷ cs)) (c ∷ cs))
+        else None) ≡ Some p
+        → length p.1 < length (c ∷ cs)
+    by_tests true b k e =
+        let d : length (drop (quote_at cs + 1) cs) ≡ length cs - (quote_at cs + 1) = length-drop (quote_at cs + 1) cs in
+        let s : length p.1 ≡ length (drop (quote_at cs + 1) cs) = cc in
+        omega arith
     by_tests false true k e =
         let n : prefix_len is_digit (c ∷ cs) ≡ 1 + prefix_len is_digit cs = rw k refl in
         let d : length (drop (prefix_len is_digit (c ∷ cs)) (c ∷ cs)) ≡ length (c ∷ cs) - prefix_len is_digit (c ∷ cs) =
@@ -61,6 +56,26 @@ value_shorter (c ∷ cs) p e = by_tests (c == 34) (is_digit c) refl e
         let s : length p.1 ≡ length (drop (prefix_len is_digit (c ∷ cs)) (c ∷ cs)) = cc in
         omega arith
     by_tests false false k e = cc
+
+-- what follows the first byte, as code cuts it
+after_first : List ℕ → List ℕ
+after_first text = take (length text - 1) (drop 1 text)
+
+after_first-is : (c : ℕ) (cs : List ℕ) → after_first (c ∷ cs) ≡ cs
+unfolding after_first
+after_first-is c cs = take_all (length (c ∷ cs) - 1) cs (omega arith)
+
+-- a quote with no other after it is no value
+pub unclosed : (text : List ℕ) (at : ℕ) → get_or text 0 0 ≡ 34 → at ≡ quote_at (take (length text - 1) (drop 1 text))
+    → length (take (length text - 1) (drop 1 text)) ≤ at → None ≡ value_of text
+unfolding after_first
+unclosed [] at h e k = refl
+unclosed (c ∷ cs) at h e k =
+    let rest : take (length (c ∷ cs) - 1) cs ≡ cs = after_first-is c cs in
+    let place : at ≡ quote_at cs = e ∙ ap (λ (l : List ℕ). quote_at l) rest in
+    let same : length (take (length (c ∷ cs) - 1) cs) ≡ length cs = ap (λ (l : List ℕ). length l) rest in
+    let none : nat_lt (quote_at cs) (length cs) ≡ false = grind (arith, place, same, k) in
+    rw (h, none) refl
 
 abbrev name_or : List ℕ → Option (Item × List ℕ) → List ℕ
 name_or default None = default
@@ -127,7 +142,7 @@ first_items-by : (n : ℕ) (text : List ℕ) → first_items (suc n) text ≡ it
 first_items-by n text = at (item_of text)
   where
     at : (o : Option (Item × List ℕ))
-        → (elim o [ None ↦ [] | Some p ↦ if ends_hello p.0 then p.0 ∷ [] else p.0 ∷ first_items n p.1 ])
+        → option_map_or (λ (p : Item × List ℕ). if ends_hello p.0 then p.0 ∷ [] else p.0 ∷ first_items n p.1) o []
         ≡ items_by (first_items n) o
     at None = refl
     at (Some p) = refl

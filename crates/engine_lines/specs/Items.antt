@@ -1,6 +1,7 @@
 -- The items of a `feature` line (CECP, version 2: section 9), and what an engine says by them.
-use Rattle.std.specs.Prelude.{ℕ, zero, suc, ◌+◌, ◌==◌, ◌&&◌, ◌||◌, not, Bool, true, false, if◌then◌else◌, List, [], ◌∷◌, ◌++◌, length, take, drop, codes, Option, None, Some, option_and_then}
+use Rattle.std.specs.Prelude.{ℕ, zero, suc, ◌+◌, ◌==◌, ◌&&◌, ◌||◌, nat_lt, Bool, true, false, if◌then◌else◌, List, [], ◌∷◌, length, take, drop, codes, Option, None, Some, option_and_then}
 use Rattle.std.specs.List.{fold, list_any, position_or_len, prefix_len, slice_split, take_while}
+use Rattle.std.specs.Option.{option_map_or}
 use Rattle.std.specs.Str.{bytes_eq}
 use Rattle.chess_base.specs.Letters.{byte, is_digit}
 use Rattle.chess_cecp.specs.Lines.{is_blank, without_front_blanks}
@@ -22,20 +23,14 @@ pub record Item : Type 0 where
 abbrev pub quote_at : List ℕ → ℕ
 quote_at text = position_or_len (λ c. c == byte "\"") text
 
--- the text before the next double quote, and what follows that
-abbrev pub quoted : List ℕ → Option (Value × List ℕ)
-quoted text = if quote_at text == length text then None else Some
-    (Quoted (take (quote_at text) text), drop (quote_at text + 1) text)
-
--- the digits at the front of a text, and what follows them
-abbrev pub unquoted : List ℕ → Value × List ℕ
-unquoted text = (Digits (take_while is_digit text), drop (prefix_len is_digit text) text)
-
--- the value at the front of a text, and what follows it: digits, or a text in double quotes
+-- the value at the front of a text, and what follows it: a text in double quotes, or digits
 abbrev pub value_of : List ℕ → Option (Value × List ℕ)
 value_of [] = None
 value_of (c ∷ cs) =
-    if c == byte "\"" then quoted cs else if is_digit c then Some (unquoted (c ∷ cs)) else None
+    if (c == byte "\"") && nat_lt (quote_at cs) (length cs)
+    then Some (Quoted (take (quote_at cs) cs), drop (quote_at cs + 1) cs)
+    else if is_digit c then Some (Digits (take_while is_digit (c ∷ cs)), drop (prefix_len is_digit (c ∷ cs)) (c ∷ cs))
+    else None
 
 -- here is a space, a tab or the line's end
 abbrev pub is_apart : List ℕ → Bool
@@ -72,10 +67,7 @@ ends_hello i = bytes_eq i.name (codes "done") && is_one i.value
 abbrev pub first_items : ℕ → List ℕ → List Item
 first_items zero text = []
 first_items (suc n) text =
-    elim (item_of text) [
-      | None ↦ []
-      | Some p ↦ if ends_hello p.0 then p.0 ∷ [] else p.0 ∷ first_items n p.1
-    ]
+    option_map_or (λ p. if ends_hello p.0 then p.0 ∷ [] else p.0 ∷ first_items n p.1) (item_of text) []
 
 -- an item has at least three bytes, so a text has no more items than bytes
 unfoldable pub items_of : List ℕ → List Item

@@ -1,10 +1,11 @@
 -- Levels of time, their spelling, and the time that a level gives (CECP, version 2: command `level`).
-use Rattle.std.specs.Prelude.{ℕ, ◌+◌, ◌-◌, ◌*◌, ◌/◌, ◌%◌, ◌==◌, ◌&&◌, nat_lt, nat_le, not, if◌then◌else◌, List, [], ◌∷◌, ◌++◌, length, take, drop, codes, decimal, Option, None, Some}
+use Rattle.std.specs.Prelude.{ℕ, ◌+◌, ◌-◌, ◌*◌, ◌/◌, ◌%◌, ◌==◌, nat_lt, if◌then◌else◌, List, [], ◌∷◌, ◌++◌, length, take, drop, codes, decimal, Option, None, Some}
 use Rattle.std.specs.List.{position_or_len}
 use Rattle.std.specs.Option.{option_map}
 use Rattle.chess_base.specs.Letters.{byte}
 use Rattle.chess_cecp.specs.Commands.{word_of, argument_of, short_number}
 use Rattle.chess_cecp.specs.Lines.{without_front_blanks}
+use Rattle.chess_cecp.specs.Options.{◌>>=◌}
 
 -- moves of a session, 0 for one session without end; base and increment in seconds
 pub record LevelSeen : Type 0 where
@@ -29,25 +30,17 @@ base_of text =
     if colon_at text == length text then option_map (λ m. 60 * m) (short_number 3 text)
     else in_seconds (short_number 3 (take (colon_at text) text)) (short_number 2 (drop (colon_at text + 1) text))
 
--- the level of these three numbers, if each is there
-abbrev pub level_by : Option ℕ → Option ℕ → Option ℕ → Option LevelSeen
-level_by (Some m) (Some b) (Some i) = Some (record { moves = m; base = b; increment = i })
-level_by _ _ _ = None
-
--- three words, of moves, base and increment, and nothing after them
-abbrev pub level_in : List ℕ → List ℕ → List ℕ → List ℕ → Option LevelSeen
-level_in moves base increment [] = level_by (short_number 3 moves) (base_of base) (short_number 3 increment)
-level_in moves base increment (c ∷ cs) = None
-
--- the level of two words and of the next word of a text, after which nothing may follow
-abbrev pub level_behind : List ℕ → List ℕ → List ℕ → Option LevelSeen
-level_behind moves base rest = level_in moves base (word_of rest) (argument_of rest)
-
--- the level that a text denotes
+-- the level that a text denotes by three words, of moves, base and increment, with nothing after them
 unfoldable pub level_of : List ℕ → Option LevelSeen
 level_of text =
-    let t = without_front_blanks text in
-    level_behind (word_of t) (word_of (argument_of t)) (argument_of (argument_of t))
+    let first = without_front_blanks text in
+    let second = argument_of first in
+    let third = argument_of second in
+    if nat_lt 0 (length (argument_of third)) then None else do
+      moves ← short_number 3 (word_of first)
+      base ← base_of (word_of second)
+      increment ← short_number 3 (word_of third)
+      Some (record { moves = moves; base = base; increment = increment })
 
 -- ---- writing
 

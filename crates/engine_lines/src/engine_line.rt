@@ -2,7 +2,8 @@
 
 ghost use Rattle.std.specs.Prelude.{◌≡◌, ◌≤◌, length, take, codes};
 ghost use Rattle.chess_cecp.specs.Commands.{word_of, argument_of, command_number};
-ghost use Rattle.engine_lines.specs.EngineLines.{kind_of, pong_of};
+ghost use Rattle.engine_lines.specs.EngineLines.{kind_of, Answers, SaysElse};
+ghost use Rattle.std.specs.Option.{option_map_or};
 ghost use Rattle.engine_lines.specs.Seen.{seen};
 
 use chess_base::Colour;
@@ -32,7 +33,7 @@ pub enum EngineLine<'a> {
 }
 
 fn pong(text: &[u8]) -> EngineLine<'_>
-    ensures { seen result ≡ pong_of (command_number text.now) }
+    ensures { seen result ≡ option_map_or Answers (command_number text.now) SaysElse }
 {
     match read_number(text) {
         Some(number) => EngineLine::Pong(number),

@@ -77,10 +77,10 @@ fn read_value(text: &[u8]) -> Option<(Value<'_>, &[u8])>
         [first, behind @ ..] => {
             if *first == b'"' {
                 let at = quote_at(behind);
-                if at == behind.len() {
-                    None
-                } else {
+                if at < behind.len() {
                     Some((Value::Quoted(&behind[..at]), &behind[at + 1..]))
+                } else {
+                    None
                 }
             } else if *first >= b'0' && *first <= b'9' {
                 let len = digits_len(text);

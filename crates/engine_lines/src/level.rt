@@ -1,11 +1,10 @@
 //! Levels of time.
 
 ghost use Rattle.std.specs.Prelude.{◌≡◌, ◌≤◌, ◌<◌, ◌==◌, ◌^◌, IfSome, length};
-ghost use Rattle.engine_lines.specs.Levels.{level_of, level_in, level_behind, base_of, in_seconds, colon_at, allotted, sessions};
-ghost use Rattle.chess_cecp.specs.Commands.{short_number};
+ghost use Rattle.engine_lines.specs.Levels.{level_of, base_of, in_seconds, colon_at, allotted, sessions};
 ghost use Rattle.chess_game.specs.declared.game.TheConstants.{MOST_MOVES};
 
-use chess_cecp::{argument, first_word, trim_start};
+use chess_cecp::{argument, first_word, short_number, trim_start};
 use std::marker::Model;
 
 /// A level of time (CECP, version 2, command `level`): so many moves a session, 0 for one session without end, and a
@@ -32,25 +31,6 @@ impl Model for Level {
     ghost invariant = { λ l. IsLevel (record { moves = l.moves; base = l.base; increment = l.increment }) };
 
     ghost inverse = { λ v. record { moves = v.moves; base = v.base; increment = v.increment } };
-}
-
-// The number that at most so many digits denote.
-fn short_number(text: &[u8], most: usize) -> Option<u32>
-    requires { most ≤ 3 }
-    ensures value { result ≡ short_number most text.now }
-    ensures small { IfSome result (λ n. n ≤ 999) }
-{
-    if text.is_empty() || text.len() > most {
-        return None;
-    }
-    let mut number = 0;
-    for byte in text {
-        if !byte.is_ascii_digit() {
-            return None;
-        }
-        number = 10 * number + u32::from(*byte - b'0');
-    }
-    Some(number)
 }
 
 // Counts the bytes before the first colon.
@@ -104,29 +84,6 @@ fn base(text: &[u8]) -> Option<u32>
     }
 }
 
-// The level that three words denote, after which a text follows.
-fn level_in(moves: &[u8], base_text: &[u8], increment: &[u8], rest: &[u8]) -> Option<Level>
-    ensures { result ≡ level_in moves.now base_text.now increment.now rest.now }
-{
-    if !rest.is_empty() {
-        return None;
-    }
-    match (
-        short_number(moves, 3),
-        base(base_text),
-        short_number(increment, 3),
-    ) {
-        (Some(moves), Some(base), Some(increment)) => Some(Level {
-            moves,
-            base,
-            increment,
-        }),
-        (None, _, _) => None,
-        (Some(_), None, _) => None,
-        (Some(_), Some(_), None) => None,
-    }
-}
-
 impl Level {
     /// The level that a text denotes: `MOVES BASE INCREMENT`, each a number of one to three digits, with spaces or tabs
     /// between and perhaps around. The base is in minutes, or `minutes:seconds` with one or two digits for
@@ -135,15 +92,20 @@ impl Level {
     pub fn read(text: &[u8]) -> Option<Self>
         ensures { result ≡ level_of text.now }
     {
-        let text = trim_start(text);
-        let behind = argument(text);
-        let last = argument(behind);
-        level_in(
-            first_word(text),
-            first_word(behind),
-            first_word(last),
-            argument(last),
-        )
+        let first = trim_start(text);
+        let second = argument(first);
+        let third = argument(second);
+        if !argument(third).is_empty() {
+            return None;
+        }
+        let moves = short_number(first_word(first), 3)?;
+        let base = base(first_word(second))?;
+        let increment = short_number(first_word(third), 3)?;
+        Some(Level {
+            moves,
+            base,
+            increment,
+        })
     }
 
     /// How many moves a session has; 0 for one session without end.

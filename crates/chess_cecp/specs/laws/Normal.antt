@@ -19,50 +19,51 @@ use Rattle.chess_game.specs.Game.{State, from_start, played, with_declared, is_o
 use Rattle.chess_pgn.specs.declared.tags.Tags.{Tags}
 use Rattle.chess_cecp.specs.declared.command.Command.{Command}
 use Rattle.chess_cecp.specs.declared.command.Command.TheVariants.{New, SetBoard, UserMove, BareMove, Undo, Remove, Declare, Claim, Ping, Protover, Variant, Go, ShowFen, ShowMoves, ShowState, ShowPgn, Quit, Silent, BadNumber, Unknown}
-use Rattle.chess_cecp.specs.Declaring.{declared_by, claims_text, verdict_text, declared_text}
-use Rattle.chess_cecp.specs.Session.{Row, says, refuses, becomes, verdict_line, fen_fault_name, claimed, joined_line, back_row}
+use Rattle.chess_cecp.specs.Declaring.{read_result, claims_text, verdict_text, declared_text}
+use Rattle.chess_cecp.specs.Serving.{Response}
+use Rattle.chess_cecp.specs.Session.{says, refuses, becomes, verdict_line, fen_fault_name, claimed, joined_line, back_row}
 use Rattle.chess_cecp.specs.laws.NormalGame.{normal_initial, normal_current, normal_rep, normal_claims, normal_verdict_now, normal_is_over}
 use Rattle.chess_cecp.specs.laws.NormalPgn.{normal_pgn}
 
 -- the game changes, and the verdict on it is answered
-abbrev pub normal_becomes_judged : State → Row
-normal_becomes_judged s = record { text = verdict_line (normal_verdict_now s); next = s }
+abbrev pub normal_becomes_judged : State → Response State
+normal_becomes_judged s = says s (verdict_line (normal_verdict_now s))
 
 -- the game starts anew from the sound position that a FEN denotes
-abbrev pub normal_setboard_row : State → Result Setup FenFault → Row
+abbrev pub normal_setboard_row : State → Result Setup FenFault → Response State
 normal_setboard_row s (Ok start) = normal_becomes_judged (from_start start)
 normal_setboard_row s (Err fault) =
     refuses s (codes "tellusererror Illegal position (") (fen_fault_name fault ++ codes ")")
 
 -- the one legal move that a text denotes is played
-abbrev pub normal_reading_row : State → List ℕ → Reading → Row
+abbrev pub normal_reading_row : State → List ℕ → Reading → Response State
 normal_reading_row s text (reads.Move m) = normal_becomes_judged (played s m)
 normal_reading_row s text reads.Ambiguous = refuses s (codes "Error (ambiguous move): ") text
 normal_reading_row s text reads.NoSuch = refuses s (codes "Illegal move: ") text
 normal_reading_row s text reads.NotAMove = refuses s (codes "Illegal move: ") text
 
 -- a move with this text is asked for
-abbrev pub normal_move_row : ℕ → State → List ℕ → Row
+abbrev pub normal_move_row : ℕ → State → List ℕ → Response State
 normal_move_row limit s text =
     if normal_is_over s then refuses s (codes "Illegal move (game over): ") text
     else if nat_le limit (length s.moves) then refuses s (codes "Error (game too long): ") text
     else normal_reading_row s text (normal_reading (normal_current s) text)
 
 -- a result is declared, unless the text declares none or there is a verdict with another outcome
-abbrev pub normal_result_row : State → List ℕ → Option Declared → Row
+abbrev pub normal_result_row : State → List ℕ → Option Declared → Response State
 normal_result_row s text None = refuses s (codes "Error (bad result): ") text
 normal_result_row s text (Some d) =
     if is_other (normal_verdict_now s) d.outcome then refuses s (codes "Error (the board says otherwise): ") text
     else becomes (with_declared s (Some d))
 
 -- a draw is claimed
-abbrev pub normal_claim_row : State → Row
+abbrev pub normal_claim_row : State → Response State
 normal_claim_row s =
     if normal_is_over s then refuses s (codes "Error (command not legal now): ") (codes "claim")
     else claimed s (normal_claims s.start s.moves)
 
 -- normal chess is the one variant that can be asked for
-abbrev pub normal_variant_row : State → List ℕ → List ℕ → Row
+abbrev pub normal_variant_row : State → List ℕ → List ℕ → Response State
 normal_variant_row s text argument =
     if bytes_eq argument (codes "normal") then says s [] else refuses s (codes "Error (unsupported variant): ") text
 
@@ -86,14 +87,14 @@ normal_state_text s =
     ++ (codes " declared " ++ declared_text s.declared)))))))))
 
 -- the table
-abbrev pub normal_row_of : Tags → ℕ → State → List ℕ → List ℕ → Command → Row
+abbrev pub normal_row_of : Tags → ℕ → State → List ℕ → List ℕ → Command → Response State
 normal_row_of tags limit s text argument New = becomes (from_start normal_initial)
 normal_row_of tags limit s text argument SetBoard = normal_setboard_row s (normal_fen_reading argument)
 normal_row_of tags limit s text argument UserMove = normal_move_row limit s argument
 normal_row_of tags limit s text argument BareMove = normal_move_row limit s text
 normal_row_of tags limit s text argument Undo = back_row 1 (codes "undo") s
 normal_row_of tags limit s text argument Remove = back_row 2 (codes "remove") s
-normal_row_of tags limit s text argument Declare = normal_result_row s text (declared_by argument)
+normal_row_of tags limit s text argument Declare = normal_result_row s text (read_result argument)
 normal_row_of tags limit s text argument Claim = normal_claim_row s
 normal_row_of tags limit s text argument (Ping n) = says s (joined_line (codes "pong ") (decimal n))
 normal_row_of tags limit s text argument (Protover n) = if nat_lt n 2 then says s [] else says s
@@ -104,7 +105,7 @@ normal_row_of tags limit s text argument ShowFen = says s (joined_line (codes "#
 normal_row_of tags limit s text argument ShowMoves = says s (normal_moves_line (normal_moves (normal_current s)))
 normal_row_of tags limit s text argument ShowState = says s (joined_line (codes "# state ply ") (normal_state_text s))
 normal_row_of tags limit s text argument ShowPgn = says s (normal_pgn (codes "# ") tags s)
-normal_row_of tags limit s text argument Quit = says s []
+normal_row_of tags limit s text argument Quit = record (says s []) { ends = true }
 normal_row_of tags limit s text argument Silent = says s []
 normal_row_of tags limit s text argument BadNumber = refuses s (codes "Error (bad number): ") text
 normal_row_of tags limit s text argument Unknown = refuses s (codes "Error (unknown command): ") text

@@ -1,13 +1,34 @@
--- What answers a line: a text that is put together, or the game's text.
-use Rattle.std.specs.Prelude.{if◌then◌else◌, ◌&&◌, not, Bool, true, false}
+-- What answers a line: a text that is put together, or the game's text; and the session after it.
+use Rattle.std.specs.Prelude.{if◌then◌else◌, ◌&&◌, not, ℕ, List, Bool, true, false}
 use Rattle.chess_cecp.specs.Lines.{LineSeen}
-use Rattle.chess_cecp.specs.Session.{is_quit, is_quit_command}
+use Rattle.chess_cecp.specs.Held.{SessionSeen}
+use Rattle.chess_cecp.specs.Serving.{Response}
+use Rattle.chess_game.specs.Game.{State}
 use Rattle.chess_cecp.specs.declared.command.Command.{Command}
 use Rattle.chess_cecp.specs.declared.session.Go.TheVariants.{On, Quit}
 use Rattle.chess_cecp.specs.declared.session.Reply.{Reply}
 use Rattle.chess_cecp.specs.declared.session.Reply.TheVariants.{Text, Pgn}
 use Rattle.chess_cecp.specs.Commands.{command_of}
-use Rattle.chess_cecp.specs.declared.command.Command.TheVariants.{ShowPgn}
+use Rattle.chess_cecp.specs.declared.command.Command.TheVariants.{BareMove, ShowPgn, Unknown}
+use Rattle.chess_text.specs.Moves.{shape}
+use Rattle.chess_cecp.specs.declared.command.Command.TheVariants as commands
+
+-- the session after a row: its tags and its limit stay
+abbrev pub after_row : SessionSeen → Response State → SessionSeen
+after_row seen r = record seen { state = r.state }
+
+-- the command that ends a session
+abbrev pub is_quit_command : Command → Bool
+is_quit_command commands.Quit = true
+is_quit_command command = false
+
+-- the line ends the session
+unfoldable pub is_quit : LineSeen → Bool
+is_quit line = not line.too_long && is_quit_command (command_of line.text)
+
+-- what a line commands whose first word is no command's name
+abbrev pub unnamed_command : List ℕ → Command
+unnamed_command text = if shape text then BareMove else Unknown
 
 -- the one command whose answer may be long: the game's text
 abbrev pub shows_pgn : Command → Bool

@@ -1,11 +1,12 @@
-use Rattle.std.proofs.Common.{◌≡◌, ◌+◌, ◌*◌, ◌≤◌, ◌++◌, take}
+use Rattle.std.proofs.Common.{◌≡◌, ◌+◌, ◌*◌, ◌≤◌, ◌++◌, ◌∷◌, take}
 use Rattle.arrayvec.specs.ArrayVec.{array_vec_len}
 use Rattle.std.specs.List.{flat_map}
-use Rattle.chess_cecp.specs.Session.{shown}
+use Rattle.chess_base.specs.Letters.{space}
+use Rattle.chess_text.specs.San.{shown_move}
 use Rattle.chess_cecp.proofs.answer.write_each.Given as goal
 
 abbrev pub invariant-loop-m : goal.invariant-loop-m
 invariant-loop-m l = record {
-  text : l.answer.items ≡ l.fn.answer.items ++ flat_map (shown l.position) (take l.m-index l.moves);
+  text : l.answer.items ≡ l.fn.answer.items ++ flat_map (λ m. space ∷ shown_move l.position m) (take l.m-index l.moves);
   len : array_vec_len l.answer ≤ array_vec_len l.fn.answer + 6 * l.m-index;
 }

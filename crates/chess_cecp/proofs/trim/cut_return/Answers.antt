@@ -7,13 +7,12 @@ use Rattle.chess_cecp.proofs.trim.cut_return.Goals as goal
 use Rattle.chess_cecp.proofs.trim.cut_return.Goals.{else-not-is_empty-via-then-not-is_empty+else-text-eq13, else-not-is_empty-via-else-not-is_empty}
 
 pub returns-then-text-eq13 : goal.returns-then-text-eq13
-returns-then-text-eq13 c = let h = c.if-not-is_empty.ensures in return_then c.args.text.now (grind arith)
-    c.if-text-eq13.true
+returns-then-text-eq13 c = return_then c.args.text.now c.if-text-eq13.true
 
 pub returns-else-not-is_empty : goal.returns-else-not-is_empty
 returns-else-not-is_empty c = elim c.else-not-is_empty.branch [
-  | else-not-is_empty-via-then-not-is_empty+else-text-eq13 w ↦ let h = w.if-not-is_empty.ensures in
-      return_else c.args.text.now (grind arith) w.if-text-eq13.false
+  | else-not-is_empty-via-then-not-is_empty+else-text-eq13 w ↦
+      return_else c.args.text.now w.if-text-eq13.false
   | else-not-is_empty-via-else-not-is_empty w ↦ let h = w.if-not-is_empty.ensures in
       let e = empty_by_length c.args.text.now (grind arith) in e ∙ sym (ap without_return e)
 ]

@@ -1,6 +1,7 @@
 -- A line that is answered by the game's text has a row of its own: the text is the answer, nothing changes, and it is no
 -- quit (PgnRow.by_pgn). The text of all other answers is put together by `obey_line`.
 use Rattle.std.proofs.Common.{refl, ◌∙◌}
+use Rattle.chess_cecp.proofs.Ends.{text_go}
 use Rattle.chess_cecp.proofs.PgnRow.{by_pgn}
 use Rattle.chess_cecp.proofs.Refusals.{refused, tags_and_limit_stay}
 use Rattle.chess_cecp.proofs.session.Session.answer.Goals as goal
@@ -21,6 +22,9 @@ pub returns-in_ok-send-in-Text-clause-kept : goal.returns-in_ok-send-in-Text-cla
 returns-in_ok-send-in-Text-clause-kept g c = tags_and_limit_stay c.args.self.now c.obey_line.new.self c.args.line.now
     c.obey_line.ensures.next
 
+pub returns-in_ok-send-in-Text-clause-go : goal.returns-in_ok-send-in-Text-clause-go
+returns-in_ok-send-in-Text-clause-go g c = text_go c.args.self.now c.args.line.now c.in-Text.go c.in-Text.ensures.reply
+
 pub returns-in-Ok-clause-next : goal.returns-in-Ok-clause-next
 returns-in-Ok-clause-next g c = c.send_pgn.ensures.same ∙ c.obey_line.ensures.next
 
@@ -32,7 +36,7 @@ returns-in-Ok-clause-written g c =
 pub returns-in-Ok-clause-go : goal.returns-in-Ok-clause-go
 returns-in-Ok-clause-go g c =
     rw (by_pgn c.args.self.now c.obey_line.new.self c.args.line.now c.in-Pgn.ensures.reply
-    c.obey_line.ensures.next).no_quit
+    c.obey_line.ensures.next).goes_on
     refl
 
 pub returns-in-Ok-clause-refused : goal.returns-in-Ok-clause-refused
