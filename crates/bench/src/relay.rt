@@ -116,7 +116,6 @@ pub fn relay<B: Board>(
     script: &Script,
     level: Level,
     game: &mut Game<B>,
-    scratch: &mut B,
 ) -> usize {
     let mut white = Ends {
         reader: Counted::reading(PieceReader::new(script.white.as_slice(), 4096, 0)),
@@ -130,6 +129,6 @@ pub fn relay<B: Board>(
         start: Position::initial(),
         level,
     };
-    run_match(&mut white, &mut black, &mut Standing, &setup, game, scratch);
+    run_match(&mut white, &mut black, &mut Standing, &setup, game);
     game.ply()
 }

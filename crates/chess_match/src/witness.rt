@@ -46,9 +46,9 @@ pub trait Witness {
 
 /// A witness that keeps nothing.
 #[derive(Drop)]
-pub(crate) struct Silent;
+pub(crate) struct NoWitness;
 
-impl Witness for Silent {
+impl Witness for NoWitness {
     ghost told = { λ w before notes. Unit {0} };
 
     fn line(&mut self, _side: Colour, _line: &Line<ENGINE_LINE_LEN>, _moment: u64) {}
