@@ -346,7 +346,7 @@ impl<E: Output> Log<E> {
 impl<E: Output> Witness for Log<E> {
     ghost use Rattle.chess_arbiter.specs.ties.Logging.{IsLog, first_of_text, log_of_text};
 
-    ghost told = { λ l before notes.
+    ghost noted = { λ l before notes.
         IsLog (first_of_text before) (log_of_text before) l.first (E.seen l.output) l.pending l.state notes };
 
     fn line(&mut self, side: Colour, line: &Line<ENGINE_LINE_LEN>, moment: u64) {

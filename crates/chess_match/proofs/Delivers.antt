@@ -71,7 +71,7 @@ first_failed r core played m due White o o' x x' f notes notes' on some s b p t 
     fails = refl;
     broke = b;
     others = (x, flushed_none x, p);
-    told = t;
+    noted = t;
   },
 )
 first_failed r core played m due Black o o' x x' f notes notes' on some s b p t = inr (
@@ -83,7 +83,7 @@ first_failed r core played m due Black o o' x x' f notes notes' on some s b p t 
     fails = refl;
     broke = b;
     others = (x, flushed_none x, p);
-    told = t;
+    noted = t;
   },
 )
 
@@ -104,7 +104,7 @@ second_failed r core played m due White o v o' x x' f notes notes' on some s t b
     fails = refl;
     broke = b;
     others = (v, t, p);
-    told = told;
+    noted = told;
   },
 )
 second_failed r core played m due Black o v o' x x' f notes notes' on some s t b p told = inr (
@@ -116,7 +116,7 @@ second_failed r core played m due Black o v o' x x' f notes notes' on some s t b
     fails = refl;
     broke = b;
     others = (v, t, p);
-    told = told;
+    noted = told;
   },
 )
 
@@ -139,13 +139,13 @@ none_failed r core played m due White o o' x x' notes notes' s a b on t = inl (r
   stands = s;
   puts = both_sides (λ X. SendsIf (by_colour false false X) (by_colour o x X) (by_colour o' x' X) (bytes_of (due X))) a b;
   fine = λ h X. both_sides (λ Y. by_colour false false Y ≡ false) refl refl X;
-  told = turn_noted m White due _ _ on t;
+  noted = turn_noted m White due _ _ on t;
 })
 none_failed r core played m due Black o o' x x' notes notes' s a b on t = inl (record {
   stands = s;
   puts = both_sides (λ X. SendsIf (by_colour false false X) (by_colour x o X) (by_colour x' o' X) (bytes_of (due X))) b a;
   fine = λ h X. both_sides (λ Y. by_colour false false Y ≡ false) refl refl X;
-  told = turn_noted m Black due _ _ on t;
+  noted = turn_noted m Black due _ _ on t;
 })
 
 never : (b : Bool) {P : Type 0} → true ≡ not b → b ≡ true → P
@@ -166,7 +166,7 @@ both_sent r core played m due S w w' b b' f g notes notes' s o x y t = inl (reco
   stands = s;
   puts = both_sides (λ X. SendsIf (by_colour f g X) (by_colour w b X) (by_colour w' b' X) (bytes_of (due X))) x y;
   fine = λ h X. never (is_on core.phase) o (ap is_on s.phase ∙ h);
-  told = subst (λ (b : Bool). WasNoted notes notes' (both_notes (if b then S else White) due))
+  noted = subst (λ (b : Bool). WasNoted notes notes' (both_notes (if b then S else White) due))
       (sym (ap is_on (sym s.phase) ∙ is_off (is_on core.phase) o)) t;
 })
 

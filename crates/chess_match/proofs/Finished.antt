@@ -92,14 +92,14 @@ ran g h h' start level T core reason failed end nw nb nw' nb' held ow ob ow' ob'
     let r : Rules = rules_of start level g.limit in
     let m : Match = match_of r T in (
       T,
-      u.told,
+      u.noted,
       (
         reason,
         by_colour failed.white failed.black,
         record {
           fitting = u.fitting;
           ending = sym u.stands.phase ∙ over;
-          heard = λ S. ((u.heard S).0, (u.heard S).1);
+          read = λ S. ((u.heard S).0, (u.heard S).1);
           written = u.written;
           failing = u.failing;
           moments = u.moments;

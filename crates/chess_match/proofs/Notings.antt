@@ -17,12 +17,12 @@ use Rattle.chess_match.specs.ties.Steps.{match_from}
 use Rattle.chess_match.specs.declared.reason.MatchFault.TheVariants.{Write}
 
 pub noted_none : (a : Noted) → WasNoted a a []
-noted_none a = record { behind = λ before notes h. subst (λ (l : List Note). a before l) (sym (append-nil notes)) h }
+noted_none a = record { extends = λ before notes h. subst (λ (l : List Note). a before l) (sym (append-nil notes)) h }
 
 pub noted_more : (a b c : Noted) (M N : List Note) → WasNoted a b M → WasNoted b c N → WasNoted a c (M ++ N)
 noted_more a b c M N p q = record {
-  behind = λ before notes h. subst (λ (l : List Note). c before l) (append_assoc notes M N)
-      (q.behind before (notes ++ M) (p.behind before notes h));
+  extends = λ before notes h. subst (λ (l : List Note). c before l) (append_assoc notes M N)
+      (q.extends before (notes ++ M) (p.extends before notes h));
 }
 
 pub noted_as : (a b : Noted) (M N : List Note) → M ≡ N → WasNoted a b M → WasNoted a b N

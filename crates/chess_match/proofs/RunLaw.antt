@@ -99,7 +99,7 @@ is_of r T U reason failed w w' coming coming' given i t heard same = record {
   lines = λ S. (heard S).lines;
   ends = λ S h. (((heard S).at_end h).0, same S ∙ no_failure r S (entry r start) start U i.fitting h);
   failures = λ S h. ((heard S).at_failure h, same S ∙ h);
-  moments = λ n h. told_moment (coming n) (slice_get (moments_of U) n) (t.moments n) (i.moments.told n h);
+  moments = λ n h. told_moment (coming n) (slice_get (moments_of U) n) (t.moments n) (i.moments.known n h);
   writes = λ S. none_written (failed S) (has_fault Write S U)
       (none_failed (failed S) (w.writer S) (w'.writer S) (blocks r S U) (t.writes S) (t.quiet S) (i.written S))
       (i.failing S);
@@ -116,10 +116,10 @@ has_ended e = rw e refl
 
 pub only_one_of_a_run : OnlyOneOfARun
 only_one_of_a_run r T U reason reason' failed failed' w w' coming coming' i j t =
-    only_one r (given_by T (λ S. (i.heard S).0) coming) T U i.fitting j.fitting (has_ended i.ending) (has_ended j.ending)
-    (is_of r T T reason failed w w' coming coming' (λ S. (i.heard S).0) i t (λ S. (i.heard S).1) (λ S. refl))
-    (is_of r T U reason' failed' w w' coming coming' (λ S. (i.heard S).0) j t
-    (λ S. heard_alike S T U (w.reader S) (w'.reader S) (i.heard S).0 (j.heard S).0 (t.bytes S)
-    (i.heard S).1 (j.heard S).1)
+    only_one r (given_by T (λ S. (i.read S).0) coming) T U i.fitting j.fitting (has_ended i.ending) (has_ended j.ending)
+    (is_of r T T reason failed w w' coming coming' (λ S. (i.read S).0) i t (λ S. (i.read S).1) (λ S. refl))
+    (is_of r T U reason' failed' w w' coming coming' (λ S. (i.read S).0) j t
+    (λ S. heard_alike S T U (w.reader S) (w'.reader S) (i.read S).0 (j.read S).0 (t.bytes S)
+    (i.read S).1 (j.read S).1)
     (λ S. one_rise (w.reader S).failure_count (w'.reader S).failure_count (has_fault Read S T)
-    (has_fault Read S U) (t.reads S) (i.heard S).1.failures (j.heard S).1.failures))
+    (has_fault Read S U) (t.reads S) (i.read S).1.failures (j.read S).1.failures))

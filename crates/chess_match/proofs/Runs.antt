@@ -217,7 +217,7 @@ some_of None f h = h
 some_of (Some t) f h = f t h
 
 pub asked_none : (coming : ℕ → Option ℕ) → Asked coming coming []
-asked_none coming = record { told = λ n h. absurd (omega (arith, h)); rest = λ n. ap coming (sym (zero-add n)) }
+asked_none coming = record { known = λ n h. absurd (omega (arith, h)); rest = λ n. ap coming (sym (zero-add n)) }
 
 first_told : (coming : ℕ → Option ℕ) (moment n : ℕ) → IfSome (coming 0) (λ t. moment ≡ t) → n < 1
     → IfSome (coming n) (λ t. slice_get (moment ∷ []) n ≡ Some t)
@@ -227,7 +227,7 @@ first_told coming moment (suc n) h few = absurd (omega (arith, few))
 pub asked_one : (coming coming' : ℕ → Option ℕ) (moment : ℕ) → IfSome (coming 0) (λ t. moment ≡ t)
     → ((n : ℕ) → coming' n ≡ coming (n + 1)) → Asked coming coming' (moment ∷ [])
 asked_one coming coming' moment h rest = record {
-  told = λ n few. first_told coming moment n h few;
+  known = λ n few. first_told coming moment n h few;
   rest = λ n. let e : n + 1 ≡ 1 + n = omega arith in rest n ∙ ap coming e;
 }
 
@@ -244,7 +244,7 @@ told_at (x ∷ xs) ys c c' (suc n) a b e h =
 
 pub asked_more : (c c' c'' : ℕ → Option ℕ) (xs ys : List ℕ) → Asked c c' xs → Asked c' c'' ys → Asked c c'' (xs ++ ys)
 asked_more c c' c'' xs ys a b = record {
-  told = λ n h. told_at xs ys c c' n a.told b.told a.rest h;
+  known = λ n h. told_at xs ys c c' n a.known b.known a.rest h;
   rest = λ n. let s : length xs + (length ys + n) ≡ length (xs ++ ys) + n = omega (arith, length-append xs ys) in
       b.rest n ∙ a.rest (length ys + n) ∙ ap c s;
 }

@@ -39,7 +39,7 @@ pub record IsUnderWay (r : Rules) (T : List Event) (core : MatchState) (played :
   pub fine : is_on (match_of r T).phase ≡ true → (S : Colour) → failed S ≡ false
   pub failing : (S : Colour) → has_fault Write S T ≡ true → failed S ≡ true
   pub moments : Asked coming coming' (moments_of T)
-  pub told : WasNoted notes notes' (notes_of r T)
+  pub noted : WasNoted notes notes' (notes_of r T)
 
 -- what is left to do, where so much can still be read
 abbrev pub steps_left : Phase → ℕ → ℕ

@@ -101,10 +101,10 @@ all_step r T e core core' played played' failed failed' n n' n'' held held' w w'
           h);
       moments = subst (λ (ms : List ℕ). Asked coming coming'' ms) (sym (moments_more T e [] no_tail))
           (asked_more coming coming' coming'' (moments_of T) (moment_in e) u.moments asked);
-      told = noted_as notes notes'' _ (notes_of r (T ++ e ∷ [])) (noted_on r T e sound)
-          (noted_more notes notes' notes'' (notes_of r T) _ u.told
+      noted = noted_as notes notes'' _ (notes_of r (T ++ e ∷ [])) (noted_on r T e sound)
+          (noted_more notes notes' notes'' (notes_of r T) _ u.noted
           (noted_more notes' between notes'' (Happened e ∷ []) _ line
-          (subst (λ (c : Colour). WasNoted between notes'' (both_notes c due)) turn all.told)));
+          (subst (λ (c : Colour). WasNoted between notes'' (both_notes c due)) turn all.noted)));
     }
 
 -- ---- a write that fails
@@ -220,9 +220,9 @@ failed_step r T d text k core core' played played' failed failed' n n' n'' held 
           (own_fails c failed' one.fails S);
       moments = subst (λ (ms : List ℕ). Asked coming coming'' ms) (sym (moments_more T e U (failed_tail c)))
           (asked_more coming coming' coming'' (moments_of T) (k ∷ []) u.moments asked);
-      told = noted_as notes notes'' _ (notes_of r (T ++ e ∷ U)) (noted_broken r T d c text k one.on)
-          (noted_more notes notes' notes'' (notes_of r T) _ u.told
-          (noted_more notes' between notes'' (Happened e ∷ []) _ line one.told));
+      noted = noted_as notes notes'' _ (notes_of r (T ++ e ∷ U)) (noted_broken r T d c text k one.on)
+          (noted_more notes notes' notes'' (notes_of r T) _ u.noted
+          (noted_more notes' between notes'' (Happened e ∷ []) _ line one.noted));
     }
 
 -- ---- the blocks that are due
@@ -236,7 +236,7 @@ all_by r core played m due due' first w w' failed notes notes' e s = record {
   stands = s.stands;
   puts = λ S. subst (λ (b : List SentLine). SendsIf (failed S) (w S) (w' S) (bytes_of b)) (e S) (s.puts S);
   fine = s.fine;
-  told = noted_as notes notes' _ _ (both_by (first_in m first) due due' e) s.told;
+  noted = noted_as notes notes' _ _ (both_by (first_in m first) due due' e) s.noted;
 }
 
 one_by : (r : Rules) (core : MatchState) (played : List Move) (m : Match) (due due' : Colour → List SentLine) (first : Colour)
@@ -256,7 +256,7 @@ one_by r core played m due due' first w w' failed notes notes' c e s = record {
         (bytes_of (if same_colour c first then [] else b))) (e (other c)) s.others.1,
     s.others.2,
   );
-  told = noted_as notes notes' _ _ (broken_by r m due due' first c e) s.told;
+  noted = noted_as notes notes' _ _ (broken_by r m due due' first c e) s.noted;
 }
 
 pub delivered_by : (r : Rules) (core : MatchState) (played : List Move) (m : Match) (due due' : Colour → List SentLine)
@@ -301,7 +301,7 @@ all_started r core played failed n held w w' coming notes notes' none s = record
   fine = s.fine;
   failing = λ S h. absurd cc;
   moments = asked_none coming;
-  told = noted_as notes notes' _ _ (noted_start r) s.told;
+  noted = noted_as notes notes' _ _ (noted_start r) s.noted;
 }
 
 broken_start : (f : Bool) (w w' : OutputState) (b : List SentLine) → f ≡ true → BreaksOff w w' (bytes_of b)
@@ -330,7 +330,7 @@ one_started r core played failed n held w w' coming notes notes' White none s = 
   fine = λ h. absurd cc;
   failing = λ S. own_fails White failed s.fails S;
   moments = asked_none coming;
-  told = noted_as notes notes' _ _ (noted_start_broken r) s.told;
+  noted = noted_as notes notes' _ _ (noted_start_broken r) s.noted;
 }
 
 -- the first lines of White's handshake were sent
@@ -447,7 +447,7 @@ opened_step r T d k core core' played failed n n' held w w' coming coming' comin
       puts = λ S. nothing_put (failed S) (w' S) _ (u.fine on S)
           (none_given r (after r (match_of r T) (Opened d k)) S ∙ goes.gives S);
       fine = λ h S. u.fine on S;
-      told = noted_as notes'' notes'' [] _
+      noted = noted_as notes'' notes'' [] _
           (nothing_noted _ _ (λ S. none_given r (after r (match_of r T) (Opened d k)) S ∙ goes.gives S))
           (noted_none notes'');
     })

@@ -51,4 +51,4 @@ Noted = List ℕ → List Note → Type 0
 -- from the one state to the other a witness was given these notes, in their order and after all that it was given
 -- before
 pub record WasNoted (old new : Noted) (more : List Note) : Type 0 where
-  pub behind : (before : List ℕ) (notes : List Note) → old before notes → new before (notes ++ more)
+  pub extends : (before : List ℕ) (notes : List Note) → old before notes → new before (notes ++ more)

@@ -127,7 +127,7 @@ pub fn run_match_watched<R: Input, W: Output, M: Moments, B: Board, L: Witness>(
     game: &mut Game<B>,
     witness: &mut L,
 ) -> MatchEnd
-    ensures ran { RanBefore (L.told witness.old) (L.told witness.new) setup.now.start setup.now.level game.old game.new result
+    ensures ran { RanBefore (L.noted witness.old) (L.noted witness.new) setup.now.start setup.now.level game.old game.new result
         (record {
           reader = by_colour (R.seen white.old.reader) (R.seen black.old.reader);
           writer = by_colour (W.seen white.old.writer) (W.seen black.old.writer);
@@ -277,7 +277,7 @@ fn send_both<W: Output, L: Witness, G: MatchGame>(
         (bytes_of (given_block r given items m Colour.White))
         × SendsIf result.black (W.seen black.old) (W.seen black.new)
         (bytes_of (given_block r given items m Colour.Black))
-        × WasNoted (L.told witness.old) (L.told witness.new) (both_notes Colour.White (given_block r given items m)) }
+        × WasNoted (L.noted witness.old) (L.noted witness.new) (both_notes Colour.White (given_block r given items m)) }
     ensures white_empty { white_block.new.items ≡ [] }
     ensures black_empty { black_block.new.items ≡ [] }
 {
@@ -324,7 +324,7 @@ fn end_for_other<W: Output, L: Witness, G: MatchGame>(
         → Represents r core.new (G.played game.now) (after r m (FailsToWrite side))
         × SendsIf result (W.seen others.old) (W.seen others.new)
         (bytes_of (block r m (after r m (FailsToWrite side)) (other side)))
-        × WasNoted (L.told witness.old) (L.told witness.new) (Happened (FailsToWrite side)
+        × WasNoted (L.noted witness.old) (L.noted witness.new) (Happened (FailsToWrite side)
         ∷ given_note (other side) (bytes_of (block r m (after r m (FailsToWrite side)) (other side)))) }
     ensures empty { waiting.new.items ≡ [] }
 {
@@ -354,7 +354,7 @@ fn send_in_turn<W: Output, L: Witness, G: MatchGame>(
         → items (other side) ≡ []
         → Delivered r core.new (G.played game.now) m (given_block r given items m) side
         (by_turn side (W.seen own.old) (W.seen others.old)) (by_turn side (W.seen own.new) (W.seen others.new))
-        (by_turn side result.0 result.1) (L.told witness.old) (L.told witness.new) }
+        (by_turn side result.0 result.1) (L.noted witness.old) (L.noted witness.new) }
     ensures own_empty { blocks.new.own.items ≡ [] }
     ensures others_empty { blocks.new.others.items ≡ [] }
 {
@@ -399,7 +399,7 @@ fn deliver<W: Output, L: Witness, G: MatchGame>(
         → items (other side) ≡ []
         → Delivered r core.new (G.played game.now) m (given_block r given items m) side
         (by_colour (W.seen white.old) (W.seen black.old)) (by_colour (W.seen white.new) (W.seen black.new))
-        (by_colour result.white result.black) (L.told witness.old) (L.told witness.new) }
+        (by_colour result.white result.black) (L.noted witness.old) (L.noted witness.new) }
     ensures own_empty { blocks.new.own.items ≡ [] }
     ensures others_empty { blocks.new.others.items ≡ [] }
 {
@@ -487,7 +487,7 @@ fn hear_line<M: Moments, L: Witness, G: MatchGame>(
     ensures origin { G.origin game.new ≡ G.origin game.old }
     ensures heard { (moment : ℕ) × (items : List Item)
         × Asked (M.coming moments.old) (M.coming moments.new) (moment_in (line_event side line.now moment))
-        × WasNoted (L.told witness.old) (L.told witness.new) (Happened (line_event side line.now moment) ∷ [])
+        × WasNoted (L.noted witness.old) (L.noted witness.new) (Happened (line_event side line.now moment) ∷ [])
         × (block.new.items ≡ bytes_of (answers_to items))
         × ((r : Rules) (m : Match) → G.plays game.old r → reads m.phase side ≡ true
         → Represents r core.old (G.played game.old) m
@@ -519,7 +519,7 @@ fn hear<M: Moments, L: Witness, G: MatchGame>(
     ensures heard { (moment : ℕ) × (items : List Item)
         × Asked (M.coming moments.old) (M.coming moments.new)
         (moment_in (event_read side moment (line_read heard line.now)))
-        × WasNoted (L.told witness.old) (L.told witness.new)
+        × WasNoted (L.noted witness.old) (L.noted witness.new)
         (Happened (event_read side moment (line_read heard line.now)) ∷ [])
         × (block.new.items ≡ bytes_of (answers_to items))
         × ((r : Rules) (m : Match) → G.plays game.old r → reads m.phase side ≡ true
@@ -567,7 +567,7 @@ fn end_of<B: Board>(
     failed: Failed,
 ) -> MatchEnd
     requires { game.old.state.declared ≡ None }
-    ensures told { IsReported reason failed result }
+    ensures report { IsReported reason failed result }
     ensures white_name { result.white_name ≡ core.white.name }
     ensures black_name { result.black_name ≡ core.black.name }
     ensures game { game.new

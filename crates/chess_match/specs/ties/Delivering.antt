@@ -48,7 +48,7 @@ pub record AllSent (r : Rules) (core : MatchState) (played : List Move) (m : Mat
   pub stands : Represents r core played m
   pub puts : (S : Colour) → SendsIf (failed S) (w S) (w' S) (bytes_of (due S))
   pub fine : is_on m.phase ≡ true → (S : Colour) → failed S ≡ false
-  pub told : WasNoted notes notes' (both_notes (first_in m first) due)
+  pub noted : WasNoted notes notes' (both_notes (first_in m first) due)
 
 -- what is noted where a write to c fails: what is due, but not what comes after, the failure, and the other's end lines
 abbrev pub broken_notes : Rules → Match → (Colour → List SentLine) → Colour → Colour → List Note
@@ -70,7 +70,7 @@ pub record OneFailed (r : Rules) (core : MatchState) (played : List Move) (m : M
   pub others : (v : OutputState) × Flushed (w (other c)) v
       (bytes_of (if same_colour c first then [] else due (other c)))
       × SendsIf (failed (other c)) v (w' (other c)) (bytes_of (block r m (after r m (FailsToWrite c)) (other c)))
-  pub told : WasNoted notes notes' (broken_notes r m due first c)
+  pub noted : WasNoted notes notes' (broken_notes r m due first c)
 
 -- the blocks that are due were sent, first to that side, and no write failed before the end, or the first that failed
 -- ended the match; a witness was given notes of them

@@ -71,7 +71,7 @@ returns-in-Nothing-clause-ran g c =
     (by_colour c.events.white_lines c.events.black_lines)
     (g.W.Output.seen c.args.white.now.writer) (g.W.Output.seen c.args.black.now.writer)
     (g.W.Output.seen c.events.white.writer) (g.W.Output.seen c.events.black.writer) _ _ _ _
-    i.1 c.in-Nothing.ensures c.end_of.ensures.told c.end_of.ensures.white_name c.end_of.ensures.black_name i.2 i.3
+    i.1 c.in-Nothing.ensures c.end_of.ensures.report c.end_of.ensures.white_name c.end_of.ensures.black_name i.2 i.3
     c.end_of.ensures.game
 
 pub returns-in-Nothing-clause-start : goal.returns-in-Nothing-clause-start
@@ -85,7 +85,7 @@ returns-in-Nothing-clause-limit g c =
 pub returns-in-Nothing-clause-outcome : goal.returns-in-Nothing-clause-outcome
 returns-in-Nothing-clause-outcome g c =
     told_outcome c.events.game c.end_of.new.game c.in-Nothing.reason c.end_of.result.outcome c.end_of.ensures.game
-    c.end_of.ensures.told.outcome
+    c.end_of.ensures.report.outcome
 
 pub events-smaller-in-Moment : goal.events-smaller-in-Moment
 events-smaller-in-Moment g c =

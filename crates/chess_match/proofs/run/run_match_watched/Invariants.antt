@@ -16,7 +16,7 @@ invariant-events g l =
     (by_colour (g.W.Output.seen l.fn.white.writer) (g.W.Output.seen l.fn.black.writer))
     (by_colour (g.W.Output.seen l.white.writer) (g.W.Output.seen l.black.writer))
     (g.M.Moments.coming l.fn.moments) (g.M.Moments.coming l.moments)
-    (g.L.Witness.told l.fn.witness) (g.L.Witness.told l.witness)
+    (g.L.Witness.noted l.fn.witness) (g.L.Witness.noted l.witness)
     × (l.game.state.start ≡ l.fn.setup.start) × (l.game.limit ≡ l.fn.game.limit) × (l.game.state.declared ≡ None)
     × (l.blocks.own.items ≡ []) × (l.blocks.others.items ≡ [])
 
