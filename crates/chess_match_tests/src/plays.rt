@@ -80,7 +80,15 @@ fn play_with_bits<R: Input, W: Output, M: Moments>(
     setup: &Setup,
 ) -> Result<(MatchEnd, usize), Fail> {
     let tables = AttackTables::open(alloc)?;
-    play_with(alloc, Bits::new(&tables), limit, white, black, moments, setup)
+    play_with(
+        alloc,
+        Bits::new(&tables),
+        limit,
+        white,
+        black,
+        moments,
+        setup,
+    )
 }
 
 /// Plays a match of at most so many half-moves: its end, and how many half-moves are current. Its contract stays in
