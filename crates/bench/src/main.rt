@@ -111,24 +111,22 @@ const MATCH_LEN: usize = 500;
 fn measure_matches(rt: &HostRuntime, times: u32) -> io::Result<ExitCode> {
     let tables = AttackTables::open(rt.alloc())?;
     let mut game = open_game(rt.alloc(), &tables)?;
-    let mut scratch = Bits::new(&tables);
     let script = write_script(rt.alloc(), &mut game, MATCH_LEN)?;
-    time_matches(rt, times, &script, &mut game, &mut scratch)
+    time_matches(rt, times, &script, &mut game)
 }
 
 // The same with all that it takes.
-fn time_matches<'t>(
+fn time_matches(
     rt: &HostRuntime,
     times: u32,
     script: &Script,
-    game: &mut Game<Bits<'t>>,
-    scratch: &mut Bits<'t>,
+    game: &mut Game<Bits<'_>>,
 ) -> io::Result<ExitCode> {
     let Some(level) = Level::read(b"0 60 0") else {
         return misused(rt);
     };
     let begun = Instant::now(rt)?;
-    let half_moves = play_matches(rt.alloc(), times, script, level, game, scratch);
+    let half_moves = play_matches(rt.alloc(), times, script, level, game);
     let rate = a_second(half_moves, begun.elapsed(rt)?);
     println!(rt; "{times} matches, {half_moves} half-moves")?;
     eprintln!(rt; "{rate} half-moves a second")?;
@@ -136,17 +134,16 @@ fn time_matches<'t>(
 }
 
 // The half-moves of so many matches.
-fn play_matches<'t>(
+fn play_matches(
     alloc: Global,
     times: u32,
     script: &Script,
     level: Level,
-    game: &mut Game<Bits<'t>>,
-    scratch: &mut Bits<'t>,
+    game: &mut Game<Bits<'_>>,
 ) -> u64 {
     let mut half_moves: u64 = 0;
     for _ in 0..times {
-        let played = relay(alloc, script, level, game, scratch);
+        let played = relay(alloc, script, level, game);
         half_moves = half_moves.saturating_add(played as u64);
     }
     half_moves

@@ -111,13 +111,7 @@ pub fn write_script<B: Board>(
 }
 
 /// Plays a match between two engines that say this, in pieces of 4,096 bytes, and returns its half-moves.
-pub fn relay<B: Board>(
-    alloc: Global,
-    script: &Script,
-    level: Level,
-    game: &mut Game<B>,
-    scratch: &mut B,
-) -> usize {
+pub fn relay<B: Board>(alloc: Global, script: &Script, level: Level, game: &mut Game<B>) -> usize {
     let mut white = Ends {
         reader: Counted::reading(PieceReader::new(script.white.as_slice(), 4096, 0)),
         writer: Counted::writing(PieceWriter::new(alloc, 4096, 0)),
@@ -130,6 +124,6 @@ pub fn relay<B: Board>(
         start: Position::initial(),
         level,
     };
-    run_match(&mut white, &mut black, &mut Standing, &setup, game, scratch);
+    run_match(&mut white, &mut black, &mut Standing, &setup, game);
     game.ply()
 }

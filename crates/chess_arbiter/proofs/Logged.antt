@@ -210,7 +210,7 @@ pub logged : (side side' : Colour) (o o' : OutputState) (p p' : Pending) (s s' :
     → WasNoted (λ before notes. IsLog (first_of_text before) (log_of_text before) side o p s notes)
     (λ before notes. IsLog (first_of_text before) (log_of_text before) side' o' p' s' notes) (n ∷ [])
 logged side side' o o' p p' s s' n same a e = record {
-  behind = λ before notes l.
+  extends = λ before notes l.
       log_on (first_of_text before) (log_of_text before) side side' o o' p p' s s' notes n same a e l;
 }
 
@@ -253,7 +253,7 @@ ran_logged first side side' from o o' o'' p p' p'' s s' start level g g' end w w
     let log : IsLog first from side' o' p' s' notes =
     subst (λ (v : LogSeen). IsLog first v side' o' p' s' notes) from_is
     (subst (λ (c : Colour). IsLog c (log_of_text text) side' o' p' s' notes) first_is
-    (noted.behind text []
+    (noted.extends text []
     (subst (λ (c : Colour). IsLog c (log_of_text text) side o p s []) (sym first_is)
     (subst (λ (v : LogSeen). IsLog first v side o p s []) (sym from_is) begun)))) in (
       notes,

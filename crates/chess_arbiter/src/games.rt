@@ -2,7 +2,7 @@
 
 ghost use Rattle.std.specs.Prelude.{◌≡◌, ◌⊎◌, [], IfErr, IfOk};
 ghost use Rattle.byte_devices.specs.Devices.{Sends};
-ghost use Rattle.chess_match.specs.Reasons.{comment_of};
+ghost use Rattle.chess_match.specs.Reasons.{by_colour, comment_of};
 ghost use Rattle.chess_match.specs.Run.{Ports};
 ghost use Rattle.chess_match.specs.declared.reason.Reason.TheVariants.{Faulted};
 ghost use Rattle.chess_pgn.specs.GameText.{pgn};
@@ -143,7 +143,6 @@ fn relay<'t, R: Input, W: Output, M: Moments, E: Output>(
     moments: &mut M,
     setup: &Setup,
     game: &mut Game<Bits<'t>>,
-    scratch: &mut Bits<'t>,
     first: Option<Colour>,
     log: &mut Log<E>,
 ) -> MatchEnd
@@ -151,23 +150,19 @@ fn relay<'t, R: Input, W: Output, M: Moments, E: Output>(
         (log_seen (E.seen log.old.output) log.old.pending) (log_seen (E.seen log.new.output) log.new.pending)
         setup.now.start setup.now.level game.old game.new result
         (record {
-          white_reader = R.seen white.old.reader;
-          white_writer = W.seen white.old.writer;
-          black_reader = R.seen black.old.reader;
-          black_writer = W.seen black.old.writer;
+          reader = by_colour (R.seen white.old.reader) (R.seen black.old.reader);
+          writer = by_colour (W.seen white.old.writer) (W.seen black.old.writer);
         })
         (record {
-          white_reader = R.seen white.new.reader;
-          white_writer = W.seen white.new.writer;
-          black_reader = R.seen black.new.reader;
-          black_writer = W.seen black.new.writer;
+          reader = by_colour (R.seen white.new.reader) (R.seen black.new.reader);
+          writer = by_colour (W.seen white.new.writer) (W.seen black.new.writer);
         })
         (M.coming moments.old) (M.coming moments.new) }
 {
     let Some(first) = first else {
-        return run_match(white, black, moments, setup, game, scratch);
+        return run_match(white, black, moments, setup, game);
     };
-    run_match_logged(white, black, moments, setup, game, scratch, first, log)
+    run_match_logged(white, black, moments, setup, game, first, log)
 }
 
 // Plays one game between two engines that run, and ends both.
@@ -180,16 +175,13 @@ fn play_game<'t, C: Clock, P: OpenProcess + Drop, M: Moments, E: Output>(
     moments: &mut M,
     setup: &Setup,
     game: &mut Game<Bits<'t>>,
-    scratch: &mut Bits<'t>,
 ) -> MatchEnd
     ensures played { IsMatchEndOf first
         (log_seen (E.seen log.old.output) log.old.pending) (log_seen (E.seen log.new.output) log.new.pending)
         setup.now.start setup.now.level game.old game.new result
         (record {
-          white_reader = ⟦<Counted<P::Stdout> as Input>⟧.seen white.ends.reader;
-          white_writer = ⟦<Counted<P::Stdin> as Output>⟧.seen white.ends.writer;
-          black_reader = ⟦<Counted<P::Stdout> as Input>⟧.seen black.ends.reader;
-          black_writer = ⟦<Counted<P::Stdin> as Output>⟧.seen black.ends.writer;
+          reader = by_colour (⟦<Counted<P::Stdout> as Input>⟧.seen white.ends.reader) (⟦<Counted<P::Stdout> as Input>⟧.seen black.ends.reader);
+          writer = by_colour (⟦<Counted<P::Stdin> as Output>⟧.seen white.ends.writer) (⟦<Counted<P::Stdin> as Output>⟧.seen black.ends.writer);
         }) }
     ensures limit { game.new.limit ≡ game.old.limit }
 {
@@ -207,7 +199,6 @@ fn play_game<'t, C: Clock, P: OpenProcess + Drop, M: Moments, E: Output>(
         moments,
         setup,
         game,
-        scratch,
         first,
         log,
     );
@@ -313,7 +304,7 @@ fn play_one<'a, 't, P: Processes + Clock, M: Moments, W: Output, E: Output>(
         level: plan.level,
     };
     let first = logged_side(plan, number);
-    let end = play_game(rt, white, black, first, log, moments, &setup, game, scratch);
+    let end = play_game(rt, white, black, first, log, moments, &setup, game);
     let tags = tags_of(plan, number, &end);
     match write_game(game, scratch, &tags, output) {
         Ok(()) => Ok(end),

@@ -5,6 +5,7 @@ ghost use Rattle.arrayvec.specs.ArrayVec.{array_vec_len};
 ghost use Rattle.byte_devices.specs.Devices.{OutputState};
 ghost use Rattle.chess_base.specs.Letters.{new_line};
 ghost use Rattle.chess_base.specs.Men.{same_colour};
+ghost use Rattle.chess_match.specs.Reasons.{by_colour};
 ghost use Rattle.chess_match.specs.Run.{Ports, text_read};
 ghost use Rattle.chess_arbiter.specs.Log.{Logs, RanLogged, ends_line, engine_text, given_text, head, received_text, log_line, log_seen, log_start, shown};
 ghost use Rattle.chess_arbiter.specs.ties.Logging.{Adds, IsLog};
@@ -345,7 +346,7 @@ impl<E: Output> Log<E> {
 impl<E: Output> Witness for Log<E> {
     ghost use Rattle.chess_arbiter.specs.ties.Logging.{IsLog, first_of_text, log_of_text};
 
-    ghost told = { λ l before notes.
+    ghost noted = { λ l before notes.
         IsLog (first_of_text before) (log_of_text before) l.first (E.seen l.output) l.pending l.state notes };
 
     fn line(&mut self, side: Colour, line: &Line<ENGINE_LINE_LEN>, moment: u64) {
@@ -394,7 +395,6 @@ pub fn run_match_logged<R: Input, W: Output, M: Moments, B: Board, E: Output>(
     moments: &mut M,
     setup: &Setup,
     game: &mut Game<B>,
-    scratch: &mut B,
     first: Colour,
     log: &mut Log<E>,
 ) -> MatchEnd
@@ -402,21 +402,17 @@ pub fn run_match_logged<R: Input, W: Output, M: Moments, B: Board, E: Output>(
         (log_seen (E.seen log.old.output) log.old.pending) (log_seen (E.seen log.new.output) log.new.pending)
         setup.now.start setup.now.level game.old game.new result
         (record {
-          white_reader = R.seen white.old.reader;
-          white_writer = W.seen white.old.writer;
-          black_reader = R.seen black.old.reader;
-          black_writer = W.seen black.old.writer;
+          reader = by_colour (R.seen white.old.reader) (R.seen black.old.reader);
+          writer = by_colour (W.seen white.old.writer) (W.seen black.old.writer);
         })
         (record {
-          white_reader = R.seen white.new.reader;
-          white_writer = W.seen white.new.writer;
-          black_reader = R.seen black.new.reader;
-          black_writer = W.seen black.new.writer;
+          reader = by_colour (R.seen white.new.reader) (R.seen black.new.reader);
+          writer = by_colour (W.seen white.new.writer) (W.seen black.new.writer);
         })
         (M.coming moments.old) (M.coming moments.new) }
 {
     log.begin(first);
-    let end = run_match_watched(white, black, moments, setup, game, scratch, log);
+    let end = run_match_watched(white, black, moments, setup, game, log);
     log.finish();
     end
 }

@@ -88,7 +88,6 @@ fn play(rt: &impl Abort, alloc: Global, said: &Said<'_>) -> Result<Logged, Fail>
     };
     let mut moments = Listed { rest: said.moments };
     let mut game = Game::open(alloc, Plain::new(), 100)?;
-    let mut scratch = Plain::new();
     let mut log = Log::new(Counted::writing(PieceWriter::new(alloc, 1024, said.log_write)));
     let end = run_match_logged(
         &mut white,
@@ -96,7 +95,6 @@ fn play(rt: &impl Abort, alloc: Global, said: &Said<'_>) -> Result<Logged, Fail>
         &mut moments,
         &setup,
         &mut game,
-        &mut scratch,
         said.first,
         &mut log,
     );

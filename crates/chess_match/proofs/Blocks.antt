@@ -1,15 +1,15 @@
 -- What the blocks of an event hold of lines of one kind.
-use Rattle.std.proofs.Common.{ℕ, ◌≡◌, Bool, true, false, not, ◌&&◌, List, [], ◌∷◌, ◌++◌, refl, ap, ◌∙◌, sym, append-nil}
+use Rattle.std.proofs.Common.{ℕ, ◌≡◌, Bool, true, false, not, ◌&&◌, List, [], ◌∷◌, ◌++◌, length, drop, refl, ap, ◌∙◌, sym, append-nil}
 use Rattle.std.specs.Prelude.{if◌then◌else◌, codes}
 use Rattle.std.specs.List.{flat_map}
 use Rattle.std.proofs.lemmas.Grind.{flat_map-append}
 use Rattle.chess_base.specs.declared.man.Colour.{Colour}
 use Rattle.chess_base.specs.Men.{other}
 use Rattle.engine_lines.specs.Items.{Item, takes}
-use Rattle.chess_match.specs.Match.{Match, seat}
+use Rattle.chess_match.specs.Match.{Match, Event, seat}
 use Rattle.chess_match.specs.Rules.{Rules}
-use Rattle.chess_match.specs.Sent.{SentLine, answer_words, Says, answers_to, block, entry, is_same_phase, new_items, draw_line}
-use Rattle.chess_match.specs.Transcript.{joined_blocks}
+use Rattle.chess_match.specs.Sent.{SentLine, answer_words, Says, answers_to, block, entry, is_same_phase, draw_line}
+use Rattle.chess_match.specs.Transcript.{block_at, joined_blocks}
 
 pub if_nil : {A : Type 0} (b : Bool) (xs : List A) → xs ≡ [] → (if b then [] else xs) ≡ []
 if_nil true xs e = refl
@@ -21,9 +21,9 @@ pub of_block : {A : Type 0} (f : SentLine → List A) → ((text : List ℕ) →
     → flat_map f (block r m m' S) ≡ (if is_same_phase m.phase m'.phase then [] else flat_map f (entry r m' S))
 unfolding block
 of_block {A} f a r m m' S =
-    flat_map-append f (answers_to (new_items (seat m S) (seat m' S))) _
+    flat_map-append f (answers_to (drop (length (seat m S).items) (seat m' S).items)) _
     ∙ ap (λ (l : List A). l ++ flat_map f (draw_line (seat m' S) (seat m (other S)) (seat m' (other S))
-    ++ (if is_same_phase m.phase m'.phase then [] else entry r m' S))) (answers (new_items (seat m S) (seat m' S)))
+    ++ (if is_same_phase m.phase m'.phase then [] else entry r m' S))) (answers (drop (length (seat m S).items) (seat m' S).items))
     ∙ flat_map-append f (draw_line (seat m' S) (seat m (other S)) (seat m' (other S))) _
     ∙ ap (λ (l : List A). l ++ flat_map f (if is_same_phase m.phase m'.phase then [] else entry r m' S))
     (offer (not (seat m (other S)).offers && (seat m' (other S)).offers && takes (codes "draw") (seat m' S).items))
@@ -45,6 +45,14 @@ pub joined_at : (b : Bool) (x : List SentLine) (bs : List (List SentLine))
     → joined_blocks ((if b then [] else x ∷ []) ++ bs) ≡ (if b then [] else x) ++ joined_blocks bs
 joined_at true x bs = refl
 joined_at false x bs = refl
+
+-- the lines that S is sent at an event
+abbrev pub lines_at : Rules → Match → Event → List Event → Colour → List SentLine
+lines_at r m e es S = joined_blocks (block_at r m e es S)
+
+pub joined_block : (b : Bool) (x : List SentLine) → joined_blocks (if b then [] else x ∷ []) ≡ (if b then [] else x)
+joined_block true x = refl
+joined_block false x = append-nil x
 
 -- what was sent so far, and what is sent now
 pub told_more : {A : Type 0} (X all all' t : List A) → X ++ [] ≡ all → all' ≡ all ++ t → X ++ t ≡ all'

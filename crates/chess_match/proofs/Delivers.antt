@@ -8,10 +8,10 @@ use Rattle.byte_devices.specs.Devices.{OutputState}
 use Rattle.chess_base.specs.Men.{other}
 use Rattle.engine_lines.specs.Clocks.{ClocksSeen, spent_by}
 use Rattle.chess_cecp.specs.Lines.{LineSeen}
-use Rattle.chess_match.specs.ties.Delivering.{Delivered, broken_notes, by_side, by_turn, event_read}
+use Rattle.chess_match.specs.ties.Delivering.{Delivered, broken_notes, by_turn, event_read, first_in}
 use Rattle.engine_lines.specs.Items.{Item}
 use Rattle.chess_match.specs.Match.{Match, Event, Line, OutputEnds, FailsToRead, FailsToWrite, after}
-use Rattle.chess_match.specs.Notes.{Noted, WasNoted, Happened, both_notes, first_sent}
+use Rattle.chess_match.specs.Notes.{Noted, WasNoted, Happened, both_notes}
 use Rattle.chess_match.specs.Rules.{Rules}
 use Rattle.chess_match.specs.Sent.{SentLine, answers_to, block, bytes_of}
 use Rattle.chess_match.specs.ties.Represents.{Represents, Goes, clocks_of, items_to, nothing_said}
@@ -26,6 +26,7 @@ use Rattle.chess_match.specs.ties.Texts.{AreOfLast}
 use Rattle.chess_match.proofs.Flushes.{flushed_none}
 use Rattle.chess_match.proofs.Going.{goes_with, nothing_to}
 use Rattle.chess_match.proofs.Runs.{asked_none}
+use Rattle.chess_match.specs.Reasons.{by_colour}
 
 -- where the last move is still to be sent, its texts are kept
 pub last_told : (r : Rules) (core : MatchState) (played : List Move) (m : Match) → Represents r core played m
@@ -70,7 +71,7 @@ first_failed r core played m due White o o' x x' f notes notes' on some s b p t 
     fails = refl;
     broke = b;
     others = (x, flushed_none x, p);
-    told = t;
+    noted = t;
   },
 )
 first_failed r core played m due Black o o' x x' f notes notes' on some s b p t = inr (
@@ -82,7 +83,7 @@ first_failed r core played m due Black o o' x x' f notes notes' on some s b p t 
     fails = refl;
     broke = b;
     others = (x, flushed_none x, p);
-    told = t;
+    noted = t;
   },
 )
 
@@ -103,7 +104,7 @@ second_failed r core played m due White o v o' x x' f notes notes' on some s t b
     fails = refl;
     broke = b;
     others = (v, t, p);
-    told = told;
+    noted = told;
   },
 )
 second_failed r core played m due Black o v o' x x' f notes notes' on some s t b p told = inr (
@@ -115,7 +116,7 @@ second_failed r core played m due Black o v o' x x' f notes notes' on some s t b
     fails = refl;
     broke = b;
     others = (v, t, p);
-    told = told;
+    noted = told;
   },
 )
 
@@ -125,7 +126,7 @@ both_sides P w b Black = b
 
 -- in a match that is on the blocks are noted in turn
 turn_noted : (m : Match) (S : Colour) (due : Colour → List SentLine) (notes notes' : Noted) → is_on m.phase ≡ true
-    → WasNoted notes notes' (both_notes S due) → WasNoted notes notes' (both_notes (first_sent m S) due)
+    → WasNoted notes notes' (both_notes S due) → WasNoted notes notes' (both_notes (first_in m S) due)
 turn_noted m S due notes notes' on t =
     subst (λ (b : Bool). WasNoted notes notes' (both_notes (if b then S else White) due)) (sym on) t
 
@@ -136,15 +137,15 @@ pub none_failed : (r : Rules) (core : MatchState) (played : List Move) (m : Matc
     → Delivered r core played m due S (by_turn S o x) (by_turn S o' x') (by_turn S false false) notes notes'
 none_failed r core played m due White o o' x x' notes notes' s a b on t = inl (record {
   stands = s;
-  puts = both_sides (λ X. SendsIf (by_side false false X) (by_side o x X) (by_side o' x' X) (bytes_of (due X))) a b;
-  fine = λ h X. both_sides (λ Y. by_side false false Y ≡ false) refl refl X;
-  told = turn_noted m White due _ _ on t;
+  puts = both_sides (λ X. SendsIf (by_colour false false X) (by_colour o x X) (by_colour o' x' X) (bytes_of (due X))) a b;
+  fine = λ h X. both_sides (λ Y. by_colour false false Y ≡ false) refl refl X;
+  noted = turn_noted m White due _ _ on t;
 })
 none_failed r core played m due Black o o' x x' notes notes' s a b on t = inl (record {
   stands = s;
-  puts = both_sides (λ X. SendsIf (by_side false false X) (by_side x o X) (by_side x' o' X) (bytes_of (due X))) b a;
-  fine = λ h X. both_sides (λ Y. by_side false false Y ≡ false) refl refl X;
-  told = turn_noted m Black due _ _ on t;
+  puts = both_sides (λ X. SendsIf (by_colour false false X) (by_colour x o X) (by_colour x' o' X) (bytes_of (due X))) b a;
+  fine = λ h X. both_sides (λ Y. by_colour false false Y ≡ false) refl refl X;
+  noted = turn_noted m Black due _ _ on t;
 })
 
 never : (b : Bool) {P : Type 0} → true ≡ not b → b ≡ true → P
@@ -160,12 +161,12 @@ pub both_sent : (r : Rules) (core : MatchState) (played : List Move) (m : Match)
     (w w' b b' : OutputState) (f g : Bool) (notes notes' : Noted) → Represents r core played m
     → true ≡ not (is_on core.phase)
     → SendsIf f w w' (bytes_of (due White)) → SendsIf g b b' (bytes_of (due Black)) → WasNoted notes notes' (both_notes White due)
-    → Delivered r core played m due S (by_side w b) (by_side w' b') (by_side f g) notes notes'
+    → Delivered r core played m due S (by_colour w b) (by_colour w' b') (by_colour f g) notes notes'
 both_sent r core played m due S w w' b b' f g notes notes' s o x y t = inl (record {
   stands = s;
-  puts = both_sides (λ X. SendsIf (by_side f g X) (by_side w b X) (by_side w' b' X) (bytes_of (due X))) x y;
+  puts = both_sides (λ X. SendsIf (by_colour f g X) (by_colour w b X) (by_colour w' b' X) (bytes_of (due X))) x y;
   fine = λ h X. never (is_on core.phase) o (ap is_on s.phase ∙ h);
-  told = subst (λ (b : Bool). WasNoted notes notes' (both_notes (if b then S else White) due))
+  noted = subst (λ (b : Bool). WasNoted notes notes' (both_notes (if b then S else White) due))
       (sym (ap is_on (sym s.phase) ∙ is_off (is_on core.phase) o)) t;
 })
 
@@ -174,14 +175,14 @@ both_sent r core played m due S w w' b b' f g notes notes' s o x y t = inl (reco
 pub turn_white : (r : Rules) (core : MatchState) (played : List Move) (m : Match) (due : Colour → List SentLine) (S : Colour)
     (o o' x x' : OutputState) (f g : Bool) (notes notes' : Noted) → S ≡ White
     → Delivered r core played m due S (by_turn S o x) (by_turn S o' x') (by_turn S f g) notes notes'
-    → Delivered r core played m due S (by_side o x) (by_side o' x') (by_side f g) notes notes'
+    → Delivered r core played m due S (by_colour o x) (by_colour o' x') (by_colour f g) notes notes'
 turn_white r core played m due White o o' x x' f g notes notes' e d = d
 turn_white r core played m due Black o o' x x' f g notes notes' e d = absurd cc
 
 pub turn_black : (r : Rules) (core : MatchState) (played : List Move) (m : Match) (due : Colour → List SentLine) (S : Colour)
     (o o' x x' : OutputState) (f g : Bool) (notes notes' : Noted) → S ≡ Black
     → Delivered r core played m due S (by_turn S o x) (by_turn S o' x') (by_turn S f g) notes notes'
-    → Delivered r core played m due S (by_side x o) (by_side x' o') (by_side g f) notes notes'
+    → Delivered r core played m due S (by_colour x o) (by_colour x' o') (by_colour g f) notes notes'
 turn_black r core played m due Black o o' x x' f g notes notes' e d = d
 turn_black r core played m due White o o' x x' f g notes notes' e d = absurd cc
 

@@ -1,5 +1,5 @@
 -- A run whose match is over keeps the whole promise.
-use Rattle.std.proofs.Common.{◌≡◌, ℕ, List, ap, sym, ◌∙◌, subst, Option, None, Some}
+use Rattle.std.proofs.Common.{◌≡◌, ℕ, List, ap, sym, ◌∙◌, refl, subst, Option, None, Some}
 use Rattle.chess_base.specs.declared.man.Colour.{Colour}
 use Rattle.chess_base.specs.declared.man.Colour.TheVariants.{White, Black}
 use Rattle.chess_base.specs.declared.man.Move.{Move}
@@ -14,16 +14,16 @@ use Rattle.chess_game.specs.declared.ends.Verdict.{Verdict}
 use Rattle.chess_game.specs.declared.results.Declared.{Declared}
 use Rattle.chess_game.specs.declared.results.Outcome.{Outcome}
 use Rattle.chess_game.specs.declared.results.Outcome.TheVariants.{Unfinished}
-use Rattle.chess_match.specs.ties.Delivering.{by_side}
+use Rattle.chess_pgn.specs.declared.tags.HowEnded.{HowEnded}
 use Rattle.engine_lines.specs.Levels.{LevelSeen}
-use Rattle.chess_match.specs.Match.{Event, seat}
-use Rattle.chess_match.specs.Reasons.{declared_at, outcome_of}
+use Rattle.chess_match.specs.Match.{Match, Event, seat}
+use Rattle.chess_match.specs.Reasons.{by_colour, reported, declared_at, outcome_of, comment_of, ended_by}
 use Rattle.chess_match.specs.Notes.{Noted}
 use Rattle.chess_match.specs.Rules.{Rules, rules_of}
-use Rattle.chess_match.specs.Run.{Ports, reader_at, writer_at, ReadFrom, Written, game_after, RanBefore}
+use Rattle.chess_match.specs.Run.{RanBefore}
 use Rattle.chess_match.specs.ties.Represents.{name_by}
 use Rattle.chess_match.specs.ties.Reported.{IsReported}
-use Rattle.chess_match.specs.Transcript.{match_of, ending_in, name_of, blocks}
+use Rattle.chess_match.specs.Transcript.{match_of, name_of}
 use Rattle.chess_match.proofs.UnderWay.{IsUnderWay}
 use Rattle.chess_match.specs.declared.phase.Phase.TheVariants.{Over}
 use Rattle.chess_match.specs.declared.reason.Reason.{Reason}
@@ -32,10 +32,14 @@ use Rattle.chess_match.specs.declared.run.MatchEnd.{MatchEnd}
 use Rattle.chess_match.specs.declared.state.MatchState.{MatchState}
 use Rattle.chess_match.proofs.Delivers.{both_sides}
 
-name_kept : (r : Rules) (T : List Event) (S : Colour) (name : List ℕ) → name ≡ name_by (seat (match_of r T) S).items
-    → name ≡ name_of r T S
+name_kept : (m : Match) (S : Colour) (name : List ℕ) → name ≡ name_by (seat m S).items → name ≡ name_of m S
 unfolding name_by
-name_kept r T S name e = e
+name_kept m S name e = e
+
+-- outcome, comment and kind of an end are those of its reason
+one_report : (reason : Reason) (outcome : Outcome) (comment : List ℕ) (ended : HowEnded) → outcome ≡ outcome_of reason
+    → comment ≡ comment_of reason → ended ≡ ended_by reason → reported reason ≡ (outcome, comment, ended)
+one_report reason outcome comment ended o c e = rw (o, c, e) refl
 
 -- a game that ended so
 abbrev ended : ℕ → Setup → List Move → Reason → game.Seen
@@ -44,6 +48,12 @@ ended limit start moves reason = record {
   state =
       record { start = start; moves = moves; declared = declared_at (verdict start moves) reason };
 }
+
+-- the game after a match from that start: the moves of the transcript, and what was declared
+abbrev game_after : game.Seen → Setup → Rules → List Event → Reason → game.Seen
+game_after g start r T reason =
+    let m = match_of r T in
+    game.at g (record { start = start; moves = m.played; declared = declared_at (r.verdict m.played) reason })
 
 -- the game at the end: its start and its limit, the moves of the match, and what was declared
 game_kept : (g h h' : game.Seen) (start : Setup) (level : LevelSeen) (T : List Event) (reason : Reason)
@@ -76,40 +86,36 @@ told_outcome h h' reason outcome e o none =
 pub ran : (g h h' : game.Seen) (start : Setup) (level : LevelSeen) (T : List Event) (core : MatchState) (reason : Reason)
     (failed : Failed) (end : MatchEnd) (nw nb nw' nb' : InputState) (held : Colour → Held) (ow ob ow' ob' : OutputState)
     (coming coming' : ℕ → Option ℕ) (notes notes' : Noted)
-    → IsUnderWay (rules_of start level g.limit) T core h.state.moves (by_side failed.white failed.black) (by_side nw nb)
-    (by_side nw' nb') held (by_side ow ob) (by_side ow' ob') coming coming' notes notes'
+    → IsUnderWay (rules_of start level g.limit) T core h.state.moves (by_colour failed.white failed.black) (by_colour nw nb)
+    (by_colour nw' nb') held (by_colour ow ob) (by_colour ow' ob') coming coming' notes notes'
     → core.phase ≡ Over reason → IsReported reason failed end → end.white_name ≡ core.white.name
     → end.black_name ≡ core.black.name
     → h.state.start ≡ start → h.limit ≡ g.limit
     → h' ≡ game.at h (with_declared h.state (declared_at (verdict_now h.state) reason))
-    → RanBefore notes notes' start level g h' end (record { white_reader = nw; white_writer = ow; black_reader = nb; black_writer = ob })
-    (record { white_reader = nw'; white_writer = ow'; black_reader = nb'; black_writer = ob' }) coming coming'
+    → RanBefore notes notes' start level g h' end (record { reader = by_colour nw nb; writer = by_colour ow ob })
+    (record { reader = by_colour nw' nb'; writer = by_colour ow' ob' }) coming coming'
 ran g h h' start level T core reason failed end nw nb nw' nb' held ow ob ow' ob' coming coming' notes notes' u over
     told wn bn s l e =
     let r : Rules = rules_of start level g.limit in
-    let w : Ports = record { white_reader = nw; white_writer = ow; black_reader = nb; black_writer = ob } in
-    let w' : Ports = record { white_reader = nw'; white_writer = ow'; black_reader = nb'; black_writer = ob' } in (
+    let m : Match = match_of r T in (
       T,
-      u.told,
+      u.noted,
       (
         reason,
-        by_side failed.white failed.black,
+        by_colour failed.white failed.black,
         record {
           fitting = u.fitting;
-          ending = ap ending_in (sym u.stands.phase ∙ over);
-          heard = both_sides (λ S. (given : List ℕ) × ReadFrom S T (reader_at w S) (reader_at w' S) given)
-              ((u.heard White).0, (u.heard White).1) ((u.heard Black).0, (u.heard Black).1);
-          written = both_sides (λ S. Written (by_side failed.white failed.black S) (writer_at w S) (writer_at w' S)
-              (blocks r S T)) (u.written White) (u.written Black);
+          ending = sym u.stands.phase ∙ over;
+          read = λ S. ((u.heard S).0, (u.heard S).1);
+          written = u.written;
           failing = u.failing;
           moments = u.moments;
         },
         record {
-          outcome = told.outcome;
-          comment = told.comment;
-          ended = told.ended;
-          white_name = name_kept r T White end.white_name (wn ∙ u.stands.white.name);
-          black_name = name_kept r T Black end.black_name (bn ∙ u.stands.black.name);
+          report = one_report reason end.outcome end.comment end.ended told.outcome told.comment told.ended;
+          name = both_sides (λ S. by_colour end.white_name end.black_name S ≡ name_of m S)
+              (name_kept m White end.white_name (wn ∙ u.stands.white.name))
+              (name_kept m Black end.black_name (bn ∙ u.stands.black.name));
           fault = told.fault;
         },
         game_kept g h h' start level T reason s l u.stands.moves e,

@@ -9,12 +9,13 @@ use Rattle.chess_cecp.specs.Run.{risen_if}
 use Rattle.chess_match.proofs.Hearing.{Hearing, HeardAll, is_heard_of, Tells, HearsAt}
 use Rattle.chess_match.specs.Match.{Event, Line, Opened, OutputEnds, FailsToRead, FailsToWrite}
 use Rattle.chess_match.specs.Run.{text_read, engine_lines, ReadFrom}
-use Rattle.chess_match.specs.Transcript.{line_in, lines_of, is_end_of, has_end, is_read_failure_of, has_read_failure}
+use Rattle.chess_match.specs.Transcript.{line_in, lines_of, is_fault, has_fault}
 use Rattle.chess_match.proofs.UnderWay.{IsHearing, HeardSoFar}
 use Rattle.chess_match.proofs.Hears.{hearing_more, heard_last, heard_none, heard_fault}
 use Rattle.chess_match.proofs.Runs.{IsTail, lines_more, end_more, failure_more}
 use Rattle.chess_match.specs.declared.run.TheConstants.{ENGINE_LINE_LEN}
 use Rattle.std.specs.Prelude.{if◌then◌else◌}
+use Rattle.chess_match.specs.declared.reason.MatchFault.TheVariants.{Ended, Read}
 
 map_both : (xs ys : List LineSeen) → map text_read (xs ++ ys) ≡ map text_read xs ++ map text_read ys
 map_both [] ys = refl
@@ -41,8 +42,8 @@ heard_still S T r r' h given s = record {
   lines = (map text_read (lines_held ENGINE_LINE_LEN false h []), first_lines r r' h given (lines_of S T) s.hearing);
   ends = s.hearing.ends ∙ ap (λ b. risen_if b r.end_count) (sym s.unended);
   failures = s.hearing.failures ∙ ap (λ b. risen_if b r.failure_count) (sym s.unfailed);
-  at_end = λ e. not_both (has_end S T) s.unended e;
-  at_failure = λ e. not_both (has_read_failure S T) s.unfailed e;
+  at_end = λ e. not_both (has_fault Ended S T) s.unended e;
+  at_failure = λ e. not_both (has_fault Read S T) s.unfailed e;
 }
 
 all_lines : (r r' : InputState) (given : List ℕ) (texts : List (Option (List ℕ))) → HeardAll r r' given texts
@@ -52,7 +53,7 @@ all_lines r r' given texts s = ap (λ ls. map text_read ls) s.lines.2 ∙ s.line
 heard_to_end : (S : Colour) (T : List Event) (r r' : InputState) (given : List ℕ) (texts : List (Option (List ℕ)))
     → HeardAll r r' given texts × (r'.end_count ≡ risen r.end_count) × (r'.failure_count ≡ r.failure_count)
     × IsAtEnd r'.known_bytes
-    → lines_of S T ≡ texts → has_end S T ≡ true → has_read_failure S T ≡ false → ReadFrom S T r r' given
+    → lines_of S T ≡ texts → has_fault Ended S T ≡ true → has_fault Read S T ≡ false → ReadFrom S T r r' given
 heard_to_end S T r r' given texts (s, ends, failures, at_end) l e f =
     let all : engine_lines given ≡ lines_of S T = all_lines r r' given texts s ∙ sym l in
     record {
@@ -61,12 +62,12 @@ heard_to_end S T r r' given texts (s, ends, failures, at_end) l e f =
       ends = ends ∙ ap (λ b. risen_if b r.end_count) (sym e);
       failures = failures ∙ ap (λ b. risen_if b r.failure_count) (sym f);
       at_end = λ h. (all, at_end);
-      at_failure = λ h. not_both (has_read_failure S T) f h;
+      at_failure = λ h. not_both (has_fault Read S T) f h;
     }
 
 heard_to_fault : (S : Colour) (T : List Event) (r r' : InputState) (given : List ℕ) (texts : List (Option (List ℕ)))
     → HeardAll r r' given texts × (r'.end_count ≡ r.end_count) × (r'.failure_count ≡ risen r.failure_count)
-    → lines_of S T ≡ texts → has_end S T ≡ false → has_read_failure S T ≡ true → ReadFrom S T r r' given
+    → lines_of S T ≡ texts → has_fault Ended S T ≡ false → has_fault Read S T ≡ true → ReadFrom S T r r' given
 heard_to_fault S T r r' given texts (s, ends, failures) l e f =
     let all : engine_lines given ≡ lines_of S T = all_lines r r' given texts s ∙ sym l in
     record {
@@ -74,7 +75,7 @@ heard_to_fault S T r r' given texts (s, ends, failures) l e f =
       lines = ([], all ∙ sym (append-nil (lines_of S T)));
       ends = ends ∙ ap (λ b. risen_if b r.end_count) (sym e);
       failures = failures ∙ ap (λ b. risen_if b r.failure_count) (sym f);
-      at_end = λ h. not_both (has_end S T) e h;
+      at_end = λ h. not_both (has_fault Ended S T) e h;
       at_failure = λ h. all;
     }
 
@@ -87,14 +88,14 @@ no_line S (OutputEnds c) h = refl
 no_line S (FailsToRead c) h = refl
 no_line S (FailsToWrite c) h = refl
 
-no_end : (S : Colour) (e : Event) → is_heard_of S e ≡ false → is_end_of S e ≡ false
+no_end : (S : Colour) (e : Event) → is_heard_of S e ≡ false → is_fault Ended S e ≡ false
 no_end S (Line c t n) h = refl
 no_end S (Opened c n) h = refl
 no_end S (OutputEnds c) h = h
 no_end S (FailsToRead c) h = refl
 no_end S (FailsToWrite c) h = refl
 
-no_failure : (S : Colour) (e : Event) → is_heard_of S e ≡ false → is_read_failure_of S e ≡ false
+no_failure : (S : Colour) (e : Event) → is_heard_of S e ≡ false → is_fault Read S e ≡ false
 no_failure S (Line c t n) h = refl
 no_failure S (Opened c n) h = refl
 no_failure S (OutputEnds c) h = refl

@@ -12,12 +12,11 @@ use Rattle.chess_base.specs.Men.{other, same_colour}
 use Rattle.chess_game.specs.declared.ends.Verdict.{Verdict}
 use Rattle.engine_lines.specs.EngineLines.{LineKind, line_kind}
 use Rattle.engine_lines.specs.Items.{Item, takes}
-use Rattle.chess_match.specs.laws.Laws.{move_sent, moves_sent, texts_from, move_texts, owed_to, MovesAreSent, AllMovesAreSent, sent}
+use Rattle.chess_match.specs.laws.Laws.{move_sent, moves_sent, texts_from, move_texts, owed_to, MovesAreSent, AllMovesAreSent, sent, ending_in}
 use Rattle.chess_match.specs.Match.{Match, Event, Line, Opened, OutputEnds, FailsToRead, FailsToWrite, items_of_line, seat, hear, start, over, enter, open_turn, played_by, after, clock, ping_number}
-use Rattle.chess_match.specs.Reasons.{fault_of}
 use Rattle.chess_match.specs.Rules.{Rules}
 use Rattle.chess_match.specs.Sent.{SentLine, Says, Time, Otim, block, entry, entry_to, is_same_phase, is_unwritten, setup_lines, variant_lines, start_lines, opening_lines, last_move, last_move_lines, clock_lines, end_lines, unsent_lines, ping}
-use Rattle.chess_match.specs.Transcript.{is_on, reads, ending_in, match_of, match_from, fits, fits_next, fits_from, is_dropped, fails_at, blocks_from, joined_blocks, has_write_failure}
+use Rattle.chess_match.specs.Transcript.{is_on, reads, match_of, fits, fits_next, fits_from, is_dropped, is_fault, blocks_from, joined_blocks, has_fault}
 use Rattle.chess_base.specs.declared.man.Variant.{Variant}
 use Rattle.chess_base.specs.declared.man.Variant.TheVariants.{Normal, Fischerandom}
 use Rattle.chess_base.proofs.MenFacts.{same_colour-true}
@@ -33,6 +32,7 @@ use Rattle.chess_match.proofs.Going.{hear_phase, leaves, offered, plain_block, r
 use Rattle.chess_match.proofs.Seats.{hear_played, hear_untold, items_same}
 use Rattle.chess_match.proofs.Blocks.{told_more}
 use Rattle.engine_lines.specs.Levels.{level_text}
+use Rattle.chess_match.specs.ties.Steps.{match_from}
 
 -- ---- who moves
 
@@ -95,7 +95,7 @@ entry_moves r m O (SendTurn c) = if same_colour c O then (if nat_lt 0 (length m.
     else []
 entry_moves r m O (AwaitMove c) = []
 entry_moves r m O (AwaitPong c) = []
-entry_moves r m O (Over reason) = if is_unwritten (fault_of reason) O then [] else untold_text r m O m.unsent_to
+entry_moves r m O (Over reason) = if is_unwritten reason O then [] else untold_text r m O m.unsent_to
 
 setup_moves : (r : Rules) → moves_sent (setup_lines r) ≡ []
 unfolding setup_lines
@@ -184,7 +184,7 @@ entry_told r m O (AwaitPong c) = at (same_colour c O)
     at : (b : Bool) → flat_map move_sent (if b then ping (ping_number m O) ∷ [] else []) ≡ []
     at true = refl
     at false = refl
-entry_told r m O (Over reason) = at (is_unwritten (fault_of reason) O)
+entry_told r m O (Over reason) = at (is_unwritten reason O)
   where
     at : (b : Bool) → flat_map move_sent (if b then [] else end_lines r m O reason)
         ≡ (if b then [] else untold_text r m O m.unsent_to)
@@ -255,7 +255,7 @@ ended_told r X A O failed reason m (Some c) h = at (same_colour c O) failed h
 
 over_told : (r : Rules) (X : List (List ℕ)) (O : Colour) (failed : Bool) (p : Phase) (reason : Reason) (m : Match)
     → is_same_phase p (Over reason) ≡ false
-    → is_unwritten (fault_of reason) O ≡ failed → X ++ untold_text r (over reason m) O m.unsent_to
+    → is_unwritten reason O ≡ failed → X ++ untold_text r (over reason m) O m.unsent_to
     ≡ all_texts r (over reason m) O → Told r X O failed p (over reason m)
 over_told r X O failed p reason m out u h =
     rw (out, u) (ended_told r X (all_texts r (over reason m) O) O failed reason m m.unsent_to h)
@@ -330,7 +330,7 @@ played_goes r X Black Black move used m p o h =
     (rw (orderly_in r m (AwaitMove Black) p o).1 at h)
 
 ends_goes : (r : Rules) (X : List (List ℕ)) (O : Colour) (reason : Reason) (m : Match) → is_on m.phase ≡ true
-    → is_unwritten (fault_of reason) O ≡ false → Sofar r X O m
+    → is_unwritten reason O ≡ false → Sofar r X O m
     → Goes r X O m (over reason m)
 ends_goes r X O reason m on n h = (
   over_told r X O false m.phase reason m (leaves m.phase reason on) n
@@ -409,7 +409,7 @@ passes_goes r X S O m p o h =
 -- before the first move
 
 hello_over : (r : Rules) (X : List (List ℕ)) (S O : Colour) (items : List Item) (reason : Reason) (m : Match)
-    → is_on m.phase ≡ true → is_unwritten (fault_of reason) O ≡ false
+    → is_on m.phase ≡ true → is_unwritten reason O ≡ false
     → (m.played ≡ []) × (m.unsent_to ≡ None) → Sofar r X O m → Goes r X O m (over reason (hear S items m))
 hello_over r X S O items reason m on n k h = (
   over_told r X O false m.phase reason (hear S items m) (leaves m.phase reason on) n
@@ -476,7 +476,7 @@ setup_opens r X O m k h = (
 judged_told : (r : Rules) (X : List (List ℕ)) (O c : Colour) (f : MatchFault) (p : Phase) (m : Match) → m.unsent_to ≡ None
     → Sofar r X O (enter (Over (Faulted c f)) m)
     → Told r X O false p (enter (Over (Faulted c f)) m)
-judged_told r X O c f p m u h = rw u (at (is_same_phase p (Over (Faulted c f))) (is_unwritten (Some (c, f)) O)
+judged_told r X O c f p m u h = rw u (at (is_same_phase p (Over (Faulted c f))) (is_unwritten (Faulted c f) O)
     (rw u at h))
   where
     at : (b w : Bool) → X ++ [] ≡ all_texts r (enter (Over (Faulted c f)) m) O
@@ -527,7 +527,7 @@ lines_go r X S O kind moment m here o h =
 
 step_goes : (r : Rules) (X : List (List ℕ)) (O : Colour) (due : Colour → List SentLine) (m : Match) (e : Event)
     → fits_next due m e ≡ true → Orderly r m → Sofar r X O m
-    → Told r X O (fails_at e O) m.phase (after r m e) × Orderly r (after r m e)
+    → Told r X O (is_fault Write O e) m.phase (after r m e) × Orderly r (after r m e)
 step_goes r X O due m (Line S t n) f o h =
     line_outcome r S (line_kind t) n m (λ m'. Goes r X O m m') f (lines_go r X S O (line_kind t) n m f o h)
 step_goes r X O due m (Opened S n) f o h = (
@@ -537,7 +537,7 @@ step_goes r X O due m (Opened S n) f o h = (
 )
 step_goes r X O due m (OutputEnds S) f o h = faulted (Faulted S Ended) (reads_on m.phase S f) refl
   where
-    faulted : (reason : Reason) → is_on m.phase ≡ true → is_unwritten (fault_of reason) O ≡ false
+    faulted : (reason : Reason) → is_on m.phase ≡ true → is_unwritten reason O ≡ false
         → Told r X O false m.phase (over reason m) × Unit {0}
     faulted reason on n = (
       over_told r X O false m.phase reason m (leaves m.phase reason on) n
@@ -643,7 +643,7 @@ or_assoc false b c = refl
 -- a block that isn't sent has no move
 unsent_none : (r : Rules) (O : Colour) (due : Colour → List SentLine) (m : Match) (e : Event) (T : List Event)
     → fits_from r due m (e ∷ T) ≡ true → Orderly r m
-    → is_dropped e T O || fails_at e O ≡ true → told_now r m (after r m e) O ≡ []
+    → is_dropped e T O || is_fault Write O e ≡ true → told_now r m (after r m e) O ≡ []
 unsent_none r O due m (FailsToWrite S) T f o h = failed_none r O S m h
 unsent_none r O due m (Line S t n) (FailsToWrite d ∷ T) f o h =
     dropped_line r O S d t n due m T (and_first (reads m.phase S) _ f)
@@ -665,13 +665,13 @@ told_at : (r : Rules) (O : Colour) (due : Colour → List SentLine) (m : Match) 
     ++ moves_sent (joined_blocks (blocks_from r O (after r m e) T))
 told_at r O due m e T f o =
     ap (λ (ls : List SentLine). moves_sent ls)
-    (joined_at (is_dropped e T O || fails_at e O) (block r m (after r m e) O) (blocks_from r O (after r m e) T))
-    ∙ flat_map-append move_sent (if is_dropped e T O || fails_at e O then [] else block r m (after r m e) O)
+    (joined_at (is_dropped e T O || is_fault Write O e) (block r m (after r m e) O) (blocks_from r O (after r m e) T))
+    ∙ flat_map-append move_sent (if is_dropped e T O || is_fault Write O e then [] else block r m (after r m e) O)
     (joined_blocks (blocks_from r O (after r m e) T))
     ∙ ap (λ (l : List (List ℕ)). l ++ moves_sent (joined_blocks (blocks_from r O (after r m e) T)))
-    (at (is_dropped e T O || fails_at e O) refl)
+    (at (is_dropped e T O || is_fault Write O e) refl)
   where
-    at : (b : Bool) → is_dropped e T O || fails_at e O ≡ b → moves_sent (if b then [] else block r m (after r m e) O)
+    at : (b : Bool) → is_dropped e T O || is_fault Write O e ≡ b → moves_sent (if b then [] else block r m (after r m e) O)
         ≡ told_now r m (after r m e) O
     at true h = sym (unsent_none r O due m e T f o h)
     at false h = told_block r m (after r m e) O
@@ -685,7 +685,7 @@ fits_on due m (OutputEnds S) f = reads_on m.phase S f
 fits_on due m (FailsToRead S) f = reads_on m.phase S f
 fits_on due m (FailsToWrite S) f = and_first (is_on m.phase) _ f
 
-calm : (r : Rules) (m : Match) (e : Event) (O : Colour) → is_on (after r m e).phase ≡ true → fails_at e O ≡ false
+calm : (r : Rules) (m : Match) (e : Event) (O : Colour) → is_on (after r m e).phase ≡ true → is_fault Write O e ≡ false
 calm r m (Line S t n) O on = refl
 calm r m (Opened S n) O on = refl
 calm r m (OutputEnds S) O on = refl
@@ -699,29 +699,29 @@ told_from : (r : Rules) (O : Colour) (due : Colour → List SentLine) (m : Match
     (failed : Bool) → fits_from r due m T ≡ true → Orderly r m
     → (is_on m.phase ≡ true → failed ≡ false) → X ++ owed_to r m O m.unsent_to failed ≡ all_texts r m O
     → (X ++ (moves_sent (joined_blocks (blocks_from r O m T))
-    ++ owed_to r (match_from r m T) O (match_from r m T).unsent_to (failed || has_write_failure O T))
+    ++ owed_to r (match_from r m T) O (match_from r m T).unsent_to (failed || has_fault Write O T))
     ≡ all_texts r (match_from r m T) O)
     × Orderly r (match_from r m T)
 told_from r O due m [] X failed f o quiet h = (rw (or-false failed) h, o)
 told_from r O due m (e ∷ T) X failed f o quiet h =
     let here : fits_next due m e ≡ true = and_first (fits_next due m e) _ f in
     let on : is_on m.phase ≡ true = fits_on due m e here in
-    let s : Told r X O (fails_at e O) m.phase (after r m e) × Orderly r (after r m e) =
+    let s : Told r X O (is_fault Write O e) m.phase (after r m e) × Orderly r (after r m e) =
     step_goes r X O due m e here o (rw (owed_on r m O m.unsent_to failed on) at h) in
     let rest = told_from r O (block r m (after r m e)) (after r m e) T (X ++ told_now r m (after r m e) O)
-    (fails_at e O) (and_second (fits_next due m e) _ f) s.1 (calm r m e O) s.0 in (
+    (is_fault Write O e) (and_second (fits_next due m e) _ f) s.1 (calm r m e O) s.0 in (
       rw (quiet on) (joined_more X (told_now r m (after r m e) O)
           (moves_sent (joined_blocks (blocks_from r O m (e ∷ T))))
           (moves_sent (joined_blocks (blocks_from r O (after r m e) T)))
           (owed_to r (match_from r (after r m e) T) O (match_from r (after r m e) T).unsent_to
-          (fails_at e O || has_write_failure O T)) (all_texts r (match_from r (after r m e) T) O)
+          (is_fault Write O e || has_fault Write O T)) (all_texts r (match_from r (after r m e) T) O)
           (told_at r O due m e T f o) rest.0),
       rest.1,
     )
 
 pub moves_are_told : MovesAreSent
 moves_are_told r T O f =
-    ap (λ (l : List (List ℕ)). l ++ owed_to r (match_of r T) O (match_of r T).unsent_to (has_write_failure O T)) first
+    ap (λ (l : List (List ℕ)). l ++ owed_to r (match_of r T) O (match_of r T).unsent_to (has_fault Write O T)) first
     ∙ (told_from r O (entry r start) start T [] false f (refl, refl) (λ on. refl) refl).0
   where
     first : moves_sent (sent r O T) ≡ moves_sent (joined_blocks (blocks_from r O start T))

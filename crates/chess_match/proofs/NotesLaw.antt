@@ -5,12 +5,14 @@ use Rattle.chess_base.specs.declared.man.Colour.{Colour}
 use Rattle.chess_base.specs.declared.man.Colour.TheVariants.{White, Black}
 use Rattle.chess_base.specs.Men.{other, same_colour}
 use Rattle.chess_match.specs.Match.{Match, Event, start, after}
-use Rattle.chess_match.specs.Notes.{Note, Happened, Gives, given_note, both_notes, first_sent, lines_at, notes_from, notes_of}
+use Rattle.chess_match.specs.Notes.{Note, Happened, Gives, given_note, both_notes, first_sent, notes_from, notes_of}
 use Rattle.chess_match.specs.laws.Laws.{events_in, given_in, sent}
 use Rattle.chess_match.specs.Rules.{Rules}
 use Rattle.chess_match.specs.Sent.{SentLine, block, entry, bytes_of}
-use Rattle.chess_match.specs.Transcript.{is_dropped, fails_at, blocks_from, joined_blocks, side_of}
+use Rattle.chess_match.specs.Transcript.{is_dropped, is_fault, blocks_from, joined_blocks}
+use Rattle.chess_match.proofs.Blocks.{lines_at}
 use Rattle.chess_match.proofs.Sends.{bytes_of-append}
+use Rattle.chess_match.specs.declared.reason.MatchFault.TheVariants.{Write}
 
 -- ---- events
 
@@ -39,7 +41,7 @@ after_both S lines notes =
 events_from : (r : Rules) (m : Match) (T : List Event) → events_in (notes_from r m T) ≡ T
 events_from r m [] = refl
 events_from r m (e ∷ es) = ap (λ (l : List Event). e ∷ l)
-    (after_both (first_sent (after r m e) (side_of e)) (lines_at r m e es) (notes_from r (after r m e) es)
+    (after_both (first_sent (after r m e) e) (lines_at r m e es) (notes_from r (after r m e) es)
     ∙ events_from r (after r m e) es)
 
 pub all_events : (r : Rules) (T : List Event) → events_in (notes_of r T) ≡ T
@@ -94,20 +96,20 @@ given_more first S lines notes more e =
     ∙ sym (bytes_of-append (lines S) more)
 
 joined_one : (b : Bool) (lines : List SentLine) (more : List (List SentLine))
-    → (if b then [] else lines) ++ joined_blocks more
+    → joined_blocks (if b then [] else lines ∷ []) ++ joined_blocks more
     ≡ joined_blocks ((if b then [] else lines ∷ []) ++ more)
 joined_one true lines more = refl
-joined_one false lines more = refl
+joined_one false lines more = ap (λ (ls : List SentLine). ls ++ joined_blocks more) (append-nil lines)
 
 given_from : (r : Rules) (S : Colour) (m : Match) (T : List Event)
     → given_in S (notes_from r m T) ≡ bytes_of (joined_blocks (blocks_from r S m T))
 unfolding bytes_of
 given_from r S m [] = refl
 given_from r S m (e ∷ es) =
-    given_more (first_sent (after r m e) (side_of e)) S (lines_at r m e es) (notes_from r (after r m e) es)
+    given_more (first_sent (after r m e) e) S (lines_at r m e es) (notes_from r (after r m e) es)
     (joined_blocks (blocks_from r S (after r m e) es)) (given_from r S (after r m e) es)
     ∙ ap (λ (l : List SentLine). bytes_of l)
-    (joined_one (is_dropped e es S || fails_at e S) (block r m (after r m e) S) (blocks_from r S (after r m e) es))
+    (joined_one (is_dropped e es S || is_fault Write S e) (block r m (after r m e) S) (blocks_from r S (after r m e) es))
 
 pub all_lines : (r : Rules) (T : List Event) (S : Colour) → given_in S (notes_of r T) ≡ bytes_of (sent r S T)
 all_lines r T S = given_more White S (λ X. entry r start X) (notes_from r start T)

@@ -7,15 +7,17 @@ use Rattle.chess_base.specs.declared.man.Colour.{Colour}
 use Rattle.chess_base.specs.declared.man.Colour.TheVariants.{White, Black}
 use Rattle.chess_base.specs.Men.{same_colour}
 use Rattle.chess_base.proofs.MenFacts.{same_colour-true, same_colour-self}
-use Rattle.chess_match.specs.laws.Laws.{Streams, IsOf, OnlyOne}
+use Rattle.chess_match.specs.laws.Laws.{Streams, IsOf, OnlyOne, ending_in}
 use Rattle.chess_match.specs.Match.{Match, Event, Line, Opened, OutputEnds, FailsToRead, FailsToWrite, start, after}
 use Rattle.chess_match.specs.Rules.{Rules}
 use Rattle.chess_match.specs.Sent.{SentLine, block, entry}
-use Rattle.chess_match.specs.Transcript.{reads, opens, is_on, ending_in, match_from, fits_next, fits_from, lines_of, line_in, moments_of, has_end, has_read_failure, has_write_failure, is_end_of, is_read_failure_of, fails_at}
+use Rattle.chess_match.specs.Transcript.{reads, opens, is_on, fits_next, fits_from, lines_of, line_in, moments_of, has_fault, is_fault}
 use Rattle.chess_match.specs.declared.phase.Phase.{Phase}
 use Rattle.chess_match.specs.declared.phase.Phase.TheVariants.{Hello, Setup, SendTurn, AwaitMove, AwaitPong, Over}
 use Rattle.chess_match.proofs.MoveLaw.{fits_on, not_on}
 use Rattle.chess_match.proofs.Outcomes.{and_first, and_second}
+use Rattle.chess_match.specs.ties.Steps.{match_from}
+use Rattle.chess_match.specs.declared.reason.MatchFault.TheVariants.{Ended, Read, Write}
 
 or_none : (a b : Bool) → a || b ≡ false → b ≡ false
 or_none true b h = cc
@@ -87,16 +89,16 @@ is_of_behind s e T i = record {
   lines = λ S. ((i.lines S).0, drop_front (line_in S e) (lines_of S T) (i.lines S).0 (s.lines S) (i.lines S).1);
   ends = λ S h. (
     drop_exact (line_in S e) (lines_of S T) (s.lines S)
-        (i.ends S (or_right (is_end_of S e) (has_end S T) h)).0,
-    (i.ends S (or_right (is_end_of S e) (has_end S T) h)).1,
+        (i.ends S (or_right (is_fault Ended S e) (has_fault Ended S T) h)).0,
+    (i.ends S (or_right (is_fault Ended S e) (has_fault Ended S T) h)).1,
   );
   failures = λ S h. (
     drop_exact (line_in S e) (lines_of S T) (s.lines S)
-        (i.failures S (or_right (is_read_failure_of S e) (has_read_failure S T) h)).0,
-    (i.failures S (or_right (is_read_failure_of S e) (has_read_failure S T) h)).1,
+        (i.failures S (or_right (is_fault Read S e) (has_fault Read S T) h)).0,
+    (i.failures S (or_right (is_fault Read S e) (has_fault Read S T) h)).1,
   );
   moments = next_moments e T s.moments i.moments;
-  writes = λ S. or_none (fails_at e S) (has_write_failure S T) (i.writes S);
+  writes = λ S. or_none (is_fault Write S e) (has_fault Write S T) (i.writes S);
 }
 
 -- ---- the first events are one
@@ -124,7 +126,7 @@ ended_none : (r : Rules) (s : Streams) (m : Match) (c : Colour) (T : List Event)
     → fits_from r (block r m (after r m (OutputEnds c))) (after r m (OutputEnds c)) T ≡ true → IsOf s (OutputEnds c ∷ T)
     → (s.lines c ≡ []) × (s.fails c ≡ false)
 ended_none r s m c T f i =
-    let k = i.ends c (or_left (same_colour c c) (has_end c T) (same_colour-self c)) in
+    let k = i.ends c (or_left (same_colour c c) (has_fault Ended c T) (same_colour-self c)) in
     (no_line r (block r m (after r m (OutputEnds c))) (after r m (OutputEnds c)) c T (s.lines c) refl f k.0, k.1)
 
 failed_none : (r : Rules) (s : Streams) (m : Match) (c : Colour) (T : List Event)
@@ -132,11 +134,11 @@ failed_none : (r : Rules) (s : Streams) (m : Match) (c : Colour) (T : List Event
     → IsOf s (FailsToRead c ∷ T)
     → (s.lines c ≡ []) × (s.fails c ≡ true)
 failed_none r s m c T f i =
-    let k = i.failures c (or_left (same_colour c c) (has_read_failure c T) (same_colour-self c)) in
+    let k = i.failures c (or_left (same_colour c c) (has_fault Read c T) (same_colour-self c)) in
     (no_line r (block r m (after r m (FailsToRead c))) (after r m (FailsToRead c)) c T (s.lines c) refl f k.0, k.1)
 
 no_write : {A : Type 0} (s : Streams) (c : Colour) (T : List Event) → IsOf s (FailsToWrite c ∷ T) → A
-no_write s c T i = not_on (sym (or_first (same_colour c c) (has_write_failure c T) (i.writes c)) ∙ same_colour-self c)
+no_write s c T i = not_on (sym (or_first (same_colour c c) (has_fault Write c T) (i.writes c)) ∙ same_colour-self c)
 
 line_not_ended : {A : Type 0} (r : Rules) (s : Streams) (m : Match) (c d : Colour) (t : Option (List ℕ)) (n : ℕ)
     (T U : List Event) → c ≡ d → IsOf s (Line c t n ∷ T)

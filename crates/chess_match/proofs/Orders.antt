@@ -11,10 +11,10 @@ use Rattle.chess_match.specs.laws.Laws.{moves_sent, move_texts, texts_from, owed
 use Rattle.chess_match.specs.Match.{Match, Event, Line, Opened, OutputEnds, FailsToRead, FailsToWrite, items_of_line, seat, hear, start, over, enter, open_turn, played_by, after}
 use Rattle.chess_match.specs.Rules.{Rules}
 use Rattle.chess_match.specs.Sent.{SentLine, entry}
-use Rattle.chess_match.specs.Transcript.{reads, match_of, fits, fits_next, has_write_failure}
+use Rattle.chess_match.specs.Transcript.{reads, match_of, fits, fits_next, has_fault}
 use Rattle.chess_match.specs.declared.phase.Phase.{Phase}
 use Rattle.chess_match.specs.declared.phase.Phase.TheVariants.{Hello, Setup, SendTurn, AwaitMove, AwaitPong, Over}
-use Rattle.chess_match.specs.declared.reason.MatchFault.TheVariants.{NoDone}
+use Rattle.chess_match.specs.declared.reason.MatchFault.TheVariants.{NoDone, Write}
 use Rattle.chess_match.specs.declared.reason.Reason.TheVariants.{Faulted}
 use Rattle.chess_match.proofs.MoveLaw.{mover, mover-snoc, OrderlyIn, Orderly, orderly_in, some_move, moves_are_told}
 use Rattle.chess_match.proofs.Outcomes.{Lines, InTurn, line_outcome, kept_by, opens_at}
@@ -198,7 +198,7 @@ moves_sent_are_known r T S f here =
     let told : moves_sent (sent r S T) ≡ move_texts r m S (other S) =
     sym (append-nil (moves_sent (sent r S T)))
     ∙ ap (λ (l : List (List ℕ)). moves_sent (sent r S T) ++ l)
-    (sym (nothing_owed r m S (has_write_failure S T) here k.0))
+    (sym (nothing_owed r m S (has_fault Write S T) here k.0))
     ∙ moves_are_told r T S f in
     ap (λ (n : ℕ). nat_lt 0 n) (used_length r m (other S) k
     ∙ sym (texts-length r (takes (codes "san") (seat m S).items) (other S) r.first [] m.played)

@@ -1,5 +1,5 @@
 -- What a line can make of a match, whatever it says: what holds of each of these matches holds of the match after it.
-use Rattle.std.proofs.Common.{◌≡◌, ℕ, ◌+◌, ◌-◌, ◌≤◌, ◌<◌, Bool, true, false, ◌&&◌, List, [], ◌∷◌, ◌++◌, length, refl, Option, None, Some}
+use Rattle.std.proofs.Common.{◌≡◌, ℕ, ◌+◌, ◌-◌, ◌≤◌, ◌<◌, Bool, true, false, ◌&&◌, List, [], ◌∷◌, ◌++◌, length, refl, sym, subst, Option, None, Some}
 use Rattle.std.specs.Prelude.{if◌then◌else◌, nat_lt, nat_le, ◌==◌}
 use Rattle.std.proofs.lemmas.Bool.{leb-false, ltb-false}
 use Rattle.chess_base.specs.declared.man.Colour.{Colour}
@@ -9,12 +9,11 @@ use Rattle.chess_base.specs.Men.{other, same_colour}
 use Rattle.chess_game.specs.declared.ends.Verdict.{Verdict}
 use Rattle.engine_lines.specs.EngineLines.{line_kind, LineKind, Features, Moves, Resigns, OffersDraw, ClaimsDraw, ClaimsWin, Rejects, Answers, SaysElse}
 use Rattle.engine_lines.specs.Items.{Item, has_done}
-use Rattle.chess_match.specs.laws.Laws.{move_said}
-use Rattle.chess_match.specs.Match.{Match, Event, Line, Opened, OutputEnds, FailsToRead, FailsToWrite, after, after_kind, items_of_line, seat, clock, over, ignore, enter, open_turn, hear, greeted, hello_line, judged, lack, ready, unless_decided, is_pong, setup_line, played_by, move_row, offer_row, draw_row, was_sent_move, either_way, before_row, before_line, after_line, ping_number}
+use Rattle.chess_match.specs.laws.Laws.{move_said, is_pong}
+use Rattle.chess_match.specs.Match.{Match, Event, Line, Opened, OutputEnds, FailsToRead, FailsToWrite, after, after_kind, items_of_line, seat, clock, over, ignore, enter, open_turn, hear, greeted, hello_line, judged, lack, ready, unless_decided, setup_line, played_by, move_row, offer_row, draw_row, was_sent_move, either_way, before_row, before_line, after_line, ping_number}
 use Rattle.chess_match.specs.Rules.{Rules}
 use Rattle.chess_match.specs.Sent.{SentLine, block, is_unwritten}
-use Rattle.chess_match.specs.Transcript.{reads, opens, is_on, fails_at, fits_next, fits_from, match_from}
-use Rattle.chess_match.specs.Reasons.{fault_of}
+use Rattle.chess_match.specs.Transcript.{reads, opens, is_on, is_fault, fits_next, fits_from}
 use Rattle.chess_match.specs.declared.phase.Phase.{Phase}
 use Rattle.chess_match.specs.declared.phase.Phase.TheVariants.{Hello, Setup, SendTurn, AwaitMove, AwaitPong, Over}
 use Rattle.chess_match.specs.declared.reason.DrawClaim.{DrawClaim}
@@ -22,7 +21,8 @@ use Rattle.chess_match.specs.declared.reason.MatchFault.{MatchFault}
 use Rattle.chess_match.specs.declared.reason.MatchFault.TheVariants.{Flood, NoDone, Ended, Read, Write}
 use Rattle.chess_match.specs.declared.reason.Reason.{Reason}
 use Rattle.chess_match.specs.declared.reason.Reason.TheVariants.{Decided, Claimed, Agreed, Resigns as ResignsBy, MovesIllegally, MovesOutOfTurn, ClaimsFalsely, RejectsLegalMove, Forfeits, ForfeitsToBareKing, GameTooLong, Faulted}
-use Rattle.chess_match.proofs.Going.{offered, reads_on}
+use Rattle.chess_match.proofs.Going.{offered, reads_on, setup_row}
+use Rattle.chess_match.specs.ties.Steps.{match_from}
 
 by_test : (P : Match → Type 0) (b : Bool) {x y : Match} → (b ≡ true → P x) → (b ≡ false → P y) → P (if b then x else y)
 by_test P true f g = f refl
@@ -30,7 +30,7 @@ by_test P false f g = g refl
 
 -- no write failed
 abbrev pub IsNoWrite : Reason → Type 0
-IsNoWrite reason = (O : Colour) → is_unwritten (fault_of reason) O ≡ false
+IsNoWrite reason = (O : Colour) → is_unwritten reason O ≡ false
 
 -- what a line of S that isn't played makes of a match, once its turn is on
 pub record InTurn (r : Rules) (S : Colour) (kind : LineKind) (m : Match) (P : Match → Type 0) : Type 0 where
@@ -113,7 +113,7 @@ pub before_outcome : (r : Rules) (S : Colour) (kind : LineKind) (moment : ℕ) (
 unfolding before_line
 before_outcome r S kind moment m P b =
     by_test P (nat_lt (clock r m S) (moment - m.opened))
-    (λ late. by_test P (r.is_bare m.played (other S)) (λ h. b.row.ends ForfeitsToBareKing (λ O. refl))
+    (λ late. by_test P (r.has_bare_king m.played (other S)) (λ h. b.row.ends ForfeitsToBareKing (λ O. refl))
     (λ h. b.row.ends (Forfeits S) (λ O. refl)))
     (λ timely. row_outcome r S kind moment m P (ltb-false (clock r m S) (moment - m.opened) timely) b)
 
@@ -141,9 +141,8 @@ pub setup_outcome : (r : Rules) (S : Colour) (kind : LineKind) (m : Match) (P : 
     → ((reason : Reason) → IsNoWrite reason → P (over reason m))
     → (is_pong 1 kind ≡ false → m.count + 1 < 10000 → P (record m { count = m.count + 1 }))
     → (is_pong 1 kind ≡ true → P (ready r S m)) → P (setup_line r S kind m)
-unfolding setup_line
 setup_outcome r S kind m P ends counts pong =
-    by_test P (is_pong 1 kind) pong (λ h. ignore_outcome S m P ends (counts h))
+    subst P (sym (setup_row r S kind m)) (by_test P (is_pong 1 kind) pong (λ h. ignore_outcome S m P ends (counts h)))
 
 -- in its handshake
 pub hello_outcome : (r : Rules) (S : Colour) (items : List Item) (m : Match) (P : Match → Type 0)
@@ -236,7 +235,7 @@ pub record Events (r : Rules) (m : Match) (e : Event) (P : Match → Type 0) : T
   pub opened : (S : Colour) (moment : ℕ) → e ≡ Opened S moment → m.phase ≡ SendTurn S
       → P (record m { phase = AwaitMove S; opened = moment })
   pub faulted : (S : Colour) (f : MatchFault) → is_on m.phase ≡ true
-      → ((O : Colour) → is_unwritten (Some (S, f)) O ≡ fails_at e O) → P (over (Faulted S f) m)
+      → ((O : Colour) → is_unwritten (Faulted S f) O ≡ is_fault Write O e) → P (over (Faulted S f) m)
 
 pub opens_at : (p : Phase) (S : Colour) → opens p S ≡ true → p ≡ SendTurn S
 opens_at (SendTurn White) White h = refl

@@ -8,11 +8,11 @@ use Rattle.chess_base.specs.Men.{other}
 use Rattle.chess_game.specs.declared.ends.Verdict.{Verdict}
 use Rattle.engine_lines.specs.EngineLines.{LineKind, line_kind, Features, Moves, Resigns, OffersDraw, ClaimsDraw, ClaimsWin, Rejects, Answers, SaysElse}
 use Rattle.engine_lines.specs.Items.{Item, has_done}
-use Rattle.chess_match.specs.laws.Laws.{move_said, moves_said, lines_after_hello, lines_after_pong, moves_of, AreRead, MovesAreRead}
-use Rattle.chess_match.specs.Match.{Match, Event, Line, Opened, OutputEnds, FailsToRead, FailsToWrite, items_of_line, is_pong, hear, start, over, enter, open_turn, played_by, after}
+use Rattle.chess_match.specs.laws.Laws.{move_said, moves_said, lines_after_hello, lines_after_pong, moves_of, AreRead, MovesAreRead, is_pong}
+use Rattle.chess_match.specs.Match.{Match, Event, Line, Opened, OutputEnds, FailsToRead, FailsToWrite, items_of_line, hear, start, over, enter, open_turn, played_by, after}
 use Rattle.chess_match.specs.Rules.{Rules}
 use Rattle.chess_match.specs.Sent.{SentLine, block, entry}
-use Rattle.chess_match.specs.Transcript.{is_on, reads, opens, match_of, match_from, fits_next, fits_from, lines_of, line_in}
+use Rattle.chess_match.specs.Transcript.{is_on, reads, opens, match_of, fits_next, fits_from, lines_of, line_in}
 use Rattle.chess_match.specs.declared.phase.Phase.{Phase}
 use Rattle.chess_match.specs.declared.phase.Phase.TheVariants.{Hello, Setup, SendTurn, AwaitMove, AwaitPong, Over}
 use Rattle.chess_match.specs.declared.reason.MatchFault.TheVariants.{NoDone}
@@ -23,6 +23,7 @@ use Rattle.chess_match.proofs.Orders.{Kept, step}
 use Rattle.chess_match.proofs.Outcomes.{Lines, line_outcome, opens_at, and_first, and_second}
 use Rattle.chess_match.proofs.Going.{offered}
 use Rattle.chess_match.proofs.Seats.{hear_played}
+use Rattle.chess_match.specs.ties.Steps.{match_from}
 
 -- the `move` lines to come of an engine, in this phase
 abbrev ahead : Phase → Colour → List (Option (List ℕ)) → List (List ℕ)

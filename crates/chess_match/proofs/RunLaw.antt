@@ -7,15 +7,18 @@ use Rattle.std.proofs.lemmas.List.{append_cancel_right}
 use Rattle.chess_base.specs.declared.man.Colour.{Colour}
 use Rattle.byte_devices.specs.Devices.{InputState, OutputState, risen}
 use Rattle.chess_cecp.specs.Run.{risen_if}
-use Rattle.chess_match.specs.laws.Laws.{Streams, IsOf, ShowsAll, OnlyOneOfARun}
+use Rattle.chess_match.specs.laws.Laws.{ending_in, Streams, IsOf, ShowsAll, OnlyOneOfARun}
 use Rattle.chess_match.specs.Match.{Match, Event, Line, Opened, OutputEnds, FailsToRead, FailsToWrite, start, after}
+use Rattle.chess_match.specs.declared.phase.Phase.{Phase}
+use Rattle.chess_match.specs.declared.phase.Phase.TheVariants.{Over}
 use Rattle.chess_match.specs.Rules.{Rules}
-use Rattle.chess_match.specs.Run.{Ports, reader_at, writer_at, engine_lines, ReadFrom, Written, IsTranscript}
+use Rattle.chess_match.specs.Run.{Ports, engine_lines, ReadFrom, Written, IsTranscript}
 use Rattle.chess_match.specs.Sent.{SentLine, block, entry}
-use Rattle.chess_match.specs.Transcript.{fits_next, fits_from, blocks, moments_of, has_end, has_read_failure, has_write_failure}
+use Rattle.chess_match.specs.Transcript.{fits_next, fits_from, blocks, moments_of, has_fault}
 use Rattle.chess_match.specs.declared.reason.Reason.{Reason}
 use Rattle.chess_match.proofs.OneLaw.{over_stops, only_one}
 use Rattle.chess_match.proofs.Outcomes.{and_second}
+use Rattle.chess_match.specs.declared.reason.MatchFault.TheVariants.{Ended, Read, Write}
 
 -- one run's reader gave one list of bytes
 one_given : (old new : Option (List ℕ)) (a b : List ℕ) → is_some old ≡ true → Consumes old new a → Consumes old new b
@@ -47,7 +50,7 @@ none_written failed false none h = refl
 
 -- an engine whose end was reported had no read that failed
 no_failure : (r : Rules) (S : Colour) (due : Colour → List SentLine) (m : Match) (T : List Event) → fits_from r due m T
-    ≡ true → has_end S T ≡ true → has_read_failure S T ≡ false
+    ≡ true → has_fault Ended S T ≡ true → has_fault Read S T ≡ false
 no_failure r S due m [] f h = refl
 no_failure r S due m (Line c t n ∷ T) f h =
     no_failure r S (block r m (after r m (Line c t n))) (after r m (Line c t n)) T
@@ -56,14 +59,14 @@ no_failure r S due m (Opened c n ∷ T) f h =
     no_failure r S (block r m (after r m (Opened c n))) (after r m (Opened c n)) T
     (and_second (fits_next due m (Opened c n)) _ f) h
 no_failure r S due m (OutputEnds c ∷ T) f h =
-    ap (λ (U : List Event). has_read_failure S U)
+    ap (λ (U : List Event). has_fault Read S U)
     (over_stops r (block r m (after r m (OutputEnds c))) (after r m (OutputEnds c)) T refl
     (and_second (fits_next due m (OutputEnds c)) _ f))
 no_failure r S due m (FailsToRead c ∷ T) f h =
     stopped (over_stops r (block r m (after r m (FailsToRead c))) (after r m (FailsToRead c)) T refl
     (and_second (fits_next due m (FailsToRead c)) _ f)) h
   where
-    stopped : {A : Type 0} → T ≡ [] → has_end S T ≡ true → A
+    stopped : {A : Type 0} → T ≡ [] → has_fault Ended S T ≡ true → A
     stopped e h = cc
 no_failure r S due m (FailsToWrite c ∷ T) f h =
     no_failure r S (block r m (after r m (FailsToWrite c))) (after r m (FailsToWrite c)) T
@@ -82,7 +85,7 @@ told_moment (Some n) told h k = k
 abbrev given_by : List Event → (Colour → List ℕ) → (ℕ → Option ℕ) → Streams
 given_by T given coming = record {
   lines = λ S. engine_lines (given S);
-  fails = λ S. has_read_failure S T;
+  fails = λ S. has_fault Read S T;
   moments =
       λ n. moment_or (coming n);
 }
@@ -90,15 +93,15 @@ given_by T given coming = record {
 is_of : (r : Rules) (T U : List Event) (reason : Reason) (failed : Colour → Bool) (w w' : Ports)
     (coming coming' : ℕ → Option ℕ) (given : Colour → List ℕ)
     → IsTranscript r U reason failed w w' coming coming' → ShowsAll w w' coming
-    → ((S : Colour) → ReadFrom S U (reader_at w S) (reader_at w' S) (given S))
-    → ((S : Colour) → has_read_failure S T ≡ has_read_failure S U) → IsOf (given_by T given coming) U
+    → ((S : Colour) → ReadFrom S U (w.reader S) (w'.reader S) (given S))
+    → ((S : Colour) → has_fault Read S T ≡ has_fault Read S U) → IsOf (given_by T given coming) U
 is_of r T U reason failed w w' coming coming' given i t heard same = record {
   lines = λ S. (heard S).lines;
   ends = λ S h. (((heard S).at_end h).0, same S ∙ no_failure r S (entry r start) start U i.fitting h);
   failures = λ S h. ((heard S).at_failure h, same S ∙ h);
-  moments = λ n h. told_moment (coming n) (slice_get (moments_of U) n) (t.moments n) (i.moments.told n h);
-  writes = λ S. none_written (failed S) (has_write_failure S U)
-      (none_failed (failed S) (writer_at w S) (writer_at w' S) (blocks r S U) (t.writes S) (t.quiet S) (i.written S))
+  moments = λ n h. told_moment (coming n) (slice_get (moments_of U) n) (t.moments n) (i.moments.known n h);
+  writes = λ S. none_written (failed S) (has_fault Write S U)
+      (none_failed (failed S) (w.writer S) (w'.writer S) (blocks r S U) (t.writes S) (t.quiet S) (i.written S))
       (i.failing S);
 }
 
@@ -108,12 +111,15 @@ heard_alike S T U old new a b known h k =
     subst (λ (given : List ℕ). ReadFrom S U old new given)
     (sym (one_given old.known_bytes new.known_bytes a b known h.bytes k.bytes)) k
 
+has_ended : {p : Phase} {reason : Reason} → p ≡ Over reason → is_some (ending_in p) ≡ true
+has_ended e = rw e refl
+
 pub only_one_of_a_run : OnlyOneOfARun
 only_one_of_a_run r T U reason reason' failed failed' w w' coming coming' i j t =
-    only_one r (given_by T (λ S. (i.heard S).0) coming) T U i.fitting j.fitting (rw i.ending refl) (rw j.ending refl)
-    (is_of r T T reason failed w w' coming coming' (λ S. (i.heard S).0) i t (λ S. (i.heard S).1) (λ S. refl))
-    (is_of r T U reason' failed' w w' coming coming' (λ S. (i.heard S).0) j t
-    (λ S. heard_alike S T U (reader_at w S) (reader_at w' S) (i.heard S).0 (j.heard S).0 (t.bytes S)
-    (i.heard S).1 (j.heard S).1)
-    (λ S. one_rise (reader_at w S).failure_count (reader_at w' S).failure_count (has_read_failure S T)
-    (has_read_failure S U) (t.reads S) (i.heard S).1.failures (j.heard S).1.failures))
+    only_one r (given_by T (λ S. (i.read S).0) coming) T U i.fitting j.fitting (has_ended i.ending) (has_ended j.ending)
+    (is_of r T T reason failed w w' coming coming' (λ S. (i.read S).0) i t (λ S. (i.read S).1) (λ S. refl))
+    (is_of r T U reason' failed' w w' coming coming' (λ S. (i.read S).0) j t
+    (λ S. heard_alike S T U (w.reader S) (w'.reader S) (i.read S).0 (j.read S).0 (t.bytes S)
+    (i.read S).1 (j.read S).1)
+    (λ S. one_rise (w.reader S).failure_count (w'.reader S).failure_count (has_fault Read S T)
+    (has_fault Read S U) (t.reads S) (i.read S).1.failures (j.read S).1.failures))

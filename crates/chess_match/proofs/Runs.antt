@@ -10,9 +10,12 @@ use Rattle.chess_match.specs.Rules.{Rules}
 use Rattle.chess_match.specs.Run.{Flushed, Written, Asked}
 use Rattle.chess_match.specs.Sent.{SentLine, block, entry, bytes_of}
 use Rattle.chess_match.specs.ties.Reported.{SendsIf}
-use Rattle.chess_match.specs.Transcript.{match_from, match_of, fits_from, fits_next, fits, is_dropped, fails_at, block_at, blocks_from, blocks, joined_blocks, line_in, lines_of, moment_in, moments_of, is_end_of, has_end, is_read_failure_of, has_read_failure, has_write_failure}
+use Rattle.chess_match.specs.Transcript.{match_of, fits_from, fits_next, fits, is_dropped, is_fault, block_at, blocks_from, blocks, joined_blocks, line_in, lines_of, moment_in, moments_of, has_fault}
 use Rattle.chess_match.proofs.Flushes.{flushed_more, failed_behind}
 use Rattle.chess_match.proofs.Sends.{bytes_of-append}
+use Rattle.chess_match.specs.ties.Steps.{match_from}
+use Rattle.chess_match.specs.declared.reason.MatchFault.{MatchFault}
+use Rattle.chess_match.specs.declared.reason.MatchFault.TheVariants.{Ended, Read, Write}
 
 -- an event at which no write fails
 abbrev pub is_sound : Event → Bool
@@ -46,29 +49,18 @@ or_assoc : (a b c : Bool) → a || (b || c) ≡ (a || b) || c
 or_assoc true b c = refl
 or_assoc false b c = refl
 
-has_end-append : (S : Colour) (T U : List Event) → has_end S (T ++ U) ≡ has_end S T || has_end S U
-has_end-append S [] U = refl
-has_end-append S (x ∷ T) U = ap (λ b. is_end_of S x || b) (has_end-append S T U)
-    ∙ or_assoc (is_end_of S x) (has_end S T) (has_end S U)
-
-has_read_failure-append : (S : Colour) (T U : List Event) → has_read_failure S (T ++ U) ≡ has_read_failure S T
-    || has_read_failure S U
-has_read_failure-append S [] U = refl
-has_read_failure-append S (x ∷ T) U = ap (λ b. is_read_failure_of S x || b) (has_read_failure-append S T U)
-    ∙ or_assoc (is_read_failure_of S x) (has_read_failure S T) (has_read_failure S U)
-
-pub has_write_failure-append : (S : Colour) (T U : List Event) → has_write_failure S (T ++ U) ≡ has_write_failure S T
-    || has_write_failure S U
-has_write_failure-append S [] U = refl
-has_write_failure-append S (x ∷ T) U = ap (λ b. fails_at x S || b) (has_write_failure-append S T U)
-    ∙ or_assoc (fails_at x S) (has_write_failure S T) (has_write_failure S U)
+pub has_fault-append : (f : MatchFault) (S : Colour) (T U : List Event)
+    → has_fault f S (T ++ U) ≡ has_fault f S T || has_fault f S U
+has_fault-append f S [] U = refl
+has_fault-append f S (x ∷ T) U = ap (λ b. is_fault f S x || b) (has_fault-append f S T U)
+    ∙ or_assoc (is_fault f S x) (has_fault f S T) (has_fault f S U)
 
 -- nothing was read in what follows
 pub record IsTail (U : List Event) : Type 0 where
   pub lines : (S : Colour) → lines_of S U ≡ []
   pub moments : moments_of U ≡ []
-  pub ends : (S : Colour) → has_end S U ≡ false
-  pub failures : (S : Colour) → has_read_failure S U ≡ false
+  pub ends : (S : Colour) → has_fault Ended S U ≡ false
+  pub failures : (S : Colour) → has_fault Read S U ≡ false
 
 pub no_tail : IsTail []
 no_tail = record { lines = λ S. refl; moments = refl; ends = λ S. refl; failures = λ S. refl }
@@ -86,16 +78,16 @@ pub moments_more : (T : List Event) (e : Event) (U : List Event) → IsTail U �
 moments_more T e U t = moments_of-append T (e ∷ U)
     ∙ ap (λ ls. moments_of T ++ ls) (ap (λ ls. moment_in e ++ ls) t.moments ∙ append-nil (moment_in e))
 
-pub end_more : (S : Colour) (T : List Event) (e : Event) (U : List Event) → IsTail U → has_end S T ≡ false
-    → has_end S (T ++ e ∷ U) ≡ is_end_of S e
-end_more S T e U t f = has_end-append S T (e ∷ U) ∙ ap (λ b. b || (is_end_of S e || has_end S U)) f
-    ∙ ap (λ b. is_end_of S e || b) (t.ends S) ∙ or-false (is_end_of S e)
+pub end_more : (S : Colour) (T : List Event) (e : Event) (U : List Event) → IsTail U → has_fault Ended S T ≡ false
+    → has_fault Ended S (T ++ e ∷ U) ≡ is_fault Ended S e
+end_more S T e U t f = has_fault-append Ended S T (e ∷ U) ∙ ap (λ b. b || (is_fault Ended S e || has_fault Ended S U)) f
+    ∙ ap (λ b. is_fault Ended S e || b) (t.ends S) ∙ or-false (is_fault Ended S e)
 
-pub failure_more : (S : Colour) (T : List Event) (e : Event) (U : List Event) → IsTail U → has_read_failure S T ≡ false
-    → has_read_failure S (T ++ e ∷ U) ≡ is_read_failure_of S e
+pub failure_more : (S : Colour) (T : List Event) (e : Event) (U : List Event) → IsTail U → has_fault Read S T ≡ false
+    → has_fault Read S (T ++ e ∷ U) ≡ is_fault Read S e
 failure_more S T e U t f =
-    has_read_failure-append S T (e ∷ U) ∙ ap (λ b. b || (is_read_failure_of S e || has_read_failure S U)) f
-    ∙ ap (λ b. is_read_failure_of S e || b) (t.failures S) ∙ or-false (is_read_failure_of S e)
+    has_fault-append Read S T (e ∷ U) ∙ ap (λ b. b || (is_fault Read S e || has_fault Read S U)) f
+    ∙ ap (λ b. is_fault Read S e || b) (t.failures S) ∙ or-false (is_fault Read S e)
 
 -- ---- what fits
 
@@ -172,7 +164,7 @@ blocks_from-append r S m (x ∷ []) e U h =
     ap (λ (b : List (List SentLine)). b ++ blocks_from r S (after r m x) (e ∷ U))
     (same_at r m x e U S h ∙ sym (append-nil (block_at r m x [] S)))
 blocks_from-append r S m (x ∷ y ∷ T) e U h =
-    ap (λ (b : Bool). (if b || fails_at x S then [] else block r m (after r m x) S ∷ []) ++ blocks_from r S
+    ap (λ (b : Bool). (if b || is_fault Write S x then [] else block r m (after r m x) S ∷ []) ++ blocks_from r S
     (after r m x) (y ∷ T ++ e ∷ U)) (dropped-longer x y T (e ∷ U) S)
     ∙ ap (λ (bs : List (List SentLine)). block_at r m x (y ∷ T) S ++ bs)
     (blocks_from-append r S (after r m x) (y ∷ T) e U h)
@@ -225,7 +217,7 @@ some_of None f h = h
 some_of (Some t) f h = f t h
 
 pub asked_none : (coming : ℕ → Option ℕ) → Asked coming coming []
-asked_none coming = record { told = λ n h. absurd (omega (arith, h)); rest = λ n. ap coming (sym (zero-add n)) }
+asked_none coming = record { known = λ n h. absurd (omega (arith, h)); rest = λ n. ap coming (sym (zero-add n)) }
 
 first_told : (coming : ℕ → Option ℕ) (moment n : ℕ) → IfSome (coming 0) (λ t. moment ≡ t) → n < 1
     → IfSome (coming n) (λ t. slice_get (moment ∷ []) n ≡ Some t)
@@ -235,7 +227,7 @@ first_told coming moment (suc n) h few = absurd (omega (arith, few))
 pub asked_one : (coming coming' : ℕ → Option ℕ) (moment : ℕ) → IfSome (coming 0) (λ t. moment ≡ t)
     → ((n : ℕ) → coming' n ≡ coming (n + 1)) → Asked coming coming' (moment ∷ [])
 asked_one coming coming' moment h rest = record {
-  told = λ n few. first_told coming moment n h few;
+  known = λ n few. first_told coming moment n h few;
   rest = λ n. let e : n + 1 ≡ 1 + n = omega arith in rest n ∙ ap coming e;
 }
 
@@ -252,7 +244,7 @@ told_at (x ∷ xs) ys c c' (suc n) a b e h =
 
 pub asked_more : (c c' c'' : ℕ → Option ℕ) (xs ys : List ℕ) → Asked c c' xs → Asked c' c'' ys → Asked c c'' (xs ++ ys)
 asked_more c c' c'' xs ys a b = record {
-  told = λ n h. told_at xs ys c c' n a.told b.told a.rest h;
+  known = λ n h. told_at xs ys c c' n a.known b.known a.rest h;
   rest = λ n. let s : length xs + (length ys + n) ≡ length (xs ++ ys) + n = omega (arith, length-append xs ys) in
       b.rest n ∙ a.rest (length ys + n) ∙ ap c s;
 }

@@ -17,8 +17,8 @@ use Rattle.engine_lines.specs.Levels.{LevelSeen, level_text, sessions, allotted,
 use Rattle.chess_match.specs.Rules.{Rules}
 use Rattle.chess_match.specs.Match.{Event, Line, Opened, OutputEnds, FailsToRead, FailsToWrite, hello_line, setup_line, before_line, after_line}
 use Rattle.chess_match.specs.Sent.{block, bytes_of, setup_lines, last_move, clock_lines, opening_lines, end_lines}
-use Rattle.chess_match.specs.Transcript.{ending, fits}
-use Rattle.chess_match.specs.laws.Laws.{sent}
+use Rattle.chess_match.specs.Transcript.{fits}
+use Rattle.chess_match.specs.laws.Laws.{sent, ending}
 use Rattle.chess_match.specs.declared.reason.DrawClaim.TheVariants.{Threefold}
 use Rattle.chess_match.specs.declared.reason.MatchFault.TheVariants.{Ended, Flood}
 use Rattle.chess_base.specs.declared.man.Variant.TheVariants.{Normal}
@@ -63,7 +63,7 @@ chess level = record {
   verdict = λ played. if bytes_eq (last_text played) (codes "d8h4") then Some BlackMates else None;
   claim = λ played. if nat_le 8 (length played) then Some Threefold else None;
   move_text = λ as_san played. last_text played;
-  is_bare = λ played c. false;
+  has_bare_king = λ played c. false;
 }
 
 abbrev lines : List (List ℕ) → List ℕ

@@ -14,7 +14,7 @@ use Rattle.engine_lines.specs.EngineLines.{LineKind, line_kind}
 use Rattle.chess_match.specs.Match.{Match, Event, Line, Opened, OutputEnds, FailsToRead, FailsToWrite, items_of_line, hear, over, open_turn, played_by, after}
 use Rattle.chess_match.specs.Rules.{Rules}
 use Rattle.chess_match.specs.Sent.{SentLine, Says, block, entry, entry_to, is_same_phase}
-use Rattle.chess_match.specs.Transcript.{is_on, reads, match_from, fits_next, fits_from, is_dropped, fails_at, blocks_from, joined_blocks}
+use Rattle.chess_match.specs.Transcript.{is_on, reads, fits_next, fits_from, is_dropped, is_fault, blocks_from, joined_blocks}
 use Rattle.chess_match.specs.declared.phase.Phase.{Phase}
 use Rattle.chess_match.specs.declared.phase.Phase.TheVariants.{SendTurn, Over}
 use Rattle.chess_match.specs.declared.reason.MatchFault.TheVariants.{Write}
@@ -23,6 +23,7 @@ use Rattle.chess_match.proofs.Blocks.{if_nil, of_block, joined_at}
 use Rattle.chess_match.proofs.MoveLaw.{not_on}
 use Rattle.chess_match.proofs.Outcomes.{Lines, InTurn, line_outcome, and_first, and_second}
 use Rattle.chess_match.proofs.Going.{hear_phase, is_opening, offered, plain_block, reads_stays}
+use Rattle.chess_match.specs.ties.Steps.{match_from}
 
 -- what S is sent of a kind where a match goes from m to m'
 abbrev pub now : {A : Type 0} → (SentLine → List A) → Rules → Colour → Match → Match → List A
@@ -38,23 +39,23 @@ pub gathered : {A : Type 0} (f : SentLine → List A) → ((text : List ℕ) →
     → ((due : Colour → List SentLine) (m : Match) (e : Event) (X : List A) → fits_next due m e ≡ true → Q X m
     → Q (X ++ now f r S m (after r m e)) (after r m e))
     → ((due : Colour → List SentLine) (m : Match) (e : Event) (T : List Event) → fits_from r due m (e ∷ T) ≡ true
-    → is_dropped e T S || fails_at e S ≡ true → now f r S m (after r m e) ≡ [])
+    → is_dropped e T S || is_fault Write S e ≡ true → now f r S m (after r m e) ≡ [])
     → (due : Colour → List SentLine) (m : Match) (T : List Event) (X : List A) → fits_from r due m T ≡ true → Q X m
     → Q (X ++ flat_map f (joined_blocks (blocks_from r S m T))) (match_from r m T)
 gathered f a r S Q step unsent due m [] X fits q = rw (append-nil X) q
 gathered {A} f a r S Q step unsent due m (e ∷ T) X fits q =
     joined_more X (now f r S m (after r m e)) (flat_map f (joined_blocks (blocks_from r S (after r m e) T)))
-    (λ (l : List A). Q l (match_from r (after r m e) T)) (told (is_dropped e T S || fails_at e S) refl)
+    (λ (l : List A). Q l (match_from r (after r m e) T)) (told (is_dropped e T S || is_fault Write S e) refl)
     (gathered f a r S Q step unsent (block r m (after r m e)) (after r m e) T (X ++ now f r S m (after r m e))
     (and_second (fits_next due m e) _ fits)
     (step due m e X (and_first (fits_next due m e) _ fits) q))
   where
-    at : (b : Bool) → is_dropped e T S || fails_at e S ≡ b → flat_map f (if b then [] else block r m (after r m e) S)
+    at : (b : Bool) → is_dropped e T S || is_fault Write S e ≡ b → flat_map f (if b then [] else block r m (after r m e) S)
         ≡ now f r S m (after r m e)
     at true h = sym (unsent due m e T fits h)
     at false h = of_block f a r m (after r m e) S
 
-    told : (b : Bool) → is_dropped e T S || fails_at e S ≡ b
+    told : (b : Bool) → is_dropped e T S || is_fault Write S e ≡ b
         → flat_map f (joined_blocks ((if b then [] else block r m (after r m e) S ∷ [])
         ++ blocks_from r S (after r m e) T))
         ≡ now f r S m (after r m e) ++ flat_map f (joined_blocks (blocks_from r S (after r m e) T))
@@ -151,7 +152,7 @@ other_is Black Black h = cc
 -- a block that isn't sent holds none of these
 pub unsent : {A : Type 0} (f : SentLine → List A) (r : Rules) (S : Colour) → InOpenings f
     → (due : Colour → List SentLine) (m : Match) (e : Event) (T : List Event) → fits_from r due m (e ∷ T) ≡ true
-    → is_dropped e T S || fails_at e S ≡ true → now f r S m (after r m e) ≡ []
+    → is_dropped e T S || is_fault Write S e ≡ true → now f r S m (after r m e) ≡ []
 unsent f r S i due m (FailsToWrite c) T fits h =
     if_nil (is_same_phase m.phase (Over (Faulted c Write))) (flat_map f (entry r (over (Faulted c Write) m) S))
     (i r (over (Faulted c Write) m) S (Over (Faulted c Write)) refl)

@@ -16,7 +16,6 @@ use Rattle.engine_lines.specs.Items.{Item, takes}
 use Rattle.chess_match.specs.laws.Laws.{centiseconds, time_sent, otim_sent, TimesAreClocks, OtherTimesAreClocks, sent}
 use Rattle.engine_lines.specs.Levels.{LevelSeen, left, level_text}
 use Rattle.chess_match.specs.Match.{Match, Event, Line, Opened, OutputEnds, FailsToRead, FailsToWrite, items_of_line, seat, hear, start, over, enter, open_turn, played_by, after, clock, ping_number}
-use Rattle.chess_match.specs.Reasons.{fault_of}
 use Rattle.chess_match.specs.Rules.{Rules}
 use Rattle.chess_match.specs.Sent.{SentLine, Says, Time, Otim, entry, entry_to, is_same_phase, is_unwritten, setup_lines, variant_lines, start_lines, opening_lines, last_move, last_move_lines, clock_lines, end_lines, unsent_lines, ping}
 use Rattle.chess_match.specs.Transcript.{reads, match_of, fits, fits_next, blocks_from, joined_blocks}
@@ -158,7 +157,7 @@ in_openings own r m S (AwaitPong c) e = at own (same_colour c S)
     at false true = refl
     at true false = refl
     at false false = refl
-in_openings own r m S (Over reason) e = at (is_unwritten (fault_of reason) S)
+in_openings own r m S (Over reason) e = at (is_unwritten reason S)
   where
     at : (b : Bool) → flat_map (numbers own) (if b then [] else end_lines r m S reason) ≡ []
     at true = refl

@@ -8,14 +8,14 @@ use Rattle.chess_base.specs.Men.{other, same_colour}
 use Rattle.chess_game.specs.declared.ends.Verdict.{Verdict}
 use Rattle.engine_lines.specs.EngineLines.{line_kind}
 use Rattle.engine_lines.specs.Items.{Item, has_done, takes}
-use Rattle.chess_match.specs.laws.Laws.{moves_sent, owed_to, texts_from, items_said, ItemsAreSaid, EachIsSentTheOthers, sent}
+use Rattle.chess_match.specs.laws.Laws.{moves_sent, owed_to, texts_from, items_said, ItemsAreSaid, EachIsSentTheOthers, sent, ending}
 use Rattle.chess_match.specs.Match.{Match, Event, Line, Opened, OutputEnds, FailsToRead, FailsToWrite, items_of_line, seat, hear, start, over, enter, open_turn, played_by, after}
 use Rattle.chess_match.specs.Rules.{Rules}
 use Rattle.chess_match.specs.Sent.{SentLine, block, entry}
-use Rattle.chess_match.specs.Transcript.{is_on, reads, opens, ending, match_of, match_from, fits_next, fits_from, lines_of, has_write_failure}
+use Rattle.chess_match.specs.Transcript.{is_on, reads, opens, match_of, fits_next, fits_from, lines_of, has_fault}
 use Rattle.chess_match.specs.declared.phase.Phase.{Phase}
 use Rattle.chess_match.specs.declared.phase.Phase.TheVariants.{Hello, Setup, SendTurn, AwaitMove, AwaitPong, Over}
-use Rattle.chess_match.specs.declared.reason.MatchFault.TheVariants.{NoDone}
+use Rattle.chess_match.specs.declared.reason.MatchFault.TheVariants.{NoDone, Write}
 use Rattle.chess_match.specs.declared.reason.Reason.TheVariants.{Decided, Faulted}
 use Rattle.chess_match.proofs.MoveLaw.{not_on, nothing_owed, moves_are_told}
 use Rattle.chess_match.proofs.OneLaw.{over_stops}
@@ -23,6 +23,7 @@ use Rattle.chess_match.proofs.ReadLaw.{with_line, no_lines, lines_by, moves_are_
 use Rattle.chess_match.proofs.Outcomes.{Lines, InTurn, line_outcome, opens_at, and_first, and_second}
 use Rattle.chess_match.proofs.Going.{offered}
 use Rattle.chess_match.proofs.Seats.{items_same}
+use Rattle.chess_match.specs.ties.Steps.{match_from}
 
 -- the items that lines to come say
 abbrev said_ahead : Phase → Colour → List (Option (List ℕ)) → List Item
@@ -266,17 +267,17 @@ owed_short r m O (Some c) failed = at (same_colour c O && (is_on m.phase || fail
 pub each_is_sent_the_others : EachIsSentTheOthers
 each_is_sent_the_others r T f = ((match_of r T).played, moves_are_read r T f, told)
   where
-    all_told : (O : Colour) → is_some (ending r T) ≡ true → has_write_failure O T ≡ false
-        → owed_to r (match_of r T) O (match_of r T).unsent_to (has_write_failure O T) ≡ []
+    all_told : (O : Colour) → is_some (ending r T) ≡ true → has_fault Write O T ≡ false
+        → owed_to r (match_of r T) O (match_of r T).unsent_to (has_fault Write O T) ≡ []
     all_told O ended quiet = rw quiet (nothing_owed r (match_of r T) O (match_of r T).unsent_to ended)
 
     told : (O : Colour) → (rest : List (List ℕ)) × (length rest ≤ 1)
-        × (is_some (ending r T) ≡ true → has_write_failure O T ≡ false → rest ≡ [])
+        × (is_some (ending r T) ≡ true → has_fault Write O T ≡ false → rest ≡ [])
         × (moves_sent (sent r O T) ++ rest
         ≡ texts_from r (takes (codes "san") (items_said (lines_of O T))) (other O) r.first [] (match_of r T).played)
     told O = (
-      owed_to r (match_of r T) O (match_of r T).unsent_to (has_write_failure O T),
-      owed_short r (match_of r T) O (match_of r T).unsent_to (has_write_failure O T),
+      owed_to r (match_of r T) O (match_of r T).unsent_to (has_fault Write O T),
+      owed_short r (match_of r T) O (match_of r T).unsent_to (has_fault Write O T),
       all_told O,
       moves_are_told r T O f
           ∙ ap (λ (is : List Item). texts_from r (takes (codes "san") is) (other O) r.first [] (match_of r T).played)

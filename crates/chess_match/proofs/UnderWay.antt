@@ -11,16 +11,17 @@ use Rattle.chess_match.specs.Rules.{Rules}
 use Rattle.chess_match.specs.Run.{ReadFrom, Written, Asked}
 use Rattle.chess_match.specs.ties.Represents.{Represents}
 use Rattle.chess_match.specs.ties.Steps.{IsSane}
-use Rattle.chess_match.specs.Transcript.{match_of, fits, blocks, lines_of, moments_of, has_end, has_read_failure, has_write_failure, is_on}
+use Rattle.chess_match.specs.Transcript.{match_of, fits, blocks, lines_of, moments_of, has_fault, is_on}
 use Rattle.chess_match.specs.declared.phase.Phase.{Phase}
 use Rattle.chess_match.specs.declared.phase.Phase.TheVariants.{Hello, Setup, SendTurn, AwaitMove, AwaitPong, Over}
 use Rattle.chess_match.specs.declared.state.MatchState.{MatchState}
+use Rattle.chess_match.specs.declared.reason.MatchFault.TheVariants.{Ended, Read, Write}
 
 -- S's engine is still read
 pub record IsHearing (S : Colour) (T : List Event) (r r' : InputState) (held : Held) (given : List ℕ) : Type 0 where
   pub hearing : Hearing r r' held given (lines_of S T)
-  pub unended : has_end S T ≡ false
-  pub unfailed : has_read_failure S T ≡ false
+  pub unended : has_fault Ended S T ≡ false
+  pub unfailed : has_fault Read S T ≡ false
 
 -- these bytes came from S's engine, and while the match is on it is still read
 abbrev pub HeardSoFar : Colour → List Event → Bool → InputState → InputState → Held → Type 0
@@ -36,9 +37,9 @@ pub record IsUnderWay (r : Rules) (T : List Event) (core : MatchState) (played :
   pub heard : (S : Colour) → HeardSoFar S T (is_on (match_of r T).phase) (n S) (n' S) (held S)
   pub written : (S : Colour) → Written (failed S) (w S) (w' S) (blocks r S T)
   pub fine : is_on (match_of r T).phase ≡ true → (S : Colour) → failed S ≡ false
-  pub failing : (S : Colour) → has_write_failure S T ≡ true → failed S ≡ true
+  pub failing : (S : Colour) → has_fault Write S T ≡ true → failed S ≡ true
   pub moments : Asked coming coming' (moments_of T)
-  pub told : WasNoted notes notes' (notes_of r T)
+  pub noted : WasNoted notes notes' (notes_of r T)
 
 -- what is left to do, where so much can still be read
 abbrev pub steps_left : Phase → ℕ → ℕ

@@ -8,7 +8,7 @@ use Rattle.byte_devices.specs.Devices.{InputState, OutputState, BreaksOff}
 use Rattle.chess_base.specs.Men.{other, same_colour}
 use Rattle.chess_base.proofs.MenFacts.{same_colour-true}
 use Rattle.chess_cecp.specs.Lines.{Held, nothing_held}
-use Rattle.chess_match.specs.ties.Delivering.{AllSent, OneFailed, Delivered}
+use Rattle.chess_match.specs.ties.Delivering.{AllSent, OneFailed, Delivered, first_in}
 use Rattle.chess_match.proofs.Hearing.{Hearing, HearsAt, is_heard_of}
 use Rattle.chess_match.specs.Match.{Match, Event, Line, Opened, OutputEnds, FailsToRead, FailsToWrite, start, after}
 use Rattle.chess_match.specs.Notes.{Noted, WasNoted, Happened, both_notes, first_sent, notes_of}
@@ -18,7 +18,7 @@ use Rattle.chess_match.specs.Sent.{SentLine, block, entry, bytes_of}
 use Rattle.chess_match.specs.ties.Represents.{Represents, Goes, given_block, nothing_said}
 use Rattle.chess_match.specs.ties.Steps.{IsSane}
 use Rattle.chess_match.specs.ties.Reported.{SendsIf}
-use Rattle.chess_match.specs.Transcript.{match_of, fits_next, is_on, opens, blocks, blocks_from, joined_blocks, lines_of, moments_of, moment_in, has_end, has_read_failure, has_write_failure, fails_at, side_of}
+use Rattle.chess_match.specs.Transcript.{match_of, fits_next, is_on, opens, blocks, blocks_from, joined_blocks, lines_of, moments_of, moment_in, has_fault, is_fault}
 use Rattle.chess_match.proofs.UnderWay.{IsHearing, HeardSoFar, IsUnderWay}
 use Rattle.chess_match.specs.declared.phase.Phase.{Phase}
 use Rattle.chess_match.specs.declared.phase.Phase.TheVariants.{Hello, Setup, SendTurn, AwaitMove, AwaitPong, Over}
@@ -26,9 +26,10 @@ use Rattle.chess_match.specs.declared.state.MatchState.{MatchState}
 use Rattle.chess_match.proofs.Flushes.{flushed_none, flushed_more}
 use Rattle.chess_match.proofs.HeardOn.{is_stop, heard_still, heard_more, not_both}
 use Rattle.chess_match.proofs.Hears.{hearing_start}
-use Rattle.chess_match.proofs.Runs.{is_sound, match_of-append, IsTail, no_tail, failed_tail, moments_more, has_write_failure-append, fits-append, nothing_due, blocks-append, block_alone, sent_more, written_more, all_sent, asked_none, asked_more}
+use Rattle.chess_match.proofs.Runs.{is_sound, match_of-append, IsTail, no_tail, failed_tail, moments_more, has_fault-append, fits-append, nothing_due, blocks-append, block_alone, sent_more, written_more, all_sent, asked_none, asked_more}
 use Rattle.chess_match.proofs.Notings.{noted_none, noted_more, noted_as, noted_on, noted_broken, noted_start, noted_start_broken, both_by, broken_by}
 use Rattle.chess_match.proofs.Sane.{sane_start, sane_over, sane_opened}
+use Rattle.chess_match.specs.declared.reason.MatchFault.TheVariants.{Ended, Read, Write}
 
 -- the match is over after what stops it
 stopped : (r : Rules) (m : Match) (e : Event) → is_stop e ≡ true → is_on (after r m e).phase ≡ false
@@ -38,7 +39,7 @@ stopped r m (Line c t n) h = absurd cc
 stopped r m (Opened c n) h = absurd cc
 stopped r m (FailsToWrite c) h = absurd cc
 
-sound_write : (S : Colour) (e : Event) → is_sound e ≡ true → fails_at e S ≡ false
+sound_write : (S : Colour) (e : Event) → is_sound e ≡ true → is_fault Write S e ≡ false
 sound_write S (Line c t n) h = refl
 sound_write S (Opened c n) h = refl
 sound_write S (OutputEnds c) h = refl
@@ -54,12 +55,12 @@ so_far_on S T e U on on' r r' r'' h h' t is stop hears s =
 
 -- no write had failed
 no_failure_yet : (S : Colour) (T U : List Event) (failed failed' : Bool) → failed ≡ false
-    → (has_write_failure S T ≡ true → failed ≡ true) → (has_write_failure S U ≡ true → failed' ≡ true)
-    → has_write_failure S (T ++ U) ≡ true → failed' ≡ true
+    → (has_fault Write S T ≡ true → failed ≡ true) → (has_fault Write S U ≡ true → failed' ≡ true)
+    → has_fault Write S (T ++ U) ≡ true → failed' ≡ true
 no_failure_yet S T U failed failed' none old new h =
-    by_first (has_write_failure S T) refl (sym (has_write_failure-append S T U) ∙ h)
+    by_first (has_fault Write S T) refl (sym (has_fault-append Write S T U) ∙ h)
   where
-    by_first : (b : Bool) → has_write_failure S T ≡ b → b || has_write_failure S U ≡ true → failed' ≡ true
+    by_first : (b : Bool) → has_fault Write S T ≡ b → b || has_fault Write S U ≡ true → failed' ≡ true
     by_first true e k = not_both failed none (old e)
     by_first false e k = new k
 
@@ -67,17 +68,19 @@ no_failure_yet S T U failed failed' none old new h =
 pub all_step : (r : Rules) (T : List Event) (e : Event) (core core' : MatchState) (played played' : List Move)
     (failed failed' : Colour → Bool) (n n' n'' : Colour → InputState) (held held' : Colour → Held)
     (w w' w'' : Colour → OutputState) (coming coming' coming'' : ℕ → Option ℕ)
-    (notes notes' between notes'' : Noted)
+    (notes notes' between notes'' : Noted) (first : Colour)
+    → first_in (after r (match_of r T) e) first ≡ first_sent (after r (match_of r T) e) e
     → IsUnderWay r T core played failed n n' held w w' coming coming' notes notes'
     → WasNoted notes' between (Happened e ∷ [])
     → is_on (match_of r T).phase ≡ true → is_sound e ≡ true → fits_next nothing_due (match_of r T) e ≡ true
     → IsSane r (after r (match_of r T) e)
     → ((S : Colour) → HearsAt S e (n' S) (n'' S) (held S) (held' S)) → Asked coming' coming'' (moment_in e)
     → AllSent r core' played' (after r (match_of r T) e) (λ S. block r (match_of r T) (after r (match_of r T) e) S)
-    (side_of e) w' w'' failed' between notes''
+    first w' w'' failed' between notes''
     → IsUnderWay r (T ++ e ∷ []) core' played' failed' n n'' held' w w'' coming coming'' notes notes''
 all_step r T e core core' played played' failed failed' n n' n'' held held' w w' w'' coming coming' coming'' notes
-    notes' between notes'' u line on sound fit sane hears asked all =
+    notes' between notes'' first turn u line on sound fit sane hears asked all =
+    let due : Colour → List SentLine = λ S. block r (match_of r T) (after r (match_of r T) e) S in
     let now : match_of r (T ++ e ∷ []) ≡ after r (match_of r T) e = match_of-append r T (e ∷ []) in
     record {
       fitting = fits-append r T e [] sound u.fitting (ap (λ b. b && true) fit);
@@ -94,13 +97,14 @@ all_step r T e core core' played played' failed failed' n n' n'' held held' w w'
           (all_sent (failed S) (w S) (w' S) (blocks r S T) (u.fine on S) (u.written S)) (all.puts S));
       fine = λ h. all.fine (subst (λ (x : Match). is_on x.phase ≡ true) now h);
       failing = λ S. no_failure_yet S T (e ∷ []) (failed S) (failed' S) (u.fine on S) (u.failing S)
-          (λ h. let no : fails_at e S || false ≡ false = ap (λ b. b || false) (sound_write S e sound) in not_both _ no
+          (λ h. let no : is_fault Write S e || false ≡ false = ap (λ b. b || false) (sound_write S e sound) in not_both _ no
           h);
       moments = subst (λ (ms : List ℕ). Asked coming coming'' ms) (sym (moments_more T e [] no_tail))
           (asked_more coming coming' coming'' (moments_of T) (moment_in e) u.moments asked);
-      told = noted_as notes notes'' _ (notes_of r (T ++ e ∷ [])) (noted_on r T e sound)
-          (noted_more notes notes' notes'' (notes_of r T) _ u.told
-          (noted_more notes' between notes'' (Happened e ∷ []) _ line all.told));
+      noted = noted_as notes notes'' _ (notes_of r (T ++ e ∷ [])) (noted_on r T e sound)
+          (noted_more notes notes' notes'' (notes_of r T) _ u.noted
+          (noted_more notes' between notes'' (Happened e ∷ []) _ line
+          (subst (λ (c : Colour). WasNoted between notes'' (both_notes c due)) turn all.noted)));
     }
 
 -- ---- a write that fails
@@ -216,9 +220,9 @@ failed_step r T d text k core core' played played' failed failed' n n' n'' held 
           (own_fails c failed' one.fails S);
       moments = subst (λ (ms : List ℕ). Asked coming coming'' ms) (sym (moments_more T e U (failed_tail c)))
           (asked_more coming coming' coming'' (moments_of T) (k ∷ []) u.moments asked);
-      told = noted_as notes notes'' _ (notes_of r (T ++ e ∷ U)) (noted_broken r T d c text k one.on)
-          (noted_more notes notes' notes'' (notes_of r T) _ u.told
-          (noted_more notes' between notes'' (Happened e ∷ []) _ line one.told));
+      noted = noted_as notes notes'' _ (notes_of r (T ++ e ∷ U)) (noted_broken r T d c text k one.on)
+          (noted_more notes notes' notes'' (notes_of r T) _ u.noted
+          (noted_more notes' between notes'' (Happened e ∷ []) _ line one.noted));
     }
 
 -- ---- the blocks that are due
@@ -232,7 +236,7 @@ all_by r core played m due due' first w w' failed notes notes' e s = record {
   stands = s.stands;
   puts = λ S. subst (λ (b : List SentLine). SendsIf (failed S) (w S) (w' S) (bytes_of b)) (e S) (s.puts S);
   fine = s.fine;
-  told = noted_as notes notes' _ _ (both_by (first_sent m first) due due' e) s.told;
+  noted = noted_as notes notes' _ _ (both_by (first_in m first) due due' e) s.noted;
 }
 
 one_by : (r : Rules) (core : MatchState) (played : List Move) (m : Match) (due due' : Colour → List SentLine) (first : Colour)
@@ -252,7 +256,7 @@ one_by r core played m due due' first w w' failed notes notes' c e s = record {
         (bytes_of (if same_colour c first then [] else b))) (e (other c)) s.others.1,
     s.others.2,
   );
-  told = noted_as notes notes' _ _ (broken_by r m due due' first c e) s.told;
+  noted = noted_as notes notes' _ _ (broken_by r m due due' first c e) s.noted;
 }
 
 pub delivered_by : (r : Rules) (core : MatchState) (played : List Move) (m : Match) (due due' : Colour → List SentLine)
@@ -267,7 +271,7 @@ delivered_by r core played m due due' first w w' failed notes notes' e (inr (c, 
 -- ---- the start
 
 just_heard : (S : Colour) (T : List Event) (on : Bool) (r : InputState) (h : Held) → h ≡ nothing_held
-    → lines_of S T ≡ [] → has_end S T ≡ false → has_read_failure S T ≡ false → HeardSoFar S T on r r h
+    → lines_of S T ≡ [] → has_fault Ended S T ≡ false → has_fault Read S T ≡ false → HeardSoFar S T on r r h
 just_heard S T on r h none l e f =
     let s : IsHearing S T r r nothing_held [] =
     record {
@@ -297,7 +301,7 @@ all_started r core played failed n held w w' coming notes notes' none s = record
   fine = s.fine;
   failing = λ S h. absurd cc;
   moments = asked_none coming;
-  told = noted_as notes notes' _ _ (noted_start r) s.told;
+  noted = noted_as notes notes' _ _ (noted_start r) s.noted;
 }
 
 broken_start : (f : Bool) (w w' : OutputState) (b : List SentLine) → f ≡ true → BreaksOff w w' (bytes_of b)
@@ -326,7 +330,7 @@ one_started r core played failed n held w w' coming notes notes' White none s = 
   fine = λ h. absurd cc;
   failing = λ S. own_fails White failed s.fails S;
   moments = asked_none coming;
-  told = noted_as notes notes' _ _ (noted_start_broken r) s.told;
+  noted = noted_as notes notes' _ _ (noted_start_broken r) s.noted;
 }
 
 -- the first lines of White's handshake were sent
@@ -364,21 +368,21 @@ event_step r T (Line c text k) d core core' played played' failed failed' n n' n
     coming'' notes notes' between notes'' u line is on fit sane hears asked (inl s) = (
       T ++ Line c text k ∷ [],
       all_step r T (Line c text k) core core' played played' failed failed' n n' n'' held held'
-          w w' w'' coming coming' coming'' notes notes' between notes'' u line on refl fit sane hears asked
+          w w' w'' coming coming' coming'' notes notes' between notes'' c refl u line on refl fit sane hears asked
           (sent_by r _ _ _ _ d c _ _ _ _ _ (same_colour-true c d is) s),
     )
 event_step r T (OutputEnds c) d core core' played played' failed failed' n n' n'' held held' w w' w'' coming coming'
     coming'' notes notes' between notes'' u line is on fit sane hears asked (inl s) = (
       T ++ OutputEnds c ∷ [],
       all_step r T (OutputEnds c) core core' played played' failed failed' n n' n'' held held' w
-          w' w'' coming coming' coming'' notes notes' between notes'' u line on refl fit sane hears asked
+          w' w'' coming coming' coming'' notes notes' between notes'' c refl u line on refl fit sane hears asked
           (sent_by r _ _ _ _ d c _ _ _ _ _ (same_colour-true c d is) s),
     )
 event_step r T (FailsToRead c) d core core' played played' failed failed' n n' n'' held held' w w' w'' coming coming'
     coming'' notes notes' between notes'' u line is on fit sane hears asked (inl s) = (
       T ++ FailsToRead c ∷ [],
       all_step r T (FailsToRead c) core core' played played' failed failed' n n' n'' held held'
-          w w' w'' coming coming' coming'' notes notes' between notes'' u line on refl fit sane hears asked
+          w w' w'' coming coming' coming'' notes notes' between notes'' c refl u line on refl fit sane hears asked
           (sent_by r _ _ _ _ d c _ _ _ _ _ (same_colour-true c d is) s),
     )
 event_step r T (Line c text k) d core core' played played' failed failed' n n' n'' held held' w w' w'' coming coming'
@@ -437,13 +441,13 @@ opened_step r T d k core core' played failed n n' held w w' coming coming' comin
     asked goes =
     let on : is_on (match_of r T).phase ≡ true = opens_on (match_of r T).phase d opening in
     all_step r T (Opened d k) core core' played played failed failed n n' n' held held w w' w' coming coming' coming''
-    notes notes' notes'' notes'' u line on refl opening (sane_opened r (match_of r T) d k opening u.sane) (λ S. (refl, refl)) asked
+    notes notes' notes'' notes'' White refl u line on refl opening (sane_opened r (match_of r T) d k opening u.sane) (λ S. (refl, refl)) asked
     (record {
       stands = goes.stands;
       puts = λ S. nothing_put (failed S) (w' S) _ (u.fine on S)
           (none_given r (after r (match_of r T) (Opened d k)) S ∙ goes.gives S);
       fine = λ h S. u.fine on S;
-      told = noted_as notes'' notes'' [] _
+      noted = noted_as notes'' notes'' [] _
           (nothing_noted _ _ (λ S. none_given r (after r (match_of r T) (Opened d k)) S ∙ goes.gives S))
           (noted_none notes'');
     })

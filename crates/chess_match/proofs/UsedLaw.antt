@@ -11,7 +11,7 @@ use Rattle.chess_match.specs.laws.Laws.{is_move, move_said, turn_times, UsedTime
 use Rattle.chess_match.specs.Match.{Match, Event, Line, Opened, OutputEnds, FailsToRead, FailsToWrite, items_of_line, seat, hear, start, over, enter, open_turn, played_by, after}
 use Rattle.chess_match.specs.Rules.{Rules}
 use Rattle.chess_match.specs.Sent.{SentLine, block, entry}
-use Rattle.chess_match.specs.Transcript.{is_on, reads, opens, match_from, fits_next, fits_from}
+use Rattle.chess_match.specs.Transcript.{is_on, reads, opens, fits_next, fits_from}
 use Rattle.chess_match.specs.declared.phase.Phase.{Phase}
 use Rattle.chess_match.specs.declared.phase.Phase.TheVariants.{Hello, Setup, SendTurn, AwaitMove, AwaitPong, Over}
 use Rattle.chess_match.specs.declared.reason.MatchFault.TheVariants.{NoDone}
@@ -22,6 +22,7 @@ use Rattle.chess_match.proofs.OneLaw.{over_stops}
 use Rattle.chess_match.proofs.Outcomes.{Lines, InTurn, line_outcome, opens_at, and_first, and_second}
 use Rattle.chess_match.proofs.Going.{offered}
 use Rattle.chess_match.proofs.Seats.{hear_used, used_same}
+use Rattle.chess_match.specs.ties.Steps.{match_from}
 
 -- the moment of the opening, where a move of S is awaited
 abbrev awaited : Colour → Phase → ℕ → Option ℕ

@@ -1,5 +1,6 @@
 -- The match after each event: one small table for each phase.
 use Rattle.std.specs.Prelude.{ℕ, ◌+◌, ◌-◌, ◌==◌, ◌&&◌, nat_lt, nat_le, Bool, true, false, not, if◌then◌else◌, List, [], ◌∷◌, ◌++◌, length, codes, sum, Option, None, Some, is_some}
+use Rattle.std.specs.Option.{option_map_or}
 use Rattle.chess_base.specs.declared.man.Colour.{Colour}
 use Rattle.chess_base.specs.declared.man.Colour.TheVariants.{White, Black}
 use Rattle.chess_base.specs.declared.man.Move.{Move}
@@ -8,6 +9,7 @@ use Rattle.chess_game.specs.declared.ends.Verdict.{Verdict}
 use Rattle.engine_lines.specs.EngineLines.{LineKind, Features, Moves, Resigns, OffersDraw, ClaimsDraw, ClaimsWin, Rejects, Answers, line_kind}
 use Rattle.engine_lines.specs.Items.{Item, items_of, has_done, takes, plays_fischerandom}
 use Rattle.engine_lines.specs.Levels.{left}
+use Rattle.chess_match.specs.Reasons.{by_colour}
 use Rattle.chess_match.specs.Rules.{Rules, is_fischerandom}
 use Rattle.chess_match.specs.declared.phase.Phase.{Phase}
 use Rattle.chess_match.specs.declared.phase.Phase.TheVariants.{Hello, Setup, SendTurn, AwaitMove, AwaitPong, Over}
@@ -15,6 +17,7 @@ use Rattle.chess_match.specs.declared.reason.DrawClaim.{DrawClaim}
 use Rattle.chess_match.specs.declared.reason.MatchFault.{MatchFault}
 use Rattle.chess_match.specs.declared.reason.MatchFault.TheVariants.{Ended, Read, Write, NoDone, NoPing, NoSetboard, Flood, NoVariant}
 use Rattle.chess_match.specs.declared.reason.Reason.{Reason}
+use Rattle.chess_match.specs.declared.reason.Reason.TheVariants.{Decided, Claimed, Agreed, MovesIllegally, MovesOutOfTurn, ClaimsFalsely, RejectsLegalMove, Forfeits, ForfeitsToBareKing, GameTooLong, Faulted}
 use Rattle.chess_match.specs.declared.reason.Reason.TheVariants as over_by
 
 -- what happens at the devices. A line that was too long has no text
@@ -53,29 +56,21 @@ pub record Match : Type 0 where
 
 -- what is known of S's engine
 abbrev pub seat : Match → Colour → Seat
-seat m White = m.white
-seat m Black = m.black
+seat m S = by_colour m.white m.black S
 
--- the match with this known of S's engine, and all else as before
-abbrev pub with_seat : Match → Colour → Seat → Match
-with_seat m White s = record m { white = s }
-with_seat m Black s = record m { black = s }
+-- the match after a change of what is known of S's engine, with all else as before
+abbrev pub with_seat : Colour → (Seat → Seat) → Match → Match
+with_seat White change m = record m { white = change m.white }
+with_seat Black change m = record m { black = change m.black }
 
 -- nothing is known of an engine yet
-abbrev pub new_seat : Seat
-new_seat = record { items = []; used = []; offers = false }
+abbrev pub vacant : Seat
+vacant = record { items = []; used = []; offers = false }
 
 -- before any line: White's handshake
 abbrev pub start : Match
-start = record {
-  phase = Hello White;
-  white = new_seat;
-  black = new_seat;
-  played = [];
-  unsent_to = None;
-  count = 0;
-  opened = 0;
-}
+start =
+    record { phase = Hello White; white = vacant; black = vacant; played = []; unsent_to = None; count = 0; opened = 0 }
 
 -- ---- ways to go on
 
@@ -93,7 +88,7 @@ open_turn S m = record m { phase = SendTurn S; count = 0; unsent_to = None }
 
 -- the line counts as ignored, and the 10,000th is too many
 abbrev pub ignore : Colour → Match → Match
-ignore S m = if nat_le 10000 (m.count + 1) then over (over_by.Faulted S Flood) m else record m { count = m.count + 1 }
+ignore S m = if nat_le 10000 (m.count + 1) then over (Faulted S Flood) m else record m { count = m.count + 1 }
 
 -- ---- handshake
 
@@ -104,7 +99,7 @@ items_of_line _ = []
 
 -- S's engine said these items more
 abbrev pub hear : Colour → List Item → Match → Match
-hear S items m = with_seat m S (record (seat m S) { items = (seat m S).items ++ items })
+hear S items m = with_seat S (λ s. record s { items = s.items ++ items }) m
 
 -- what an engine lacks by the items that it said, if anything: ping; setboard, where a start is sent; the variant
 abbrev pub lack : Rules → List Item → Option MatchFault
@@ -116,8 +111,8 @@ lack r items =
 
 -- after both handshakes White is judged, then Black
 abbrev pub judged : Option MatchFault → Option MatchFault → Match → Match
-judged (Some f) _ m = enter (Over (over_by.Faulted White f)) m
-judged None (Some f) m = enter (Over (over_by.Faulted Black f)) m
+judged (Some f) _ m = enter (Over (Faulted White f)) m
+judged None (Some f) m = enter (Over (Faulted Black f)) m
 judged None None m = enter (Setup White) m
 
 -- S's handshake ended: after White's comes Black's, and after Black's both are judged
@@ -129,29 +124,24 @@ greeted r Black m = judged (lack r m.white.items) (lack r m.black.items) m
 unfoldable pub hello_line : Rules → Colour → List Item → Match → Match
 hello_line r S items m =
     if has_done items then greeted r S (hear S items m)
-    else if nat_le 1000 (m.count + 1) then over (over_by.Faulted S NoDone) (hear S items m)
+    else if nat_le 1000 (m.count + 1) then over (Faulted S NoDone) (hear S items m)
     else let m' = hear S items m in record m' { count = m.count + 1 }
 
 -- ---- setup
 
 -- a verdict ends the match m; without one it goes on as m'
 abbrev pub unless_decided : Option Verdict → Match → Match → Match
-unless_decided (Some v) m m' = over (over_by.Decided v) m
-unless_decided None m m' = m'
+unless_decided verdict m m' = option_map_or (λ v. over (Decided v) m) verdict m'
 
 -- S answered its first ping: after White's setup comes Black's, and after Black's the game begins
 abbrev pub ready : Rules → Colour → Match → Match
 ready r White m = enter (Setup Black) m
 ready r Black m = unless_decided (r.verdict m.played) m (open_turn r.first m)
 
--- the line answers ping n
-abbrev pub is_pong : ℕ → LineKind → Bool
-is_pong n (Answers k) = k == n
-is_pong n _ = false
-
 -- the answer to ping 1 ends a setup; any other line counts as ignored
 unfoldable pub setup_line : Rules → Colour → LineKind → Match → Match
-setup_line r S kind m = if is_pong 1 kind then ready r S m else ignore S m
+setup_line r S (Answers n) m = if n == 1 then ready r S m else ignore S m
+setup_line r S _ m = ignore S m
 
 -- ---- turns
 
@@ -159,38 +149,30 @@ setup_line r S kind m = if is_pong 1 kind then ready r S m else ignore S m
 abbrev pub clock : Rules → Match → Colour → ℕ
 clock r m S = left r.level (length (seat m S).used) (sum (seat m S).used)
 
--- S used so many milliseconds for a move more
-abbrev pub charge : Colour → ℕ → Match → Match
-charge S used m = with_seat m S (record (seat m S) { used = (seat m S).used ++ used ∷ [] })
-
--- S's offer of a draw is open from now on, or isn't
-abbrev pub with_offer : Colour → Bool → Match → Match
-with_offer S offers m = with_seat m S (record (seat m S) { offers = offers })
-
--- S's move is played: the other's offer lapses, S's clock is charged, and the move is still to be sent to the other
+-- S's move is played: S's clock is charged, the other's offer lapses, and the move is still to be sent to the other
 abbrev pub played_by : Colour → Move → ℕ → Match → Match
 played_by S move used m =
-    let m' = with_offer (other S) false (charge S used m) in
+    let charged = with_seat S (λ s. record s { used = s.used ++ used ∷ [] }) m in
+    let m' = with_seat (other S) (λ s. record s { offers = false }) charged in
     record m' { phase = AwaitPong S; played = m.played ++ move ∷ []; unsent_to = Some (other S) }
 
 -- a text that doesn't denote one legal move loses; a legal move is played, and the verdict after it, if there is one,
 -- ends the match
 abbrev pub move_row : Rules → Colour → Option Move → ℕ → Match → Match
-move_row r S None moment m = over (over_by.MovesIllegally S) m
+move_row r S None moment m = over (MovesIllegally S) m
 move_row r S (Some move) moment m =
     let m' = played_by S move (moment - m.opened) m in unless_decided (r.verdict m'.played) m' m'
 
 -- where the other's offer is open the draw is agreed; where S's own is the line counts as ignored; else S's is opened
 abbrev pub offer_row : Colour → Match → Match
 offer_row S m =
-    if (seat m (other S)).offers then over over_by.Agreed m
+    if (seat m (other S)).offers then over Agreed m
     else if (seat m S).offers then ignore S m
-    else with_offer S true m
+    else with_seat S (λ s. record s { offers = true }) m
 
 -- a draw that may be claimed ends the match; else the claim is an offer
 abbrev pub draw_row : Option DrawClaim → Colour → Match → Match
-draw_row (Some c) S m = over (over_by.Claimed c) m
-draw_row None S m = offer_row S m
+draw_row claim S m = option_map_or (λ c. over (Claimed c) m) claim (offer_row S m)
 
 -- a move was ever sent to S: the other has moved, since S's opening has the other's last move
 abbrev pub was_sent_move : Match → Colour → Bool
@@ -201,16 +183,14 @@ abbrev pub either_way : Rules → Colour → LineKind → Match → Match
 either_way r S Resigns m = over (over_by.Resigns S) m
 either_way r S OffersDraw m = offer_row S m
 either_way r S ClaimsDraw m = draw_row (r.claim m.played) S m
-either_way r S (ClaimsWin c) m = if same_colour c S then over (over_by.ClaimsFalsely S) m else over (over_by.Resigns S)
-    m
-either_way r S Rejects m = if was_sent_move m S then over (over_by.RejectsLegalMove S) m else ignore S m
+either_way r S (ClaimsWin c) m = if same_colour c S then over (ClaimsFalsely S) m else over (over_by.Resigns S) m
+either_way r S Rejects m = if was_sent_move m S then over (RejectsLegalMove S) m else ignore S m
 either_way r S _ m = ignore S m
 
 -- a line before the move, in time: where the limit allows no more half-moves a move ends the match
 abbrev pub before_row : Rules → Colour → LineKind → ℕ → Match → Match
 before_row r S (Moves text) moment m =
-    if nat_le r.limit (length m.played) then over over_by.GameTooLong m else move_row r S (r.reading m.played text)
-    moment m
+    if nat_le r.limit (length m.played) then over GameTooLong m else move_row r S (r.reading m.played text) moment m
 before_row r S kind moment m = either_way r S kind m
 
 -- the flag is judged first: a side that used more time than it had left loses, or draws if the other has its king alone
@@ -218,7 +198,7 @@ before_row r S kind moment m = either_way r S kind m
 unfoldable pub before_line : Rules → Colour → LineKind → ℕ → Match → Match
 before_line r S kind moment m =
     if nat_lt (clock r m S) (moment - m.opened)
-    then (if r.is_bare m.played (other S) then over over_by.ForfeitsToBareKing m else over (over_by.Forfeits S) m)
+    then (if r.has_bare_king m.played (other S) then over ForfeitsToBareKing m else over (Forfeits S) m)
     else before_row r S kind moment m
 
 -- the number of the ping that S is to answer: 1 in its setup, and one more for each of its moves
@@ -227,7 +207,7 @@ ping_number m S = length (seat m S).used + 1
 
 -- a line after the move: another move loses, and the answer to the last ping gives the other side its turn
 unfoldable pub after_line : Rules → Colour → LineKind → Match → Match
-after_line r S (Moves _) m = over (over_by.MovesOutOfTurn S) m
+after_line r S (Moves _) m = over (MovesOutOfTurn S) m
 after_line r S (Answers n) m = if n == ping_number m S then open_turn (other S) m else ignore S m
 after_line r S kind m = either_way r S kind m
 
@@ -245,6 +225,6 @@ after_kind r _ kind moment m = m
 abbrev pub after : Rules → Match → Event → Match
 after r m (Line S text moment) = after_kind r m.phase (line_kind text) moment m
 after r m (Opened S moment) = record m { phase = AwaitMove S; opened = moment }
-after r m (OutputEnds S) = over (over_by.Faulted S Ended) m
-after r m (FailsToRead S) = over (over_by.Faulted S Read) m
-after r m (FailsToWrite S) = over (over_by.Faulted S Write) m
+after r m (OutputEnds S) = over (Faulted S Ended) m
+after r m (FailsToRead S) = over (Faulted S Read) m
+after r m (FailsToWrite S) = over (Faulted S Write) m

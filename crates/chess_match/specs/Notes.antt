@@ -1,12 +1,12 @@
 -- What a witness of a match is given: the events of a transcript, and after each the blocks that the engines are sent.
-use Rattle.std.specs.Prelude.{ℕ, ◌||◌, if◌then◌else◌, List, [], ◌∷◌, ◌++◌}
+use Rattle.std.specs.Prelude.{ℕ, if◌then◌else◌, List, [], ◌∷◌, ◌++◌}
 use Rattle.chess_base.specs.declared.man.Colour.{Colour}
 use Rattle.chess_base.specs.declared.man.Colour.TheVariants.{White}
 use Rattle.chess_base.specs.Men.{other}
-use Rattle.chess_match.specs.Match.{Match, Event, start, after}
+use Rattle.chess_match.specs.Match.{Match, Event, Line, start, after}
 use Rattle.chess_match.specs.Rules.{Rules}
-use Rattle.chess_match.specs.Sent.{SentLine, block, entry, bytes_of}
-use Rattle.chess_match.specs.Transcript.{is_on, side_of, is_dropped, fails_at}
+use Rattle.chess_match.specs.Sent.{SentLine, entry, bytes_of}
+use Rattle.chess_match.specs.Transcript.{is_on, block_at, joined_blocks}
 
 -- one note
 pub data Note : Type 0 where
@@ -26,20 +26,17 @@ given_note S (b ∷ bs) = Gives S (b ∷ bs) ∷ []
 abbrev pub both_notes : Colour → (Colour → List SentLine) → List Note
 both_notes S lines = given_note S (bytes_of (lines S)) ++ given_note (other S) (bytes_of (lines (other S)))
 
--- who is sent its block first: the engine of which the event came, and White once the match is over
-abbrev pub first_sent : Match → Colour → Colour
-first_sent m S = if is_on m.phase then S else White
-
--- the lines that S is sent at an event, before the others
-abbrev pub lines_at : Rules → Match → Event → List Event → Colour → List SentLine
-lines_at r m e es S = if is_dropped e es S || fails_at e S then [] else block r m (after r m e) S
+-- who is sent its block first: the engine whose line the event is, and White if it is none or the match is over
+abbrev pub first_sent : Match → Event → Colour
+first_sent m (Line S text moment) = if is_on m.phase then S else White
+first_sent m _ = White
 
 -- the notes of these events, from the match m on: each event, and then the blocks that it gives
 abbrev pub notes_from : Rules → Match → List Event → List Note
 notes_from r m [] = []
 notes_from r m (e ∷ es) =
-    Happened e
-    ∷ (both_notes (first_sent (after r m e) (side_of e)) (lines_at r m e es) ++ notes_from r (after r m e) es)
+    Happened e ∷ (both_notes (first_sent (after r m e) e) (λ S. joined_blocks (block_at r m e es S))
+    ++ notes_from r (after r m e) es)
 
 -- the notes of a transcript: before all events White's first lines
 abbrev pub notes_of : Rules → List Event → List Note
@@ -54,4 +51,4 @@ Noted = List ℕ → List Note → Type 0
 -- from the one state to the other a witness was given these notes, in their order and after all that it was given
 -- before
 pub record WasNoted (old new : Noted) (more : List Note) : Type 0 where
-  pub behind : (before : List ℕ) (notes : List Note) → old before notes → new before (notes ++ more)
+  pub extends : (before : List ℕ) (notes : List Note) → old before notes → new before (notes ++ more)

@@ -1,5 +1,5 @@
 -- How an end is reported: its outcome, its comment, its fault, and how it came.
-use Rattle.std.specs.Prelude.{ℕ, Bool, true, false, List, ◌++◌, codes, Option, None, Some}
+use Rattle.std.specs.Prelude.{ℕ, Bool, if◌then◌else◌, List, ◌++◌, codes, Option, None, Some}
 use Rattle.chess_base.specs.declared.man.Colour.{Colour}
 use Rattle.chess_base.specs.declared.man.Colour.TheVariants.{White, Black}
 use Rattle.chess_base.specs.Men.{other}
@@ -17,15 +17,18 @@ use Rattle.chess_match.specs.declared.reason.MatchFault.TheVariants.{Ended, Read
 use Rattle.chess_match.specs.declared.reason.Reason.{Reason}
 use Rattle.chess_match.specs.declared.reason.Reason.TheVariants.{Decided, Claimed, Agreed, Resigns, MovesIllegally, MovesOutOfTurn, ClaimsFalsely, RejectsLegalMove, Forfeits, ForfeitsToBareKing, GameTooLong, Faulted}
 
+-- what is White's, and what is Black's
+abbrev pub by_colour : {A : Type 0} → A → A → Colour → A
+by_colour white black White = white
+by_colour white black Black = black
+
 -- a side, as a comment names it
 abbrev pub colour_name : Colour → List ℕ
-colour_name White = codes "White"
-colour_name Black = codes "Black"
+colour_name c = by_colour (codes "White") (codes "Black") c
 
 -- the outcome where that side wins
 abbrev pub win_of : Colour → Outcome
-win_of White = WhiteWins
-win_of Black = BlackWins
+win_of c = by_colour WhiteWins BlackWins c
 
 -- what is said of a draw that was claimed
 abbrev pub claim_comment : DrawClaim → List ℕ
@@ -71,17 +74,10 @@ comment_of reason = (reported reason).1
 abbrev pub ended_by : Reason → HowEnded
 ended_by reason = (reported reason).2
 
--- the fault that ended the match, if one did, and the side that has it
-abbrev pub fault_of : Reason → Option (Colour × MatchFault)
-fault_of (Faulted c f) = Some (c, f)
-fault_of _ = None
-
--- the first fault: that of the end, else of the end lines, where White's come first
-abbrev pub first_fault : Option (Colour × MatchFault) → Bool → Bool → Option (Colour × MatchFault)
-first_fault (Some f) white_failed black_failed = Some f
-first_fault None true black_failed = Some (White, Write)
-first_fault None false true = Some (Black, Write)
-first_fault None false false = None
+-- the first fault, and whose it is: that of the end, else of the end lines, where White's come first
+abbrev pub first_fault : Reason → (Colour → Bool) → Option (Colour × MatchFault)
+first_fault (Faulted c f) failed = Some (c, f)
+first_fault _ failed = if failed White then Some (White, Write) else if failed Black then Some (Black, Write) else None
 
 -- what the game's result is declared as: nothing where it has a verdict
 abbrev pub declared_at : Option Verdict → Reason → Option Declared

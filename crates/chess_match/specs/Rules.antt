@@ -1,6 +1,7 @@
 -- What a match needs of its game, and how chess gives it.
 use Rattle.std.specs.Prelude.{ℕ, Bool, true, false, ◌||◌, ◌&&◌, not, if◌then◌else◌, List, [], ◌∷◌, Option, None, Some}
 use Rattle.std.specs.List.{list_all}
+use Rattle.std.specs.Option.{option_map_or}
 use Rattle.chess_base.specs.declared.man.Colour.{Colour}
 use Rattle.chess_base.specs.declared.man.Kind.TheVariants.{King}
 use Rattle.chess_base.specs.declared.man.Man.{Man}
@@ -41,7 +42,7 @@ pub record Rules : Type 0 where
   -- the text of the last of these moves, in SAN or by squares
   pub move_text : Bool → List Move → List ℕ
   -- that side has no piece but its king
-  pub is_bare : List Move → Colour → Bool
+  pub has_bare_king : List Move → Colour → Bool
 
 -- ---- chess
 
@@ -63,8 +64,7 @@ text_of_last as_san p (m ∷ n ∷ ms) = text_of_last as_san (after p m) (n ∷ 
 
 -- no piece, one of the other colour, or a king
 abbrev pub is_king_or_other : Colour → Option Man → Bool
-is_king_or_other c None = true
-is_king_or_other c (Some x) = not (same_colour x.colour c) || same_kind x.kind King
+is_king_or_other c man = option_map_or (λ (x : Man). not (same_colour x.colour c) || same_kind x.kind King) man true
 
 -- each piece of that colour is a king
 unfoldable pub has_bare_king : Colour → Men → Bool
@@ -92,5 +92,5 @@ rules_of start level limit = record {
   verdict = λ played. verdict start played;
   claim = λ played. claim_by (claims start played);
   move_text = λ as_san played. text_of_last as_san start played;
-  is_bare = λ played c. has_bare_king c (last start played).men;
+  has_bare_king = λ played c. has_bare_king c (last start played).men;
 }

@@ -1,5 +1,6 @@
 -- What is sent: what entering a phase gives to send, and the answers and offers between.
-use Rattle.std.specs.Prelude.{ℕ, ◌/◌, ◌&&◌, nat_lt, Bool, true, false, not, if◌then◌else◌, List, [], ◌∷◌, ◌++◌, length, drop, map, codes, decimal, Option, None, Some}
+use Rattle.std.specs.Prelude.{ℕ, ◌/◌, ◌&&◌, nat_lt, Bool, true, false, not, if◌then◌else◌, List, [], ◌∷◌, ◌++◌, length, drop, map, codes, decimal, Option}
+use Rattle.std.specs.Option.{option_map_or}
 use Rattle.chess_base.specs.Letters.{new_line}
 use Rattle.chess_base.specs.declared.man.Colour.{Colour}
 use Rattle.chess_base.specs.Men.{other, same_colour}
@@ -7,14 +8,18 @@ use Rattle.chess_cecp.specs.Declaring.{result_text}
 use Rattle.engine_lines.specs.Items.{Item, takes, is_known}
 use Rattle.engine_lines.specs.Levels.{level_text}
 use Rattle.chess_match.specs.Match.{Match, Seat, seat, clock, ping_number}
-use Rattle.chess_match.specs.Reasons.{outcome_of, comment_of, fault_of}
+use Rattle.chess_match.specs.Reasons.{outcome_of, comment_of}
 use Rattle.chess_match.specs.Rules.{Rules, is_fischerandom}
 use Rattle.chess_match.specs.declared.phase.Phase.{Phase}
 use Rattle.chess_match.specs.declared.phase.Phase.TheVariants.{Hello, Setup, SendTurn, AwaitMove, AwaitPong, Over}
-use Rattle.chess_match.specs.declared.reason.MatchFault.{MatchFault}
 use Rattle.chess_match.specs.declared.reason.MatchFault.TheVariants.{Write}
 use Rattle.chess_match.specs.declared.reason.Reason.{Reason}
+use Rattle.chess_match.specs.declared.reason.Reason.TheVariants.{Faulted}
 use Rattle.chess_base.specs.declared.man.Variant.{Variant}
+
+-- the list where that is so, else nothing
+abbrev pub when : {A : Type 0} → Bool → List A → List A
+when b xs = if b then xs else []
 
 -- ---- lines
 
@@ -32,8 +37,7 @@ answer_words name = (if is_known name then codes "accepted " else codes "rejecte
 -- the text of a line, without the byte 10 at its end
 abbrev pub words_of : SentLine → List ℕ
 words_of (Says text) = text
-words_of (MoveSent true text) = codes "usermove " ++ text
-words_of (MoveSent false text) = text
+words_of (MoveSent prefixed text) = when prefixed (codes "usermove ") ++ text
 words_of (Time n) = codes "time " ++ decimal n
 words_of (Otim n) = codes "otim " ++ decimal n
 
@@ -50,12 +54,11 @@ answers_to items = map (λ i. Says (answer_words i.name)) items
 
 -- the start, where it is sent
 abbrev pub start_lines : Option (List ℕ) → List SentLine
-start_lines None = []
-start_lines (Some fen) = Says (codes "setboard " ++ fen) ∷ []
+start_lines start = option_map_or (λ fen. Says (codes "setboard " ++ fen) ∷ []) start []
 
 -- the variant, where it isn't normal chess
 abbrev pub variant_lines : Variant → List SentLine
-variant_lines v = if is_fischerandom v then Says (codes "variant fischerandom") ∷ [] else []
+variant_lines v = when (is_fischerandom v) (Says (codes "variant fischerandom") ∷ [])
 
 -- the line `ping N`
 abbrev pub ping : ℕ → SentLine
@@ -75,12 +78,12 @@ last_move r m S = MoveSent (takes (codes "usermove") (seat m S).items)
 
 -- the last move, as S takes it, if there is one
 abbrev pub last_move_lines : Rules → Match → Colour → List SentLine
-last_move_lines r m S = if nat_lt 0 (length m.played) then last_move r m S ∷ [] else []
+last_move_lines r m S = when (nat_lt 0 (length m.played)) (last_move r m S ∷ [])
 
 -- both clocks in centiseconds, rounded down
 unfoldable pub clock_lines : Rules → Match → Colour → List SentLine
 clock_lines r m S =
-    if takes (codes "time") (seat m S).items then Time (clock r m S / 10) ∷ Otim (clock r m (other S) / 10) ∷ [] else []
+    when (takes (codes "time") (seat m S).items) (Time (clock r m S / 10) ∷ Otim (clock r m (other S) / 10) ∷ [])
 
 -- S's first turn begins with the last move, if there is one, and ends with `go`
 unfoldable pub opening_lines : Rules → Match → Colour → List SentLine
@@ -89,14 +92,9 @@ opening_lines r m S =
     then clock_lines r m S ++ last_move_lines r m S
     else last_move_lines r m S ++ (clock_lines r m S ++ Says (codes "go") ∷ [])
 
--- a list that is c's alone: S has it where S is c, else nothing
-abbrev pub for : {A : Type 0} → Colour → Colour → List A → List A
-for c S xs = if same_colour c S then xs else []
-
--- the last move, if S wasn't sent it
+-- the last move, if it is still to be sent to S
 abbrev pub unsent_lines : Rules → Match → Colour → Option Colour → List SentLine
-unsent_lines r m S None = []
-unsent_lines r m S (Some c) = for c S (last_move r m S ∷ [])
+unsent_lines r m S unsent_to = option_map_or (λ c. when (same_colour c S) (last_move r m S ∷ [])) unsent_to []
 
 -- the last move, if S wasn't sent it, and then the result and `quit`
 unfoldable pub end_lines : Rules → Match → Colour → Reason → List SentLine
@@ -105,18 +103,18 @@ end_lines r m S reason =
     ∷ Says (codes "quit") ∷ [])
 
 -- a write to S ended the match
-abbrev pub is_unwritten : Option (Colour × MatchFault) → Colour → Bool
-is_unwritten (Some (c, Write)) S = same_colour c S
+abbrev pub is_unwritten : Reason → Colour → Bool
+is_unwritten (Faulted c Write) S = same_colour c S
 is_unwritten _ S = false
 
 -- what S is sent where the match comes into a phase; an engine that could not be written is sent nothing more
 abbrev pub entry_to : Rules → Match → Colour → Phase → List SentLine
-entry_to r m S (Hello c) = for c S (Says (codes "xboard") ∷ Says (codes "protover 2") ∷ [])
-entry_to r m S (Setup c) = for c S (setup_lines r)
-entry_to r m S (SendTurn c) = for c S (opening_lines r m S)
+entry_to r m S (Hello c) = when (same_colour c S) (Says (codes "xboard") ∷ Says (codes "protover 2") ∷ [])
+entry_to r m S (Setup c) = when (same_colour c S) (setup_lines r)
+entry_to r m S (SendTurn c) = when (same_colour c S) (opening_lines r m S)
 entry_to r m S (AwaitMove c) = []
-entry_to r m S (AwaitPong c) = for c S (ping (ping_number m S) ∷ [])
-entry_to r m S (Over reason) = if is_unwritten (fault_of reason) S then [] else end_lines r m S reason
+entry_to r m S (AwaitPong c) = when (same_colour c S) (ping (ping_number m S) ∷ [])
+entry_to r m S (Over reason) = if is_unwritten reason S then [] else end_lines r m S reason
 
 -- what S is sent where the match comes into the phase that it is in
 abbrev pub entry : Rules → Match → Colour → List SentLine
@@ -133,18 +131,13 @@ is_same_phase (AwaitPong c) (AwaitPong d) = same_colour c d
 is_same_phase (Over c) d = true
 is_same_phase _ _ = false
 
--- S's items that were read between
-abbrev pub new_items : Seat → Seat → List Item
-new_items old new = drop (length old.items) new.items
-
 -- an offer that was opened in between, for an engine that takes draws
 abbrev pub draw_line : Seat → Seat → Seat → List SentLine
-draw_line told old new = if not old.offers && new.offers
-    && takes (codes "draw") told.items then Says (codes "draw") ∷ [] else []
+draw_line own old new = when (not old.offers && new.offers && takes (codes "draw") own.items) (Says (codes "draw") ∷ [])
 
 -- what S is sent where a match goes from m to m': answers to its items, the other's offer, and what the phase gives
 unfoldable pub block : Rules → Match → Match → Colour → List SentLine
 block r m m' S =
-    answers_to (new_items (seat m S) (seat m' S))
+    answers_to (drop (length (seat m S).items) (seat m' S).items)
     ++ (draw_line (seat m' S) (seat m (other S)) (seat m' (other S))
     ++ (if is_same_phase m.phase m'.phase then [] else entry r m' S))

@@ -1,38 +1,26 @@
--- A transcript of a match, a list of events, and what it says: whether it fits, how it ends, both names, and the blocks
--- that each side is sent.
-use Rattle.std.specs.Prelude.{ℕ, ◌&&◌, ◌||◌, nat_lt, Bool, true, false, not, if◌then◌else◌, List, [], ◌∷◌, ◌++◌, length, codes, Option, None, Some}
+-- A transcript of a match, a list of events, and what it says: whether it fits, the match after it, both names, and the
+-- blocks that each side is sent.
+use Rattle.std.specs.Prelude.{ℕ, ◌&&◌, ◌||◌, nat_lt, Bool, true, false, not, if◌then◌else◌, List, [], ◌∷◌, ◌++◌, length, codes, Option}
 use Rattle.chess_base.specs.declared.man.Colour.{Colour}
 use Rattle.chess_base.specs.Men.{same_colour}
 use Rattle.chess_pgn.specs.Written.{cut_tag}
 use Rattle.engine_lines.specs.Items.{told}
 use Rattle.chess_match.specs.Match.{Match, Event, Line, Opened, OutputEnds, FailsToRead, FailsToWrite, seat, start, after}
 use Rattle.chess_match.specs.Rules.{Rules}
-use Rattle.chess_match.specs.Sent.{SentLine, block, entry, for}
+use Rattle.chess_match.specs.Sent.{SentLine, block, entry, when}
 use Rattle.chess_match.specs.declared.phase.Phase.{Phase}
 use Rattle.chess_match.specs.declared.phase.Phase.TheVariants.{Hello, Setup, SendTurn, AwaitMove, AwaitPong, Over}
-use Rattle.chess_match.specs.declared.reason.Reason.{Reason}
+use Rattle.chess_match.specs.declared.reason.MatchFault.{MatchFault}
+use Rattle.chess_match.specs.declared.reason.MatchFault.TheVariants.{Ended, Read, Write}
 use Rattle.std.specs.List.{flat_map, fold, list_any}
-
--- the match after these events
-abbrev pub match_from : Rules → Match → List Event → Match
-match_from r m T = fold (after r) m T
 
 -- the match after a whole transcript
 abbrev pub match_of : Rules → List Event → Match
-match_of r T = match_from r start T
-
--- why a match in this phase ended, if it did
-abbrev pub ending_in : Phase → Option Reason
-ending_in (Over reason) = Some reason
-ending_in _ = None
-
--- why it ended, if it did
-abbrev pub ending : Rules → List Event → Option Reason
-ending r T = ending_in (match_of r T).phase
+match_of r T = fold (after r) start T
 
 -- S's name: its last `myname`, as a tag keeps it
-abbrev pub name_of : Rules → List Event → Colour → List ℕ
-name_of r T S = cut_tag (told (codes "myname") (seat (match_of r T) S).items)
+abbrev pub name_of : Match → Colour → List ℕ
+name_of m S = cut_tag (told (codes "myname") (seat m S).items)
 
 -- ---- what fits
 
@@ -54,19 +42,13 @@ abbrev pub is_on : Phase → Bool
 is_on (Over reason) = false
 is_on _ = true
 
--- the engine of which an event came, or to which a write failed
-abbrev pub side_of : Event → Colour
-side_of (Line c text moment) = c
-side_of (Opened c moment) = c
-side_of (OutputEnds c) = c
-side_of (FailsToRead c) = c
-side_of (FailsToWrite c) = c
-
 -- an event is of the kind and side that the phase waits for, or a write of what the last event gave fails
 abbrev pub fits_next : (Colour → List SentLine) → Match → Event → Bool
+fits_next due m (Line S text moment) = reads m.phase S
 fits_next due m (Opened S moment) = opens m.phase S
+fits_next due m (OutputEnds S) = reads m.phase S
+fits_next due m (FailsToRead S) = reads m.phase S
 fits_next due m (FailsToWrite S) = is_on m.phase && nat_lt 0 (length (due S))
-fits_next due m e = reads m.phase (side_of e)
 
 -- each of these events fits, from the match m on, where these blocks are due
 abbrev pub fits_from : Rules → (Colour → List SentLine) → Match → List Event → Bool
@@ -85,14 +67,16 @@ abbrev pub is_dropped : Event → List Event → Colour → Bool
 is_dropped (Line c text moment) (FailsToWrite d ∷ es) S = same_colour c d && not (same_colour d S)
 is_dropped _ _ S = false
 
--- the event is a write to S that fails
-abbrev pub fails_at : Event → Colour → Bool
-fails_at (FailsToWrite c) S = same_colour c S
-fails_at _ S = false
+-- the event is that fault of S's engine: its output ended, or a read or a write of it failed
+abbrev pub is_fault : MatchFault → Colour → Event → Bool
+is_fault Ended S (OutputEnds c) = same_colour c S
+is_fault Read S (FailsToRead c) = same_colour c S
+is_fault Write S (FailsToWrite c) = same_colour c S
+is_fault _ S _ = false
 
 -- S's block of an event, as a list: empty if the block is dropped, or if the event is a failed write to S
 abbrev pub block_at : Rules → Match → Event → List Event → Colour → List (List SentLine)
-block_at r m e es S = if is_dropped e es S || fails_at e S then [] else block r m (after r m e) S ∷ []
+block_at r m e es S = if is_dropped e es S || is_fault Write S e then [] else block r m (after r m e) S ∷ []
 
 -- the blocks that S is sent at these events, from the match m on
 abbrev pub blocks_from : Rules → Colour → Match → List Event → List (List SentLine)
@@ -112,7 +96,7 @@ joined_blocks bs = flat_map (λ b. b) bs
 
 -- the line of S that an event is, if it is one
 abbrev pub line_in : Colour → Event → List (Option (List ℕ))
-line_in S (Line c text moment) = for c S (text ∷ [])
+line_in S (Line c text moment) = when (same_colour c S) (text ∷ [])
 line_in S _ = []
 
 -- the lines of S
@@ -129,24 +113,6 @@ moment_in _ = []
 abbrev pub moments_of : List Event → List ℕ
 moments_of T = flat_map moment_in T
 
--- the event is the end of S's output
-abbrev pub is_end_of : Colour → Event → Bool
-is_end_of S (OutputEnds c) = same_colour c S
-is_end_of S _ = false
-
--- S's output ended
-abbrev pub has_end : Colour → List Event → Bool
-has_end S T = list_any (is_end_of S) T
-
--- the event is a read of S that fails
-abbrev pub is_read_failure_of : Colour → Event → Bool
-is_read_failure_of S (FailsToRead c) = same_colour c S
-is_read_failure_of S _ = false
-
--- a read of S failed
-abbrev pub has_read_failure : Colour → List Event → Bool
-has_read_failure S T = list_any (is_read_failure_of S) T
-
--- a write to S failed before the end
-abbrev pub has_write_failure : Colour → List Event → Bool
-has_write_failure S T = list_any (λ e. fails_at e S) T
+-- one of the events is that fault of S's engine
+abbrev pub has_fault : MatchFault → Colour → List Event → Bool
+has_fault fault S T = list_any (is_fault fault S) T

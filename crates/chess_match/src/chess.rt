@@ -135,7 +135,7 @@ impl<B: Board> MatchGame for Game<B> {
     }
 
     #[tactic(auto, unfolding(crate::specs::Rules::rules_of))]
-    fn is_bare(&self, side: Colour) -> bool {
+    fn has_bare_king(&self, side: Colour) -> bool {
         has_bare_king(side, &self.position().setup().men)
     }
 

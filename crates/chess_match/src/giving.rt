@@ -47,7 +47,7 @@ fn note_and_put<W: Output, L: Witness>(
 ) -> Result<(), WriteFault>
     ensures sends { SendsIf (is_err result) (W.seen writer.old) (W.seen writer.new) text.now }
     ensures due { IsErr result → text.now ≢ [] }
-    ensures told { WasNoted (L.told witness.old) (L.told witness.new) (given_note side text.now) }
+    ensures noted { WasNoted (L.noted witness.old) (L.noted witness.new) (given_note side text.now) }
 {
     if text.is_empty() {
         return Ok(());
@@ -75,9 +75,9 @@ pub(crate) fn note_and_send<W: Output, L: Witness, G: MatchGame>(
     ensures due { (r : Rules) (m : Match) (items : Colour → List Item) → G.plays game.now r
         → Represents r core.now (G.played game.now) m → block.old.items ≡ bytes_of (answers_to (items side))
         → IsErr result → 0 < length (given_block r given items m side) }
-    ensures told { (r : Rules) (m : Match) (items : Colour → List Item) → G.plays game.now r
+    ensures noted { (r : Rules) (m : Match) (items : Colour → List Item) → G.plays game.now r
         → Represents r core.now (G.played game.now) m → block.old.items ≡ bytes_of (answers_to (items side))
-        → WasNoted (L.told witness.old) (L.told witness.new)
+        → WasNoted (L.noted witness.old) (L.noted witness.new)
         (given_note side (bytes_of (given_block r given items m side))) }
     ensures empty { block.new.items ≡ [] }
 {

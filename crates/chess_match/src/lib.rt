@@ -8,7 +8,7 @@
 //! let setup = Setup { start: Position::initial(), level };
 //! let mut white = Ends { reader: white_output, writer: white_input };
 //! let mut black = Ends { reader: black_output, writer: black_input };
-//! let end = run_match(&mut white, &mut black, &mut moments, &setup, &mut game, &mut scratch);
+//! let end = run_match(&mut white, &mut black, &mut moments, &setup, &mut game);
 //! println!(rt; "{}", end.outcome)?;
 //! ```
 #![tactic(auto)]

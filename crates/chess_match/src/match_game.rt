@@ -57,8 +57,8 @@ pub(crate) trait MatchGame {
         ensures { (r : Rules) → plays self.now r → result ≡ r.claim (played self.now) };
 
     /// Whether that side has no piece but its king.
-    fn is_bare(&self, side: Colour) -> bool
-        ensures { (r : Rules) → plays self.now r → result ≡ r.is_bare (played self.now) side };
+    fn has_bare_king(&self, side: Colour) -> bool
+        ensures { (r : Rules) → plays self.now r → result ≡ r.has_bare_king (played self.now) side };
 
     /// Plays a move that some text denotes, where the game isn't over and has room, and returns its texts.
     fn play(&mut self, chosen: Move) -> MoveTexts

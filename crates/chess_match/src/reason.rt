@@ -1,7 +1,7 @@
 //! Why a match is over, and how that is reported.
 
 ghost use Rattle.std.specs.Prelude.{◌≡◌, ◌≤◌, ◌++◌, length};
-ghost use Rattle.chess_match.specs.Reasons.{win_of, outcome_of, comment_of, claim_comment, colour_name, fault_words, ended_by, fault_of, first_fault};
+ghost use Rattle.chess_match.specs.Reasons.{by_colour, win_of, outcome_of, comment_of, claim_comment, colour_name, fault_words, ended_by, first_fault};
 
 use chess_base::Colour;
 use chess_game::{Outcome, Verdict};
@@ -190,7 +190,7 @@ pub(crate) fn first_fault(
     white_failed: bool,
     black_failed: bool,
 ) -> Option<(Colour, MatchFault)>
-    ensures { result ≡ first_fault (fault_of reason) white_failed black_failed }
+    ensures { result ≡ first_fault reason (by_colour white_failed black_failed) }
 {
     if let Reason::Faulted(side, fault) = reason {
         return Some((side, fault));

@@ -7,12 +7,12 @@ ghost use Rattle.chess_base.specs.declared.man.Colour.{Colour};
 ghost use Rattle.chess_cecp.specs.Next.{NextLine, line_read};
 ghost use Rattle.chess_game.specs.Game.{at, outcome_now, with_declared, verdict_now};
 ghost use Rattle.chess_match.specs.ties.Awaits.{IsAwaited};
-ghost use Rattle.chess_match.specs.ties.Delivering.{by_side, by_turn, event_read, line_event, Delivered, HasLast};
+ghost use Rattle.chess_match.specs.ties.Delivering.{by_turn, event_read, line_event, Delivered, HasLast};
 ghost use Rattle.engine_lines.specs.EngineLines.{line_kind, Features};
 ghost use Rattle.engine_lines.specs.Items.{Item};
 ghost use Rattle.chess_match.specs.Match.{Match, FailsToWrite, after};
 ghost use Rattle.chess_match.specs.Notes.{WasNoted, Happened, given_note, both_notes};
-ghost use Rattle.chess_match.specs.Reasons.{declared_at};
+ghost use Rattle.chess_match.specs.Reasons.{declared_at, by_colour};
 ghost use Rattle.chess_match.specs.Rules.{Rules};
 ghost use Rattle.chess_match.specs.Run.{Ports, MatchRan, RanBefore, Asked, text_read};
 ghost use Rattle.engine_lines.specs.Seen.{seen};
@@ -31,7 +31,7 @@ use crate::moments::Moments;
 use crate::phase::Phase;
 use crate::reason::{MatchFault, Reason, first_fault};
 use crate::state::{Actions, ENTRY, MatchState};
-use crate::witness::{Silent, Witness};
+use crate::witness::{NoWitness, Witness};
 use byte_devices::{Input, Output, ReadFault};
 use chess_base::{Colour, Position};
 use chess_cecp::{Line, Lines};
@@ -79,7 +79,7 @@ pub struct MatchEnd {
 }
 
 /// Plays one game between two engines by the Chess Engine Communication Protocol, version 2, to its end; the game
-/// begins anew from the start, and `scratch` is any board, which holds anything afterwards.
+/// begins anew from the start.
 ///
 /// In the contract there is a transcript of the match: the lines, moments, ends and failures in their order. It agrees
 /// with both engines' devices and with the moments, one for each line and one at the end of each turn's opening, and it
@@ -94,20 +94,15 @@ pub fn run_match<R: Input, W: Output, M: Moments, B: Board>(
     moments: &mut M,
     setup: &Setup,
     game: &mut Game<B>,
-    scratch: &mut B,
 ) -> MatchEnd
     ensures ran { MatchRan setup.now.start setup.now.level game.old game.new result
         (record {
-          white_reader = R.seen white.old.reader;
-          white_writer = W.seen white.old.writer;
-          black_reader = R.seen black.old.reader;
-          black_writer = W.seen black.old.writer;
+          reader = by_colour (R.seen white.old.reader) (R.seen black.old.reader);
+          writer = by_colour (W.seen white.old.writer) (W.seen black.old.writer);
         })
         (record {
-          white_reader = R.seen white.new.reader;
-          white_writer = W.seen white.new.writer;
-          black_reader = R.seen black.new.reader;
-          black_writer = W.seen black.new.writer;
+          reader = by_colour (R.seen white.new.reader) (R.seen black.new.reader);
+          writer = by_colour (W.seen white.new.writer) (W.seen black.new.writer);
         })
         (M.coming moments.old) (M.coming moments.new) }
 
@@ -116,7 +111,7 @@ pub fn run_match<R: Input, W: Output, M: Moments, B: Board>(
     ensures limit { game.new.limit ≡ game.old.limit }
     ensures outcome { verdict_now game.new.state ≡ None → outcome_now game.new.state ≡ result.outcome }
 {
-    run_match_watched(white, black, moments, setup, game, scratch, &mut Silent)
+    run_match_watched(white, black, moments, setup, game, &mut NoWitness)
 }
 
 /// Plays one game as [`run_match`] does, before a witness.
@@ -130,21 +125,16 @@ pub fn run_match_watched<R: Input, W: Output, M: Moments, B: Board, L: Witness>(
     moments: &mut M,
     setup: &Setup,
     game: &mut Game<B>,
-    _scratch: &mut B,
     witness: &mut L,
 ) -> MatchEnd
-    ensures ran { RanBefore (L.told witness.old) (L.told witness.new) setup.now.start setup.now.level game.old game.new result
+    ensures ran { RanBefore (L.noted witness.old) (L.noted witness.new) setup.now.start setup.now.level game.old game.new result
         (record {
-          white_reader = R.seen white.old.reader;
-          white_writer = W.seen white.old.writer;
-          black_reader = R.seen black.old.reader;
-          black_writer = W.seen black.old.writer;
+          reader = by_colour (R.seen white.old.reader) (R.seen black.old.reader);
+          writer = by_colour (W.seen white.old.writer) (W.seen black.old.writer);
         })
         (record {
-          white_reader = R.seen white.new.reader;
-          white_writer = W.seen white.new.writer;
-          black_reader = R.seen black.new.reader;
-          black_writer = W.seen black.new.writer;
+          reader = by_colour (R.seen white.new.reader) (R.seen black.new.reader);
+          writer = by_colour (W.seen white.new.writer) (W.seen black.new.writer);
         })
         (M.coming moments.old) (M.coming moments.new) }
 
@@ -244,13 +234,13 @@ fn next_line<R: Input>(
     side: Colour,
     line: &mut Line<ENGINE_LINE_LEN>,
 ) -> Result<bool, ReadFault>
-    ensures next { NextLine ENGINE_LINE_LEN (by_side (R.seen white.old) (R.seen black.old) side)
-        (by_side (R.seen white.new) (R.seen black.new) side) (by_side white_lines.old black_lines.old side)
-        (by_side white_lines.new black_lines.new side) (line_read result line.new) }
-    ensures others { by_side (R.seen white.new) (R.seen black.new) (other side)
-        ≡ by_side (R.seen white.old) (R.seen black.old) (other side) }
-    ensures held { by_side white_lines.new black_lines.new (other side)
-        ≡ by_side white_lines.old black_lines.old (other side) }
+    ensures next { NextLine ENGINE_LINE_LEN (by_colour (R.seen white.old) (R.seen black.old) side)
+        (by_colour (R.seen white.new) (R.seen black.new) side) (by_colour white_lines.old black_lines.old side)
+        (by_colour white_lines.new black_lines.new side) (line_read result line.new) }
+    ensures others { by_colour (R.seen white.new) (R.seen black.new) (other side)
+        ≡ by_colour (R.seen white.old) (R.seen black.old) (other side) }
+    ensures held { by_colour white_lines.new black_lines.new (other side)
+        ≡ by_colour white_lines.old black_lines.old (other side) }
 {
     match side {
         Colour::White => white_lines.read_line(white, line),
@@ -287,7 +277,7 @@ fn send_both<W: Output, L: Witness, G: MatchGame>(
         (bytes_of (given_block r given items m Colour.White))
         × SendsIf result.black (W.seen black.old) (W.seen black.new)
         (bytes_of (given_block r given items m Colour.Black))
-        × WasNoted (L.told witness.old) (L.told witness.new) (both_notes Colour.White (given_block r given items m)) }
+        × WasNoted (L.noted witness.old) (L.noted witness.new) (both_notes Colour.White (given_block r given items m)) }
     ensures white_empty { white_block.new.items ≡ [] }
     ensures black_empty { black_block.new.items ≡ [] }
 {
@@ -334,7 +324,7 @@ fn end_for_other<W: Output, L: Witness, G: MatchGame>(
         → Represents r core.new (G.played game.now) (after r m (FailsToWrite side))
         × SendsIf result (W.seen others.old) (W.seen others.new)
         (bytes_of (block r m (after r m (FailsToWrite side)) (other side)))
-        × WasNoted (L.told witness.old) (L.told witness.new) (Happened (FailsToWrite side)
+        × WasNoted (L.noted witness.old) (L.noted witness.new) (Happened (FailsToWrite side)
         ∷ given_note (other side) (bytes_of (block r m (after r m (FailsToWrite side)) (other side)))) }
     ensures empty { waiting.new.items ≡ [] }
 {
@@ -364,7 +354,7 @@ fn send_in_turn<W: Output, L: Witness, G: MatchGame>(
         → items (other side) ≡ []
         → Delivered r core.new (G.played game.now) m (given_block r given items m) side
         (by_turn side (W.seen own.old) (W.seen others.old)) (by_turn side (W.seen own.new) (W.seen others.new))
-        (by_turn side result.0 result.1) (L.told witness.old) (L.told witness.new) }
+        (by_turn side result.0 result.1) (L.noted witness.old) (L.noted witness.new) }
     ensures own_empty { blocks.new.own.items ≡ [] }
     ensures others_empty { blocks.new.others.items ≡ [] }
 {
@@ -408,8 +398,8 @@ fn deliver<W: Output, L: Witness, G: MatchGame>(
         → Represents r core.old (G.played game.now) m → blocks.old.own.items ≡ bytes_of (answers_to (items side))
         → items (other side) ≡ []
         → Delivered r core.new (G.played game.now) m (given_block r given items m) side
-        (by_side (W.seen white.old) (W.seen black.old)) (by_side (W.seen white.new) (W.seen black.new))
-        (by_side result.white result.black) (L.told witness.old) (L.told witness.new) }
+        (by_colour (W.seen white.old) (W.seen black.old)) (by_colour (W.seen white.new) (W.seen black.new))
+        (by_colour result.white result.black) (L.noted witness.old) (L.noted witness.new) }
     ensures own_empty { blocks.new.own.items ≡ [] }
     ensures others_empty { blocks.new.others.items ≡ [] }
 {
@@ -497,7 +487,7 @@ fn hear_line<M: Moments, L: Witness, G: MatchGame>(
     ensures origin { G.origin game.new ≡ G.origin game.old }
     ensures heard { (moment : ℕ) × (items : List Item)
         × Asked (M.coming moments.old) (M.coming moments.new) (moment_in (line_event side line.now moment))
-        × WasNoted (L.told witness.old) (L.told witness.new) (Happened (line_event side line.now moment) ∷ [])
+        × WasNoted (L.noted witness.old) (L.noted witness.new) (Happened (line_event side line.now moment) ∷ [])
         × (block.new.items ≡ bytes_of (answers_to items))
         × ((r : Rules) (m : Match) → G.plays game.old r → reads m.phase side ≡ true
         → Represents r core.old (G.played game.old) m
@@ -529,7 +519,7 @@ fn hear<M: Moments, L: Witness, G: MatchGame>(
     ensures heard { (moment : ℕ) × (items : List Item)
         × Asked (M.coming moments.old) (M.coming moments.new)
         (moment_in (event_read side moment (line_read heard line.now)))
-        × WasNoted (L.told witness.old) (L.told witness.new)
+        × WasNoted (L.noted witness.old) (L.noted witness.new)
         (Happened (event_read side moment (line_read heard line.now)) ∷ [])
         × (block.new.items ≡ bytes_of (answers_to items))
         × ((r : Rules) (m : Match) → G.plays game.old r → reads m.phase side ≡ true
@@ -577,7 +567,7 @@ fn end_of<B: Board>(
     failed: Failed,
 ) -> MatchEnd
     requires { game.old.state.declared ≡ None }
-    ensures told { IsReported reason failed result }
+    ensures report { IsReported reason failed result }
     ensures white_name { result.white_name ≡ core.white.name }
     ensures black_name { result.black_name ≡ core.black.name }
     ensures game { game.new

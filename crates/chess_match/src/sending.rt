@@ -8,7 +8,6 @@ ghost use Rattle.chess_match.specs.Match.{Match};
 ghost use Rattle.chess_match.specs.Rules.{Rules};
 ghost use Rattle.chess_base.specs.declared.man.Move.{Move};
 ghost use Rattle.chess_match.specs.Sent.{Says, bytes_of, last_move_lines, clock_lines, opening_lines, setup_lines, end_lines, entry, unsent_lines, variant_lines, is_unwritten};
-ghost use Rattle.chess_match.specs.Reasons.{fault_of};
 ghost use Rattle.chess_match.specs.ties.Represents.{Represents, player, to};
 
 use crate::block::{Block, add, add_end, add_level, add_move, add_ping, add_times};
@@ -149,7 +148,7 @@ fn add_end_lines(block: &mut Block, core: &MatchState, side: Colour, reason: Rea
 
 // Whether a write to that side ended the match.
 fn is_unwritten(reason: Reason, side: Colour) -> bool
-    ensures { result ≡ is_unwritten (fault_of reason) side }
+    ensures { result ≡ is_unwritten reason side }
 {
     match reason {
         Reason::Faulted(failed, fault) => match fault {

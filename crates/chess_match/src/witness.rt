@@ -16,40 +16,40 @@ pub trait Witness {
 
     /// What contracts see of it: whether it may have been given these notes, in their order, after a text that it held
     /// before.
-    ghost told: { Self → List ℕ → List Note → Type 0 };
+    ghost noted: { Self → List ℕ → List Note → Type 0 };
 
     /// A side's engine sent a line; the moment was asked for after it.
     fn line(&mut self, side: Colour, line: &Line<ENGINE_LINE_LEN>, moment: u64)
-        ensures { WasNoted (told self.old) (told self.new)
+        ensures { WasNoted (noted self.old) (noted self.new)
             (Happened (events.Line side (text_read line.now) moment) ∷ []) };
 
     /// The opening of that side's turn was sent; the moment at its end.
     fn opened(&mut self, side: Colour, moment: u64)
-        ensures { WasNoted (told self.old) (told self.new) (Happened (events.Opened side moment) ∷ []) };
+        ensures { WasNoted (noted self.old) (noted self.new) (Happened (events.Opened side moment) ∷ []) };
 
     /// A side's engine ended its output.
     fn output_ends(&mut self, side: Colour)
-        ensures { WasNoted (told self.old) (told self.new) (Happened (events.OutputEnds side) ∷ []) };
+        ensures { WasNoted (noted self.old) (noted self.new) (Happened (events.OutputEnds side) ∷ []) };
 
     /// A read of a side's engine failed.
     fn read_fails(&mut self, side: Colour)
-        ensures { WasNoted (told self.old) (told self.new) (Happened (events.FailsToRead side) ∷ []) };
+        ensures { WasNoted (noted self.old) (noted self.new) (Happened (events.FailsToRead side) ∷ []) };
 
     /// A write to a side's engine failed, which ended the match.
     fn write_fails(&mut self, side: Colour)
-        ensures { WasNoted (told self.old) (told self.new) (Happened (events.FailsToWrite side) ∷ []) };
+        ensures { WasNoted (noted self.old) (noted self.new) (Happened (events.FailsToWrite side) ∷ []) };
 
     /// These bytes, a block of lines, are now written to a side's engine.
     fn gives(&mut self, side: Colour, text: &[u8])
-        ensures { WasNoted (told self.old) (told self.new) (Gives side text.now ∷ []) };
+        ensures { WasNoted (noted self.old) (noted self.new) (Gives side text.now ∷ []) };
 }
 
 /// A witness that keeps nothing.
 #[derive(Drop)]
-pub(crate) struct Silent;
+pub(crate) struct NoWitness;
 
-impl Witness for Silent {
-    ghost told = { λ w before notes. Unit {0} };
+impl Witness for NoWitness {
+    ghost noted = { λ w before notes. Unit {0} };
 
     fn line(&mut self, _side: Colour, _line: &Line<ENGINE_LINE_LEN>, _moment: u64) {}
 

@@ -59,7 +59,6 @@ pub const BOARDS: &[On] = &[On::Plain, On::Bits];
 fn play_with<R: Input, W: Output, M: Moments, B: Board + Drop>(
     alloc: Global,
     board: B,
-    mut scratch: B,
     limit: u32,
     white: &mut Ends<R, W>,
     black: &mut Ends<R, W>,
@@ -67,7 +66,7 @@ fn play_with<R: Input, W: Output, M: Moments, B: Board + Drop>(
     setup: &Setup,
 ) -> Result<(MatchEnd, usize), Fail> {
     let mut game = Game::open(alloc, board, limit.max(1).min(100))?;
-    let end = run_match(white, black, moments, setup, &mut game, &mut scratch);
+    let end = run_match(white, black, moments, setup, &mut game);
     Ok((end, game.ply()))
 }
 
@@ -81,8 +80,15 @@ fn play_with_bits<R: Input, W: Output, M: Moments>(
     setup: &Setup,
 ) -> Result<(MatchEnd, usize), Fail> {
     let tables = AttackTables::open(alloc)?;
-    let (board, scratch) = (Bits::new(&tables), Bits::new(&tables));
-    play_with(alloc, board, scratch, limit, white, black, moments, setup)
+    play_with(
+        alloc,
+        Bits::new(&tables),
+        limit,
+        white,
+        black,
+        moments,
+        setup,
+    )
 }
 
 /// Plays a match of at most so many half-moves: its end, and how many half-moves are current. Its contract stays in
@@ -97,10 +103,7 @@ pub fn play_over<R: Input, W: Output, M: Moments>(
     setup: &Setup,
 ) -> Result<(MatchEnd, usize), Fail> {
     match on {
-        On::Plain => {
-            let (board, scratch) = (Plain::new(), Plain::new());
-            play_with(alloc, board, scratch, limit, white, black, moments, setup)
-        }
+        On::Plain => play_with(alloc, Plain::new(), limit, white, black, moments, setup),
         On::Bits => play_with_bits(alloc, limit, white, black, moments, setup),
     }
 }
@@ -116,7 +119,7 @@ fn pgn_with<R: Input, W: Output, B: Board + Drop>(
 ) -> Result<Vec<u8>, Fail> {
     let mut game = Game::open(alloc, board, 100)?;
     let mut moments = Listed { rest: &[] };
-    let end = run_match(white, black, &mut moments, setup, &mut game, &mut scratch);
+    let end = run_match(white, black, &mut moments, setup, &mut game);
     let mut tags = Tags::default();
     tags.ended = end.ended;
     let mut writer = Counted::writing(PieceWriter::new(alloc, 1024, 0));

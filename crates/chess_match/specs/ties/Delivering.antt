@@ -7,7 +7,8 @@ use Rattle.byte_devices.specs.Devices.{OutputState, BreaksOff}
 use Rattle.chess_base.specs.Men.{other, same_colour}
 use Rattle.chess_cecp.specs.Lines.{LineSeen}
 use Rattle.chess_match.specs.Match.{Match, Event, Line, OutputEnds, FailsToRead, FailsToWrite, after}
-use Rattle.chess_match.specs.Notes.{Noted, WasNoted, Happened, Note, both_notes, first_sent}
+use Rattle.chess_match.specs.Notes.{Noted, WasNoted, Happened, Note, both_notes}
+use Rattle.chess_match.specs.Reasons.{by_colour}
 use Rattle.chess_match.specs.Rules.{Rules}
 use Rattle.chess_match.specs.Run.{text_read, Flushed}
 use Rattle.chess_match.specs.Sent.{SentLine, block, bytes_of, answer_words}
@@ -17,15 +18,10 @@ use Rattle.chess_match.specs.Transcript.{is_on}
 use Rattle.chess_match.specs.declared.state.MatchState.{MatchState}
 use Rattle.chess_base.specs.Letters.{new_line}
 
--- what is White's, and what is Black's
-abbrev pub by_side : {A : Type 0} → A → A → Colour → A
-by_side white black White = white
-by_side white black Black = black
-
 -- what is that side's, and what is the other's
 abbrev pub by_turn : {A : Type 0} → Colour → A → A → Colour → A
-by_turn White own others = by_side own others
-by_turn Black own others = by_side others own
+by_turn White own others = by_colour own others
+by_turn Black own others = by_colour others own
 
 -- ---- what is parsed
 
@@ -41,6 +37,10 @@ line_event S line moment = Line S (text_read line) moment
 
 -- ---- what is sent
 
+-- who is sent its block first where an event is of S's engine
+abbrev pub first_in : Match → Colour → Colour
+first_in m S = if is_on m.phase then S else White
+
 -- no write failed before the end: each engine was sent what is due to it, and at the end a beginning where a write
 -- failed
 pub record AllSent (r : Rules) (core : MatchState) (played : List Move) (m : Match) (due : Colour → List SentLine)
@@ -48,7 +48,7 @@ pub record AllSent (r : Rules) (core : MatchState) (played : List Move) (m : Mat
   pub stands : Represents r core played m
   pub puts : (S : Colour) → SendsIf (failed S) (w S) (w' S) (bytes_of (due S))
   pub fine : is_on m.phase ≡ true → (S : Colour) → failed S ≡ false
-  pub told : WasNoted notes notes' (both_notes (first_sent m first) due)
+  pub noted : WasNoted notes notes' (both_notes (first_in m first) due)
 
 -- what is noted where a write to c fails: what is due, but not what comes after, the failure, and the other's end lines
 abbrev pub broken_notes : Rules → Match → (Colour → List SentLine) → Colour → Colour → List Note
@@ -70,7 +70,7 @@ pub record OneFailed (r : Rules) (core : MatchState) (played : List Move) (m : M
   pub others : (v : OutputState) × Flushed (w (other c)) v
       (bytes_of (if same_colour c first then [] else due (other c)))
       × SendsIf (failed (other c)) v (w' (other c)) (bytes_of (block r m (after r m (FailsToWrite c)) (other c)))
-  pub told : WasNoted notes notes' (broken_notes r m due first c)
+  pub noted : WasNoted notes notes' (broken_notes r m due first c)
 
 -- the blocks that are due were sent, first to that side, and no write failed before the end, or the first that failed
 -- ended the match; a witness was given notes of them

@@ -12,15 +12,15 @@ returns-then-is_empty-clause-sends g c =
     subst (λ (t : List ℕ). Flushed (g.W.Output.seen c.args.writer.now) (g.W.Output.seen c.args.writer.now) t)
     (sym (is_nil c.args.text.now _ c.is_empty.ensures c.if-is_empty.true)) (flushed_none _)
 
-pub returns-then-is_empty-clause-told : goal.returns-then-is_empty-clause-told
-returns-then-is_empty-clause-told g c =
-    subst (λ (t : List ℕ). WasNoted (g.L.Witness.told c.args.witness.now) (g.L.Witness.told c.args.witness.now)
+pub returns-then-is_empty-clause-noted : goal.returns-then-is_empty-clause-noted
+returns-then-is_empty-clause-noted g c =
+    subst (λ (t : List ℕ). WasNoted (g.L.Witness.noted c.args.witness.now) (g.L.Witness.noted c.args.witness.now)
     (given_note c.args.side t))
     (sym (is_nil c.args.text.now _ c.is_empty.ensures c.if-is_empty.true)) (noted_none _)
 
 pub returns-clause-sends : goal.returns-clause-sends
 returns-clause-sends g c = sent_now _ _ c.put_and_flush.result _ c.put_and_flush.ensures
 
-pub returns-clause-told : goal.returns-clause-told
-returns-clause-told g c = given_some _ _ c.args.side c.args.text.now
+pub returns-clause-noted : goal.returns-clause-noted
+returns-clause-noted g c = given_some _ _ c.args.side c.args.text.now
     (is_some_text c.args.text.now _ c.is_empty.ensures c.if-is_empty.false) c.gives.ensures

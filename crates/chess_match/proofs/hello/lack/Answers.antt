@@ -1,5 +1,5 @@
 -- What is kept of an engine is what its items say, so it lacks what they lack (lack_of).
-use Rattle.std.proofs.Common.{◌≡◌, List, Bool, true, false, not, ◌&&◌, refl, ◌∙◌, ap, Option, Some, None}
+use Rattle.std.proofs.Common.{◌≡◌, List, Bool, not, ◌&&◌, refl, ◌∙◌, ap, Option, Some, None}
 use Rattle.std.specs.Prelude.{is_some, if◌then◌else◌}
 use Rattle.engine_lines.specs.Items.{Item}
 use Rattle.chess_match.specs.Match.{lack}

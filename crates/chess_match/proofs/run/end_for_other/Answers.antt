@@ -33,5 +33,5 @@ returns-clause-ended g c r m p s =
           (noted_as _ _ _ _ (ap (λ (S : Colour). given_note S (bytes_of (given_block r c.write_fails-given.result
           nothing_said m' c.other.result))) c.other.ensures
           ∙ ap (λ (b : List SentLine). given_note (other c.args.side) (bytes_of b)) sent)
-          (c.note_and_send.ensures.told r m' nothing_said p goes.stands none)),
+          (c.note_and_send.ensures.noted r m' nothing_said p goes.stands none)),
     )

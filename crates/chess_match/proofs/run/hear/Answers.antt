@@ -11,7 +11,7 @@ returns-in-Err-clause-heard g c =
     let n = heard_failed (IsNoted (g.G.MatchGame.plays c.args.game.now) c.args.core.now (g.G.MatchGame.played c.args.game.now)
     c.read_fails-in-Err.new.self (g.G.MatchGame.played c.args.game.now) c.read_fails-in-Err.result c.args.block.now.items
     c.args.side (g.M.Moments.coming c.args.moments.now) (g.M.Moments.coming c.args.moments.now)
-    (g.L.Witness.told c.args.witness.now) (g.L.Witness.told c.read_fails.new.self))
+    (g.L.Witness.noted c.args.witness.now) (g.L.Witness.noted c.read_fails.new.self))
     c.args.side 0 (line_read c.args.heard c.args.line.now) c.in-Err.field-0
     (ap (λ v. line_read v c.args.line.now) c.in-Err.is)
     (noted_bare _ _ _ _ _ _ _ c.args.side _ _ _ (FailsToRead c.args.side) refl c.requires.empty c.read_fails.ensures
@@ -24,7 +24,7 @@ returns-in-Ok-false-clause-heard g c =
     c.output_ends-in-Ok-false-2.new.self (g.G.MatchGame.played c.args.game.now) c.output_ends-in-Ok-false-2.result
     c.args.block.now.items
     c.args.side (g.M.Moments.coming c.args.moments.now) (g.M.Moments.coming c.args.moments.now)
-    (g.L.Witness.told c.args.witness.now) (g.L.Witness.told c.output_ends-in-Ok-false.new.self))
+    (g.L.Witness.noted c.args.witness.now) (g.L.Witness.noted c.output_ends-in-Ok-false.new.self))
     c.args.side 0 (line_read c.args.heard c.args.line.now)
     (ap (λ v. line_read v c.args.line.now) (c.in-Ok-false.is ∙ ap (λ o. Ok o) c.in-Ok-false.field-0-test))
     (noted_bare _ _ _ _ _ _ _ c.args.side _ _ _ (OutputEnds c.args.side) refl c.requires.empty
@@ -37,8 +37,8 @@ returns-else-is_parsed-clause-heard g c =
     let n = heard_last (IsNoted (g.G.MatchGame.plays c.args.game.now) c.args.core.now (g.G.MatchGame.played c.args.game.now)
     c.output_ends-else-is_parsed.new.self (g.G.MatchGame.played c.args.game.now) c.output_ends-else-is_parsed.result
     c.args.block.now.items c.args.side (g.M.Moments.coming c.args.moments.now)
-    (g.M.Moments.coming c.args.moments.now) (g.L.Witness.told c.args.witness.now)
-    (g.L.Witness.told c.output_ends.new.self))
+    (g.M.Moments.coming c.args.moments.now) (g.L.Witness.noted c.args.witness.now)
+    (g.L.Witness.noted c.output_ends.new.self))
     c.args.side 0 (line_read c.args.heard c.args.line.now) c.args.line.now
     (ap (λ v. line_read v c.args.line.now) (c.in-Ok-true.is ∙ ap (λ o. Ok o) c.in-Ok-true.field-0-test))
     (sym c.is_parsed.ensures ∙ c.if-is_parsed.false)

@@ -6,7 +6,7 @@ use Rattle.chess_base.specs.declared.setup.Setup.{Setup}
 use Rattle.chess_cecp.specs.Lines.{nothing_held}
 use Rattle.chess_cecp.specs.Next.{line_read}
 use Rattle.chess_game.specs.Game as game
-use Rattle.chess_match.specs.ties.Delivering.{by_side, event_read}
+use Rattle.chess_match.specs.ties.Delivering.{event_read}
 use Rattle.chess_match.specs.Match.{Match, Opened, start, after}
 use Rattle.chess_match.specs.Rules.{Rules, rules_of}
 use Rattle.chess_match.specs.Sent.{answers_to, block, bytes_of}
@@ -23,6 +23,7 @@ use Rattle.chess_match.proofs.Going.{to_own, to_other}
 use Rattle.chess_match.proofs.Runs.{asked_one}
 use Rattle.chess_match.proofs.UnderWays.{opened_step, delivered_by}
 use Rattle.chess_match.proofs.run.run_match_watched.Goals as goal
+use Rattle.chess_match.specs.Reasons.{by_colour}
 
 pub deliver-failed-requires-clause-last : goal.deliver-failed-requires-clause-last
 deliver-failed-requires-clause-last g c =
@@ -44,11 +45,11 @@ events-init g c =
     let d = c.deliver-failed.ensures.delivered r start nothing_said
     (plays_anew c.args.game.now c.restart.new.self c.args.setup.now.start c.args.setup.now.level c.restart.ensures)
     stands (no_answers _ c.new-blocks.ensures.own) refl in
-    let b = begun r _ _ (by_side c.deliver-failed.result.white c.deliver-failed.result.black)
-    (by_side (g.R.Input.seen c.args.white.now.reader) (g.R.Input.seen c.args.black.now.reader))
-    (by_side c.new-white_lines.result c.new-black_lines.result)
+    let b = begun r _ _ (by_colour c.deliver-failed.result.white c.deliver-failed.result.black)
+    (by_colour (g.R.Input.seen c.args.white.now.reader) (g.R.Input.seen c.args.black.now.reader))
+    (by_colour c.new-white_lines.result c.new-black_lines.result)
     _ _ (g.M.Moments.coming c.args.moments.now) _ _
-    (both_sides (λ S. by_side c.new-white_lines.result c.new-black_lines.result S ≡ nothing_held)
+    (both_sides (λ S. by_colour c.new-white_lines.result c.new-black_lines.result S ≡ nothing_held)
     c.new-white_lines.ensures c.new-black_lines.ensures) d in (
       b.0,
       b.1,
@@ -67,10 +68,10 @@ returns-in-Nothing-clause-ran g c =
     c.in-Nothing.reason c.events.failed c.end_of.result
     (g.R.Input.seen c.args.white.now.reader) (g.R.Input.seen c.args.black.now.reader)
     (g.R.Input.seen c.events.white.reader) (g.R.Input.seen c.events.black.reader)
-    (by_side c.events.white_lines c.events.black_lines)
+    (by_colour c.events.white_lines c.events.black_lines)
     (g.W.Output.seen c.args.white.now.writer) (g.W.Output.seen c.args.black.now.writer)
     (g.W.Output.seen c.events.white.writer) (g.W.Output.seen c.events.black.writer) _ _ _ _
-    i.1 c.in-Nothing.ensures c.end_of.ensures.told c.end_of.ensures.white_name c.end_of.ensures.black_name i.2 i.3
+    i.1 c.in-Nothing.ensures c.end_of.ensures.report c.end_of.ensures.white_name c.end_of.ensures.black_name i.2 i.3
     c.end_of.ensures.game
 
 pub returns-in-Nothing-clause-start : goal.returns-in-Nothing-clause-start
@@ -84,7 +85,7 @@ returns-in-Nothing-clause-limit g c =
 pub returns-in-Nothing-clause-outcome : goal.returns-in-Nothing-clause-outcome
 returns-in-Nothing-clause-outcome g c =
     told_outcome c.events.game c.end_of.new.game c.in-Nothing.reason c.end_of.result.outcome c.end_of.ensures.game
-    c.end_of.ensures.told.outcome
+    c.end_of.ensures.report.outcome
 
 pub events-smaller-in-Moment : goal.events-smaller-in-Moment
 events-smaller-in-Moment g c =
@@ -150,10 +151,10 @@ events-smaller g c =
     goes.gives (c.deliver-failed-in-Line.ensures.delivered r _ (items_to S h.1) (c.hear-given.ensures.rules r plays)
     goes.stands (h.4 ∙ ap (λ (is : List Item). bytes_of (answers_to is)) (sym (to_own S h.1))) (to_other S h.1)) in
     heard_less r c.events.core.phase c.deliver-failed-in-Line.new.core _ m S h.0 heard _
-    (by_side (g.R.Input.seen c.events.white.reader) (g.R.Input.seen c.events.black.reader))
-    (by_side (g.R.Input.seen c.next_line-heard.new.white) (g.R.Input.seen c.next_line-heard.new.black))
-    (by_side c.events.white_lines c.events.black_lines)
-    (by_side c.next_line-heard.new.white_lines c.next_line-heard.new.black_lines) _ _ _ _ _
+    (by_colour (g.R.Input.seen c.events.white.reader) (g.R.Input.seen c.events.black.reader))
+    (by_colour (g.R.Input.seen c.next_line-heard.new.white) (g.R.Input.seen c.next_line-heard.new.black))
+    (by_colour c.events.white_lines c.events.black_lines)
+    (by_colour c.next_line-heard.new.white_lines c.next_line-heard.new.black_lines) _ _ _ _ _
     c.in-Line.ensures c.next_line-heard.ensures.next c.next_line-heard.ensures.others c.next_line-heard.ensures.held d
 
 pub events-preserved : goal.events-preserved
@@ -171,14 +172,14 @@ events-preserved g c =
     goes.gives (c.deliver-failed-in-Line.ensures.delivered r _ (items_to S h.1) (c.hear-given.ensures.rules r plays)
     goes.stands (h.4 ∙ ap (λ (is : List Item). bytes_of (answers_to is)) (sym (to_own S h.1))) (to_other S h.1)) in
     let u = heard_on r i.0 S h.0 heard c.events.core c.deliver-failed-in-Line.new.core _ _
-    (by_side c.events.failed.white c.events.failed.black)
-    (by_side c.deliver-failed-in-Line.result.white c.deliver-failed-in-Line.result.black)
-    (by_side (g.R.Input.seen c.args.white.now.reader) (g.R.Input.seen c.args.black.now.reader))
-    (by_side (g.R.Input.seen c.events.white.reader) (g.R.Input.seen c.events.black.reader))
-    (by_side (g.R.Input.seen c.next_line-heard.new.white) (g.R.Input.seen c.next_line-heard.new.black))
-    (by_side c.events.white_lines c.events.black_lines)
-    (by_side c.next_line-heard.new.white_lines c.next_line-heard.new.black_lines)
-    (by_side (g.W.Output.seen c.args.white.now.writer) (g.W.Output.seen c.args.black.now.writer)) _ _ _ _ _ _ _ _ _
+    (by_colour c.events.failed.white c.events.failed.black)
+    (by_colour c.deliver-failed-in-Line.result.white c.deliver-failed-in-Line.result.black)
+    (by_colour (g.R.Input.seen c.args.white.now.reader) (g.R.Input.seen c.args.black.now.reader))
+    (by_colour (g.R.Input.seen c.events.white.reader) (g.R.Input.seen c.events.black.reader))
+    (by_colour (g.R.Input.seen c.next_line-heard.new.white) (g.R.Input.seen c.next_line-heard.new.black))
+    (by_colour c.events.white_lines c.events.black_lines)
+    (by_colour c.next_line-heard.new.white_lines c.next_line-heard.new.black_lines)
+    (by_colour (g.W.Output.seen c.args.white.now.writer) (g.W.Output.seen c.args.black.now.writer)) _ _ _ _ _ _ _ _ _
     i.1 c.in-Line.ensures c.next_line-heard.ensures.next c.next_line-heard.ensures.others c.next_line-heard.ensures.held
     h.2 h.3 d in (
       u.0,

@@ -1,22 +1,22 @@
 use Rattle.std.proofs.Common.{◌≡◌, ◌+◌, List, [], None}
 use Rattle.chess_cecp.specs.Next.{work}
-use Rattle.chess_match.specs.ties.Delivering.{by_side}
 use Rattle.chess_match.specs.Match.{Event}
 use Rattle.chess_match.specs.Rules.{rules_of}
 use Rattle.chess_match.proofs.UnderWay.{IsUnderWay, steps_left}
 use Rattle.chess_match.proofs.run.run_match_watched.Given as goal
+use Rattle.chess_match.specs.Reasons.{by_colour}
 
 abbrev pub invariant-events : goal.invariant-events
 invariant-events g l =
     (T : List Event)
     × IsUnderWay (rules_of l.fn.setup.start l.fn.setup.level l.fn.game.limit) T l.core l.game.state.moves
-    (by_side l.failed.white l.failed.black)
-    (by_side (g.R.Input.seen l.fn.white.reader) (g.R.Input.seen l.fn.black.reader))
-    (by_side (g.R.Input.seen l.white.reader) (g.R.Input.seen l.black.reader)) (by_side l.white_lines l.black_lines)
-    (by_side (g.W.Output.seen l.fn.white.writer) (g.W.Output.seen l.fn.black.writer))
-    (by_side (g.W.Output.seen l.white.writer) (g.W.Output.seen l.black.writer))
+    (by_colour l.failed.white l.failed.black)
+    (by_colour (g.R.Input.seen l.fn.white.reader) (g.R.Input.seen l.fn.black.reader))
+    (by_colour (g.R.Input.seen l.white.reader) (g.R.Input.seen l.black.reader)) (by_colour l.white_lines l.black_lines)
+    (by_colour (g.W.Output.seen l.fn.white.writer) (g.W.Output.seen l.fn.black.writer))
+    (by_colour (g.W.Output.seen l.white.writer) (g.W.Output.seen l.black.writer))
     (g.M.Moments.coming l.fn.moments) (g.M.Moments.coming l.moments)
-    (g.L.Witness.told l.fn.witness) (g.L.Witness.told l.witness)
+    (g.L.Witness.noted l.fn.witness) (g.L.Witness.noted l.witness)
     × (l.game.state.start ≡ l.fn.setup.start) × (l.game.limit ≡ l.fn.game.limit) × (l.game.state.declared ≡ None)
     × (l.blocks.own.items ≡ []) × (l.blocks.others.items ≡ [])
 

@@ -21,7 +21,7 @@ returns-then-is_err-clause-delivered g c r m items p s own none =
     (on_too r _ _ m s c.requires.on) (c.note_and_send.ensures.due r m items p s own err) end.0
     (sends_if _ _ _ true _ _ (sym err) refl (c.note_and_send.ensures.sends r m items p s own)) end.1
     (noted_as _ _ _ _ (first_noted r m due c.args.side)
-    (noted_more _ _ _ _ _ (c.note_and_send.ensures.told r m items p s own) end.2))
+    (noted_more _ _ _ _ _ (c.note_and_send.ensures.noted r m items p s own) end.2))
 
 pub returns-then-is_err-2-clause-delivered : goal.returns-then-is_err-2-clause-delivered
 returns-then-is_err-2-clause-delivered g c r m items p s own none =
@@ -35,8 +35,8 @@ returns-then-is_err-2-clause-delivered g c r m items p s own none =
     × SendsIf c.end_for_other-own_failed.result (g.W.Output.seen c.note_and_send.new.writer)
     (g.W.Output.seen c.end_for_other-own_failed.new.others)
     (bytes_of (block r m (after r m (FailsToWrite X)) (other X)))
-    × WasNoted (g.L.Witness.told c.note_and_send-2.new.witness)
-    (g.L.Witness.told c.end_for_other-own_failed.new.witness) (Happened (FailsToWrite X)
+    × WasNoted (g.L.Witness.noted c.note_and_send-2.new.witness)
+    (g.L.Witness.noted c.end_for_other-own_failed.new.witness) (Happened (FailsToWrite X)
     ∷ given_note (other X) (bytes_of (block r m (after r m (FailsToWrite X)) (other X)))))
     c.other-then-is_err-2.ensures (c.end_for_other-own_failed.ensures.ended r m p s) in
     second_failed r _ _ m due c.args.side _ _ _ _ _ _ _ _
@@ -50,10 +50,10 @@ returns-then-is_err-2-clause-delivered g c r m items p s own none =
     end.1
     (noted_as _ _ _ _ (second_noted r m due c.args.side)
     (noted_more _ _ _ _ _
-    (noted_more _ _ _ _ _ (c.note_and_send.ensures.told r m items p s own)
-    (subst (λ (S : Colour). WasNoted (g.L.Witness.told c.note_and_send.new.witness)
-    (g.L.Witness.told c.note_and_send-2.new.witness) (given_note S (bytes_of (due S)))) c.other.ensures
-    (c.note_and_send-2.ensures.told r m items p s others))) end.2))
+    (noted_more _ _ _ _ _ (c.note_and_send.ensures.noted r m items p s own)
+    (subst (λ (S : Colour). WasNoted (g.L.Witness.noted c.note_and_send.new.witness)
+    (g.L.Witness.noted c.note_and_send-2.new.witness) (given_note S (bytes_of (due S)))) c.other.ensures
+    (c.note_and_send-2.ensures.noted r m items p s others))) end.2))
 
 pub returns-clause-delivered : goal.returns-clause-delivered
 returns-clause-delivered g c r m items p s own none =
@@ -67,7 +67,7 @@ returns-clause-delivered g c r m items p s own none =
     (sends_if _ _ _ false _ _ (sym fine') (ap (λ (X : Colour). bytes_of (due X)) c.other.ensures)
     (c.note_and_send-2.ensures.sends r m items p s others))
     (on_too r _ _ m s c.requires.on)
-    (noted_more _ _ _ _ _ (c.note_and_send.ensures.told r m items p s own)
-    (subst (λ (S : Colour). WasNoted (g.L.Witness.told c.note_and_send.new.witness)
-    (g.L.Witness.told c.note_and_send-2.new.witness) (given_note S (bytes_of (due S)))) c.other.ensures
-    (c.note_and_send-2.ensures.told r m items p s others)))
+    (noted_more _ _ _ _ _ (c.note_and_send.ensures.noted r m items p s own)
+    (subst (λ (S : Colour). WasNoted (g.L.Witness.noted c.note_and_send.new.witness)
+    (g.L.Witness.noted c.note_and_send-2.new.witness) (given_note S (bytes_of (due S)))) c.other.ensures
+    (c.note_and_send-2.ensures.noted r m items p s others)))

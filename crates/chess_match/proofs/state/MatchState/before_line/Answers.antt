@@ -15,31 +15,31 @@ flag_kept : (left used clock elapsed : ℕ) (b : Bool) → left ≡ clock → us
     → nat_lt clock elapsed ≡ b
 flag_kept left used clock elapsed b e f h = rw (← e, ← f) h
 
-pub returns-then-is_bare-clause-goes : goal.returns-then-is_bare-clause-goes
+pub returns-then-has_bare_king-clause-goes : goal.returns-then-has_bare_king-clause-goes
 unfolding before_line
-returns-then-is_bare-clause-goes g c r m p at s =
+returns-then-has_bare_king-clause-goes g c r m p at s =
     let left : remaining c.args.self.now.clocks c.args.side ≡ clock r m c.args.side = clocks_left r _ _ m s c.args.side in
     let used : c.saturating_sub-used.result ≡ c.args.moment - m.opened =
     rw (← s.opened) c.saturating_sub-used.ensures in
     let on : is_on m.phase ≡ true = rw at refl in
     let flag : nat_lt (clock r m c.args.side) (c.args.moment - m.opened) ≡ true =
     flag_kept _ _ _ _ true left used (sym c.is_flagged.ensures ∙ c.if-is_flagged.true) in
-    let bare : r.is_bare m.played (other c.args.side) ≡ true =
-    rw (← s.moves, ← c.other.ensures) (sym (c.if-is_bare.ensures r p)) in
+    let bare : r.has_bare_king m.played (other c.args.side) ≡ true =
+    rw (← s.moves, ← c.other.ensures) (sym (c.if-has_bare_king.ensures r p)) in
     rw (flag, bare) (c.finish.ensures r _ m on s)
 
-pub returns-else-is_bare-clause-goes : goal.returns-else-is_bare-clause-goes
+pub returns-else-has_bare_king-clause-goes : goal.returns-else-has_bare_king-clause-goes
 unfolding before_line
-returns-else-is_bare-clause-goes g c r m p at s =
+returns-else-has_bare_king-clause-goes g c r m p at s =
     let left : remaining c.args.self.now.clocks c.args.side ≡ clock r m c.args.side = clocks_left r _ _ m s c.args.side in
     let used : c.saturating_sub-used.result ≡ c.args.moment - m.opened =
     rw (← s.opened) c.saturating_sub-used.ensures in
     let on : is_on m.phase ≡ true = rw at refl in
     let flag : nat_lt (clock r m c.args.side) (c.args.moment - m.opened) ≡ true =
     flag_kept _ _ _ _ true left used (sym c.is_flagged.ensures ∙ c.if-is_flagged.true) in
-    let bare : r.is_bare m.played (other c.args.side) ≡ false =
-    rw (← s.moves, ← c.other.ensures) (sym (c.if-is_bare.ensures r p)) in
-    rw (flag, bare) (c.finish-else-is_bare.ensures r _ m on s)
+    let bare : r.has_bare_king m.played (other c.args.side) ≡ false =
+    rw (← s.moves, ← c.other.ensures) (sym (c.if-has_bare_king.ensures r p)) in
+    rw (flag, bare) (c.finish-else-has_bare_king.ensures r _ m on s)
 
 pub returns-in-Move-clause-goes : goal.returns-in-Move-clause-goes
 unfolding before_line
