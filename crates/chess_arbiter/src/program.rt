@@ -5,7 +5,7 @@ ghost use Rattle.chess_cecp.specs.Held.{opened_session};
 ghost use Rattle.chess_pgn.specs.Tags.{default_tags};
 ghost use Rattle.chess_arbiter.specs.Log.{log_seen};
 ghost use Rattle.chess_arbiter.specs.Program.{RanHelp, RanMatch, RanProgram, RanServer, RanSession, RanVerify, ReportsArguments, VerifiesAs, options_of, status_of, verify_status};
-ghost use Rattle.chess_arbiter.specs.Stub.{beginning, stub_response};
+ghost use Rattle.chess_arbiter.specs.Stub.{stub_response, waiting};
 ghost use Rattle.chess_game.specs.declared.game.TheConstants.{MOST_MOVES};
 
 use crate::fault::{ProgramFault, report_text, reported};
@@ -74,7 +74,7 @@ fn stub<R: Input, W: Output, E: Output>(
     output: &mut W,
     errors: &mut E,
 ) -> u8
-    ensures { RanServer stub_response (beginning words.now) (R.seen input.old) (R.seen input.new) (W.seen output.old)
+    ensures { RanServer stub_response (waiting words.now) (R.seen input.old) (R.seen input.new) (W.seen output.old)
         (W.seen output.new) result }
 {
     let mut stub = Stub::new(words);

@@ -4,7 +4,7 @@ ghost use Rattle.std.specs.Prelude.{◌≡◌, ◌≤◌, ◌++◌, ◌∷◌, [
 ghost use Rattle.byte_devices.specs.Devices.{Puts};
 ghost use Rattle.chess_base.specs.Letters.{new_line};
 ghost use Rattle.chess_cecp.specs.Commands.{command_of};
-ghost use Rattle.chess_arbiter.specs.Stub.{after_remarks, beginning, moved, played_text, remark, remarks, row, stub_response, turn};
+ghost use Rattle.chess_arbiter.specs.Stub.{after_remarks, moved, played_text, remark, remarks, row, stub_response, turn, waiting};
 
 use arrayvec::ArrayVec;
 use byte_devices::{Output, WriteFault, put, put_parts};
@@ -175,7 +175,7 @@ impl<'a> Model for Stub<'a> {
 impl<'a> Stub<'a> {
     /// A stub with these arguments, which doesn't play yet.
     pub(crate) fn new(words: &'a [&'a str]) -> Self
-        ensures { result ≡ beginning words.now }
+        ensures { result ≡ waiting words.now }
     {
         Stub {
             words,
