@@ -117,7 +117,7 @@ count_few wanted games = subst (λ n. count_of wanted games ≤ n) (length-enume
 
 -- a count below its limit is exact
 plus_is : (n : ℕ) (b : Bool) → n < 65535 → plus n b ≡ n + cond b 1 0
-plus_is n true few = below (n + 1) 65535 (omega (arith, few))
+plus_is n true few = omega (arith, few)
 plus_is n false few = omega arith
 
 counted_one : (wanted : ℕ → Outcome) (games : List GameRecord) (g : GameRecord) → length games < 65535
@@ -291,17 +291,21 @@ start_of : (plan : MatchPlan) (number : ℕ) (side : Colour) (fault : GamesFault
 start_of plan number side fault h = no_start plan fault
     (either_starts (same_colour side (first_side number)) plan.white.now plan.black.now fault h)
 
--- neither engine was started, or one was not: nothing was written
+pub not_started : (plan : MatchPlan) (number : ℕ) (fault : GamesFault) (white black : List ℕ)
+    → white ≡ command_of plan number White → black ≡ command_of plan number Black
+    → FailsToStart white fault ⊎ FailsToStart black fault → IsStartFault plan fault
+not_started plan number fault white black e f (inl h) =
+    start_of plan number White fault (subst (λ t. FailsToStart t fault) e h)
+not_started plan number fault white black e f (inr h) =
+    start_of plan number Black fault (subst (λ t. FailsToStart t fault) f h)
+
+-- then nothing was written
 pub not_played : (plan : MatchPlan) (number : ℕ) (w : OutputState) (l : LogSeen) (fault : GamesFault)
-    → FailsToStart (command_of plan number White) fault ⊎ FailsToStart (command_of plan number Black) fault
-    → PlayedOne plan number w w l l (Err fault)
-not_played plan number w l WriteFailed (inl h) = absurd h
-not_played plan number w l WriteFailed (inr h) = absurd h
-not_played plan number w l NoMemory h = (tt, refl, refl)
-not_played plan number w l (CanNotStart c) (inl h) = (start_of plan number White (CanNotStart c) h, refl, refl)
-not_played plan number w l (CanNotStart c) (inr h) = (start_of plan number Black (CanNotStart c) h, refl, refl)
-not_played plan number w l (Game k text) (inl h) = absurd h
-not_played plan number w l (Game k text) (inr h) = absurd h
+    → IsStartFault plan fault → PlayedOne plan number w w l l (Err fault)
+not_played plan number w l WriteFailed h = absurd h
+not_played plan number w l NoMemory h = (h, refl, refl)
+not_played plan number w l (CanNotStart command) h = (h, refl, refl)
+not_played plan number w l (Game k text) h = absurd h
 
 -- ---- the end of a match
 

@@ -1,6 +1,6 @@
 //! The games of a match, one after another.
 
-ghost use Rattle.std.specs.Prelude.{◌≡◌, ◌⊎◌, [], IfErr, IfOk};
+ghost use Rattle.std.specs.Prelude.{◌≡◌, ◌≤◌, ◌⊎◌, [], IfErr, IfOk};
 ghost use Rattle.byte_devices.specs.Devices.{Sends};
 ghost use Rattle.chess_match.specs.Reasons.{comment_of};
 ghost use Rattle.chess_match.specs.Run.{Ports};
@@ -310,6 +310,14 @@ struct GamesPlayed {
     fault: Option<(u32, Colour, MatchFault)>,
 }
 
+// How many games are to be played.
+fn game_count(plan: &MatchPlan<'_>) -> u32
+    ensures value { result ≡ plan.now.games }
+    ensures few { result ≤ 65535 }
+{
+    u32::from(plan.games)
+}
+
 // Plays game after game, up to the first with a fault.
 fn play_each<'a, 't, P: Processes + Clock, M: Moments, W: Output, E: Output>(
     rt: &P,
@@ -328,7 +336,7 @@ fn play_each<'a, 't, P: Processes + Clock, M: Moments, W: Output, E: Output>(
 {
     let mut score = Score::new();
     let mut number: u32 = 0;
-    while number < u32::from(plan.games) {
+    while number < game_count(plan) {
         number += 1;
         let end = match play_one(rt, alloc, plan, number, moments, game, scratch, output, log) {
             Ok(end) => end,

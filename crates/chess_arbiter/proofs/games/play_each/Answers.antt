@@ -27,7 +27,7 @@ returns-in-Err g c =
     let l' = log_seen (g.E.Output.seen c.loop-number.log.output) c.loop-number.log.pending in
     let l'' = log_seen (g.E.Output.seen c.play_one.new.log.output) c.play_one.new.log.pending in
     let le : c.loop-number.number + 1 ≤ c.args.plan.now.games =
-    (let t = c.loop-number-test.true in let e = c.from.ensures in omega (arith, t, e)) in
+    (let t = c.loop-number-test.true in let e = c.game_count.ensures.value in omega (arith, t, e)) in
     broke c.args.plan.now w w' w'' l l' l'' (c.loop-number.number + 1) c.loop-number.score c.loop-number.invariant.1
     c.loop-number.invariant.2 c.in-Err.fault le c.in-Err.ensures.played
 
@@ -41,7 +41,9 @@ returns-in-Some g c =
     let l' = log_seen (g.E.Output.seen c.loop-number.log.output) c.loop-number.log.pending in
     let l'' = log_seen (g.E.Output.seen c.play_one.new.log.output) c.play_one.new.log.pending in
     let number = c.loop-number.number + 1 in
-    let le : number ≤ plan.games = (let t = c.loop-number-test.true in let e = c.from.ensures in omega (arith, t, e)) in
+    let le : number ≤ plan.games = (let t = c.loop-number-test.true in let e = c.game_count.ensures.value in omega (arith, t, e)) in
+    let small : number ≤ 65535 =
+    (let t = c.loop-number-test.true in let few = c.game_count.ensures.few in omega (arith, t, few)) in
     let one = c.in-Ok.ensures.played in
     let told : GameRecord = record { game = one.0; end = c.in-Ok.end; notes = one.1 } in
     let is : c.in-Ok.end.fault ≡ Some (c.in-Some.side, c.in-Some.fault) = search rules in
@@ -63,7 +65,9 @@ loop-number-preserved g c =
     let l' = log_seen (g.E.Output.seen c.loop-number.log.output) c.loop-number.log.pending in
     let l'' = log_seen (g.E.Output.seen c.play_one.new.log.output) c.play_one.new.log.pending in
     let number = c.loop-number.number + 1 in
-    let le : number ≤ plan.games = (let t = c.loop-number-test.true in let e = c.from.ensures in omega (arith, t, e)) in
+    let le : number ≤ plan.games = (let t = c.loop-number-test.true in let e = c.game_count.ensures.value in omega (arith, t, e)) in
+    let small : number ≤ 65535 =
+    (let t = c.loop-number-test.true in let few = c.game_count.ensures.few in omega (arith, t, few)) in
     let one = c.in-Ok.ensures.played in
     let told : GameRecord = record { game = one.0; end = c.in-Ok.end; notes = one.1 } in
     let is : c.in-Ok.end.fault ≡ None = search rules in
@@ -80,7 +84,7 @@ loop-number-preserved g c =
 pub returns : goal.returns
 returns g c =
     let past : c.args.plan.now.games < c.loop-number.number + 1 =
-    (let t = c.loop-number-test.false in let e = c.from.ensures in omega (arith, t, e)) in
+    (let t = c.loop-number-test.false in let e = c.game_count.ensures.value in omega (arith, t, e)) in
     let l = log_seen (g.E.Output.seen c.args.log.now.output) c.args.log.now.pending in
     let l' = log_seen (g.E.Output.seen c.loop-number.log.output) c.loop-number.log.pending in
     all_played c.args.plan.now (g.W.Output.seen c.args.output.now) (g.W.Output.seen c.loop-number.output) l l'
