@@ -95,7 +95,7 @@ log_none : (asked : Bool) (l : LogSeen) → LogsGames asked l l []
 log_none false l = refl
 log_none true l = logs_none l.broken l.output
 
--- ---- one game more
+-- ---- texts of games
 
 texts_more : (plan : MatchPlan) (games : List GameRecord) (g : GameRecord)
     → game_texts plan (games ++ g ∷ []) ≡ game_texts plan games ++ game_text plan (1 + length games) g

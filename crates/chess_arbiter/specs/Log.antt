@@ -1,5 +1,5 @@
 -- What a log of a match holds: a line for each line that an engine sends or is sent, as XBoard's debug file has them.
-use Rattle.std.specs.Prelude.{◌≡◌, ℕ, ◌==◌, ◌&&◌, nat_le, Bool, true, false, if◌then◌else◌, List, [], ◌∷◌, ◌++◌, map, codes, decimal, Option, Some, None}
+use Rattle.std.specs.Prelude.{◌≡◌, ℕ, ◌==◌, ◌&&◌, nat_le, Bool, true, false, if◌then◌else◌, List, [], ◌∷◌, ◌++◌, fold, map, codes, decimal, Option, Some, None}
 use Rattle.chess_base.specs.Letters.{byte, new_line}
 use Rattle.chess_base.specs.declared.man.Colour.{Colour}
 use Rattle.chess_base.specs.Men.{same_colour}
@@ -40,10 +40,9 @@ given_text front at_start (b ∷ bs) =
     (if at_start then front else [])
     ++ ((if b == new_line then new_line else shown b) ∷ given_text front (b == new_line) bs)
 
--- whether the byte after these begins a line
+-- whether the byte after these begins a line: the last of them is byte 10, or there is none and it did before
 abbrev pub ends_line : Bool → List ℕ → Bool
-ends_line at_start [] = at_start
-ends_line at_start (b ∷ bs) = ends_line (b == new_line) bs
+ends_line at_start text = fold (λ before b. b == new_line) at_start text
 
 -- ---- notes
 
