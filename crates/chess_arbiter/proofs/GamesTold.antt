@@ -1,14 +1,13 @@
 -- The games of a match, one after another.
-use Rattle.std.proofs.Common.{◌≡◌, ◌∙◌, ◌<◌, ◌≤◌, ◌+◌, ℕ, Bool, true, false, List, [], ◌∷◌, ◌++◌, length, is_err, Bor, Option, Some, None, Result, Ok, Err, refl, sym, ap, subst, append_assoc, append-nil, length-append, arith, inl, inr}
-use Rattle.std.specs.Prelude.{◌⊎◌, cond, count_by, flat_map, if◌then◌else◌}
+use Rattle.std.proofs.Common.{◌≡◌, ◌∙◌, ◌<◌, ◌≤◌, ◌+◌, ℕ, Bool, true, false, List, [], ◌∷◌, ◌++◌, length, is_err, Bor, Option, Some, None, Result, Ok, Err, refl, sym, ap, subst, append_assoc, append-nil, length-append, arith, inr}
+use Rattle.std.specs.Prelude.{cond, count_by, flat_map, if◌then◌else◌}
 use Rattle.std.specs.List.{enumerate_from}
 use Rattle.std.proofs.lemmas.List.Concat.{flat_map-append}
 use Rattle.std.proofs.lemmas.List.FromFn.{length-enumerate_from}
 use Rattle.std.proofs.lemmas.List.Sums.{count_by-le-length, sum_by_push}
 use Rattle.arbiter_words.specs.declared.plan.MatchPlan.{MatchPlan}
-use Rattle.chess_base.specs.Men.{other, same_colour}
+use Rattle.chess_base.specs.Men.{other}
 use Rattle.chess_base.specs.declared.man.Colour.{Colour}
-use Rattle.chess_base.specs.declared.man.Colour.TheVariants.{White, Black}
 use Rattle.byte_devices.specs.Devices.{OutputState, Begins, BreaksOff, Sends, Sent}
 use Rattle.byte_devices.proofs.DeviceLaws.{appends_more}
 use Rattle.chess_game.specs.Game.{Seen}
@@ -25,8 +24,8 @@ use Rattle.chess_match.specs.declared.reason.MatchFault.{MatchFault}
 use Rattle.chess_match.specs.declared.reason.Reason.TheVariants.{Faulted}
 use Rattle.chess_match.specs.declared.run.MatchEnd.{MatchEnd}
 use Rattle.chess_match.proofs.Flushes.{flushed_none, failed_behind}
-use Rattle.chess_arbiter.specs.Games.{EndsGames, GameRecord, IsOfPlan, IsStartFault, LogsGames, RanGames, SoundGames, command_of, count_of, first_side, game_logs, game_text, game_texts, match_text, score_line, score_of}
-use Rattle.chess_arbiter.specs.ties.Playing.{FailsToStart, HasPlayed, LogsGame, PlayedOne, Relayed, logged_side, no_score, plus, score_after}
+use Rattle.chess_arbiter.specs.Games.{EndsGames, GameRecord, IsOfPlan, LogsGames, RanGames, SoundGames, count_of, first_side, game_logs, game_text, game_texts, match_text, score_line, score_of}
+use Rattle.chess_arbiter.specs.ties.Playing.{HasPlayed, LogsGame, PlayedOne, Relayed, logged_side, no_score, plus, score_after}
 use Rattle.chess_arbiter.specs.Log.{LogSeen, Logged, RanNoted, log_text}
 use Rattle.chess_arbiter.proofs.Logged.{logged_more, logs_none}
 use Rattle.chess_arbiter.specs.declared.games.GamesFault.{GamesFault}
@@ -269,43 +268,6 @@ all_played plan w w' l l' number score games s past =
     let n = s.numbered in
     let few = s.few in
     (games, (s.games_sound, omega (arith, n, few, past)), s.counted, s.told, s.logged)
-
--- ---- an engine that could not be started
-
-either_starts : (b : Bool) (white black : List ℕ) (fault : GamesFault) → FailsToStart (if b then white else black) fault
-    → FailsToStart white fault ⊎ FailsToStart black fault
-either_starts true white black fault h = inl h
-either_starts false white black fault h = inr h
-
-no_start : (plan : MatchPlan) (fault : GamesFault) → FailsToStart plan.white.now fault ⊎ FailsToStart plan.black.now fault
-    → IsStartFault plan fault
-no_start plan WriteFailed (inl h) = absurd h
-no_start plan WriteFailed (inr h) = absurd h
-no_start plan NoMemory h = tt
-no_start plan (CanNotStart command) h = h
-no_start plan (Game k text) (inl h) = absurd h
-no_start plan (Game k text) (inr h) = absurd h
-
-start_of : (plan : MatchPlan) (number : ℕ) (side : Colour) (fault : GamesFault)
-    → FailsToStart (command_of plan number side) fault → IsStartFault plan fault
-start_of plan number side fault h = no_start plan fault
-    (either_starts (same_colour side (first_side number)) plan.white.now plan.black.now fault h)
-
-pub not_started : (plan : MatchPlan) (number : ℕ) (fault : GamesFault) (white black : List ℕ)
-    → white ≡ command_of plan number White → black ≡ command_of plan number Black
-    → FailsToStart white fault ⊎ FailsToStart black fault → IsStartFault plan fault
-not_started plan number fault white black e f (inl h) =
-    start_of plan number White fault (subst (λ t. FailsToStart t fault) e h)
-not_started plan number fault white black e f (inr h) =
-    start_of plan number Black fault (subst (λ t. FailsToStart t fault) f h)
-
--- then nothing was written
-pub not_played : (plan : MatchPlan) (number : ℕ) (w : OutputState) (l : LogSeen) (fault : GamesFault)
-    → IsStartFault plan fault → PlayedOne plan number w w l l (Err fault)
-not_played plan number w l WriteFailed h = absurd h
-not_played plan number w l NoMemory h = (h, refl, refl)
-not_played plan number w l (CanNotStart command) h = (h, refl, refl)
-not_played plan number w l (Game k text) h = absurd h
 
 -- ---- the end of a match
 

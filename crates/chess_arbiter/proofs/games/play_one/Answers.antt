@@ -1,21 +1,12 @@
 -- The game that the match left is one of the plan, since it began with a limit of 20,000 half-moves; what was written is
--- its text with the tags of its end, or a beginning of it, and it was logged. An engine that could not be started is one
--- of the plan (GamesTold.not_started).
+-- its text with the tags of its end, or a beginning of it, and it was logged.
 use Rattle.std.proofs.Common.{[], Option, subst}
 use Rattle.byte_devices.specs.Devices.{BreaksOff, Sent}
 use Rattle.chess_base.specs.declared.man.Colour.{Colour}
 use Rattle.chess_pgn.specs.GameText.{pgn}
 use Rattle.chess_arbiter.specs.ties.Playing.{LogsGame}
 use Rattle.chess_arbiter.specs.Log.{log_seen}
-use Rattle.chess_arbiter.proofs.GamesTold.{not_played, not_started}
 use Rattle.chess_arbiter.proofs.games.play_one.Goals as goal
-
-pub returns-in-Err-start_both-clause-played : goal.returns-in-Err-start_both-clause-played
-returns-in-Err-start_both-clause-played g c =
-    let fault = c.in-Err-start_both.fault in
-    not_played c.args.plan.now c.args.number _ _ fault
-    (not_started c.args.plan.now c.args.number fault _ _ c.command_of.ensures c.command_of-2.ensures
-    c.in-Err-start_both.ensures)
 
 pub returns-in-Ok-write_game-clause-played : goal.returns-in-Ok-write_game-clause-played
 returns-in-Ok-write_game-clause-played g c =
