@@ -1,5 +1,5 @@
 -- The grammar of the command line, as `clap` sees it.
-use Rattle.std.specs.Prelude.{◌≡◌, ◌⊎◌, List, codes, [], ◌∷◌, Some, Result, Ok, Err, is_some, map, true, unwrap_or}
+use Rattle.std.specs.Prelude.{◌≡◌, ◌⊎◌, List, codes, fold, [], ◌∷◌, Some, Result, Ok, Err, is_some, map, true, unwrap_or}
 use Rattle.std.specs.Borrow.{Bor}
 use Rattle.clap.specs.Words.{App, HasKind, Kinds, Row, Rule, Text, fault_of, first_of, new_app, new_rule, subcommand_of, subcommand_rows_of, with_rule, with_subcommand}
 use Rattle.clap.specs.ValueTests.{is_unsigned_in}
@@ -38,31 +38,23 @@ variant_rule names = record (option_rule (codes "variant")) { parser = Some (Nam
 
 -- `match` with its options; `--white` and `--black` are required
 abbrev pub match_app : Lent → App
-match_app names = with_rule (with_rule (with_rule (with_rule (with_rule (with_rule (with_rule (with_rule
-    (new_app (codes "match"))
-    (needed (option_rule (codes "white"))))
-    (needed (option_rule (codes "black"))))
-    (option_rule (codes "level")))
-    (option_rule (codes "fen")))
-    games_rule)
-    (option_rule (codes "date")))
-    (variant_rule names))
-    (flag_rule (codes "log"))
+match_app names = fold with_rule (new_app (codes "match")) (
+    needed (option_rule (codes "white")) ∷ needed (option_rule (codes "black")) ∷ option_rule (codes "level")
+    ∷ option_rule (codes "fen") ∷ games_rule ∷ option_rule (codes "date") ∷ variant_rule names
+    ∷ flag_rule (codes "log") ∷ [])
 
 -- `verify` with its flags
 abbrev pub verify_app : App
-verify_app = with_rule (with_rule (with_rule
-    (new_app (codes "verify"))
-    (flag_rule (codes "keep-going")))
-    (flag_rule (codes "quiet")))
-    (flag_rule (codes "strict"))
+verify_app = fold with_rule (new_app (codes "verify"))
+    (flag_rule (codes "keep-going") ∷ flag_rule (codes "quiet") ∷ flag_rule (codes "strict") ∷ [])
+
+-- any number of arguments without a name
+abbrev pub words_rule : Rule
+words_rule = record (new_rule (codes "words")) { action = Some Append; value_names = 1 }
 
 -- `stub`, which takes any number of arguments
 abbrev pub stub_app : App
-stub_app = with_rule (new_app (codes "stub")) (record (new_rule (codes "words")) {
-  action = Some Append;
-  value_names = 1;
-})
+stub_app = with_rule (new_app (codes "stub")) words_rule
 
 -- `arbiter` by itself: it has `--version`, no command `help`, and arguments without the program's name in front
 abbrev pub bare_app : App
@@ -71,8 +63,8 @@ bare_app = let a = new_app (codes "arbiter") in
 
 -- the whole grammar: `session`, `verify`, `stub` and `match`
 abbrev pub arbiter_app : Lent → App
-arbiter_app names = with_subcommand (with_subcommand (with_subcommand (with_subcommand bare_app
-    (new_app (codes "session")).top) verify_app.top) stub_app.top) (match_app names).top
+arbiter_app names = fold with_subcommand bare_app
+    ((new_app (codes "session")).top ∷ verify_app.top ∷ stub_app.top ∷ (match_app names).top ∷ [])
 
 -- the arguments, by `clap`'s meaning of the grammar: the subcommand with its matches, `session` with none where no
 -- subcommand is named

@@ -1,12 +1,17 @@
 -- What was parsed, taken as written and planned is a reading of the arguments.
-use Rattle.std.proofs.Common.{◌≡◌, ◌∙◌, ◌≤◌, ap, ap₂, is_ok, is_some, sym, subst, inl, inr, option_map, unwrap_or, [], codes, IfOk, IfErr, IfSome, List, Option, Some, None, Result, Ok, Err, Bor}
+use Rattle.std.proofs.Common.{◌≡◌, ◌∙◌, ◌≤◌, Bool, true, false, refl, ap, ap₂, sym, subst, inl, inr, option_map, unwrap_or, [], codes, IfOk, IfErr, IfSome, List, Option, Some, None, Result, Ok, Err, Bor}
 use Rattle.clap.specs.Words.{HasKind, IsAmong, Kinds, Row, Text, found_of, kind_of, rows_of, subcommand_of, subcommand_rows_of}
 use Rattle.clap.specs.declared.error.Error.{Error}
 use Rattle.clap.specs.declared.parser.matches.ArgMatches.{ArgMatches}
 use Rattle.arbiter_grammar.specs.Grammar.{AreVariants, IsComplete, IsParsed, Lent, arbiter_app, asked, faults_in}
-use Rattle.arbiter_words.specs.Plans.{IsMatchFault, IsMatchPlan, IsPlanOf, IsReadBy, IsReading, is_date, level_asked, start_asked, start_of}
-use Rattle.arbiter_words.specs.ties.Requests.{IsJudged, IsJudgedFault, IsMatchOf, IsPlanFault, IsPlanned, IsRequestOf, Refuses}
-use Rattle.engine_lines.specs.Levels.{level_of}
+use Rattle.arbiter_words.specs.Plans.{IsMatchPlan, IsPlanOf, IsReadBy, IsReading, date_asked, is_date, level_and_start, start_asked, text_or}
+use Rattle.arbiter_words.specs.ties.Requests.{IsJudged, IsJudgedFault, IsMatchOf, IsPlanFault, IsPlanned, IsRequestOf, Refuses, start_of}
+use Rattle.chess_base.specs.declared.fault.FenFault.{FenFault}
+use Rattle.chess_base.specs.declared.setup.Setup.{Setup}
+use Rattle.chess_fen.specs.Reading.{◌>>=◌}
+use Rattle.engine_lines.specs.Levels.{LevelSeen, level_of}
+use Rattle.std.specs.Prelude.{if◌then◌else◌, ok_or}
+use Rattle.std.specs.Result.{result_map_both}
 use Rattle.arbiter_words.specs.declared.plan.MatchPlan.{MatchPlan}
 use Rattle.arbiter_words.specs.declared.fault.WordsFault.{WordsFault}
 use Rattle.arbiter_words.specs.declared.fault.WordsFault.TheVariants.{Words, NoMemory, BadLevel, BadFen, BadDate}
@@ -43,9 +48,23 @@ pub refused_reading : (texts : List Text) (e : Error) (f : WordsFault) → IsPar
 refused_reading texts e f p fits =
     (p.0, p.1, refused_by p.0 texts f (refusal_by (faults_in p.0 texts) e f p.2 fits))
 
+-- level, start and date, read in turn
+abbrev in_turn : Option LevelSeen → Result Setup FenFault → Bool → Result (LevelSeen × Setup) WordsFault
+in_turn level start is_good =
+    ok_or level BadLevel >>= λ l. result_map_both (λ setup. setup) BadFen start >>= λ s.
+    if is_good then Ok (l, s) else Err BadDate
+
+read_as : (rows : List Row) (level : Option LevelSeen) (start : Result Setup FenFault) (is_good : Bool)
+    → level_of (text_or (codes "level") rows (codes "40 5 0")) ≡ level → start_asked rows ≡ start
+    → is_date (date_asked rows) ≡ is_good → level_and_start rows ≡ in_turn level start is_good
+read_as rows level start is_good l s d =
+    ap (λ v. in_turn v (start_asked rows) (is_date (date_asked rows))) l
+    ∙ ap (λ v. in_turn level v (is_date (date_asked rows))) s
+    ∙ ap (in_turn level start) d
+
 -- a match that was taken as written and then judged is played by what its options denote
 module _ (rows : List Row) (m : MatchRequest) (is : IsMatchOf rows m) where
-  level_is : level_asked rows ≡ level_of m.level.now
+  level_is : level_of (text_or (codes "level") rows (codes "40 5 0")) ≡ level_of m.level.now
   level_is = ap level_of (sym is.level)
 
   start_is : start_asked rows ≡ start_of m.variant (option_map (λ t. t.now) m.fen)
@@ -55,30 +74,31 @@ module _ (rows : List Row) (m : MatchRequest) (is : IsMatchOf rows m) where
   match_judged plan validate = record {
     white = is.white ∙ ap (λ (t : Bor Text). Some t.now) (sym validate.white);
     black = is.black ∙ ap (λ (t : Bor Text). Some t.now) (sym validate.black);
-    level = level_is ∙ validate.level;
-    start = start_is ∙ validate.start;
+    read = read_as rows (Some plan.level) (Ok plan.start) true (level_is ∙ validate.level) (start_is ∙ validate.start)
+        (ap is_date (sym is.date) ∙ validate.good_date);
     games = validate.games ∙ is.games;
     games_range = subst (λ n. (1 ≤ n) × (n ≤ 1000)) (sym validate.games) is.games_range;
     date = ap (λ (t : Bor Text). t.now) validate.date ∙ is.date;
-    good_date = ap (λ (t : Bor Text). is_date t.now) validate.date ∙ validate.good_date;
     log = validate.log ∙ is.log;
   }
 
-  judged_fault : (f : WordsFault) → IsJudgedFault m f → IsMatchFault rows f
+  judged_fault : (f : WordsFault) → IsJudgedFault m f → level_and_start rows ≡ Err f
   judged_fault (Words x) h = absurd h
   judged_fault NoMemory h = absurd h
-  judged_fault BadLevel h = level_is ∙ h
-  judged_fault (BadFen x) (l, level, start) = (ap is_some (level_is ∙ level), start_is ∙ start)
+  judged_fault BadLevel h = read_as rows None (start_asked rows) (is_date (date_asked rows)) (level_is ∙ h) refl refl
+  judged_fault (BadFen x) (l, level, start) =
+      read_as rows (Some l) (Err x) (is_date (date_asked rows)) (level_is ∙ level) (start_is ∙ start) refl
   judged_fault BadDate (l, p, level, start, date) =
-      (ap is_some (level_is ∙ level), ap is_ok (start_is ∙ start), ap is_date (sym is.date) ∙ date)
+      read_as rows (Some l) (Ok p) false (level_is ∙ level) (start_is ∙ start) (ap is_date (sym is.date) ∙ date)
 
 match_fault : (names : Lent) (texts : List Text) (f : WordsFault) → faults_in names texts ≡ []
-    → (asked names texts).0 ≡ codes "match" → IsMatchFault (asked names texts).1 f → IsReadBy names texts (Err f)
-match_fault names texts (Words x) none name h = absurd h
-match_fault names texts NoMemory none name h = absurd h
-match_fault names texts BadLevel none name h = (none, (name, h))
-match_fault names texts (BadFen x) none name h = (none, (name, h))
-match_fault names texts BadDate none name h = (none, (name, h))
+    → (asked names texts).0 ≡ codes "match" → (m : MatchRequest) → IsMatchOf (asked names texts).1 m
+    → IsJudgedFault m f → IsReadBy names texts (Err f)
+match_fault names texts (Words x) none name m is h = absurd h
+match_fault names texts NoMemory none name m is h = absurd h
+match_fault names texts BadLevel none name m is h = (none, name, judged_fault _ m is BadLevel h)
+match_fault names texts (BadFen x) none name m is h = (none, name, judged_fault _ m is (BadFen x) h)
+match_fault names texts BadDate none name m is h = (none, name, judged_fault _ m is BadDate h)
 
 planned_plan : (p : Text × List Row) (s : Request) (plan : Plan) → IsRequestOf p s → IsPlanned s plan → IsPlanOf p plan
 planned_plan p request.Session plan is e = subst (IsPlanOf p) (sym e) is
@@ -93,7 +113,7 @@ plan_fault names texts request.Session f none is h = absurd h
 plan_fault names texts (request.Verify v) f none is h = absurd h
 plan_fault names texts (request.Stub words) f none is h = absurd h
 plan_fault names texts (request.Match m) f none is h =
-    match_fault names texts f none is.0 (judged_fault (asked names texts).1 m is.1 f h)
+    match_fault names texts f none is.0 m is.1 h
 
 -- what was taken as written was planned
 pub planned_reading : (names : Lent) (texts : List Text) → AreVariants names → faults_in names texts ≡ []

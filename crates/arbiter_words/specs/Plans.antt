@@ -1,7 +1,8 @@
 -- What a plan has to do with the arguments.
-use Rattle.std.specs.Prelude.{◌≡◌, ◌≤◌, ◌&&◌, ℕ, Bool, List, [], codes, length, map, nat_le, if◌then◌else◌, Option, Some, None, Result, Ok, Err, is_ok, is_some, true, false, unwrap_or, ⊤}
+use Rattle.std.specs.Prelude.{◌≡◌, ◌≤◌, ◌&&◌, ℕ, Bool, List, [], codes, length, map, nat_le, if◌then◌else◌, Some, Result, Ok, Err, unwrap_or, ok_or, ⊤}
 use Rattle.std.specs.List.{list_all}
 use Rattle.std.specs.Option.{option_map_or}
+use Rattle.std.specs.Result.{result_map_both}
 use Rattle.std.specs.Str.{bytes_eq}
 use Rattle.std.specs.Str.Parse.{digits_value, without_leading_plus}
 use Rattle.clap.specs.Words.{IsAmong, Row, Text, all_of, first_of, kind_of}
@@ -13,7 +14,7 @@ use Rattle.arbiter_words.specs.declared.plan.VerifyPlan.{VerifyPlan}
 use Rattle.arbiter_words.specs.declared.fault.WordsFault.{WordsFault}
 use Rattle.arbiter_words.specs.declared.fault.WordsFault.TheVariants.{Words, NoMemory, BadLevel, BadFen, BadDate}
 use Rattle.chess_base.specs.Initial.{initial_setup_of}
-use Rattle.chess_fen.specs.Reading.{fen_reading_as}
+use Rattle.chess_fen.specs.Reading.{◌>>=◌, fen_reading_as}
 use Rattle.chess_base.specs.declared.fault.FenFault.{FenFault}
 use Rattle.chess_base.specs.declared.man.Variant.{Variant}
 use Rattle.chess_base.specs.declared.man.Variant.TheVariants.{Normal, Fischerandom}
@@ -30,13 +31,10 @@ text_or name rows default = unwrap_or (first_of name rows) default
 abbrev pub games_in : List Row → ℕ
 games_in rows = option_map_or (λ t. digits_value 10 (without_leading_plus t)) (first_of (codes "games") rows) 1
 
--- Chess960 for `fischerandom`, normal chess for any other name
-abbrev pub variant_named : Text → Variant
-variant_named name = if bytes_eq name (codes "fischerandom") then Fischerandom else Normal
-
--- the variant, normal chess where none is given
+-- the variant: Chess960 for `fischerandom`, normal chess for any other name or none
 abbrev pub variant_in : List Row → Variant
-variant_in rows = variant_named (text_or (codes "variant") rows (codes "normal"))
+variant_in rows =
+    if bytes_eq (text_or (codes "variant") rows (codes "normal")) (codes "fischerandom") then Fischerandom else Normal
 
 -- a flag was given
 abbrev pub is_set : Text → List Row → Bool
@@ -52,46 +50,35 @@ verify_plan_of rows = record {
 
 -- ---- what it means
 
--- the level of a match, none where its text denotes none
-abbrev pub level_asked : List Row → Option LevelSeen
-level_asked rows = level_of (text_or (codes "level") rows (codes "40 5 0"))
-
 -- the date in each game's tags
 abbrev pub date_asked : List Row → Text
 date_asked rows = text_or (codes "date") rows (codes "????.??.??")
 
 -- the position that a match starts in: what the FEN denotes, or else the variant's initial one
-abbrev pub start_of : Variant → Option Text → Result Setup FenFault
-start_of v None = Ok (initial_setup_of v)
-start_of v (Some text) = fen_reading_as v text
-
--- the position that a match of these options starts in
 abbrev pub start_asked : List Row → Result Setup FenFault
-start_asked rows = start_of (variant_in rows) (first_of (codes "fen") rows)
+start_asked rows = let v = variant_in rows in
+    option_map_or (fen_reading_as v) (first_of (codes "fen") rows) (Ok (initial_setup_of v))
 
 -- a date has at most 60 bytes, from 32 to 126
 abbrev pub is_date : Text → Bool
 is_date text = nat_le (length text) 60 && list_all (λ b. nat_le 32 b && nat_le b 126) text
 
+-- the level of a match and its start; or else the fault of the first of level, FEN and date that isn't in its form
+abbrev pub level_and_start : List Row → Result (LevelSeen × Setup) WordsFault
+level_and_start rows = do
+  level ← ok_or (level_of (text_or (codes "level") rows (codes "40 5 0"))) BadLevel
+  start ← result_map_both (λ setup. setup) BadFen (start_asked rows)
+  if is_date (date_asked rows) then Ok (level, start) else Err BadDate
+
 -- a match is played by what its options denote, as given or by default
 pub record IsMatchPlan (rows : List Row) (plan : MatchPlan) : Type 0 where
   pub white : first_of (codes "white") rows ≡ Some plan.white.now
   pub black : first_of (codes "black") rows ≡ Some plan.black.now
-  pub level : level_asked rows ≡ Some plan.level
-  pub start : start_asked rows ≡ Ok plan.start
+  pub read : level_and_start rows ≡ Ok (plan.level, plan.start)
   pub games : plan.games ≡ games_in rows
   pub games_range : (1 ≤ plan.games) × (plan.games ≤ 1000)
   pub date : plan.date.now ≡ date_asked rows
-  pub good_date : is_date plan.date.now ≡ true
   pub log : plan.log ≡ is_set (codes "log") rows
-
--- the fault is that of the first of level, FEN and date that isn't in its form
-abbrev pub IsMatchFault : List Row → WordsFault → Type 0
-IsMatchFault rows BadLevel = level_asked rows ≡ None
-IsMatchFault rows (BadFen fault) = (is_some (level_asked rows) ≡ true) × (start_asked rows ≡ Err fault)
-IsMatchFault rows BadDate = (is_some (level_asked rows) ≡ true) × (is_ok (start_asked rows) ≡ true)
-    × (is_date (date_asked rows) ≡ false)
-IsMatchFault rows _ = ⊥
 
 -- the plan is what the arguments ask for
 abbrev pub IsPlanOf : Text × List Row → Plan → Type 0
@@ -101,17 +88,15 @@ IsPlanOf p (Stub words) = (p.0 ≡ codes "stub")
     × (map (λ w. w.now) words.items ≡ unwrap_or (all_of (codes "words") p.1) [])
 IsPlanOf p (Match plan) = (p.0 ≡ codes "match") × IsMatchPlan p.1 plan
 
--- a level, FEN or date out of its form is reported only where a match was asked for by it
-abbrev pub IsFaultOf : Text × List Row → WordsFault → Type 0
-IsFaultOf p fault = (p.0 ≡ codes "match") × IsMatchFault p.1 fault
-
--- a plan, or a level, FEN or date out of its form, is returned only for arguments in which `clap` finds no fault; for
--- others, one of the faults that it may find in them. Out of memory may be reported for any arguments
+-- a plan is returned only for arguments in which `clap` finds no fault; so is a level, FEN or date out of its form, and
+-- that only of a match. For others, one of the faults that `clap` may find in them is. Out of memory may be reported for
+-- any arguments
 abbrev pub IsReadBy : Lent → List Text → Result Plan WordsFault → Type 0
 IsReadBy names words (Ok plan) = (faults_in names words ≡ []) × IsPlanOf (asked names words) plan
 IsReadBy names words (Err (Words e)) = IsAmong (kind_of e) (faults_in names words)
 IsReadBy names words (Err NoMemory) = ⊤
-IsReadBy names words (Err f) = (faults_in names words ≡ []) × IsFaultOf (asked names words) f
+IsReadBy names words (Err f) = (faults_in names words ≡ []) × ((asked names words).0 ≡ codes "match")
+    × (level_and_start (asked names words).1 ≡ Err f)
 
 -- the arguments are read by the grammar
 abbrev pub IsReading : List Text → Result Plan WordsFault → Type 0

@@ -2,8 +2,8 @@
 
 ghost use Rattle.std.specs.Prelude.{◌≡◌, ◌&&◌, IfErr, IfOk, nat_le, option_map};
 ghost use Rattle.std.specs.List.{list_all};
-ghost use Rattle.arbiter_words.specs.Plans.{is_date as date_test, start_of};
-ghost use Rattle.arbiter_words.specs.ties.Requests.{IsJudged, IsJudgedFault, IsPlanFault, IsPlanned};
+ghost use Rattle.arbiter_words.specs.Plans.{is_date as date_test};
+ghost use Rattle.arbiter_words.specs.ties.Requests.{IsJudged, IsJudgedFault, IsPlanFault, IsPlanned, start_of};
 
 use crate::fault::WordsFault;
 use crate::request::{MatchRequest, Request};

@@ -3,7 +3,7 @@
 ghost use Rattle.std.specs.Prelude.{◌≡◌, ◌≤◌, [], IfOk, IfSome, IsSome, true, codes, is_some, map, option_map, unwrap_or};
 ghost use Rattle.clap.specs.Words.{all_of, first_of, found_of, rows_of, subcommand_rows_of};
 ghost use Rattle.arbiter_grammar.specs.Grammar.{HasGames, IsCommand, NamesBoth};
-ghost use Rattle.arbiter_words.specs.Plans.{games_in, is_set, text_or, variant_in, variant_named, verify_plan_of};
+ghost use Rattle.arbiter_words.specs.Plans.{games_in, is_set, text_or, variant_in, verify_plan_of};
 ghost use Rattle.arbiter_words.specs.ties.Requests.{IsMatchOf, IsRequestOf};
 
 use crate::plan::VerifyPlan;
@@ -87,22 +87,15 @@ fn games_of(found: &ArgMatches<'_>) -> u16
     }
 }
 
-// The variant of that name.
-fn variant_named(name: &str) -> Variant
-    ensures { result ≡ variant_named name.now }
-{
-    if name == "fischerandom" {
-        Variant::Fischerandom
-    } else {
-        Variant::Normal
-    }
-}
-
 // The variant.
 fn variant_of(found: &ArgMatches<'_>) -> Variant
     ensures { result ≡ variant_in (rows_of (found_of found.now)) }
 {
-    variant_named(text_or(found, "variant", "normal"))
+    if text_or(found, "variant", "normal") == "fischerandom" {
+        Variant::Fischerandom
+    } else {
+        Variant::Normal
+    }
 }
 
 fn match_request<'a>(found: &ArgMatches<'a>) -> Option<MatchRequest<'a>>

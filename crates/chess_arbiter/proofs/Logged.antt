@@ -12,13 +12,15 @@ use Rattle.byte_devices.specs.Devices.{OutputState, Sent, Sends, risen}
 use Rattle.byte_devices.proofs.DeviceLaws.{appends_more}
 use Rattle.chess_game.specs.Game.{Seen}
 use Rattle.engine_lines.specs.Levels.{LevelSeen}
-use Rattle.chess_match.specs.Notes.{Note, WasNoted, notes_of}
+use Rattle.chess_base.specs.Men.{same_colour}
+use Rattle.chess_match.specs.Match.{Line}
+use Rattle.chess_match.specs.Notes.{Note, Happened, WasNoted, notes_of}
 use Rattle.chess_match.specs.Rules.{rules_of}
 use Rattle.chess_match.specs.Run.{Flushed, FlushedThenFailed, Ports, RanBefore}
 use Rattle.chess_match.specs.declared.run.MatchEnd.{MatchEnd}
 use Rattle.chess_match.proofs.Flushes.{flushed_none, flushed_more, failed_behind}
-use Rattle.chess_arbiter.specs.Log.{LogSeen, Logged, Logs, RanLogged, after_note, ends_line, given_text, log_from, log_start, log_text, note_text, shown}
-use Rattle.chess_arbiter.specs.ties.Logging.{Adds, IsLog, after_notes, first_of_text, log_of_text, text_of_log}
+use Rattle.chess_arbiter.specs.Log.{LogSeen, Logged, Logs, RanLogged, after_note, ends_line, given_text, log_from, log_text, note_text, shown}
+use Rattle.chess_arbiter.specs.ties.Logging.{Adds, IsLog, after_notes, first_of_text, log_of_text, log_start, received_text, text_of_log}
 use Rattle.chess_arbiter.specs.declared.log.LogState.{LogState}
 use Rattle.chess_arbiter.specs.declared.log.Pending.{Pending}
 
@@ -27,7 +29,7 @@ use Rattle.chess_arbiter.specs.declared.log.Pending.{Pending}
 -- nothing was logged
 pub logs_none : (b : Bool) (o : OutputState) → Logs b b o o [] []
 logs_none false o = ([], flushed_none o, refl)
-logs_none true o = refl
+logs_none true o = (refl, refl)
 
 flushed_sent : (o o' : OutputState) (text : List ℕ) → Sent o o' text → Flushed o o' text
 flushed_sent o o' text s = record { bytes = s.bytes; failures = s.failures; unflushed = λ e. s.flushed }
@@ -61,8 +63,7 @@ logs_pending false true o o' pending text more (written, start, (rest, is), fail
   (rest ++ more, sym (append_assoc (written ++ start) rest more) ∙ ap (λ (l : List ℕ). l ++ more) is),
   failed,
 )
-logs_pending true false o o' pending text more h = absurd h
-logs_pending true true o o' pending text more h = h
+logs_pending true b' o o' pending text more h = h
 
 -- the pending bytes were logged
 logs_flushed : (b b' b'' : Bool) (o o' o'' : OutputState) (pending text : List ℕ) → Logs b b' o o' pending text
@@ -82,12 +83,11 @@ logs_flushed false false true o o' o'' pending text (x, h, is) (y, start, (rest,
   ),
   failed_more o o' o'' x y start h k,
 )
-logs_flushed false true false o o' o'' pending text h k = absurd k
-logs_flushed false true true o o' o'' pending text h k =
-    subst (λ (v : OutputState). Logs false true o v [] text) (sym k) h
-logs_flushed true false b'' o o' o'' pending text h k = absurd h
-logs_flushed true true false o o' o'' pending text h k = absurd k
-logs_flushed true true true o o' o'' pending text h k = k ∙ h
+logs_flushed false true b'' o o' o'' pending text h (broken, same) =
+    subst (λ (b : Bool). Logs false b o o'' [] text) (sym broken)
+    (subst (λ (v : OutputState). Logs false true o v [] text) (sym same) h)
+logs_flushed true b' b'' o o' o'' pending text (broken, same) k =
+    let (still, kept) = subst (λ (b : Bool). Logs b b'' o' o'' [] pending) broken k in (still, kept ∙ same)
 
 -- a text was logged, and then another
 pub logged_more : (l l' l'' : LogSeen) (x y : List ℕ) → Logged l l' x → Logged l' l'' y → Logged l l'' (x ++ y)
@@ -177,6 +177,12 @@ state_more : (s : LogState) (notes : List Note) (n : Note) → after_notes s (no
     ≡ after_note (after_notes s notes) n
 state_more s [] n = refl
 state_more s (x ∷ notes) n = state_more (after_note s x) notes n
+
+-- what is written of a line that an engine sends is its note's text
+pub received_note : (first : Colour) (s : LogState) (c : Colour) (text : Option (List ℕ)) (now : ℕ)
+    → received_text now (same_colour c first) text ≡ note_text first s (Happened (Line c text now))
+received_note first s c (Some text) now = refl
+received_note first s c None now = refl
 
 -- no note was logged yet
 pub log_begun : (first side : Colour) (o o' : OutputState) (p p' : Pending) (s : LogState) → side ≡ first → o' ≡ o

@@ -35,11 +35,11 @@ refused_word : (words : List Text) (name : Text) (fault : WordsFault) → AskFor
 refused_word ws name (words.Words e) a other (names, are, among) =
     absurd (subst (IsAmong (kind_of e)) (a.taken names) among)
 refused_word ws name words.NoMemory a other is = tt
-refused_word ws name words.BadLevel a other (names, are, (none, (named, h))) =
+refused_word ws name words.BadLevel a other (names, are, (none, named, h)) =
     absurd (other (sym (a.named names) ∙ named))
-refused_word ws name (words.BadFen f) a other (names, are, (none, (named, h))) =
+refused_word ws name (words.BadFen f) a other (names, are, (none, named, h)) =
     absurd (other (sym (a.named names) ∙ named))
-refused_word ws name words.BadDate a other (names, are, (none, (named, h))) =
+refused_word ws name words.BadDate a other (names, are, (none, named, h)) =
     absurd (other (sym (a.named names) ∙ named))
 
 no_match_by_session : codes "session" ≡ codes "match" → ⊥

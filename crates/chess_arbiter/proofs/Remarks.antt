@@ -1,32 +1,61 @@
 -- What a stub says after its move, remark by remark.
-use Rattle.std.proofs.Common.{◌≡◌, ◌∙◌, ◌<◌, ◌≤◌, ◌+◌, ℕ, Bor, Bool, true, false, List, [], ◌∷◌, ◌++◌, length, drop, get_or, is_some, option_map, Option, Some, None, Result, IsErr, if◌then◌else◌, refl, sym, ap, append_assoc, append-nil, subst}
+use Rattle.std.proofs.Common.{◌≡◌, ◌∙◌, ◌<◌, ◌≤◌, ◌+◌, ℕ, suc, Bor, Bool, true, false, List, [], ◌∷◌, ◌++◌, length, drop, get_or, is_some, option_map, Option, Some, None, unwrap_or, Result, IsErr, if◌then◌else◌, refl, sym, ap, append_assoc, append-nil, subst, arith}
 use Rattle.std.proofs.lemmas.List.{drop_more, at_drop_all}
 use Rattle.byte_devices.specs.Devices.{OutputState, Took, BreaksOff, Puts}
 use Rattle.byte_devices.proofs.DeviceLaws.{took_none, took_more, breaks_more, breaks_longer, puts_exit}
-use Rattle.std.specs.Prelude.{codes}
+use Rattle.std.specs.Prelude.{codes, cond, flat_map, take}
+use Rattle.std.specs.List.{prefix_len}
 use Rattle.std.specs.Str.{bytes_eq}
 use Rattle.chess_cecp.specs.Serving.{Response}
-use Rattle.chess_arbiter.specs.Stub.{StubState, Words, before_others, after_remarks, played_text, remark, remarks, turn}
+use Rattle.chess_arbiter.specs.Stub.{StubState, Words, after_remarks, is_remark, played_text, remark, remarks, turn}
 
 -- ---- arguments
+
+-- what is said for one
+abbrev said_of : Bor (List ℕ) → List ℕ
+said_of word = unwrap_or (remark word.now) []
 
 remarks_none : remarks [] ≡ []
 unfolding remarks
 remarks_none = refl
 
+-- a line before others, if there is one
+abbrev before_others : Option (List ℕ) → List ℕ → List ℕ
+before_others None others = []
+before_others (Some text) others = text ++ others
+
+one_suc : (n : ℕ) → 1 + n ≡ suc n
+one_suc n = omega arith
+
+remarks_by : (word : Bor (List ℕ)) (words : Words) (o : Option (List ℕ)) → remark word.now ≡ o
+    → remarks (word ∷ words) ≡ before_others o (remarks words)
+unfolding remarks
+remarks_by word words None e =
+    ap (λ b. flat_map said_of (take (cond b (1 + prefix_len is_remark words) 0) (word ∷ words))) (ap is_some e)
+remarks_by word words (Some text) e =
+    ap (λ b. flat_map said_of (take (cond b (1 + prefix_len is_remark words) 0) (word ∷ words))) (ap is_some e)
+    ∙ ap (λ k. flat_map said_of (take k (word ∷ words))) (one_suc (prefix_len is_remark words))
+    ∙ ap (λ o. unwrap_or o [] ++ flat_map said_of (take (prefix_len is_remark words) words)) e
+
 remarks_one : (word : Bor (List ℕ)) (words : Words)
     → remarks (word ∷ words) ≡ before_others (remark word.now) (remarks words)
-unfolding remarks
-remarks_one word words = refl
+remarks_one word words = remarks_by word words (remark word.now) refl
 
 after_none : after_remarks [] ≡ []
 unfolding after_remarks
 after_none = refl
 
+after_by : (word : Bor (List ℕ)) (words : Words) (b : Bool) → is_remark word ≡ b
+    → after_remarks (word ∷ words) ≡ (if b then after_remarks words else word ∷ words)
+unfolding after_remarks
+after_by word words true e =
+    ap (λ b. drop (cond b (1 + prefix_len is_remark words) 0) (word ∷ words)) e
+    ∙ ap (λ k. drop k (word ∷ words)) (one_suc (prefix_len is_remark words))
+after_by word words false e = ap (λ b. drop (cond b (1 + prefix_len is_remark words) 0) (word ∷ words)) e
+
 after_one : (word : Bor (List ℕ)) (words : Words)
     → after_remarks (word ∷ words) ≡ (if is_some (remark word.now) then after_remarks words else word ∷ words)
-unfolding after_remarks
-after_one word words = refl
+after_one word words = after_by word words (is_remark word) refl
 
 -- ---- so far
 

@@ -1,6 +1,6 @@
 -- What a log of a match holds: a line for each line that an engine sends or is sent, as XBoard's debug file has them.
-use Rattle.std.specs.Prelude.{◌≡◌, ℕ, ◌==◌, ◌&&◌, nat_le, Bool, true, false, if◌then◌else◌, List, [], ◌∷◌, ◌++◌, map, codes, decimal, Option, Some, None}
-use Rattle.chess_base.specs.Letters.{new_line}
+use Rattle.std.specs.Prelude.{◌≡◌, ℕ, ◌==◌, ◌&&◌, nat_le, Bool, true, false, if◌then◌else◌, List, [], ◌∷◌, ◌++◌, fold, map, codes, decimal, Option, Some, None}
+use Rattle.chess_base.specs.Letters.{byte, new_line}
 use Rattle.chess_base.specs.declared.man.Colour.{Colour}
 use Rattle.chess_base.specs.Men.{same_colour}
 use Rattle.chess_base.specs.declared.setup.Setup.{Setup}
@@ -19,14 +19,13 @@ use Rattle.chess_arbiter.specs.declared.log.LogState.{LogState}
 
 -- a byte as it is shown: one outside 32 to 126 as a question mark
 abbrev pub shown : ℕ → ℕ
-shown b = if nat_le 32 b && nat_le b 126 then b else 63
+shown b = if nat_le 32 b && nat_le b 126 then b else byte "?"
 
 -- the engine of `--white` is the first, whichever side it has
 abbrev pub engine_text : Bool → List ℕ
-engine_text true = codes "first : "
-engine_text false = codes "second: "
+engine_text is_first = if is_first then codes "first : " else codes "second: "
 
--- what a line begins with: the milliseconds, a mark (the byte of `<` or `!`), and which engine
+-- what a line begins with: the milliseconds, a mark (`<`, `>` or `!`), and which engine
 abbrev pub head : ℕ → ℕ → Bool → List ℕ
 head moment mark is_first = decimal moment ++ ((32 ∷ mark ∷ []) ++ engine_text is_first)
 
@@ -41,54 +40,38 @@ given_text front at_start (b ∷ bs) =
     (if at_start then front else [])
     ++ ((if b == new_line then new_line else shown b) ∷ given_text front (b == new_line) bs)
 
--- whether the byte after these begins a line
+-- whether the byte after these begins a line: the last of them is byte 10, or there is none and it did before
 abbrev pub ends_line : Bool → List ℕ → Bool
-ends_line at_start [] = at_start
-ends_line at_start (b ∷ bs) = ends_line (b == new_line) bs
+ends_line at_start text = fold (λ before b. b == new_line) at_start text
 
 -- ---- notes
 
--- what is written of a line that an engine sends
-abbrev pub received_text : ℕ → Bool → Option (List ℕ) → List ℕ
-received_text moment is_first (Some text) = log_line moment 60 is_first text
-received_text moment is_first None = log_line moment 33 is_first (codes "line too long")
-
--- what is written of an event: `<` marks what an engine sends, and `!` all else
-abbrev pub event_text : Colour → ℕ → Event → List ℕ
-event_text first moment (Line c text now) = received_text now (same_colour c first) text
-event_text first moment (Opened c now) = []
-event_text first moment (OutputEnds c) = log_line moment 33 (same_colour c first) (codes "output ended")
-event_text first moment (FailsToRead c) = log_line moment 33 (same_colour c first) (codes "read failed")
-event_text first moment (FailsToWrite c) = log_line moment 33 (same_colour c first) (codes "write failed")
-
--- what is written of a note; `>` marks what an engine is sent
+-- what is written of a note, by the moment of the last event before it: `<` marks what an engine sends, `>` what it is
+-- sent, and `!` all else
 abbrev pub note_text : Colour → LogState → Note → List ℕ
-note_text first s (Happened e) = event_text first s.moment e
-note_text first s (Gives c text) = given_text (head s.moment 62 (same_colour c first)) s.at_start text
+note_text first s (Happened (Line c (Some text) now)) = log_line now (byte "<") (same_colour c first) text
+note_text first s (Happened (Line c None now)) = log_line now (byte "!") (same_colour c first) (codes "line too long")
+note_text first s (Happened (Opened c now)) = []
+note_text first s (Happened (OutputEnds c)) = log_line s.moment (byte "!") (same_colour c first) (codes "output ended")
+note_text first s (Happened (FailsToRead c)) = log_line s.moment (byte "!") (same_colour c first) (codes "read failed")
+note_text first s (Happened (FailsToWrite c)) = log_line s.moment (byte "!") (same_colour c first) (codes "write failed")
+note_text first s (Gives c text) = given_text (head s.moment (byte ">") (same_colour c first)) s.at_start text
 
 -- the moment of the last event, and whether the next byte begins a line
-abbrev pub after_event : LogState → Event → LogState
-after_event s (Line c text now) = record { moment = now; at_start = true }
-after_event s (Opened c now) = record { moment = now; at_start = s.at_start }
-after_event s _ = record { moment = s.moment; at_start = true }
-
--- the state of the log after a note
 abbrev pub after_note : LogState → Note → LogState
-after_note s (Happened e) = after_event s e
-after_note s (Gives c text) = record { moment = s.moment; at_start = ends_line s.at_start text }
+after_note s (Happened (Line c text now)) = record { moment = now; at_start = true }
+after_note s (Happened (Opened c now)) = record s { moment = now }
+after_note s (Happened _) = record s { at_start = true }
+after_note s (Gives c text) = record s { at_start = ends_line s.at_start text }
 
 -- the log of these notes, from that state on
 abbrev pub log_from : Colour → LogState → List Note → List ℕ
 log_from first s [] = []
 log_from first s (n ∷ notes) = note_text first s n ++ log_from first (after_note s n) notes
 
--- the state before a game: moment 0, at the beginning of a line
-abbrev pub log_start : LogState
-log_start = record { moment = 0; at_start = true }
-
--- the whole log of a match in which the first engine has that side
+-- the whole log of a match in which the first engine has that side; the moment before the first event is 0
 abbrev pub log_text : Colour → List Note → List ℕ
-log_text first notes = log_from first log_start notes
+log_text first notes = log_from first (record { moment = 0; at_start = true }) notes
 
 -- ---- the output
 
@@ -108,8 +91,7 @@ abbrev pub Logs : Bool → Bool → OutputState → OutputState → List ℕ →
 Logs false false o o' pending text = (written : List ℕ) × Flushed o o' written × (written ++ pending ≡ text)
 Logs false true o o' pending text =
     (written : List ℕ) × (start : List ℕ) × Begins (written ++ start) text × FlushedThenFailed o o' written start
-Logs true false o o' pending text = ⊥
-Logs true true o o' pending text = o' ≡ o
+Logs true broken o o' pending text = (broken ≡ true) × (o' ≡ o)
 
 -- the text was logged, and no byte of it is pending
 abbrev pub Logged : LogSeen → LogSeen → List ℕ → Type 0

@@ -1,5 +1,5 @@
 -- What the program does with its arguments and its devices.
-use Rattle.std.specs.Prelude.{◌≡◌, ◌≢◌, ◌⊎◌, ℕ, Bool, true, false, List, Result, Ok, Err}
+use Rattle.std.specs.Prelude.{◌≡◌, ◌≢◌, ◌⊎◌, ℕ, Bool, true, false, if◌then◌else◌, List, Result, Ok, Err, is_ok}
 use Rattle.clap.specs.Words.{Text, kind_of}
 use Rattle.clap.specs.declared.error.kind.ErrorKind.TheVariants.{DisplayHelp, DisplayVersion}
 use Rattle.arbiter_words.specs.Plans.{IsReading}
@@ -28,14 +28,13 @@ use Rattle.pgn_verifier.specs.Verify.{Verifies}
 use Rattle.chess_arbiter.specs.Games.{RanGames}
 use Rattle.chess_arbiter.specs.declared.games.GamesFault.{GamesFault}
 use Rattle.chess_arbiter.specs.Log.{LogSeen}
-use Rattle.chess_arbiter.specs.Stub.{beginning, stub_response}
+use Rattle.chess_arbiter.specs.Stub.{stub_response, waiting}
 use Rattle.chess_arbiter.specs.declared.fault.ProgramFault.TheVariants.{WrongWords}
 use Rattle.chess_game.specs.declared.game.TheConstants.{MOST_MOVES}
 
 -- the exit status of what may fail: 1 where it did
 abbrev pub status_of : {A E : Type 0} → Result A E → ℕ
-status_of (Ok _) = 0
-status_of (Err _) = 1
+status_of result = if is_ok result then 0 else 1
 
 -- the exit status of a fault of the program: 2 for invalid arguments, else 1
 abbrev pub fault_status : ProgramFault → ℕ
@@ -102,7 +101,7 @@ abbrev pub RanPlan : Result Plan WordsFault → InputState → InputState → Ou
     → Type 0
 RanPlan (Ok Session) r r' w w' l l' status = RanSession r r' w w' status
 RanPlan (Ok (Verify plan)) r r' w w' l l' status = RanVerify plan r r' w w' status
-RanPlan (Ok (Stub words)) r r' w w' l l' status = RanServer stub_response (beginning words.items) r r' w w' status
+RanPlan (Ok (Stub words)) r r' w w' l l' status = RanServer stub_response (waiting words.items) r r' w w' status
 RanPlan (Ok (Match plan)) r r' w w' l l' status = (r' ≡ r) × RanMatch plan w w' l l' status
 RanPlan (Err fault) r r' w w' l l' status = (r' ≡ r) × ReportsArguments fault w w' status
 

@@ -1,5 +1,6 @@
 -- An engine that plays the arguments that it is given.
-use Rattle.std.specs.Prelude.{Bool, true, false, if◌then◌else◌, List, [], ◌∷◌, ◌++◌, codes, decimal, ℕ, Option, Some, None, is_some}
+use Rattle.std.specs.Prelude.{Bool, true, false, if◌then◌else◌, List, [], ◌∷◌, ◌++◌, drop, flat_map, take_while, codes, decimal, ℕ, Option, Some, None, is_some, unwrap_or}
+use Rattle.std.specs.List.{prefix_len}
 use Rattle.chess_base.specs.Letters.{new_line}
 use Rattle.std.specs.Borrow.{Bor}
 use Rattle.std.specs.Str.{bytes_eq}
@@ -18,9 +19,17 @@ pub record StubState : Type 0 where
   pub words : Words
   pub plays : Bool
 
--- at its beginning
-abbrev pub beginning : Words → StubState
-beginning words = record { words = words; plays = false }
+-- a stub that plays no side, with these arguments left
+abbrev pub waiting : Words → StubState
+waiting words = record { words = words; plays = false }
+
+-- a stub that plays a side, with these arguments left
+abbrev pub playing : Words → StubState
+playing words = record { words = words; plays = true }
+
+-- a text is said, and this is the state after it
+abbrev pub says : StubState → List ℕ → Response StubState
+says s text = record { text = text; state = s; ends = false }
 
 -- ---- a turn
 
@@ -31,51 +40,30 @@ remark word =
     else if bytes_eq word (codes "claim") then Some (codes "1/2-1/2 {Draw by repetition}" ++ new_line ∷ [])
     else None
 
--- a line before others, if there is one
-abbrev pub before_others : Option (List ℕ) → List ℕ → List ℕ
-before_others None others = []
-before_others (Some text) others = text ++ others
+-- the argument is a remark
+abbrev pub is_remark : Bor (List ℕ) → Bool
+is_remark word = is_some (remark word.now)
 
 -- what is said for the arguments after a move: for the first ones that are remarks
 unfoldable pub remarks : Words → List ℕ
-remarks [] = []
-remarks (word ∷ words) = before_others (remark word.now) (remarks words)
+remarks words = flat_map (λ word. unwrap_or (remark word.now) []) (take_while is_remark words)
 
 -- the arguments after those
 unfoldable pub after_remarks : Words → Words
-after_remarks [] = []
-after_remarks (word ∷ words) = if is_some (remark word.now) then after_remarks words else word ∷ words
+after_remarks words = drop (prefix_len is_remark words) words
 
--- what is said for an argument that is played
+-- what is said for an argument that is played: `resign` as it is, any other as a move
 abbrev pub played_text : List ℕ → List ℕ
-played_text word =
-    if bytes_eq word (codes "resign") then codes "resign" ++ new_line ∷ []
-    else codes "move " ++ (word ++ new_line ∷ [])
+played_text word = (if bytes_eq word (codes "resign") then [] else codes "move ") ++ (word ++ new_line ∷ [])
 
 -- a turn: the next argument is played, and with none left it resigns
 abbrev pub turn : Words → Response StubState
-turn [] = record { text = codes "resign" ++ new_line ∷ []; state = record { words = []; plays = true }; ends = false }
+turn [] = says (playing []) (codes "resign" ++ new_line ∷ [])
 turn (word ∷ words) =
-    if bytes_eq word.now (codes "end") then record {
-      text = codes "mov";
-      state = record { words = words; plays = true };
-      ends = true;
-    }
-    else record {
-      text = played_text word.now ++ remarks words;
-      state = record { words = after_remarks words; plays = true };
-      ends = false;
-    }
+    if bytes_eq word.now (codes "end") then record (says (playing words) (codes "mov")) { ends = true }
+    else says (playing (after_remarks words)) (played_text word.now ++ remarks words)
 
 -- ---- a line
-
--- a text is said, and nothing changes
-abbrev pub says : StubState → List ℕ → Response StubState
-says s text = record { text = text; state = s; ends = false }
-
--- the stub plays no side
-abbrev pub stopped : StubState → StubState
-stopped s = record { words = s.words; plays = false }
 
 -- the reply to `protover`
 abbrev pub features : List ℕ
@@ -89,12 +77,12 @@ moved s = if s.plays then turn s.words else says s []
 abbrev pub row : StubState → List ℕ → Command → Response StubState
 row s text (Protover n) = says s features
 row s text (Ping n) = says s (codes "pong " ++ (decimal n ++ new_line ∷ []))
-row s text New = says (stopped s) []
+row s text New = says (waiting s.words) []
 row s text Go = turn s.words
 row s text UserMove = moved s
 row s text Unknown = if bytes_eq (word_of text) (codes "usermove") then moved s else says s []
-row s text Quit = record { text = []; state = s; ends = true }
-row s text Silent = if bytes_eq (word_of text) (codes "force") then says (stopped s) [] else says s []
+row s text Quit = record (says s []) { ends = true }
+row s text Silent = if bytes_eq (word_of text) (codes "force") then says (waiting s.words) [] else says s []
 row s text _ = says s []
 
 -- of a line that is too long it says nothing

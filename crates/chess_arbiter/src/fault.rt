@@ -65,6 +65,14 @@ pub(crate) fn report<E: Output, D: Display>(errors: &mut E, fault: &D) {
     }
 }
 
+// Writes a fault of the program, and returns it.
+pub(crate) fn reported_fault<E: Output>(errors: &mut E, fault: ProgramFault) -> ProgramFault
+    ensures { result ≡ fault }
+{
+    report(errors, &fault);
+    fault
+}
+
 // Writes a fault, and returns that status.
 pub(crate) fn reported<E: Output, D: Display>(errors: &mut E, fault: &D, status: u8) -> u8
     ensures { result ≡ status }

@@ -1,19 +1,19 @@
 //! The games of a match, one after another.
 
-ghost use Rattle.std.specs.Prelude.{◌≡◌, ◌⊎◌, [], IfErr, IfOk};
+ghost use Rattle.std.specs.Prelude.{◌≡◌, ◌≤◌, ◌⊎◌, [], IfErr, IfOk};
 ghost use Rattle.byte_devices.specs.Devices.{Sends};
 ghost use Rattle.chess_match.specs.Reasons.{by_colour, comment_of};
 ghost use Rattle.chess_match.specs.Run.{Ports};
 ghost use Rattle.chess_match.specs.declared.reason.Reason.TheVariants.{Faulted};
 ghost use Rattle.chess_pgn.specs.GameText.{pgn};
-ghost use Rattle.chess_arbiter.specs.Games.{FailsToStart, RanGames, black_command, first_side, is_odd, name_of, score_line, tags_of, white_command};
-ghost use Rattle.chess_arbiter.specs.ties.Playing.{HasPlayed, IsMatchEndOf, PlayedOne, Relayed, ReportsStart, logged_side};
+ghost use Rattle.chess_arbiter.specs.Games.{RanGames, command_of, first_side, name_of, score_line, tags_of};
+ghost use Rattle.chess_arbiter.specs.ties.Playing.{FailsToStart, HasPlayed, IsMatchEndOf, PlayedOne, Relayed, ReportsStart, logged_side};
 ghost use Rattle.chess_arbiter.specs.Log.{log_seen};
 ghost use Rattle.chess_game.specs.declared.game.TheConstants.{MOST_MOVES};
 
 use crate::engine::{Engine, StartFault, finish, start};
 use crate::fault::ProgramFault;
-use crate::log::{Log, run_match_logged};
+use crate::log::{Log, is_side, run_match_logged};
 use crate::moments::SinceStart;
 use crate::output::send;
 use crate::score::Score;
@@ -57,32 +57,25 @@ fn fault_text(side: Colour, fault: MatchFault) -> &'static str
     }
 }
 
-// Whether the first engine has White.
-fn is_odd(number: u32) -> bool
-    ensures { result ≡ is_odd number }
+// The side of the first engine.
+fn first_side(number: u32) -> Colour
+    ensures { result ≡ first_side number }
 {
-    number % 2 == 1
-}
-
-// The command of White's engine.
-fn white_command<'a>(plan: &MatchPlan<'a>, number: u32) -> &'a str
-    ensures { result.now ≡ white_command plan.now number }
-{
-    if is_odd(number) {
-        plan.white
+    if number % 2 == 1 {
+        Colour::White
     } else {
-        plan.black
+        Colour::Black
     }
 }
 
-// The command of Black's engine.
-fn black_command<'a>(plan: &MatchPlan<'a>, number: u32) -> &'a str
-    ensures { result.now ≡ black_command plan.now number }
+// The command of the engine that has that side.
+fn command_of<'a>(plan: &MatchPlan<'a>, number: u32, side: Colour) -> &'a str
+    ensures { result.now ≡ command_of plan.now number side }
 {
-    if is_odd(number) {
-        plan.black
-    } else {
+    if is_side(side, first_side(number)) {
         plan.white
+    } else {
+        plan.black
     }
 }
 
@@ -108,20 +101,9 @@ fn tags_of(plan: &MatchPlan<'_>, number: u32, end: &MatchEnd) -> Tags
         site: TagText::cut(b"?"),
         date: TagText::cut(plan.date.as_bytes()),
         round: TagText::cut(buffer.format(number).as_bytes()),
-        white: name_of(&end.white_name, white_command(plan, number)),
-        black: name_of(&end.black_name, black_command(plan, number)),
+        white: name_of(&end.white_name, command_of(plan, number, Colour::White)),
+        black: name_of(&end.black_name, command_of(plan, number, Colour::Black)),
         ended: end.ended,
-    }
-}
-
-// The side of the first engine.
-fn first_side(number: u32) -> Colour
-    ensures { result ≡ first_side number }
-{
-    if is_odd(number) {
-        Colour::White
-    } else {
-        Colour::Black
     }
 }
 
@@ -293,8 +275,8 @@ fn play_one<'a, 't, P: Processes + Clock, M: Moments, W: Output, E: Output>(
     let (white, black) = match start_both(
         rt,
         alloc,
-        white_command(plan, number),
-        black_command(plan, number),
+        command_of(plan, number, Colour::White),
+        command_of(plan, number, Colour::Black),
     ) {
         Ok(engines) => engines,
         Err(fault) => return Err(fault),
@@ -319,6 +301,14 @@ struct GamesPlayed {
     fault: Option<(u32, Colour, MatchFault)>,
 }
 
+// How many games are to be played.
+fn game_count(plan: &MatchPlan<'_>) -> u32
+    ensures value { result ≡ plan.now.games }
+    ensures few { result ≤ 65535 }
+{
+    u32::from(plan.games)
+}
+
 // Plays game after game, up to the first with a fault.
 fn play_each<'a, 't, P: Processes + Clock, M: Moments, W: Output, E: Output>(
     rt: &P,
@@ -337,13 +327,13 @@ fn play_each<'a, 't, P: Processes + Clock, M: Moments, W: Output, E: Output>(
 {
     let mut score = Score::new();
     let mut number: u32 = 0;
-    while number < u32::from(plan.games) {
+    while number < game_count(plan) {
         number += 1;
         let end = match play_one(rt, alloc, plan, number, moments, game, scratch, output, log) {
             Ok(end) => end,
             Err(fault) => return Err(fault),
         };
-        score = score.after(is_odd(number), end.outcome);
+        score = score.after(first_side(number), end.outcome);
         if let Some((side, fault)) = end.fault {
             return Ok(GamesPlayed {
                 score,

@@ -3,12 +3,12 @@
 ghost use Rattle.std.specs.Prelude.{◌≡◌, ◌==◌, ◌<◌, ◌∷◌, ◌++◌, [], List, ℕ, decimal, false, true, if◌then◌else◌, map};
 ghost use Rattle.arrayvec.specs.ArrayVec.{array_vec_len};
 ghost use Rattle.byte_devices.specs.Devices.{OutputState};
-ghost use Rattle.chess_base.specs.Letters.{new_line};
+ghost use Rattle.chess_base.specs.Letters.{byte as letter, new_line};
 ghost use Rattle.chess_base.specs.Men.{same_colour};
 ghost use Rattle.chess_match.specs.Reasons.{by_colour};
 ghost use Rattle.chess_match.specs.Run.{Ports, text_read};
-ghost use Rattle.chess_arbiter.specs.Log.{Logs, RanLogged, ends_line, engine_text, given_text, head, received_text, log_line, log_seen, log_start, shown};
-ghost use Rattle.chess_arbiter.specs.ties.Logging.{Adds, IsLog};
+ghost use Rattle.chess_arbiter.specs.Log.{Logs, RanLogged, ends_line, engine_text, given_text, head, log_line, log_seen, shown};
+ghost use Rattle.chess_arbiter.specs.ties.Logging.{Adds, IsLog, log_start, received_text};
 
 use crate::output::send;
 use arrayvec::ArrayVec;
@@ -189,7 +189,7 @@ impl Pending {
     // Adds what a line begins with, where one begins.
     fn add_head_if<E: Output>(&mut self, output: &mut E, state: LogState, is_first: bool)
         ensures { Adds (E.seen output.old) (E.seen output.new) self.old self.new
-            (if state.at_start then head state.moment 62 is_first else []) }
+            (if state.at_start then head state.moment (letter ">") is_first else []) }
     {
         if state.at_start {
             self.add_head(output, state.moment, b'>', is_first);
@@ -205,7 +205,7 @@ impl Pending {
         byte: u8,
     )
         ensures { Adds (E.seen output.old) (E.seen output.new) self.old self.new
-            ((if state.at_start then head state.moment 62 is_first else [])
+            ((if state.at_start then head state.moment (letter ">") is_first else [])
             ++ (if byte == new_line then new_line else shown byte) ∷ []) }
     {
         self.add_head_if(output, state, is_first);
@@ -221,7 +221,7 @@ impl Pending {
         text: &[u8],
     ) -> LogState
         ensures adds { Adds (E.seen output.old) (E.seen output.new) self.old self.new
-            (given_text (head state.moment 62 is_first) state.at_start text.now) }
+            (given_text (head state.moment (letter ">") is_first) state.at_start text.now) }
         ensures state { result ≡ (record { moment = state.moment; at_start = ends_line state.at_start text.now }) }
     {
         let mut at_start = state.at_start;
@@ -255,7 +255,7 @@ fn engine_text(is_first: bool) -> &'static [u8]
 }
 
 // Whether two sides are the same.
-fn is_side(side: Colour, other: Colour) -> bool
+pub(crate) fn is_side(side: Colour, other: Colour) -> bool
     ensures { result ≡ same_colour side other }
 {
     match (side, other) {
@@ -328,7 +328,7 @@ impl<E: Output> Log<E> {
     // Logs a line at the moment of the last event.
     fn note(&mut self, side: Colour, text: &[u8])
         ensures adds { Adds (E.seen self.old.output) (E.seen self.new.output) self.old.pending self.new.pending
-            (log_line self.old.state.moment 33 (same_colour side self.old.first) text.now) }
+            (log_line self.old.state.moment (letter "!") (same_colour side self.old.first) text.now) }
         ensures first { self.new.first ≡ self.old.first }
         ensures state { self.new.state ≡ (record { moment = self.old.state.moment; at_start = true }) }
     {

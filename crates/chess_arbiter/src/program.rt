@@ -5,10 +5,11 @@ ghost use Rattle.chess_cecp.specs.Held.{opened_session};
 ghost use Rattle.chess_pgn.specs.Tags.{default_tags};
 ghost use Rattle.chess_arbiter.specs.Log.{log_seen};
 ghost use Rattle.chess_arbiter.specs.Program.{RanHelp, RanMatch, RanProgram, RanServer, RanSession, RanVerify, ReportsArguments, VerifiesAs, options_of, status_of, verify_status};
-ghost use Rattle.chess_arbiter.specs.Stub.{beginning, stub_response};
+ghost use Rattle.chess_arbiter.specs.Stub.{stub_response, waiting};
+ghost use Rattle.chess_arbiter.specs.ties.Faults.{fault_of, helped, served};
 ghost use Rattle.chess_game.specs.declared.game.TheConstants.{MOST_MOVES};
 
-use crate::fault::{ProgramFault, report_text, reported};
+use crate::fault::{ProgramFault, report_text, reported, reported_fault};
 use crate::games::play_games;
 use crate::log::Log;
 use crate::output::send;
@@ -37,14 +38,36 @@ fn open_session<'t>(
     Session::open(alloc, board, scratch, Tags::default(), MOST_MOVES)
 }
 
-// The status after lines were answered; a fault is reported.
-fn server_status<E: Output>(outcome: Result<End, Fault>, errors: &mut E) -> u8
+// The exit status after what may fail.
+fn status_of(outcome: Result<(), ProgramFault>) -> u8
     ensures { result ≡ status_of outcome }
 {
     match outcome {
-        Ok(_) => 0,
-        Err(Fault::Read) => reported(errors, &ProgramFault::ReadFailed, 1),
-        Err(Fault::Write) => reported(errors, &ProgramFault::WriteFailed, 1),
+        Ok(()) => 0,
+        Err(_) => 1,
+    }
+}
+
+// The fault of the program where answering lines failed.
+fn fault_of(fault: Fault) -> ProgramFault
+    ensures { result ≡ fault_of fault }
+{
+    match fault {
+        Fault::Read => ProgramFault::ReadFailed,
+        Fault::Write => ProgramFault::WriteFailed,
+    }
+}
+
+// Reports the fault with which answering lines ended, if there is one, and returns it.
+fn report_served<E: Output>(
+    outcome: Result<End, Fault>,
+    errors: &mut E,
+) -> Result<(), ProgramFault>
+    ensures { result ≡ served outcome }
+{
+    match outcome {
+        Ok(_) => Ok(()),
+        Err(fault) => Err(reported_fault(errors, fault_of(fault))),
     }
 }
 
@@ -64,7 +87,7 @@ fn session<R: Input, W: Output, E: Output>(
         return reported(errors, &ProgramFault::NoMemory, 1);
     };
     let outcome = run_session(input, output, &mut session);
-    server_status(outcome, errors)
+    status_of(report_served(outcome, errors))
 }
 
 // A stub on the input and the output, with its status.
@@ -74,12 +97,12 @@ fn stub<R: Input, W: Output, E: Output>(
     output: &mut W,
     errors: &mut E,
 ) -> u8
-    ensures { RanServer stub_response (beginning words.now) (R.seen input.old) (R.seen input.new) (W.seen output.old)
+    ensures { RanServer stub_response (waiting words.now) (R.seen input.old) (R.seen input.new) (W.seen output.old)
         (W.seen output.new) result }
 {
     let mut stub = Stub::new(words);
     let outcome = serve_lines(input, output, &mut stub);
-    server_status(outcome, errors)
+    status_of(report_served(outcome, errors))
 }
 
 // The status after games were verified.
@@ -136,13 +159,16 @@ fn verified<R: Input, W: Output, E: Output>(
     }
 }
 
-// The status after a text of help was written; a fault is reported.
-fn help_status<E: Output>(outcome: Result<(), WriteFault>, errors: &mut E) -> u8
-    ensures { result ≡ status_of outcome }
+// Reports that a text of help could not be written, where that is so, and returns the fault.
+fn report_help<E: Output>(
+    outcome: Result<(), WriteFault>,
+    errors: &mut E,
+) -> Result<(), ProgramFault>
+    ensures { result ≡ helped outcome }
 {
     match outcome {
-        Ok(()) => 0,
-        Err(_) => reported(errors, &ProgramFault::WriteFailed, 1),
+        Ok(()) => Ok(()),
+        Err(_) => Err(reported_fault(errors, ProgramFault::WriteFailed)),
     }
 }
 
@@ -160,7 +186,7 @@ fn help<W: Output, E: Output, D: Display>(
         Err(_) => return reported(errors, &ProgramFault::NoMemory, 1),
     };
     let outcome = send(output, text.as_bytes());
-    help_status(outcome, errors)
+    status_of(report_help(outcome, errors))
 }
 
 // Reports why the arguments ask for nothing: help and the version on the output, all else on the error output.

@@ -2,9 +2,13 @@
 
 ghost use Rattle.std.specs.Prelude.{◌≡◌, ◌+◌, ◌≤◌, ◌++◌, decimal, length};
 ghost use Rattle.arrayvec.specs.ArrayVec.{array_vec_len};
-ghost use Rattle.chess_arbiter.specs.Games.{no_score, one_more, score_line, scored, won};
+ghost use Rattle.chess_game.specs.Results.{same_outcome};
+ghost use Rattle.chess_match.specs.Reasons.{win_of};
+ghost use Rattle.chess_arbiter.specs.Games.{score_line};
+ghost use Rattle.chess_arbiter.specs.ties.Playing.{no_score, plus, score_after};
 
 use arrayvec::ArrayVec;
+use chess_base::Colour;
 use chess_game::Outcome;
 use itoa::Buffer;
 
@@ -39,11 +43,25 @@ fn add_number(line: &mut ScoreLine, number: u16)
         .unwrap();
 }
 
-// A count after one more.
-fn one_more(count: u16) -> u16
-    ensures { result ≡ one_more count }
+// A count after a game that may add to it.
+fn plus(count: u16, one_more: bool) -> u16
+    ensures { result ≡ plus count one_more }
 {
-    count.saturating_add(1)
+    if one_more {
+        count.saturating_add(1)
+    } else {
+        count
+    }
+}
+
+// Whether that side won.
+fn is_win_of(outcome: Outcome, side: Colour) -> bool
+    ensures { result ≡ same_outcome outcome (win_of side) }
+{
+    match side {
+        Colour::White => outcome == Outcome::WhiteWins,
+        Colour::Black => outcome == Outcome::BlackWins,
+    }
 }
 
 impl Score {
@@ -59,46 +77,15 @@ impl Score {
         }
     }
 
-    // A win of the first engine, or of the second, more.
-    fn with_win(self, of_first: bool) -> Self
-        ensures { result ≡ won of_first self }
+    /// The score after a game with that outcome, in which the first engine had that side.
+    pub fn after(self, first: Colour, outcome: Outcome) -> Self
+        ensures { result ≡ score_after first outcome self }
     {
-        if of_first {
-            Score {
-                first: one_more(self.first),
-                second: self.second,
-                drawn: self.drawn,
-                unfinished: self.unfinished,
-            }
-        } else {
-            Score {
-                first: self.first,
-                second: one_more(self.second),
-                drawn: self.drawn,
-                unfinished: self.unfinished,
-            }
-        }
-    }
-
-    /// The score after a game with that outcome, in which the first engine had White or not.
-    pub fn after(self, first_has_white: bool, outcome: Outcome) -> Self
-        ensures { result ≡ scored first_has_white outcome self }
-    {
-        match outcome {
-            Outcome::WhiteWins => self.with_win(first_has_white),
-            Outcome::BlackWins => self.with_win(!first_has_white),
-            Outcome::Draw => Score {
-                first: self.first,
-                second: self.second,
-                drawn: one_more(self.drawn),
-                unfinished: self.unfinished,
-            },
-            Outcome::Unfinished => Score {
-                first: self.first,
-                second: self.second,
-                drawn: self.drawn,
-                unfinished: one_more(self.unfinished),
-            },
+        Score {
+            first: plus(self.first, is_win_of(outcome, first)),
+            second: plus(self.second, is_win_of(outcome, first.other())),
+            drawn: plus(self.drawn, outcome == Outcome::Draw),
+            unfinished: plus(self.unfinished, outcome == Outcome::Unfinished),
         }
     }
 

@@ -1,10 +1,11 @@
 //! A stub of an engine, which plays the arguments that it is given.
 
 ghost use Rattle.std.specs.Prelude.{◌≡◌, ◌≤◌, ◌++◌, ◌∷◌, [], IfOk, codes, decimal, drop, if◌then◌else◌, length, option_map};
+ghost use Rattle.std.specs.Str.{bytes_eq};
 ghost use Rattle.byte_devices.specs.Devices.{Puts};
 ghost use Rattle.chess_base.specs.Letters.{new_line};
 ghost use Rattle.chess_cecp.specs.Commands.{command_of};
-ghost use Rattle.chess_arbiter.specs.Stub.{after_remarks, beginning, moved, played_text, remark, remarks, row, stub_response, turn};
+ghost use Rattle.chess_arbiter.specs.Stub.{after_remarks, moved, played_text, remark, remarks, row, stub_response, turn, waiting};
 
 use arrayvec::ArrayVec;
 use byte_devices::{Output, WriteFault, put, put_parts};
@@ -27,18 +28,24 @@ fn remark(word: &str) -> Option<&'static [u8]>
     }
 }
 
-// Says a move, by one write unless it is long.
-fn say_move<W: Output>(writer: &mut W, word: &str) -> Result<(), WriteFault>
-    ensures { Puts (W.seen writer.old) (W.seen writer.new) result (codes "move " ++ (word.now ++ new_line ∷ [])) }
+// What comes before an argument that is played.
+fn prefix_of(word: &str) -> &'static [u8]
+    ensures value { result.now ≡ (if bytes_eq word.now (codes "resign") then [] else codes "move ") }
+    ensures short { length result.now ≤ 5 }
+{
+    if word == "resign" { b"" } else { b"move " }
+}
+
+// Says a line of a prefix and an argument, by one write unless it is long.
+fn say_line<W: Output>(writer: &mut W, prefix: &[u8], word: &str) -> Result<(), WriteFault>
+    requires { length prefix.now ≤ 5 }
+    ensures { Puts (W.seen writer.old) (W.seen writer.new) result (prefix.now ++ (word.now ++ new_line ∷ [])) }
 {
     if word.len() > 30 {
-        return put_parts(
-            writer,
-            &[b"move ".as_slice(), word.as_bytes(), b"\n".as_slice()],
-        );
+        return put_parts(writer, &[prefix, word.as_bytes(), b"\n".as_slice()]);
     }
     let mut line: ArrayVec<u8, 40> = ArrayVec::new();
-    line.try_extend_from_slice(b"move ").unwrap();
+    line.try_extend_from_slice(prefix).unwrap();
     line.try_extend_from_slice(word.as_bytes()).unwrap();
     line.push(b'\n');
     put(writer, line.as_slice())
@@ -48,11 +55,7 @@ fn say_move<W: Output>(writer: &mut W, word: &str) -> Result<(), WriteFault>
 fn say_word<W: Output>(writer: &mut W, word: &str) -> Result<(), WriteFault>
     ensures { Puts (W.seen writer.old) (W.seen writer.new) result (played_text word.now) }
 {
-    if word == "resign" {
-        put(writer, b"resign\n")
-    } else {
-        say_move(writer, word)
-    }
+    say_line(writer, prefix_of(word), word)
 }
 
 // Says the number that it was asked for.
@@ -175,7 +178,7 @@ impl<'a> Model for Stub<'a> {
 impl<'a> Stub<'a> {
     /// A stub with these arguments, which doesn't play yet.
     pub(crate) fn new(words: &'a [&'a str]) -> Self
-        ensures { result ≡ beginning words.now }
+        ensures { result ≡ waiting words.now }
     {
         Stub {
             words,

@@ -257,7 +257,7 @@ fn a_match_needs_both_engines(rt: HostRuntime) -> Result<(), Fail> {
 }
 
 // Arguments that ask for help, and what their help must name.
-const HELP: [(&[&str], &[&str]); 3] = [
+const HELP: [(&[&str], &[&str]); 4] = [
     (&["--help"], &["session", "verify", "--help", "--version"]),
     (
         &["session", "-h"],
@@ -287,6 +287,17 @@ const HELP: [(&[&str], &[&str]); 3] = [
             "faults 1",
             "--strict",
             "16,777,216 bytes",
+        ],
+    ),
+    (
+        &["stub", "--help"],
+        &[
+            "Usage: arbiter stub [REPLY]...\n",
+            "a move",
+            "`resign`",
+            "`end`",
+            "`offer`",
+            "`claim`",
         ],
     ),
 ];

@@ -1,5 +1,6 @@
 -- What the arguments ask for as they are written, on the way to a plan.
-use Rattle.std.specs.Prelude.{◌≡◌, ◌≤◌, List, [], codes, map, option_map, Some, None, Ok, Err, true, false, unwrap_or, ◌≢◌}
+use Rattle.std.specs.Prelude.{◌≡◌, ◌≤◌, List, [], codes, map, option_map, Option, Some, None, Result, Ok, Err, true, false, unwrap_or, ◌≢◌}
+use Rattle.std.specs.Option.{option_map_or}
 use Rattle.clap.specs.Words.{Row, Text, all_of, first_of, kind_of}
 use Rattle.arbiter_words.specs.declared.plan.Plan.{Plan}
 use Rattle.arbiter_words.specs.declared.plan.Plan.TheVariants.{Session, Verify, Stub, Match}
@@ -9,11 +10,19 @@ use Rattle.arbiter_words.specs.declared.fault.WordsFault.TheVariants.{Words, NoM
 use Rattle.arbiter_words.specs.declared.request.MatchRequest.{MatchRequest}
 use Rattle.arbiter_words.specs.declared.request.Request.{Request}
 use Rattle.arbiter_words.specs.declared.request.Request.TheVariants as request
+use Rattle.chess_base.specs.Initial.{initial_setup_of}
+use Rattle.chess_base.specs.declared.fault.FenFault.{FenFault}
+use Rattle.chess_base.specs.declared.man.Variant.{Variant}
 use Rattle.chess_base.specs.declared.setup.Setup.{Setup}
+use Rattle.chess_fen.specs.Reading.{fen_reading_as}
 use Rattle.engine_lines.specs.Levels.{LevelSeen, level_of}
-use Rattle.arbiter_words.specs.Plans.{games_in, is_date, is_set, start_of, text_or, variant_in, verify_plan_of}
+use Rattle.arbiter_words.specs.Plans.{date_asked, games_in, is_date, is_set, text_or, variant_in, verify_plan_of}
 use Rattle.clap.specs.declared.error.Error.{Error}
 use Rattle.clap.specs.declared.error.kind.ErrorKind.TheVariants.{OutOfMemory}
+
+-- the position that a match starts in, by its variant and its FEN
+abbrev pub start_of : Variant → Option Text → Result Setup FenFault
+start_of v fen = option_map_or (fen_reading_as v) fen (Ok (initial_setup_of v))
 
 -- these are the options of a match, as written or by default
 pub record IsMatchOf (rows : List Row) (m : MatchRequest) : Type 0 where
@@ -23,7 +32,7 @@ pub record IsMatchOf (rows : List Row) (m : MatchRequest) : Type 0 where
   pub fen : option_map (λ t. t.now) m.fen ≡ first_of (codes "fen") rows
   pub games : m.games ≡ games_in rows
   pub games_range : (1 ≤ m.games) × (m.games ≤ 1000)
-  pub date : m.date.now ≡ text_or (codes "date") rows (codes "????.??.??")
+  pub date : m.date.now ≡ date_asked rows
   pub variant : m.variant ≡ variant_in rows
   pub log : m.log ≡ is_set (codes "log") rows
 

@@ -1,5 +1,6 @@
 -- What code adds to a log, and a log before as a text.
-use Rattle.std.specs.Prelude.{◌≡◌, ℕ, ◌==◌, false, if◌then◌else◌, List, [], ◌∷◌, ◌++◌, Option, Some, None}
+use Rattle.std.specs.Prelude.{◌≡◌, ℕ, ◌==◌, Bool, true, false, if◌then◌else◌, List, [], ◌∷◌, ◌++◌, codes, Option, Some, None}
+use Rattle.chess_base.specs.Letters.{byte}
 use Rattle.chess_base.specs.declared.man.Colour.{Colour}
 use Rattle.chess_base.specs.declared.man.Colour.TheVariants.{White, Black}
 use Rattle.chess_base.specs.Men.{same_colour}
@@ -7,8 +8,18 @@ use Rattle.byte_devices.specs.Devices.{OutputState}
 use Rattle.chess_match.specs.Notes.{Note}
 use Rattle.chess_arbiter.specs.declared.log.Pending.{Pending}
 use Rattle.chess_arbiter.specs.declared.log.LogState.{LogState}
-use Rattle.chess_arbiter.specs.Log.{after_note, log_start, log_text, LogSeen, Logs}
+use Rattle.chess_arbiter.specs.Log.{after_note, log_line, log_text, LogSeen, Logs}
 
+-- the state before a match: moment 0, at the beginning of a line
+abbrev pub log_start : LogState
+log_start = record { moment = 0; at_start = true }
+
+-- what is written of a line that an engine sends
+abbrev pub received_text : ℕ → Bool → Option (List ℕ) → List ℕ
+received_text moment is_first (Some text) = log_line moment (byte "<") is_first text
+received_text moment is_first None = log_line moment (byte "!") is_first (codes "line too long")
+
+-- the state after these notes
 abbrev pub after_notes : LogState → List Note → LogState
 after_notes s [] = s
 after_notes s (n ∷ notes) = after_notes (after_note s n) notes

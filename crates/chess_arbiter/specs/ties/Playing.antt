@@ -1,13 +1,18 @@
 -- What code does for one game of a match, and for all of them.
-use Rattle.std.specs.Prelude.{◌≡◌, ℕ, if◌then◌else◌, List, Option, None, Some, Result, Ok, Err}
+use Rattle.std.specs.Prelude.{◌≡◌, ⊤, ℕ, ◌+◌, min, Bool, true, false, if◌then◌else◌, List, Option, None, Some, Result, Ok, Err}
 use Rattle.std.specs.Borrow.{Bor}
 use Rattle.arbiter_words.specs.declared.plan.MatchPlan.{MatchPlan}
+use Rattle.chess_base.specs.Men.{other}
 use Rattle.chess_base.specs.declared.man.Colour.{Colour}
 use Rattle.chess_base.specs.declared.setup.Setup.{Setup}
 use Rattle.byte_devices.specs.Devices.{OutputState, BreaksOff, Sent}
 use Rattle.chess_game.specs.Game.{Seen}
+use Rattle.chess_game.specs.Results.{same_outcome}
+use Rattle.chess_game.specs.declared.results.Outcome.{Outcome}
+use Rattle.chess_game.specs.declared.results.Outcome.TheVariants.{Draw, Unfinished}
 use Rattle.engine_lines.specs.Levels.{LevelSeen}
 use Rattle.chess_match.specs.Notes.{Note}
+use Rattle.chess_match.specs.Reasons.{win_of}
 use Rattle.chess_match.specs.Run.{Ports, Flushed}
 use Rattle.chess_match.specs.declared.run.MatchEnd.{MatchEnd}
 use Rattle.chess_arbiter.specs.Log.{LogSeen, Logged, RanNoted, log_text}
@@ -16,7 +21,30 @@ use Rattle.chess_arbiter.specs.declared.engine.StartFault.TheVariants as start
 use Rattle.chess_arbiter.specs.declared.games.GamesFault.{GamesFault}
 use Rattle.chess_arbiter.specs.declared.games.GamesFault.TheVariants.{WriteFailed, NoMemory, CanNotStart}
 use Rattle.chess_arbiter.specs.declared.games.GamesPlayed.{GamesPlayed}
+use Rattle.chess_arbiter.specs.declared.score.Score.{Score}
 use Rattle.chess_arbiter.specs.Games.{first_side, GameRecord, IsOfPlan, game_text, IsStartFault, game_texts, LogsGames, score_of, EndsGames, BrokeOff}
+
+-- ---- the score, as it is counted
+
+-- the score before the first game
+abbrev pub no_score : Score
+no_score = record { first = 0; second = 0; drawn = 0; unfinished = 0 }
+
+-- a count after a game that may add to it; it stops at 65,535
+abbrev pub plus : ℕ → Bool → ℕ
+plus count true = min (count + 1) 65535
+plus count false = count
+
+-- the score after a game more, in which the first engine had that side
+abbrev pub score_after : Colour → Outcome → Score → Score
+score_after first outcome s = record {
+  first = plus s.first (same_outcome outcome (win_of first));
+  second = plus s.second (same_outcome outcome (win_of (other first)));
+  drawn = plus s.drawn (same_outcome outcome Draw);
+  unfinished = plus s.unfinished (same_outcome outcome Unfinished);
+}
+
+-- ---- a game
 
 -- the side of the first engine, where the plan asks for a log
 abbrev pub logged_side : MatchPlan → ℕ → Option Colour
@@ -40,6 +68,12 @@ IsMatchEndOf log l l' start level g g' end w =
     (notes : List Note) × (w' : Ports) × (coming : ℕ → Option ℕ) × (coming' : ℕ → Option ℕ)
     × RanNoted notes start level g g' end w w' coming coming' × LogsGame log l l' notes
 
+-- an engine of that command could not be started, or there was no memory
+abbrev pub FailsToStart : List ℕ → GamesFault → Type 0
+FailsToStart command NoMemory = ⊤
+FailsToStart command (CanNotStart c) = c.now ≡ command
+FailsToStart command _ = ⊥
+
 -- out of memory is reported as such, and all else by the engine's command
 abbrev pub ReportsStart : StartFault → List ℕ → GamesFault → Type 0
 ReportsStart start.NoMemory command fault = fault ≡ NoMemory
@@ -56,11 +90,11 @@ PlayedOne plan number w w' l l' (Ok end) =
 PlayedOne plan number w w' l l' (Err WriteFailed) =
     (told : GameRecord) × IsOfPlan plan told × BreaksOff w w' (game_text plan number told)
     × LogsGame (logged_side plan number) l l' told.notes
-PlayedOne plan number w w' l l' (Err fault) = IsStartFault plan number fault × (w' ≡ w) × (l' ≡ l)
+PlayedOne plan number w w' l l' (Err fault) = IsStartFault plan fault × (w' ≡ w) × (l' ≡ l)
 
 -- games were played, each was written and logged, and the score counts them
 abbrev pub HasPlayed : MatchPlan → OutputState → OutputState → LogSeen → LogSeen → Result GamesPlayed GamesFault → Type 0
 HasPlayed plan w w' l l' (Ok played) =
     (games : List GameRecord) × EndsGames plan games played.fault × (played.score ≡ score_of games)
-    × Flushed w w' (game_texts plan 1 games) × LogsGames plan.log l l' games
+    × Flushed w w' (game_texts plan games) × LogsGames plan.log l l' games
 HasPlayed plan w w' l l' (Err fault) = BrokeOff plan w w' l l' fault

@@ -1,6 +1,7 @@
 -- What is written is the note's text.
 use Rattle.std.proofs.Common.{Bool, ap, refl}
 use Rattle.chess_match.specs.Notes.{Gives}
+use Rattle.chess_base.specs.Letters.{byte}
 use Rattle.chess_arbiter.specs.Log.{given_text, head}
 use Rattle.chess_arbiter.proofs.Logged.{adds_as, logged}
 use Rattle.chess_arbiter.proofs.log.LogWitness.gives.Goals as goal
@@ -8,6 +9,6 @@ use Rattle.chess_arbiter.proofs.log.LogWitness.gives.Goals as goal
 pub returns : goal.returns
 returns g c = logged _ _ _ _ _ _ _ _ (Gives c.args.side c.args.text.now) refl
     (adds_as _ _ _ _ _ _
-    (ap (λ (b : Bool). given_text (head c.args.self.now.state.moment 62 b) c.args.self.now.state.at_start
+    (ap (λ (b : Bool). given_text (head c.args.self.now.state.moment (byte ">") b) c.args.self.now.state.at_start
     c.args.text.now) c.is_side-is_first.ensures) c.add_given-self.ensures.adds)
     c.add_given-self.ensures.state

@@ -1,4 +1,5 @@
 use Rattle.std.proofs.Common.{◌≡◌, ℕ, List, ◌++◌, drop}
+use Rattle.chess_base.specs.Letters.{byte}
 use Rattle.chess_arbiter.specs.Log.{ends_line, given_text, head}
 use Rattle.chess_arbiter.specs.ties.Logging.{Adds}
 use Rattle.chess_arbiter.proofs.log.Pending.add_given.Given as goal
@@ -7,6 +8,6 @@ use Rattle.chess_arbiter.proofs.log.Pending.add_given.Given as goal
 abbrev pub invariant-loop-byte : goal.invariant-loop-byte
 invariant-loop-byte g l =
     (done : List ℕ) × Adds (g.E.Output.seen l.fn.output) (g.E.Output.seen l.output) l.fn.self l.self done
-    × (done ++ given_text (head l.state.moment 62 l.is_first) l.at_start (drop l.byte-index l.text)
-    ≡ given_text (head l.state.moment 62 l.is_first) l.state.at_start l.text)
+    × (done ++ given_text (head l.state.moment (byte ">") l.is_first) l.at_start (drop l.byte-index l.text)
+    ≡ given_text (head l.state.moment (byte ">") l.is_first) l.state.at_start l.text)
     × (ends_line l.at_start (drop l.byte-index l.text) ≡ ends_line l.state.at_start l.text)
