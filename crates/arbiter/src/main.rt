@@ -3,6 +3,7 @@
 
 use std::process::ExitCode;
 
+// Runs the program on the arguments and the standard streams of the process.
 fn main(rt: HostRuntime) -> ExitCode {
     chess_arbiter::run(&rt)
 }

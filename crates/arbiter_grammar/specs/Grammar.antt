@@ -8,11 +8,11 @@ use Rattle.clap.specs.declared.parser.matches.ArgMatches.{ArgMatches}
 use Rattle.clap.specs.declared.builder.value_parser.ValueParser.TheVariants.{Names, Unsigned}
 use Rattle.clap.specs.declared.builder.action.ArgAction.TheVariants.{Append, SetTrue}
 
--- `--NAME TEXT`
+-- `--NAME TEXT`: an option that takes a text
 abbrev pub option_rule : Text → Rule
 option_rule name = record (new_rule name) { long = Some name; value_names = 1 }
 
--- `--NAME`, which takes no text
+-- `--NAME`: an option that takes no text
 abbrev pub flag_rule : Text → Rule
 flag_rule name = record (new_rule name) { long = Some name; action = Some SetTrue }
 
@@ -20,11 +20,11 @@ flag_rule name = record (new_rule name) { long = Some name; action = Some SetTru
 abbrev pub needed : Rule → Rule
 needed r = record r { required = true }
 
--- `--games N`, from 1 to 1,000
+-- `--games N`, with N from 1 to 1,000
 abbrev pub games_rule : Rule
 games_rule = record (option_rule (codes "games")) { parser = Some (Unsigned 1 1000) }
 
--- the names that `--variant` takes, wherever they are in memory: a grammar holds references to them
+-- a reference to the list of names that `--variant` takes, wherever it is in memory
 abbrev pub Lent : Type 0
 Lent = Bor (List (Bor Text))
 
@@ -32,18 +32,19 @@ Lent = Bor (List (Bor Text))
 abbrev pub AreVariants : Lent → Type 0
 AreVariants names = map (λ n. n.now) names.now ≡ codes "normal" ∷ codes "fischerandom" ∷ []
 
--- `--variant NAME`
+-- `--variant NAME`, with one of these names
 abbrev pub variant_rule : Lent → Rule
 variant_rule names = record (option_rule (codes "variant")) { parser = Some (Names names) }
 
--- `match` with its options; `--white` and `--black` are required
+-- the subcommand `match` with its options; `--white` and `--black` are required. `names` are those that `--variant`
+-- takes
 abbrev pub match_app : Lent → App
 match_app names = fold with_rule (new_app (codes "match")) (
     needed (option_rule (codes "white")) ∷ needed (option_rule (codes "black")) ∷ option_rule (codes "level")
     ∷ option_rule (codes "fen") ∷ games_rule ∷ option_rule (codes "date") ∷ variant_rule names
     ∷ flag_rule (codes "log") ∷ [])
 
--- `verify` with its flags
+-- the subcommand `verify` with its flags
 abbrev pub verify_app : App
 verify_app = fold with_rule (new_app (codes "verify"))
     (flag_rule (codes "keep-going") ∷ flag_rule (codes "quiet") ∷ flag_rule (codes "strict") ∷ [])
@@ -52,51 +53,56 @@ verify_app = fold with_rule (new_app (codes "verify"))
 abbrev pub words_rule : Rule
 words_rule = record (new_rule (codes "words")) { action = Some Append; value_names = 1 }
 
--- `stub`, which takes any number of arguments
+-- the subcommand `stub`, which takes any number of arguments
 abbrev pub stub_app : App
 stub_app = with_rule (new_app (codes "stub")) words_rule
 
--- `arbiter` by itself: it has `--version`, no command `help`, and arguments without the program's name in front
+-- `arbiter` without its subcommands: it has `--version` but no subcommand `help`, and its arguments don't begin with
+-- the program's name
 abbrev pub bare_app : App
 bare_app = let a = new_app (codes "arbiter") in
     record a { top = record a.top { has_version = true; no_binary_name = true; disable_help_subcommand = true } }
 
--- the whole grammar: `session`, `verify`, `stub` and `match`
+-- the whole grammar: `arbiter` with the subcommands `session`, `verify`, `stub` and `match`. `names` are those that
+-- `--variant` takes
 abbrev pub arbiter_app : Lent → App
 arbiter_app names = fold with_subcommand bare_app
     ((new_app (codes "session")).top ∷ verify_app.top ∷ stub_app.top ∷ (match_app names).top ∷ [])
 
--- the arguments, by `clap`'s meaning of the grammar: the subcommand with its matches, `session` with none where no
--- subcommand is named
+-- what the arguments (`words`) ask for, as `clap` matches them: the subcommand, and what each of its options was
+-- given. Without a subcommand it is `session`. `names` are those that `--variant` takes
 abbrev pub asked : Lent → List Text → Text × List Row
 asked names words = unwrap_or (subcommand_of (arbiter_app names) words) (codes "session", [])
 
--- the kinds of fault that `clap` may report of the arguments, by its meaning of the grammar; none where it takes them
+-- the kinds of fault that `clap` may report for these arguments; empty if it accepts them. `names` are those that
+-- `--variant` takes
 abbrev pub faults_in : Lent → List Text → Kinds
 faults_in names words = fault_of (arbiter_app names) words
 
--- what `clap` gives for the arguments, by the grammar
+-- the result of parsing these arguments is right: matches if they have no fault, else an error of one of the kinds
+-- that they have. `names` are those that `--variant` takes
 abbrev pub IsParsedBy : Lent → List Text → Result ArgMatches Error → Type 0
 IsParsedBy names words (Ok m) = (faults_in names words ≡ [])
     × (subcommand_rows_of m ≡ subcommand_of (arbiter_app names) words)
 IsParsedBy names words (Err e) = HasKind (faults_in names words) e
 
+-- the result of parsing these arguments is right by the grammar, wherever its names of variants are in memory
 abbrev pub IsParsed : List Text → Result ArgMatches Error → Type 0
 IsParsed words result = (names : Lent) × AreVariants names × IsParsedBy names words result
 
--- the name is a subcommand's
+-- this is the name of a subcommand
 abbrev pub IsCommand : Text → Type 0
 IsCommand name = (name ≡ codes "session") ⊎ (name ≡ codes "verify") ⊎ (name ≡ codes "stub") ⊎ (name ≡ codes "match")
 
--- both programs are given where a match is asked for
+-- if the subcommand is `match`, both `--white` and `--black` were given
 abbrev pub NamesBoth : Text × List Row → Type 0
 NamesBoth p = p.0 ≡ codes "match" → (is_some (first_of (codes "white") p.1) ≡ true)
     × (is_some (first_of (codes "black") p.1) ≡ true)
 
--- where a number of games is given, it is from 1 to 1,000
+-- if `--games` was given, it is a number from 1 to 1,000
 abbrev pub HasGames : List Row → Type 0
 HasGames rows = (t : Text) → first_of (codes "games") rows ≡ Some t → is_unsigned_in 1 1000 t ≡ true
 
--- what follows a subcommand is complete
+-- what was matched has all that its subcommand needs
 abbrev pub IsComplete : Text × List Row → Type 0
 IsComplete p = NamesBoth p × IsCommand p.0 × HasGames p.1

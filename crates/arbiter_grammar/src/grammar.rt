@@ -14,10 +14,12 @@ use std::alloc::{AllocError, Global};
 // The version that `--version` prints.
 const VERSION: &str = "0.1.0";
 
+// What the program is, in its help.
 const ABOUT: &str = "\
 Checks games between chess engines by the Laws of Chess: answers the XBoard protocol (CECP, version 2), verifies PGN,
 and plays matches between two engines";
 
+// The end of the program's help; those of its subcommands follow.
 const EXAMPLES: &str = "\
 Examples:
   arbiter                                              a session: type e2e4, showfen, quit
@@ -83,10 +85,11 @@ Examples:
   arbiter match --white ./a --black ./b --variant fischerandom
   arbiter match --white ./a --black ./b --log 2> match.debug";
 
-// What `--variant` takes.
+// The names that `--variant` takes.
 static VARIANTS: [&str; 2] = ["normal", "fischerandom"];
 
-// A command with no arguments yet.
+// A subcommand (or the program itself) with no arguments yet; `about` and `examples` are the beginning and the end of
+// its help.
 fn command<'a>(alloc: Global, name: &'a str, about: &'a str, examples: &'a str) -> Command<'a>
     ensures app { app_of result ≡ new_app name.entry.now }
     ensures about { (fields_of result).about ≡ Some about.entry }
@@ -96,7 +99,7 @@ fn command<'a>(alloc: Global, name: &'a str, about: &'a str, examples: &'a str) 
     Command::new(alloc, name).about(about).after_help(examples)
 }
 
-// An option that takes a text.
+// An option `--NAME VALUE`; `value` is what its help calls the value.
 fn option<'a>(alloc: Global, name: &'a str, value: &'a str, help: &'a str) -> Arg<'a>
     ensures rule { rule_of result ≡ option_rule name.entry.now }
     ensures value { result.val_names ≡ One value.entry }
@@ -109,7 +112,7 @@ fn option<'a>(alloc: Global, name: &'a str, value: &'a str, help: &'a str) -> Ar
         .help(help)
 }
 
-// An option that takes no text.
+// An option `--NAME`, which takes no value.
 fn flag<'a>(alloc: Global, name: &'a str, help: &'a str) -> Arg<'a>
     ensures rule { rule_of result ≡ flag_rule name.entry.now }
     ensures help { result.help ≡ Some help.entry }
@@ -121,7 +124,7 @@ fn flag<'a>(alloc: Global, name: &'a str, help: &'a str) -> Arg<'a>
         .help(help)
 }
 
-// An option that must be given.
+// An option `--NAME VALUE` that must be given.
 fn needed_option<'a>(alloc: Global, name: &'a str, value: &'a str, help: &'a str) -> Arg<'a>
     ensures rule { rule_of result ≡ needed (option_rule name.entry.now) }
     ensures value { result.val_names ≡ One value.entry }
@@ -131,6 +134,7 @@ fn needed_option<'a>(alloc: Global, name: &'a str, value: &'a str, help: &'a str
     option(alloc, name, value, help).required(true)
 }
 
+// `--games N`, with N from 1 to 1,000.
 fn games_option<'a>(alloc: Global) -> Arg<'a>
     ensures rule { rule_of result ≡ games_rule }
     ensures local { result.global ≡ false }
@@ -144,6 +148,7 @@ fn games_option<'a>(alloc: Global) -> Arg<'a>
     .value_parser(ValueParser::unsigned(1, 1000))
 }
 
+// `--variant NAME`, with one of the names in `VARIANTS`.
 fn variant_option<'a>(alloc: Global) -> Arg<'a>
     ensures rule { (names : _) × AreVariants names × (rule_of result ≡ variant_rule names) }
     ensures local { result.global ≡ false }
@@ -157,6 +162,7 @@ fn variant_option<'a>(alloc: Global) -> Arg<'a>
     .value_parser(VARIANTS.as_slice())
 }
 
+// The subcommand `match` with its options.
 fn match_command<'a>(alloc: Global) -> Result<Command<'a>, AllocError>
     ensures app { IfOk result (λ c. GivesMatchApp (app_of c)) }
     ensures local { IfOk result (λ c. (fields_of c).has_globals ≡ false) }
@@ -201,6 +207,7 @@ fn match_command<'a>(alloc: Global) -> Result<Command<'a>, AllocError>
     ))
 }
 
+// The subcommand `verify` with its flags.
 fn verify_command<'a>(alloc: Global) -> Result<Command<'a>, AllocError>
     ensures app { IfOk result (λ c. app_of c ≡ verify_app) }
     ensures local { IfOk result (λ c. (fields_of c).has_globals ≡ false) }
@@ -224,6 +231,7 @@ fn verify_command<'a>(alloc: Global) -> Result<Command<'a>, AllocError>
     ))
 }
 
+// The subcommand `stub`, which takes any number of arguments.
 fn stub_command<'a>(alloc: Global) -> Result<Command<'a>, AllocError>
     ensures app { IfOk result (λ c. app_of c ≡ stub_app) }
     ensures local { IfOk result (λ c. (fields_of c).has_globals ≡ false) }
@@ -241,7 +249,7 @@ fn stub_command<'a>(alloc: Global) -> Result<Command<'a>, AllocError>
     .arg(words)
 }
 
-// The whole grammar.
+// The whole grammar: the program with its subcommands.
 pub(crate) fn arbiter_command<'a>(alloc: Global) -> Result<Command<'a>, AllocError>
     ensures { IfOk result (λ c. GivesArbiterApp (app_of c)) }
 {

@@ -8,7 +8,7 @@ use crate::grammar::arbiter_command;
 use clap::{ArgMatches, Error};
 use std::alloc::Global;
 
-/// Parses the arguments after the program's name: the subcommand, if one is named, and its options.
+/// Parses the arguments after the program's name into the subcommand, if one is named, and its options.
 ///
 /// # Errors
 /// What `clap` reports: invalid arguments, a text of help or of the version to show, or that it is out of memory.

@@ -23,11 +23,12 @@ use Rattle.engine_lines.specs.Levels.{LevelSeen, level_of}
 
 -- ---- what is asked for, as written
 
--- what an option has, or else its default
+-- the value that an option was given, else its default. `rows` are the options, each with its values, as `clap`
+-- matched them
 abbrev pub text_or : Text → List Row → Text → Text
 text_or name rows default = unwrap_or (first_of name rows) default
 
--- the number of games, 1 where none is given
+-- the value of `--games`, 1 if it was not given; `rows` are the options as matched
 abbrev pub games_in : List Row → ℕ
 games_in rows = option_map_or (λ t. digits_value 10 (without_leading_plus t)) (first_of (codes "games") rows) 1
 
@@ -36,11 +37,11 @@ abbrev pub variant_in : List Row → Variant
 variant_in rows =
     if bytes_eq (text_or (codes "variant") rows (codes "normal")) (codes "fischerandom") then Fischerandom else Normal
 
--- a flag was given
+-- whether a flag, such as `--quiet`, was given
 abbrev pub is_set : Text → List Row → Bool
 is_set name rows = bytes_eq (text_or name rows (codes "false")) (codes "true")
 
--- what the flags of `verify` ask for
+-- what the flags of `verify` ask for; `rows` are the flags as matched
 abbrev pub verify_plan_of : List Row → VerifyPlan
 verify_plan_of rows = record {
   keep_going = is_set (codes "keep-going") rows;
@@ -50,7 +51,7 @@ verify_plan_of rows = record {
 
 -- ---- what it means
 
--- the date in each game's tags
+-- the value of `--date`, `????.??.??` if it was not given
 abbrev pub date_asked : List Row → Text
 date_asked rows = text_or (codes "date") rows (codes "????.??.??")
 
@@ -59,7 +60,7 @@ abbrev pub start_asked : List Row → Result Setup FenFault
 start_asked rows = let v = variant_in rows in
     option_map_or (fen_reading_as v) (first_of (codes "fen") rows) (Ok (initial_setup_of v))
 
--- a date has at most 60 bytes, from 32 to 126
+-- whether a text can be the tag Date: at most 60 bytes of printable ASCII (it need not be a date)
 abbrev pub is_date : Text → Bool
 is_date text = nat_le (length text) 60 && list_all (λ b. nat_le 32 b && nat_le b 126) text
 
@@ -70,7 +71,7 @@ level_and_start rows = do
   start ← result_map_both (λ setup. setup) BadFen (start_asked rows)
   if is_date (date_asked rows) then Ok (level, start) else Err BadDate
 
--- a match is played by what its options denote, as given or by default
+-- the plan of a match is what its options say, each as given or by default; `rows` are the options as matched
 pub record IsMatchPlan (rows : List Row) (plan : MatchPlan) : Type 0 where
   pub white : first_of (codes "white") rows ≡ Some plan.white.now
   pub black : first_of (codes "black") rows ≡ Some plan.black.now
@@ -80,7 +81,7 @@ pub record IsMatchPlan (rows : List Row) (plan : MatchPlan) : Type 0 where
   pub date : plan.date.now ≡ date_asked rows
   pub log : plan.log ≡ is_set (codes "log") rows
 
--- the plan is what the arguments ask for
+-- the plan is what the arguments ask for; `p` is the subcommand's name and its options as matched
 abbrev pub IsPlanOf : Text × List Row → Plan → Type 0
 IsPlanOf p Session = p.0 ≡ codes "session"
 IsPlanOf p (Verify v) = (p.0 ≡ codes "verify") × (v ≡ verify_plan_of p.1)
@@ -98,6 +99,6 @@ IsReadBy names words (Err NoMemory) = ⊤
 IsReadBy names words (Err f) = (faults_in names words ≡ []) × ((asked names words).0 ≡ codes "match")
     × (level_and_start (asked names words).1 ≡ Err f)
 
--- the arguments are read by the grammar
+-- the result of reading these arguments is right by the grammar, wherever its names of variants are in memory
 abbrev pub IsReading : List Text → Result Plan WordsFault → Type 0
 IsReading words result = (names : Lent) × AreVariants names × IsReadBy names words result

@@ -27,7 +27,7 @@ pub enum WordsFault {
     BadDate,
 }
 
-// Why `clap` gave no matches.
+// The fault that is reported for an error of `clap`.
 pub(crate) fn refusal(error: Error) -> WordsFault
     ensures { Refuses error result }
 {

@@ -55,21 +55,21 @@ pub enum Plan<'a> {
     Match(MatchPlan<'a>),
 }
 
-// Whether all bytes are from 32 to 126.
+// Whether all bytes are printable ASCII.
 fn is_plain(bytes: &[u8]) -> bool
     ensures { result ≡ list_all (λ b. nat_le 32 b && nat_le b 126) bytes.now }
 {
     bytes.iter().all(|b| 32 <= *b && *b <= 126)
 }
 
-// Whether a text can go into the tag Date: at most 60 bytes, each from 32 to 126. It need not be a date.
+// Whether a text can be the tag Date: at most 60 bytes of printable ASCII. It need not be a date.
 fn is_date(text: &str) -> bool
     ensures { result ≡ date_test text.now }
 {
     text.len() <= 60 && is_plain(text.as_bytes())
 }
 
-// The position that a match starts in.
+// The position in which games start: what the FEN denotes, else the initial one of the variant.
 fn start_of(variant: Variant, fen: Option<&str>) -> Result<Position, FenFault>
     ensures { result ≡ start_of variant (option_map (λ t. t.now) fen.entry) }
 {
@@ -79,7 +79,7 @@ fn start_of(variant: Variant, fen: Option<&str>) -> Result<Position, FenFault>
     }
 }
 
-// The plan of a match; or the fault of level, FEN or date, the first in this order that is not accepted.
+// The plan of a match, if its level, FEN and date are valid; else the fault of the first that is not.
 fn validate<'a>(words: &MatchRequest<'a>) -> Result<MatchPlan<'a>, WordsFault>
     ensures plan { IfOk result (IsJudged words.now) }
     ensures fault { IfErr result (IsJudgedFault words.now) }
@@ -105,7 +105,7 @@ fn validate<'a>(words: &MatchRequest<'a>) -> Result<MatchPlan<'a>, WordsFault>
     })
 }
 
-// The plan, where each argument is in its form.
+// The plan of what was asked for, if the options of a match are valid.
 pub(crate) fn planned<'a>(spelled: Request<'a>) -> Result<Plan<'a>, WordsFault>
     ensures plan { IfOk result (IsPlanned spelled.entry) }
     ensures fault { IfErr result (IsPlanFault spelled.entry) }

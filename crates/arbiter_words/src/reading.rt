@@ -11,7 +11,7 @@ use arbiter_grammar::parse;
 use clap::ArgMatches;
 use std::alloc::{AllocError, Global};
 
-// The subcommand that was met, with its matches.
+// The subcommand's name with the options given after it, if one was named.
 fn entered<'m, 'a>(matches: &'m ArgMatches<'a>) -> Option<(&'a str, &'m ArgMatches<'a>)>
     ensures { option_map (λ p. (p.0.now, rows_of (found_of p.1.now))) result
         ≡ subcommand_rows_of matches.now }
@@ -19,11 +19,11 @@ fn entered<'m, 'a>(matches: &'m ArgMatches<'a>) -> Option<(&'a str, &'m ArgMatch
     matches.subcommand()
 }
 
-/// Reads the arguments after the program's name.
+/// Reads the arguments after the program's name: what the program is asked to do.
 ///
 /// # Errors
-/// Where `clap` refuses the arguments or asks to show help or the version, where there is no memory, and where level,
-/// FEN or date of a match isn't in its form, the first of them.
+/// If `clap` refuses the arguments or asks to show help or the version, if memory runs out, and if level, FEN or date
+/// of a match is invalid (the first of them).
 pub fn read_words<'a>(alloc: Global, words: &'a [&'a str]) -> Result<Plan<'a>, WordsFault>
     ensures { IsReading (map (λ w. w.now) words.entry.now) result }
 {

@@ -11,7 +11,7 @@ use chess_base::Variant;
 use clap::ArgMatches;
 use std::alloc::{AllocError, Global};
 
-/// What a match is played by, as written.
+/// The options of a match, not yet read as levels or positions.
 #[derive(Clone, Copy, Debug)]
 pub(crate) struct MatchRequest<'a> {
     pub white: &'a str,
@@ -24,7 +24,7 @@ pub(crate) struct MatchRequest<'a> {
     pub log: bool,
 }
 
-/// What the arguments ask for, as written.
+/// What the arguments ask for; texts are not yet read as levels or positions.
 #[derive(Drop)]
 pub(crate) enum Request<'a> {
     Session,
@@ -33,7 +33,7 @@ pub(crate) enum Request<'a> {
     Match(MatchRequest<'a>),
 }
 
-// The value of an option, or its default.
+// The value that an option was given, else its default.
 fn text_or<'a>(found: &ArgMatches<'a>, name: &str, default: &'a str) -> &'a str
     ensures { result.now ≡ text_or name.now (rows_of (found_of found.now)) default.entry.now }
 {
@@ -43,7 +43,7 @@ fn text_or<'a>(found: &ArgMatches<'a>, name: &str, default: &'a str) -> &'a str
     }
 }
 
-// Whether a flag was given.
+// Whether a flag, such as `--quiet`, was given.
 fn is_set(found: &ArgMatches<'_>, name: &str) -> bool
     ensures { result ≡ is_set name.now (rows_of (found_of found.now)) }
 {
@@ -72,7 +72,7 @@ fn stub_arguments<'a>(alloc: Global, found: &ArgMatches<'a>) -> Result<Vec<&'a s
     }
 }
 
-// The number of games.
+// The value of `--games`, 1 if it was not given.
 fn games_of(found: &ArgMatches<'_>) -> u16
     requires { HasGames (rows_of (found_of found.now)) }
     ensures value { result ≡ games_in (rows_of (found_of found.now)) }
@@ -87,7 +87,7 @@ fn games_of(found: &ArgMatches<'_>) -> u16
     }
 }
 
-// The variant.
+// The value of `--variant`, normal chess if it was not given.
 fn variant_of(found: &ArgMatches<'_>) -> Variant
     ensures { result ≡ variant_in (rows_of (found_of found.now)) }
 {
@@ -98,6 +98,7 @@ fn variant_of(found: &ArgMatches<'_>) -> Variant
     }
 }
 
+// The options of `match`; `None` if `--white` or `--black` was not given.
 fn match_request<'a>(found: &ArgMatches<'a>) -> Option<MatchRequest<'a>>
     requires { HasGames (rows_of (found_of found.now)) }
     ensures given { IfSome result (IsMatchOf (rows_of (found_of found.now))) }
@@ -118,7 +119,7 @@ fn match_request<'a>(found: &ArgMatches<'a>) -> Option<MatchRequest<'a>>
     })
 }
 
-// What a command's matches ask for, as written.
+// What the subcommand `name` with these options asks for.
 pub(crate) fn request_in<'a>(
     alloc: Global,
     name: &str,

@@ -4,14 +4,14 @@ use chess_game::Game;
 use chess_moves::Board;
 use chess_pgn::{PgnFault, read_pgn};
 
-/// How much was read.
+/// How many games were read, and their half-moves.
 #[derive(Clone, Copy, Debug, PartialEq, Eq)]
 pub struct Tally {
     pub games: u64,
     pub half_moves: u64,
 }
 
-/// Reads each game of a text.
+/// Reads all games of a PGN text, and counts them and their half-moves.
 ///
 /// # Errors
 /// The fault of the first game that can't be read.

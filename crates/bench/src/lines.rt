@@ -4,8 +4,8 @@ ghost use Rattle.std.specs.Prelude.{◌≡◌};
 
 use chess_moves::Board;
 
-/// How many lines of so many legal moves there are. The last moves are counted and not made, and nothing is called for
-/// them that has room for a list.
+/// Counts the lines of `depth` legal moves from the board's position (perft). The last moves are counted and not made,
+/// and nothing is called for them that has room for a list.
 pub fn count_lines<B: Board>(board: &mut B, depth: u8) -> u64
     ensures { B.position board.new ≡ B.position board.old }
 {

@@ -26,9 +26,10 @@ use std::{env, fs, io};
 const USAGE: &str =
     "usage: bench\n       bench DEPTH [FEN..], with DEPTH from 0 to 255; no FEN is the initial position\n       bench games FILE\n       bench match TIMES";
 
+// Two short games, with a tag and a variation.
 const TWO_GAMES: &[u8] = b"1. e4 e5 1-0 [Event \"x\"] 1. f3 (1. d4) e5 2. g4 *";
 
-// The arguments, with a space after each.
+// The arguments as one text, with a space after each.
 fn joined(alloc: Global, words: &[String]) -> io::Result<Vec<u8>> {
     let mut text = Vec::new(alloc);
     for word in words {
@@ -38,7 +39,7 @@ fn joined(alloc: Global, words: &[String]) -> io::Result<Vec<u8>> {
     Ok(text)
 }
 
-// The position that a FEN denotes. No text is the initial position.
+// The position that a FEN denotes; the initial one if the text is empty.
 fn start_of(fen: &[u8]) -> Option<Position> {
     if fen.is_empty() {
         return Some(Position::initial());
@@ -46,12 +47,13 @@ fn start_of(fen: &[u8]) -> Option<Position> {
     read_fen(fen).ok()
 }
 
-// How many a second that is, with a millisecond at least.
+// How many `count` is per second, if it took the time `spent` (a millisecond at least).
 fn a_second(count: u64, spent: Duration) -> u64 {
     let millis = u64::try_from(spent.as_millis()).unwrap_or(u64::MAX).max(1);
     count.saturating_mul(1000) / millis
 }
 
+// The arguments after the program's name.
 fn words_of(rt: &HostRuntime) -> io::Result<Vec<String>> {
     let mut words = Vec::new(rt.alloc());
     for word in env::args(rt)?.skip(1) {
@@ -60,7 +62,7 @@ fn words_of(rt: &HostRuntime) -> io::Result<Vec<String>> {
     Ok(words)
 }
 
-// Counts lines from the position that a FEN denotes.
+// Counts and times the lines of `depth` legal moves from the position of a FEN.
 fn measure_lines(rt: &HostRuntime, depth: u8, fen: &[u8]) -> io::Result<ExitCode> {
     let Some(start) = start_of(fen) else {
         return misused(rt);
@@ -76,18 +78,19 @@ fn measure_lines(rt: &HostRuntime, depth: u8, fen: &[u8]) -> io::Result<ExitCode
     Ok(ExitCode::SUCCESS)
 }
 
+// An empty game on a bitboard that uses these tables.
 fn open_game<'t>(alloc: Global, tables: &'t AttackTables) -> Result<Game<Bits<'t>>, AllocError> {
     Game::open(alloc, Bits::new(tables), MOST_MOVES)
 }
 
-// Reads the games of a text.
+// Reads and times the games of a PGN text.
 fn measure_games(rt: &HostRuntime, text: &[u8]) -> io::Result<ExitCode> {
     let tables = AttackTables::open(rt.alloc())?;
     let mut game = open_game(rt.alloc(), &tables)?;
     time_games(rt, text, &mut game)
 }
 
-// The same on a game that is open.
+// The same, with a game that is already allocated.
 fn time_games(rt: &HostRuntime, text: &[u8], game: &mut Game<Bits<'_>>) -> io::Result<ExitCode> {
     let begun = Instant::now(rt)?;
     match read_games(text, game) {
@@ -104,10 +107,10 @@ fn time_games(rt: &HostRuntime, text: &[u8], game: &mut Game<Bits<'_>>) -> io::R
     }
 }
 
-// The half-moves of a match.
+// How many half-moves a match has.
 const MATCH_LEN: usize = 500;
 
-// Plays a match between two engines in memory so many times.
+// Plays and times so many matches between two engines in memory.
 fn measure_matches(rt: &HostRuntime, times: u32) -> io::Result<ExitCode> {
     let tables = AttackTables::open(rt.alloc())?;
     let mut game = open_game(rt.alloc(), &tables)?;
@@ -115,7 +118,7 @@ fn measure_matches(rt: &HostRuntime, times: u32) -> io::Result<ExitCode> {
     time_matches(rt, times, &script, &mut game)
 }
 
-// The same with all that it takes.
+// The same, with a script and a game that are already allocated.
 fn time_matches(
     rt: &HostRuntime,
     times: u32,
@@ -133,7 +136,7 @@ fn time_matches(
     Ok(ExitCode::SUCCESS)
 }
 
-// The half-moves of so many matches.
+// Plays so many matches, and returns the number of their half-moves.
 fn play_matches(
     alloc: Global,
     times: u32,
@@ -149,18 +152,20 @@ fn play_matches(
     half_moves
 }
 
-// A little of each.
+// Measures a little of each: lines, games and a match.
 fn measure_each(rt: &HostRuntime) -> io::Result<ExitCode> {
     measure_lines(rt, 4, KIWIPETE)?;
     measure_games(rt, TWO_GAMES)?;
     measure_matches(rt, 1)
 }
 
+// Prints how the program is called, and returns status 2.
 fn misused(rt: &HostRuntime) -> io::Result<ExitCode> {
     eprintln!(rt; "{USAGE}")?;
     Ok(ExitCode::from(2))
 }
 
+// Does what the arguments ask for.
 fn run(rt: &HostRuntime) -> io::Result<ExitCode> {
     let words = words_of(rt)?;
     match words.as_slice() {
@@ -183,6 +188,7 @@ fn run(rt: &HostRuntime) -> io::Result<ExitCode> {
     }
 }
 
+// Runs the benchmark that the arguments name.
 fn main(rt: HostRuntime) -> io::Result<ExitCode> {
     run(&rt)
 }

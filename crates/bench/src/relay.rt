@@ -9,14 +9,14 @@ use chess_text::coordinate;
 use engine_lines::Level;
 use std::alloc::{AllocError, Global};
 
-/// What two engines say in a match.
+/// All lines that two engines send in a match, each engine's as one text.
 #[derive(Drop)]
 pub struct Script {
     pub white: Vec<u8>,
     pub black: Vec<u8>,
 }
 
-// The moments of a clock that does not move.
+// A clock that always gives 0.
 #[derive(Drop)]
 struct Standing;
 
@@ -25,24 +25,27 @@ impl Moments for Standing {
 
     ghost coming = { λ m n. None };
 
+    // Always 0, so that no time is used.
     fn now(&mut self) -> u64 {
         0
     }
 }
 
-// What comes after a number in a sequence that looks like dice.
+// The number after this one in a pseudorandom sequence (a linear congruential generator).
 fn next_random(number: u32) -> u32 {
     number.wrapping_mul(1_664_525).wrapping_add(1_013_904_223)
 }
 
-// Whether a move takes nothing, and moves a pawn just where none was moved for twenty half-moves: so the game goes on.
+// Whether a move is likely to keep the game going: it captures nothing, and moves a pawn only if none was moved for
+// twenty half-moves.
 fn goes_on(setup: &Setup, m: Move) -> bool {
     let man = setup.men[m.from.index()];
     let is_pawn = man.is_some_and(|man| man.kind == Kind::Pawn);
     setup.men[m.to.index()].is_none() && is_pawn == (setup.halfmove > 20)
 }
 
-// The first such legal move from that index of their list on, and then from its beginning; else the one at that index.
+// The first move that keeps the game going, of the legal moves from the index `place` on and then of those before it;
+// else the one at that index.
 fn next_move<B: Board>(board: &B, place: usize) -> Option<Move> {
     let moves = board.legal_moves();
     let (front, behind) = moves.as_slice().split_at_checked(place)?;
@@ -60,7 +63,7 @@ fn next_move<B: Board>(board: &B, place: usize) -> Option<Move> {
     behind.first().copied()
 }
 
-// A move, and the answer to the `ping` after it.
+// Appends an engine's lines for a move: `move e2e4`, and `pong` with this number for the `ping` after it.
 fn say_move(said: &mut Vec<u8>, m: Move, number: usize) -> Result<(), AllocError> {
     let mut buffer = itoa::Buffer::new();
     said.extend_from_slice(b"move ")?;
@@ -70,17 +73,17 @@ fn say_move(said: &mut Vec<u8>, m: Move, number: usize) -> Result<(), AllocError
     said.extend_from_slice(b"\n")
 }
 
+// An engine's lines of the handshake.
 fn greeting(alloc: Global) -> Result<Vec<u8>, AllocError> {
     let mut said = Vec::new(alloc);
     said.extend_from_slice(b"feature ping=1 usermove=1 setboard=1 done=1\npong 1\n")?;
     Ok(said)
 }
 
-/// What two engines say that play a game of up to so many half-moves, in which hardly a piece is taken; the
-/// game is played here.
+/// All lines that two engines send in a game of at most so many half-moves with few captures; the game is played here.
 ///
 /// # Errors
-/// Where we ran out of memory.
+/// If memory runs out.
 pub fn write_script<B: Board>(
     alloc: Global,
     game: &mut Game<B>,
@@ -110,7 +113,7 @@ pub fn write_script<B: Board>(
     Ok(script)
 }
 
-/// Plays a match between two engines that say this, in pieces of 4,096 bytes, and returns its half-moves.
+/// Plays a match between two engines that send these lines, in reads of 4,096 bytes, and returns its half-moves.
 pub fn relay<B: Board>(alloc: Global, script: &Script, level: Level, game: &mut Game<B>) -> usize {
     let mut white = Ends {
         reader: Counted::reading(PieceReader::new(script.white.as_slice(), 4096, 0)),

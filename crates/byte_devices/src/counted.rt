@@ -7,8 +7,8 @@ ghost use Rattle.byte_devices.specs.ties.Counting.{no_counts, one_failure_more, 
 use crate::traits::{Input, Output, ReadFault, WriteFault};
 use std::io::{self, Read, Write};
 
-// The counts of a reader's or a writer's calls: failures, ends, the length of the last piece that was read, how many
-// were, and how many bytes were taken since the last flush that succeeded.
+// What is counted of a device's calls: calls that failed, reads that reported the end of the input, the length of the
+// last piece read, the pieces read in all, and the bytes written since the last successful flush.
 #[derive(Drop)]
 pub(crate) struct Counts {
     failures: u64,
@@ -20,6 +20,7 @@ pub(crate) struct Counts {
 
 // What is made of a device's answers.
 impl Counts {
+    // The counts before the first call: all 0.
     fn new() -> Self
         ensures { result ≡ no_counts }
     {
@@ -32,7 +33,7 @@ impl Counts {
         }
     }
 
-    // Whether no piece more can be counted.
+    // Whether 2^64 - 1 pieces were read, so that one more can't be counted. Every later read is then a failure.
     fn is_spent(&self) -> bool
         ensures value { result ≡ (self.now.pieces == 2 ^ 64 - 1) }
         ensures room { result ≡ false → self.now.pieces < 2 ^ 64 - 1 }
@@ -40,12 +41,15 @@ impl Counts {
         self.pieces == u64::MAX
     }
 
+    // Counts one failed call.
     fn fail(&mut self)
         ensures { self.new ≡ one_failure_more self.old }
     {
         self.failures = count_up(self.failures);
     }
 
+    // Counts a read by what the device returned: `Ok(0)` reports the end of the input, `Err` is a failure and becomes
+    // `ReadFault`.
     fn end_read(&mut self, answered: io::Result<usize>) -> Result<usize, ReadFault>
         requires { self.old.pieces < 2 ^ 64 - 1 }
         ensures answer { result ≡ passed_on (record {}) answered }
@@ -67,7 +71,8 @@ impl Counts {
         }
     }
 
-    // A write of a piece of that length.
+    // Counts a write of `len` bytes by what the device returned. `Ok(0)` for a piece that isn't empty is a failure, as
+    // `Err` is; both become `WriteFault`.
     fn end_write(&mut self, len: usize, answered: io::Result<usize>) -> Result<usize, WriteFault>
         ensures answer { result ≡ write_passed_on (record {}) len answered }
         ensures counts { self.new ≡ counts_after_write self.old result }
@@ -88,6 +93,7 @@ impl Counts {
         }
     }
 
+    // Counts a flush by what the device returned: after a success 0 bytes are unflushed, `Err` becomes `WriteFault`.
     fn end_flush(&mut self, answered: io::Result<()>) -> Result<(), WriteFault>
         ensures answer { result ≡ passed_on (record {}) answered }
         ensures counts { self.new ≡ counts_after_flush self.old result }
@@ -105,9 +111,10 @@ impl Counts {
     }
 }
 
-/// A reader or a writer, with the counts of its calls. Each call is one call of the device with the same piece. Each
-/// `Err` is a failure, and so is a write that takes nothing of a piece that isn't empty. A count that has reached
-/// 2^64 - 1 stays there, and after as many pieces each read is a failure, with no call of the device.
+/// Makes an `Input` of any reader of std, and an `Output` of any writer, and counts the calls. Each call is one call of
+/// the device with the same piece. Each `Err` is a failure, and so is a write that takes nothing of a piece that isn't
+/// empty. A count that has reached 2^64 - 1 stays there, and after as many pieces each read is a failure, with no call
+/// of the device.
 #[derive(Drop)]
 pub struct Counted<D> {
     device: D,
@@ -115,6 +122,7 @@ pub struct Counted<D> {
 }
 
 impl<D> Counted<D> {
+    // Wraps a device, with all counts 0.
     fn new(device: D) -> Self
         ensures { result ≡ record { device = device; counts = no_counts } }
     {
@@ -126,7 +134,7 @@ impl<D> Counted<D> {
 }
 
 impl<R: Read> Counted<R> {
-    /// An input out of a reader. Nothing is buffered: each piece is one read.
+    /// An `Input` that reads from `reader`. Nothing is buffered: each piece is one call of the reader's `read`.
     pub fn reading(reader: R) -> Self
         ensures { ⟦<Counted<R> as Input>⟧.seen result
             ≡ record {
@@ -140,7 +148,7 @@ impl<R: Read> Counted<R> {
         Counted::new(reader)
     }
 
-    /// The reader.
+    /// The reader that was passed to `reading`.
     pub fn reader(&self) -> &R
         ensures { R.remaining result.now ≡ (⟦<Counted<R> as Input>⟧.seen self.now).known_bytes }
     {
@@ -149,7 +157,7 @@ impl<R: Read> Counted<R> {
 }
 
 impl<W: Write> Counted<W> {
-    /// An output out of a writer. Nothing is buffered: each write is one write.
+    /// An `Output` that writes to `writer`. Nothing is buffered: each write is one call of the writer's `write`.
     pub fn writing(writer: W) -> Self
         ensures { ⟦<Counted<W> as Output>⟧.seen result
             ≡ record { known_bytes = W.contents writer; failure_count = 0; unflushed = 0 } }
@@ -157,14 +165,14 @@ impl<W: Write> Counted<W> {
         Counted::new(writer)
     }
 
-    /// The writer.
+    /// The writer that was passed to `writing`.
     pub fn writer(&self) -> &W
         ensures { W.contents result.now ≡ (⟦<Counted<W> as Output>⟧.seen self.now).known_bytes }
     {
         &self.device
     }
 
-    /// The writer, taken out.
+    /// Unwraps the writer that was passed to `writing`.
     pub fn into_writer(self) -> W
         ensures { W.contents result ≡ (⟦<Counted<W> as Output>⟧.seen self).known_bytes }
     {
@@ -173,7 +181,7 @@ impl<W: Write> Counted<W> {
     }
 }
 
-// A count after one more, which stays at its largest.
+// `count + 1`, but at most `u64::MAX`: a counter that has reached it stays there.
 #[tactic(auto, unfolding(crate::specs::Devices::risen))]
 pub(crate) fn count_up(count: u64) -> u64
     ensures { result ≡ risen count }
@@ -192,6 +200,7 @@ impl<R: Read> Input for Counted<R> {
       pieces_left = 2 ^ 64 - 1 - c.counts.pieces;
     } };
 
+    // One `read` of the reader, counted. Once 2^64 - 1 pieces were read, it fails without a call of the reader.
     fn read(&mut self, buf: &mut [u8]) -> Result<usize, ReadFault> {
         if self.counts.is_spent() {
             self.counts.fail();
@@ -209,11 +218,13 @@ impl<W: Write> Output for Counted<W> {
       unflushed = c.counts.unflushed;
     } };
 
+    // One `write` of the writer, counted.
     fn write(&mut self, buf: &[u8]) -> Result<usize, WriteFault> {
         let answered = self.device.write(buf);
         self.counts.end_write(buf.len(), answered)
     }
 
+    // One `flush` of the writer, counted.
     fn flush(&mut self) -> Result<(), WriteFault> {
         let answered = self.device.flush();
         self.counts.end_flush(answered)

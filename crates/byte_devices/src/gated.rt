@@ -11,9 +11,9 @@ use std::alloc::Global;
 use std::cell::Cell;
 use std::io::{Error, ErrorKind, Read, Result, Write};
 
-/// Gives one line at a call, and shuts the gate after it; a flush of its `GatedWriter` opens it, and a write
-/// shuts it too. Where the gate is shut, a read fails and is counted: it came too early, before the answer to the
-/// last line was passed on.
+/// A reader for tests that a program flushes its answer to a line before it reads the next one. Each read gives one
+/// line and shuts the gate, a write shuts it too, and a flush of the `GatedWriter` opens it. Where the gate is shut, a
+/// read fails and is counted in `early`: it came before the answer to the last line was passed on.
 #[derive(Drop)]
 pub struct GatedReader<'a> {
     /// The bytes that are still to be given.
@@ -25,7 +25,8 @@ pub struct GatedReader<'a> {
 }
 
 impl<'a> GatedReader<'a> {
-    /// A reader that gave nothing yet. The gate is to be open for its first line.
+    /// A reader of `bytes`, which shares the gate `open` with a `GatedWriter`. For the first line to be read, `open` is
+    /// to be true at first.
     pub fn new(bytes: &'a [u8], open: &'a Cell<bool>) -> Self
         ensures bytes { result.rest.now ≡ bytes.now }
         ensures early { result.early ≡ 0 }
@@ -38,7 +39,7 @@ impl<'a> GatedReader<'a> {
     }
 }
 
-// The offset of the first byte 10.
+// The offset of the first line feed (byte 10), if there is one.
 fn line_end(text: &[u8]) -> Option<usize>
     ensures value { result ≡ position (λ b. b == 10) text.now }
     ensures in_range { IfSome result (λ at. at < length text.now) }
@@ -46,7 +47,7 @@ fn line_end(text: &[u8]) -> Option<usize>
     text.iter().position(|byte| *byte == b'\n')
 }
 
-// The length of the first line, with its byte 10.
+// The length of the first line, its line feed (byte 10) included; of the whole text, if it has none.
 fn line_len(text: &[u8]) -> usize
     ensures value { result ≡ first_line_len text.now }
     ensures in_range { result ≤ length text.now }
@@ -63,6 +64,8 @@ impl Read for GatedReader<'_> {
 
     ghost remaining = { λ r. Some r.rest.now };
 
+    // Gives one line, or as much of it as `buf` holds, and shuts the gate. If the gate was shut already, it fails, and
+    // `early` counts one more.
     fn read(&mut self, buf: &mut [u8]) -> Result<usize>
         ensures bound { ReadsAtMost result buf.new }
         ensures bytes { ReadConsumes (Some self.old.rest.now) (Some self.new.rest.now) result buf.new }
@@ -81,7 +84,7 @@ impl Read for GatedReader<'_> {
     }
 }
 
-/// Takes all bytes. A write shuts the gate, and a flush opens it.
+/// A writer into memory that takes each piece whole. A write shuts the gate, and a flush opens it.
 #[derive(Drop)]
 pub struct GatedWriter<'a> {
     /// The bytes that it took.
@@ -91,7 +94,7 @@ pub struct GatedWriter<'a> {
 }
 
 impl<'a> GatedWriter<'a> {
-    /// A writer that took nothing yet.
+    /// An empty writer, which shares the gate `open` with a `GatedReader`.
     pub fn new(alloc: Global, open: &'a Cell<bool>) -> Self
         ensures { result.bytes.items ≡ [] }
     {
@@ -107,6 +110,7 @@ impl Write for GatedWriter<'_> {
 
     ghost contents = { λ w. Some w.bytes.items };
 
+    // Takes all of `buf` and shuts the gate; it fails only where memory runs out.
     fn write(&mut self, buf: &[u8]) -> Result<usize>
         ensures bound { WritesAtMost result buf.now }
         ensures bytes { WriteAppends (Some self.old.bytes.items) (Some self.new.bytes.items) result buf.now }
@@ -119,6 +123,7 @@ impl Write for GatedWriter<'_> {
         Ok(buf.len())
     }
 
+    // Opens the gate.
     fn flush(&mut self) -> Result<()>
         ensures bytes { Keeps (Some self.old.bytes.items) (Some self.new.bytes.items) }
         ensures never_fails { IsOk result }

@@ -9,8 +9,8 @@ use crate::counted::count_up;
 use std::alloc::Global;
 use std::io::{Error, ErrorKind, Read, Result, Write};
 
-/// Gives the bytes in pieces of at most `cut` bytes. The call numbered `fails_at`, from 1 on, fails and moves no byte;
-/// 0 stands for none.
+/// A reader over memory, for tests. Each call gives at most `cut` bytes; the call numbered `fails_at` (the first is 1)
+/// fails and gives none, and 0 means that no call fails.
 #[derive(Drop)]
 pub struct PieceReader<'a> {
     /// The bytes that are still to be given.
@@ -25,7 +25,7 @@ pub struct PieceReader<'a> {
 }
 
 impl<'a> PieceReader<'a> {
-    /// A reader that was not called yet.
+    /// A reader of `bytes` that was not called yet, with `cut` and `fails_at` as in `PieceReader`.
     pub fn new(bytes: &'a [u8], cut: usize, fails_at: u64) -> Self
         requires { 0 < cut }
         ensures bytes { result.rest.now ≡ bytes.now }
@@ -47,6 +47,7 @@ impl Read for PieceReader<'_> {
 
     ghost remaining = { λ r. Some r.rest.now };
 
+    // Gives at most `cut` bytes, or fails if this is the call numbered `fails_at`.
     fn read(&mut self, buf: &mut [u8]) -> Result<usize>
         ensures bound { ReadsAtMost result buf.new }
         ensures bytes { ReadConsumes (Some self.old.rest.now) (Some self.new.rest.now) result buf.new }
@@ -68,8 +69,8 @@ impl Read for PieceReader<'_> {
     }
 }
 
-/// Takes at most `cut` bytes at a time. The call numbered `fails_at`, from 1 on, fails and takes nothing, a flush
-/// too; 0 stands for none.
+/// A writer into memory, for tests. Each write takes at most `cut` bytes; the call numbered `fails_at` (the first is 1;
+/// writes and flushes are counted together) fails and takes none, and 0 means that no call fails.
 #[derive(Drop)]
 pub struct PieceWriter {
     /// The bytes that it took.
@@ -83,7 +84,7 @@ pub struct PieceWriter {
 }
 
 impl PieceWriter {
-    /// A writer that took nothing yet.
+    /// An empty writer that was not called yet, with `cut` and `fails_at` as in `PieceWriter`.
     pub fn new(alloc: Global, cut: usize, fails_at: u64) -> Self
         ensures bytes { result.bytes.items ≡ [] }
         ensures cut { result.cut ≡ cut }
@@ -104,6 +105,7 @@ impl Write for PieceWriter {
 
     ghost contents = { λ w. Some w.bytes.items };
 
+    // Takes at most `cut` bytes, or fails if this is the call numbered `fails_at`.
     fn write(&mut self, buf: &[u8]) -> Result<usize>
         ensures bound { WritesAtMost result buf.now }
         ensures bytes { WriteAppends (Some self.old.bytes.items) (Some self.new.bytes.items) result buf.now }
@@ -126,6 +128,7 @@ impl Write for PieceWriter {
         Ok(count)
     }
 
+    // Does nothing but count the call, and fails if it is the one numbered `fails_at`.
     fn flush(&mut self) -> Result<()>
         ensures bytes { Keeps (Some self.old.bytes.items) (Some self.new.bytes.items) }
         ensures calls { self.new.calls ≡ risen self.old.calls }

@@ -3,42 +3,43 @@
 ghost use Rattle.std.specs.Prelude.{◌<◌, length};
 ghost use Rattle.byte_devices.specs.Devices.{InputState, OutputState, ReadStep, WriteStep, FlushStep, Puts, joined};
 
-/// A read failed. What was read before stays.
+/// The error of a read that failed. It consumed no byte of the input.
 #[derive(Clone, Copy, Debug, PartialEq, Eq, thiserror::Error)]
 #[error("a read failed")]
 pub struct ReadFault;
 
-/// A write or a flush failed. What was taken before stays taken.
+/// The error of a write or a flush that failed. Bytes that earlier calls took stay written.
 #[derive(Clone, Copy, Debug, PartialEq, Eq, thiserror::Error)]
 #[error("a write or a flush failed")]
 pub struct WriteFault;
 
-/// What gives bytes, in pieces. Its contract counts the calls that failed and the ends that were reported.
+/// A source of bytes, read in pieces. Its contract counts the calls that failed and the ends that were reported.
 pub trait Input {
     /// What contracts see of it: the bytes still to come where they are known, and the counts.
     ghost seen: { Self → InputState };
 
-    /// Reads a piece into the front of `buf`, and returns its length in bytes, 0 for the end.
+    /// Reads up to `buf.len()` bytes into the front of `buf`, and returns how many; 0 means the end of the input.
     fn read(&mut self, buf: &mut [u8]) -> Result<usize, ReadFault>
         requires { 0 < length buf.old }
         ensures { ReadStep (seen self.old) (seen self.new) result buf.new };
 }
 
-/// What takes bytes. Its contract counts the calls that failed, and the bytes that are not flushed.
+/// A sink of bytes. Its contract counts the calls that failed, and the bytes that are not flushed.
 pub trait Output {
     /// What contracts see of it: the bytes that it took where they are known, and the counts.
     ghost seen: { Self → OutputState };
 
-    /// Takes a beginning of `buf`, and returns how many bytes.
+    /// Writes some bytes from the front of `buf`, at least one if there is one, and returns how many.
     fn write(&mut self, buf: &[u8]) -> Result<usize, WriteFault>
         ensures { WriteStep (seen self.old) (seen self.new) result buf.now };
 
-    /// Passes on what was taken, so that a reader at the other end has it.
+    /// Passes on all that was written so far, so that a reader at the other end gets it.
     fn flush(&mut self) -> Result<(), WriteFault>
         ensures { FlushStep (seen self.old) (seen self.new) result };
 }
 
-/// Writes all of a text. After a fault a beginning of it has been taken.
+/// Writes all of `text`, by as many writes as it takes, without a flush. If a write fails, only a prefix of the text
+/// was written.
 pub fn put<W: Output>(writer: &mut W, text: &[u8]) -> Result<(), WriteFault>
     ensures { Puts (W.seen writer.old) (W.seen writer.new) result text.now }
 {
@@ -49,7 +50,8 @@ pub fn put<W: Output>(writer: &mut W, text: &[u8]) -> Result<(), WriteFault>
     Ok(())
 }
 
-/// Writes texts, one after the other. After a fault a beginning of them has been taken.
+/// Writes the texts of `parts` one after the other, without a flush. If a write fails, only a prefix of them all was
+/// written.
 pub fn put_parts<W: Output>(writer: &mut W, parts: &[&[u8]]) -> Result<(), WriteFault>
     ensures { Puts (W.seen writer.old) (W.seen writer.new) result (joined parts.now) }
 {

@@ -34,11 +34,11 @@ first_side number = if number % 2 == 1 then White else Black
 abbrev pub command_of : MatchPlan → ℕ → Colour → List ℕ
 command_of plan number side = if same_colour side (first_side number) then plan.white.now else plan.black.now
 
--- the name that an engine gave itself, or else its command
+-- an engine's name in the tags: the one that it gave itself (`myname`), or its command if it gave none
 abbrev pub name_of : List ℕ → List ℕ → List ℕ
 name_of name command = cut_tag (if length name == 0 then command else name)
 
--- the tags of the game with that number
+-- the tags of the game of this number, which ended so
 abbrev pub tags_of : MatchPlan → ℕ → MatchEnd → Tags
 tags_of plan number end = record {
   event = codes "CECP match";
@@ -52,20 +52,20 @@ tags_of plan number end = record {
 
 -- ---- one game
 
--- a game as it is written: its moves, how it ended, and what a log of it holds
+-- a game that was played: its moves, how it ended, and the notes of its match, of which the log is made
 pub record GameRecord : Type 0 where
   pub game : Seen
   pub end : MatchEnd
   pub notes : List Note
 
--- it was played from the plan's start at its level, with at most 20,000 half-moves, between some two engines, whatever
--- these sent
+-- the game `told` was played from the plan's start with its time control, with at most 20,000 half-moves, whatever
+-- the two engines sent
 abbrev pub IsOfPlan : MatchPlan → GameRecord → Type 0
 IsOfPlan plan told = (before : Seen) × (before.limit ≡ MOST_MOVES)
     × (w : Ports) × (w' : Ports) × (coming : ℕ → Option ℕ) × (coming' : ℕ → Option ℕ)
     × RanNoted told.notes plan.start plan.level before told.game told.end w w' coming coming'
 
--- its text, where it has that number
+-- the PGN of a game with this number
 abbrev pub game_text : MatchPlan → ℕ → GameRecord → List ℕ
 game_text plan number told = pgn [] (tags_of plan number told.end) told.game.state
 
@@ -77,7 +77,7 @@ IsStartFault plan _ = ⊥
 
 -- ---- the games
 
--- each of these games is one of the plan, and none has a fault
+-- each of these games was played by the plan, and ended without a fault of an engine
 abbrev pub SoundGames : MatchPlan → List GameRecord → Type 0
 SoundGames plan [] = Unit {0}
 SoundGames plan (told ∷ rest) = IsOfPlan plan told × (told.end.fault ≡ None) × SoundGames plan rest
@@ -90,7 +90,7 @@ game_texts plan games = flat_map (λ g. game_text plan g.0 g.1) (enumerate_from 
 abbrev pub game_logs : List GameRecord → List ℕ
 game_logs games = flat_map (λ g. log_text (first_side g.0) g.1.notes) (enumerate_from 1 games)
 
--- these games were logged where a log is asked for; otherwise nothing was
+-- between the log's states `l` and `l'` these games were logged, if the flag asks for a log; else nothing was
 abbrev pub LogsGames : Bool → LogSeen → LogSeen → List GameRecord → Type 0
 LogsGames false l l' games = l' ≡ l
 LogsGames true l l' games = Logged l l' (game_logs games)
@@ -108,7 +108,7 @@ score_of games = record {
   unfinished = count_of (λ number. Unfinished) games;
 }
 
--- the last line of a match: the counts of the score
+-- the last line of a match, such as `score first 1 second 0 drawn 2 unfinished 0`
 unfoldable pub score_line : Score → List ℕ
 score_line s =
     codes "score first " ++ decimal s.first ++ codes " second " ++ decimal s.second
@@ -121,7 +121,8 @@ EndsGames plan games (Some (number, side, fault)) =
     (before : List GameRecord) × (last : GameRecord) × (games ≡ before ++ last ∷ []) × SoundGames plan before
     × IsOfPlan plan last × (last.end.fault ≡ Some (side, fault)) × (number ≡ length games) × (number ≤ plan.games)
 
--- the games before were played and written, and the next could not be started; or a beginning of its text was written
+-- the match broke off: all games before were written, and the next one could not be started, or only a beginning of
+-- its PGN was written. `w` and `l` are output and log before, `w'` and `l'` after
 abbrev pub BrokeOff : MatchPlan → OutputState → OutputState → LogSeen → LogSeen → GamesFault → Type 0
 BrokeOff plan w w' l l' WriteFailed =
     (games : List GameRecord) × (next : GameRecord) × (start : List ℕ)
@@ -132,19 +133,20 @@ BrokeOff plan w w' l l' fault =
     (games : List GameRecord) × SoundGames plan games × (length games < plan.games)
     × IsStartFault plan fault × Flushed w w' (game_texts plan games) × LogsGames plan.log l l' games
 
--- the text of a match: each game, and then the score
+-- all that a match writes: the PGN of each game, and then the score
 abbrev pub match_text : MatchPlan → List GameRecord → List ℕ
 match_text plan games = game_texts plan games ++ score_line (score_of games)
 
--- the games were written, and then a beginning of the score was
+-- all games were written, but only a beginning of the score. `w` and `l` are output and log before, `w'` and `l'`
+-- after
 abbrev pub BrokeOffAtScore : MatchPlan → OutputState → OutputState → LogSeen → LogSeen → Type 0
 BrokeOffAtScore plan w w' l l' =
     (games : List GameRecord) × (last : Option (ℕ × Colour × MatchFault)) × (start : List ℕ)
     × EndsGames plan games last × Begins start (score_line (score_of games))
     × FlushedThenFailed w w' (game_texts plan games) start × LogsGames plan.log l l' games
 
--- all games were played, or one with a fault was the last: they were written and logged, and then the score was written;
--- the fault is reported as in the game's comment. Where something broke off, the games before were written
+-- what playing a match does, by its result: all games, or all up to one with a fault, were written and logged, and
+-- then the score was written; or it broke off. `w` and `l` are output and log before, `w'` and `l'` after
 abbrev pub RanGames : MatchPlan → OutputState → OutputState → LogSeen → LogSeen → Result (Unit {0}) GamesFault → Type 0
 RanGames plan w w' l l' (Ok _) = (games : List GameRecord) × EndsGames plan games None
     × Flushed w w' (match_text plan games) × LogsGames plan.log l l' games

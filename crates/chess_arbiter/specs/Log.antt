@@ -17,11 +17,11 @@ use Rattle.chess_arbiter.specs.declared.log.LogState.{LogState}
 
 -- ---- one line
 
--- a byte as it is shown: one outside 32 to 126 as a question mark
+-- a byte as the log shows it: `?` (63) for what is no printable ASCII
 abbrev pub shown : ℕ → ℕ
 shown b = if nat_le 32 b && nat_le b 126 then b else byte "?"
 
--- the engine of `--white` is the first, whichever side it has
+-- how the log names an engine: that of `--white` is `first`, whichever side it has
 abbrev pub engine_text : Bool → List ℕ
 engine_text is_first = if is_first then codes "first : " else codes "second: "
 
@@ -29,11 +29,13 @@ engine_text is_first = if is_first then codes "first : " else codes "second: "
 abbrev pub head : ℕ → ℕ → Bool → List ℕ
 head moment mark is_first = decimal moment ++ ((32 ∷ mark ∷ []) ++ engine_text is_first)
 
--- a whole line of the log: its head, the text with `?` for each byte that can't be shown, and byte 10
+-- a whole line of the log, such as `312 <first : move e2e4`, with `?` for what can't be shown; `mark` is the byte of
+-- `<` or `!`, and `is_first` says whether the engine is that of `--white`
 abbrev pub log_line : ℕ → ℕ → Bool → List ℕ → List ℕ
 log_line moment mark is_first text = head moment mark is_first ++ (map shown text ++ new_line ∷ [])
 
--- bytes that an engine is sent: each line begins with the head, the first only where the bytes begin a line
+-- bytes that an engine is sent, as the log shows them: each line begins with `front` (`312 >first : `), a first one
+-- only if the bytes begin at the start of a line (`at_start`)
 abbrev pub given_text : List ℕ → Bool → List ℕ → List ℕ
 given_text front at_start [] = []
 given_text front at_start (b ∷ bs) =
@@ -64,7 +66,7 @@ after_note s (Happened (Opened c now)) = record s { moment = now }
 after_note s (Happened _) = record s { at_start = true }
 after_note s (Gives c text) = record s { at_start = ends_line s.at_start text }
 
--- the log of these notes, from that state on
+-- what is logged of these notes, from the state `s` on; `first` is the side of the engine of `--white`
 abbrev pub log_from : Colour → LogState → List Note → List ℕ
 log_from first s [] = []
 log_from first s (n ∷ notes) = note_text first s n ++ log_from first (after_note s n) notes
@@ -75,38 +77,41 @@ log_text first notes = log_from first (record { moment = 0; at_start = true }) n
 
 -- ---- the output
 
--- what is seen of a log: its output, and whether a write or a flush of it failed
+-- what contracts see of a log: the output that it writes to, and whether a write or flush failed, after which it
+-- writes nothing more
 pub record LogSeen : Type 0 where
   pub output : OutputState
   pub broken : Bool
 
--- what is seen of a log with that output and those pending bytes
+-- what contracts see of a log with this output and these bytes that wait to be written
 abbrev pub log_seen : OutputState → Pending → LogSeen
 log_seen o p = record { output = o; broken = p.broken }
 
--- what became of a text that was logged, by whether the log was broken before and is now: the text was written and
--- flushed but for pending bytes; or a write or a flush failed, and a beginning was written and nothing more. A broken
--- log writes nothing, and stays so
+-- what logging a text did, by whether the log was broken before and is now: it was written and flushed, but for the
+-- bytes that are pending; or a call failed, and a beginning was written; or, if broken before, nothing was. `o` and
+-- `o'` are the output before and after
 abbrev pub Logs : Bool → Bool → OutputState → OutputState → List ℕ → List ℕ → Type 0
 Logs false false o o' pending text = (written : List ℕ) × Flushed o o' written × (written ++ pending ≡ text)
 Logs false true o o' pending text =
     (written : List ℕ) × (start : List ℕ) × Begins (written ++ start) text × FlushedThenFailed o o' written start
 Logs true broken o o' pending text = (broken ≡ true) × (o' ≡ o)
 
--- the text was logged, and no byte of it is pending
+-- between its states `l` and `l'` all of a text was logged, or as much as `Logs` allows
 abbrev pub Logged : LogSeen → LogSeen → List ℕ → Type 0
 Logged l l' text = Logs l.broken l'.broken l.output l'.output [] text
 
 -- ---- a match that is logged
 
--- a match ran as `MatchRan` says, and these are the notes of its transcript
+-- a game ran as `MatchRan` says, and these are the notes of its transcript. `g`, `w` and `coming` are game, devices
+-- and clock before, `g'`, `w'` and `coming'` after
 abbrev pub RanNoted : List Note → Setup → LevelSeen → Seen → Seen → MatchEnd → Ports → Ports → (ℕ → Option ℕ)
     → (ℕ → Option ℕ) → Type 0
 RanNoted notes start level g g' end w w' coming coming' =
     (T : List Event) × (notes ≡ notes_of (rules_of start level g.limit) T)
     × RanBy T start level g g' end w w' coming coming'
 
--- a match ran, and was logged with that side as the first engine's
+-- a game ran and was logged, with the engine of `--white` on the side `first`. `l`, `g`, `w` and `coming` are log,
+-- game, devices and clock before, `l'`, `g'`, `w'` and `coming'` after
 abbrev pub RanLogged : Colour → LogSeen → LogSeen → Setup → LevelSeen → Seen → Seen → MatchEnd → Ports → Ports
     → (ℕ → Option ℕ) → (ℕ → Option ℕ) → Type 0
 RanLogged first l l' start level g g' end w w' coming coming' =

@@ -32,56 +32,60 @@ use Rattle.chess_arbiter.specs.Stub.{stub_response, waiting}
 use Rattle.chess_arbiter.specs.declared.fault.ProgramFault.TheVariants.{WrongWords}
 use Rattle.chess_game.specs.declared.game.TheConstants.{MOST_MOVES}
 
--- the exit status of what may fail: 1 where it did
+-- the exit status of something that may fail: 1 if it did
 abbrev pub status_of : {A E : Type 0} → Result A E → ℕ
 status_of result = if is_ok result then 0 else 1
 
--- the exit status of a fault of the program: 2 for invalid arguments, else 1
+-- the exit status of a fault: 2 for invalid arguments, else 1
 abbrev pub fault_status : ProgramFault → ℕ
 fault_status WrongWords = 2
 fault_status _ = 1
 
--- lines of the input were answered on the output, from this state on, to an end or up to a fault
+-- the input's lines were answered on the output by a server, from its state `s` on, up to its end or a fault. `r` and
+-- `w` are input and output before, `r'` and `w'` after
 abbrev pub RanServer : {S : Type 0} → Server S → S → InputState → InputState → OutputState → OutputState → ℕ → Type 0
 RanServer {S} respond s r r' w w' status =
     (outcome : Result End Fault) × (s' : S) × (t : Transcript)
     × SessionRan respond r r' w w' s s' t outcome × (status ≡ status_of outcome)
 
--- a session of at most 20,000 half-moves ran, from what `new` leaves; or we ran out of memory for one, and nothing was
--- read or written
+-- a session of at most 20,000 half-moves ran; or memory ran out for it, and nothing was read or written. `r` and `w`
+-- are input and output before, `r'` and `w'` after
 abbrev pub RanSession : InputState → InputState → OutputState → OutputState → ℕ → Type 0
 RanSession r r' w w' status =
     RanServer session_response (opened_session default_tags MOST_MOVES) r r' w w' status
     ⊎ ((r' ≡ r) × (w' ≡ w) × (status ≡ 1))
 
--- what the flags of `verify` ask for
+-- the options of verifying that the flags of `verify` ask for
 abbrev pub options_of : VerifyPlan → VerifyOptions
 options_of plan = record { quiet = plan.quiet; strict = plan.strict }
 
--- the games of the input were verified: piece by piece, or as one text up to its first fault
+-- what verifying does: with `--keep-going` (true) piece by piece, else as one text up to its first fault
 abbrev pub VerifiesAs : Bool → VerifyOptions → InputState → InputState → OutputState → OutputState
     → Result Verified VerifyFault → Type 0
 VerifiesAs true = VerifiesCollection
 VerifiesAs false = Verifies
 
--- the exit status of `verify`: 0 where all was verified and no game has a fault, else 1
+-- the exit status of `verify`: 0 if all was verified and no game has a fault, else 1
 abbrev pub verify_status : Result Verified VerifyFault → ℕ
 verify_status (Ok EachGame) = 0
 verify_status _ = 1
 
--- they were, and the status says whether there was a fault
+-- the input's games were verified as the flags ask, and the exit status says whether there was a fault. `r` and `w`
+-- are input and output before, `r'` and `w'` after
 abbrev pub RanVerify : VerifyPlan → InputState → InputState → OutputState → OutputState → ℕ → Type 0
 RanVerify plan r r' w w' status = (outcome : Result Verified VerifyFault)
     × VerifiesAs plan.keep_going (options_of plan) r r' w w' outcome × (status ≡ verify_status outcome)
 
--- a text of help was written and flushed, or a beginning of it was written; or we ran out of memory for it
+-- a text of help was written and flushed, or a beginning of it if that failed; or memory ran out for it, and nothing
+-- was written. `w` is the output before, `w'` after
 abbrev pub RanHelp : OutputState → OutputState → ℕ → Type 0
 RanHelp w w' status =
     ((outcome : Result (Unit {0}) WriteFault) × (text : List ℕ) × Sends w w' outcome text
     × (status ≡ status_of outcome))
     ⊎ ((w' ≡ w) × (status ≡ 1))
 
--- what is reported of arguments that ask for nothing: help and the version on the output, all else on the error output
+-- what is done with arguments that ask for nothing: help and the version go to the output (`w` before, `w'` after),
+-- all else to the error output, of which nothing is said here
 abbrev pub ReportsArguments : WordsFault → OutputState → OutputState → ℕ → Type 0
 ReportsArguments (words.Words e) w w' status =
     ((kind_of e ≢ DisplayHelp) → (kind_of e ≢ DisplayVersion) → (w' ≡ w) × (status ≡ 2))
@@ -89,14 +93,15 @@ ReportsArguments (words.Words e) w w' status =
 ReportsArguments words.NoMemory w w' status = (w' ≡ w) × (status ≡ 1)
 ReportsArguments fault w w' status = (w' ≡ w) × (status ≡ 2)
 
--- games were played, written and logged, and the status says whether anything failed; what the error output has is said
--- for status 0 alone
+-- the games of a match were played, written and logged, and the exit status says whether anything failed. What the
+-- error output has is said only for status 0. `w` and `l` are output and log before, `w'` and `l'` after
 abbrev pub RanMatch : MatchPlan → OutputState → OutputState → LogSeen → LogSeen → ℕ → Type 0
 RanMatch plan w w' l l' status =
     (outcome : Result (Unit {0}) GamesFault) × (logged : LogSeen) × RanGames plan w w' l logged outcome
     × (status ≡ status_of outcome) × (status ≡ 0 → l' ≡ logged)
 
--- what the arguments ask for was done, or it was reported why they ask for nothing
+-- the program did what its arguments ask for, or reported why they ask for nothing. `r`, `w` and `l` are input,
+-- output and error output before, `r'`, `w'` and `l'` after
 abbrev pub RanPlan : Result Plan WordsFault → InputState → InputState → OutputState → OutputState → LogSeen → LogSeen → ℕ
     → Type 0
 RanPlan (Ok Session) r r' w w' l l' status = RanSession r r' w w' status
@@ -105,7 +110,8 @@ RanPlan (Ok (Stub words)) r r' w w' l l' status = RanServer stub_response (waiti
 RanPlan (Ok (Match plan)) r r' w w' l l' status = (r' ≡ r) × RanMatch plan w w' l l' status
 RanPlan (Err fault) r r' w w' l l' status = (r' ≡ r) × ReportsArguments fault w w' status
 
--- the arguments were read, and what they ask for was done
+-- what the program does with these arguments: it reads them, and does what they ask for. `r`, `w` and `l` are input,
+-- output and error output before, `r'`, `w'` and `l'` after
 abbrev pub RanProgram : List Text → InputState → InputState → OutputState → OutputState → LogSeen → LogSeen → ℕ
     → Type 0
 RanProgram words r r' w w' l l' status = (read : Result Plan WordsFault) × IsReading words read

@@ -10,11 +10,12 @@ use Rattle.chess_cecp.specs.Serving.{Response}
 use Rattle.chess_cecp.specs.declared.command.Command.{Command}
 use Rattle.chess_cecp.specs.declared.command.Command.TheVariants.{New, UserMove, Ping, Protover, Go, Quit, Silent, Unknown}
 
--- the arguments of a stub
+-- the arguments of a stub, as references to texts
 abbrev pub Words : Type 0
 Words = List (Bor (List ℕ))
 
--- the arguments that are left, and whether it plays
+-- the state of a stub: its arguments that are not yet used, and whether it plays (from `go` on, up to `force` or
+-- `new`)
 pub record StubState : Type 0 where
   pub words : Words
   pub plays : Bool
@@ -33,7 +34,7 @@ says s text = record { text = text; state = s; ends = false }
 
 -- ---- a turn
 
--- what is said for an argument that is a remark after a move
+-- what the stub sends for the argument `offer` or `claim`, which may follow a move; `None` for any other
 abbrev pub remark : List ℕ → Option (List ℕ)
 remark word =
     if bytes_eq word (codes "offer") then Some (codes "offer draw" ++ new_line ∷ [])
@@ -44,11 +45,11 @@ remark word =
 abbrev pub is_remark : Bor (List ℕ) → Bool
 is_remark word = is_some (remark word.now)
 
--- what is said for the arguments after a move: for the first ones that are remarks
+-- what the stub sends for the arguments `offer` and `claim` at the front of these
 unfoldable pub remarks : Words → List ℕ
 remarks words = flat_map (λ word. unwrap_or (remark word.now) []) (take_while is_remark words)
 
--- the arguments after those
+-- these arguments without any `offer` and `claim` at their front
 unfoldable pub after_remarks : Words → Words
 after_remarks words = drop (prefix_len is_remark words) words
 
@@ -56,7 +57,8 @@ after_remarks words = drop (prefix_len is_remark words) words
 abbrev pub played_text : List ℕ → List ℕ
 played_text word = (if bytes_eq word (codes "resign") then [] else codes "move ") ++ (word ++ new_line ∷ [])
 
--- a turn: the next argument is played, and with none left it resigns
+-- the stub's turn: it plays the next argument, and the `offer` and `claim` after it; `end` makes it end in the middle
+-- of a line; with none left it resigns
 abbrev pub turn : Words → Response StubState
 turn [] = says (playing []) (codes "resign" ++ new_line ∷ [])
 turn (word ∷ words) =
@@ -69,11 +71,12 @@ turn (word ∷ words) =
 abbrev pub features : List ℕ
 features = codes "feature ping=1 setboard=1 usermove=1 myname=\"stub\" done=1" ++ new_line ∷ []
 
--- a move of the other side: while it plays, it is its turn
+-- what the stub does at a move of its opponent: its turn, if it plays
 abbrev pub moved : StubState → Response StubState
 moved s = if s.plays then turn s.words else says s []
 
--- one row for each command, `usermove` without a move among them; at all others it says nothing
+-- what the stub does at a command; `text` is the line's. `usermove` alone counts as a move too; other commands are
+-- ignored
 abbrev pub row : StubState → List ℕ → Command → Response StubState
 row s text (Protover n) = says s features
 row s text (Ping n) = says s (codes "pong " ++ (decimal n ++ new_line ∷ []))
@@ -85,6 +88,6 @@ row s text Quit = record (says s []) { ends = true }
 row s text Silent = if bytes_eq (word_of text) (codes "force") then says (waiting s.words) [] else says s []
 row s text _ = says s []
 
--- of a line that is too long it says nothing
+-- what the stub does at a line; one that is too long is ignored
 unfoldable pub stub_response : StubState → LineSeen → Response StubState
 stub_response s line = if line.too_long then says s [] else row s line.text (command_of line.text)

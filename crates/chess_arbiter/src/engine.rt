@@ -23,7 +23,7 @@ pub(crate) struct Engine<P: OpenProcess + Drop> {
     pub ends: Ends<Counted<P::Stdout>, Counted<P::Stdin>>,
 }
 
-// Why the system did not start a program.
+// Why an engine could not be started, by the system's error.
 fn start_fault(error: &io::Error) -> StartFault {
     if error.kind() == io::ErrorKind::OutOfMemory {
         StartFault::NoMemory
@@ -32,7 +32,7 @@ fn start_fault(error: &io::Error) -> StartFault {
     }
 }
 
-// Splits a command at spaces and tabs: the program and its arguments.
+// Splits a command at spaces and tabs into the program and its arguments.
 fn command_of(alloc: Global, text: &str) -> Result<Command, StartFault> {
     let mut parts = text.split([' ', '\t']).filter(|part| !part.is_empty());
     let Some(program) = parts.next() else {
@@ -53,7 +53,7 @@ fn command_of(alloc: Global, text: &str) -> Result<Command, StartFault> {
 /// that of this process. A name without a slash is looked for on the path.
 ///
 /// # Errors
-/// Where the command is empty, where there is no such program, or no memory.
+/// If the command is empty, there is no such program, or memory runs out.
 pub(crate) fn start<R: Processes>(
     rt: &R,
     alloc: Global,
@@ -83,10 +83,10 @@ pub(crate) fn start<R: Processes>(
     }
 }
 
-// How often an engine is asked whether it has ended, a millisecond apart, before its output is closed.
+// How often an engine is asked whether it has ended, at intervals of a millisecond, before its output is closed.
 const GRACE: u32 = 500;
 
-// Waits a little for the end of an engine whose input is closed, so that what it writes last meets an open pipe.
+// Waits up to half a second for an engine to end whose input is closed, so that its last output meets an open pipe.
 fn give_grace<C: Clock, P: OpenProcess>(rt: &C, child: &mut Child<P>) {
     for _ in 0..GRACE {
         match child.try_wait() {

@@ -37,19 +37,20 @@ impl ProgramFault {
     }
 }
 
-// An output that takes text.
+// An output, to which formatted text can be written.
 #[derive(Drop)]
 struct TextOn<'a, W> {
     output: &'a mut W,
 }
 
 impl<W: Output> fmt::Write for TextOn<'_, W> {
+    // Writes a text, as formatting asks for it.
     fn write_str(&mut self, text: &str) -> fmt::Result {
         put(self.output, text.as_bytes()).map_err(|_| fmt::Error)
     }
 }
 
-/// Writes a text to the error output. A failed one is passed over.
+/// Writes a text to the error output; if that fails, nothing is done about it.
 pub(crate) fn report_text<E: Output, D: Display>(errors: &mut E, text: &D) {
     let mut output = TextOn { output: errors };
     if write!(output, "{text}").is_ok() {
@@ -57,7 +58,7 @@ pub(crate) fn report_text<E: Output, D: Display>(errors: &mut E, text: &D) {
     }
 }
 
-/// Writes a fault as the line `arbiter: FAULT`. A failed error output is passed over.
+/// Writes a fault to the error output as the line `arbiter: FAULT`; if that fails, nothing is done about it.
 pub(crate) fn report<E: Output, D: Display>(errors: &mut E, fault: &D) {
     let mut output = TextOn { output: errors };
     if writeln!(output, "arbiter: {fault}").is_ok() {
@@ -73,7 +74,7 @@ pub(crate) fn reported_fault<E: Output>(errors: &mut E, fault: ProgramFault) -> 
     fault
 }
 
-// Writes a fault, and returns that status.
+// Writes a fault to the error output, and returns this exit status.
 pub(crate) fn reported<E: Output, D: Display>(errors: &mut E, fault: &D, status: u8) -> u8
     ensures { result ≡ status }
 {

@@ -47,7 +47,7 @@ pub(crate) enum GamesFault<'a> {
     Game(u32, &'static str),
 }
 
-// How a fault of a side's engine is reported.
+// How a fault of the engine of this side is reported, such as `White has no ping`.
 fn fault_text(side: Colour, fault: MatchFault) -> &'static str
     ensures { result.now ≡ comment_of (Faulted side fault) }
 {
@@ -57,7 +57,7 @@ fn fault_text(side: Colour, fault: MatchFault) -> &'static str
     }
 }
 
-// The side of the first engine.
+// The side of the engine of `--white` in the game of this number.
 fn first_side(number: u32) -> Colour
     ensures { result ≡ first_side number }
 {
@@ -79,7 +79,7 @@ fn command_of<'a>(plan: &MatchPlan<'a>, number: u32, side: Colour) -> &'a str
     }
 }
 
-// The name that an engine gave itself, or else its command.
+// An engine's name in the tags: the one that it gave itself, or its command if it gave none.
 fn name_of(name: &TagText, command: &str) -> TagText
     ensures { result ≡ name_of name.now command.now }
 {
@@ -91,7 +91,7 @@ fn name_of(name: &TagText, command: &str) -> TagText
     }
 }
 
-// The tags of the game with that number.
+// The tags of the game of this number, which ended so.
 fn tags_of(plan: &MatchPlan<'_>, number: u32, end: &MatchEnd) -> Tags
     ensures { result ≡ tags_of plan.now number end.now }
 {
@@ -107,7 +107,7 @@ fn tags_of(plan: &MatchPlan<'_>, number: u32, end: &MatchEnd) -> Tags
     }
 }
 
-// The side of the first engine in the game with that number, where the plan asks for a log.
+// The side of the engine of `--white` in the game of this number, if the plan asks for a log.
 fn logged_side(plan: &MatchPlan<'_>, number: u32) -> Option<Colour>
     ensures { result ≡ logged_side plan.now number }
 {
@@ -118,7 +118,7 @@ fn logged_side(plan: &MatchPlan<'_>, number: u32) -> Option<Colour>
     }
 }
 
-// Plays one game between two engines, and logs it where `first` is the side of the first engine.
+// Plays one game between two engines, and logs it if `first`, the side of the engine of `--white`, is given.
 fn relay<'t, R: Input, W: Output, M: Moments, E: Output>(
     white: &mut Ends<R, W>,
     black: &mut Ends<R, W>,
@@ -147,7 +147,7 @@ fn relay<'t, R: Input, W: Output, M: Moments, E: Output>(
     run_match_logged(white, black, moments, setup, game, first, log)
 }
 
-// Plays one game between two engines that run, and ends both.
+// Plays one game between two running engines, and ends both; `first` as in `relay`.
 fn play_game<'t, C: Clock, P: OpenProcess + Drop, M: Moments, E: Output>(
     rt: &C,
     white: Engine<P>,
@@ -201,7 +201,7 @@ fn play_game<'t, C: Clock, P: OpenProcess + Drop, M: Moments, E: Output>(
     end
 }
 
-// Writes and flushes a game's text.
+// Writes a game's PGN, and flushes.
 fn write_game<'t, W: Output>(
     game: &Game<Bits<'t>>,
     scratch: &mut Bits<'t>,
@@ -214,14 +214,14 @@ fn write_game<'t, W: Output>(
     output.flush()
 }
 
-// Writes and flushes the score.
+// Writes the line of the score, and flushes.
 fn write_score<W: Output>(score: Score, output: &mut W) -> Result<(), WriteFault>
     ensures { Sends (W.seen output.old) (W.seen output.new) result (score_line score) }
 {
     send(output, score.line().as_slice())
 }
 
-// How a fault at the start of an engine is reported.
+// How the fault of starting the engine with this command is reported.
 fn start_fault<'a>(fault: StartFault, command: &'a str) -> GamesFault<'a>
     ensures fails { FailsToStart command.entry.now result }
     ensures told { ReportsStart fault command.entry.now result }
@@ -232,7 +232,8 @@ fn start_fault<'a>(fault: StartFault, command: &'a str) -> GamesFault<'a>
     }
 }
 
-// Starts both engines of a game. Where Black's can't be started, White's is ended.
+// Starts both engines of a game; `white` and `black` are their commands. If Black's can't be started, White's is
+// ended.
 fn start_both<'a, P: Processes + Clock>(
     rt: &P,
     alloc: Global,
@@ -254,7 +255,7 @@ fn start_both<'a, P: Processes + Clock>(
     }
 }
 
-// Plays the game with that number, and writes and flushes its text.
+// Plays the game of this number, and writes and flushes its PGN.
 fn play_one<'a, 't, P: Processes + Clock, M: Moments, W: Output, E: Output>(
     rt: &P,
     alloc: Global,
@@ -294,7 +295,8 @@ fn play_one<'a, 't, P: Processes + Clock, M: Moments, W: Output, E: Output>(
     }
 }
 
-// The score of the games that were played, and the fault that ended them.
+// The score of the games that were played; and, if an engine had a fault, the number of the last game, the engine's
+// side and the fault.
 #[derive(Clone, Copy)]
 struct GamesPlayed {
     score: Score,
@@ -309,7 +311,7 @@ fn game_count(plan: &MatchPlan<'_>) -> u32
     u32::from(plan.games)
 }
 
-// Plays game after game, up to the first with a fault.
+// Plays game after game, up to the first in which an engine has a fault.
 fn play_each<'a, 't, P: Processes + Clock, M: Moments, W: Output, E: Output>(
     rt: &P,
     alloc: Global,
@@ -344,19 +346,19 @@ fn play_each<'a, 't, P: Processes + Clock, M: Moments, W: Output, E: Output>(
     Ok(GamesPlayed { score, fault: None })
 }
 
-// A game with its board, over those tables.
+// A new game of at most 20,000 half-moves, on a bitboard that uses these tables.
 fn open_game<'t>(alloc: Global, tables: &'t AttackTables) -> Result<Game<Bits<'t>>, AllocError>
     ensures { IfOk result (λ g. g.limit ≡ MOST_MOVES) }
 {
     Game::open(alloc, Bits::new(tables), MOST_MOVES)
 }
 
-/// Plays the games of a match, with colours changed after each, and writes each game's text and then the score; where
-/// the plan asks for a log, each game is logged.
+/// Plays the games of a match, with colours changed after each, and writes each game's PGN and then the score; if the
+/// plan asks for a log, each game is logged.
 ///
 /// # Errors
-/// Where an engine can't be started, there is no memory, the output failed, or an engine failed in a game,
-/// which is then the last.
+/// If an engine can't be started, memory runs out, the output fails, or an engine fails in a game, which is then the
+/// last.
 pub(crate) fn play_games<'a, P: Processes + Clock, W: Output, E: Output>(
     rt: &P,
     alloc: Global,

@@ -20,14 +20,14 @@ use chess_match::{ENGINE_LINE_LEN, Ends, MatchEnd, Moments, Setup, Witness, run_
 use chess_moves::Board;
 use itoa::Buffer;
 
-// The bytes of a line that has not ended, and whether a write or a flush failed.
+// The bytes of a line of the log that has not ended, and whether a write or flush of the log failed.
 #[derive(Drop)]
 pub(crate) struct Pending {
     bytes: ArrayVec<u8, 256>,
     broken: bool,
 }
 
-// The moment of the last event, and whether the next byte begins a line.
+// The time of the last event that has one, and whether the log is at the start of a line.
 #[derive(Clone, Copy)]
 pub(crate) struct LogState {
     moment: u64,
@@ -35,7 +35,7 @@ pub(crate) struct LogState {
 }
 
 impl LogState {
-    // The state before a match.
+    // The log's state before a game: time 0, at the start of a line.
     fn start() -> Self
         ensures { result ≡ log_start }
     {
@@ -46,7 +46,7 @@ impl LogState {
     }
 }
 
-// A byte as it is shown.
+// A byte as the log shows it: `?` for what is no printable ASCII.
 fn shown(byte: u8) -> u8
     ensures { result ≡ shown byte }
 {
@@ -57,7 +57,7 @@ fn shown(byte: u8) -> u8
     }
 }
 
-// Writes and flushes a text, unless a write or a flush failed before. Returns whether one has failed.
+// Writes and flushes a text, unless a call on the log failed before (`broken`). Returns whether one has failed by now.
 fn send_unless_broken<E: Output>(output: &mut E, text: &[u8], broken: bool) -> bool
     ensures { Logs broken result (E.seen output.old) (E.seen output.new) [] text.now }
 {
@@ -68,6 +68,7 @@ fn send_unless_broken<E: Output>(output: &mut E, text: &[u8], broken: bool) -> b
 }
 
 impl Pending {
+    // Nothing is pending, and no write or flush has failed.
     fn new() -> Self
         ensures bytes { result.bytes.items ≡ [] }
         ensures broken { result.broken ≡ false }
@@ -78,7 +79,7 @@ impl Pending {
         }
     }
 
-    // Writes and flushes the pending bytes.
+    // Writes and flushes the bytes that wait.
     fn flush_pending<E: Output>(&mut self, output: &mut E)
         ensures adds { Adds (E.seen output.old) (E.seen output.new) self.old self.new [] }
         ensures empty { array_vec_len self.new.bytes ≡ 0 }
@@ -88,7 +89,7 @@ impl Pending {
         self.bytes.clear();
     }
 
-    // Makes room for a byte.
+    // Makes room for a byte: writes and flushes the bytes that wait, if there is none.
     fn make_room<E: Output>(&mut self, output: &mut E)
         ensures adds { Adds (E.seen output.old) (E.seen output.new) self.old self.new [] }
         ensures room { array_vec_len self.new.bytes < 256 }
@@ -98,7 +99,7 @@ impl Pending {
         }
     }
 
-    // Writes and flushes the pending bytes where that byte ends a line.
+    // Writes and flushes the bytes that wait, if this byte ends a line.
     fn end_line<E: Output>(&mut self, output: &mut E, byte: u8)
         ensures adds { Adds (E.seen output.old) (E.seen output.new) self.old self.new [] }
     {
@@ -107,7 +108,7 @@ impl Pending {
         }
     }
 
-    // Adds a byte.
+    // Logs a byte.
     fn add<E: Output>(&mut self, output: &mut E, byte: u8)
         ensures { Adds (E.seen output.old) (E.seen output.new) self.old self.new (byte ∷ []) }
     {
@@ -116,7 +117,7 @@ impl Pending {
         self.end_line(output, byte);
     }
 
-    // Adds a text.
+    // Logs a text.
     fn add_text<E: Output>(&mut self, output: &mut E, text: &[u8])
         ensures { Adds (E.seen output.old) (E.seen output.new) self.old self.new text.now }
     {
@@ -125,7 +126,7 @@ impl Pending {
         }
     }
 
-    // Adds a text, as it is shown.
+    // Logs a text, with `?` for what is no printable ASCII.
     fn add_shown<E: Output>(&mut self, output: &mut E, text: &[u8])
         ensures { Adds (E.seen output.old) (E.seen output.new) self.old self.new (map shown text.now) }
     {
@@ -134,7 +135,7 @@ impl Pending {
         }
     }
 
-    // Adds a number.
+    // Logs a number.
     fn add_number<E: Output>(&mut self, output: &mut E, number: u64)
         ensures { Adds (E.seen output.old) (E.seen output.new) self.old self.new (decimal number) }
     {
@@ -142,7 +143,8 @@ impl Pending {
         self.add_text(output, buffer.format(number).as_bytes());
     }
 
-    // Adds what a line begins with.
+    // Logs what a line begins with, such as `312 <first : `; `mark` is `<`, `>` or `!`, and `is_first` says whether
+    // the engine is that of `--white`.
     fn add_head<E: Output>(&mut self, output: &mut E, moment: u64, mark: u8, is_first: bool)
         ensures { Adds (E.seen output.old) (E.seen output.new) self.old self.new (head moment mark is_first) }
     {
@@ -151,7 +153,8 @@ impl Pending {
         self.add_text(output, engine_text(is_first));
     }
 
-    // Adds a whole line.
+    // Logs a whole line, such as `312 <first : move e2e4`; `mark` is `<`, `>` or `!`, and `is_first` says whether the
+    // engine is that of `--white`.
     fn add_line<E: Output>(
         &mut self,
         output: &mut E,
@@ -168,7 +171,7 @@ impl Pending {
         self.add(output, b'\n');
     }
 
-    // Adds a line that an engine sent.
+    // Logs a line that an engine sent, such as `312 <first : move e2e4`; `is_first`: the engine is that of `--white`.
     fn add_received<E: Output>(
         &mut self,
         output: &mut E,
@@ -186,7 +189,8 @@ impl Pending {
         self.add_line(output, moment, b'<', is_first, line.text());
     }
 
-    // Adds what a line begins with, where one begins.
+    // Logs what a line begins with, such as `312 >first : `, if the log is at the start of one; `is_first`: the engine
+    // is that of `--white`.
     fn add_head_if<E: Output>(&mut self, output: &mut E, state: LogState, is_first: bool)
         ensures { Adds (E.seen output.old) (E.seen output.new) self.old self.new
             (if state.at_start then head state.moment (letter ">") is_first else []) }
@@ -196,7 +200,8 @@ impl Pending {
         }
     }
 
-    // Adds a byte that an engine is sent.
+    // Logs a byte that an engine is sent, after what a line begins with if it begins one; `is_first`: the engine is
+    // that of `--white`.
     fn add_given_byte<E: Output>(
         &mut self,
         output: &mut E,
@@ -212,7 +217,8 @@ impl Pending {
         self.add(output, given_byte(byte));
     }
 
-    // Adds bytes that an engine is sent. Returns the state after them.
+    // Logs bytes that an engine is sent, and returns the log's state after them; `is_first`: the engine is that of
+    // `--white`.
     fn add_given<E: Output>(
         &mut self,
         output: &mut E,
@@ -240,14 +246,14 @@ impl Pending {
     }
 }
 
-// A byte that an engine is sent, as it is shown.
+// A byte that an engine is sent, as the log shows it.
 fn given_byte(byte: u8) -> u8
     ensures { result ≡ (if byte == new_line then new_line else shown byte) }
 {
     if byte == b'\n' { byte } else { shown(byte) }
 }
 
-// The name of an engine in the log.
+// How the log names an engine; `is_first`: it is that of `--white`.
 fn engine_text(is_first: bool) -> &'static [u8]
     ensures { result.now ≡ engine_text is_first }
 {
@@ -266,8 +272,8 @@ pub(crate) fn is_side(side: Colour, other: Colour) -> bool
     }
 }
 
-/// An output on which matches are logged. As a witness of a match it writes each event, and each line that an engine is
-/// sent, in the form of XBoard's debug file. After a write or a flush that failed it logs nothing more.
+/// An output on which games are logged in the form of XBoard's debug file: it watches a match, and writes each event,
+/// and each line that an engine is sent. After a write or flush that failed it logs nothing more.
 #[derive(Drop)]
 pub struct Log<E> {
     pub(crate) output: E,
@@ -278,7 +284,7 @@ pub struct Log<E> {
 }
 
 impl<E: Output> Log<E> {
-    /// A log on that output, of no match yet.
+    /// A log on this output, of no game yet.
     pub fn new(output: E) -> Self
         ensures output { result.output ≡ output }
         ensures unbroken { result.pending.broken ≡ false }
@@ -291,7 +297,7 @@ impl<E: Output> Log<E> {
         }
     }
 
-    /// The output, taken out.
+    /// The log's output.
     pub fn into_output(self) -> E
         ensures { result ≡ self.output }
     {
@@ -304,7 +310,7 @@ impl<E: Output> Log<E> {
         output
     }
 
-    // Begins the log of a match in which the first engine has that side.
+    // Begins the log of a game in which the first engine has this side.
     fn begin(&mut self, first: Colour)
         ensures log { IsLog first
             (log_seen (E.seen self.old.output) self.old.pending)
@@ -315,7 +321,7 @@ impl<E: Output> Log<E> {
         self.first = first;
     }
 
-    // Writes and flushes the pending bytes.
+    // Writes and flushes the bytes that wait.
     fn finish(&mut self)
         ensures adds { Adds (E.seen self.old.output) (E.seen self.new.output) self.old.pending self.new.pending [] }
         ensures nothing { self.new.pending.bytes.items ≡ [] }
@@ -325,7 +331,7 @@ impl<E: Output> Log<E> {
         self.pending.flush_pending(&mut self.output);
     }
 
-    // Logs a line at the moment of the last event.
+    // Logs a line `312 !first : output ended`, at the time of the last event; `side` is the engine's.
     fn note(&mut self, side: Colour, text: &[u8])
         ensures adds { Adds (E.seen self.old.output) (E.seen self.new.output) self.old.pending self.new.pending
             (log_line self.old.state.moment (letter "!") (same_colour side self.old.first) text.now) }
@@ -349,6 +355,7 @@ impl<E: Output> Witness for Log<E> {
     ghost noted = { λ l before notes.
         IsLog (first_of_text before) (log_of_text before) l.first (E.seen l.output) l.pending l.state notes };
 
+    // Logs a line that an engine sent, such as `312 <first : move e2e4`.
     fn line(&mut self, side: Colour, line: &Line<ENGINE_LINE_LEN>, moment: u64) {
         let is_first = is_side(side, self.first);
         self.pending
@@ -359,22 +366,27 @@ impl<E: Output> Witness for Log<E> {
         };
     }
 
+    // Keeps the time: the lines that opened the turn were logged before.
     fn opened(&mut self, _side: Colour, moment: u64) {
         self.state.moment = moment;
     }
 
+    // Logs that an engine closed its output.
     fn output_ends(&mut self, side: Colour) {
         self.note(side, b"output ended");
     }
 
+    // Logs that reading from an engine failed.
     fn read_fails(&mut self, side: Colour) {
         self.note(side, b"read failed");
     }
 
+    // Logs that writing to an engine failed.
     fn write_fails(&mut self, side: Colour) {
         self.note(side, b"write failed");
     }
 
+    // Logs the lines that an engine is sent, each such as `312 >first : e2e4`.
     fn gives(&mut self, side: Colour, text: &[u8]) {
         let is_first = is_side(side, self.first);
         let state = self.state;
@@ -384,9 +396,10 @@ impl<E: Output> Witness for Log<E> {
     }
 }
 
-/// Plays one game as `run_match` of chess_match does, and logs it; the first engine has the side `first`.
+/// Plays one game as `run_match` of chess_match does, and logs it; the first engine (that of `--white`) has the side
+/// `first`.
 ///
-/// In the contract the log is that of the transcript and of all lines that each engine is sent. All of it was written
+/// The contract says that the log has the transcript and all lines that each engine is sent. All of it was written
 /// and flushed; or a write or a flush of it failed, and a beginning of it was written; or one had failed before, and
 /// nothing was.
 pub fn run_match_logged<R: Input, W: Output, M: Moments, B: Board, E: Output>(

@@ -13,7 +13,7 @@ pub struct SinceStart<'a, R> {
 }
 
 impl<'a, R: Clock> SinceStart<'a, R> {
-    /// From now on.
+    /// A clock that begins now.
     pub fn new(rt: &'a R) -> Self {
         SinceStart {
             rt,
@@ -28,6 +28,7 @@ impl<R: Clock> Moments for SinceStart<'_, R> {
     // What the clock will show isn't known.
     ghost coming = { λ m n. None };
 
+    // The milliseconds since this clock was made; 0 if the system's clock can't be read.
     fn now(&mut self) -> u64 {
         let Some(start) = self.start else {
             return 0;

@@ -26,7 +26,7 @@ use std::fmt::Display;
 use std::process::Processes;
 use std::rt::Clock;
 
-// A session as `new` leaves it, with its boards, which share those tables.
+// A session at the initial position, of at most 20,000 half-moves, on boards that use these tables.
 fn open_session<'t>(
     alloc: Global,
     tables: &'t AttackTables,
@@ -71,7 +71,7 @@ fn report_served<E: Output>(
     }
 }
 
-// A session on the input and the output, with its status.
+// Runs a session on the input and the output, and returns the exit status.
 fn session<R: Input, W: Output, E: Output>(
     alloc: Global,
     input: &mut R,
@@ -90,7 +90,7 @@ fn session<R: Input, W: Output, E: Output>(
     status_of(report_served(outcome, errors))
 }
 
-// A stub on the input and the output, with its status.
+// Runs a stub on the input and the output, and returns the exit status; `words` are its arguments.
 fn stub<R: Input, W: Output, E: Output>(
     words: &[&str],
     input: &mut R,
@@ -105,7 +105,7 @@ fn stub<R: Input, W: Output, E: Output>(
     status_of(report_served(outcome, errors))
 }
 
-// The status after games were verified.
+// The exit status after games were verified.
 fn verified_status(verified: Verified) -> u8
     ensures { result ≡ verify_status (Ok verified) }
 {
@@ -125,7 +125,7 @@ fn options_of(plan: VerifyPlan) -> VerifyOptions
     }
 }
 
-// Verifies the games of the input: of each piece, or of one text up to its first fault.
+// Verifies the input's games: with `--keep-going` piece by piece, else as one text up to its first fault.
 fn verify_as<R: Input, W: Output>(
     alloc: Global,
     plan: VerifyPlan,
@@ -143,7 +143,7 @@ fn verify_as<R: Input, W: Output>(
     }
 }
 
-// Verifies the games of the input, and returns the status.
+// Verifies the input's games, and returns the exit status.
 fn verified<R: Input, W: Output, E: Output>(
     alloc: Global,
     plan: VerifyPlan,
@@ -172,7 +172,7 @@ fn report_help<E: Output>(
     }
 }
 
-// Writes a text of help, as it is displayed, and returns the status.
+// Writes a text of help to the output, and returns the exit status.
 fn help<W: Output, E: Output, D: Display>(
     alloc: Global,
     help: &D,
@@ -189,7 +189,8 @@ fn help<W: Output, E: Output, D: Display>(
     status_of(report_help(outcome, errors))
 }
 
-// Reports why the arguments ask for nothing: help and the version on the output, all else on the error output.
+// Reports why the arguments ask for nothing, and returns the exit status: help and the version go to the output, all
+// else to the error output.
 fn report_arguments<W: Output, E: Output>(
     alloc: Global,
     fault: &WordsFault,
@@ -213,7 +214,7 @@ fn report_arguments<W: Output, E: Output>(
     }
 }
 
-// The games of a match, with the status.
+// Plays the games of a match, and returns the exit status.
 fn matched<P: Processes + Clock, W: Output, E: Output>(
     rt: &P,
     alloc: Global,

@@ -12,7 +12,7 @@ use chess_base::Colour;
 use chess_game::Outcome;
 use itoa::Buffer;
 
-/// How the games ended so far, by engines: that of `--white` is the first.
+/// How many games each engine won (`first` is that of `--white`), and how many were drawn or have no result.
 #[derive(Clone, Copy, Debug, PartialEq, Eq)]
 pub(crate) struct Score {
     first: u16,
@@ -24,6 +24,7 @@ pub(crate) struct Score {
 // The score's line: its text has 40 bytes, and its four numbers at most 20 each.
 type ScoreLine = ArrayVec<u8, 140>;
 
+// Appends a text.
 fn add_text(line: &mut ScoreLine, text: &[u8])
     requires { array_vec_len line.old + length text.now ≤ 140 }
     ensures text { line.new.items ≡ line.old.items ++ text.now }
@@ -32,6 +33,7 @@ fn add_text(line: &mut ScoreLine, text: &[u8])
     line.try_extend_from_slice(text).unwrap();
 }
 
+// Appends a number.
 #[tactic(auto, using(crate::proofs::Decimals::few_digits))]
 fn add_number(line: &mut ScoreLine, number: u16)
     requires { array_vec_len line.old + 20 ≤ 140 }
@@ -65,7 +67,7 @@ fn is_win_of(outcome: Outcome, side: Colour) -> bool
 }
 
 impl Score {
-    /// No game was played.
+    /// The score before the first game.
     pub fn new() -> Self
         ensures { result ≡ no_score }
     {
@@ -89,7 +91,7 @@ impl Score {
         }
     }
 
-    /// Its line.
+    /// The last line of a match, such as `score first 1 second 0 drawn 2 unfinished 0`.
     #[tactic(auto, unfolding(crate::specs::Games::score_line))]
     pub fn line(self) -> ScoreLine
         ensures { result.items ≡ score_line self }

@@ -21,7 +21,7 @@ fn words_of(rt: &HostRuntime) -> io::Result<Vec<String>> {
     Ok(words)
 }
 
-// Runs the program on the standard streams, and gives its status.
+// Runs the program on the standard streams, and returns its exit status.
 fn status_of(rt: &HostRuntime) -> io::Result<u8> {
     let owned = words_of(rt)?;
     let mut words = Vec::new(rt.alloc());
@@ -38,7 +38,7 @@ fn status_of(rt: &HostRuntime) -> io::Result<u8> {
     ))
 }
 
-// Why the arguments could not be had: no memory for them, or one of them is no UTF-8.
+// Why the arguments could not be read: no memory for them, or one of them is no UTF-8.
 fn words_fault(error: &io::Error) -> ProgramFault
     ensures memory { error_kind error.now ≡ ErrorKind.OutOfMemory → result ≡ ProgramFault.NoMemory }
     ensures others { error_kind error.now ≢ ErrorKind.OutOfMemory → result ≡ ProgramFault.WrongWords }

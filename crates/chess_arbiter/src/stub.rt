@@ -13,9 +13,10 @@ use chess_cecp::{COMMAND_LEN, Command, Go, Line, LineServer, first_word, read_co
 use itoa::Buffer;
 use std::marker::Model;
 
+// The reply to `protover`.
 const FEATURES: &[u8] = b"feature ping=1 setboard=1 usermove=1 myname=\"stub\" done=1\n";
 
-// What is said for an argument that is a remark after a move.
+// What the stub sends for the argument `offer` or `claim`, which may follow a move; `None` for any other.
 fn remark(word: &str) -> Option<&'static [u8]>
     ensures { option_map (λ t. t.now) result ≡ remark word.now }
 {
@@ -51,14 +52,14 @@ fn say_line<W: Output>(writer: &mut W, prefix: &[u8], word: &str) -> Result<(), 
     put(writer, line.as_slice())
 }
 
-// Says the argument that is played.
+// Sends the argument that is played: `resign`, or `move` and the argument.
 fn say_word<W: Output>(writer: &mut W, word: &str) -> Result<(), WriteFault>
     ensures { Puts (W.seen writer.old) (W.seen writer.new) result (played_text word.now) }
 {
     say_line(writer, prefix_of(word), word)
 }
 
-// Says the number that it was asked for.
+// Sends `pong` and the number.
 #[tactic(auto, using(crate::proofs::Decimals::few_digits))]
 fn say_pong<W: Output>(writer: &mut W, number: u32) -> Result<(), WriteFault>
     ensures { Puts (W.seen writer.old) (W.seen writer.new) result (codes "pong " ++ (decimal number ++ new_line ∷ [])) }
@@ -72,7 +73,7 @@ fn say_pong<W: Output>(writer: &mut W, number: u32) -> Result<(), WriteFault>
     put(writer, line.as_slice())
 }
 
-// Says the remarks among the arguments from there on, up to the first other one.
+// Sends what the arguments `offer` and `claim` say, from the index `from` up to the first other one.
 fn say_remarks<W: Output>(words: &[&str], from: usize, writer: &mut W) -> Result<(), WriteFault>
     requires { from ≤ length words.now }
     ensures { Puts (W.seen writer.old) (W.seen writer.new) result (remarks (drop from words.now)) }
@@ -88,7 +89,7 @@ fn say_remarks<W: Output>(words: &[&str], from: usize, writer: &mut W) -> Result
     Ok(())
 }
 
-// The index of the first argument from there on that is no remark.
+// The index of the first argument, from `from` on, that is neither `offer` nor `claim`.
 fn after_remarks(words: &[&str], from: usize) -> usize
     requires { from ≤ length words.now }
     ensures in_range { result ≤ length words.now }
@@ -104,7 +105,7 @@ fn after_remarks(words: &[&str], from: usize) -> usize
     at
 }
 
-// Says an argument that is played, and the remarks among the arguments from there on.
+// Sends an argument that is played, and what `offer` and `claim` say from the index `from` on.
 fn say_played<W: Output>(
     word: &str,
     words: &[&str],
@@ -119,7 +120,7 @@ fn say_played<W: Output>(
     say_remarks(words, from, writer)
 }
 
-// Says what a turn with the arguments from there on says, and returns whether the stub goes on.
+// Sends what the stub plays in its turn, with the arguments from the index `at` on, and returns whether it goes on.
 fn say_turn<W: Output>(words: &[&str], at: usize, writer: &mut W) -> Result<Go, WriteFault>
     requires { at ≤ length words.now }
     ensures written { Puts (W.seen writer.old) (W.seen writer.new) result (turn (drop at words.now)).text }
@@ -138,7 +139,7 @@ fn say_turn<W: Output>(words: &[&str], at: usize, writer: &mut W) -> Result<Go, 
     Ok(Go::On)
 }
 
-// The index of the first argument that a turn leaves.
+// The index of the first argument that is left after a turn with those from the index `at` on.
 fn after_turn(words: &[&str], at: usize) -> usize
     requires { at ≤ length words.now }
     ensures in_range { result ≤ length words.now }
@@ -153,7 +154,7 @@ fn after_turn(words: &[&str], at: usize) -> usize
     after_remarks(words, at + 1)
 }
 
-/// A stub: its arguments, how many of them were played or said, and whether it plays.
+/// A stub: its arguments, the index of the next one, and whether it plays.
 #[derive(Drop)]
 pub(crate) struct Stub<'a> {
     words: &'a [&'a str],
@@ -187,7 +188,7 @@ impl<'a> Stub<'a> {
         }
     }
 
-    // Plays the next argument.
+    // Takes a turn: plays the next argument.
     #[tactic(auto, using(crate::proofs::Remarks::turn_state))]
     fn play<W: Output>(&mut self, writer: &mut W) -> Result<Go, WriteFault>
         ensures next { self.new ≡ (turn self.old.words).state }
@@ -200,7 +201,7 @@ impl<'a> Stub<'a> {
         say_turn(self.words, at, writer)
     }
 
-    // A move of the other side: while it plays, it is its turn.
+    // Takes a move of the opponent: if the stub plays, it is its turn.
     fn moved<W: Output>(&mut self, writer: &mut W) -> Result<Go, WriteFault>
         ensures next { self.new ≡ (moved self.old).state }
         ensures written { Puts (W.seen writer.old) (W.seen writer.new) result (moved self.old).text }
@@ -213,7 +214,7 @@ impl<'a> Stub<'a> {
         }
     }
 
-    // Carries out the command of a line, and writes the reply, if there is one.
+    // Obeys a line, and writes the reply if there is one.
     fn obey<W: Output>(&mut self, text: &[u8], writer: &mut W) -> Result<Go, WriteFault>
         ensures next { self.new ≡ (row self.old text.now (command_of text.now)).state }
         ensures written { Puts (W.seen writer.old) (W.seen writer.new) result
@@ -269,6 +270,7 @@ impl<'a> Stub<'a> {
 impl<'a> LineServer for Stub<'a> {
     ghost respond = { stub_response };
 
+    // Answers a line, unless it is too long, and flushes.
     #[tactic(auto, unfolding(crate::specs::Stub::stub_response))]
     fn answer_line<W: Output>(
         &mut self,

@@ -20,7 +20,7 @@ use Rattle.chess_base.specs.Attacks.{is_attacked}
 
 -- ---- squares
 
--- the square of a file on a colour's first rank
+-- the square on file f (0 for a) of colour c's first rank: for White and file 4 that is e1
 abbrev pub home_square : Colour → ℕ → ℕ
 home_square c f = 8 * first_rank c + f
 
@@ -59,22 +59,23 @@ rights_by f = record {
   black = record { king_side = f Black KingSide; queen_side = f Black QueenSide };
 }
 
--- the square of colour c's king
+-- the square of colour c's king, the first from a1 on; none if it has no king
 unfoldable pub king_square : Men → Colour → Option ℕ
 king_square men c = position (λ o. is_man c King o) men
 
--- s lies to that side of k: towards file h, or towards file a
+-- for squares k and s on one rank: s lies on that side of k, towards file h (king side) or towards file a (queen side)
 abbrev pub is_to_side : CastlingSide → ℕ → ℕ → Bool
 is_to_side KingSide k s = nat_lt k s
 is_to_side QueenSide k s = nat_lt s k
 
--- the king's square k and s are on the colour's first rank, and s lies to that side of the king
+-- the king's square and square s are on colour c's first rank, and s lies on side w of the king; false if there is no
+-- king
 abbrev pub is_beside : Colour → CastlingSide → Option ℕ → ℕ → Bool
 is_beside c w None s = false
 is_beside c w (Some k) s = (rank k == first_rank c) && (rank s == first_rank c) && is_to_side w k s
 
--- king and rook, which is on s, are where castling to that side begins: in normal chess both at home, in Chess960
--- both on the first rank, the rook on that side of the king
+-- colour c's king, and a rook of c on square s, are where castling on side w begins: in normal chess both on their
+-- initial squares, in Chess960 both on the first rank, the rook on that side of the king
 abbrev pub are_placed_for_castling : Variant → Men → Colour → CastlingSide → ℕ → Bool
 are_placed_for_castling Normal men c w s =
     (s == home_square c (rook_file w)) && is_man c King (man_at men (home_square c king_home_file))
@@ -87,8 +88,8 @@ right_is_sound p c w = option_map_or (are_placed_for_castling p.variant p.men c 
 
 -- ---- which moves are castling
 
--- the squares of the move name castling with that rook: in normal chess the king's squares, from home to where castling
--- on that side takes it; in Chess960 the king's square and the rook's, on one rank
+-- the squares of move m are those of colour c's castling on side w with that rook: in normal chess the king's start and
+-- end square (e1g1), in Chess960 the king's and the rook's square, on one rank (e1h1)
 abbrev pub names_castling_with : Variant → Colour → Move → CastlingSide → ℕ → Bool
 names_castling_with Normal c m w rook = (m.from == home_square c king_home_file)
     && (m.to == home_square c (castled_king_file w))
@@ -99,14 +100,14 @@ unfoldable pub says_castling : Setup → Move → CastlingSide → Bool
 says_castling p m w = is_man p.side King (man_at p.men m.from)
     && option_map_or (names_castling_with p.variant p.side m w) (right_of p.rights p.side w) false
 
--- the side of the castling that the move is, if it is one
+-- the side to which move m castles; none if it is not castling
 unfoldable pub castling : Setup → Move → Option CastlingSide
 castling p m = if says_castling p m KingSide then Some KingSide else if says_castling p m QueenSide then Some QueenSide
     else None
 
 -- ---- the squares of a castling
 
--- castling of colour c on that side, with the king on k and the rook on r
+-- the four squares of castling: of colour c, on side w, with the king on square k and the rook on square r before it
 abbrev pub castle_from : Colour → CastlingSide → ℕ → ℕ → Castle
 castle_from c w k r = record {
   king_from = k;
@@ -115,11 +116,12 @@ castle_from c w k r = record {
   rook_to = home_square c (castled_rook_file w);
 }
 
--- castling of colour c to that side, if it is to one, from the move's start square and with the rook of the right
+-- the four squares of colour c's castling on the given side, with the rights r: the king starts on the move's start
+-- square, the rook on the square of its right; none if there is no side or no right
 abbrev pub castle_by : Colour → Rights → Move → Option CastlingSide → Option Castle
 castle_by c r m side = option_and_then (λ w. option_map (castle_from c w m.from) (right_of r c w)) side
 
--- the castling that the move is, if it is one
+-- the four squares of the castling that move m is; none if it is not castling
 unfoldable pub castle_of : Setup → Move → Option Castle
 castle_of p m = castle_by p.side p.rights m (castling p m)
 
@@ -134,11 +136,11 @@ castling_rook_to p m = option_map (λ k. k.rook_to) (castle_of p m)
 
 -- ---- when castling may be played (3.8.2.2)
 
--- x is a or b or lies strictly between them
+-- square x is a or b, or lies strictly between them
 abbrev pub is_on_way : ℕ → ℕ → ℕ → Bool
 is_on_way a b x = (x == a) || (x == b) || is_between a b x
 
--- king or rook crosses x or ends there, and neither of the two is there
+-- by castling k, king or rook crosses square x or ends there, and neither of the two starts there: so x has to be empty
 unfoldable pub castling_crosses : Castle → ℕ → Bool
 castling_crosses k x =
     (is_on_way k.king_from k.king_to x || is_on_way k.rook_from k.rook_to x) && not (x == k.king_from)
@@ -148,11 +150,11 @@ castling_crosses k x =
 unfoldable pub castling_way_is_empty : Men → Castle → Bool
 castling_way_is_empty men k = each_square (λ x. not (castling_crosses k x) || is_none (man_at men x))
 
--- the king's start, crossed and end squares are not attacked (3.8.2.2.1)
+-- no square that the king of colour c starts on, crosses or ends on is attacked (3.8.2.2.1)
 unfoldable pub castling_way_is_safe : Men → Colour → Castle → Bool
 castling_way_is_safe men c k = each_square
     (λ x. not (is_on_way k.king_from k.king_to x) || not (is_attacked men x (other c)))
 
--- nothing prevents this castling, and the move names no promotion
+-- nothing prevents castling k, and the move names no promotion
 unfoldable pub castles : Setup → Move → Castle → Bool
 castles p m k = is_none m.promotion && castling_way_is_empty p.men k && castling_way_is_safe p.men p.side k

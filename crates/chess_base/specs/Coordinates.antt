@@ -4,15 +4,15 @@ use Rattle.chess_base.specs.declared.man.Kind.{Kind}
 use Rattle.chess_base.specs.declared.man.Move.{Move}
 use Rattle.chess_base.specs.Letters.{white_letter, square_text}
 
--- the text of a value, and nothing where there is none
+-- f of the value if there is one, else the empty text
 abbrev pub optional : {A : Type 0} → (A → List ℕ) → Option A → List ℕ
 optional f None = []
 optional f (Some x) = f x
 
--- the small letter of a kind of piece
+-- the small letter of a kind of piece, as in the promotion of e7e8q: q for a queen
 abbrev pub small_letter_text : Kind → List ℕ
 small_letter_text k = (white_letter k + 32) ∷ []
 
--- the start square, the end square, and what the pawn becomes
+-- a move as text: its start square, its end square, and the small letter of what the pawn becomes: e2e4, e7e8q
 abbrev pub coordinate : Move → List ℕ
 coordinate m = square_text m.from ++ (square_text m.to ++ optional small_letter_text m.promotion)

@@ -17,35 +17,37 @@ use Rattle.chess_base.specs.Attacks.{attacks, is_in_check}
 use Rattle.chess_base.specs.Castling.{right_of, rights_by, castle_of, castling_rook_to, castles, lands_on}
 use Rattle.chess_base.specs.Steps.{men_stepped}
 
--- there is a promotion, to a queen, rook, bishop or knight, exactly with a move to the last rank (3.7)
+-- a pawn's move names a promotion to a queen, rook, bishop or knight if it ends on its last rank (`last`), and
+-- otherwise none (3.7.3.3)
 abbrev pub promotion_fits : Bool → Option Kind → Bool
 promotion_fits last None = not last
 promotion_fits last (Some King) = false
 promotion_fits last (Some Pawn) = false
 promotion_fits last (Some _) = last
 
--- a pawn goes two squares from its home rank (3.7.2)
+-- a pawn of the side on move goes two squares straight ahead from its home rank, as e2e4 (3.7.2); whether these squares
+-- are empty is not asked here
 unfoldable pub is_double_advance : Setup → Move → Bool
 is_double_advance p m =
     is_man p.side Pawn (man_at p.men m.from)
     && (rank m.from == pawn_rank p.side)
     && (m.to == forward p.side (forward p.side m.from))
 
--- a pawn takes on the target (3.7)
+-- a pawn of the side on move goes diagonally to the en passant target (3.7.3.1)
 unfoldable pub is_en_passant : Setup → Move → Bool
 is_en_passant p m = is_man p.side Pawn (man_at p.men m.from) && attacks p.men m.from m.to && is_square p.target m.to
 
--- a pawn goes straight ahead (3.7.1, 3.7.2)
+-- for a move of a pawn: it goes straight ahead, one square or by a double advance, over empty squares (3.7.1, 3.7.2)
 unfoldable pub pawn_advances : Setup → Move → Bool
 pawn_advances p m =
     is_none (man_at p.men m.to)
     && ((m.to == forward p.side m.from) || (is_double_advance p m && is_none (man_at p.men (forward p.side m.from))))
 
--- a pawn captures (3.7.3)
+-- for a move of a pawn: it goes diagonally to an enemy piece, or to the en passant target (3.7.3)
 unfoldable pub pawn_captures : Setup → Move → Bool
 pawn_captures p m = attacks p.men m.from m.to && (is_of (other p.side) (man_at p.men m.to) || is_square p.target m.to)
 
--- a pawn advances or captures, with a promotion exactly where it reaches its last rank (3.7)
+-- for a move of a pawn: it advances or captures, with a promotion exactly where it reaches its last rank (3.7)
 unfoldable pub pawn_moves : Setup → Move → Bool
 pawn_moves p m =
     promotion_fits (rank m.to == first_rank (other p.side)) m.promotion && (pawn_advances p m || pawn_captures p m)
@@ -62,12 +64,13 @@ moves_as p m (Some x) =
     same_colour p.side x.colour
     && (if same_kind Pawn x.kind then pawn_moves p m else option_map_or (castles p m) (castle_of p m) (man_moves p m))
 
--- the move has the pattern of a piece's moves: it is pseudo-legal, legal unless it leaves its own king in check;
--- of castling it is asked here already that no square on the king's way is attacked
+-- the move is pseudo-legal: a piece of the side on move can make it (3.1 to 3.8), but may leave its own king in check.
+-- Castling out of check, or across an attacked square, is not even pseudo-legal
 unfoldable pub is_pseudo_legal : Setup → Move → Bool
 is_pseudo_legal p m = nat_lt m.from 64 && nat_lt m.to 64 && moves_as p m (man_at p.men m.from)
 
--- the piece that is on the end square: the mover, or what the pawn became
+-- the piece that arrives on the end square: the one that left the start square, or after a promotion one of the new
+-- kind
 abbrev pub man_that_lands : Option Man → Option Kind → Option Man
 man_that_lands None k = None
 man_that_lands (Some x) None = Some x
@@ -78,11 +81,13 @@ man_that_lands (Some x) (Some k) = Some (record { colour = x.colour; kind = k })
 abbrev pub behind : Colour → ℕ → ℕ
 behind c s = forward (other c) s
 
--- the second square that the move empties: that of the pawn taken en passant, or of the castling rook
+-- the square, beside the start square, that the move empties: that of the pawn taken en passant, or of the castling
+-- rook; none for any other move
 unfoldable pub second_square_emptied : Setup → Move → Option ℕ
 second_square_emptied p m = if is_en_passant p m then Some (behind p.side m.to) else option_map (λ k. k.rook_from) (castle_of p m)
 
--- what the move changes on the board
+-- what the move changes on the board: the mover leaves `from` and arrives on `to`; in castling the rook does so from
+-- `second_from` to `second_to`, and a pawn taken en passant leaves `second_from`
 abbrev pub steps_of : Setup → Move → Steps
 steps_of p m = record {
   from = m.from;
@@ -93,11 +98,12 @@ steps_of p m = record {
   mover = man_that_lands (man_at p.men m.from) m.promotion;
 }
 
--- the pieces after a move
+-- the pieces on the board after the move m of position p
 unfoldable pub men_after : Setup → Move → Men
 men_after p m = men_stepped p.men (steps_of p m)
 
--- the right is lost when the king moves, or when a move leaves or enters the rook's square
+-- what a move leaves of a castling right of colour c, given as the rook's square: it is lost when c's king moves, or
+-- when a move starts or ends on the rook's square (3.8.2.1)
 abbrev pub right_after : Setup → Move → Colour → Option ℕ → Option ℕ
 right_after p m c None = None
 right_after p m c (Some s) =
@@ -107,19 +113,19 @@ right_after p m c (Some s) =
 unfoldable pub rights_after : Setup → Move → Rights
 rights_after p m = rights_by (λ c w. right_after p m c (right_of p.rights c w))
 
--- the square that a double advance crosses
+-- the en passant target after a move: the square that a double advance crosses (e3 after e2e4); none after other moves
 unfoldable pub target_after : Setup → Move → Option ℕ
 target_after p m = if is_double_advance p m then Some (forward p.side m.from) else None
 
--- a pawn moves or a piece is taken
+-- the move sets the halfmove clock to 0: a pawn moves or a piece is captured (9.3)
 unfoldable pub resets_clock : Setup → Move → Bool
 resets_clock p m = is_man p.side Pawn (man_at p.men m.from) || is_of (other p.side) (man_at p.men m.to)
 
--- the halfmove clock after a move: 0, or one more, up to its limit
+-- the halfmove clock after a move: 0 after a pawn move or a capture, else one more, up to 999,999
 unfoldable pub halfmove_after : Setup → Move → ℕ
 halfmove_after p m = if resets_clock p m then 0 else min (p.halfmove + 1) COUNTER_LIMIT
 
--- the fullmove number after a move of that colour: one more after Black's, up to its limit
+-- the fullmove number after a move of that colour, from the number before: one more after Black's, up to 999,999
 abbrev pub fullmove_after : Colour → ℕ → ℕ
 fullmove_after White n = n
 fullmove_after Black n = min (n + 1) COUNTER_LIMIT
@@ -137,6 +143,6 @@ after p m = record {
   fullmove = fullmove_after p.side p.fullmove;
 }
 
--- the move has a pattern and leaves the mover's king unattacked (3.9.2)
+-- the move is legal: it is pseudo-legal, and the mover's king is not attacked after it (3.9.2)
 unfoldable pub is_legal : Setup → Move → Bool
 is_legal p m = is_pseudo_legal p m && not (is_in_check (after p m).men p.side)

@@ -7,7 +7,8 @@ use Rattle.chess_base.specs.declared.steps.Steps.{Steps}
 use Rattle.chess_base.specs.Squares.{from_below, is_square}
 use Rattle.chess_base.specs.Men.{Men, man_at}
 
--- the piece on s afterwards, if any
+-- the piece on square s after the steps t, or none: where one arrives that one, nothing where one only left, and else
+-- what was there before
 abbrev pub man_stepped : Men → Steps → ℕ → Option Man
 man_stepped men t s =
     if t.to == s then t.mover
@@ -15,6 +16,6 @@ man_stepped men t s =
     else if is_square t.second_from s || (t.from == s) then None
     else man_at men s
 
--- the pieces on all 64 squares afterwards
+-- the pieces on all 64 squares after the steps t
 unfoldable pub men_stepped : Men → Steps → Men
 men_stepped men t = from_below 64 (man_stepped men t)

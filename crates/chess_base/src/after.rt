@@ -13,7 +13,8 @@ use crate::setup::{COUNTER_LIMIT, Setup};
 use crate::square::Square;
 use crate::steps::{Steps, take_steps};
 
-/// The piece that is on the end square after the move: the mover, or what the pawn became.
+/// The piece that arrives on the end square, from the one that left the start square: the same piece, or after a
+/// promotion one of the new kind.
 pub fn man_that_lands(man: Option<Man>, promotion: Option<Kind>) -> Option<Man>
     ensures { result ≡ man_that_lands man promotion }
 {
@@ -27,7 +28,8 @@ pub fn man_that_lands(man: Option<Man>, promotion: Option<Kind>) -> Option<Man>
     }
 }
 
-/// The second square that the move empties: that of the pawn taken en passant, or of the castling rook.
+/// The square, beside the start square, that the move empties: that of the pawn taken en passant, or of the castling
+/// rook; none for any other move.
 #[tactic(auto, unfolding(crate::specs::Moves::second_square_emptied))]
 pub fn second_square_emptied(setup: &Setup, m: &Move) -> Option<Square>
     requires { IsSound setup.now }
@@ -40,7 +42,7 @@ pub fn second_square_emptied(setup: &Setup, m: &Move) -> Option<Square>
     rook_from(&castle_of(setup, m))
 }
 
-/// What the move changes on the board.
+/// What the move changes on the board: which pieces leave which squares, and which arrive.
 #[tactic(auto, unfolding(crate::specs::Castling::lands_on, crate::specs::Castling::castling_rook_to))]
 pub fn steps_of(setup: &Setup, m: &Move) -> Steps
     requires { IsSound setup.now }
@@ -60,6 +62,7 @@ pub fn steps_of(setup: &Setup, m: &Move) -> Steps
     }
 }
 
+// The pieces on all 64 squares after the move.
 #[tactic(auto, unfolding(crate::specs::Moves::men_after))]
 pub(crate) fn men_after(setup: &Setup, m: &Move) -> [Option<Man>; 64]
     requires { IsSound setup.now }
@@ -70,6 +73,8 @@ pub(crate) fn men_after(setup: &Setup, m: &Move) -> [Option<Man>; 64]
     men
 }
 
+// What the move leaves of one castling right (the square of its rook): it is lost when that colour's king moves, or
+// when a move starts or ends on the rook's square.
 fn right_after(
     setup: &Setup,
     m: &Move,
@@ -86,8 +91,8 @@ fn right_after(
     }
 }
 
-/// The castling rights after the move: a right is lost when the king moves, or when a move leaves or
-/// enters the rook's square.
+/// The castling rights of both colours after the move. A right is lost when the king moves, or when a move starts or
+/// ends on the rook's square (Laws of Chess 2023, article 3.8.2.1).
 #[tactic(auto, unfolding(crate::specs::Moves::rights_after))]
 pub fn rights_after(setup: &Setup, m: &Move) -> Rights
     ensures { result ≡ rights_after setup.now m.now }
@@ -103,7 +108,8 @@ pub fn rights_after(setup: &Setup, m: &Move) -> Rights
     Rights { white, black }
 }
 
-/// The square that the move crosses, if it is a pawn's double advance.
+/// The en passant target after the move: the square that a pawn's double advance crosses, as `e3` after `e2e4`; none
+/// after other moves.
 #[tactic(auto, unfolding(crate::specs::Moves::target_after))]
 pub fn target_after(setup: &Setup, m: &Move) -> Option<Square>
     ensures { result ≡ target_after setup.now m.now }
@@ -115,6 +121,7 @@ pub fn target_after(setup: &Setup, m: &Move) -> Option<Square>
     }
 }
 
+// Whether the move sets the halfmove clock to 0: a pawn moves or a piece is captured.
 #[tactic(auto, unfolding(crate::specs::Moves::resets_clock))]
 fn resets_clock(setup: &Setup, m: &Move) -> bool
     ensures { result ≡ resets_clock setup.now m.now }
@@ -123,7 +130,7 @@ fn resets_clock(setup: &Setup, m: &Move) -> bool
         || is_of(setup.side.other(), setup.men[m.to.index()])
 }
 
-/// The half-moves since the last capture or pawn move, after the move.
+/// The halfmove clock after the move: 0 after a capture or a pawn move, else one more, up to `COUNTER_LIMIT`.
 #[tactic(auto, unfolding(crate::specs::Moves::halfmove_after))]
 pub fn halfmove_after(setup: &Setup, m: &Move) -> u32
     ensures { result ≡ halfmove_after setup.now m.now }
@@ -135,7 +142,8 @@ pub fn halfmove_after(setup: &Setup, m: &Move) -> u32
     }
 }
 
-/// The number of the move, after a move of that side.
+/// The fullmove number after a move of that side, from the number before it: one more after Black's, up to
+/// `COUNTER_LIMIT`.
 pub fn fullmove_after(side: Colour, fullmove: u32) -> u32
     ensures { result ≡ fullmove_after side fullmove }
 {

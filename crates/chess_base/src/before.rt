@@ -17,7 +17,8 @@ use crate::setup::{Saved, Setup};
 use crate::square::{Square, is_square};
 use crate::steps::Steps;
 
-// The square of the piece that the move captures, if it captures one.
+// The square of the piece that the move captures: its end square, or `e5` for White's en passant capture on `e6`; none
+// if it captures nothing.
 #[tactic(auto, unfolding(crate::specs::Before::captured_square))]
 fn captured_square(setup: &Setup, m: &Move) -> Option<Square>
     requires { IsSound setup.now }
@@ -33,7 +34,8 @@ fn captured_square(setup: &Setup, m: &Move) -> Option<Square>
     }
 }
 
-/// What the move does not keep.
+/// What has to be saved to take the move back: the captured piece (en passant too), and the rights, target and counters
+/// of the position before it, which is `setup`.
 #[tactic(auto, unfolding(crate::specs::Before::saved_of))]
 pub fn saved_of(setup: &Setup, m: &Move) -> Saved
     requires { IsSound setup.now }
@@ -52,7 +54,8 @@ pub fn saved_of(setup: &Setup, m: &Move) -> Saved
     }
 }
 
-// The square of the piece that the move of that colour captured, if it captured one.
+// The square of the piece that the move of that colour captured, from what was saved; none if it captured nothing. A
+// capture on the old en passant target was en passant, since the target is empty.
 #[tactic(auto, unfolding(crate::specs::Before::captured_from))]
 fn captured_from(colour: Colour, m: &Move, saved: &Saved) -> Option<Square>
     requires { IsTrue (is_square saved.now.target m.now.to) → behind colour m.now.to < 64 }
@@ -68,6 +71,8 @@ fn captured_from(colour: Colour, m: &Move, saved: &Saved) -> Option<Square>
     }
 }
 
+// Whether the move of that colour, which left the pieces `men`, was castling on that side: the right was there, the
+// squares are those of castling, and the king is where that castling takes him.
 #[tactic(auto, unfolding(crate::specs::Before::was_castling))]
 fn was_castling(
     variant: Variant,
@@ -90,7 +95,7 @@ fn was_castling(
         )
 }
 
-// The side of the castling that the move of that colour was, if it was one.
+// The side to which the move of that colour, which left the pieces `men`, castled; none if it was not castling.
 #[tactic(auto, unfolding(crate::specs::Before::castled))]
 fn castled(
     variant: Variant,
@@ -110,7 +115,8 @@ fn castled(
     }
 }
 
-// The castling that the move was, if it was one.
+// The four squares of the castling that the move was, from the position after it (`setup`) and what was saved; none if
+// it was not castling.
 #[tactic(auto, unfolding(crate::specs::Before::castle_made))]
 fn castle_made(setup: &Setup, m: &Move, saved: &Saved) -> Option<Castle>
     ensures { result ≡ castle_made setup.now m.now saved.now }
@@ -120,7 +126,7 @@ fn castle_made(setup: &Setup, m: &Move, saved: &Saved) -> Option<Castle>
     castle_by(colour, saved.rights, m, castling)
 }
 
-// The mover as it was: what was promoted was a pawn.
+// The moving piece as it was before the move, from the piece as it arrived: a pawn if the move names a promotion.
 fn man_that_left(man: Option<Man>, promotion: Option<Kind>) -> Option<Man>
     ensures { result ≡ man_that_left man promotion }
 {
@@ -134,7 +140,8 @@ fn man_that_left(man: Option<Man>, promotion: Option<Kind>) -> Option<Man>
     }
 }
 
-// The square to which a second piece comes back: the castling rook, or else the captured piece.
+// The square on which a second piece returns when the move is taken back: the castling rook, or else the captured
+// piece; none if neither.
 fn second_back_to(
     colour: Colour,
     m: &Move,
@@ -150,7 +157,8 @@ fn second_back_to(
     }
 }
 
-// The second piece that comes back.
+// The second piece that returns when the move is taken back: the castling rook, or else the captured piece; none if
+// neither.
 fn second_back(colour: Colour, saved: &Saved, castle: &Option<Castle>) -> Option<Man>
     ensures { result ≡ second_back colour saved.now castle.now }
 {
@@ -163,7 +171,7 @@ fn second_back(colour: Colour, saved: &Saved, castle: &Option<Castle>) -> Option
     }
 }
 
-/// What taking the move back changes on the board.
+/// What taking the move back changes on the board, from the position after it (`setup`) and what was saved.
 #[tactic(auto, unfolding(crate::specs::Before::steps_back))]
 pub fn steps_back(setup: &Setup, m: &Move, saved: &Saved) -> Steps
     requires { IsTrue (is_square saved.now.target m.now.to) → behind (other setup.now.side) m.now.to < 64 }

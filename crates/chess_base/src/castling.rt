@@ -12,7 +12,7 @@ use crate::setup::Setup;
 use crate::square::Square;
 
 /// The squares of a castling (Laws of Chess 2023, article 3.8.2): where its king and its rook start, and where they
-/// end. In Chess960 an end may be a start, its own or the other's.
+/// end. In Chess960 a piece may end where it or the other one started.
 #[derive(Clone, Copy, Debug, PartialEq, Eq)]
 pub struct Castle {
     pub king_from: Square,
@@ -21,7 +21,7 @@ pub struct Castle {
     pub rook_to: Square,
 }
 
-/// The square of a file on that colour's first rank.
+/// The square on that file (0 for a) of that colour's first rank: for White and 4 that is `e1`.
 pub fn home_square(colour: Colour, file: u8) -> Square
     requires { file < 8 }
     ensures { result ≡ home_square colour file }
@@ -70,7 +70,7 @@ pub fn castled_rook_file(castling_side: CastlingSide) -> u8
     }
 }
 
-/// The square of the rook with which that colour may castle on that side, if it may.
+/// The castling right of that colour on that side: the square of the rook with which it may castle there, or none.
 pub fn right_of(rights: Rights, colour: Colour, castling_side: CastlingSide) -> Option<Square>
     ensures { result ≡ right_of rights colour castling_side }
 {
@@ -82,7 +82,7 @@ pub fn right_of(rights: Rights, colour: Colour, castling_side: CastlingSide) -> 
     }
 }
 
-// The index of that colour's king among the pieces.
+// The index of that colour's king in the list of pieces, which is the number of its square; none if it has no king.
 #[tactic(auto, unfolding(crate::specs::Castling::king_square))]
 fn king_index(men: &[Option<Man>; 64], colour: Colour) -> Option<usize>
     ensures value { result ≡ king_square men.now colour }
@@ -101,7 +101,7 @@ pub fn king_square(men: &[Option<Man>; 64], colour: Colour) -> Option<Square>
     }
 }
 
-// Whether s lies to that side of k.
+// For squares k and s on one rank, whether s lies on that side of k: towards file h (king side) or file a (queen side).
 pub(crate) fn is_to_side(castling_side: CastlingSide, k: Square, s: Square) -> bool
     ensures { result ≡ is_to_side castling_side k s }
 {
@@ -111,7 +111,8 @@ pub(crate) fn is_to_side(castling_side: CastlingSide, k: Square, s: Square) -> b
     }
 }
 
-// Whether the king's square and s are on the colour's first rank, and s lies to that side of the king.
+// Whether the king's square and s are on the colour's first rank, and s lies on that side of the king; false if there
+// is no king.
 fn is_beside(colour: Colour, castling_side: CastlingSide, king: Option<Square>, s: Square) -> bool
     ensures { result ≡ is_beside colour castling_side king s }
 {
@@ -125,7 +126,8 @@ fn is_beside(colour: Colour, castling_side: CastlingSide, king: Option<Square>, 
     }
 }
 
-// Whether king and rook, which is on that square, are where castling to that side begins.
+// Whether that colour's king, and its rook on square `rook`, are where castling to that side begins: in normal chess
+// both on their initial squares, in Chess960 both on the first rank, the rook on that side of the king.
 fn are_placed_for_castling(
     variant: Variant,
     men: &[Option<Man>; 64],
@@ -153,7 +155,7 @@ fn are_placed_for_castling(
     }
 }
 
-// Whether king and rook of that right, if it is there, are where castling to that side begins.
+// Whether the king and the rook of that castling right are where castling begins; true if the right isn't there.
 #[tactic(auto, unfolding(crate::specs::Castling::right_is_sound))]
 pub(crate) fn right_is_sound(setup: &Setup, colour: Colour, castling_side: CastlingSide) -> bool
     ensures { result ≡ right_is_sound setup.now colour castling_side }
@@ -166,7 +168,8 @@ pub(crate) fn right_is_sound(setup: &Setup, colour: Colour, castling_side: Castl
     }
 }
 
-// Whether the squares of the move name castling on that side with the rook of that right.
+// Whether the castling right, given as its rook's square, is there, and the move's squares are those of castling with
+// it: in normal chess the king's start and end square (`e1g1`), in Chess960 the king's and the rook's square (`e1h1`).
 pub(crate) fn names_castling(
     variant: Variant,
     colour: Colour,
@@ -188,6 +191,8 @@ pub(crate) fn names_castling(
     }
 }
 
+// Whether the move is castling to that side: the side on move has the right, and its king makes that move. Whether
+// anything prevents it is asked by `castles`.
 #[tactic(auto, unfolding(crate::specs::Castling::says_castling))]
 fn says_castling(setup: &Setup, m: &Move, castling_side: CastlingSide) -> bool
     ensures { result ≡ says_castling setup.now m.now castling_side }
@@ -202,7 +207,7 @@ fn says_castling(setup: &Setup, m: &Move, castling_side: CastlingSide) -> bool
         )
 }
 
-/// The side to which the move castles, if it is castling (Laws of Chess 2023, article 3.8.2).
+/// The side to which the move castles; none if it is not castling (Laws of Chess 2023, article 3.8.2).
 #[tactic(auto, unfolding(crate::specs::Castling::castling))]
 pub fn castling(setup: &Setup, m: &Move) -> Option<CastlingSide>
     ensures { result ≡ castling setup.now m.now }
@@ -216,7 +221,7 @@ pub fn castling(setup: &Setup, m: &Move) -> Option<CastlingSide>
     }
 }
 
-// Castling of that colour to that side, with the king and the rook on those squares.
+// The four squares of that colour's castling to that side, with the king and the rook on those squares before it.
 fn castle_from(colour: Colour, castling_side: CastlingSide, king: Square, rook: Square) -> Castle
     ensures { result ≡ castle_from colour castling_side king rook }
 {
@@ -228,7 +233,8 @@ fn castle_from(colour: Colour, castling_side: CastlingSide, king: Square, rook: 
     }
 }
 
-// Castling of that colour to that side, if it is to one, from the move's start square and with the rook of the right.
+// The four squares of that colour's castling to the given side: the king starts on the move's start square, the rook on
+// the square of its right. None if there is no side, or no right.
 pub(crate) fn castle_by(
     colour: Colour,
     rights: Rights,
@@ -242,7 +248,7 @@ pub(crate) fn castle_by(
     Some(castle_from(colour, castling_side, m.from, rook))
 }
 
-/// The squares of the castling that the move is, if it is one.
+/// The four squares of the castling that the move is; none if it is not castling.
 #[tactic(auto, unfolding(crate::specs::Castling::castle_of))]
 pub fn castle_of(setup: &Setup, m: &Move) -> Option<Castle>
     ensures { result ≡ castle_of setup.now m.now }
@@ -250,7 +256,7 @@ pub fn castle_of(setup: &Setup, m: &Move) -> Option<Castle>
     castle_by(setup.side, setup.rights, m, castling(setup, m))
 }
 
-// The square of the mover after the move, castling or not.
+// The square on which the moving piece ends: the move's end square, or the king's end square if the move is a castling.
 pub(crate) fn mover_to(m: &Move, castle: &Option<Castle>) -> Square
     ensures { result ≡ mover_to m.now castle.now }
 {
@@ -260,7 +266,7 @@ pub(crate) fn mover_to(m: &Move, castle: &Option<Castle>) -> Square
     }
 }
 
-// Where the castling rook starts, if there is one.
+// The castling rook's square before the castling; none if there is no castling.
 pub(crate) fn rook_from(castle: &Option<Castle>) -> Option<Square>
     ensures { result ≡ rook_from castle.now }
 {
@@ -270,7 +276,7 @@ pub(crate) fn rook_from(castle: &Option<Castle>) -> Option<Square>
     }
 }
 
-// Where the castling rook ends, if there is one.
+// The castling rook's square after the castling; none if there is no castling.
 pub(crate) fn rook_to(castle: &Option<Castle>) -> Option<Square>
     ensures { result ≡ rook_to castle.now }
 {
@@ -280,7 +286,8 @@ pub(crate) fn rook_to(castle: &Option<Castle>) -> Option<Square>
     }
 }
 
-/// The square of the mover after the move: the end square that it names, but for castling in Chess960.
+/// The square on which the moving piece ends. It is the move's end square, but for castling in Chess960, where `e1h1`
+/// takes the king to `g1`.
 #[tactic(auto, unfolding(crate::specs::Castling::lands_on))]
 pub fn lands_on(setup: &Setup, m: &Move) -> Square
     ensures { result ≡ lands_on setup.now m.now }
@@ -288,7 +295,7 @@ pub fn lands_on(setup: &Setup, m: &Move) -> Square
     mover_to(m, &castle_of(setup, m))
 }
 
-/// The square on which the castling rook arrives, if the move is castling.
+/// The square on which the castling rook ends, as `f1` for `e1g1`; none if the move is not castling.
 #[tactic(auto, unfolding(crate::specs::Castling::castling_rook_to))]
 pub fn castling_rook_to(setup: &Setup, m: &Move) -> Option<Square>
     ensures { result ≡ castling_rook_to setup.now m.now }
@@ -296,12 +303,15 @@ pub fn castling_rook_to(setup: &Setup, m: &Move) -> Option<Square>
     rook_to(&castle_of(setup, m))
 }
 
+// Whether x is a or b, or lies strictly between them.
 fn is_on_way(a: Square, b: Square, x: Square) -> bool
     ensures { result ≡ is_on_way a b x }
 {
     x == a || x == b || is_between(a, b, x)
 }
 
+// Whether by this castling king or rook crosses x or ends there, and neither of the two starts there: x must then be
+// empty.
 #[tactic(auto, unfolding(crate::specs::Castling::castling_crosses))]
 fn castling_crosses(castle: &Castle, x: Square) -> bool
     ensures { result ≡ castling_crosses castle.now x }
@@ -312,6 +322,8 @@ fn castling_crosses(castle: &Castle, x: Square) -> bool
         && x != castle.rook_from
 }
 
+// Whether the squares that king and rook cross or end on are empty, but for these two pieces (Laws of Chess 2023,
+// article 3.8.2.2.2).
 #[tactic(auto, unfolding(crate::specs::Castling::castling_way_is_empty))]
 fn castling_way_is_empty(men: &[Option<Man>; 64], castle: &Castle) -> bool
     ensures { result ≡ castling_way_is_empty men.now castle.now }
@@ -325,6 +337,8 @@ fn castling_way_is_empty(men: &[Option<Man>; 64], castle: &Castle) -> bool
     true
 }
 
+// Whether no square that the king of that colour starts on, crosses or ends on is attacked (Laws of Chess 2023, article
+// 3.8.2.2.1).
 #[tactic(auto, unfolding(crate::specs::Castling::castling_way_is_safe))]
 fn castling_way_is_safe(men: &[Option<Man>; 64], colour: Colour, castle: &Castle) -> bool
     ensures { result ≡ castling_way_is_safe men.now colour castle.now }
@@ -338,7 +352,7 @@ fn castling_way_is_safe(men: &[Option<Man>; 64], colour: Colour, castle: &Castle
     true
 }
 
-// Whether nothing prevents that castling, which the move is.
+// Whether nothing prevents this castling, which the move is, and the move names no promotion.
 #[tactic(auto, unfolding(crate::specs::Castling::castles))]
 pub(crate) fn castles(setup: &Setup, m: &Move, castle: &Castle) -> bool
     ensures { result ≡ castles setup.now m.now castle.now }

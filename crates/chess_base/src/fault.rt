@@ -1,7 +1,8 @@
 //! What is wrong with the setup of a position, or with its text, which chess_fen reads.
 
-/// Why a text denotes no position, or a setup is none: the first fault in the order fields, placement, side, form of
-/// the rights, form of the target, counters, kings, pawns, pieces, homes of the rights, pieces round the target, check.
+/// Why a text is no FEN of a position, or a `Setup` is no `Position`: the first fault in the order number of fields,
+/// placement, side, form of the castling rights, form of the en passant target, counters, kings, pawns, number of
+/// pieces, king and rook of each right, pieces around the target, check.
 #[derive(Clone, Copy, Debug, PartialEq, Eq, thiserror::Error)]
 pub enum FenFault {
     /// The first field is not eight ranks of eight squares.

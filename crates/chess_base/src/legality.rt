@@ -13,7 +13,7 @@ use crate::man::{Colour, Kind, Man, Move};
 use crate::pawns::pawn_moves;
 use crate::setup::Setup;
 
-/// The rank on which that colour's king and rooks begin.
+/// The rank of that colour's king and rooks at the start: 0 (rank 1) for White, 7 (rank 8) for Black.
 pub fn first_rank(colour: Colour) -> u8
     ensures { result ≡ first_rank colour }
 {
@@ -23,7 +23,7 @@ pub fn first_rank(colour: Colour) -> u8
     }
 }
 
-// The piece on the square with that number, if there is such a square.
+// The piece on the square with that number; none if it is empty, or if the number is not below 64.
 pub(crate) fn man_on(men: &[Option<Man>; 64], number: u8) -> Option<Man>
     ensures { result ≡ man_at men.now number }
 {
@@ -34,6 +34,8 @@ pub(crate) fn man_on(men: &[Option<Man>; 64], number: u8) -> Option<Man>
     }
 }
 
+// Whether a piece other than a pawn makes an ordinary move, not castling: it goes to a square that it attacks and that
+// holds no piece of its own colour (Laws of Chess 2023, article 3.1).
 #[tactic(auto, unfolding(crate::specs::Moves::man_moves))]
 fn man_moves(setup: &Setup, m: &Move) -> bool
     ensures { result ≡ man_moves setup.now m.now }
@@ -43,8 +45,8 @@ fn man_moves(setup: &Setup, m: &Move) -> bool
         && !is_of(setup.side, setup.men[m.to.index()])
 }
 
-// Whether the move is pseudo-legal: its piece goes so, whatever becomes of the king (Laws of Chess 2023,
-// articles 3.1 to 3.8).
+// Whether the move is pseudo-legal: a piece of the side on move can make it, but may leave its own king in check (Laws
+// of Chess 2023, articles 3.1 to 3.8).
 #[tactic(auto, unfolding(crate::specs::Moves::is_pseudo_legal))]
 pub(crate) fn is_pseudo_legal(setup: &Setup, m: &Move) -> bool
     ensures { result ≡ is_pseudo_legal setup.now m.now }
@@ -66,7 +68,8 @@ pub(crate) fn is_pseudo_legal(setup: &Setup, m: &Move) -> bool
     }
 }
 
-/// Whether the move is legal (Laws of Chess 2023, article 3).
+/// Whether the move is legal: it is pseudo-legal, and the mover's king is not attacked after it (Laws of Chess 2023,
+/// article 3).
 #[tactic(auto, unfolding(crate::specs::Moves::is_legal, crate::specs::Moves::after))]
 pub fn is_legal(setup: &Setup, m: &Move) -> bool
     requires { IsSound setup.now }

@@ -30,6 +30,7 @@ impl Colour {
 impl fmt::Display for Colour {
     ghost output = { λ c. Some (colour_word c) };
 
+    // Writes `white` or `black`.
     fn fmt<W: fmt::Write>(&self, f: &mut fmt::Formatter<W>) -> fmt::Result {
         f.write_str(match self {
             Colour::White => "white",
@@ -52,6 +53,7 @@ pub enum Kind {
 impl fmt::Display for Kind {
     ghost output = { λ k. Some (kind_word k) };
 
+    // Writes the kind as an English word, as `knight`.
     fn fmt<W: fmt::Write>(&self, f: &mut fmt::Formatter<W>) -> fmt::Result {
         f.write_str(match self {
             Kind::King => "king",
@@ -64,14 +66,15 @@ impl fmt::Display for Kind {
     }
 }
 
-/// Which rules hold for castling: those of normal chess, or of Chess960 (Laws of Chess 2023, guideline II).
+/// Which rules hold for castling: those of normal chess, or of Chess960, which CECP calls fischerandom (Laws of Chess
+/// 2023, guideline II).
 #[derive(Clone, Copy, Debug, PartialEq, Eq)]
 pub enum Variant {
     Normal,
     Fischerandom,
 }
 
-/// A piece of one colour and kind.
+/// A piece of one colour and kind, as a white knight.
 #[derive(Clone, Copy, Debug, PartialEq, Eq)]
 pub struct Man {
     pub colour: Colour,
@@ -110,7 +113,7 @@ pub struct Move {
     pub promotion: Option<Kind>,
 }
 
-// The small letter of a kind of piece.
+// The small letter of a kind of piece, as in the promotion of `e7e8q`: `q` for a queen.
 fn small_letter(kind: Kind) -> &'static str
     ensures { result.now ≡ small_letter_text kind }
 {
@@ -127,6 +130,7 @@ fn small_letter(kind: Kind) -> &'static str
 impl fmt::Display for Move {
     ghost output = { λ m. Some (coordinate m) };
 
+    // Writes the move as its squares and the letter of its promotion: `e2e4`, `e7e8q`.
     fn fmt<W: fmt::Write>(&self, f: &mut fmt::Formatter<W>) -> fmt::Result {
         write!(f, "{}{}", self.from, self.to)?;
         match self.promotion {

@@ -10,8 +10,8 @@ use crate::man::{Colour, Kind, Move};
 use crate::setup::Setup;
 use crate::square::is_square;
 
-// The number of the square straight ahead for a pawn of that colour. Ahead of the last rank, where there is no pawn, it
-// is for White past 63 and for Black 0.
+// The number of the square straight ahead for a pawn of that colour: from `e2` (12) White's is `e3` (20). On its last
+// rank, where no pawn is, the result means nothing: White's is above 63, Black's 0.
 pub(crate) fn forward(colour: Colour, number: u8) -> u8
     requires { number < 248 }
     ensures { result ≡ forward colour number }
@@ -22,7 +22,8 @@ pub(crate) fn forward(colour: Colour, number: u8) -> u8
     }
 }
 
-/// The rank on which that colour's pawns begin (Laws of Chess 2023, article 2.3).
+/// The rank of that colour's pawns at the start: 1 (rank 2) for White, 6 (rank 7) for Black (Laws of Chess 2023,
+/// article 2.3).
 pub fn pawn_rank(colour: Colour) -> u8
     ensures { result ≡ pawn_rank colour }
 {
@@ -32,8 +33,8 @@ pub fn pawn_rank(colour: Colour) -> u8
     }
 }
 
-/// Whether there is a promotion exactly where a pawn moves to its last rank, and to a piece that it may become (Laws
-/// of Chess 2023, article 3.7.3.3).
+/// Whether a pawn's move names a promotion to a queen, rook, bishop or knight if it ends on its last rank (`last`), and
+/// none otherwise (Laws of Chess 2023, article 3.7.3.3).
 pub fn promotion_fits(last: bool, promotion: Option<Kind>) -> bool
     ensures { result ≡ promotion_fits last promotion }
 {
@@ -44,6 +45,8 @@ pub fn promotion_fits(last: bool, promotion: Option<Kind>) -> bool
     }
 }
 
+// Whether a pawn of the side on move goes two squares straight ahead from its home rank, as `e2e4`. Whether these
+// squares are empty is not asked here.
 #[tactic(auto, unfolding(crate::specs::Moves::is_double_advance))]
 pub(crate) fn is_double_advance(setup: &Setup, m: &Move) -> bool
     ensures { result ≡ is_double_advance setup.now m.now }
@@ -53,7 +56,8 @@ pub(crate) fn is_double_advance(setup: &Setup, m: &Move) -> bool
         && m.to.number() == forward(setup.side, forward(setup.side, m.from.number()))
 }
 
-/// Whether the move takes a pawn en passant (Laws of Chess 2023, article 3.7).
+/// Whether the move takes a pawn en passant: a pawn goes diagonally to the en passant target (Laws of Chess 2023,
+/// article 3.7.3.1).
 #[tactic(auto, unfolding(crate::specs::Moves::is_en_passant))]
 pub fn is_en_passant(setup: &Setup, m: &Move) -> bool
     ensures { result ≡ is_en_passant setup.now m.now }
@@ -63,6 +67,7 @@ pub fn is_en_passant(setup: &Setup, m: &Move) -> bool
         && is_square(setup.target, m.to)
 }
 
+// Whether the move, of a pawn, goes straight ahead, one square or by a double advance, over empty squares.
 #[tactic(auto, unfolding(crate::specs::Moves::pawn_advances))]
 fn pawn_advances(setup: &Setup, m: &Move) -> bool
     ensures { result ≡ pawn_advances setup.now m.now }
@@ -73,6 +78,7 @@ fn pawn_advances(setup: &Setup, m: &Move) -> bool
             || is_double_advance(setup, m) && man_on(&setup.men, ahead).is_none())
 }
 
+// Whether the move, of a pawn, goes diagonally to an enemy piece or to the en passant target.
 #[tactic(auto, unfolding(crate::specs::Moves::pawn_captures))]
 fn pawn_captures(setup: &Setup, m: &Move) -> bool
     ensures { result ≡ pawn_captures setup.now m.now }
@@ -81,6 +87,7 @@ fn pawn_captures(setup: &Setup, m: &Move) -> bool
         && (is_of(setup.side.other(), setup.men[m.to.index()]) || is_square(setup.target, m.to))
 }
 
+// Whether the move, of a pawn, is an advance or a capture, with a promotion exactly where it reaches its last rank.
 #[tactic(auto, unfolding(crate::specs::Moves::pawn_moves))]
 pub(crate) fn pawn_moves(setup: &Setup, m: &Move) -> bool
     ensures { result ≡ pawn_moves setup.now m.now }

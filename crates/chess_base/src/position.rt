@@ -19,7 +19,8 @@ use crate::sound::setup_fault;
 use crate::square::Square;
 use std::marker::Model;
 
-/// A position, always sound: it meets `IsSound` of specs/Sound. In contracts it is its `Setup`.
+/// A position, always sound: one king a colour, no pawn on the first or last rank, the side not on move not in check,
+/// and the rest of `IsSound` in specs/Sound. In contracts it is its `Setup`.
 #[derive(Clone, Copy, Debug, PartialEq, Eq)]
 pub struct Position {
     setup: Setup,
@@ -40,7 +41,7 @@ impl Model for Position {
 }
 
 impl Position {
-    /// The position that a setup is, if it is sound; else the first condition that fails, in the order counters, kings,
+    /// The setup as a position, if it is sound; else the first condition that fails, in the order counters, kings,
     /// pawns, pieces, castling, target, check.
     pub fn new(setup: Setup) -> Result<Self, FenFault>
         ensures sound { IsOk result ↔ IsSound setup }
@@ -61,7 +62,7 @@ impl Position {
         Position::initial_of(Variant::Normal)
     }
 
-    /// The position with the pieces, the rights and the counters of the initial position, in that variant.
+    /// The initial position of normal chess, with that variant: in Chess960 it is one of the 960 starting positions.
     pub fn initial_of(variant: Variant) -> Self
         ensures { result ≡ initial_setup_of variant }
     {
@@ -87,7 +88,7 @@ impl Position {
         }
     }
 
-    /// The position that a sound setup is.
+    /// The setup as a position; the caller knows that it is sound.
     pub fn from_sound(setup: Setup) -> Self
         requires { IsSound setup }
         ensures { result ≡ setup }
@@ -95,7 +96,7 @@ impl Position {
         Position { setup }
     }
 
-    /// All that the position holds.
+    /// All that the position holds, as the six fields of FEN and the variant.
     pub fn setup(&self) -> &Setup
         ensures value { result.now ≡ self.now }
         ensures sound { IsSound result.now }
@@ -117,14 +118,14 @@ impl Position {
         self.setup.side
     }
 
-    /// The piece on a square, if there is one.
+    /// The piece on that square, or none.
     pub fn at(&self, square: Square) -> Option<Man>
         ensures { result ≡ man_at self.now.men square }
     {
         self.setup.men[square.index()]
     }
 
-    /// Whether some piece of that colour attacks the square, also one that may not move because it shields its king
+    /// Whether some piece of colour `by` attacks the square, also one that may not move because it shields its king
     /// (Laws of Chess 2023, articles 3.1 to 3.8).
     pub fn attacked(&self, square: Square, by: Colour) -> bool
         ensures { result ≡ is_attacked self.now.men square by }
@@ -132,15 +133,15 @@ impl Position {
         is_attacked(&self.setup.men, square, by)
     }
 
-    /// Whether the side on move may make this move: its piece goes so, and its king is not attacked afterwards (Laws of
-    /// Chess 2023, articles 3.1 to 3.9).
+    /// Whether the side on move may make this move: one of its pieces can go there, and its king is not attacked
+    /// afterwards (Laws of Chess 2023, articles 3.1 to 3.9).
     pub fn is_legal(&self, m: Move) -> bool
         ensures { result ≡ is_legal self.now m }
     {
         is_legal(&self.setup, &m)
     }
 
-    /// The position after a legal move, which is sound too: `after_is_sound`.
+    /// The position after a legal move. It is sound too, by the law `after_is_sound`.
     #[tactic(auto, unfolding(crate::specs::Moves::after))]
     pub fn after(&self, m: Move) -> Self
         requires { IsTrue (is_legal self.now m) }

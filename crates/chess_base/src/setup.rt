@@ -3,10 +3,10 @@
 use crate::man::{Colour, Man, Rights, Variant};
 use crate::square::Square;
 
-/// Where the halfmove clock and the fullmove number stop.
+/// The largest halfmove clock and fullmove number; both stop there.
 pub const COUNTER_LIMIT: u32 = 999_999;
 
-/// What a position holds (the six fields of FEN, PGN standard of 1994, section 16.1), sound or not.
+/// What a position holds (the six fields of FEN, PGN standard of 1994, section 16.1, and the variant), sound or not.
 #[derive(Clone, Copy, Debug, PartialEq, Eq)]
 pub struct Setup {
     /// Whether castling goes by normal chess or by Chess960.
@@ -25,7 +25,7 @@ pub struct Setup {
     pub fullmove: u32,
 }
 
-/// What a move does not keep: the captured piece, en passant too, and the rest as it was before the move.
+/// What has to be saved to take a move back: the captured piece, and the rest as it was before the move.
 #[derive(Clone, Copy, Debug, PartialEq, Eq)]
 pub struct Saved {
     /// The piece that was captured, en passant too.

@@ -26,6 +26,7 @@ pub struct Steps {
     pub mover: Option<Man>,
 }
 
+// Puts a piece, or none to empty it, on the given square; nothing changes if no square is given.
 fn put(men: &mut [Option<Man>; 64], square: Option<Square>, man: Option<Man>)
     ensures { men.new ≡ with_man men.old square man }
 {

@@ -16,9 +16,9 @@ use chess_base::{Colour, Kind, Move, Position, Saved, Setup, Square};
 use chess_moves::{Board, MoveList, SquareSet, word_with};
 use std::marker::Model;
 
-/// A board that keeps, along with the piece of each square, sets of the squares of the pieces by colour and kind. The
-/// tables of attacks are lent to it, so one set of tables serves any number of boards. In contracts it is the `Setup`
-/// of its position.
+/// A board that keeps, along with the piece of each square, bitboards: sets of the squares of the pieces by colour and
+/// kind. The tables of attacks are lent to it, so one set of tables serves any number of boards. In contracts it is the
+/// `Setup` of its position.
 #[derive(Drop)]
 pub struct Bits<'t> {
     pub(crate) setup: Setup,
@@ -54,6 +54,7 @@ impl<'t> Bits<'t> {
         }
     }
 
+    // The squares that are not empty.
     pub(crate) fn occupied(&self) -> SquareSet
         ensures { IsOccupied result self.now.men }
     {
@@ -70,7 +71,7 @@ impl<'t> Bits<'t> {
         kings.first()
     }
 
-    // Whether a piece of that colour attacks the square.
+    // Whether a piece of colour `by` attacks the square.
     pub(crate) fn is_attacked(&self, square: Square, by: Colour) -> bool
         ensures { result ≡ is_attacked self.now.men square by }
     {
@@ -86,6 +87,7 @@ impl Board for Bits<'_> {
 
     ghost word_of = { position_word };
 
+    // Sets the board to that position.
     fn set(&mut self, to: &Position) {
         let setup = to.setup();
         self.sets = Sets::standing(self.tables.keys(), &setup.men);
@@ -116,7 +118,8 @@ impl Board for Bits<'_> {
         self.is_legal_by_kind(m)
     }
 
-    // The king, the pawns of the square's file and those that attack it, and the other pieces that attack it.
+    // The squares in which to look for a legal move's start: for a king its own square, for pawns the squares of `to`'s
+    // file and those from which they attack `to`, for any other kind the pieces that attack `to`.
     fn origins(&self, kind: Kind, to: Square) -> SquareSet {
         let side = self.setup.side;
         let men = self.sets.of(side);
@@ -131,11 +134,13 @@ impl Board for Bits<'_> {
         own.intersection(reached)
     }
 
+    // The squares of that colour's pieces of that kind.
     #[inline(always)]
     fn men_of(&self, colour: Colour, kind: Kind) -> SquareSet {
         self.sets.of(colour).of(kind)
     }
 
+    // The squares from which a piece of that kind, of the side on move, may legally move to `to` without a promotion.
     #[inline(always)]
     fn legal_starts(&self, kind: Kind, to: Square) -> SquareSet {
         self.starts_of(kind, to)
@@ -148,17 +153,20 @@ impl Board for Bits<'_> {
         self.is_attacked(king, side.other())
     }
 
+    // The position's Zobrist hash; that of the pieces is kept up to date by each move.
     #[inline(always)]
     fn word(&self) -> u64 {
         word_with(self.tables.keys(), self.sets.men_word, &self.setup)
     }
 
+    // Makes a legal move, and returns what `take_back` needs.
     #[inline(always)]
     fn make(&mut self, m: Move) -> Saved {
         let keys = self.tables.keys();
         make_move(&mut self.setup, &mut self.sets, keys, &m)
     }
 
+    // Takes back the move that was made last, `m`, by what `make` returned for it.
     fn take_back(&mut self, m: Move, saved: Saved) {
         let keys = self.tables.keys();
         move_back(&mut self.setup, &mut self.sets, keys, &m, &saved);

@@ -18,7 +18,7 @@ use chess_base::{Kind, Man, Move, Square, Variant};
 use chess_moves::{Board, SquareSet};
 
 impl Bits<'_> {
-    // The squares of a rank above one square and below another.
+    // The squares strictly between two squares of one rank, where `low` is the one nearer to the a-file.
     #[tactic(auto, unfolding(crate::specs::ties::Shapes::in_shape))]
     fn above_and_below(&self, low: Square, high: Square) -> SquareSet
         ensures { (k : ℕ) → k < 64 → has result k ≡ (is_on_ray Rank true low k && is_on_ray Rank false high k) }
@@ -27,7 +27,7 @@ impl Bits<'_> {
         above.intersection(self.tables.at(Shape::Ray(Line::Rank, false), high))
     }
 
-    // The squares strictly between two of a rank.
+    // The squares strictly between two squares of one rank.
     #[tactic(auto, using(crate::proofs::CastlingBySets::between_up, crate::proofs::CastlingBySets::between_down))]
     fn between(&self, a: Square, b: Square) -> SquareSet
         requires { rank a ≡ rank b }
@@ -39,7 +39,7 @@ impl Bits<'_> {
         self.above_and_below(b, a)
     }
 
-    // The squares from one to another of a rank, both among them.
+    // The squares from one square of a rank to another, both included.
     fn way(&self, a: Square, b: Square) -> SquareSet
         requires { rank a ≡ rank b }
         ensures { (k : ℕ) → k < 64 → has result k ≡ is_on_way a b k }
@@ -48,7 +48,7 @@ impl Bits<'_> {
         ends.union(self.between(a, b))
     }
 
-    // Whether no square of these is attacked by the other side.
+    // Whether the other side attacks no square of this set.
     fn is_safe_way(&self, way: SquareSet) -> bool
         ensures { result ≡ each_square
             (λ x. not (has way x) || not (is_attacked (self.now).men x (other (self.now).side))) }
@@ -63,7 +63,8 @@ impl Bits<'_> {
         true
     }
 
-    // Whether nothing prevents that castling.
+    // Whether nothing prevents that castling: the squares that king and rook cross or end on are empty, and those of
+    // the king are not attacked.
     fn castles(&self, castle: &Castle) -> bool
         requires kings { rank castle.now.king_from ≡ rank castle.now.king_to }
         requires rooks { rank castle.now.rook_from ≡ rank castle.now.rook_to }
@@ -83,7 +84,7 @@ impl Bits<'_> {
         self.is_safe_way(walk)
     }
 
-    // Whether the move is legal that castles so.
+    // Whether the move, which is that castling, is legal.
     pub(crate) fn castles_legally(&self, m: &Move, castle: &Castle) -> bool
         requires castle { castle_of self.now m.now ≡ Some castle.now }
         requires none { m.now.promotion ≡ None }
@@ -101,8 +102,8 @@ impl Bits<'_> {
         }
     }
 
-    // Whether the king is safe after castling that nothing prevents: in Chess960 the rook may have been between
-    // it and an attacker.
+    // Whether the king is not attacked after that castling, which nothing prevents: in Chess960 the rook, now gone, may
+    // have been between it and an attacker.
     fn is_safe_castled(&self, m: &Move, castle: &Castle) -> bool
         requires castle { castle_of self.now m.now ≡ Some castle.now }
         requires none { m.now.promotion ≡ None }

@@ -18,7 +18,7 @@ use chess_base::{Kind, Move, Square};
 use chess_moves::{Board, SquareSet, would_promote};
 
 impl Bits<'_> {
-    // How often a move with a piece's pattern is legal: once or never.
+    // 1 if the pseudo-legal move is legal, else 0.
     fn times_legal(&self, m: &Move) -> usize
         requires { IsTrue (is_pseudo_legal self.now m.now) }
         ensures value { result ≡ cond (is_legal self.now m.now) 1 0 }
@@ -27,7 +27,7 @@ impl Bits<'_> {
         if self.is_safe_after(m) { 1 } else { 0 }
     }
 
-    // How often a pawn's promotion to that kind is legal.
+    // 1 if the pawn's promotion to that kind, on its way from `from` to `to`, is legal, else 0.
     fn times_promoted(&self, from: Square, to: Square, kind: Kind) -> usize
         requires goes { goes self.now from to ≡ true }
         requires fits { promotion_fits (would_promote self.now from to) (Some kind) ≡ true }
@@ -41,7 +41,7 @@ impl Bits<'_> {
         })
     }
 
-    // How many legal moves there are from there to there.
+    // How many legal moves there are from `from` to `to`: a promotion counts once for each kind.
     fn count_between(&self, from: Square, to: Square) -> usize
         requires { goes self.now from to ≡ true }
         ensures { result ≡ length (moves_between self.now from to) }
@@ -60,7 +60,7 @@ impl Bits<'_> {
         }
     }
 
-    // How many legal moves there are from there.
+    // How many legal moves there are from that square.
     fn count_from(&self, from: Square) -> usize
         requires { length (moves_from self.now from) ≤ 896 }
         ensures { result ≡ length (moves_from self.now from) }
@@ -73,7 +73,7 @@ impl Bits<'_> {
         count
     }
 
-    // How many legal moves a step of the king is: one or none.
+    // 1 if the king's ordinary move from `king` to `to` is legal, else 0.
     fn times_stepped(&self, king: Square, to: Square) -> usize
         requires king { is_man (self.now).side King (man_at (self.now).men king) ≡ true }
         requires step { man_moves self.now (triple king to None) ≡ true }
@@ -82,7 +82,7 @@ impl Bits<'_> {
         if self.is_safe_step(king, to) { 1 } else { 0 }
     }
 
-    // How many legal moves the king has: its steps, and castling.
+    // How many legal moves the king on that square has: ordinary ones, and castling.
     fn count_king(&self, king: Square) -> usize
         requires king { is_man (self.now).side King (man_at (self.now).men king) ≡ true }
         requires few { length (moves_from self.now king) ≤ 896 }
@@ -99,7 +99,8 @@ impl Bits<'_> {
         count
     }
 
-    // How many legal moves these free pawns have. Those that may promote or take en passant are looked at one by one.
+    // How many legal moves these pawns have, which are all free: their king is safe wherever they go. Those that may
+    // promote or take en passant are looked at one by one.
     fn count_pawns(&self, men: SquareSet) -> usize
         requires free { AreFree self.now Pawn men }
         requires few { length (flat_map (λ a. moves_from self.now a) (members men)) ≤ 896 }
@@ -111,7 +112,8 @@ impl Bits<'_> {
         self.count_usual_pawns(usual) + self.count_each(unusual)
     }
 
-    // How many legal moves the free piece of that kind has that is there: it is neither king nor pawn.
+    // How many legal moves the queen, rook, bishop or knight on `from` has, of that kind. It is free: its king is safe
+    // wherever it goes, so each square that it reaches counts.
     #[inline(always)]
     fn count_officer(&self, kind: Kind, from: Square) -> usize
         requires kind { (same_kind King kind || same_kind Pawn kind) ≡ false }
@@ -125,7 +127,7 @@ impl Bits<'_> {
         self.steps(kind, from).len()
     }
 
-    // How many legal moves these free pieces of a kind have.
+    // How many legal moves these free pieces of a kind have, neither kings nor pawns.
     #[inline(always)]
     fn count_officers(&self, kind: Kind, men: SquareSet) -> usize
         requires kind { (same_kind King kind || same_kind Pawn kind) ≡ false }
@@ -141,7 +143,8 @@ impl Bits<'_> {
         count
     }
 
-    // Takes the free pieces of a kind from these, and returns how many legal moves they have.
+    // Takes the pieces of that kind that are in the set `free` out of the set `men`, and returns how many legal moves
+    // they have.
     #[inline(always)]
     fn count_kind(&self, kind: Kind, free: SquareSet, men: &mut SquareSet) -> usize
         requires kind { same_kind King kind ≡ false }
@@ -162,7 +165,7 @@ impl Bits<'_> {
         }
     }
 
-    // How many legal moves the piece there has.
+    // How many legal moves the piece on `from` has.
     fn count_of(&self, from: Square) -> usize
         requires { length (moves_from self.now from) ≤ 896 }
         ensures { result ≡ length (moves_from self.now from) }
@@ -173,7 +176,7 @@ impl Bits<'_> {
         self.count_from(from)
     }
 
-    // How many legal moves these pieces have, each looked at alone.
+    // How many legal moves the pieces on these squares have, each looked at alone.
     fn count_each(&self, men: SquareSet) -> usize
         requires { length (flat_map (λ a. moves_from self.now a) (members men)) ≤ 896 }
         ensures { result ≡ length (flat_map (λ a. moves_from self.now a) (members men)) }
@@ -186,8 +189,8 @@ impl Bits<'_> {
         count
     }
 
-    // How many legal moves there are: those of the free pieces kind by kind, and then those of all others: the king and
-    // the pieces that may shield it, or in check all pieces.
+    // How many legal moves there are. The free pieces, whose king is safe wherever they go, are counted kind by kind;
+    // then the king and the pieces that may be pinned, or in check all pieces, one by one.
     pub(crate) fn count(&self) -> usize
         ensures { result ≡ length (moves self.now) }
     {
@@ -204,7 +207,7 @@ impl Bits<'_> {
         pawns + knights + bishops + rooks + queens + others
     }
 
-    // Whether there is a legal move from there. It looks no further than the first.
+    // Whether there is a legal move from that square. It looks no further than the first.
     fn has_move_from(&self, from: Square) -> bool
         ensures { result ≡ nat_lt 0 (length (moves_from self.now from)) }
     {
@@ -217,7 +220,7 @@ impl Bits<'_> {
         false
     }
 
-    // Whether one of these pieces has a legal move. It looks no further than the first.
+    // Whether a piece on one of these squares has a legal move. It looks no further than the first.
     fn has_move_of(&self, men: SquareSet) -> bool
         ensures { result ≡ nat_lt 0 (length (flat_map (λ a. moves_from self.now a) (members men))) }
     {
@@ -230,7 +233,7 @@ impl Bits<'_> {
         false
     }
 
-    // Whether one of these free knights has a legal move.
+    // Whether one of these knights, which are all free (not pinned, and their king not in check), has a legal move.
     fn has_knight_move(&self, men: SquareSet) -> bool
         requires { AreFree self.now Knight men }
         ensures { result ≡ nat_lt 0 (length (flat_map (λ a. moves_from self.now a) (members men))) }
@@ -244,7 +247,7 @@ impl Bits<'_> {
         false
     }
 
-    // Whether one of these kings of the side on move has a legal move.
+    // Whether a king on one of these squares, of the side on move, has a legal move.
     fn has_king_move(&self, men: SquareSet) -> bool
         requires kings { (k : ℕ) → k < 64 → has men k ≡ true
             → is_man (self.now).side King (man_at (self.now).men k) ≡ true }
@@ -260,7 +263,8 @@ impl Bits<'_> {
         false
     }
 
-    // Whether a knight or pawn off its king's lines has a legal move, where the king is not in check. Mostly one has.
+    // A quick test for a legal move: whether the king is not in check, and a knight or pawn that is on no rank, file or
+    // diagonal of the king has a legal move. `false` says nothing.
     fn has_usual_move(&self) -> bool
         ensures { result ≡ true → nat_lt 0 (length (moves self.now)) ≡ true }
     {

@@ -5,7 +5,7 @@ ghost use Rattle.chess_moves.specs.PositionWord.{key};
 
 use chess_moves::{ComputedKeys, Keys};
 
-/// All keys by their numbers.
+/// All 785 keys of position hashes, by their numbers.
 #[derive(Drop)]
 pub struct KeyTable {
     keys: [u64; 785],
@@ -13,6 +13,7 @@ pub struct KeyTable {
 }
 
 impl KeyTable {
+    /// Computes all keys.
     pub fn new() -> Self {
         let mut keys = [0; 785];
         for number in 0..785 {
@@ -23,6 +24,7 @@ impl KeyTable {
 }
 
 impl Keys for KeyTable {
+    // The key with that number, looked up.
     #[inline(always)]
     fn key(&self, number: u16) -> u64 {
         self.keys[number as usize]

@@ -16,12 +16,13 @@ use crate::tables::AttackTables;
 use chess_base::{Colour, Kind, Square};
 use chess_moves::SquareSet;
 
-/// The pieces of one colour: a set of squares for each kind, at the kind's number.
+/// The pieces of one colour: a set of squares for each kind, at the kind's index (king 0 to pawn 5).
 #[derive(Clone, Copy)]
 pub struct Kinds {
     sets: [SquareSet; 6],
 }
 
+// The index of a kind's set: king 0 to pawn 5.
 fn number(kind: Kind) -> usize
     ensures value { result ≡ kind_number kind }
     ensures in_range { result < 6 }
@@ -37,7 +38,7 @@ fn number(kind: Kind) -> usize
 }
 
 impl Kinds {
-    /// No pieces.
+    /// The sets of a colour without pieces.
     #[tactic(auto, using(crate::proofs::Standing::no_kinds))]
     pub fn empty() -> Kinds
         ensures { (c : Side) → (men : Men) → ((k : ℕ) → k < 64 → man_at men k ≡ None) → IsKinds result.sets c men }
@@ -48,7 +49,7 @@ impl Kinds {
         }
     }
 
-    /// Puts a piece on an empty square.
+    /// Adds a piece of that kind on a square, which is empty.
     pub fn put(&mut self, kind: Kind, square: Square)
         ensures { (men : Men) → (c : Side) → length men ≡ 64 → man_at men square ≡ None → IsKinds self.old.sets c men
             → IsKinds self.new.sets c (slice_set men square (Some (record { colour = c; kind = kind }))) }
@@ -57,7 +58,7 @@ impl Kinds {
         self.sets[at] = self.sets[at].union(SquareSet::single(square));
     }
 
-    /// Takes a piece from its square.
+    /// Removes a piece of that kind from its square.
     pub fn lift(&mut self, kind: Kind, square: Square)
         ensures { (men : Men) → (c : Side) → length men ≡ 64
             → man_at men square ≡ Some (record { colour = c; kind = kind }) → IsKinds self.old.sets c men
@@ -67,7 +68,7 @@ impl Kinds {
         self.sets[at] = self.sets[at].without(SquareSet::single(square));
     }
 
-    /// Takes a piece from its square to an empty one.
+    /// Moves a piece of that kind from one square to another, which is empty.
     #[inline(always)]
     pub fn shift(&mut self, kind: Kind, from: Square, to: Square)
         ensures { (men : Men) → (c : Side) → length men ≡ 64
@@ -84,6 +85,8 @@ impl Kinds {
     }
 }
 
+// The squares that a rook on `square` attacks: in each of its four directions up to the first occupied square, that one
+// included.
 #[tactic(auto, using(crate::proofs::Attackers::on_lines))]
 pub(crate) fn along_lines(tables: &AttackTables, square: Square, occupied: SquareSet) -> SquareSet
     ensures { (k : ℕ) → k < 64
@@ -96,6 +99,8 @@ pub(crate) fn along_lines(tables: &AttackTables, square: Square, occupied: Squar
     up.union(down).union(left.union(right))
 }
 
+// The squares that a bishop on `square` attacks: in each of its four directions up to the first occupied square, that
+// one included.
 #[tactic(auto, using(crate::proofs::Attackers::on_diagonals))]
 pub(crate) fn along_diagonals(
     tables: &AttackTables,
@@ -112,7 +117,8 @@ pub(crate) fn along_diagonals(
     up.union(down).union(left.union(right))
 }
 
-// Of these pieces those that are on the square's rank or file, with nothing between.
+// The squares of the set `men` from which a rook would attack `square`: those on its rank or file with no occupied
+// square between. A table is asked first whether any is on them at all.
 #[tactic(auto, unfolding(crate::specs::ties::Shapes::in_shape))]
 fn met_on_lines(
     tables: &AttackTables,
@@ -131,7 +137,8 @@ fn met_on_lines(
     along_lines(tables, square, occupied).intersection(men)
 }
 
-// Of these pieces those that are on a diagonal of the square, with nothing between.
+// The squares of the set `men` from which a bishop would attack `square`: those on its diagonals with no occupied
+// square between. A table is asked first whether any is on them at all.
 #[tactic(auto, unfolding(crate::specs::ties::Shapes::in_shape))]
 fn met_on_diagonals(
     tables: &AttackTables,
@@ -150,14 +157,14 @@ fn met_on_diagonals(
 }
 
 impl Kinds {
-    /// The squares of these pieces of a kind.
+    /// The squares of this colour's pieces of that kind.
     pub fn of(&self, kind: Kind) -> SquareSet
         ensures { result ≡ slice_index self.now.sets (kind_number kind) }
     {
         self.sets[number(kind)]
     }
 
-    /// These pieces, of that colour, that attack the square where those squares are occupied.
+    /// Those of these pieces, which are of that colour, that attack `square`, given the occupied squares of the board.
     #[inline(always)]
     pub fn attackers(
         &self,
@@ -189,7 +196,8 @@ impl Kinds {
             .union(pawns)
     }
 
-    /// Whether one of these pieces, of that colour, attacks the square where those squares are occupied.
+    /// Whether one of these pieces, which are of that colour, attacks `square`, given the occupied squares of the
+    /// board.
     #[tactic(auto, unfolding(chess_base::specs::Attacks::is_attacked))]
     pub fn attacks(
         &self,
@@ -204,8 +212,8 @@ impl Kinds {
         !self.attackers(tables, colour, square, occupied).is_empty()
     }
 
-    /// Whether one of these pieces, of that colour, attacks the square where those squares are occupied: the pieces on
-    /// the squares of a set are left out.
+    /// Whether one of these pieces, which are of that colour, attacks `square`, given the squares that are occupied
+    /// after a move. Pieces on squares of `changed`, the ones that the move changed, don't count: they were captured.
     #[inline(always)]
     #[tactic(auto, unfolding(chess_base::specs::Attacks::is_attacked))]
     pub fn attacks_outside(

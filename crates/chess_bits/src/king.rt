@@ -15,7 +15,7 @@ use chess_base::rules::{Steps, is_man};
 use chess_base::{Kind, Move, Square};
 use chess_moves::SquareSet;
 
-// The set of a square, if there is one.
+// The set of that square alone, or the empty set if there is none.
 pub(crate) fn set_of(square: Option<Square>) -> SquareSet
     ensures { (k : ℕ) → has result k ≡ is_square square k }
 {
@@ -25,7 +25,7 @@ pub(crate) fn set_of(square: Option<Square>) -> SquareSet
     }
 }
 
-// The squares on which pieces arrive.
+// The squares on which pieces arrive by these steps of a move.
 #[inline(always)]
 fn filled_by(steps: &Steps) -> SquareSet
     ensures { (k : ℕ) → has result k ≡ ((steps.now.to == k) || is_square steps.now.second_to k) }
@@ -34,7 +34,7 @@ fn filled_by(steps: &Steps) -> SquareSet
     to.union(set_of(steps.second_to))
 }
 
-// The squares that pieces leave.
+// The squares that pieces leave by these steps of a move.
 #[inline(always)]
 fn emptied_by(steps: &Steps) -> SquareSet
     ensures { (k : ℕ) → has result k ≡ (is_square steps.now.second_from k || (steps.now.from == k)) }
@@ -44,7 +44,8 @@ fn emptied_by(steps: &Steps) -> SquareSet
 }
 
 impl Bits<'_> {
-    // The square of the king of the side on move after a move with a piece's pattern, whose steps these are.
+    // The square of the king of the side on move after a pseudo-legal move with these steps: where the mover arrives if
+    // it is the king, else where the king is now.
     fn king_after(&self, m: &Move, steps: &Steps) -> Square
         requires pattern { IsTrue (is_pseudo_legal self.now m.now) }
         requires steps { steps.now ≡ steps_of self.now m.now }
@@ -60,8 +61,8 @@ impl Bits<'_> {
         }
     }
 
-    // Whether a move with a piece's pattern is legal, after which the king is there: these squares are filled by it,
-    // and these changed.
+    // Whether a pseudo-legal move is legal, given what it changes: no enemy piece attacks its king, which is then on
+    // `king`. `filled` are the squares on which pieces arrive, `changed` these and the ones that pieces leave.
     #[inline(always)]
     fn is_safe_at(&self, king: Square, filled: SquareSet, changed: SquareSet) -> bool
         ensures { (m : Move) → is_pseudo_legal self.now m ≡ true → king < 64
@@ -77,7 +78,8 @@ impl Bits<'_> {
         !men.attacks_outside(self.tables, by, king, occupied, changed)
     }
 
-    // Whether a step of the king is legal: nothing attacks its end square once it has left its own.
+    // Whether an ordinary move of the king, from `king` to `to`, is legal: nothing attacks `to` once the king has left
+    // its square.
     pub(crate) fn is_safe_step(&self, king: Square, to: Square) -> bool
         requires king { is_man (self.now).side King (man_at (self.now).men king) ≡ true }
         requires step { man_moves self.now (triple king to None) ≡ true }
@@ -91,7 +93,7 @@ impl Bits<'_> {
         !self.sets.of(by).attacks(self.tables, by, to, left)
     }
 
-    // Whether a move with a piece's pattern is legal: the king of the side on move is safe after it.
+    // Whether a pseudo-legal move is legal: the mover's king is not attacked after it.
     pub(crate) fn is_safe_after(&self, m: &Move) -> bool
         requires { IsTrue (is_pseudo_legal self.now m.now) }
         ensures { result ≡ is_legal self.now m.now }
@@ -100,7 +102,7 @@ impl Bits<'_> {
         self.is_safe_by(m, &steps)
     }
 
-    // The same, where the move's steps are known.
+    // Whether a pseudo-legal move with these steps is legal: the mover's king is not attacked after it.
     pub(crate) fn is_safe_by(&self, m: &Move, steps: &Steps) -> bool
         requires pattern { IsTrue (is_pseudo_legal self.now m.now) }
         requires steps { steps.now ≡ steps_of self.now m.now }
@@ -112,7 +114,8 @@ impl Bits<'_> {
         self.is_safe_at(king, filled, changed)
     }
 
-    // The same for a move that changes its two squares alone and is not the king's.
+    // Whether the pseudo-legal move from `from` to `to` without a promotion is legal. It is not the king's and not en
+    // passant, so only its two squares change.
     #[inline(always)]
     pub(crate) fn is_safe_usual(&self, from: Square, to: Square) -> bool
         requires { StepsPlainly self.now from to }

@@ -17,7 +17,7 @@ use chess_base::rules::{is_of, promotion_fits};
 use chess_base::{Colour, Kind, Man, Move, Square};
 use chess_moves::{Board, SquareSet, would_promote};
 
-// Whether it is neither a king nor a pawn.
+// Whether the kind is queen, rook, bishop or knight.
 #[inline(always)]
 fn is_officer(kind: Kind) -> bool
     ensures { result ≡ not (same_kind King kind || same_kind Pawn kind) }
@@ -25,7 +25,8 @@ fn is_officer(kind: Kind) -> bool
     !(is_king(kind) || is_pawn(kind))
 }
 
-// The kind of the piece there, if it is of that colour and neither king nor pawn.
+// The kind of the piece on a square with that content, if it is a queen, rook, bishop or knight of that colour; else
+// none.
 #[inline(always)]
 fn officer_of(colour: Colour, man: Option<Man>) -> Option<Kind>
     ensures { MatchOption result (true ≡ true) (λ kind. IsOfficer colour kind man) }
@@ -43,7 +44,7 @@ fn officer_of(colour: Colour, man: Option<Man>) -> Option<Kind>
 }
 
 impl Bits<'_> {
-    // Whether the officer there, of that kind, goes legally to that square.
+    // Whether the queen, rook, bishop or knight on `from`, of that kind, may legally go to `to`.
     #[inline(always)]
     fn goes_legally(&self, kind: Kind, from: Square, to: Square) -> bool
         requires { IsOfficer (self.now).side kind (man_at (self.now).men from) }
@@ -58,7 +59,7 @@ impl Bits<'_> {
         self.is_safe_usual(from, to)
     }
 
-    // Whether a move of the officer there, of that kind, is legal.
+    // Whether a move is legal, where a queen, rook, bishop or knight of that kind is on its start square.
     #[inline(always)]
     fn is_officer_legal(&self, kind: Kind, m: &Move) -> bool
         requires { IsOfficer (self.now).side kind (man_at (self.now).men m.now.from) }
@@ -70,7 +71,8 @@ impl Bits<'_> {
         self.goes_legally(kind, m.from, m.to)
     }
 
-    // Whether a move is legal, by the end squares of the piece at its start.
+    // Whether a move of any piece is legal: its end square is among those of its piece, its promotion fits, and its
+    // king is safe after it.
     fn is_legal_by_targets(&self, m: &Move) -> bool
         ensures { result ≡ is_legal self.now m.now }
     {
@@ -85,7 +87,8 @@ impl Bits<'_> {
         self.is_safe_after(m)
     }
 
-    // Whether a move is legal: of an officer by what it reaches, of any other piece by its end squares.
+    // Whether a move is legal. For a queen, rook, bishop or knight the squares that it reaches decide, for a king or
+    // pawn, or where no own piece is on the start square, the general test.
     #[inline(always)]
     pub(crate) fn is_legal_by_kind(&self, m: &Move) -> bool
         ensures { result ≡ is_legal self.now m.now }
@@ -96,7 +99,7 @@ impl Bits<'_> {
         }
     }
 
-    // Whether the pawn there goes to that square without a promotion, whatever becomes of its king.
+    // Whether the move of the pawn on `from` to `to` without a promotion is pseudo-legal.
     #[inline(always)]
     fn pawn_steps(&self, from: Square, to: Square) -> bool
         requires { is_man (self.now).side Pawn (man_at (self.now).men from) ≡ true }
@@ -108,7 +111,7 @@ impl Bits<'_> {
         self.pawn_targets(from).contains(to) && !would_promote(&self.setup, from, to)
     }
 
-    // Whether the pawn there goes legally to that square without a promotion.
+    // Whether the pawn on `from` may legally go to `to` without a promotion.
     #[inline(always)]
     fn pawn_goes_legally(&self, from: Square, to: Square) -> bool
         requires { is_man (self.now).side Pawn (man_at (self.now).men from) ≡ true }
@@ -128,7 +131,8 @@ impl Bits<'_> {
         self.is_safe_usual(from, to)
     }
 
-    // Those of these squares from which the pawns there go legally to a square without a promotion.
+    // Those of these squares, which all hold pawns of the side on move, from which the pawn may legally go to `to`
+    // without a promotion.
     #[inline(always)]
     fn pawn_starts_among(&self, men: SquareSet, to: Square) -> SquareSet
         requires { (k : ℕ) → k < 64 → has men k ≡ true → is_man (self.now).side Pawn (man_at (self.now).men k) ≡ true }
@@ -144,7 +148,8 @@ impl Bits<'_> {
         starts
     }
 
-    // The same, where all go to that square as far as their king is concerned.
+    // Those of these squares from which the piece may legally go to `to`. For all of them this move is pseudo-legal,
+    // not the king's, no promotion and not en passant.
     #[inline(always)]
     fn safe_starts(&self, men: SquareSet, to: Square) -> SquareSet
         requires { (k : ℕ) → k < 64 → has men k ≡ true → StepsPlainly self.now k to }
@@ -160,7 +165,8 @@ impl Bits<'_> {
         starts
     }
 
-    // From where officers of a kind go legally to a square: where they are reached from there.
+    // The squares from which queens, rooks, bishops or knights (that kind) of the side on move may legally go to `to`.
+    // They are among those that such a piece on `to` would attack.
     fn officer_starts(&self, kind: Kind, to: Square) -> SquareSet
         requires { (same_kind King kind || same_kind Pawn kind) ≡ false }
         ensures { HasLegalStarts self.now kind to result }
@@ -176,7 +182,7 @@ impl Bits<'_> {
         self.safe_starts(men, to)
     }
 
-    // Whether the king there goes legally to that square: by a step, or by castling.
+    // Whether the king on `king` may legally go to `to`: by an ordinary move, or by castling.
     fn king_goes_legally(&self, king: Square, to: Square) -> bool
         requires { is_man (self.now).side King (man_at (self.now).men king) ≡ true }
         ensures { result ≡ is_legal self.now (triple king to None) }
@@ -190,7 +196,7 @@ impl Bits<'_> {
         self.castling_ends(king).contains(to)
     }
 
-    // From where a king goes legally to a square.
+    // The square of the king of the side on move if it may legally go to `to`, else no square.
     fn king_starts(&self, to: Square) -> SquareSet
         ensures { HasLegalStarts self.now King to result }
     {
@@ -202,7 +208,7 @@ impl Bits<'_> {
         }
     }
 
-    // From where pawns go legally to a square without a promotion: those of the origins that do.
+    // The squares from which pawns of the side on move may legally go to `to` without a promotion.
     fn legal_pawn_starts(&self, to: Square) -> SquareSet
         ensures { HasLegalStarts self.now Pawn to result }
     {
@@ -210,7 +216,7 @@ impl Bits<'_> {
         self.pawn_starts_among(own.intersection(self.origins(Kind::Pawn, to)), to)
     }
 
-    // From where pieces of a kind go legally to a square.
+    // The squares from which pieces of that kind, of the side on move, may legally go to `to` without a promotion.
     #[inline(always)]
     pub(crate) fn starts_of(&self, kind: Kind, to: Square) -> SquareSet
         ensures { HasLegalStarts self.now kind to result }

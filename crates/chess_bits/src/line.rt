@@ -5,7 +5,8 @@ ghost use Rattle.chess_bits.specs.ties.Rays.{line_number, is_on_ray};
 
 use chess_base::Square;
 
-/// The four kinds of lines on the board.
+/// The four kinds of lines on the board. A diagonal goes up to the right, as a1 to h8, an antidiagonal up to the left,
+/// as h1 to a8.
 #[derive(Clone, Copy, PartialEq, Eq)]
 pub enum Line {
     Rank,
@@ -14,6 +15,8 @@ pub enum Line {
     Antidiagonal,
 }
 
+// The number of the line of that kind on which a square is: two squares are on one line exactly if their numbers are
+// equal.
 fn line_number(line: Line, square: Square) -> u8
     ensures { result ≡ line_number line square }
 {
@@ -25,7 +28,7 @@ fn line_number(line: Line, square: Square) -> u8
     }
 }
 
-/// Whether x is on the line through a, above it in number or below it.
+/// Whether x is on the line of that kind through a, with a greater number than a if `up`, else with a smaller one.
 pub(crate) fn is_on_ray(line: Line, up: bool, a: Square, x: Square) -> bool
     ensures { result ≡ is_on_ray line up a x }
 {

@@ -16,7 +16,7 @@ use crate::bits::Bits;
 use chess_base::{Kind, Move, Square};
 use chess_moves::{MoveList, SquareSet, would_promote};
 
-// What a pawn may promote to, in the order in which its moves are listed.
+// The kinds to which a pawn may promote, in the order in which its moves are listed.
 fn each_promotion() -> [Option<Kind>; 4]
     ensures { None ∷ result ≡ promotions }
 {
@@ -29,7 +29,8 @@ fn each_promotion() -> [Option<Kind>; 4]
 }
 
 impl Bits<'_> {
-    // Adds the legal moves from there to there with one of those promotions, which fit.
+    // Appends to `list` the legal moves from `from` to `to` that name one of those promotions. The promotions fit the
+    // move, so it is pseudo-legal with each.
     fn add_moves_with(
         &self,
         from: Square,
@@ -55,7 +56,7 @@ impl Bits<'_> {
         }
     }
 
-    // Adds the legal moves from there to there.
+    // Appends to `list` the legal moves from `from` to `to`, with a promotion or without.
     fn add_moves_between(&self, from: Square, to: Square, list: &mut MoveList)
         requires goes { goes self.now from to ≡ true }
         requires room { array_vec_len list.old + length (moves_between self.now from to) ≤ 896 }
@@ -68,7 +69,7 @@ impl Bits<'_> {
         }
     }
 
-    // Adds the legal moves from there.
+    // Appends to `list` the legal moves of the piece on `from`.
     fn add_moves_from(&self, from: Square, list: &mut MoveList)
         requires { array_vec_len list.old + length (moves_from self.now from) ≤ 896 }
         ensures { list.new.items ≡ list.old.items ++ moves_from self.now from }
@@ -79,7 +80,8 @@ impl Bits<'_> {
         }
     }
 
-    // Adds the legal moves of a free piece other than a pawn that may promote or take en passant: it goes as it may.
+    // Appends to `list` the legal moves of the piece on `from`. It is free (its king is safe wherever it goes), and no
+    // pawn that may promote or take en passant, so each of its end squares gives one move.
     fn add_usual_moves(&self, from: Square, list: &mut MoveList)
         requires free { IsFree self.now from }
         requires usual { (is_man (self.now).side Pawn (man_at (self.now).men from) && goes_unusually self.now from)
@@ -100,7 +102,7 @@ impl Bits<'_> {
         }
     }
 
-    // Adds the legal moves of a free piece.
+    // Appends to `list` the legal moves of the piece on `from`, which is free: its king is safe wherever it goes.
     fn add_free_moves(&self, from: Square, list: &mut MoveList)
         requires free { IsFree self.now from }
         requires room { array_vec_len list.old + length (moves_from self.now from) ≤ 896 }
@@ -113,7 +115,8 @@ impl Bits<'_> {
         }
     }
 
-    // Adds the legal moves of the piece there, if those pieces are free.
+    // Appends to `list` the legal moves of the piece on `from`. The pieces on squares of the set `free` are free: their
+    // king is safe wherever they go.
     fn add_moves_of(&self, from: Square, free: SquareSet, list: &mut MoveList)
         requires free { (k : ℕ) → k < 64 → has free k ≡ true → IsFree self.now k }
         requires room { array_vec_len list.old + length (moves_from self.now from) ≤ 896 }
@@ -128,7 +131,7 @@ impl Bits<'_> {
         }
     }
 
-    // All legal moves, in order.
+    // All legal moves, rising by start square, end square and promotion.
     pub(crate) fn moves(&self) -> MoveList
         ensures { result.items ≡ moves self.now }
     {

@@ -15,7 +15,8 @@ use chess_base::rules::{is_man, pawn_rank};
 use chess_base::{Colour, Kind, Square};
 use chess_moves::{Board, SquareSet};
 
-// The squares from which a pawn of that colour goes straight to one of a set.
+// The squares from which one step straight ahead takes a pawn of that colour to a square of the set: for White the set
+// moved one rank down, for Black one rank up.
 #[inline(always)]
 fn behind(colour: Colour, squares: SquareSet) -> SquareSet
     ensures { (k : ℕ) → k < 64 → 8 ≤ k → has result k ≡ has squares (forward colour k) }
@@ -26,7 +27,7 @@ fn behind(colour: Colour, squares: SquareSet) -> SquareSet
     }
 }
 
-// The squares from which a pawn of that colour attacks one of a set, towards the a-file.
+// The squares from which a pawn of that colour attacks a square of the set on the next file towards the a-file.
 #[inline(always)]
 fn attacking_left(colour: Colour, squares: SquareSet) -> SquareSet
     ensures { (k : ℕ) → k < 64 → 8 ≤ k → forward colour k < 64
@@ -36,7 +37,7 @@ fn attacking_left(colour: Colour, squares: SquareSet) -> SquareSet
     starts.without(SquareSet::of_file(0))
 }
 
-// The squares from which a pawn of that colour attacks one of a set, towards the h-file.
+// The squares from which a pawn of that colour attacks a square of the set on the next file towards the h-file.
 #[inline(always)]
 fn attacking_right(colour: Colour, squares: SquareSet) -> SquareSet
     ensures { (k : ℕ) → k < 64 → 8 ≤ k
@@ -47,7 +48,8 @@ fn attacking_right(colour: Colour, squares: SquareSet) -> SquareSet
 }
 
 impl Bits<'_> {
-    // The squares on which a pawn of the side on move may promote or take en passant.
+    // The squares from which a pawn of the side on move may promote or take en passant: those of the rank before its
+    // last one, and those from which it attacks the en passant target.
     #[tactic(auto, using(crate::proofs::PawnsCounted::aims_back))]
     pub(crate) fn unusual_squares(&self) -> SquareSet
         ensures { (k : ℕ) → k < 64 → has result k ≡ goes_unusually self.now k }
@@ -60,7 +62,7 @@ impl Bits<'_> {
         }
     }
 
-    // Whether a pawn of the side on move is there that may promote or take en passant.
+    // Whether on `from` is a pawn of the side on move that may promote or take en passant.
     pub(crate) fn is_unusual(&self, from: Square) -> bool
         ensures { result ≡ (is_man (self.now).side Pawn (man_at (self.now).men from) && goes_unusually self.now from) }
     {
@@ -70,8 +72,9 @@ impl Bits<'_> {
             && self.unusual_squares().contains(from)
     }
 
-    // How many legal moves these free pawns have, none of which may promote or take en passant. Each has one move for
-    // each of four ways that is open to it: one or two squares ahead, and a capture to the left or to the right.
+    // How many legal moves these pawns have. They are free (their king is safe wherever they go), and none may promote
+    // or take en passant. Each has one move for each of four ways that is open to it: one or two squares ahead, and a
+    // capture to the left or to the right.
     pub(crate) fn count_usual_pawns(&self, pawns: SquareSet) -> usize
         requires free { AreFree self.now Pawn pawns }
         requires usual { (k : ℕ) → k < 64 → has pawns k ≡ true → goes_unusually self.now k ≡ false }

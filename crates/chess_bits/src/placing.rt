@@ -21,7 +21,8 @@ use chess_base::rules::{
 };
 use chess_base::{COUNTER_LIMIT, Kind, Man, Move, Rights, Saved, Setup, Square};
 
-// Changes the content of a square, if there is one.
+// Changes the content of a square, if one is given, to that piece or to none, both in the list of pieces and in the
+// sets.
 #[inline(always)]
 fn place(
     men: &mut [Option<Man>; 64],
@@ -41,7 +42,7 @@ fn place(
 }
 
 impl Sets {
-    /// The sets of the pieces on the board.
+    /// The sets of the pieces on the board, computed from the list of pieces.
     pub fn standing(keys: &KeyTable, men: &[Option<Man>; 64]) -> Sets
         ensures { IsSets result men.now }
     {
@@ -61,7 +62,7 @@ impl Sets {
     }
 }
 
-// Changes the pieces by these steps, and their sets.
+// Changes the pieces by these steps, both in the list of pieces and in the sets.
 fn take_steps(men: &mut [Option<Man>; 64], sets: &mut Sets, keys: &KeyTable, steps: &Steps)
     ensures men { men.new ≡ men_stepped men.old steps.now }
     ensures sets { IsSets sets.old men.old → IsSets sets.new men.new }
@@ -72,7 +73,7 @@ fn take_steps(men: &mut [Option<Man>; 64], sets: &mut Sets, keys: &KeyTable, ste
     place(men, sets, keys, Some(steps.to), steps.mover);
 }
 
-// Whether the en passant target is that square.
+// Whether that square is the en passant target.
 #[inline(always)]
 pub(crate) fn is_target(setup: &Setup, square: Square) -> bool
     ensures { result ≡ is_square (setup.now).target square }
@@ -83,7 +84,8 @@ pub(crate) fn is_target(setup: &Setup, square: Square) -> bool
     }
 }
 
-/// What the move changes: but for a king's moves and captures en passant, its two squares alone.
+/// The steps of a move: which pieces leave which squares, and which arrive. It looks at more than the move's two
+/// squares only for a king's move, or a pawn's move to the en passant target.
 #[tactic(auto, using(crate::proofs::Quiet::plain_steps))]
 #[inline(always)]
 pub(crate) fn fast_steps_of(setup: &Setup, m: &Move) -> Steps
@@ -111,7 +113,7 @@ pub(crate) fn fast_steps_of(setup: &Setup, m: &Move) -> Steps
     }
 }
 
-// Whether no right to castle is left.
+// Whether neither colour has a castling right.
 #[inline(always)]
 fn has_no_right(rights: &Rights) -> bool
     ensures { result ≡ has_no_right rights.now }
@@ -122,7 +124,7 @@ fn has_no_right(rights: &Rights) -> bool
         && rights.black.queen_side.is_none()
 }
 
-// Whether a king or a rook is there.
+// Whether a square's content is a king or a rook, of either colour.
 #[inline(always)]
 fn is_king_or_rook(man: Option<Man>) -> bool
     ensures { result ≡ is_king_or_rook man }
@@ -133,7 +135,8 @@ fn is_king_or_rook(man: Option<Man>) -> bool
     }
 }
 
-// Whether a king or a rook moves, or is captured.
+// Whether a move of `mover` that captures `taken`, if anything, may cost a castling right: one of them is a king or a
+// rook.
 #[inline(always)]
 fn may_lose_right(mover: Man, taken: Option<Man>) -> bool
     ensures { result ≡ (is_king_or_rook (Some mover) || is_king_or_rook taken) }
@@ -141,8 +144,8 @@ fn may_lose_right(mover: Man, taken: Option<Man>) -> bool
     is_king_or_rook(Some(mover)) || is_king_or_rook(taken)
 }
 
-// The castling rights after the move of that piece to a square that holds that. Most moves can't take one, since its
-// king and its rook are where they belong.
+// The castling rights after the move of `mover` to a square with the content `taken`. They are as before where neither
+// is a king or a rook, or where no right is left; else they are computed.
 #[inline(always)]
 #[tactic(auto, using(crate::proofs::Making::none_lost, crate::proofs::Making::rights_kept))]
 fn rights_left(setup: &Setup, m: &Move, mover: Man, taken: Option<Man>) -> Rights
@@ -160,8 +163,8 @@ fn rights_left(setup: &Setup, m: &Move, mover: Man, taken: Option<Man>) -> Right
     rights_after(setup, m)
 }
 
-// Whether the move of such a piece changes its two squares alone: it is no capture on the target and no castling, which
-// a king without rights can't do.
+// Whether the move, of a piece of that kind, is sure to change only what is on its two squares: it is a king's without
+// castling rights, a pawn's but not to the en passant target, or another piece's.
 #[inline(always)]
 fn goes_plainly(setup: &Setup, m: &Move, kind: Kind) -> bool
     ensures { result ≡ goes_plainly setup.now m.now kind }
@@ -173,7 +176,7 @@ fn goes_plainly(setup: &Setup, m: &Move, kind: Kind) -> bool
     }
 }
 
-// Whether the move of such a piece is no promotion, and changes its two squares alone.
+// Whether the move, of a piece of that kind, is no promotion and is sure to change only what is on its two squares.
 #[inline(always)]
 fn shifts(setup: &Setup, m: &Move, kind: Kind) -> bool
     ensures { result ≡ shifts setup.now m.now kind }
@@ -181,7 +184,7 @@ fn shifts(setup: &Setup, m: &Move, kind: Kind) -> bool
     m.promotion.is_none() && goes_plainly(setup, m, kind)
 }
 
-// The piece that the move takes from one square to the other, if it changes no more than that.
+// The piece that moves, if the move is sure to do no more than take it from one square to the other; else none.
 #[inline(always)]
 fn shifted(setup: &Setup, m: &Move) -> Option<Man>
     ensures { result ≡ shifted setup.now m.now (man_at setup.now.men m.now.from) }
@@ -194,7 +197,7 @@ fn shifted(setup: &Setup, m: &Move) -> Option<Man>
     }
 }
 
-// The target after a move of that piece: none, but for a pawn's.
+// The en passant target after the move, which is one of the piece `man`; none unless it is a pawn.
 #[inline(always)]
 fn target_left(setup: &Setup, m: &Move, man: Man) -> Option<Square>
     requires { man_at setup.now.men m.now.from ≡ Some man }
@@ -207,7 +210,7 @@ fn target_left(setup: &Setup, m: &Move, man: Man) -> Option<Square>
     }
 }
 
-// The halfmove clock after a move of that piece that captures that.
+// The halfmove clock after a move of `man` to a square with the content `taken`.
 #[inline(always)]
 fn halfmove_left(setup: &Setup, man: Man, taken: Option<Man>) -> u32
     ensures { result ≡ clock_left setup.now.halfmove man.kind taken }
@@ -219,7 +222,8 @@ fn halfmove_left(setup: &Setup, man: Man, taken: Option<Man>) -> u32
     }
 }
 
-// Makes the legal move of that piece, which changes its two squares alone.
+// Makes the legal move of that piece, which does no more than take it from one square to the other, and returns what is
+// needed to take it back.
 #[inline(always)]
 fn shift(setup: &mut Setup, sets: &mut Sets, keys: &KeyTable, m: &Move, man: Man) -> Saved
     requires sound { IsSound setup.old }
@@ -252,7 +256,8 @@ fn shift(setup: &mut Setup, sets: &mut Sets, keys: &KeyTable, m: &Move, man: Man
     saved
 }
 
-// Makes the legal move, whatever it changes. Few moves need it, so it is kept out of what calls it.
+// Makes any legal move, and returns what is needed to take it back. Few moves need it, so it is kept out of what calls
+// it.
 #[inline(never)]
 #[tactic(auto, unfolding(chess_base::specs::Moves::after, chess_base::specs::Moves::men_after))]
 fn make_in_steps(setup: &mut Setup, sets: &mut Sets, keys: &KeyTable, m: &Move) -> Saved
@@ -275,7 +280,7 @@ fn make_in_steps(setup: &mut Setup, sets: &mut Sets, keys: &KeyTable, m: &Move) 
     saved
 }
 
-// Makes the legal move, and returns what it does not keep.
+// Makes the legal move, and returns what is needed to take it back.
 #[inline(always)]
 pub(crate) fn make_move(setup: &mut Setup, sets: &mut Sets, keys: &KeyTable, m: &Move) -> Saved
     requires sound { IsSound setup.old }
@@ -290,7 +295,7 @@ pub(crate) fn make_move(setup: &mut Setup, sets: &mut Sets, keys: &KeyTable, m: 
     shift(setup, sets, keys, m, man)
 }
 
-// Takes the move back.
+// Takes the move back, by what was saved when it was made.
 #[tactic(auto, unfolding(chess_base::specs::Before::before, chess_base::specs::Before::men_before))]
 pub(crate) fn move_back(
     setup: &mut Setup,

@@ -12,7 +12,8 @@ use crate::tables::AttackTables;
 use chess_base::{Colour, Kind, Square};
 use chess_moves::SquareSet;
 
-/// The squares on which such a piece could capture from a square, where those squares are occupied.
+/// The squares on which a piece of that colour and kind on `from` could capture, given the occupied squares of the
+/// board.
 #[inline(always)]
 #[tactic(auto, using(crate::proofs::Reached::king_from, crate::proofs::Reached::queen_from, crate::proofs::Reached::rook_from, crate::proofs::Reached::bishop_from, crate::proofs::Reached::knight_from, crate::proofs::Reached::pawn_from))]
 pub fn reached_from(

@@ -13,7 +13,8 @@ use crate::kinds::Kinds;
 use chess_base::{Colour, Man, Square};
 use chess_moves::{SquareSet, man_key};
 
-/// The pieces as sets, of each colour by kind and together, and the exclusive or of their keys.
+/// The pieces as sets of squares: for each colour by kind and all together; and `men_word`, the exclusive or of the
+/// pieces' keys.
 #[derive(Clone, Copy)]
 pub struct Sets {
     pub white: Kinds,
@@ -38,7 +39,7 @@ impl Sets {
         }
     }
 
-    /// The pieces of a colour by kind.
+    /// The sets of that colour's pieces by kind.
     pub fn of(&self, colour: Colour) -> &Kinds
         ensures { (men : Men) → IsSets self.now men → IsKinds result.now.sets colour men }
     {
@@ -48,7 +49,7 @@ impl Sets {
         }
     }
 
-    /// The squares of the pieces of a colour.
+    /// The squares of all pieces of that colour.
     pub fn all(&self, colour: Colour) -> SquareSet
         ensures { (men : Men) → IsSets self.now men → (k : ℕ) → k < 64 → has result k ≡ is_of colour (man_at men k) }
     {
@@ -66,7 +67,7 @@ impl Sets {
         self.all_white.union(self.all_black)
     }
 
-    // Takes a piece from its square.
+    // Removes a piece from its square.
     #[inline(always)]
     fn lift(&mut self, keys: &KeyTable, square: Square, man: Man)
         ensures { (men : Men) → length men ≡ 64 → man_at men square ≡ Some man → IsSets self.old men
@@ -86,7 +87,7 @@ impl Sets {
         }
     }
 
-    // Puts a piece on an empty square.
+    // Adds a piece on a square, which is empty.
     #[inline(always)]
     fn put(&mut self, keys: &KeyTable, square: Square, man: Man)
         ensures { (men : Men) → length men ≡ 64 → man_at men square ≡ None → IsSets self.old men
@@ -106,7 +107,7 @@ impl Sets {
         }
     }
 
-    /// Takes a piece from its square to an empty one.
+    /// Moves a piece from one square to another, which is empty.
     #[inline(always)]
     pub fn shift(&mut self, keys: &KeyTable, man: Man, from: Square, to: Square)
         ensures { (men : Men) → length men ≡ 64 → man_at men from ≡ Some man → man_at men to ≡ None
@@ -132,7 +133,7 @@ impl Sets {
         }
     }
 
-    /// Takes the old content from a square.
+    /// Empties a square that holds `old`, a piece or nothing.
     #[inline(always)]
     pub fn clear(&mut self, keys: &KeyTable, square: Square, old: Option<Man>)
         ensures { (men : Men) → length men ≡ 64 → man_at men square ≡ old → IsSets self.old men
@@ -143,7 +144,7 @@ impl Sets {
         }
     }
 
-    // Puts the new content on an empty square.
+    // Puts `new`, a piece or nothing, on a square, which is empty.
     #[inline(always)]
     fn fill(&mut self, keys: &KeyTable, square: Square, new: Option<Man>)
         ensures { (men : Men) → length men ≡ 64 → man_at men square ≡ None → IsSets self.old men
@@ -154,7 +155,7 @@ impl Sets {
         }
     }
 
-    /// Changes the content of a square.
+    /// Replaces the content of a square, `old`, by `new`; each is a piece or nothing.
     #[inline(always)]
     pub fn write(&mut self, keys: &KeyTable, square: Square, old: Option<Man>, new: Option<Man>)
         ensures { (men : Men) → length men ≡ 64 → man_at men square ≡ old → IsSets self.old men

@@ -12,8 +12,9 @@ use chess_base::{Kind, Square};
 use chess_moves::{Board, SquareSet};
 
 impl Bits<'_> {
-    // The own pieces that the king sees on its rank and file, if one of them hides a rook or queen from it, and else
-    // none: taking off any other piece opens neither.
+    // Own pieces that may be pinned to the king on `king` along its rank or file: those that it sees there, if taking
+    // them off would show it an enemy rook or queen; else none. Taking off any other own piece opens no such line to
+    // the king.
     #[tactic(auto, unfolding(crate::specs::ties::Shapes::in_shape))]
     fn line_shields(&self, king: Square) -> SquareSet
         ensures { (a : ℕ) → a < 64 → is_of (self.now).side (man_at (self.now).men a) ≡ true → has result a ≡ false
@@ -38,8 +39,9 @@ impl Bits<'_> {
         near
     }
 
-    // The own pieces that the king sees on its diagonals, if one of them hides a bishop or queen from it, and else
-    // none.
+    // Own pieces that may be pinned to the king on `king` along its diagonals: those that it sees there, if taking them
+    // off would show it an enemy bishop or queen; else none. Taking off any other own piece opens no diagonal to the
+    // king.
     #[tactic(auto, unfolding(crate::specs::ties::Shapes::in_shape))]
     fn diagonal_shields(&self, king: Square) -> SquareSet
         ensures { (a : ℕ) → a < 64 → is_of (self.now).side (man_at (self.now).men a) ≡ true → has result a ≡ false
@@ -65,8 +67,8 @@ impl Bits<'_> {
         near
     }
 
-    // Pieces of the side on move that may go anywhere, as far as their king is concerned: not always all of them, and
-    // none where it is in check.
+    // Pieces of the side on move, without the king, whose king is safe wherever they go: those that surely are not
+    // pinned. The set may lack some, and is empty if the king is in check.
     pub(crate) fn free_men(&self) -> SquareSet
         ensures { (k : ℕ) → k < 64 → has result k ≡ true → IsFree self.now k }
     {
@@ -80,8 +82,8 @@ impl Bits<'_> {
         others.without(shields)
     }
 
-    // The pieces of the side on move that are on none of their king's lines, where it is not in check: they may go
-    // anywhere, as far as it is concerned. They are found sooner than all free pieces.
+    // The pieces of the side on move that are on no rank, file or diagonal of their king, so that it is safe wherever
+    // they go; none if it is in check. They are found sooner than all that `free_men` gives.
     #[tactic(auto, unfolding(crate::specs::ties::Shapes::in_shape))]
     pub(crate) fn men_off_lines(&self) -> SquareSet
         ensures { (k : ℕ) → k < 64 → has result k ≡ true → IsFree self.now k }

@@ -10,7 +10,9 @@ use chess_base::{Colour, Square};
 use chess_moves::SquareSet;
 use std::marker::Model;
 
-/// What a table of sets of squares is about: what a piece attacks on an empty board, or a ray.
+/// What a table of sets of squares is about: the squares that a piece attacks on an empty board, or the squares of a
+/// ray. The `bool` of a ray is true for the squares with greater numbers than its start, false for those with smaller
+/// ones.
 #[derive(Clone, Copy, PartialEq, Eq)]
 pub enum Shape {
     King,
@@ -23,6 +25,7 @@ pub enum Shape {
     Ray(Line, bool),
 }
 
+// Whether square b belongs to the shape from square a: for `Knight`, whether a knight on a attacks b.
 #[tactic(auto, unfolding(crate::specs::ties::Shapes::in_shape))]
 fn in_shape(shape: Shape, a: Square, b: Square) -> bool
     ensures { result ≡ in_shape shape a b }
@@ -40,6 +43,7 @@ fn in_shape(shape: Shape, a: Square, b: Square) -> bool
     }
 }
 
+// The squares that belong to the shape from square a.
 fn squares_of(shape: Shape, a: Square) -> SquareSet
     ensures { (k : ℕ) → k < 64 → has result k ≡ in_shape shape a k }
 {
@@ -53,7 +57,7 @@ fn squares_of(shape: Shape, a: Square) -> SquareSet
     set
 }
 
-/// For each square the squares of a shape. It is seen as its shape.
+/// A table that gives, for each square, the squares that belong to one shape from there. In contracts it is that shape.
 #[derive(Drop)]
 pub struct Table {
     shape: Shape,
@@ -75,6 +79,7 @@ impl Model for Table {
 }
 
 impl Table {
+    /// Computes the table of that shape.
     pub fn new(shape: Shape) -> Self
         ensures { result ≡ shape }
     {
@@ -86,6 +91,7 @@ impl Table {
         Table { shape, sets }
     }
 
+    /// The squares that belong to the table's shape from that square.
     pub fn at(&self, square: Square) -> SquareSet
         ensures { (k : ℕ) → k < 64 → has result k ≡ in_shape self.now square k }
     {

@@ -15,6 +15,7 @@ use chess_base::{Colour, Square};
 use chess_moves::SquareSet;
 use std::alloc::{AllocError, Global};
 
+// One table for each shape, and the keys of position hashes.
 #[derive(Drop)]
 struct Tables {
     king: Table,
@@ -55,7 +56,8 @@ pub struct AttackTables {
     tables: Box<Tables>,
 }
 
-// The first of these squares on the way up or down; where there is none, the last square of the board.
+// The lowest square of the set if `up`, else its highest. For the empty set it is h8 or a1, the last square in that
+// direction.
 #[inline(always)]
 fn nearest(squares: SquareSet, up: bool) -> Square
     ensures in_range { result < 64 }
@@ -70,10 +72,10 @@ fn nearest(squares: SquareSet, up: bool) -> Square
 }
 
 impl AttackTables {
-    /// The tables, filled.
+    /// Computes the tables, in memory that `alloc` gives.
     ///
     /// # Errors
-    /// Where there is no memory for them.
+    /// If there is no memory for them.
     pub fn open(alloc: Global) -> Result<Self, AllocError> {
         let tables = Tables {
             king: Table::new(Shape::King),
@@ -97,11 +99,13 @@ impl AttackTables {
         })
     }
 
+    // The keys of position hashes.
     #[inline(always)]
     pub(crate) fn keys(&self) -> &KeyTable {
         &self.tables.keys
     }
 
+    // The table of that shape.
     fn table(&self, shape: Shape) -> &Table
         ensures { result.now ≡ shape }
     {
@@ -124,14 +128,16 @@ impl AttackTables {
         }
     }
 
+    // The squares that belong to that shape from that square, looked up.
     pub(crate) fn at(&self, shape: Shape, square: Square) -> SquareSet
         ensures { (k : ℕ) → k < 64 → has result k ≡ in_shape shape square k }
     {
         self.table(shape).at(square)
     }
 
-    /// The squares of a ray up to and with its first square in occupied. A ray that has none ends with the board, where
-    /// no ray in its direction goes on, so no branch is needed.
+    /// The squares of the ray from `from` along that line, with rising numbers if `up`, to its first occupied square,
+    /// that one included. A ray that meets none ends with the board, where no ray in its direction goes on, so no
+    /// branch is needed.
     #[inline(always)]
     #[tactic(auto, unfolding(crate::specs::ties::Shapes::in_shape))]
     pub(crate) fn sweep(&self, line: Line, up: bool, from: Square, occupied: SquareSet) -> SquareSet

@@ -28,7 +28,7 @@ use chess_base::rules::{
 use chess_base::{CastlingSide, Colour, Kind, Move, Square, Variant};
 use chess_moves::SquareSet;
 
-// The square straight ahead for a pawn of that colour, if it is on the board.
+// The square straight ahead for a pawn of that colour; for White none from the last rank.
 fn ahead(colour: Colour, square: Square) -> Option<Square>
     ensures { MatchOption result (64 ≤ forward colour square) (λ s. s ≡ forward colour square) }
 {
@@ -39,12 +39,14 @@ fn ahead(colour: Colour, square: Square) -> Option<Square>
     }
 }
 
+// Whether the kind is a king.
 pub(crate) fn is_king(kind: Kind) -> bool
     ensures { result ≡ same_kind King kind }
 {
     kind == Kind::King
 }
 
+// Whether the kind is a pawn.
 pub(crate) fn is_pawn(kind: Kind) -> bool
     ensures { result ≡ same_kind Pawn kind }
 {
@@ -52,7 +54,8 @@ pub(crate) fn is_pawn(kind: Kind) -> bool
 }
 
 impl Bits<'_> {
-    // Where a piece of that kind attacks from there what is no own piece.
+    // The squares that a piece of that kind on `from`, of the side on move, attacks and that hold no piece of its own
+    // colour.
     #[inline(always)]
     pub(crate) fn steps(&self, kind: Kind, from: Square) -> SquareSet
         ensures { (k : ℕ) → k < 64
@@ -64,8 +67,9 @@ impl Bits<'_> {
         reached.without(self.sets.all(side))
     }
 
-    // The squares of the castling that the move is, if it is one: its end names castling to that side with the rook of
-    // the right. In normal chess a king with an available right is at home, so no more has to be asked.
+    // The four squares of the castling that the move is, if it is castling to that side with the rook on `rook`; else
+    // none. The caller knows that the right is there, and that the move ends where such a castling does, so in normal
+    // chess only the king has to be looked for: with a right he is at home.
     fn castle_to(&self, m: &Move, castling_side: CastlingSide, rook: Square) -> Option<Castle>
         requires right { right_of (self.now).rights (self.now).side castling_side ≡ Some rook }
         requires end { m.now.to ≡ castling_end (self.now).variant (self.now).side castling_side rook }
@@ -89,7 +93,8 @@ impl Bits<'_> {
         }
     }
 
-    // These squares, with castling to that side among them exactly where it is legal.
+    // The set `targets` of end squares from `from`; but if a move from there to where castling to that side ends is
+    // castling, that end square is in the result exactly if the castling is legal.
     fn with_castling(
         &self,
         targets: SquareSet,
@@ -122,7 +127,8 @@ impl Bits<'_> {
         }
     }
 
-    // The end squares of the king's legal castlings.
+    // The end squares of the legal castlings of the king on that square: in normal chess where he arrives (g1), in
+    // Chess960 the square of his rook (h1).
     pub(crate) fn castling_ends(&self, king: Square) -> SquareSet
         ensures { (k : ℕ) → k < 64
             → has result k ≡ legal_or self.now (triple king k None) (castle_of self.now (triple king k None)) false }
@@ -132,7 +138,8 @@ impl Bits<'_> {
         self.with_castling(far, king, CastlingSide::KingSide)
     }
 
-    // Where the own piece goes that is there and is no pawn; castling is included exactly where it is legal.
+    // The end squares of the piece on `from`, which is of the side on move and no pawn: of its pseudo-legal moves, but
+    // of castling only where it is legal.
     fn man_targets(&self, from: Square) -> SquareSet
         requires { is_of (self.now).side (man_at (self.now).men from) ≡ true }
         ensures { (k : ℕ) → k < 64 → has result k ≡ man_goes self.now from k }
@@ -149,7 +156,7 @@ impl Bits<'_> {
         self.with_castling(far, from, CastlingSide::KingSide)
     }
 
-    // Where a pawn goes straight ahead.
+    // The squares, one or two, to which the pawn on `from` may go straight ahead.
     fn advances(&self, from: Square) -> SquareSet
         requires { is_man (self.now).side Pawn (man_at (self.now).men from) ≡ true }
         ensures { (k : ℕ) → k < 64 → has result k ≡ pawn_advances self.now (triple from k None) }
@@ -177,7 +184,7 @@ impl Bits<'_> {
         }
     }
 
-    // Where a pawn captures.
+    // The squares on which the pawn on `from` may capture, the en passant target included.
     fn captures(&self, from: Square) -> SquareSet
         requires { is_man (self.now).side Pawn (man_at (self.now).men from) ≡ true }
         ensures { (k : ℕ) → k < 64 → has result k ≡ pawn_captures self.now (triple from k None) }
@@ -189,7 +196,8 @@ impl Bits<'_> {
         reached.intersection(aims)
     }
 
-    // The squares from which pawns may go straight to one: those of its file, if it is empty.
+    // Squares in which to look for pawns that may go straight ahead to `to`: all others of its file if it is empty,
+    // else none.
     #[inline(always)]
     #[tactic(auto, unfolding(crate::specs::ties::Shapes::in_shape))]
     fn straight_starts(&self, to: Square) -> SquareSet
@@ -205,7 +213,8 @@ impl Bits<'_> {
         above.union(below)
     }
 
-    // The squares from which pawns of the side on move attack one, if they may capture there.
+    // The squares from which pawns of the side on move attack `to`, if it holds an enemy piece or is the en passant
+    // target; else none.
     #[inline(always)]
     fn capture_starts(&self, to: Square) -> SquareSet
         ensures { (k : ℕ) → k < 64
@@ -222,7 +231,7 @@ impl Bits<'_> {
         self.tables.at(Shape::Pawn(theirs), to)
     }
 
-    // The squares from which pawns of the side on move may go to one.
+    // Squares in which to look for pawns of the side on move that may go to `to`, straight ahead or by a capture.
     pub(crate) fn pawn_starts(&self, to: Square) -> SquareSet
         ensures { (k : ℕ) → k < 64
             → has result k ≡ ((not (is_some (man_at (self.now).men to))
@@ -234,7 +243,8 @@ impl Bits<'_> {
         straight.union(self.capture_starts(to))
     }
 
-    // Where the own pawn goes that is there.
+    // The end squares of the pawn on `from`, which is of the side on move: of its pseudo-legal moves, with a promotion
+    // or without.
     pub(crate) fn pawn_targets(&self, from: Square) -> SquareSet
         requires { is_man (self.now).side Pawn (man_at (self.now).men from) ≡ true }
         ensures { (k : ℕ) → k < 64
@@ -246,8 +256,8 @@ impl Bits<'_> {
         advances.union(captures)
     }
 
-    // Where the piece goes that is there, if it is of the side on move: each end square of its legal moves is there,
-    // and none to which it hasn't the pattern of a move.
+    // The end squares of the piece on `from`, if it is of the side on move: each of a legal move is among them, and
+    // each is that of a pseudo-legal move.
     pub(crate) fn targets(&self, from: Square) -> SquareSet
         ensures sound { (k : ℕ) → k < 64 → has result k ≡ true → goes self.now from k ≡ true }
         ensures complete { (m : Move) → is_legal self.now m ≡ true → m.from ≡ from → has result m.to ≡ true }

@@ -10,21 +10,21 @@ use Rattle.chess_text.specs.Moves.{shape}
 use Rattle.chess_cecp.specs.declared.command.Command.{Command}
 use Rattle.chess_cecp.specs.declared.command.Command.TheVariants.{New, SetBoard, UserMove, BareMove, Undo, Remove, Declare, Claim, Ping, Protover, Variant, Go, ShowFen, ShowMoves, ShowState, ShowPgn, Quit, Silent, BadNumber, Unknown}
 
--- the bytes up to the first space or tab
+-- the first word of a text: its bytes up to the first space or tab
 abbrev pub word_of : List ℕ → List ℕ
 word_of [] = []
 word_of (c ∷ cs) = if is_blank c then [] else c ∷ word_of cs
 
--- what follows the first word and the spaces and tabs after it
+-- the text after the first word and the spaces and tabs that follow it: of `usermove e4` it is `e4`
 unfoldable pub argument_of : List ℕ → List ℕ
 argument_of text = without_front_blanks (drop (length (word_of text)) text)
 
--- the number that at least one and at most so many digits denote
+-- the number that a text of 1 to `most` digits denotes; `None` for any other text
 abbrev pub short_number : ℕ → List ℕ → Option ℕ
 short_number most text = if nat_lt 0 (length text) && nat_le (length text) most
     && list_all is_digit text then Some (value_after 0 text) else None
 
--- the number that one to nine digits denote
+-- the number that a text of 1 to 9 digits denotes, as in `ping 7`
 unfoldable pub command_number : List ℕ → Option ℕ
 command_number text = short_number 9 text
 
@@ -51,7 +51,8 @@ commands argument =
     ∷ (codes "variant", Variant) ∷ (codes "go", Go) ∷ (codes "showfen", ShowFen) ∷ (codes "showmoves", ShowMoves)
     ∷ (codes "showstate", ShowState) ∷ (codes "showpgn", ShowPgn) ∷ (codes "quit", Quit) ∷ []
 
--- the command that a first word names, with this argument; none where it is no command's name
+-- the command that a line's first word names, by its argument; `None` if the word is no command's name, as in a bare
+-- `e2e4`
 unfoldable pub named_command : List ℕ → List ℕ → Option Command
 named_command word argument =
     if bytes_eq word [] || is_ignored word then Some Silent

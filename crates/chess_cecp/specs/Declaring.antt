@@ -14,7 +14,8 @@ use Rattle.chess_pgn.specs.Words.{outcome_of}
 use Rattle.chess_cecp.specs.Commands.{word_of, argument_of}
 use Rattle.chess_cecp.specs.Options.{◌>>=◌}
 
--- the comment after an outcome: none, or a text in braces
+-- the comment after the outcome of `result`: of `{White resigns}` the text within the braces, and of an empty text
+-- the empty comment; `None` for any other text
 unfoldable pub result_comment : List ℕ → Option (List ℕ)
 result_comment text =
     if length text == 0 then Some []
@@ -30,15 +31,15 @@ read_result argument = do
   comment ← result_comment (argument_of argument)
   Some (record { outcome = outcome; comment = cut_comment comment })
 
--- an outcome and its comment in braces
+-- a result with its comment, such as `1-0 {White mates}`
 unfoldable pub result_text : Outcome → List ℕ → List ℕ
 result_text o comment = outcome_text o ++ (codes " {" ++ (comment ++ codes "}"))
 
--- a verdict, or that there is none
+-- the board's verdict as `showstate` writes it, or `none`
 abbrev pub verdict_text : Option Verdict → List ℕ
 verdict_text verdict = option_map_or (λ v. result_text (verdict_outcome v) (verdict_comment v)) verdict (codes "none")
 
--- what was declared, or that nothing was
+-- the declared result as `showstate` writes it, or `none`
 abbrev pub declared_text : Option Declared → List ℕ
 declared_text declared = option_map_or (λ d. result_text d.outcome d.comment) declared (codes "none")
 
@@ -48,8 +49,8 @@ claims_text c =
     if c.threefold then (if c.fifty_moves then codes "threefold+50" else codes "threefold")
     else (if c.fifty_moves then codes "50" else codes "none")
 
--- current half-moves, how often the position occurred (1 at its first time), the halfmove clock, claims, verdict and
--- declared result
+-- what `showstate` writes after `# state ply `: number of half-moves, how often the position occurred (`rep`),
+-- halfmove clock, claims, verdict and declared result, as in `0 rep 1 clock 0 claims none verdict none declared none`
 unfoldable pub state_text : State → List ℕ
 state_text s =
     decimal (length s.moves)

@@ -6,16 +6,17 @@ use Rattle.chess_game.specs.Game as game
 use Rattle.chess_game.specs.Game.{State, from_start}
 use Rattle.chess_pgn.specs.declared.tags.Tags.{Tags}
 
--- what a session is seen as: its tags, its limit, and the state of its game
+-- what contracts see of a session: the tags that its games are written with, the most half-moves of a game, and the
+-- state of its game
 pub record SessionSeen : Type 0 where
   pub tags : Tags
   pub limit : ℕ
   pub state : State
 
--- its game
+-- what contracts see of the session's game
 abbrev pub game_held : SessionSeen → game.Seen
 game_held s = record { limit = s.limit; state = s.state }
 
--- a session as it opens, and after `new`
+-- a session when it opens: at the initial position of normal chess
 abbrev pub opened_session : Tags → ℕ → SessionSeen
 opened_session tags limit = record { tags = tags; limit = limit; state = from_start initial_setup }

@@ -19,12 +19,12 @@ pub record Transcript : Type 0 where
   pub end_reported : Bool
   pub written : List ℕ
 
--- a count that rises where this is so
+-- a device's count, one higher if the flag is true
 abbrev pub risen_if : Bool → ℕ → ℕ
 risen_if rises n = if rises then risen n else n
 
--- the transcript is that of the devices, as far as they report it. Their counts show that a device failed exactly where
--- that is said of it here
+-- the transcript is what the input did from its state `r` to `r'`, and the output from `w` to `w'`, as far as they
+-- report it. The flags say whether a read or a write failed
 pub record FitsDevices (r r' : InputState) (w w' : OutputState) (t : Transcript)
     (read_failed write_failed : Bool) : Type 0 where
   pub read : Consumes r.known_bytes r'.known_bytes t.read
@@ -33,7 +33,7 @@ pub record FitsDevices (r r' : InputState) (w w' : OutputState) (t : Transcript)
   pub read_failures : r'.failure_count ≡ risen_if read_failed r.failure_count
   pub write_failures : w'.failure_count ≡ risen_if write_failed w.failure_count
 
--- where nothing was unflushed before the call, just these bytes are now
+-- if the output had nothing unflushed before (`w`), just this text is unflushed after (`w'`)
 abbrev pub LeavesUnflushed : OutputState → OutputState → List ℕ → Type 0
 LeavesUnflushed w w' text = w.unflushed ≡ 0 → w'.unflushed ≡ raised 0 text
 
@@ -41,8 +41,8 @@ LeavesUnflushed w w' text = w.unflushed ≡ 0 → w'.unflushed ≡ raised 0 text
 abbrev pub lines_read : Transcript → List LineSeen
 lines_read t = stream_lines COMMAND_LEN t.end_reported t.read
 
--- these lines were answered by this text, up to the first with which the server ends, if it ends with one; and the
--- state is the one after them
+-- a server that responds to these lines one after another, in the state `s` before and `s'` after them, writes this
+-- text; `ends`: it ended with one of them
 abbrev pub Answered : {S : Type 0} → Server S → S → S → List ℕ → Bool → List LineSeen → Type 0
 Answered respond s s' text ends ls = responses respond s ls ≡ record { text = text; state = s'; ends = ends }
 
@@ -53,27 +53,27 @@ AnsweredAll respond r s s' t ends =
     Answered respond s s' t.written ends (lines_read t)
     × IfSome r.known_bytes (λ xs. Answered respond s s' t.written ends (lines COMMAND_LEN xs))
 
--- where the bytes that were still to come were known, these lines are the first of theirs
+-- if it is known which bytes the input had to give, these lines are the first of theirs
 abbrev pub FirstOfKnown : InputState → List LineSeen → Type 0
 FirstOfKnown r ls = IfSome r.known_bytes (λ xs. (after : List LineSeen) × (lines COMMAND_LEN xs ≡ ls ++ after))
 
--- the call ended at `line`: the server went on after each line in `before`, and these have each line that was whole
--- before the last piece was read, so none was unanswered then
+-- the run ended at `line`, after the lines `before`, with which the server did not end. `on_demand`: no line that was
+-- whole before the last read, of `last_len` bytes, was unanswered then
 pub record EndsAt {S : Type 0} (respond : Server S) (s : S) (t : Transcript) (last_len : ℕ) (before : List LineSeen)
     (line : LineSeen) (after : List LineSeen) : Type 0 where
   pub lines : lines_read t ≡ before ++ line ∷ after
   pub goes_on : (responses respond s before).ends ≡ false
   pub on_demand : length (whole COMMAND_LEN (before_piece last_len t.read)) ≤ length before
 
--- an end by the first line with which the server ends
+-- the run ended because the server ends with one of the lines, as a session with `quit`
 abbrev pub ByLine : {S : Type 0} → Server S → S → Transcript → ℕ → Type 0
 ByLine respond s t last_len =
     (before : List LineSeen) × (line : LineSeen) × (after : List LineSeen)
     × EndsAt respond s t last_len before line after
     × ((respond (responses respond s before).state line).ends ≡ true)
 
--- an end by a write or a flush that failed: a beginning of the answer to the line was written, and its change is kept.
--- That beginning is all that is not flushed
+-- the run ended because a write or flush failed: a beginning of the answer to one line was written, which may be
+-- unflushed, and the change that the line made is kept. `w`, `s` are output and server before, `w'`, `s'` after
 abbrev pub ByWrite : {S : Type 0} → Server S → InputState → OutputState → OutputState → S → S → Transcript → ℕ → Type 0
 ByWrite respond r w w' s s' t last_len =
     (before : List LineSeen) × (line : LineSeen) × (after : List LineSeen) × (start : List ℕ)
@@ -84,9 +84,9 @@ ByWrite respond r w w' s s' t last_len =
     × FirstOfKnown r (before ++ line ∷ [])
     × LeavesUnflushed w w' start
 
--- the whole promise: what was answered, of the server, the devices and the transcript. Each answer was flushed before
--- more was read: at all ends but that by a failed write nothing is unflushed. After a failed read the lines that byte
--- 10 ended were answered
+-- what a run does, by its result: it ends by a line such as `quit`, by the input's end, or by a device that fails.
+-- `s`, `r` and `w` are server, input and output before it, `s'`, `r'` and `w'` after it. Each answer was flushed
+-- before more was read
 abbrev pub SessionRan : {S : Type 0} → Server S → InputState → InputState → OutputState → OutputState → S → S → Transcript
     → Result End Fault → Type 0
 SessionRan respond r r' w w' s s' t (Ok Quit) = FitsDevices r r' w w' t false false × ByLine respond s t r'.last_len

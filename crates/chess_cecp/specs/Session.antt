@@ -36,7 +36,7 @@ use Rattle.chess_game.specs.declared.results.Outcome.TheVariants.{Draw}
 use Rattle.chess_cecp.specs.declared.command.Command.{Command}
 use Rattle.chess_cecp.specs.declared.command.Command.TheVariants.{New, SetBoard, UserMove, BareMove, Undo, Remove, Declare, Claim, Ping, Protover, Variant, Go, ShowFen, ShowMoves, ShowState, ShowPgn, Quit, Silent, BadNumber, Unknown}
 
--- a text after another, and byte 10
+-- a line of two texts: `pong ` and `7` give `pong 7` with `\n` after it
 abbrev pub joined_line : List ℕ → List ℕ → List ℕ
 joined_line front text = front ++ (text ++ new_line ∷ [])
 
@@ -44,23 +44,23 @@ joined_line front text = front ++ (text ++ new_line ∷ [])
 abbrev pub says : State → List ℕ → Response State
 says s text = record { text = text; state = s; ends = false }
 
--- the command is refused with this line, and nothing changes
+-- the line `front` and `text` is answered, such as `Illegal move: e5`, and the game does not change
 abbrev pub refuses : State → List ℕ → List ℕ → Response State
 refuses s front text = says s (joined_line front text)
 
--- the game changes, with no answer
+-- the game changes to this one, and nothing is answered
 abbrev pub becomes : State → Response State
 becomes s = says s []
 
--- the line of a result
+-- a result's line, such as `1-0 {White mates}`
 unfoldable pub result_line : Outcome → List ℕ → List ℕ
 result_line o comment = joined_line (result_text o comment) []
 
--- the line of a verdict, if there is one
+-- the verdict's line, or nothing
 abbrev pub verdict_line : Option Verdict → List ℕ
 verdict_line verdict = option_map_or (λ v. result_line (verdict_outcome v) (verdict_comment v)) verdict []
 
--- the game changes, and the verdict on it is answered
+-- the game changes to this one, and the verdict on it is answered, if there is one
 abbrev pub becomes_judged : State → Response State
 becomes_judged s = says s (verdict_line (verdict_now s))
 
@@ -68,7 +68,7 @@ becomes_judged s = says s (verdict_line (verdict_now s))
 unfoldable pub moves_line : Setup → List Move → List ℕ
 moves_line p ms = joined_line (codes "# moves ") (decimal (length ms) ++ flat_map (λ m. space ∷ shown_move p m) ms)
 
--- the name of a fault of a FEN
+-- the word that names a fault of a FEN in an answer
 abbrev pub fen_fault_name : FenFault → List ℕ
 fen_fault_name Fields = codes "fields"
 fen_fault_name Placement = codes "placement"
@@ -81,74 +81,78 @@ fen_fault_name Pawns = codes "pawns"
 fen_fault_name Men = codes "men"
 fen_fault_name Check = codes "check"
 
--- the game starts anew from the sound position that a FEN denotes; a FEN that denotes none is refused by its first
--- fault
+-- `setboard`, by how its FEN was read: the game starts anew from that position, and the verdict on it is answered; or
+-- its fault is, as `tellusererror Illegal position (kings)`
 abbrev pub setboard_row : State → Result Setup FenFault → Response State
 setboard_row s (Ok start) = becomes_judged (from_start start)
 setboard_row s (Err fault) = refuses s (codes "tellusererror Illegal position (") (fen_fault_name fault ++ codes ")")
 
--- what the arbiter says of itself to an interface that speaks version 2
+-- the answer to `protover 2`: the features that an arbiter has
 unfoldable pub feature_text : List ℕ
 feature_text =
     codes "feature ping=1 setboard=1 playother=0 san=0 usermove=1 time=1 draw=1 sigint=0 sigterm=0 reuse=1 analyze=0 colors=0 debug=1 myname=\"CECP arbiter\" variants=\"normal,fischerandom\" done=1"
 
--- the one legal move that a text denotes is played
+-- a move's text, by what it denotes in the current position: the move is played, or refused
 abbrev pub reading_row : State → List ℕ → Reading → Response State
 reading_row s text (reads.Move m) = becomes_judged (played s m)
 reading_row s text reads.Ambiguous = refuses s (codes "Error (ambiguous move): ") text
 reading_row s text reads.NoSuch = refuses s (codes "Illegal move: ") text
 reading_row s text reads.NotAMove = refuses s (codes "Illegal move: ") text
 
--- a move with this text is asked for
+-- a move's text, as `usermove e4` gives it: refused if the game is over or has `limit` half-moves, else played or
+-- refused by what it denotes
 abbrev pub move_row : ℕ → State → List ℕ → Response State
 move_row limit s text =
     if is_over s then refuses s (codes "Illegal move (game over): ") text
     else if nat_le limit (length s.moves) then refuses s (codes "Error (game too long): ") text
     else reading_row s text (reading (current s) text)
 
--- the last n moves are taken back, if there are so many, by the command of that name
+-- `undo` or `remove`: the last `n` half-moves are taken back; refused, by the command's name, if there are fewer
 abbrev pub back_row : ℕ → List ℕ → State → Response State
 back_row n name s =
     if nat_le n (length s.moves) then becomes (taken_back s n)
     else refuses s (codes "Error (command not legal now): ") name
 
--- a result is declared, unless the text declares none or there is a verdict with another outcome
+-- `result`, by what its argument declares: the result is declared, unless it is none or the board has a verdict with
+-- another outcome
 abbrev pub result_row : State → List ℕ → Option Declared → Response State
 result_row s text None = refuses s (codes "Error (bad result): ") text
 result_row s text (Some d) =
     if is_other (verdict_now s) d.outcome then refuses s (codes "Error (the board says otherwise): ") text
     else becomes (with_declared s (Some d))
 
--- a draw is declared and answered
+-- a draw is declared with this comment, and answered as `1/2-1/2 {50-move rule}`
 abbrev pub draws : State → List ℕ → Response State
 draws s comment =
     says (with_declared s (Some (record { outcome = Draw; comment = comment }))) (result_line Draw comment)
 
--- a draw is declared by the first claim that holds
+-- a draw is declared, if the position has occurred three times or 50 moves were made (`c` says so), else refused
 abbrev pub claimed : State → Claims → Response State
 claimed s c =
     if c.threefold then draws s (codes "Threefold repetition")
     else if c.fifty_moves then draws s (codes "50-move rule")
     else refuses s (codes "Error (no claim): ") (codes "claim")
 
--- a draw is claimed
+-- `claim`: a draw by threefold repetition or 50 moves (Laws, articles 9.2 and 9.3), if the game is not over
 abbrev pub claim_row : State → Response State
 claim_row s = if is_over s then refuses s (codes "Error (command not legal now): ") (codes "claim") else claimed s
     (claims s.start s.moves)
 
--- normal chess is asked for: no answer in a game of it; in one of Chess960 the game starts anew, as after `new`
+-- `variant normal`: a game of normal chess goes on, one of Chess960 starts anew as one of normal chess
 abbrev pub normal_row : State → Rules → Response State
 normal_row s Normal = says s []
 normal_row s Fischerandom = becomes (from_start initial_setup)
 
--- the variant of an argument
+-- `variant`, by its argument: the game starts anew in Chess960, or goes over to normal chess; any other name is
+-- refused
 abbrev pub variant_row : State → List ℕ → List ℕ → Response State
 variant_row s text argument =
     if bytes_eq argument (codes "fischerandom") then becomes (from_start (initial_setup_of Fischerandom))
     else if bytes_eq argument (codes "normal") then normal_row s s.start.variant
     else refuses s (codes "Error (unsupported variant): ") text
 
--- the table: the row of a command, in this game, for a line with this text and this argument in it
+-- the table of commands: what a session does with a line. `text` is the line's, `argument` what follows its first
+-- word; `limit` is the most half-moves of a game
 abbrev pub row : Tags → ℕ → State → List ℕ → List ℕ → Command → Response State
 row tags limit s text argument New = becomes (from_start initial_setup)
 row tags limit s text argument SetBoard = setboard_row s (fen_reading_as s.start.variant argument)
@@ -171,7 +175,7 @@ row tags limit s text argument Silent = says s []
 row tags limit s text argument BadNumber = refuses s (codes "Error (bad number): ") text
 row tags limit s text argument Unknown = refuses s (codes "Error (unknown command): ") text
 
--- the row of a line; one that is too long is refused by its first bytes
+-- what a session does with a line; one that is too long is refused with its first bytes
 abbrev pub row_on : SessionSeen → LineSeen → Response State
 row_on seen line =
     if line.too_long then refuses seen.state (codes "Error (line too long): ") line.text
@@ -183,7 +187,7 @@ session_response seen line =
     let r = row_on seen line in
     record { text = r.text; state = record seen { state = r.state }; ends = r.ends }
 
--- the texts of refusals
+-- the text begins as a refusal does: `Error`, `Illegal move` or `tellusererror`
 abbrev pub IsRefusal : List ℕ → Type 0
 IsRefusal text = Begins (codes "Error") text
     ⊎ (Begins (codes "Illegal move") text ⊎ Begins (codes "tellusererror") text)

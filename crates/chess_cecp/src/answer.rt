@@ -25,7 +25,7 @@ const ANSWER_LEN: usize = 5500;
 // The text of an answer.
 pub(crate) type Answer = ArrayVec<u8, ANSWER_LEN>;
 
-// A text after another, and byte 10.
+// Appends a line of two texts: `pong ` and `7` give `pong 7\n`.
 pub(crate) fn write_line(answer: &mut Answer, front: &[u8], text: &[u8])
     requires { array_vec_len answer.old + length front.now + length text.now + 1 ≤ ANSWER_LEN }
     ensures { answer.new.items ≡ answer.old.items ++ joined_line front.now text.now }
@@ -35,6 +35,7 @@ pub(crate) fn write_line(answer: &mut Answer, front: &[u8], text: &[u8])
     answer.push(b'\n');
 }
 
+/// Answers a `ping`: `pong 7`.
 pub(crate) fn write_pong(answer: &mut Answer, number: u32)
     requires { array_vec_len answer.old ≤ 1000 }
     ensures { answer.new.items ≡ answer.old.items ++ joined_line (codes "pong ") (decimal number) }
@@ -43,11 +44,11 @@ pub(crate) fn write_pong(answer: &mut Answer, number: u32)
     write_line(answer, b"pong ", buffer.format(number).as_bytes());
 }
 
-// What the arbiter says of itself: it takes `setboard`, answers `ping`, and knows normal chess and Chess960.
+// The features that an arbiter has: it takes `setboard`, answers `ping`, and knows normal chess and Chess960.
 const FEATURES: &[u8] =
     b"feature ping=1 setboard=1 playother=0 san=0 usermove=1 time=1 draw=1 sigint=0 sigterm=0 reuse=1 analyze=0 colors=0 debug=1 myname=\"CECP arbiter\" variants=\"normal,fischerandom\" done=1";
 
-// The line that says it.
+// Answers `protover 2` with the line of features.
 #[tactic(auto, unfolding(crate::specs::Session::feature_text))]
 pub(crate) fn write_features(answer: &mut Answer)
     requires { answer.old.items ≡ [] }
@@ -56,7 +57,7 @@ pub(crate) fn write_features(answer: &mut Answer)
     write_line(answer, FEATURES, b"");
 }
 
-/// The name of a fault of a FEN, as a refusal reports it.
+/// The word that names a fault of a FEN in a refusal.
 pub fn fen_fault_name(fault: FenFault) -> &'static str
     ensures value { result.now ≡ fen_fault_name fault }
     ensures short { length result.now ≤ 10 }
@@ -75,7 +76,7 @@ pub fn fen_fault_name(fault: FenFault) -> &'static str
     }
 }
 
-// The refusal of a FEN, by the name of its fault.
+// Refuses a FEN: `tellusererror Illegal position (kings)`.
 pub(crate) fn write_illegal_position(answer: &mut Answer, fault: FenFault)
     requires { answer.old.items ≡ [] }
     ensures { answer.new.items
@@ -87,7 +88,7 @@ pub(crate) fn write_illegal_position(answer: &mut Answer, fault: FenFault)
     write_line(answer, fen_fault_name(fault).as_bytes(), b")");
 }
 
-// The line of a verdict, if there is one.
+// Appends the verdict's line, such as `1-0 {White mates}`, if there is one.
 pub(crate) fn write_verdict(answer: &mut Answer, verdict: Option<Verdict>)
     requires { array_vec_len answer.old ≤ 1000 }
     ensures { answer.new.items ≡ answer.old.items ++ verdict_line verdict }
@@ -97,7 +98,7 @@ pub(crate) fn write_verdict(answer: &mut Answer, verdict: Option<Verdict>)
     }
 }
 
-// A text.
+// Appends a text.
 fn write_text(answer: &mut Answer, text: &[u8])
     requires { array_vec_len answer.old + length text.now ≤ ANSWER_LEN }
     ensures text { answer.new.items ≡ answer.old.items ++ text.now }
@@ -106,7 +107,7 @@ fn write_text(answer: &mut Answer, text: &[u8])
     answer.try_extend_from_slice(text).unwrap();
 }
 
-// An outcome and its comment in braces.
+// Appends a result with its comment, such as `1-0 {White mates}`.
 #[tactic(auto, unfolding(crate::specs::Declaring::result_text))]
 fn write_result_text(answer: &mut Answer, outcome: Outcome, comment: &[u8])
     requires { array_vec_len answer.old + length comment.now + 10 ≤ ANSWER_LEN }
@@ -119,7 +120,7 @@ fn write_result_text(answer: &mut Answer, outcome: Outcome, comment: &[u8])
     write_text(answer, b"}");
 }
 
-// The line of a result.
+// Appends the line of a result.
 #[tactic(auto, unfolding(crate::specs::Session::result_line))]
 pub(crate) fn write_result(answer: &mut Answer, outcome: Outcome, comment: &[u8])
     requires { array_vec_len answer.old + length comment.now + 11 ≤ ANSWER_LEN }
@@ -129,7 +130,7 @@ pub(crate) fn write_result(answer: &mut Answer, outcome: Outcome, comment: &[u8]
     answer.push(b'\n');
 }
 
-// A number after a text.
+// Appends a text and then a number.
 fn write_number(answer: &mut Answer, front: &[u8], number: u64)
     requires { array_vec_len answer.old + length front.now + 20 ≤ ANSWER_LEN }
     ensures text { answer.new.items ≡ answer.old.items ++ (front.now ++ decimal number) }
@@ -140,7 +141,7 @@ fn write_number(answer: &mut Answer, front: &[u8], number: u64)
     write_text(answer, buffer.format(number).as_bytes());
 }
 
-// A verdict, or that there is none.
+// Appends the verdict, or `none`.
 fn write_verdict_text(answer: &mut Answer, verdict: Option<Verdict>)
     requires { array_vec_len answer.old + 70 ≤ ANSWER_LEN }
     ensures text { answer.new.items ≡ answer.old.items ++ verdict_text verdict }
@@ -152,7 +153,7 @@ fn write_verdict_text(answer: &mut Answer, verdict: Option<Verdict>)
     }
 }
 
-// What was declared, or that nothing was.
+// Appends the declared result, or `none`.
 fn write_declared_text(answer: &mut Answer, declared: Option<&Declared>)
     requires { array_vec_len answer.old + 70 ≤ ANSWER_LEN }
     ensures text { answer.new.items ≡ answer.old.items ++ declared_text (option_map (λ d. d.now) declared.entry) }
@@ -164,7 +165,7 @@ fn write_declared_text(answer: &mut Answer, declared: Option<&Declared>)
     }
 }
 
-// The line that shows the state of a game.
+// Answers `showstate`, for example with `# state ply 0 rep 1 clock 0 claims none verdict none declared none`.
 #[tactic(auto, unfolding(crate::specs::Declaring::state_text))]
 pub(crate) fn write_state<B: Board>(answer: &mut Answer, game: &Game<B>)
     requires { answer.old.items ≡ [] }
@@ -186,7 +187,7 @@ pub(crate) fn write_state<B: Board>(answer: &mut Answer, game: &Game<B>)
     answer.push(b'\n');
 }
 
-// The line that lists moves.
+// Answers `showmoves`, for example with `# moves 20 b1a3 b1c3 ..`; the moves are those of `position`.
 #[tactic(auto, unfolding(crate::specs::Session::moves_line))]
 pub(crate) fn write_moves(answer: &mut Answer, position: &Position, moves: &[Move])
     requires few { length moves.now ≤ 896 }
@@ -202,7 +203,7 @@ pub(crate) fn write_moves(answer: &mut Answer, position: &Position, moves: &[Mov
     answer.push(b'\n');
 }
 
-// Each move after a space.
+// Appends each move after a space.
 fn write_each(answer: &mut Answer, position: &Position, moves: &[Move])
     requires { array_vec_len answer.old + 6 * length moves.now ≤ ANSWER_LEN }
     ensures text { answer.new.items ≡ answer.old.items ++ flat_map (λ m. space ∷ shown_move position.now m) moves.now }

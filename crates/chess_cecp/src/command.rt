@@ -55,7 +55,7 @@ pub enum Command {
     Unknown,
 }
 
-// The first word, and what follows it and the spaces and tabs after it.
+// Splits a text into its first word and what follows after spaces and tabs: `usermove e4` into `usermove` and `e4`.
 #[tactic(auto, unfolding(crate::specs::Commands::argument_of))]
 pub(crate) fn split_word(text: &[u8]) -> (&[u8], &[u8])
     ensures word { result.0.now ≡ word_of text.now }
@@ -73,14 +73,14 @@ pub(crate) fn split_word(text: &[u8]) -> (&[u8], &[u8])
     (&text[..end], &text[from..])
 }
 
-/// The first word of a text; empty where the text begins with a space or tab.
+/// The first word of a text, which ends at a space or tab; empty if the text begins with one.
 pub fn first_word(text: &[u8]) -> &[u8]
     ensures { result.now ≡ word_of text.now }
 {
     split_word(text).0
 }
 
-/// What follows the first word and the spaces and tabs after it.
+/// The text after the first word and the spaces and tabs that follow it: of `usermove e4` it is `e4`.
 pub fn argument(text: &[u8]) -> &[u8]
     ensures value { result.now ≡ argument_of text.now }
     ensures short { length result.now ≤ length text.now }
@@ -88,7 +88,7 @@ pub fn argument(text: &[u8]) -> &[u8]
     split_word(text).1
 }
 
-/// The number that a text of one to nine digits denotes.
+/// The number that a text of 1 to 9 digits denotes; `None` for any other text.
 #[tactic(auto, unfolding(crate::specs::Commands::command_number))]
 pub fn read_number(text: &[u8]) -> Option<u32>
     ensures { result ≡ command_number text.now }
@@ -115,6 +115,7 @@ pub fn short_number(text: &[u8], most: usize) -> Option<u32>
     Some(number)
 }
 
+// The command `ping` with this argument.
 fn ping(argument: &[u8]) -> Command
     ensures { result ≡ option_map_or Command.Ping (command_number argument.now) Command.BadNumber }
 {
@@ -124,6 +125,7 @@ fn ping(argument: &[u8]) -> Command
     }
 }
 
+// The command `protover` with this argument.
 fn protover(argument: &[u8]) -> Command
     ensures { result ≡ option_map_or Command.Protover (command_number argument.now) Command.BadNumber }
 {
@@ -174,7 +176,8 @@ fn is_ignored(word: &[u8]) -> bool
     is_engine_command(word) || is_opponent_or_clock_command(word)
 }
 
-// The command that a first word names, with this argument; none where the word is no command's name.
+// The command that a line's first word names, by its argument; `None` if the word is no command's name, as in a bare
+// `e2e4`.
 #[tactic(auto, unfolding(crate::specs::Commands::named_command))]
 pub(crate) fn named_command(word: &[u8], argument: &[u8]) -> Option<Command>
     ensures { result ≡ named_command word.now argument.now }
@@ -222,7 +225,7 @@ pub(crate) fn named_command(word: &[u8], argument: &[u8]) -> Option<Command>
     }
 }
 
-/// What a line with this text commands. The text is that of a line: spaces and tabs at both ends are cut.
+/// The command of a line with this text, which has no spaces or tabs at its ends: `ping 7`, or a bare move `Nf3`.
 #[tactic(auto, unfolding(crate::specs::Commands::command_of))]
 pub fn read_command(text: &[u8]) -> Command
     ensures { result ≡ command_of text.now }

@@ -12,8 +12,8 @@ ghost use Rattle.chess_cecp.specs.laws.Unended.{HasNoEnd};
 ghost use Rattle.chess_cecp.specs.laws.Normal.{normal_row_of, keeps_its_row};
 ghost use Rattle.chess_cecp.specs.Session.{row, session_response, IsRefusal};
 
-/// The lines are the pieces that byte 10 ends, and what follows the last one, if it isn't empty and the end was
-/// reported.
+/// States a law and does nothing: the lines of a stream are what `\n` ends; what follows the last `\n` is a line
+/// too, if it isn't empty and the end of the stream was reported (`told`).
 pub fn lines_are_pieces()
     ensures empty { (n : ℕ) (told : Bool) → stream_lines n told [] ≡ [] }
     ensures ended { (n : ℕ) (told : Bool) (piece rest : List ℕ) → HasNoEnd piece →
@@ -23,14 +23,15 @@ pub fn lines_are_pieces()
     ensures not_told { (n : ℕ) (piece : List ℕ) → HasNoEnd piece → stream_lines n false piece ≡ [] }
 {}
 
-/// A line whose answer is a refusal leaves start, moves and declared result as they were.
+/// States a law and does nothing: a line that is refused (`Error ..`, `Illegal move ..`, `tellusererror ..`) leaves
+/// start, moves and declared result as they were.
 pub fn refusals_change_nothing()
     ensures { (session : SessionSeen) (line : LineSeen) → IsRefusal (session_response session line).text
         → (session_response session line).state ≡ session }
 {}
 
-/// In a game of normal chess each command but `variant` and `protover` has the row that the table of normal chess alone
-/// gives it.
+/// States a law and does nothing: in a game of normal chess each command but `variant` and `protover` does what the
+/// table without Chess960 says.
 pub fn normal_chess_keeps_its_rows()
     ensures { (tags : Tags) (limit : ℕ) (s : State) (text argument : List ℕ) (command : Command)
         → s.start.variant ≡ Normal → keeps_its_row command ≡ true

@@ -11,8 +11,7 @@ use arrayvec::ArrayVec;
 use byte_devices::{Input, ReadFault};
 use std::marker::Model;
 
-/// A line: its text, or of one that is too long its first 64 bytes (or N, where N is less); and whether byte 10 ended
-/// it.
+/// A line of a stream, of at most N bytes: its text, or of one that is too long its first 64 bytes (N, if N is less).
 #[derive(Drop)]
 pub struct Line<const N: usize> {
     text: ArrayVec<u8, N>,
@@ -44,8 +43,8 @@ impl<const N: usize> Line<N> {
         }
     }
 
-    /// Its text: without its end, one byte 13 before that, and spaces and tabs at both ends. Of a line that is too
-    /// long, its first 64 bytes as they came, or N where N is less.
+    /// The line's text, without its end and the spaces and tabs at both ends; one `\r` before the end is dropped. Of a
+    /// line that is too long, its first 64 bytes as they are (N, if N is less).
     pub fn text(&self) -> &[u8]
         ensures value { result.now ≡ self.now.text }
         ensures short { length result.now ≤ N }
@@ -53,14 +52,14 @@ impl<const N: usize> Line<N> {
         self.text.as_slice()
     }
 
-    /// Whether it had more than N bytes before its end.
+    /// Whether the line had more than N bytes before its end.
     pub fn is_too_long(&self) -> bool
         ensures { result ≡ self.now.too_long }
     {
         self.too_long
     }
 
-    /// Whether byte 10 ended it; else the input's end did.
+    /// Whether `\n` ended the line; else the input's end did.
     pub fn is_ended(&self) -> bool
         ensures { result ≡ self.now.ended }
     {
@@ -87,6 +86,7 @@ impl<const N: usize> Model for Part<N> {
 }
 
 impl<const N: usize> Part<N> {
+    // A line of which no byte has come.
     fn new() -> Self
         ensures { result ≡ [] }
     {
@@ -96,6 +96,7 @@ impl<const N: usize> Part<N> {
         }
     }
 
+    // Whether no byte of the line has come.
     fn is_empty(&self) -> bool
         ensures { result ≡ (length self.now == 0) }
     {
@@ -105,6 +106,7 @@ impl<const N: usize> Part<N> {
         self.bytes.is_empty()
     }
 
+    // Adds a byte to the line.
     fn add(&mut self, byte: u8)
         ensures { SameLines N (self.old ++ byte ∷ []) self.new }
     {
@@ -115,7 +117,7 @@ impl<const N: usize> Part<N> {
         }
     }
 
-    // Puts it into a line, in place of what that held.
+    // Puts the bytes into `line`, in place of what it held, and begins the next one; `is_ended`: `\n` came after them.
     fn finish(&mut self, is_ended: bool, line: &mut Line<N>)
         ensures line { line.new ≡ line_of N is_ended self.old }
         ensures empty { self.new ≡ [] }
@@ -128,7 +130,7 @@ impl<const N: usize> Part<N> {
     }
 }
 
-// The first 64 bytes of a text, or all where it has no more.
+// The first 64 bytes of a text, or all if it has no more.
 #[tactic(auto, using(crate::proofs::Parts::all_taken, crate::proofs::Parts::beginning_short))]
 fn beginning(text: &[u8]) -> &[u8]
     ensures value { result.now ≡ take 64 text.now }
@@ -137,7 +139,8 @@ fn beginning(text: &[u8]) -> &[u8]
     if text.len() > 64 { &text[..64] } else { text }
 }
 
-// Puts a line's text into `text`: of a line that is too long the first 64 bytes, else all bytes, trimmed.
+// Puts a line's text into `text`: of a line that is too long its first 64 bytes, else all bytes without those that
+// `trim` cuts.
 fn put_text<const N: usize>(bytes: &ArrayVec<u8, N>, is_too_long: bool, text: &mut ArrayVec<u8, N>)
     ensures long { is_too_long ≡ true → text.new.items ≡ take 64 bytes.now.items }
     ensures short { is_too_long ≡ false → text.new.items ≡ trimmed bytes.now.items }
@@ -153,9 +156,10 @@ fn put_text<const N: usize>(bytes: &ArrayVec<u8, N>, is_too_long: bool, text: &m
     }
 }
 
+// How many bytes a read asks for.
 const PIECE_LEN: usize = 1024;
 
-// The bytes that were read and not looked at.
+// The bytes of the last read that were not yet looked at, those from `from` to `to`.
 #[derive(Drop)]
 struct Window {
     piece: [u8; PIECE_LEN],
@@ -175,6 +179,7 @@ impl Model for Window {
 }
 
 impl Window {
+    // An empty window, before the first read.
     fn new() -> Self
         ensures { result ≡ [] }
     {
@@ -185,6 +190,7 @@ impl Window {
         }
     }
 
+    // The next byte, which is removed; `None` if there is none.
     fn take_byte(&mut self) -> Option<u8>
         ensures { MatchOption result ((self.old ≡ []) × (self.new ≡ [])) (λ byte. self.old ≡ byte ∷ self.new) }
     {
@@ -196,6 +202,7 @@ impl Window {
         Some(byte)
     }
 
+    // Reads once, into the empty window, and returns how many bytes came; 0 is the input's end.
     fn fill<R: Input>(&mut self, reader: &mut R) -> Result<usize, ReadFault>
         ensures { Filled (R.seen reader.old) (R.seen reader.new) result self.new }
     {
@@ -207,7 +214,7 @@ impl Window {
     }
 }
 
-/// The lines of a stream, each of at most N bytes; what was read and not returned is held.
+/// Cuts a stream into lines of at most N bytes. It keeps what was read and not yet returned.
 #[derive(Drop)]
 pub struct Lines<const N: usize> {
     part: Part<N>,
@@ -226,7 +233,7 @@ impl<const N: usize> Model for Lines<N> {
 }
 
 impl<const N: usize> Lines<N> {
-    /// Nothing was read yet.
+    /// For a stream of which nothing was read.
     pub fn new() -> Self
         ensures { result ≡ nothing_held }
     {
@@ -236,7 +243,7 @@ impl<const N: usize> Lines<N> {
         }
     }
 
-    // Looks in what is held for a line that byte 10 ended, reads it into `line`, and returns whether there was one.
+    // Looks for a whole line in what was read, puts it into `line`, and returns whether there was one.
     fn held_line(&mut self, line: &mut Line<N>) -> bool
         ensures held { HeldLine N self.old self.new (line_if result line.new) }
         ensures kept { result ≡ false → line.new ≡ line.old }
@@ -251,10 +258,10 @@ impl<const N: usize> Lines<N> {
         false
     }
 
-    /// The next line, or `None` where the input ended and nothing was left. It reads only where it holds no whole line.
+    /// The next line, or `None` at the input's end. It reads only if what was read before has no whole line.
     ///
     /// # Errors
-    /// Where a read failed; what was read before stays, and the next call goes on after it.
+    /// If a read fails; what was read before is kept, and the next call goes on after it.
     pub fn next<R: Input>(&mut self, reader: &mut R) -> Result<Option<Line<N>>, ReadFault>
         ensures { NextLine N (R.seen reader.old) (R.seen reader.new) self.old self.new result }
     {
@@ -266,11 +273,11 @@ impl<const N: usize> Lines<N> {
         }
     }
 
-    /// Reads the next line into `line`, in place of what that held, and returns whether there was one: there was none
-    /// where the input ended and nothing was left. It reads only where it holds no whole line.
+    /// Reads the next line into `line`, in place of what it held, and returns whether there was one: none at the
+    /// input's end. It reads only if what was read before has no whole line.
     ///
     /// # Errors
-    /// As of [`Lines::next`]. Without a line, `line` is as it was.
+    /// Those of [`Lines::next`]. Without a line, `line` is as it was.
     pub fn read_line<R: Input>(
         &mut self,
         reader: &mut R,

@@ -28,7 +28,7 @@ pub enum Fault {
     Write,
 }
 
-/// What answers lines.
+/// Answers lines one after another: a session, or the stub engine of chess_arbiter.
 pub trait LineServer {
     ghost use Rattle.chess_cecp.specs.Lines.{LineSeen};
     ghost use Rattle.chess_cecp.specs.Serving.{Response};
@@ -36,10 +36,10 @@ pub trait LineServer {
     /// How it responds to a line.
     ghost respond: { Self → LineSeen → Response Self };
 
-    /// Responds to a line: the state changes, the answer is written, and the writer is flushed.
+    /// Answers a line: the state changes, the answer is written, and the writer is flushed.
     ///
     /// # Errors
-    /// Where a write or the flush failed. The change is kept, and a beginning of the answer was written.
+    /// If a write or the flush fails. The change is kept, and a beginning of the answer was written.
     fn answer_line<W: Output>(
         &mut self,
         line: &Line<COMMAND_LEN>,
@@ -53,6 +53,7 @@ pub trait LineServer {
 impl<B: Board> LineServer for Session<B> {
     ghost respond = { session_response };
 
+    // Answers a line as `Session::answer` does.
     fn answer_line<W: Output>(
         &mut self,
         line: &Line<COMMAND_LEN>,
@@ -62,12 +63,12 @@ impl<B: Board> LineServer for Session<B> {
     }
 }
 
-/// Has the lines of a stream answered, one after the other, up to the first with which the server ends, or the input's
-/// end. The next line is read only once the answer to the one before was written and flushed.
+/// Answers the lines of a stream one after another, up to the first with which the server ends, or to the input's end.
+/// The next line is read only once the answer to the one before was written and flushed.
 ///
 /// # Errors
-/// Where a call of the reader or of the writer failed. After a failed read all whole lines were answered; after a
-/// failed write the change of its line is kept, and a beginning of the answer was written.
+/// If a call of the reader or of the writer fails. After a failed read all whole lines were answered; after a failed
+/// write the change of its line is kept, and a beginning of the answer was written.
 pub fn serve_lines<R: Input, W: Output, S: LineServer>(
     reader: &mut R,
     writer: &mut W,
@@ -95,11 +96,11 @@ pub fn serve_lines<R: Input, W: Output, S: LineServer>(
     }
 }
 
-/// Answers the lines of a stream, one after the other, up to the first `quit` or the end. The next line is read only
-/// once the answer to the one before was written and flushed.
+/// Answers the lines of a stream one after another, up to the first `quit` or to the input's end. The next line is
+/// read only once the answer to the one before was written and flushed.
 ///
 /// # Errors
-/// As of [`serve_lines`].
+/// Those of [`serve_lines`].
 pub fn run_session<R: Input, W: Output, B: Board>(
     reader: &mut R,
     writer: &mut W,

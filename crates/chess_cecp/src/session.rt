@@ -44,7 +44,7 @@ pub enum Go {
     Quit,
 }
 
-// What answers a line.
+// How a line is answered.
 enum Reply {
     // The text that was put together, and whether the session goes on after it.
     Text(Go),
@@ -70,11 +70,12 @@ impl<B: Board> Model for Session<B> {
 }
 
 impl<B: Board + Drop> Session<B> {
-    /// A session as `new` leaves it: the initial position, no moves, nothing declared, wherever the boards were. Games
-    /// are written with these tags, by way of `scratch`. All memory is taken here, for `limit` half-moves.
+    /// A session as it is after `new`: the initial position of normal chess, no moves, nothing declared. `board` and
+    /// `scratch` may be at any position; games are written with these tags, on `scratch`. All memory is taken here,
+    /// for `limit` half-moves.
     ///
     /// # Errors
-    /// Where there is no memory; what was taken is given back, and the boards and the tags are dropped.
+    /// If memory runs out; what was allocated is freed, and the boards and the tags are dropped.
     pub fn open(
         alloc: Global,
         board: B,
@@ -95,7 +96,7 @@ impl<B: Board + Drop> Session<B> {
 }
 
 impl<B: Board> Session<B> {
-    /// The position on the board: the one that the start and the current moves give.
+    /// The current position: the one that the start and the moves give.
     pub fn position(&self) -> Position
         ensures value { result ≡ current self.now.state }
         ensures playable { IsPlayable (game_held self.now) }
@@ -103,7 +104,7 @@ impl<B: Board> Session<B> {
         self.game.position()
     }
 
-    // What a text is in the present position, which also decides whether it has a move's shape.
+    // What a text denotes in the current position: a move, or why it is none.
     fn read(&self, text: &[u8]) -> Reading
         ensures value { result ≡ reading (current self.now.state) text.now }
         ensures legal { IsLegalReading (current self.now.state) result }
@@ -124,7 +125,7 @@ impl<B: Board> Session<B> {
         }
     }
 
-    // Plays the one legal move that a text was read as.
+    // Plays the move that a text was read as, and answers the verdict if there is one; or refuses the text.
     fn play(&mut self, read: Reading, text: &[u8], answer: &mut Answer)
         requires read { read ≡ reading (current self.old.state) text.now }
         requires legal { IsLegalReading (current self.old.state) read }
@@ -153,7 +154,7 @@ impl<B: Board> Session<B> {
         }
     }
 
-    // Plays the one legal move that a text denotes.
+    // Plays the move that a text denotes in the current position, or refuses the text.
     fn play_text(&mut self, text: &[u8], answer: &mut Answer)
         requires short { length text.now ≤ COMMAND_LEN }
         requires empty { answer.old.items ≡ [] }
@@ -164,7 +165,7 @@ impl<B: Board> Session<B> {
         self.play(read, text, answer);
     }
 
-    // Starts the game anew from the position that a FEN denotes.
+    // Obeys `setboard`: starts the game anew from the position of a FEN, or refuses it.
     fn set_board(&mut self, fen: &[u8], answer: &mut Answer)
         requires { answer.old.items ≡ [] }
         ensures next { self.new
@@ -181,7 +182,7 @@ impl<B: Board> Session<B> {
         }
     }
 
-    // Goes over to the variant that the argument of `variant` names.
+    // Obeys `variant`: the game starts anew in Chess960, or goes over to normal chess. `text` is the line's.
     fn change_variant(&mut self, text: &[u8], argument: &[u8], answer: &mut Answer)
         requires short { length text.now ≤ COMMAND_LEN }
         requires empty { answer.old.items ≡ [] }
@@ -200,7 +201,7 @@ impl<B: Board> Session<B> {
         write_line(answer, b"Error (unsupported variant): ", text);
     }
 
-    // A game of Chess960 starts anew as one of normal chess.
+    // Obeys `variant normal`: a game of Chess960 starts anew as one of normal chess.
     fn leave_chess960(&mut self)
         ensures { self.new ≡ after_row self.old (normal_row self.old.state self.old.state.start.variant) }
     {
@@ -210,6 +211,7 @@ impl<B: Board> Session<B> {
         }
     }
 
+    // Obeys `undo`: takes one half-move back, or refuses it.
     fn undo(&mut self, answer: &mut Answer)
         requires { answer.old.items ≡ [] }
         ensures next { self.new ≡ after_row self.old (back_row 1 (codes "undo") self.old.state) }
@@ -220,7 +222,7 @@ impl<B: Board> Session<B> {
         }
     }
 
-    // Takes two half-moves back.
+    // Obeys `remove`: takes two half-moves back, or refuses it.
     fn remove(&mut self, answer: &mut Answer)
         requires { answer.old.items ≡ [] }
         ensures next { self.new ≡ after_row self.old (back_row 2 (codes "remove") self.old.state) }
@@ -234,7 +236,7 @@ impl<B: Board> Session<B> {
         let _before = self.game.take_back();
     }
 
-    // Declares the result that the argument of `result` names.
+    // Obeys `result`: declares the result that its argument denotes, or refuses the line `text`.
     fn declare(&mut self, text: &[u8], argument: &[u8], answer: &mut Answer)
         requires short { length text.now ≤ COMMAND_LEN }
         requires empty { answer.old.items ≡ [] }
@@ -254,7 +256,7 @@ impl<B: Board> Session<B> {
         }
     }
 
-    // Declares a draw, and answers it.
+    // Declares a draw with this comment, and answers it as `1/2-1/2 {50-move rule}`.
     fn draw(&mut self, comment: &[u8], answer: &mut Answer)
         requires open_game { is_over self.old.state ≡ false }
         requires clean { cut_comment comment.now ≡ comment.now }
@@ -267,7 +269,7 @@ impl<B: Board> Session<B> {
         write_result(answer, Outcome::Draw, comment);
     }
 
-    // Judges a claim of a draw in the present position.
+    // Obeys `claim`: declares a draw, if one can be claimed in the current position, or refuses it.
     fn claim(&mut self, answer: &mut Answer)
         requires { answer.old.items ≡ [] }
         ensures next { self.new ≡ after_row self.old (claim_row self.old.state) }
@@ -287,6 +289,7 @@ impl<B: Board> Session<B> {
         }
     }
 
+    // Answers `showfen`: `# fen ` and the FEN of the current position.
     fn show_fen(&self, answer: &mut Answer)
         requires { answer.old.items ≡ [] }
         ensures { answer.new.items ≡ joined_line (codes "# fen ") (fen (current self.now.state)) }
@@ -295,7 +298,8 @@ impl<B: Board> Session<B> {
         write_line(answer, b"# fen ", fen.as_slice());
     }
 
-    // Lists the legal moves. The list is large, so only the lines that ask for it pay for its space.
+    // Answers `showmoves` with the legal moves. Their list is large, so it is kept out of the frames of other
+    // commands.
     #[inline(never)]
     fn show_moves(&self, answer: &mut Answer)
         requires { answer.old.items ≡ [] }
@@ -305,7 +309,8 @@ impl<B: Board> Session<B> {
         write_moves(answer, &self.game.position(), moves.as_slice());
     }
 
-    // Does what a row of the table says, and puts the answer together unless it is the game's text.
+    // Obeys a command: changes the game, and puts the answer together unless it is the game's text. `text` is the
+    // line's, `argument` what follows its first word.
     fn obey(&mut self, command: Command, text: &[u8], argument: &[u8], answer: &mut Answer)
         requires short { length text.now ≤ COMMAND_LEN }
         requires short_argument { length argument.now ≤ COMMAND_LEN }
@@ -341,8 +346,8 @@ impl<B: Board> Session<B> {
         }
     }
 
-    // Does what the row of a line says whose first word names no command. The text is read once, which shows whether it
-    // is a move.
+    // Obeys a line whose first word names no command: a move, or an unknown command. The text is read once, which also
+    // shows whether it has the form of a move.
     fn obey_unnamed(&mut self, text: &[u8], answer: &mut Answer)
         requires short { length text.now ≤ COMMAND_LEN }
         requires empty { answer.old.items ≡ [] }
@@ -363,7 +368,7 @@ impl<B: Board> Session<B> {
         }
     }
 
-    // Does what the row of a line says, and puts the answer together unless it is the game's text.
+    // Obeys a line: changes the game, and puts the answer together unless it is the game's text.
     #[tactic(auto, unfolding(crate::specs::Session::session_response, crate::specs::ties::Replies::is_quit, crate::specs::ties::Replies::asks_for_pgn, crate::specs::Commands::command_of))]
     fn obey_line(&mut self, line: &Line<COMMAND_LEN>, answer: &mut Answer) -> Reply
         requires { answer.old.items ≡ [] }
@@ -386,7 +391,7 @@ impl<B: Board> Session<B> {
         reply_of(command)
     }
 
-    // Writes the game's text, and flushes.
+    // Answers `showpgn`: writes the game's text, each line after `# `, and flushes.
     fn send_pgn<W: Output>(&mut self, writer: &mut W) -> Result<(), WriteFault>
         ensures same { self.new ≡ self.old }
         ensures written { Sends (W.seen writer.old) (W.seen writer.new) result
@@ -396,11 +401,11 @@ impl<B: Board> Session<B> {
         writer.flush()
     }
 
-    /// Answers a line: the game changes, the answer is written (in one piece, but for a game's text), and the writer is
-    /// flushed.
+    /// Answers a line: changes the game, writes the answer (by one call, but for a game's text), and flushes the
+    /// writer.
     ///
     /// # Errors
-    /// Where a write or the flush failed. The change is kept, and a beginning of the answer was written.
+    /// If a write or the flush fails. The change is kept, and a beginning of the answer was written.
     pub fn answer<W: Output>(
         &mut self,
         line: &Line<COMMAND_LEN>,
@@ -438,7 +443,7 @@ fn send<W: Output>(writer: &mut W, text: &[u8]) -> Result<(), WriteFault>
     writer.flush()
 }
 
-// What answers the lines of a command.
+// How a command is answered.
 fn reply_of(command: Command) -> Reply
     ensures { result ≡ reply_of command }
 {

@@ -3,13 +3,14 @@
 ghost use Rattle.std.specs.Prelude.{◌≡◌, ◌≤◌, ◌||◌, ◌==◌, length};
 ghost use Rattle.chess_cecp.specs.Lines.{is_blank, without_return, without_front_blanks, without_end_blanks, trimmed};
 
-/// Whether a byte parts words in a line: a space or a tab.
+/// Whether a byte separates words in a line: a space or a tab.
 pub fn is_blank(byte: u8) -> bool
     ensures { result ≡ is_blank byte }
 {
     byte == b' ' || byte == b'\t'
 }
 
+// A text without one `\r` at its end.
 fn cut_return(text: &[u8]) -> &[u8]
     ensures { result.now ≡ without_return text.now }
 {
@@ -31,6 +32,7 @@ pub fn trim_start(text: &[u8]) -> &[u8]
     &text[from..]
 }
 
+// A text without the spaces and tabs at its end.
 fn cut_end(text: &[u8]) -> &[u8]
     ensures { result.now ≡ without_end_blanks text.now }
 {
@@ -41,7 +43,8 @@ fn cut_end(text: &[u8]) -> &[u8]
     &text[..to]
 }
 
-/// The text of a piece, without one byte 13 at its end, and spaces and tabs at both ends.
+/// A line's text, of its bytes before `\n`: without one `\r` at the end, and then without spaces and tabs at both
+/// ends.
 #[tactic(auto, using(crate::proofs::Parts::trimmed_short), unfolding(crate::specs::Lines::trimmed))]
 pub fn trim(piece: &[u8]) -> &[u8]
     ensures text { result.now ≡ trimmed piece.now }

@@ -13,17 +13,20 @@ use Rattle.chess_fen.specs.Texts.{fields_of}
 use Rattle.chess_fen.specs.Writing.{side_text}
 use Rattle.chess_fen.specs.Spelling.{SpellsPlacement, IsCastling, SpellsTarget, SpellsCounters, SpellsFenAs}
 
--- a field that denotes pieces; a side; a target, or none
+-- the text, a FEN's first field, denotes the pieces of a board
 abbrev pub SpellsSomeMen : List ℕ → Type 0
 SpellsSomeMen text = (men : Men) × SpellsPlacement text men
 
+-- the text, a FEN's second field, denotes a side: it is w or b
 abbrev pub SpellsSomeSide : List ℕ → Type 0
 SpellsSomeSide text = (colour : Colour) × (text ≡ side_text colour)
 
+-- the text, a FEN's fourth field, denotes an en passant target, or by a dash none
 abbrev pub SpellsSomeTarget : List ℕ → Type 0
 SpellsSomeTarget text = (target : Option ℕ) × SpellsTarget text target
 
--- the field of this fault denotes nothing, and each before it does
+-- the field that this fault is about denotes nothing, and each field before it does denote something: for `Castling`
+-- the third is wrong, the first two are right. a, b, c and d are the first four fields, `more` the counters or nothing
 abbrev pub IsFieldFault : Variant → List ℕ → List ℕ → List ℕ → List ℕ → List (List ℕ) → FenFault → Type 0
 IsFieldFault v a b c d more Placement = (men : Men) → SpellsPlacement a men → ⊥
 IsFieldFault v a b c d more Side = SpellsSomeMen a × ((colour : Colour) → b ≢ side_text colour)
@@ -34,11 +37,11 @@ IsFieldFault v a b c d more Counters = SpellsSomeMen a × SpellsSomeSide b × Is
     × ((halfmove fullmove : ℕ) → SpellsCounters more halfmove fullmove → ⊥)
 IsFieldFault v a b c d more f = ⊥
 
--- neither four nor six fields
+-- f is the fault `Fields`, and the text has neither four nor six fields
 abbrev pub HasWrongFieldCount : List ℕ → FenFault → Type 0
 HasWrongFieldCount text f = (f ≡ Fields) × (length (fields_of text) ≢ 4) × (length (fields_of text) ≢ 6)
 
--- four or six, of which one denotes nothing
+-- the text has four or six fields, and the first of them that denotes nothing is the one that fault f is about
 abbrev pub IsMisspelled : Variant → List ℕ → FenFault → Type 0
 IsMisspelled v text f =
     (a : List ℕ) × (b : List ℕ) × (c : List ℕ) × (d : List ℕ) × (more : List (List ℕ))
@@ -46,14 +49,16 @@ IsMisspelled v text f =
     × ((length more ≡ 0) ⊎ (length more ≡ 2))
     × IsFieldFault v a b c d more f
 
--- well written, but unsound: the first condition that fails
+-- each field of the text denotes something, but together they give an unsound position, and f is the first condition of
+-- soundness that it fails
 abbrev pub IsUnsound : Variant → List ℕ → FenFault → Type 0
 IsUnsound v text f = (p : Setup) × SpellsFenAs v text p × (setup_fault p ≡ Some f)
 
--- what a fault says of a text read as that variant
+-- f is the fault of a text that is read as a FEN of variant v: a wrong number of fields, or else a field that denotes
+-- nothing, or else an unsound position
 abbrev pub IsFaultAs : Variant → List ℕ → FenFault → Type 0
 IsFaultAs v text f = HasWrongFieldCount text f ⊎ IsMisspelled v text f ⊎ IsUnsound v text f
 
--- as normal chess
+-- f is the fault of a text that is read as a FEN of normal chess, as `IsFaultAs` says
 abbrev pub IsFault : List ℕ → FenFault → Type 0
 IsFault text f = IsFaultAs Normal text f

@@ -19,12 +19,12 @@ use Rattle.chess_fen.specs.RightNames.{right_by_letters}
 use Rattle.chess_fen.specs.Texts.{placement_of, is_castling, target_of, number_of, fields_of}
 
 infixl 10 ◌>>=◌
--- f of the value, or the first fault
+-- f of the value if there is one, else the error: so a chain of steps stops at the first error
 abbrev pub ◌>>=◌ : {A B E : Type 0} → Result A E → (A → Result B E) → Result B E
 (Ok x) >>= f = f x
 (Err e) >>= f = Err e
 
--- the side that a field names
+-- the side that a FEN's second field denotes, by w or b; none for any other text
 abbrev pub side_of : List ℕ → Option Colour
 side_of (c ∷ []) = if c == byte "w" then Some White else (if c == byte "b" then Some Black else None)
 side_of _ = None
@@ -59,7 +59,7 @@ setup_in v (a ∷ b ∷ c ∷ d ∷ []) = setup_by v a b c d (codes "0") (codes 
 setup_in v (a ∷ b ∷ c ∷ d ∷ e ∷ f ∷ []) = setup_by v a b c d e f
 setup_in v _ = Err faults.Fields
 
--- the position, or its fault if there is one
+-- the position p if no fault is given, else that fault
 abbrev pub unless_fault : Setup → Option FenFault → Result Setup FenFault
 unless_fault p fault = option_map_or Err fault (Ok p)
 
@@ -67,6 +67,6 @@ unless_fault p fault = option_map_or Err fault (Ok p)
 abbrev pub fen_reading_as : Variant → List ℕ → Result Setup FenFault
 fen_reading_as v text = setup_in v (fields_of text) >>= λ p. unless_fault p (setup_fault p)
 
--- as normal chess
+-- the position that a text denotes as a FEN of normal chess, or the text's first fault
 abbrev pub fen_reading : List ℕ → Result Setup FenFault
 fen_reading text = fen_reading_as Normal text

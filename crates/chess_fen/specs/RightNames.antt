@@ -21,20 +21,23 @@ abbrev pub side_letter : Colour → CastlingSide → ℕ
 side_letter c KingSide = letter_by c King
 side_letter c QueenSide = letter_by c Queen
 
--- the letter that is written for the right with the rook on s
+-- the letter that is written for colour c's right on side w, with the rook on square s: in normal chess K, Q, k or q,
+-- in Chess960 the letter of the rook's file, as H for White's rook on h1
 abbrev pub right_letter : Variant → Colour → CastlingSide → ℕ → ℕ
 right_letter Normal c w s = side_letter c w
 right_letter Fischerandom c w s = first_letter c + file s
 
 -- ---- normal chess
 
--- a letter names the right whose rook is on that corner
+-- normal chess: the castling right of this letter, if the letter occurs in the field: its rook is on the given corner
+-- square
 abbrev pub right_named : List ℕ → ℕ → ℕ → Option ℕ
 right_named letters letter corner = if occurs letter letters then Some corner else None
 
 -- ---- Chess960
 
--- a square off the first ranks: a right with its rook there is never available
+-- a square off the first ranks (a4), taken as the rook's square of a right that is named wrongly: the position is then
+-- unsound, so the text is refused
 abbrev pub nowhere : ℕ
 nowhere = 24
 
@@ -43,20 +46,23 @@ abbrev pub from_edge : Colour → CastlingSide → List ℕ
 from_edge c KingSide = map (home_square c) (7 ∷ 6 ∷ 5 ∷ 4 ∷ 3 ∷ 2 ∷ 1 ∷ 0 ∷ [])
 from_edge c QueenSide = map (home_square c) (0 ∷ 1 ∷ 2 ∷ 3 ∷ 4 ∷ 5 ∷ 6 ∷ 7 ∷ [])
 
--- the rook nearest to that side's edge, on whichever side of the king it is; nowhere if there is none
+-- the square of colour c's rook on its first rank that is nearest to the edge on side w, even if it is not on that side
+-- of the king; `nowhere` if there is no rook
 unfoldable pub outer_rook : Men → Colour → CastlingSide → ℕ
 outer_rook men c w = unwrap_or (find (λ s. is_man c Rook (man_at men s)) (from_edge c w)) nowhere
 
--- s lies left of the king, if there is one
+-- for squares on one rank: s is nearer to the a-file than the king's square, which is given first; false if there is no
+-- king
 abbrev pub is_left_of : Option ℕ → ℕ → Bool
 is_left_of king s = option_map_or (λ k. nat_lt s k) king false
 
--- a square left of the king is on the queen's side, any other on the king's
+-- square s is on that side of the king, both on one rank: to the left of him on the queen's side, else on the king's
 abbrev pub is_towards : CastlingSide → Option ℕ → ℕ → Bool
 is_towards KingSide king s = not (is_left_of king s)
 is_towards QueenSide king s = is_left_of king s
 
--- the square of the rook that a letter names on that side
+-- Chess960: the rook's square by which this letter names colour c's right on side w, or none if it names another right.
+-- K, Q, k and q name the outermost rook (X-FEN), a file's letter names that file, if it is on side w of the king
 abbrev pub named_square : Men → Colour → CastlingSide → ℕ → Option ℕ
 named_square men c w letter =
     let s = home_square c (letter - first_letter c) in

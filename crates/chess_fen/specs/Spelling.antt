@@ -20,53 +20,54 @@ use Rattle.chess_base.specs.Letters.{byte}
 use Rattle.chess_fen.specs.Texts.{times, occurs, may_name_right, fields_of}
 use Rattle.chess_fen.specs.Writing.{side_text, target_text}
 
--- a piece's letter stands for the piece, a digit from 1 to 8 for so many empty squares
+-- a byte of a rank's text denotes these squares: a letter one with that piece, a digit from 1 to 8 so many empty ones
 abbrev pub StandsFor : ℕ → List (Option Man) → Type 0
 StandsFor c squares = ((man : Man) × (c ≡ letter man) × (squares ≡ Some man ∷ []))
     ⊎ ((n : ℕ) × (0 < n) × (n ≤ 8) × (c ≡ byte "0" + n) × (squares ≡ replicate n None))
 
--- the squares of the bytes in a row
+-- a part of a rank's text denotes these squares: "p2" a black pawn and two empty squares
 abbrev pub SpellsSquares : List ℕ → List (Option Man) → Type 0
 SpellsSquares [] squares = squares ≡ []
 SpellsSquares (c ∷ cs) squares = (first : List (Option Man)) × (others : List (Option Man)) × StandsFor c first
     × SpellsSquares cs others × (squares ≡ first ++ others)
 
--- eight of them
+-- the text denotes these squares of one rank, from file a to file h, and they are eight
 abbrev pub SpellsRank : List ℕ → List (Option Man) → Type 0
 SpellsRank text row = SpellsSquares text row × (length row ≡ 8)
 
--- ranks given from the highest down, as one list from the lowest up
+-- the squares of ranks that are given from the highest down, as one list from the lowest up (a1 to h8)
 abbrev pub from_top : List (List (Option Man)) → List (Option Man)
 from_top [] = []
 from_top (row ∷ rows) = from_top rows ++ row
 
--- eight ranks, the eighth first, with a stroke between
+-- the text, a FEN's first field, denotes these pieces: eight ranks, rank 8 first, with a slash between them
 abbrev pub SpellsPlacement : List ℕ → List (Option Man) → Type 0
 SpellsPlacement text men = (rows : List (List (Option Man))) × (length rows ≡ 8)
     × AllZip SpellsRank (slice_split (λ c. c == stroke) text) rows × (men ≡ from_top rows)
 
--- one to four of the letters K, Q, k and q, in Chess960 of files too, none twice
+-- the text is one to four of the letters K, Q, k and q, in Chess960 of the files A to H and a to h too, none twice
 pub record AreRightLetters (v : Variant) (text : List ℕ) : Type 0 where
   pub some : 0 < length text
   pub few : length text ≤ 4
   pub each : AllByRecursion (λ c. IsTrue (may_name_right v c)) text
   pub distinct : (c : ℕ) → times c text ≤ 1
 
--- a dash, or such letters
+-- the text has the form of a castling field: a dash, or one to four letters that may name rights, none twice
 abbrev pub IsCastling : Variant → List ℕ → Type 0
 IsCastling v text = (text ≡ codes "-") ⊎ AreRightLetters v text
 
--- a right is held exactly if its letter occurs, and then with the rook on its corner
+-- the castling right is there exactly if its letter occurs in the text, and then its rook is on the given corner
 abbrev pub IsHeldBy : ℕ → List ℕ → Option ℕ → ℕ → Type 0
 IsHeldBy letter text right corner = (IsSome right ↔ IsTrue (occurs letter text))
     × IfSome right (λ square. square ≡ corner)
 
--- in normal chess by its own letter; in Chess960 it is the one that the letters name, if any does
+-- `right` (a rook's square, or none) is colour c's right on side w by this castling field: in normal chess by its own
+-- letter K, Q, k or q, in Chess960 as the letters name the rook
 abbrev pub IsHeld : Variant → Men → List ℕ → Colour → CastlingSide → Option ℕ → Type 0
 IsHeld Normal men text c w right = IsHeldBy (side_letter c w) text right (home_square c (rook_file w))
 IsHeld Fischerandom men text c w right = right ≡ right_by_letters Fischerandom men text c w
 
--- each right by its letter; so a dash for none
+-- the text, a FEN's third field, denotes the castling rights of position p; a dash denotes that there is none
 pub record SpellsRights (text : List ℕ) (p : Setup) : Type 0 where
   pub letters : IsCastling p.variant text
   pub white_king_side : IsHeld p.variant p.men text White KingSide (right_of p.rights White KingSide)
@@ -74,16 +75,18 @@ pub record SpellsRights (text : List ℕ) (p : Setup) : Type 0 where
   pub black_king_side : IsHeld p.variant p.men text Black KingSide (right_of p.rights Black KingSide)
   pub black_queen_side : IsHeld p.variant p.men text Black QueenSide (right_of p.rights Black QueenSide)
 
--- a dash for none; else a square of the third or the sixth rank
+-- the text, a FEN's fourth field, denotes this en passant target: a dash for none, else the name of a square on rank 3
+-- or 6
 abbrev pub SpellsTarget : List ℕ → Option ℕ → Type 0
 SpellsTarget text target = (text ≡ target_text target) × IfSome target (λ square. (rank square ≡ 2) ⊎ (rank square ≡ 5))
 
--- one to six digits
+-- the text is one to six digits, which denote the number n
 abbrev pub SpellsNumber : List ℕ → ℕ → Type 0
 SpellsNumber text n = (0 < length text) × (length text ≤ 6) × AllByRecursion (λ c. (byte "0" ≤ c) × (c ≤ byte "9")) text
     × (n ≡ digits_value 10 text)
 
--- neither, or both; a fullmove number of 0 is read as 1
+-- the fields after the target denote the halfmove clock and the fullmove number: there are none (then 0 and 1), or
+-- both; a fullmove number of 0 is read as 1
 abbrev pub SpellsCounters : List (List ℕ) → ℕ → ℕ → Type 0
 SpellsCounters [] halfmove fullmove = (halfmove ≡ 0) × (fullmove ≡ 1)
 SpellsCounters (a ∷ []) halfmove fullmove = ⊥
@@ -91,7 +94,7 @@ SpellsCounters (a ∷ b ∷ []) halfmove fullmove =
     SpellsNumber a halfmove × ((n : ℕ) × SpellsNumber b n × (fullmove ≡ max n 1))
 SpellsCounters (a ∷ b ∷ c ∷ more) halfmove fullmove = ⊥
 
--- field by field
+-- the fields of a FEN (a, b, c, d, and the counters if there are any) denote position p, each its part
 pub record SpellsFields (a b c d : List ℕ) (counters_text : List (List ℕ)) (p : Setup) : Type 0 where
   pub men : SpellsPlacement a p.men
   pub side : b ≡ side_text p.side
@@ -99,15 +102,15 @@ pub record SpellsFields (a b c d : List ℕ) (counters_text : List (List ℕ)) (
   pub target : SpellsTarget d p.target
   pub counters : SpellsCounters counters_text p.halfmove p.fullmove
 
--- the text has four fields or six, which denote the position in its variant
+-- the text has four fields or six, and they denote position p, in p's variant
 abbrev pub SpellsFenOf : List ℕ → Setup → Type 0
 SpellsFenOf text p = (a : List ℕ) × (b : List ℕ) × (c : List ℕ) × (d : List ℕ) × (more : List (List ℕ))
     × (fields_of text ≡ a ∷ b ∷ c ∷ d ∷ more) × SpellsFields a b c d more p
 
--- the text denotes the position, which is of that variant
+-- the text denotes position p as a FEN, and p is of variant v
 abbrev pub SpellsFenAs : Variant → List ℕ → Setup → Type 0
 SpellsFenAs v text p = (p.variant ≡ v) × SpellsFenOf text p
 
--- it denotes the position of normal chess
+-- the text denotes position p as a FEN of normal chess
 abbrev pub SpellsFen : List ℕ → Setup → Type 0
 SpellsFen text p = SpellsFenAs Normal text p

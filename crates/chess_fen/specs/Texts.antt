@@ -15,64 +15,68 @@ use Rattle.chess_fen.specs.ManLetters.{stroke, man_with_letter}
 
 -- ---- numbers
 
--- the number that one to six digits denote
+-- the number that a text of one to six digits denotes; none for any other text
 abbrev pub number_of : List ℕ → Option ℕ
 number_of text = if nat_lt 0 (length text) && nat_le (length text) 6
     && list_all is_digit text then Some (value_after 0 text) else None
 
 -- ---- ranks
 
--- what a byte stands for: so many empty squares, or a piece
+-- the squares that a byte of a rank's text denotes: so many empty ones by a digit from 1 to 8, one with a piece by the
+-- piece's letter; none for any other byte
 abbrev pub squares_of : ℕ → Option (List (Option Man))
 squares_of c = if nat_le (byte "1") c && nat_le c (byte "8") then Some (replicate (c - byte "0") None) else option_map
     (λ m. Some m ∷ []) (man_with_letter c)
 
--- the eight squares that a text stands for, where row is before it
+-- the eight squares of a rank, from the ones read so far (`row`) and the text that is left; none if a byte denotes
+-- nothing, or if there are not eight
 abbrev pub rank_after : List (Option Man) → List ℕ → Option (List (Option Man))
 rank_after row [] = if length row == 8 then Some row else None
 rank_after row (c ∷ cs) = option_and_then (λ squares. rank_after (row ++ squares) cs) (squares_of c)
 
--- the eight squares that a rank's text stands for
+-- the eight squares that a rank's text denotes, from file a to file h, as by "4P3"; none if it denotes none
 abbrev pub rank_of : List ℕ → Option (List (Option Man))
 rank_of text = rank_after [] text
 
 -- ---- placement
 
--- the pieces of ranks read from the eighth down, each below those before it
+-- the squares of the ranks whose texts are left, from the highest down, put below those read so far (`above`); none if
+-- one of them is not the text of a rank
 abbrev pub stacked : List (Option Man) → List (List ℕ) → Option (List (Option Man))
 stacked above [] = Some above
 stacked above (text ∷ texts) = option_and_then (λ row. stacked (row ++ above) texts) (rank_of text)
 
--- the pieces of the first field: eight ranks with a stroke between
+-- the pieces that a FEN's first field denotes: eight ranks, rank 8 first, with a slash between them; none for any other
+-- text
 abbrev pub placement_of : List ℕ → Option (List (Option Man))
 placement_of text = let ranks = slice_split (λ c. c == stroke) text in if length ranks == 8 then stacked [] ranks else
     None
 
 -- ---- castling
 
--- how often a letter occurs
+-- how often the byte c occurs in the text
 abbrev pub times : ℕ → List ℕ → ℕ
 times c text = count_by (λ b. b == c) text
 
--- whether a letter occurs
+-- whether the byte c occurs in the text
 abbrev pub occurs : ℕ → List ℕ → Bool
 occurs c text = list_any (λ b. b == c) text
 
--- the letter of file a
+-- the letter of file a for a colour's rooks in a castling field of Chess960: A for White, a for Black
 abbrev pub first_letter : Colour → ℕ
 first_letter White = byte "A"
 first_letter Black = byte "a"
 
--- the letter of a file: White's are capital, Black's small
+-- the letter is that of a file for colour c's rooks: A to H for White, a to h for Black
 abbrev pub names_file : Colour → ℕ → Bool
 names_file c letter = nat_le (first_letter c) letter && nat_lt letter (first_letter c + 8)
 
--- the letters that may name rights: of sides, and in Chess960 of files too
+-- the letters that may name castling rights: K, Q, k and q, and in Chess960 those of files too
 unfoldable pub may_name_right : Variant → ℕ → Bool
 may_name_right Normal letter = occurs letter (codes "KQkq")
 may_name_right Fischerandom letter = occurs letter (codes "KQkq") || names_file White letter || names_file Black letter
 
--- a letter that names a right, and is there once
+-- the byte c may name a castling right, and occurs once in the text
 abbrev pub names_once : Variant → List ℕ → ℕ → Bool
 names_once v text c = may_name_right v c && (times c text == 1)
 
@@ -83,7 +87,8 @@ is_castling v text = bytes_eq text (codes "-")
 
 -- ---- target
 
--- the field of the target: a dash for none, or the name of a square on rank 3 or 6
+-- what a FEN's fourth field denotes: by a dash no target (`Some None`), by the name of a square on rank 3 or 6 that
+-- square; none for any other text
 abbrev pub target_of : List ℕ → Option (Option ℕ)
 target_of (c ∷ []) = if c == byte "-" then Some None else None
 target_of (f ∷ r ∷ []) = if nat_le (byte "a") f && nat_le f (byte "h")
@@ -92,6 +97,6 @@ target_of _ = None
 
 -- ---- fields
 
--- the pieces between spaces that aren't empty
+-- the fields of a text: its parts between spaces, without the empty ones
 abbrev pub fields_of : List ℕ → List (List ℕ)
 fields_of text = filter (λ field. nat_lt 0 (length field)) (slice_split (λ c. c == space) text)

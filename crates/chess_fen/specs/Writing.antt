@@ -15,56 +15,59 @@ use Rattle.chess_base.specs.declared.setup.Setup.{Setup}
 use Rattle.chess_fen.specs.ManLetters.{letter, stroke}
 use Rattle.chess_base.specs.Letters.{byte, space, square_text}
 
--- a run of empty squares is one digit, and nothing where there is none
+-- a run of n empty squares as text: the digit n, or nothing for n = 0
 abbrev pub run_text : ℕ → List ℕ
 run_text zero = []
 run_text (suc n) = (byte "0" + suc n) ∷ []
 
--- the squares of a rank after a run of empty squares
+-- the text of the rest of a rank, after `empty` empty squares that are not yet written: with 2 of them before a white
+-- pawn it begins "2P"
 abbrev pub row_text : ℕ → List (Option Man) → List ℕ
 row_text empty [] = run_text empty
 row_text empty (None ∷ row) = row_text (suc empty) row
 row_text empty (Some man ∷ row) = run_text empty ++ letter man ∷ row_text 0 row
 
--- the text of a rank, from file a to file h
+-- the text of a rank's eight squares, from file a to file h, as "4P3"
 abbrev pub fen_rank : List (Option Man) → List ℕ
 fen_rank row = row_text 0 row
 
--- the lowest ranks, so many, the highest of them first
+-- the n lowest ranks of the board (the first argument is n), each as its eight squares, the highest of them first
 abbrev pub ranks_down : ℕ → List (Option Man) → List (List (Option Man))
 ranks_down zero men = []
 ranks_down (suc rank) men = take 8 (drop (8 * rank) men) ∷ ranks_down rank men
 
--- all eight, with a stroke between
+-- a FEN's first field: the text of all eight ranks, rank 8 first, with a slash between them
 unfoldable pub placement_text : List (Option Man) → List ℕ
 placement_text men = join_with_byte stroke (map fen_rank (ranks_down 8 men))
 
--- the letter of the side on move
+-- a FEN's second field: w or b for the side on move
 abbrev pub side_text : Colour → List ℕ
 side_text White = codes "w"
 side_text Black = codes "b"
 
--- a letter where a right is held: of its side, in Chess960 of its rook's file (Shredder-FEN)
+-- the letter of a castling right, given as its rook's square: K, Q, k or q, in Chess960 that of the rook's file
+-- (Shredder-FEN); nothing if there is no right
 abbrev pub right_text : Variant → Colour → CastlingSide → Option ℕ → List ℕ
 right_text v c w None = []
 right_text v c w (Some s) = right_letter v c w s ∷ []
 
--- a dash is written in place of an empty text
+-- the text, or a dash if it is empty
 abbrev pub or_dash : List ℕ → List ℕ
 or_dash [] = codes "-"
 or_dash (c ∷ cs) = c ∷ cs
 
--- White's on the king's side and on the queen's, then Black's: in normal chess in the order KQkq
+-- a FEN's third field: the letters of White's right on the king's side and on the queen's, then of Black's (in normal
+-- chess in the order KQkq), or a dash
 abbrev pub rights_text : Variant → Rights → List ℕ
 rights_text v r =
     or_dash (right_text v White KingSide r.white.king_side ++ right_text v White QueenSide r.white.queen_side
     ++ right_text v Black KingSide r.black.king_side ++ right_text v Black QueenSide r.black.queen_side)
 
--- a dash for none, else the square's name
+-- a FEN's fourth field: the name of the en passant target, or a dash for none
 abbrev pub target_text : Option ℕ → List ℕ
 target_text target = option_map_or square_text target (codes "-")
 
--- six fields, with one space between
+-- the FEN of a position: its six fields, with one space between them
 abbrev pub fen : Setup → List ℕ
 fen p = join_with_byte space (placement_text p.men ∷ side_text p.side ∷ rights_text p.variant p.rights ∷ target_text
     p.target ∷ decimal p.halfmove ∷ decimal p.fullmove ∷ [])

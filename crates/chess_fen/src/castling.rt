@@ -9,28 +9,28 @@ ghost use Rattle.chess_base.specs.Castling.{home_square, rook_file};
 use chess_base::rules::{home_square, is_man, king_square, rook_file};
 use chess_base::{CastlingSide, Colour, Kind, Man, Square, Variant};
 
-// How often a letter occurs.
+// How often a letter occurs in a text.
 fn times(text: &[u8], letter: u8) -> usize
     ensures { result ≡ times letter text.now }
 {
     text.iter().filter(|byte| **byte == letter).count()
 }
 
-// Whether a letter is that of a side.
+// Whether a letter is `K`, `Q`, `k` or `q`, which name a right by its side.
 fn names_side(letter: u8) -> bool
     ensures { result ≡ occurs letter (codes "KQkq") }
 {
     b"KQkq".as_slice().contains(&letter)
 }
 
-// Whether a letter is that of a file: White's are capital, Black's small.
+// Whether a letter is that of a file for a colour's rooks: `A` to `H` for White, `a` to `h` for Black.
 fn names_file(colour: Colour, letter: u8) -> bool
     ensures { result ≡ names_file colour letter }
 {
     first_letter(colour) <= letter && letter < first_letter(colour) + 8
 }
 
-// Whether a letter may name a right: of a side, or in Chess960 of a file.
+// Whether a letter may name a castling right: `K`, `Q`, `k` or `q`, or in Chess960 that of a file.
 #[tactic(auto, unfolding(crate::specs::Texts::may_name_right))]
 fn may_name_right(variant: Variant, letter: u8) -> bool
     ensures { result ≡ may_name_right variant letter }
@@ -45,7 +45,7 @@ fn may_name_right(variant: Variant, letter: u8) -> bool
     }
 }
 
-// Whether a text is `-`, or one to four letters of sides, in Chess960 of files too, none twice.
+// Whether a text has the form of a castling field: `-`, or one to four letters that may name rights, none twice.
 pub(crate) fn is_castling(variant: Variant, text: &[u8]) -> bool
     ensures { result ≡ is_castling variant text.now }
 {
@@ -63,7 +63,7 @@ pub(crate) fn is_castling(variant: Variant, text: &[u8]) -> bool
     true
 }
 
-// The letter of a side.
+// The letter for a colour's castling right on that side: `K`, `Q`, `k` or `q`.
 fn side_letter(colour: Colour, castling_side: CastlingSide) -> u8
     ensures { result ≡ side_letter colour castling_side }
 {
@@ -75,7 +75,7 @@ fn side_letter(colour: Colour, castling_side: CastlingSide) -> u8
     }
 }
 
-// The letter of file a.
+// The letter of file a for a colour's rooks in Chess960: `A` for White, `a` for Black.
 fn first_letter(colour: Colour) -> u8
     ensures value { result ≡ first_letter colour }
     ensures in_range { result < 98 }
@@ -86,7 +86,8 @@ fn first_letter(colour: Colour) -> u8
     }
 }
 
-// The letter that is written for the right with the rook on that square.
+// The letter that is written for a castling right with the rook on that square: in normal chess `K`, `Q`, `k` or `q`,
+// in Chess960 that of the rook's file, as `H` for White's rook on `h1`.
 pub(crate) fn right_letter(
     variant: Variant,
     colour: Colour,
@@ -101,7 +102,8 @@ pub(crate) fn right_letter(
     }
 }
 
-// The right that a letter of a side names: its rook is on its corner.
+// Normal chess: that colour's castling right on that side, if its letter is in the field; its rook is then on the
+// corner of that side.
 fn right_named(letters: &[u8], colour: Colour, castling_side: CastlingSide) -> Option<Square>
     ensures { result ≡ right_named letters.now (side_letter colour castling_side)
         (home_square colour (rook_file castling_side)) }
@@ -113,6 +115,8 @@ fn right_named(letters: &[u8], colour: Colour, castling_side: CastlingSide) -> O
     }
 }
 
+// For a scan of all files from the edge on that side inwards: the file that is looked at when `left` more are left. It
+// begins with 7 left, at the h-file on the king's side, at the a-file on the queen's.
 fn edge_file(castling_side: CastlingSide, left: u8) -> u8
     requires { left < 8 }
     ensures value { result ≡ edge_file castling_side left }
@@ -124,7 +128,8 @@ fn edge_file(castling_side: CastlingSide, left: u8) -> u8
     }
 }
 
-// The outermost rook of that colour on its first rank, on that side.
+// The square of that colour's rook on its first rank that is nearest to the edge on that side, even if it is not on
+// that side of the king. If there is no rook, it is square 24 (a4), where no right can have its rook.
 fn outer_rook(men: &[Option<Man>; 64], colour: Colour, castling_side: CastlingSide) -> Square
     ensures { result ≡ outer_rook men.now colour castling_side }
 {
@@ -137,6 +142,7 @@ fn outer_rook(men: &[Option<Man>; 64], colour: Colour, castling_side: CastlingSi
     Square::new(24)
 }
 
+// For squares on one rank, whether s is nearer to the a-file than the king; false if there is no king.
 fn is_left_of(king: Option<Square>, s: Square) -> bool
     ensures { result ≡ is_left_of king s }
 {
@@ -146,7 +152,8 @@ fn is_left_of(king: Option<Square>, s: Square) -> bool
     }
 }
 
-// Whether a square is on that side of the king: left of it on the queen's side, else on the king's.
+// Whether a square is on that side of the king, both on one rank: to the left of him on the queen's side, else on the
+// king's.
 fn is_towards(castling_side: CastlingSide, king: Option<Square>, s: Square) -> bool
     ensures { result ≡ is_towards castling_side king s }
 {
@@ -156,7 +163,9 @@ fn is_towards(castling_side: CastlingSide, king: Option<Square>, s: Square) -> b
     }
 }
 
-// The square of the rook that a letter names on that side, in Chess960.
+// Chess960: the rook's square by which this letter names that colour's right on that side, or none if it names another
+// right. `K`, `Q`, `k` and `q` name the outermost rook, a file's letter names that file, if it is on that side of the
+// king.
 fn named_square(
     men: &[Option<Man>; 64],
     colour: Colour,
@@ -179,7 +188,9 @@ fn named_square(
     }
 }
 
-// One of the two, if only one is named; where two are, a square that no right can have.
+// Chess960: one castling right from two letters of the field, where each gives the rook's square if it names this
+// right: the one that is given. If both are, it is square 24 (a4), where no right can have its rook, so the text is
+// refused.
 fn only_one_of(first: Option<Square>, second: Option<Square>) -> Option<Square>
     ensures { result ≡ only_one_of first second }
 {
@@ -190,7 +201,8 @@ fn only_one_of(first: Option<Square>, second: Option<Square>) -> Option<Square>
     }
 }
 
-// The right on that side that the letters name, in Chess960.
+// Chess960: that colour's castling right on that side, as the letters of the field name it: the square of its rook, or
+// none.
 fn right_of_letters(
     men: &[Option<Man>; 64],
     letters: &[u8],

@@ -6,14 +6,14 @@ ghost use Rattle.chess_base.specs.Letters.{space};
 ghost use Rattle.chess_fen.specs.Texts.{fields_of};
 ghost use Rattle.chess_fen.specs.ties.Fields.{FieldsAre, parts_of};
 
-// The offset of the first byte that is no space.
+// The offset of the first byte that is no space, if there is one.
 fn first_other(text: &[u8]) -> Option<usize>
     ensures { result ≡ position (λ b. not (b == space)) text.now }
 {
     text.iter().position(|byte| *byte != b' ')
 }
 
-// The offset of the first separator.
+// The offset of the first separator, if there is one.
 fn separator_at(text: &[u8], separator: u8) -> Option<usize>
     ensures { result ≡ position (λ b. b == separator) text.now }
 {
@@ -29,7 +29,8 @@ fn skip_spaces(text: &[u8]) -> &[u8]
     text.split_at(start).1
 }
 
-// The text before a separator, and from it on.
+// Splits a text before its first separator: what is before it, and what begins with it. Without a separator the second
+// part is empty.
 #[tactic(auto, using(crate::proofs::Splits::place_or_len, crate::proofs::Splits::place_le))]
 fn split_before(text: &[u8], separator: u8) -> (&[u8], &[u8])
     ensures front { result.0.now ≡ before_first (λ b. b == separator) text.now }
@@ -39,7 +40,7 @@ fn split_before(text: &[u8], separator: u8) -> (&[u8], &[u8])
     text.split_at(end)
 }
 
-// The next field, and what follows it.
+// The next field, which is between spaces, and the text after it; none if only spaces are left.
 fn next_field(text: &[u8]) -> Option<(&[u8], &[u8])>
     ensures found { IfSome result (λ r. fields_of text.now ≡ r.0.now ∷ fields_of r.1.now) }
     ensures none { IfNone result (fields_of text.now ≡ []) }
@@ -52,7 +53,7 @@ fn next_field(text: &[u8]) -> Option<(&[u8], &[u8])>
     }
 }
 
-// The part before a separator, and what follows the separator, if there is one.
+// The part before the first separator, and the text after that separator; `None` if there is no separator.
 pub(crate) fn next_part(text: &[u8], separator: u8) -> (&[u8], Option<&[u8]>)
     ensures { slice_split (λ c. c == separator) text.now ≡ result.0.now ∷ parts_of separator result.1 }
 {
@@ -74,7 +75,7 @@ pub(crate) struct Fields<'a> {
     pub fullmove: &'a [u8],
 }
 
-// The fields of a text with four or six of them.
+// Cuts a text into its fields; none if there are neither four nor six.
 pub(crate) fn read_fields(text: &[u8]) -> Option<Fields<'_>>
     ensures { FieldsAre result (fields_of text.now) }
 {

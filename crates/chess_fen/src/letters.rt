@@ -5,7 +5,7 @@ ghost use Rattle.chess_fen.specs.ManLetters.{letter, man_with_letter};
 
 use chess_base::{Colour, Kind, Man};
 
-// The piece with this letter, if there is one.
+// The piece with this letter: a white knight for `N`, a black one for `n`. None if no piece has it.
 pub(crate) fn man_with_letter(byte: u8) -> Option<Man>
     ensures { result ≡ man_with_letter byte }
 {
@@ -27,7 +27,7 @@ pub(crate) fn man_with_letter(byte: u8) -> Option<Man>
     Some(Man { colour, kind })
 }
 
-// The letter of a piece: White's are capital, Black's small.
+// The letter of a piece: `N` for a white knight, `n` for a black one.
 pub(crate) fn letter_of(man: Man) -> u8
     ensures { result ≡ letter man }
 {

@@ -3,7 +3,7 @@
 ghost use Rattle.std.specs.Prelude.{◌≡◌};
 ghost use Rattle.chess_fen.specs.Texts.{number_of};
 
-// The number that one to six digits denote.
+// The number that a text of one to six digits denotes; none for any other text.
 pub(crate) fn read_number(text: &[u8]) -> Option<u32>
     ensures { result ≡ number_of text.now }
 {

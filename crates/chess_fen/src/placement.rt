@@ -7,7 +7,7 @@ use crate::fields::next_part;
 use crate::rank::read_rank;
 use chess_base::Man;
 
-// Puts a rank's squares into the board.
+// Puts a rank's eight squares into the board; `rank` is 0 for rank 1.
 fn put_rank(men: &mut [Option<Man>; 64], rank: usize, row: &[Option<Man>; 8])
     requires { rank < 8 }
     ensures { drop (8 * rank) men.new ≡ row.now ++ drop (8 * rank + 8) men.old }
@@ -15,7 +15,8 @@ fn put_rank(men: &mut [Option<Man>; 64], rank: usize, row: &[Option<Man>; 8])
     men[8 * rank..8 * rank + 8].copy_from_slice(row);
 }
 
-// The pieces of the 64 squares, from eight ranks.
+// The pieces that a FEN's first field denotes: eight ranks, rank 8 first, with `/` between them; none for any other
+// text.
 pub(crate) fn read_placement(text: &[u8]) -> Option<[Option<Man>; 64]>
     ensures { result ≡ placement_of text.now }
 {

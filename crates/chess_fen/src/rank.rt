@@ -6,7 +6,7 @@ ghost use Rattle.chess_fen.specs.Texts.{rank_of};
 use crate::letters::man_with_letter;
 use chess_base::Man;
 
-// The eight squares that a rank's text stands for.
+// The eight squares that a rank's text denotes, from file a to file h, as by `4P3`; none if it does not denote eight.
 pub(crate) fn read_rank(text: &[u8]) -> Option<[Option<Man>; 8]>
     ensures { result ≡ rank_of text.now }
 {

@@ -20,7 +20,7 @@ use chess_base::{
     CastlingSide, Colour, ColourRights, FenFault, Man, Position, Rights, Setup, Square, Variant,
 };
 
-// White or Black, by its letter.
+// The side that a FEN's second field denotes, by `w` or `b`; none for any other text.
 fn read_side(text: &[u8]) -> Option<Colour>
     ensures { result ≡ side_of text.now }
 {
@@ -101,7 +101,7 @@ fn read_setup(variant: Variant, text: &[u8]) -> Result<Setup, FenFault>
     }
 }
 
-// The position that a text denotes, or the first fault.
+// The position that a text denotes as a FEN of that variant, or the text's first fault.
 fn spelled_position(variant: Variant, text: &[u8]) -> Result<Position, FenFault>
     ensures value { result ≡ fen_reading_as variant text.now }
     ensures sound { IfOk result IsSound }
@@ -113,8 +113,8 @@ fn spelled_position(variant: Variant, text: &[u8]) -> Result<Position, FenFault>
 }
 
 /// The position of that variant that a text denotes as FEN (PGN standard of 1994, section 16.1), or the first fault of
-/// the text. Byte 32 alone separates the fields, and may be at both ends. In Chess960 a right is named by the letter
-/// of its rook's file, or by `K`, `Q`, `k` or `q` as the outermost rook on that side.
+/// the text. Only spaces (byte 32) separate the fields; there may be several, and at both ends too. In Chess960 a right
+/// is named by the letter of its rook's file, or by `K`, `Q`, `k` or `q` as the outermost rook on that side.
 pub fn read_fen_as(variant: Variant, text: &[u8]) -> Result<Position, FenFault>
     ensures value { result ≡ fen_reading_as variant text.now }
     // The text denotes what is read, which is sound.
@@ -130,7 +130,7 @@ pub fn read_fen_as(variant: Variant, text: &[u8]) -> Result<Position, FenFault>
 }
 
 /// The position of normal chess that a text denotes as FEN (PGN standard of 1994, section 16.1), or the first fault of
-/// the text. Byte 32 alone separates the fields, and may be at both ends.
+/// the text. Only spaces (byte 32) separate the fields; there may be several, and at both ends too.
 pub fn read_fen(text: &[u8]) -> Result<Position, FenFault>
     ensures value { result ≡ fen_reading text.now }
     // The text denotes what is read, which is sound.

@@ -5,7 +5,8 @@ ghost use Rattle.chess_fen.specs.Texts.{target_of};
 
 use chess_base::Square;
 
-// The target, or none at `-`.
+// What a FEN's fourth field denotes: by `-` no target (`Some(None)`), by the name of a square on rank 3 or 6 that
+// square; `None` for any other text.
 pub(crate) fn read_target(text: &[u8]) -> Option<Option<Square>>
     ensures { result ≡ target_of text.now }
 {

@@ -13,7 +13,7 @@ use itoa::Buffer;
 /// The text of a FEN, of at most 95 bytes.
 pub type FenText = ArrayVec<u8, 100>;
 
-// A run of empty squares.
+// Appends the digit for a run of `empty` empty squares; nothing for 0.
 fn write_run(out: &mut FenText, empty: u8)
     requires few { empty < 10 }
     requires room { array_vec_len out.old + empty ≤ 100 }
@@ -25,7 +25,7 @@ fn write_run(out: &mut FenText, empty: u8)
     }
 }
 
-// The squares of a rank.
+// Appends a rank's text, as `4P3`, from its squares from file a to file h.
 fn write_rank(out: &mut FenText, row: &[Option<Man>])
     requires few { length row.now ≤ 8 }
     requires room { array_vec_len out.old + length row.now ≤ 100 }
@@ -46,7 +46,7 @@ fn write_rank(out: &mut FenText, row: &[Option<Man>])
     write_run(out, empty);
 }
 
-// The pieces, from the eighth rank down.
+// Appends the first field: the eight ranks, rank 8 first, with `/` between them.
 fn write_placement(out: &mut FenText, men: &[Option<Man>; 64])
     requires room { array_vec_len out.old + 71 ≤ 100 }
     ensures text { out.new.items ≡ out.old.items ++ placement_text men.now }
@@ -60,7 +60,7 @@ fn write_placement(out: &mut FenText, men: &[Option<Man>; 64])
     }
 }
 
-// The side on move.
+// Appends the second field: `w` or `b`.
 fn write_side(out: &mut FenText, side: Colour)
     requires room { array_vec_len out.old < 100 }
     ensures text { out.new.items ≡ out.old.items ++ side_text side }
@@ -72,7 +72,7 @@ fn write_side(out: &mut FenText, side: Colour)
     });
 }
 
-// A letter where a right is held.
+// Appends the letter of a castling right, given as its rook's square; nothing if there is no right.
 fn write_right(
     out: &mut FenText,
     variant: Variant,
@@ -89,7 +89,8 @@ fn write_right(
     }
 }
 
-// The rights: White's on the king's side and on the queen's, then Black's.
+// Appends the third field: the letters of White's rights on the king's side and on the queen's, then of Black's, or
+// `-`.
 fn write_rights(out: &mut FenText, variant: Variant, rights: Rights)
     requires room { array_vec_len out.old + 4 ≤ 100 }
     ensures text { out.new.items ≡ out.old.items ++ rights_text variant rights }
@@ -129,7 +130,7 @@ fn write_rights(out: &mut FenText, variant: Variant, rights: Rights)
     }
 }
 
-// The target, or `-`.
+// Appends the fourth field: the name of the en passant target, or `-`.
 fn write_target(out: &mut FenText, target: Option<Square>)
     requires room { array_vec_len out.old + 2 ≤ 100 }
     ensures text { out.new.items ≡ out.old.items ++ target_text target }
@@ -144,7 +145,7 @@ fn write_target(out: &mut FenText, target: Option<Square>)
     }
 }
 
-// A number of at most six digits.
+// Appends a number of at most six digits.
 #[tactic(auto, using(crate::proofs::Lengths::short_decimal))]
 fn write_number(out: &mut FenText, number: u32)
     requires few { number < 1000000 }

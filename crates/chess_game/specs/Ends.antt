@@ -26,11 +26,11 @@ use Rattle.chess_game.specs.declared.ends.Claims.{Claims}
 abbrev pub square_colour : ℕ → Colour
 square_colour s = if (file s + rank s) % 2 == 0 then Black else White
 
--- a piece of this kind is there
+-- a square's content is a piece of kind k, of either colour
 abbrev pub is_kind : Kind → Option Man → Bool
 is_kind k o = option_map_or (λ x. same_kind k x.kind) o false
 
--- a bishop is on a square of this colour
+-- some bishop, of either side, is on a square of colour c
 unfoldable pub has_bishop_on : Colour → Men → Bool
 has_bishop_on c men = some_square (λ s. same_colour c (square_colour s) && is_kind Bishop (man_at men s))
 
@@ -42,7 +42,7 @@ has_insufficient_material men =
     && (nat_le (count_by (λ o. is_kind Bishop o || is_kind Knight o) men) 1 || (not (list_any (is_kind Knight) men)
     && not (has_bishop_on White men && has_bishop_on Black men)))
 
--- the verdict that the side of this colour mates
+-- the verdict that the side of this colour has mated the other
 abbrev pub mates : Colour → Verdict
 mates White = WhiteMates
 mates Black = BlackMates
@@ -58,13 +58,13 @@ verdict start ms =
     else if nat_le 150 p.halfmove then Some SeventyFiveMoves
     else None
 
--- the outcome of a verdict
+-- the outcome of a verdict: a win of the side that mates, or a draw
 abbrev pub verdict_outcome : Verdict → Outcome
 verdict_outcome WhiteMates = WhiteWins
 verdict_outcome BlackMates = BlackWins
 verdict_outcome _ = Draw
 
--- what is said of a verdict
+-- the comment on a verdict, as in the result line 1-0 {White mates}
 abbrev pub verdict_comment : Verdict → List ℕ
 verdict_comment WhiteMates = codes "White mates"
 verdict_comment BlackMates = codes "Black mates"
@@ -73,6 +73,7 @@ verdict_comment InsufficientMaterial = codes "Insufficient material"
 verdict_comment FivefoldRepetition = codes "Fivefold repetition"
 verdict_comment SeventyFiveMoves = codes "75-move rule"
 
--- the position for the third time; 50 moves of each side without a pawn move or capture (9.2, 9.3)
+-- what the player on move may claim a draw by, after the moves ms from `start`: the position for the third time; 50
+-- moves of each side, 100 half-moves, without a pawn move or capture (9.2, 9.3)
 abbrev pub claims : Setup → List Move → Claims
 claims start ms = record { threefold = nat_le 3 (rep start ms); fifty_moves = nat_le 100 (last start ms).halfmove }

@@ -18,13 +18,14 @@ use Rattle.chess_game.specs.declared.game.PlayRefusal.TheVariants.{Over, TooLong
 use Rattle.chess_game.specs.declared.game.NoMove.{NoMove}
 use Rattle.chess_game.specs.declared.game.BoardSaysOtherwise.{BoardSaysOtherwise}
 
--- the state of a game: its start, the current moves, and what was declared
+-- the state of a game: its start, its current moves (those not taken back), and the result that was declared, if one
+-- was, as by a resignation
 pub record State : Type 0 where
   pub start : Setup
   pub moves : List Move
   pub declared : Option Declared
 
--- what a game is seen as: how many half-moves it may have, fixed when it opens, and its state
+-- a game, as contracts see it: how many half-moves it may have, fixed when it opens, and its state
 pub record Seen : Type 0 where
   pub limit : ℕ
   pub state : State
@@ -33,7 +34,8 @@ pub record Seen : Type 0 where
 abbrev pub current : State → Setup
 current s = last s.start s.moves
 
--- the verdict on the present position and its line, if there is one
+-- why the game is over by its position and its moves (mate, stalemate, bare material, fivefold repetition, 75 moves),
+-- if it is
 abbrev pub verdict_now : State → Option Verdict
 verdict_now s = verdict s.start s.moves
 
@@ -49,27 +51,27 @@ outcome_now s = option_map_or verdict_outcome (verdict_now s) (option_map_or (λ
 abbrev pub from_start : Setup → State
 from_start start = record { start = start; moves = []; declared = None }
 
--- with one move more
+-- the state with one move more
 abbrev pub played : State → Move → State
 played s m = record s { moves = s.moves ++ m ∷ [] }
 
--- less its last n moves; what was declared is cleared
+-- the state without its last n moves; what was declared is cleared
 abbrev pub taken_back : State → ℕ → State
 taken_back s n = record s { moves = take (length s.moves - n) s.moves; declared = None }
 
--- with this declared in place of what was
+-- the state with d declared (or nothing), in place of what was declared before
 abbrev pub with_declared : State → Option Declared → State
 with_declared s d = record s { declared = d }
 
--- a game of this limit in that state
+-- the game with its state replaced by s; its limit stays
 abbrev pub at : Seen → State → Seen
 at g s = record g { state = s }
 
--- a game as it opens
+-- a game as it opens with that limit: the initial position, no moves, nothing declared
 abbrev pub opened : ℕ → Seen
 opened limit = record { limit = limit; state = from_start initial_setup }
 
--- the limit allows no more half-moves
+-- the game has as many half-moves as its limit allows
 abbrev pub is_full : Seen → Bool
 is_full g = nat_le g.limit (length g.state.moves)
 
@@ -77,21 +79,21 @@ is_full g = nat_le g.limit (length g.state.moves)
 abbrev pub refusal_now : Seen → Option PlayRefusal
 refusal_now g = if is_over g.state then Some Over else if is_full g then Some TooLong else None
 
--- why a move is not played, if it is not: the first reason
+-- why a move is refused, or none if it may be played; the first reason in this order
 abbrev pub play_refusal : Seen → Move → Option PlayRefusal
 play_refusal g m = option_or (refusal_now g) (if is_legal (current g.state) m then None else Some Illegal)
 
--- refused, if there is a reason
+-- what a call returns: `Ok` if there is no reason to refuse, else that reason
 abbrev pub unless_refused : {E : Type 0} → Option E → Result (Unit {0}) E
 unless_refused None = Ok tt
 unless_refused (Some e) = Err e
 
--- the game after a move, which is played unless there is a reason against it
+-- the game after move m was asked for: with the move, or unchanged if there was a reason to refuse it
 abbrev pub after_play : Seen → Move → Option PlayRefusal → Seen
 after_play g m None = at g (played g.state m)
 after_play g m (Some e) = g
 
--- the last move, if there is one
+-- the last of the moves, or the error that there is none
 abbrev pub last_move : List Move → Result Move NoMove
 last_move ms = by_end (slice_get ms (length ms - 1))
   where
@@ -99,23 +101,24 @@ last_move ms = by_end (slice_get ms (length ms - 1))
     by_end None = Err (record {})
     by_end (Some m) = Ok m
 
--- the game after its last move is taken back, if there is one
+-- the game without its last move and its declared result; unchanged if it has no move
 abbrev pub after_take_back : Seen → Seen
 after_take_back g = if nat_le 1 (length g.state.moves) then at g (taken_back g.state 1) else g
 
--- there is a verdict, and its outcome is another
+-- there is a verdict, and its outcome is not o
 abbrev pub is_other : Option Verdict → Outcome → Bool
 is_other verdict o = option_map_or (λ v. not (same_outcome (verdict_outcome v) o)) verdict false
 
--- the game after a result was declared, unless there is a verdict with another outcome
+-- the game after the result d was to be declared: with d, or unchanged if a verdict has another outcome
 abbrev pub after_declare : Seen → Declared → Seen
 after_declare g d = if is_other (verdict_now g.state) d.outcome then g else at g (with_declared g.state (Some d))
 
--- why a result is not declared, if it is not
+-- why a result with outcome o is refused, or none if it may be declared: a verdict has another outcome
 abbrev pub declare_refusal : Seen → Outcome → Option BoardSaysOtherwise
 declare_refusal g o = if is_other (verdict_now g.state) o then Some (record {}) else None
 
--- the line of a game is there from its start to its end, no longer than the limit, and no verdict came before its end
+-- what holds of every game: its start is sound, each move was legal where it was made, there are no more moves than the
+-- limit, and no verdict came before the last move
 pub record IsPlayable (g : Seen) : Type 0 where
   pub start : IsSound g.state.start
   pub line : IsLine g.state.start g.state.moves

@@ -13,36 +13,38 @@ use Rattle.chess_base.specs.Moves.{is_en_passant}
 use Rattle.chess_base.specs.MoveList.{moves}
 use Rattle.chess_game.specs.Line.{line, last}
 
--- pieces of the same kind and colour are there, or none is
+-- two squares have the same content: a piece of the same kind and colour, or none
 abbrev pub same_man : Option Man → Option Man → Bool
 same_man o r = option_eq (λ x y. same_colour x.colour y.colour && same_kind x.kind y.kind) o r
 
--- on each square
+-- on each square two boards have the same content
 unfoldable pub same_men : Men → Men → Bool
 same_men men others = each_square (λ s. same_man (man_at men s) (man_at others s))
 
--- it is the same square, or both are none
+-- two optional squares are equal: the same square, or both none
 abbrev pub same_square : Option ℕ → Option ℕ → Bool
 same_square o r = option_eq (λ s t. s == t) o r
 
--- the rights of a colour are the same
+-- the castling rights of one colour are equal in r and in q
 abbrev pub same_colour_rights : ColourRights → ColourRights → Bool
 same_colour_rights r q = same_square r.king_side q.king_side && same_square r.queen_side q.queen_side
 
--- the rights are the same
+-- the castling rights of both colours are equal in r and in q
 unfoldable pub same_rights : Rights → Rights → Bool
 same_rights r q = same_colour_rights r.white q.white && same_colour_rights r.black q.black
 
--- the target, where some legal move captures en passant on it; else none
+-- the en passant target, if some legal move captures on it; else none, since positions differ by a capture en passant
+-- only if it can be played
 unfoldable pub live_target : Setup → Option ℕ
 live_target p = if list_any (λ m. is_en_passant p m) (moves p) then p.target else None
 
--- the same side on move, the same pieces on the same squares, the same rights, and the same pawn to capture en passant;
--- clock and number make no difference
+-- two positions are the same: the same side on move, the same pieces on the same squares, the same castling rights, and
+-- the same pawn that may be captured en passant; clock and move number make no difference
 unfoldable pub same : Setup → Setup → Bool
 same p q = same_colour p.side q.side && same_men p.men q.men && same_rights p.rights q.rights
     && same_square (live_target p) (live_target q)
 
--- how many positions of the game, from its start to the present one, are the same as the present one
+-- how many positions of the game that went from `start` by the moves ms, from the start to the present one, are the
+-- same as the present one: 1 at its first occurrence
 unfoldable pub rep : Setup → List Move → ℕ
 rep start ms = count_by (λ p. same p (last start ms)) (line start ms)

@@ -12,7 +12,7 @@ use chess_base::{Colour, Kind, Man};
 use chess_moves::Board;
 use std::fmt;
 
-/// Why a game is over by its position and by its line, the first that holds in this order.
+/// Why a game is over by its position and its moves: the first reason that holds, in this order.
 #[derive(Clone, Copy, Debug, PartialEq, Eq)]
 pub enum Verdict {
     /// Black is mated (Laws of Chess 2023, article 5.1.1).
@@ -31,7 +31,7 @@ pub enum Verdict {
 }
 
 impl Verdict {
-    /// The outcome that it gives.
+    /// The outcome that it gives: a win of the side that mates, or a draw.
     pub fn outcome(self) -> Outcome
         ensures { result ≡ verdict_outcome self }
     {
@@ -45,7 +45,7 @@ impl Verdict {
         }
     }
 
-    /// What is said of it, such as `White mates`.
+    /// The comment on it, such as `White mates`.
     pub fn as_str(self) -> &'static str
         ensures value { result.now ≡ verdict_comment self }
         ensures short { length result.now ≤ 60 }
@@ -60,7 +60,7 @@ impl Verdict {
         }
     }
 
-    /// The same as the comment in braces after its outcome.
+    /// The comment on it as bytes, as in the braces of `1-0 {White mates}`.
     pub fn comment(self) -> &'static [u8]
         ensures value { result.now ≡ verdict_comment self }
         ensures short { length result.now ≤ 60 }
@@ -72,12 +72,13 @@ impl Verdict {
 impl fmt::Display for Verdict {
     ghost output = { λ v. Some (verdict_comment v) };
 
+    // Writes the comment on the verdict, such as `White mates`.
     fn fmt<W: fmt::Write>(&self, f: &mut fmt::Formatter<W>) -> fmt::Result {
         f.write_str(self.as_str())
     }
 }
 
-/// What the player on move may claim a draw by.
+/// By what the player on move may claim a draw.
 #[derive(Clone, Copy, Debug, PartialEq, Eq)]
 pub struct Claims {
     /// The position is there for at least the third time (Laws of Chess 2023, article 9.2).
@@ -86,7 +87,7 @@ pub struct Claims {
     pub fifty_moves: bool,
 }
 
-// The verdict that the side of that colour mates.
+// The verdict that the side of that colour has mated the other.
 pub(crate) fn mates(colour: Colour) -> Verdict
     ensures { result ≡ mates colour }
 {
@@ -96,6 +97,7 @@ pub(crate) fn mates(colour: Colour) -> Verdict
     }
 }
 
+// Whether a square's content is a piece of that kind, of either colour.
 fn is_kind(kind: Kind, man: Option<Man>) -> bool
     ensures { result ≡ is_kind kind man }
 {
@@ -105,12 +107,14 @@ fn is_kind(kind: Kind, man: Option<Man>) -> bool
     }
 }
 
+// Whether a square's content is a bishop or a knight, of either colour.
 fn is_minor(man: Option<Man>) -> bool
     ensures { result ≡ is_minor man }
 {
     is_kind(Kind::Bishop, man) || is_kind(Kind::Knight, man)
 }
 
+// The colour of the square with that number: a1 (0) is black.
 fn square_colour(number: u8) -> Colour
     requires { number < 64 }
     ensures { result ≡ square_colour number }
@@ -122,6 +126,7 @@ fn square_colour(number: u8) -> Colour
     }
 }
 
+// Whether some bishop, of either side, is on a square of that colour.
 #[tactic(auto, unfolding(crate::specs::Ends::has_bishop_on))]
 fn has_bishop_on(colour: Colour, men: &[Option<Man>; 64]) -> bool
     ensures { result ≡ has_bishop_on colour men.now }
@@ -134,7 +139,7 @@ fn has_bishop_on(colour: Colour, men: &[Option<Man>; 64]) -> bool
     is_found
 }
 
-// Whether a piece of that kind is on the board, of either colour.
+// Whether a piece of that kind, of either colour, is on the board.
 fn has_kind<B: Board>(board: &B, kind: Kind) -> bool
     requires { IsSound (B.position board.now) }
     ensures { result ≡ list_any (is_kind kind) (B.position board.now).men }
@@ -142,6 +147,7 @@ fn has_kind<B: Board>(board: &B, kind: Kind) -> bool
     !squares_of(board, kind).is_empty()
 }
 
+// Whether a pawn, rook or queen, of either colour, is on the board.
 #[tactic(auto, using(crate::proofs::SomeKind::by_kinds))]
 fn has_pawn_rook_or_queen<B: Board>(board: &B) -> bool
     requires { IsSound (B.position board.now) }
@@ -150,12 +156,14 @@ fn has_pawn_rook_or_queen<B: Board>(board: &B) -> bool
     has_kind(board, Kind::Pawn) || has_kind(board, Kind::Rook) || has_kind(board, Kind::Queen)
 }
 
+// Whether a knight, of either colour, is on the board.
 fn has_knight(men: &[Option<Man>; 64]) -> bool
     ensures { result ≡ list_any (is_kind Kind.Knight) men.now }
 {
     men.iter().any(|man| is_kind(Kind::Knight, *man))
 }
 
+// How many bishops and knights, of both colours, are on the board.
 fn minor_count(men: &[Option<Man>; 64]) -> usize
     ensures { result ≡ count_by is_minor men.now }
 {

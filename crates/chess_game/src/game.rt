@@ -25,7 +25,7 @@ use std::marker::Model;
 /// The most half-moves that a game can be opened for.
 pub const MOST_MOVES: u32 = 20_000;
 
-/// Why a move is not played.
+/// Why a move is refused; the first reason in this order.
 #[derive(Clone, Copy, Debug, PartialEq, Eq, thiserror::Error)]
 pub enum PlayRefusal {
     /// The game is over, by a verdict or a declared result.
@@ -39,17 +39,18 @@ pub enum PlayRefusal {
     Illegal,
 }
 
-/// No move is current that could be taken back.
+/// The error that the game has no move that could be taken back.
 #[derive(Clone, Copy, Debug, PartialEq, Eq, thiserror::Error)]
 #[error("no move stands")]
 pub struct NoMove;
 
-/// The verdict on the game has another outcome than the one to be declared.
+/// The error that there is a verdict on the game with another outcome than the one to be declared.
 #[derive(Clone, Copy, Debug, PartialEq, Eq, thiserror::Error)]
 #[error("the verdict on the game has another outcome")]
 pub struct BoardSaysOtherwise;
 
-// A move that was played: what it did not keep, the position that it gave, and the entry of that in the index.
+// A move that was played, with what was saved to take it back, the position that it reached, and the entry of this
+// position in the index.
 #[derive(Drop)]
 pub(crate) struct PlayedMove {
     pub(crate) made: Move,
@@ -59,7 +60,7 @@ pub(crate) struct PlayedMove {
 }
 
 /// A game of at most `limit` half-moves on a board. In contracts it is its limit and its state: the start, the current
-/// moves, and what was declared.
+/// moves (those not taken back), and the result that was declared, if one was.
 #[derive(Drop)]
 pub struct Game<B: Board> {
     board: B,
@@ -90,7 +91,7 @@ impl<B: Board> Model for Game<B> {
         × IsIndexed g.index.heads.items g.start g.played_moves.items };
 }
 
-// How many positions from the start on are the same as the present one: the count of the last played move.
+// How many positions from the start on are the same as the present one: the last played move has that count.
 fn repetitions(played_moves: &[PlayedMove]) -> u32
     ensures { (start : Hashed) → Follows start.position played_moves.now → HaveEntries start played_moves.now
         → result ≡ rep start.position (moves_of played_moves.now) }
@@ -102,7 +103,8 @@ fn repetitions(played_moves: &[PlayedMove]) -> u32
     }
 }
 
-// The verdict on the game of that board and those played moves, where there is a legal move.
+// The verdict on the game of that board and those played moves, given that there is a legal move: so neither mate nor
+// stalemate has to be looked for.
 #[tactic(auto, unfolding(crate::specs::Ends::verdict))]
 #[inline(always)]
 fn verdict_of_moving<B: Board>(board: &B, played_moves: &[PlayedMove]) -> Option<Verdict>
@@ -121,7 +123,7 @@ fn verdict_of_moving<B: Board>(board: &B, played_moves: &[PlayedMove]) -> Option
     }
 }
 
-// The verdict on the game of that board and those played moves.
+// The verdict on the game of that board and those played moves, if there is one.
 #[tactic(auto, unfolding(crate::specs::Ends::verdict))]
 fn verdict_on<B: Board>(board: &B, played_moves: &[PlayedMove]) -> Option<Verdict>
     ensures { (start : Hashed) → IsKept B.word_of start played_moves.now (B.position board.now)
@@ -137,10 +139,10 @@ fn verdict_on<B: Board>(board: &B, played_moves: &[PlayedMove]) -> Option<Verdic
 }
 
 impl<B: Board + Drop> Game<B> {
-    /// The initial position with no moves, wherever the board was. All memory is taken here.
+    /// Opens a game at the initial position with no moves, wherever the board was. All memory is allocated here.
     ///
     /// # Errors
-    /// Where there is no memory; what was taken is given back, and the board is dropped.
+    /// If there is no memory; what was allocated is freed, and the board is dropped.
     pub fn open(alloc: Global, mut board: B, limit: u32) -> Result<Self, AllocError>
         requires some { 1 ≤ limit }
         requires few { limit ≤ MOST_MOVES }
@@ -163,7 +165,7 @@ impl<B: Board + Drop> Game<B> {
 }
 
 impl<B: Board> Game<B> {
-    /// Begins anew from a start: no moves, nothing declared.
+    /// Begins a new game from that position: no moves, nothing declared.
     pub fn restart(&mut self, start: &Position)
         ensures { self.new ≡ at self.old (from_start start.now) }
     {
@@ -205,7 +207,7 @@ impl<B: Board> Game<B> {
         Ok(())
     }
 
-    /// Plays a move that is known to be legal, where the game is neither over nor full.
+    /// Plays a move that is known to be legal, in a game that is neither over nor full.
     #[inline(always)]
     pub fn play_legal(&mut self, m: Move)
         requires { play_refusal self.old m ≡ None }
@@ -236,10 +238,10 @@ impl<B: Board> Game<B> {
         }
     }
 
-    /// Takes the last move back and clears what was declared; gives the move.
+    /// Takes the last move back, clears what was declared, and returns the move.
     ///
     /// # Errors
-    /// Where no move is current. The game stays as it was.
+    /// If there is no move. The game stays as it was.
     pub fn take_back(&mut self) -> Result<Move, NoMove>
         ensures answer { result ≡ last_move self.old.state.moves }
         ensures game { self.new ≡ after_take_back self.old }
@@ -264,10 +266,10 @@ impl<B: Board> Game<B> {
         }
     }
 
-    /// Declares a result, in place of what was declared before.
+    /// Declares a result, as after a resignation, in place of what was declared before.
     ///
     /// # Errors
-    /// Where there is a verdict with another outcome. The game stays as it was.
+    /// If there is a verdict with another outcome. The game stays as it was.
     pub fn declare(&mut self, outcome: Outcome, comment: Comment) -> Result<(), BoardSaysOtherwise>
         ensures answer { result ≡ unless_refused (declare_refusal self.old outcome) }
         ensures game { self.new ≡ after_declare self.old (record { outcome = outcome; comment = comment }) }
@@ -299,7 +301,7 @@ impl<B: Board> Game<B> {
         self.declared = Some(declared);
     }
 
-    /// Forgets what was declared.
+    /// Clears the declared result.
     pub fn clear_declared(&mut self)
         ensures { self.new ≡ at self.old (with_declared self.old.state None) }
     {
@@ -313,7 +315,7 @@ impl<B: Board> Game<B> {
         self.start.position.unpacked()
     }
 
-    /// The present position: the one that the start and the current moves give.
+    /// The present position: the one that the current moves lead to from the start.
     pub fn position(&self) -> Position
         ensures value { result ≡ current self.now.state }
         ensures playable { IsPlayable self.now }
@@ -335,14 +337,14 @@ impl<B: Board> Game<B> {
         }
     }
 
-    /// How many half-moves are current.
+    /// How many half-moves the game has.
     pub fn ply(&self) -> usize
         ensures { result ≡ length self.now.state.moves }
     {
         self.played_moves.len()
     }
 
-    /// The half-move with that number, from 0 on.
+    /// The half-move with that number, counted from 0.
     pub fn move_at(&self, ply: usize) -> Move
         requires { ply < length self.now.state.moves }
         ensures { slice_get self.now.state.moves ply ≡ Some result }
@@ -365,7 +367,7 @@ impl<B: Board> Game<B> {
         repetitions(self.played_moves.as_slice())
     }
 
-    /// What the player on move may claim a draw by.
+    /// By what the player on move may claim a draw.
     pub fn claims(&self) -> Claims
         ensures { result ≡ claims self.now.state.start self.now.state.moves }
     {
@@ -375,14 +377,16 @@ impl<B: Board> Game<B> {
         }
     }
 
-    /// Why the game is over by its board and its line, if it is.
+    /// Why the game is over by its position and its moves (mate, stalemate, bare material, fivefold repetition, 75
+    /// moves), if it is.
     pub fn verdict(&self) -> Option<Verdict>
         ensures { result ≡ verdict_now self.now.state }
     {
         verdict_on(&self.board, self.played_moves.as_slice())
     }
 
-    /// The verdict, found with the help of a legal move: where there is one, there is neither mate nor stalemate.
+    /// The verdict, given some legal move `m` of the present position: so neither mate nor stalemate has to be looked
+    /// for.
     #[inline(always)]
     pub fn verdict_of_moving(&self, m: &Move) -> Option<Verdict>
         requires { IsTrue (is_legal (current self.now.state) m.now) }
@@ -391,14 +395,14 @@ impl<B: Board> Game<B> {
         verdict_of_moving(&self.board, self.played_moves.as_slice())
     }
 
-    /// What was declared, if it still holds.
+    /// The declared result, if there is one.
     pub fn declared(&self) -> Option<&Declared>
         ensures { option_map (λ d. d.now) result ≡ self.now.state.declared }
     {
         self.declared.as_ref()
     }
 
-    /// The outcome of the verdict, else the one that was declared, else `Unfinished`.
+    /// The outcome of the verdict, else of the declared result, else `Unfinished`.
     pub fn outcome(&self) -> Outcome
         ensures { result ≡ outcome_now self.now.state }
     {
@@ -451,7 +455,7 @@ impl<B: Board> Game<B> {
         self.refusal_by(self.declared.is_some() || self.verdict_of_moving(m).is_some())
     }
 
-    /// Whether as many half-moves are current as the limit allows.
+    /// Whether the game has as many half-moves as its limit allows.
     pub fn is_full(&self) -> bool
         ensures value { result ≡ is_full self.now }
         ensures few { result ≡ false → length self.now.state.moves < MOST_MOVES }

@@ -20,7 +20,7 @@ use std::alloc::{AllocError, Global};
 // How many buckets there are.
 const BUCKETS: usize = 32_768;
 
-// What the index keeps of a played move.
+// What the index keeps for a position that a played move reached.
 #[derive(Clone, Copy, PartialEq, Eq)]
 pub(crate) struct Entry {
     // The latest earlier position in the bucket of this one.
@@ -29,13 +29,13 @@ pub(crate) struct Entry {
     pub(crate) count: u32,
 }
 
-// The heads of the buckets.
+// The index: for each bucket its head, the number plus one of the latest position in it, or 0.
 #[derive(Drop)]
 pub(crate) struct Index {
     heads: Vec<u16>,
 }
 
-// The number of a position's bucket.
+// The number of the bucket that a position is put into, by its hash.
 fn bucket(known: &Hashed) -> usize
     ensures value { result ≡ bucket known.now }
     ensures low { result < BUCKETS }
@@ -43,8 +43,8 @@ fn bucket(known: &Hashed) -> usize
     (known.word % BUCKETS as u64) as usize
 }
 
-// The number of the first position of a game that can be the same as the one that a further move gave: no position from
-// before the last capture or pawn move can.
+// The number of the earliest position of the game that can be the same as `now`, which one more move gave: none from
+// before the last capture or pawn move can, and the halfmove clock gives that.
 fn oldest(played_moves: &[PlayedMove], now: &Hashed) -> usize
     requires { IsKnown now.now }
     ensures { (start : Hashed) → Follows start.position played_moves.now → IsNext start played_moves.now now.now → (k : ℕ)
@@ -68,9 +68,8 @@ fn oldest(played_moves: &[PlayedMove], now: &Hashed) -> usize
     }
 }
 
-// How many positions are the same as the one that a further move of a game gave, itself among them. The search follows
-// the links from the head of its bucket to the latest position that is the same, whose played move has the count up
-// to it.
+// How many positions of the game are the same as `now`, which one more move gave, itself included. From the head of its
+// bucket the search follows the links back to the latest position that is the same, and adds one to its count.
 fn count_same(head: u16, start: &Hashed, played_moves: &[PlayedMove], now: &Hashed) -> u32
     requires start { IsKnown start.now }
     requires now { IsKnown now.now }
@@ -107,7 +106,7 @@ fn count_same(head: u16, start: &Hashed, played_moves: &[PlayedMove], now: &Hash
 }
 
 impl Index {
-    // The index of no positions. Its heads are all the memory that it takes.
+    // An index without positions. Its heads are all the memory that it allocates.
     pub(crate) fn open(alloc: Global) -> Result<Self, AllocError>
         ensures { IfOk result (λ x. IsEmpty x.heads.items) }
     {
@@ -124,7 +123,7 @@ impl Index {
         self.heads[bucket(start)] = 1;
     }
 
-    // Adds the position that a further move of a game gave, and returns the entry of its played move.
+    // Adds the position `reached`, which one more move gave, and returns its entry.
     pub(crate) fn push(
         &mut self,
         start: &Hashed,
@@ -151,7 +150,7 @@ impl Index {
         }
     }
 
-    // Removes the latest position from its bucket, whose head is then the one before it there.
+    // Removes the latest position from its bucket; the bucket's head is then the position that its entry links to.
     fn remove(&mut self, played_move: &PlayedMove)
         requires { length self.old.heads.items ≡ BUCKETS }
         ensures { self.new.heads.items ≡ set self.old.heads.items (bucket played_move.now.reached) played_move.now.entry.earlier }
@@ -159,7 +158,7 @@ impl Index {
         self.heads[bucket(&played_move.reached)] = played_move.entry.earlier;
     }
 
-    // Removes the last position of a game, which that played move reached.
+    // Removes the last position of a game, the one that this played move reached.
     pub(crate) fn pop(&mut self, played_move: &PlayedMove)
         requires { (start : Hashed) × (xs : List PlayedMove) × IsIndexed self.old.heads.items start (xs ++ played_move.now ∷ []) }
         ensures { (start : Hashed) (xs : List PlayedMove) → IsIndexed self.old.heads.items start (xs ++ played_move.now ∷ [])
@@ -168,7 +167,7 @@ impl Index {
         self.remove(played_move);
     }
 
-    // Removes all positions of a game: a step for each, however many buckets there are.
+    // Removes all positions of a game, one by one, so it takes no longer for more buckets.
     pub(crate) fn clear(&mut self, start: &Hashed, played_moves: &[PlayedMove])
         requires { IsIndexed self.old.heads.items start.now played_moves.now }
         ensures { IsEmpty self.new.heads.items }

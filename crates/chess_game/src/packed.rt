@@ -13,7 +13,7 @@ use chess_base::{Colour, Kind, Man, Position, Rights, Setup, Square, Variant};
 use chess_moves::{Board, SquareSet};
 use std::marker::Model;
 
-// The pieces as sets of squares: White's, and those of each kind, of both colours.
+// The pieces as seven sets of squares: White's pieces, and for each kind the pieces of both colours.
 #[derive(Clone, Copy)]
 pub(crate) struct PackedMen {
     white: SquareSet,
@@ -25,7 +25,7 @@ pub(crate) struct PackedMen {
     pawns: SquareSet,
 }
 
-// The squares of both colours' pieces of a kind.
+// The squares of the pieces of that kind, of both colours.
 #[tactic(auto, using(crate::proofs::SomeKind::of_colours))]
 #[inline(always)]
 pub(crate) fn squares_of<B: Board>(board: &B, kind: Kind) -> SquareSet
@@ -56,7 +56,7 @@ fn white_squares<B: Board>(board: &B) -> SquareSet
         .union(pawns)
 }
 
-// The squares that are in one of two sets alone.
+// The squares that are in exactly one of the two sets.
 fn difference(these: SquareSet, those: SquareSet) -> SquareSet
     ensures { (k : ℕ) → k < 64
         → has result k ≡ ((has these k && not (has those k)) || (has those k && not (has these k))) }
@@ -65,7 +65,7 @@ fn difference(these: SquareSet, those: SquareSet) -> SquareSet
 }
 
 impl PackedMen {
-    // The pieces of a board's position.
+    // The pieces of the board's position.
     #[inline(always)]
     fn of<B: Board>(board: &B) -> Self
         ensures { ArePacked result (B.position board.now).men }
@@ -81,7 +81,7 @@ impl PackedMen {
         }
     }
 
-    // The kind of the piece on a square, if one is there.
+    // The kind of the piece on that square, if there is one.
     fn kind_at(&self, square: Square) -> Option<Kind>
         ensures { result ≡ kind_in self.now square }
     {
@@ -102,7 +102,7 @@ impl PackedMen {
         }
     }
 
-    // The colour of the piece on a square, where one is there.
+    // The colour of the piece on that square; Black also if the square is empty.
     fn colour_at(&self, square: Square) -> Colour
         ensures { result ≡ colour_in self.now square }
     {
@@ -113,7 +113,7 @@ impl PackedMen {
         }
     }
 
-    // The piece on a square, if there is one.
+    // The piece on that square, or none.
     #[tactic(auto, unfolding(crate::specs::ties::Packed::man_in))]
     fn man_at(&self, square: Square) -> Option<Man>
         ensures { result ≡ man_in self.now square }
@@ -123,7 +123,7 @@ impl PackedMen {
         Some(Man { colour, kind })
     }
 
-    // The pieces on all squares.
+    // The pieces on all 64 squares, as a list by squares.
     fn unpacked(&self) -> [Option<Man>; 64]
         ensures { result ≡ men_in self.now }
     {
@@ -135,7 +135,7 @@ impl PackedMen {
         men
     }
 
-    // The squares on which the pieces differ from others.
+    // The squares whose content differs from that of the other pieces.
     #[tactic(auto, using(crate::proofs::AsSets::differ_at))]
     fn differing(&self, other: &PackedMen) -> SquareSet
         requires this { ArePacked self.now (men_in self.now) }
@@ -203,7 +203,7 @@ impl Model for PackedPosition {
 }
 
 impl PackedPosition {
-    /// The position of a board.
+    /// The position of the board, packed.
     #[tactic(auto, using(crate::proofs::AsSets::men_back, crate::proofs::AsSets::packed_back))]
     #[inline(always)]
     pub(crate) fn of<B: Board>(board: &B) -> Self
@@ -222,7 +222,7 @@ impl PackedPosition {
         }
     }
 
-    /// The position itself.
+    /// The position with its pieces by squares again.
     pub(crate) fn unpacked(&self) -> Position
         ensures { result ≡ self.now }
     {
@@ -259,7 +259,7 @@ impl PackedPosition {
         self.halfmove
     }
 
-    /// Whether the same pieces are on the same squares.
+    /// Whether each square has the same content as in the other position.
     #[tactic(auto, using(crate::proofs::AsSets::same_where_none))]
     pub(crate) fn same_men(&self, other: &PackedPosition) -> bool
         ensures { result ≡ same_men self.now.men other.now.men }

@@ -13,7 +13,7 @@ use chess_base::rules::is_en_passant;
 use chess_base::{ColourRights, Kind, Move, Rights, Square};
 use chess_moves::Board;
 
-// A position, packed, with its live target and its hash, which are found once.
+// A position, packed, with its hash, and its en passant target if a legal move captures on it; both are computed once.
 #[derive(Drop)]
 pub(crate) struct Hashed {
     pub(crate) position: PackedPosition,
@@ -22,8 +22,8 @@ pub(crate) struct Hashed {
 }
 
 impl Hashed {
-    // The position of a board. Its sets are packed last, since the target is rarely live: nothing is then kept through
-    // the search for a capture.
+    // The position of the board, hashed and packed. It is packed last, since there is rarely a target that can be
+    // captured on: nothing has then to be kept through the search for a capture.
     #[inline(always)]
     pub(crate) fn on<B: Board>(board: &B) -> Self
         ensures position { result.position ≡ B.position board.now }
@@ -39,7 +39,7 @@ impl Hashed {
         }
     }
 
-    // Whether the hashes of the two positions differ; then these are not the same.
+    // Whether the hashes of the two positions differ; if they do, the positions are not the same.
     fn hash_differs(&self, other: &Hashed) -> bool
         requires { ShareHashing self.now other.now }
         ensures { result ≡ true → same self.now.position other.now.position ≡ false }
@@ -80,7 +80,7 @@ impl Hashed {
     }
 }
 
-// The target, where some legal move captures en passant on it.
+// The en passant target, if some legal move captures on it; else none.
 #[inline(always)]
 #[tactic(auto, unfolding(crate::specs::Same::live_target))]
 fn live_target<B: Board>(board: &B) -> Option<Square>
@@ -94,8 +94,8 @@ fn live_target<B: Board>(board: &B) -> Option<Square>
     }
 }
 
-// Whether some legal move captures en passant on the target. Few positions have a target, so it is kept out of what
-// calls it.
+// Whether some legal move captures en passant on that target. Few positions have a target, so this is kept out of the
+// code that calls it.
 #[inline(never)]
 fn is_captured_on<B: Board>(board: &B, target: Square) -> bool
     requires { (B.position board.now).target ≡ Some target }
@@ -112,7 +112,7 @@ fn is_captured_on<B: Board>(board: &B, target: Square) -> bool
     false
 }
 
-// Whether a legal move from there captures en passant there.
+// Whether the move from `from` to `to` is a legal capture en passant.
 fn captures_from<B: Board>(board: &B, from: Square, to: Square) -> bool
     ensures { result ≡ captures_legally (B.position board.now) to from }
 {
@@ -124,6 +124,7 @@ fn captures_from<B: Board>(board: &B, from: Square, to: Square) -> bool
     is_en_passant(board.setup(), &m) && board.is_legal(&m)
 }
 
+// Whether two optional squares are equal: the same square, or both none.
 fn same_square(this: Option<Square>, that: Option<Square>) -> bool
     ensures { result ≡ same_square this that }
 {
@@ -134,12 +135,14 @@ fn same_square(this: Option<Square>, that: Option<Square>) -> bool
     }
 }
 
+// Whether the castling rights of one colour are equal in two positions.
 fn same_colour_rights(this: &ColourRights, that: &ColourRights) -> bool
     ensures { result ≡ same_colour_rights this.now that.now }
 {
     same_square(this.king_side, that.king_side) && same_square(this.queen_side, that.queen_side)
 }
 
+// Whether the castling rights of both colours are equal in two positions.
 #[tactic(auto, unfolding(crate::specs::Same::same_rights))]
 fn same_rights(this: &Rights, that: &Rights) -> bool
     ensures { result ≡ same_rights this.now that.now }

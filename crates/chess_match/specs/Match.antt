@@ -20,7 +20,8 @@ use Rattle.chess_match.specs.declared.reason.Reason.{Reason}
 use Rattle.chess_match.specs.declared.reason.Reason.TheVariants.{Decided, Claimed, Agreed, MovesIllegally, MovesOutOfTurn, ClaimsFalsely, RejectsLegalMove, Forfeits, ForfeitsToBareKing, GameTooLong, Faulted}
 use Rattle.chess_match.specs.declared.reason.Reason.TheVariants as over_by
 
--- what happens at the devices. A line that was too long has no text
+-- what happens in a match: a line comes from an engine, a turn's lines were sent, or a device ends or fails. A moment
+-- is a time of the clock in milliseconds
 pub data Event : Type 0 where
   -- that side's engine sent a line; the moment was asked for after it
   Line : (side : Colour) → (text : Option (List ℕ)) → (moment : ℕ) → Event
@@ -31,7 +32,7 @@ pub data Event : Type 0 where
   FailsToRead : (side : Colour) → Event
   FailsToWrite : (side : Colour) → Event
 
--- what is known of one engine
+-- what is known of one side's engine
 pub record Seat : Type 0 where
   -- the items that were read in its handshake
   pub items : List Item
@@ -40,8 +41,7 @@ pub record Seat : Type 0 where
   -- its offer of a draw is open
   pub offers : Bool
 
--- what is known of a match. Its phase is a side's handshake, setup or opening, before its move or after it; or it is
--- over, and why
+-- the state of a match: what it waits for (`phase`), what is known of both engines, and the moves played
 pub record Match : Type 0 where
   pub phase : Phase
   pub white : Seat
@@ -54,7 +54,7 @@ pub record Match : Type 0 where
   -- the moment at the end of the turn's opening
   pub opened : ℕ
 
--- what is known of S's engine
+-- what is known of the engine of the side `S`
 abbrev pub seat : Match → Colour → Seat
 seat m S = by_colour m.white m.black S
 
@@ -67,41 +67,42 @@ with_seat Black change m = record m { black = change m.black }
 abbrev pub vacant : Seat
 vacant = record { items = []; used = []; offers = false }
 
--- before any line: White's handshake
+-- a match before its first event: White's handshake is awaited
 abbrev pub start : Match
 start =
     record { phase = Hello White; white = vacant; black = vacant; played = []; unsent_to = None; count = 0; opened = 0 }
 
 -- ---- ways to go on
 
--- the match is over for that reason
+-- the match ended for this reason
 abbrev pub over : Reason → Match → Match
 over reason m = record m { phase = Over reason }
 
--- a phase in which lines are counted anew
+-- the match in its next phase, in which lines are counted from 0
 abbrev pub enter : Phase → Match → Match
 enter phase m = record m { phase = phase; count = 0 }
 
--- that side's turn: its opening has the last move
+-- the match when the turn of the side `S` begins: it is sent the last move
 abbrev pub open_turn : Colour → Match → Match
 open_turn S m = record m { phase = SendTurn S; count = 0; unsent_to = None }
 
--- the line counts as ignored, and the 10,000th is too many
+-- the match after a line of the side `S` that is ignored; the 10,000th in one setup or turn ends it
 abbrev pub ignore : Colour → Match → Match
 ignore S m = if nat_le 10000 (m.count + 1) then over (Faulted S Flood) m else record m { count = m.count + 1 }
 
 -- ---- handshake
 
--- the items of a line: those of a `feature` line alone
+-- the items of a line, if it is a `feature` line
 abbrev pub items_of_line : LineKind → List Item
 items_of_line (Features text) = items_of text
 items_of_line _ = []
 
--- S's engine said these items more
+-- the match after a `feature` line of the side `S` with these items
 abbrev pub hear : Colour → List Item → Match → Match
 hear S items m = with_seat S (λ s. record s { items = s.items ++ items }) m
 
--- what an engine lacks by the items that it said, if anything: ping; setboard, where a start is sent; the variant
+-- what an engine with these items lacks for the match, if anything: `ping=1`; `setboard=1`, if a start is sent;
+-- `fischerandom` among its variants, for Chess960
 abbrev pub lack : Rules → List Item → Option MatchFault
 lack r items =
     if not (takes (codes "ping") items) then Some NoPing
@@ -109,18 +110,19 @@ lack r items =
     else if is_fischerandom r.variant && not (plays_fischerandom items) then Some NoVariant
     else None
 
--- after both handshakes White is judged, then Black
+-- the match after both handshakes, by what White's and Black's engine lack: the first that lacks something ends it
 abbrev pub judged : Option MatchFault → Option MatchFault → Match → Match
 judged (Some f) _ m = enter (Over (Faulted White f)) m
 judged None (Some f) m = enter (Over (Faulted Black f)) m
 judged None None m = enter (Setup White) m
 
--- S's handshake ended: after White's comes Black's, and after Black's both are judged
+-- the match after the handshake of the side `S`: Black's comes after White's, and then both are judged
 abbrev pub greeted : Rules → Colour → Match → Match
 greeted r White m = enter (Hello Black) m
 greeted r Black m = judged (lack r m.white.items) (lack r m.black.items) m
 
--- `done=1` ends the handshake; else the thousandth line is the last
+-- the match after a line of the side `S` in its handshake, with these items: `done=1` ends the handshake; without it
+-- the 1,000th line ends the match
 unfoldable pub hello_line : Rules → Colour → List Item → Match → Match
 hello_line r S items m =
     if has_done items then greeted r S (hear S items m)
@@ -129,23 +131,23 @@ hello_line r S items m =
 
 -- ---- setup
 
--- a verdict ends the match m; without one it goes on as m'
+-- the match `m'`; but if the board has a verdict, the match `m`, ended by it
 abbrev pub unless_decided : Option Verdict → Match → Match → Match
 unless_decided verdict m m' = option_map_or (λ v. over (Decided v) m) verdict m'
 
--- S answered its first ping: after White's setup comes Black's, and after Black's the game begins
+-- the match after the side `S` answered `ping 1`: Black's setup comes after White's, and then the game begins
 abbrev pub ready : Rules → Colour → Match → Match
 ready r White m = enter (Setup Black) m
 ready r Black m = unless_decided (r.verdict m.played) m (open_turn r.first m)
 
--- the answer to ping 1 ends a setup; any other line counts as ignored
+-- the match after a line of the side `S` in its setup: `pong 1` ends the setup, any other line is ignored
 unfoldable pub setup_line : Rules → Colour → LineKind → Match → Match
 setup_line r S (Answers n) m = if n == 1 then ready r S m else ignore S m
 setup_line r S _ m = ignore S m
 
 -- ---- turns
 
--- the milliseconds that S has left
+-- the milliseconds that the side `S` has left
 abbrev pub clock : Rules → Match → Colour → ℕ
 clock r m S = left r.level (length (seat m S).used) (sum (seat m S).used)
 
@@ -156,29 +158,31 @@ played_by S move used m =
     let m' = with_seat (other S) (λ s. record s { offers = false }) charged in
     record m' { phase = AwaitPong S; played = m.played ++ move ∷ []; unsent_to = Some (other S) }
 
--- a text that doesn't denote one legal move loses; a legal move is played, and the verdict after it, if there is one,
--- ends the match
+-- the match after the line `move M` of the side `S`, by the legal move that M denotes: without one `S` loses; else it
+-- is played, and a verdict of the board ends the match. `moment` is when the line came
 abbrev pub move_row : Rules → Colour → Option Move → ℕ → Match → Match
 move_row r S None moment m = over (MovesIllegally S) m
 move_row r S (Some move) moment m =
     let m' = played_by S move (moment - m.opened) m in unless_decided (r.verdict m'.played) m' m'
 
--- where the other's offer is open the draw is agreed; where S's own is the line counts as ignored; else S's is opened
+-- the match after the side `S` offered a draw: agreed if the other's offer is open; ignored if its own is; else its
+-- offer is open from now on
 abbrev pub offer_row : Colour → Match → Match
 offer_row S m =
     if (seat m (other S)).offers then over Agreed m
     else if (seat m S).offers then ignore S m
     else with_seat S (λ s. record s { offers = true }) m
 
--- a draw that may be claimed ends the match; else the claim is an offer
+-- the match after the side `S` sent `1/2-1/2`: a draw, if one may be claimed, else an offer
 abbrev pub draw_row : Option DrawClaim → Colour → Match → Match
 draw_row claim S m = option_map_or (λ c. over (Claimed c) m) claim (offer_row S m)
 
--- a move was ever sent to S: the other has moved, since S's opening has the other's last move
+-- whether the side `S` was ever sent a move: whether the other side has made one
 abbrev pub was_sent_move : Match → Colour → Bool
 was_sent_move m S = nat_lt 0 (length (seat m (other S)).used)
 
--- the rows that are alike before the move and after it
+-- the match after a line of the side `S` that means the same before its move and after it, such as `resign` or
+-- `offer draw`
 abbrev pub either_way : Rules → Colour → LineKind → Match → Match
 either_way r S Resigns m = over (over_by.Resigns S) m
 either_way r S OffersDraw m = offer_row S m
@@ -187,25 +191,27 @@ either_way r S (ClaimsWin c) m = if same_colour c S then over (ClaimsFalsely S) 
 either_way r S Rejects m = if was_sent_move m S then over (RejectsLegalMove S) m else ignore S m
 either_way r S _ m = ignore S m
 
--- a line before the move, in time: where the limit allows no more half-moves a move ends the match
+-- the match after a line of the side `S`, of which a move is awaited, and which has time left: a move is played, or
+-- ends the match if the game has no room for it. `moment` is when the line came
 abbrev pub before_row : Rules → Colour → LineKind → ℕ → Match → Match
 before_row r S (Moves text) moment m =
     if nat_le r.limit (length m.played) then over GameTooLong m else move_row r S (r.reading m.played text) moment m
 before_row r S kind moment m = either_way r S kind m
 
--- the flag is judged first: a side that used more time than it had left loses, or draws if the other has its king alone
--- (Laws of Chess 2023, article 6.9, of whose draws only this one is judged)
+-- the match after a line of the side `S`, of which a move is awaited. If `S` used more time than it had left, it
+-- loses, but draws against a bare king (Laws of Chess 2023, article 6.9, of whose draws only this one is judged)
 unfoldable pub before_line : Rules → Colour → LineKind → ℕ → Match → Match
 before_line r S kind moment m =
     if nat_lt (clock r m S) (moment - m.opened)
     then (if r.has_bare_king m.played (other S) then over ForfeitsToBareKing m else over (Forfeits S) m)
     else before_row r S kind moment m
 
--- the number of the ping that S is to answer: 1 in its setup, and one more for each of its moves
+-- the number of the `ping` that the side `S` is to answer: 1 in its setup, then one more after each of its moves
 abbrev pub ping_number : Match → Colour → ℕ
 ping_number m S = length (seat m S).used + 1
 
--- a line after the move: another move loses, and the answer to the last ping gives the other side its turn
+-- the match after a line of the side `S`, which has moved and is to answer the `ping`: that answer gives the other
+-- side its turn, and another move loses
 unfoldable pub after_line : Rules → Colour → LineKind → Match → Match
 after_line r S (Moves _) m = over (MovesOutOfTurn S) m
 after_line r S (Answers n) m = if n == ping_number m S then open_turn (other S) m else ignore S m
@@ -213,7 +219,8 @@ after_line r S kind m = either_way r S kind m
 
 -- ---- one event
 
--- the match after a line of that kind, by its phase; in an opening or at the end nothing is read
+-- the match after a line of this kind, by the phase that it is in; while a turn is opened, or at the end, no line is
+-- read
 abbrev pub after_kind : Rules → Phase → LineKind → ℕ → Match → Match
 after_kind r (Hello S) kind moment m = hello_line r S (items_of_line kind) m
 after_kind r (Setup S) kind moment m = setup_line r S kind m

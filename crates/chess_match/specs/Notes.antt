@@ -8,7 +8,7 @@ use Rattle.chess_match.specs.Rules.{Rules}
 use Rattle.chess_match.specs.Sent.{SentLine, entry, bytes_of}
 use Rattle.chess_match.specs.Transcript.{is_on, block_at, joined_blocks}
 
--- one note
+-- what a witness (such as the log) is given: an event, or the bytes that an engine is sent
 pub data Note : Type 0 where
   -- an event of the transcript
   Happened : (event : Event) → Note
@@ -17,12 +17,12 @@ pub data Note : Type 0 where
 
 -- ---- the notes of a transcript
 
--- the note of a block: none of an empty one
+-- the note of what the side `S` is sent, as a list of one; empty if it is sent nothing
 abbrev pub given_note : Colour → List ℕ → List Note
 given_note S [] = []
 given_note S (b ∷ bs) = Gives S (b ∷ bs) ∷ []
 
--- the notes of both engines' lines, S's first
+-- the notes of what both sides are sent, that of the side `S` first
 abbrev pub both_notes : Colour → (Colour → List SentLine) → List Note
 both_notes S lines = given_note S (bytes_of (lines S)) ++ given_note (other S) (bytes_of (lines (other S)))
 
@@ -31,24 +31,23 @@ abbrev pub first_sent : Match → Event → Colour
 first_sent m (Line S text moment) = if is_on m.phase then S else White
 first_sent m _ = White
 
--- the notes of these events, from the match m on: each event, and then the blocks that it gives
+-- the notes of these events, from the state `m` on: each event, and then what the engines are sent at it
 abbrev pub notes_from : Rules → Match → List Event → List Note
 notes_from r m [] = []
 notes_from r m (e ∷ es) =
     Happened e ∷ (both_notes (first_sent (after r m e) e) (λ S. joined_blocks (block_at r m e es S))
     ++ notes_from r (after r m e) es)
 
--- the notes of a transcript: before all events White's first lines
+-- the notes of the match of the transcript `T`: what White is sent first, and then those of each event
 abbrev pub notes_of : Rules → List Event → List Note
 notes_of r T = both_notes White (λ S. entry r start S) ++ notes_from r start T
 
 -- ---- a witness
 
--- which notes a witness may have been given, after a text that it held before
+-- what contracts see of a witness: whether, after a text that it held before, it may have been given these notes
 abbrev pub Noted : Type 1
 Noted = List ℕ → List Note → Type 0
 
--- from the one state to the other a witness was given these notes, in their order and after all that it was given
--- before
+-- between two states a witness was given the notes `more`, in order, after all that it was given before
 pub record WasNoted (old new : Noted) (more : List Note) : Type 0 where
   pub extends : (before : List ℕ) (notes : List Note) → old before notes → new before (notes ++ more)

@@ -22,20 +22,20 @@ abbrev pub by_colour : {A : Type 0} → A → A → Colour → A
 by_colour white black White = white
 by_colour white black Black = black
 
--- a side, as a comment names it
+-- a side's name in comments
 abbrev pub colour_name : Colour → List ℕ
 colour_name c = by_colour (codes "White") (codes "Black") c
 
--- the outcome where that side wins
+-- the outcome if this side wins
 abbrev pub win_of : Colour → Outcome
 win_of c = by_colour WhiteWins BlackWins c
 
--- what is said of a draw that was claimed
+-- the comment on a draw that was claimed
 abbrev pub claim_comment : DrawClaim → List ℕ
 claim_comment Threefold = codes "Threefold repetition"
 claim_comment FiftyMoves = codes "50-move rule"
 
--- what is said of the side that has the fault
+-- what a comment says of the side whose engine has this fault, after its name: `White has no ping`
 abbrev pub fault_words : MatchFault → List ℕ
 fault_words Ended = codes " ended its output"
 fault_words Read = codes " can not be read"
@@ -46,8 +46,8 @@ fault_words NoSetboard = codes " has no setboard"
 fault_words Flood = codes " sent too many lines"
 fault_words NoVariant = codes " has no fischerandom"
 
--- how an end is reported: its outcome, unfinished where an engine failed or the game is too long; its comment, in
--- braces after `result` and the outcome; and how the game ended, as PGN says it
+-- how a match that ended for this reason is reported: its outcome (`*` if an engine failed or the game is too long),
+-- its comment, as in `result 1-0 {Black resigns}`, and the value for the tag Termination
 abbrev pub reported : Reason → Outcome × List ℕ × HowEnded
 reported (Decided v) = (verdict_outcome v, verdict_comment v, Normal)
 reported (Claimed c) = (Draw, claim_comment c, Normal)
@@ -62,15 +62,15 @@ reported ForfeitsToBareKing = (Draw, codes "Time forfeit against a bare king", T
 reported GameTooLong = (Unfinished, codes "Game too long", Normal)
 reported (Faulted c f) = (Unfinished, colour_name c ++ fault_words f, Normal)
 
--- its outcome
+-- the outcome of a match that ended for this reason
 abbrev pub outcome_of : Reason → Outcome
 outcome_of reason = (reported reason).0
 
--- its comment
+-- the comment on the end of a match, such as `Black resigns`
 abbrev pub comment_of : Reason → List ℕ
 comment_of reason = (reported reason).1
 
--- how the game ended, for the tag Termination
+-- how the game ended, for the tag Termination (PGN standard, section 9.8.1)
 abbrev pub ended_by : Reason → HowEnded
 ended_by reason = (reported reason).2
 
@@ -79,7 +79,7 @@ abbrev pub first_fault : Reason → (Colour → Bool) → Option (Colour × Matc
 first_fault (Faulted c f) failed = Some (c, f)
 first_fault _ failed = if failed White then Some (White, Write) else if failed Black then Some (Black, Write) else None
 
--- what the game's result is declared as: nothing where it has a verdict
+-- the result that is declared in the game when the match ends: none if the board has a verdict
 abbrev pub declared_at : Option Verdict → Reason → Option Declared
 declared_at (Some v) reason = None
 declared_at None reason = Some (record { outcome = outcome_of reason; comment = comment_of reason })

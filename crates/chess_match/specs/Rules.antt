@@ -25,7 +25,8 @@ use Rattle.chess_match.specs.declared.reason.DrawClaim.TheVariants.{Threefold, F
 use Rattle.chess_base.specs.declared.man.Variant.{Variant}
 use Rattle.chess_base.specs.declared.man.Variant.TheVariants.{Normal, Fischerandom}
 
--- what is fixed when a match begins, and what its game says of the moves that were played from its start
+-- the game that a match plays, with chess left out: what is fixed when the match begins, and functions that say what
+-- the moves played so far mean. Everything else in these files speaks of moves only through them
 pub record Rules : Type 0 where
   pub variant : Variant
   -- the start as it is sent; none for the initial position of normal chess
@@ -46,41 +47,41 @@ pub record Rules : Type 0 where
 
 -- ---- chess
 
--- the move that a text is read as, if it denotes exactly one
+-- the move that a text was read as, if it denotes exactly one legal move
 abbrev pub move_read : Reading → Option Move
 move_read (reads.Move m) = Some m
 move_read _ = None
 
--- the position for the third time comes before 50 moves
+-- the draw that may be claimed, if any; threefold repetition comes before 50 moves
 abbrev pub claim_by : Claims → Option DrawClaim
 claim_by c = if c.threefold then Some Threefold else if c.fifty_moves then Some FiftyMoves else None
 
--- the text of the last of these moves, in the position before it: in SAN, or by squares, where castling in Chess960 is
--- `O-O` or `O-O-O`
+-- the text of the last of these moves, which are made from the position `p` on: in SAN, or by squares (`e2e4`),
+-- where castling in Chess960 is `O-O` or `O-O-O`
 abbrev pub text_of_last : Bool → Setup → List Move → List ℕ
 text_of_last as_san p [] = []
 text_of_last as_san p (m ∷ []) = if as_san then san p m else shown_move p m
 text_of_last as_san p (m ∷ n ∷ ms) = text_of_last as_san (after p m) (n ∷ ms)
 
--- no piece, one of the other colour, or a king
+-- whether a square is empty, or has a king or a piece of the other colour than `c`
 abbrev pub is_king_or_other : Colour → Option Man → Bool
 is_king_or_other c man = option_map_or (λ (x : Man). not (same_colour x.colour c) || same_kind x.kind King) man true
 
--- each piece of that colour is a king
+-- whether the side `c` has no piece but its king
 unfoldable pub has_bare_king : Colour → Men → Bool
 has_bare_king c men = list_all (is_king_or_other c) men
 
--- the variant is Chess960
+-- whether a variant is Chess960
 abbrev pub is_fischerandom : Variant → Bool
 is_fischerandom Normal = false
 is_fischerandom Fischerandom = true
 
--- a start as it is sent, if it is: its FEN. Normal chess begins from its initial position if nothing is said; of
--- Chess960 each start is sent
+-- the FEN that `setboard` sends to the engines for this start; `None` for the initial position of normal chess, in
+-- which `new` starts anyway
 abbrev pub fen_sent : Setup → Option (List ℕ)
 fen_sent start = if is_initial start && not (is_fischerandom start.variant) then None else Some (fen start)
 
--- chess from this start, at this level, of at most so many half-moves
+-- chess as a match needs it: from this start, with this time control, of at most `limit` half-moves
 unfoldable pub rules_of : Setup → LevelSeen → ℕ → Rules
 rules_of start level limit = record {
   variant = start.variant;

@@ -23,40 +23,40 @@ when b xs = if b then xs else []
 
 -- ---- lines
 
--- a line that is sent: a move, the times of both clocks in centiseconds, or any other text
+-- a line that is sent to an engine
 pub data SentLine : Type 0 where
   Says : (text : List ℕ) → SentLine
   MoveSent : (prefixed : Bool) → (text : List ℕ) → SentLine
   Time : (centiseconds : ℕ) → SentLine
   Otim : (centiseconds : ℕ) → SentLine
 
--- the text of the answer to an item of that name: accepted if known, else rejected
+-- the answer to an item of a `feature` line: `accepted ping`, or `rejected` and the name if it is not known
 abbrev pub answer_words : List ℕ → List ℕ
 answer_words name = (if is_known name then codes "accepted " else codes "rejected ") ++ name
 
--- the text of a line, without the byte 10 at its end
+-- the text of a line without `\n`: `usermove e2e4`, `time 30000`
 abbrev pub words_of : SentLine → List ℕ
 words_of (Says text) = text
 words_of (MoveSent prefixed text) = when prefixed (codes "usermove ") ++ text
 words_of (Time n) = codes "time " ++ decimal n
 words_of (Otim n) = codes "otim " ++ decimal n
 
--- the bytes of lines, each with byte 10 at its end
+-- the bytes of lines, each with `\n` at its end
 unfoldable pub bytes_of : List SentLine → List ℕ
 bytes_of [] = []
 bytes_of (l ∷ ls) = words_of l ++ new_line ∷ bytes_of ls
 
 -- ---- what a phase gives
 
--- an answer to each item, in their order
+-- the answers to these items, in their order
 abbrev pub answers_to : List Item → List SentLine
 answers_to items = map (λ i. Says (answer_words i.name)) items
 
--- the start, where it is sent
+-- the line `setboard FEN`, if the start is sent
 abbrev pub start_lines : Option (List ℕ) → List SentLine
 start_lines start = option_map_or (λ fen. Says (codes "setboard " ++ fen) ∷ []) start []
 
--- the variant, where it isn't normal chess
+-- the line `variant fischerandom`, for Chess960
 abbrev pub variant_lines : Variant → List SentLine
 variant_lines v = when (is_fischerandom v) (Says (codes "variant fischerandom") ∷ [])
 
@@ -64,28 +64,29 @@ variant_lines v = when (is_fischerandom v) (Says (codes "variant fischerandom") 
 abbrev pub ping : ℕ → SentLine
 ping n = Says (codes "ping " ++ decimal n)
 
--- the setup of an engine: a new game, its variant where it isn't normal chess, its level, `nopost`, `easy`, `force`,
--- the start where it is sent, and `ping 1`
+-- the lines that set an engine up for the game: `new`, the variant, `level`, `nopost`, `easy`, `force`, the start,
+-- `ping 1`
 unfoldable pub setup_lines : Rules → List SentLine
 setup_lines r =
     Says (codes "new") ∷ (variant_lines r.variant ++ (Says (codes "level " ++ level_text r.level)
     ∷ Says (codes "nopost") ∷ Says (codes "easy") ∷ Says (codes "force") ∷ (start_lines r.start_fen ++ ping 1 ∷ [])))
 
--- the last move, as S takes it
+-- the line with the last move, in the form that the engine of the side `S` asked for by `usermove` and `san`
 unfoldable pub last_move : Rules → Match → Colour → SentLine
 last_move r m S = MoveSent (takes (codes "usermove") (seat m S).items)
     (r.move_text (takes (codes "san") (seat m S).items) m.played)
 
--- the last move, as S takes it, if there is one
+-- the line with the last move for the side `S`, if there is a move
 abbrev pub last_move_lines : Rules → Match → Colour → List SentLine
 last_move_lines r m S = when (nat_lt 0 (length m.played)) (last_move r m S ∷ [])
 
--- both clocks in centiseconds, rounded down
+-- the lines `time` and `otim` for the side `S`, in centiseconds rounded down; none if its engine has `time=0`
 unfoldable pub clock_lines : Rules → Match → Colour → List SentLine
 clock_lines r m S =
     when (takes (codes "time") (seat m S).items) (Time (clock r m S / 10) ∷ Otim (clock r m (other S) / 10) ∷ [])
 
--- S's first turn begins with the last move, if there is one, and ends with `go`
+-- the lines that open a turn of the side `S`: both clocks and the last move; in its first turn the move comes first,
+-- and `go` last
 unfoldable pub opening_lines : Rules → Match → Colour → List SentLine
 opening_lines r m S =
     if nat_lt 0 (length (seat m S).used)
@@ -96,18 +97,19 @@ opening_lines r m S =
 abbrev pub unsent_lines : Rules → Match → Colour → Option Colour → List SentLine
 unsent_lines r m S unsent_to = option_map_or (λ c. when (same_colour c S) (last_move r m S ∷ [])) unsent_to []
 
--- the last move, if S wasn't sent it, and then the result and `quit`
+-- the last lines for the side `S`: the last move, if it has still to be sent that, `result 1-0 {Black resigns}`, and
+-- `quit`
 unfoldable pub end_lines : Rules → Match → Colour → Reason → List SentLine
 end_lines r m S reason =
     unsent_lines r m S m.unsent_to ++ (Says (codes "result " ++ result_text (outcome_of reason) (comment_of reason))
     ∷ Says (codes "quit") ∷ [])
 
--- a write to S ended the match
+-- whether the match ended because writing to the side `S` failed
 abbrev pub is_unwritten : Reason → Colour → Bool
 is_unwritten (Faulted c Write) S = same_colour c S
 is_unwritten _ S = false
 
--- what S is sent where the match comes into a phase; an engine that could not be written is sent nothing more
+-- the lines that the side `S` is sent when the match enters this phase; none if writing to it failed
 abbrev pub entry_to : Rules → Match → Colour → Phase → List SentLine
 entry_to r m S (Hello c) = when (same_colour c S) (Says (codes "xboard") ∷ Says (codes "protover 2") ∷ [])
 entry_to r m S (Setup c) = when (same_colour c S) (setup_lines r)
@@ -116,13 +118,14 @@ entry_to r m S (AwaitMove c) = []
 entry_to r m S (AwaitPong c) = when (same_colour c S) (ping (ping_number m S) ∷ [])
 entry_to r m S (Over reason) = if is_unwritten reason S then [] else end_lines r m S reason
 
--- what S is sent where the match comes into the phase that it is in
+-- the lines that the side `S` is sent when the match enters the phase that it is in
 abbrev pub entry : Rules → Match → Colour → List SentLine
 entry r m S = entry_to r m S m.phase
 
 -- ---- one event's block
 
--- two phases of one kind and side; an opening is always a new one, and a match that is over stays so
+-- whether a match that was in the first phase has not entered a new one by the second; each turn's opening is a new
+-- one, and a match that is over enters no other
 abbrev pub is_same_phase : Phase → Phase → Bool
 is_same_phase (Hello c) (Hello d) = same_colour c d
 is_same_phase (Setup c) (Setup d) = same_colour c d
@@ -131,11 +134,13 @@ is_same_phase (AwaitPong c) (AwaitPong d) = same_colour c d
 is_same_phase (Over c) d = true
 is_same_phase _ _ = false
 
--- an offer that was opened in between, for an engine that takes draws
+-- the line `draw`, if the opponent's offer was opened between its states `old` and `new`; `told` is the engine that
+-- is sent it, unless it has `draw=0`
 abbrev pub draw_line : Seat → Seat → Seat → List SentLine
 draw_line own old new = when (not old.offers && new.offers && takes (codes "draw") own.items) (Says (codes "draw") ∷ [])
 
--- what S is sent where a match goes from m to m': answers to its items, the other's offer, and what the phase gives
+-- the lines that the side `S` is sent when an event takes the match from `m` to `m'`: answers to its items, the
+-- other's draw offer, and those of a new phase
 unfoldable pub block : Rules → Match → Match → Colour → List SentLine
 block r m m' S =
     answers_to (drop (length (seat m S).items) (seat m' S).items)

@@ -14,17 +14,18 @@ use Rattle.chess_match.specs.declared.reason.MatchFault.{MatchFault}
 use Rattle.chess_match.specs.declared.reason.MatchFault.TheVariants.{Ended, Read, Write}
 use Rattle.std.specs.List.{flat_map, fold, list_any}
 
--- the match after a whole transcript
+-- the match after all events of the transcript `T`
 abbrev pub match_of : Rules → List Event → Match
 match_of r T = fold (after r) start T
 
--- S's name: its last `myname`, as a tag keeps it
+-- the name that the engine of the side `S` gave in its last `myname`, by the transcript `T`; cut for a PGN tag, and
+-- empty if it gave none
 abbrev pub name_of : Match → Colour → List ℕ
 name_of m S = cut_tag (told (codes "myname") (seat m S).items)
 
 -- ---- what fits
 
--- a line of that side is read in this phase
+-- whether a match in this phase waits for a line of the side `S`
 abbrev pub reads : Phase → Colour → Bool
 reads (Hello c) S = same_colour c S
 reads (Setup c) S = same_colour c S
@@ -32,17 +33,18 @@ reads (AwaitMove c) S = same_colour c S
 reads (AwaitPong c) S = same_colour c S
 reads _ S = false
 
--- that side's turn opens in this phase
+-- whether a match in this phase is sending the lines that open the turn of the side `S`
 abbrev pub opens : Phase → Colour → Bool
 opens (SendTurn c) S = same_colour c S
 opens _ S = false
 
--- a match in this phase isn't over
+-- whether a match in this phase is not over
 abbrev pub is_on : Phase → Bool
 is_on (Over reason) = false
 is_on _ = true
 
--- an event is of the kind and side that the phase waits for, or a write of what the last event gave fails
+-- whether an event may come next in the match `m`: it is what the phase waits for, or the failure of a write. `due`
+-- are the lines that each side is sent at this point
 abbrev pub fits_next : (Colour → List SentLine) → Match → Event → Bool
 fits_next due m (Line S text moment) = reads m.phase S
 fits_next due m (Opened S moment) = opens m.phase S
@@ -50,19 +52,19 @@ fits_next due m (OutputEnds S) = reads m.phase S
 fits_next due m (FailsToRead S) = reads m.phase S
 fits_next due m (FailsToWrite S) = is_on m.phase && nat_lt 0 (length (due S))
 
--- each of these events fits, from the match m on, where these blocks are due
+-- whether each of these events may come next, from the state `m` on; `due` are the lines that each side is sent first
 abbrev pub fits_from : Rules → (Colour → List SentLine) → Match → List Event → Bool
 fits_from r due m [] = true
 fits_from r due m (e ∷ es) = fits_next due m e && fits_from r (block r m (after r m e)) (after r m e) es
 
--- each event of a transcript fits, from the start on, where White's first lines are due
+-- whether each event of the transcript `T` may come when it does, from the start of the match on
 abbrev pub fits : Rules → List Event → Bool
 fits r T = fits_from r (entry r start) start T
 
 -- ---- what is sent
 
--- S's block of an event is dropped: the event is a line of the other engine, which is written to first, and the next
--- event is that this write failed
+-- whether the side `S` is not sent its lines of an event: the other engine is written to first, and the next event is
+-- that this write failed
 abbrev pub is_dropped : Event → List Event → Colour → Bool
 is_dropped (Line c text moment) (FailsToWrite d ∷ es) S = same_colour c d && not (same_colour d S)
 is_dropped _ _ S = false
@@ -74,42 +76,43 @@ is_fault Read S (FailsToRead c) = same_colour c S
 is_fault Write S (FailsToWrite c) = same_colour c S
 is_fault _ S _ = false
 
--- S's block of an event, as a list: empty if the block is dropped, or if the event is a failed write to S
+-- the lines that the side `S` is sent at the event `e`, before the events `es`, as a list of one block; empty if they
+-- are dropped, or if the event is that writing to `S` failed
 abbrev pub block_at : Rules → Match → Event → List Event → Colour → List (List SentLine)
 block_at r m e es S = if is_dropped e es S || is_fault Write S e then [] else block r m (after r m e) S ∷ []
 
--- the blocks that S is sent at these events, from the match m on
+-- the blocks of lines that the side `S` is sent at these events, from the state `m` on
 abbrev pub blocks_from : Rules → Colour → Match → List Event → List (List SentLine)
 blocks_from r S m [] = []
 blocks_from r S m (e ∷ es) = block_at r m e es S ++ blocks_from r S (after r m e) es
 
--- the blocks that S is sent: one before all events, and one for each event, empty for dropped ones and for a write to S
--- that fails; many others are empty too
+-- the blocks of lines that the side `S` is sent in the match of the transcript `T`: one before all events, and one at
+-- each event (many have no lines)
 abbrev pub blocks : Rules → Colour → List Event → List (List SentLine)
 blocks r S T = entry r start S ∷ blocks_from r S start T
 
--- the lines of blocks, one after another
+-- the lines of all blocks, in order
 abbrev pub joined_blocks : List (List SentLine) → List SentLine
 joined_blocks bs = flat_map (λ b. b) bs
 
 -- ---- what passed at the devices
 
--- the line of S that an event is, if it is one
+-- the line that an event brings from the side `S`, as a list of one; empty for any other event
 abbrev pub line_in : Colour → Event → List (Option (List ℕ))
 line_in S (Line c text moment) = when (same_colour c S) (text ∷ [])
 line_in S _ = []
 
--- the lines of S
+-- the lines that came from the side `S` in the transcript `T`; `None` stands for one that was too long
 abbrev pub lines_of : Colour → List Event → List (Option (List ℕ))
 lines_of S T = flat_map (line_in S) T
 
--- the moment that was asked for at an event, if one was
+-- the time that was read from the clock at an event, as a list of one; empty if none was
 abbrev pub moment_in : Event → List ℕ
 moment_in (Line c text moment) = moment ∷ []
 moment_in (Opened c moment) = moment ∷ []
 moment_in _ = []
 
--- the moments that were asked for
+-- all times that were read from the clock in the transcript `T`, in order
 abbrev pub moments_of : List Event → List ℕ
 moments_of T = flat_map moment_in T
 

@@ -24,7 +24,7 @@ use chess_text::{
     Reading, add_check_mark, move_text, read_move, read_moves_are_legal, unmarked_san,
 };
 
-// Whether a square has no piece of that colour but a king.
+// Whether a square is empty, or has a king or a piece of the other colour.
 fn is_king_or_other(colour: Colour, man: Option<Man>) -> bool
     ensures { result ≡ is_king_or_other colour man }
 {
@@ -34,7 +34,7 @@ fn is_king_or_other(colour: Colour, man: Option<Man>) -> bool
     }
 }
 
-// Whether each piece of that colour is a king.
+// Whether this side has no piece but its king; `men` are the 64 squares.
 #[tactic(auto, unfolding(crate::specs::Rules::has_bare_king))]
 fn has_bare_king(colour: Colour, men: &[Option<Man>; 64]) -> bool
     ensures { result ≡ has_bare_king colour men.now }
@@ -42,7 +42,7 @@ fn has_bare_king(colour: Colour, men: &[Option<Man>; 64]) -> bool
     men.iter().all(|man| is_king_or_other(colour, *man))
 }
 
-// The draw that may be claimed of the present position, if any: the third time comes before 50 moves.
+// The draw that may be claimed, if any; threefold repetition comes before 50 moves.
 fn claim_by(claims: Claims) -> Option<DrawClaim>
     ensures { result ≡ claim_by claims }
 {
@@ -55,14 +55,14 @@ fn claim_by(claims: Claims) -> Option<DrawClaim>
     }
 }
 
-// Whether a start is the initial position.
+// Whether a start of normal chess is the initial position.
 fn is_initial(start: &Position) -> bool
     ensures { result ≡ is_initial start.now }
 {
     write_fen(start).as_slice() == write_fen(&Position::initial()).as_slice()
 }
 
-// The start of a match as it is sent: as FEN, unless it is the initial position of normal chess.
+// The FEN that `setboard` sends for this start; `None` for the initial position of normal chess.
 fn start_text(start: &Position) -> Option<FenText>
     ensures text { option_map (λ t. t.items) result ≡ fen_sent start.now }
     ensures short { IfSome result (λ t. array_vec_len t ≤ 100) }
@@ -79,6 +79,7 @@ fn start_text(start: &Position) -> Option<FenText>
     }
 }
 
+// The move that a text was read as, if it denotes exactly one legal move.
 fn move_read(reading: Reading) -> Option<Move>
     ensures { result ≡ move_read reading }
 {
@@ -99,36 +100,43 @@ impl<B: Board> MatchGame for Game<B> {
 
     ghost origin = { λ g. (g.state.start, g.limit) };
 
+    // Which side moves first: the side to move in the start.
     #[tactic(auto, unfolding(crate::specs::Rules::rules_of))]
     fn first(&self) -> Colour {
         self.start().side()
     }
 
+    // Whether the start is sent by `setboard`.
     #[tactic(auto, unfolding(crate::specs::Rules::rules_of))]
     fn has_start(&self) -> bool {
         start_text(&self.start()).is_some()
     }
 
+    // The variant of the start.
     #[tactic(auto, unfolding(crate::specs::Rules::rules_of))]
     fn variant(&self) -> Variant {
         self.start().variant()
     }
 
+    // Whether the game has as many half-moves as its limit allows.
     #[tactic(auto, unfolding(crate::specs::Rules::rules_of))]
     fn is_full(&self) -> bool {
         Game::is_full(self)
     }
 
+    // The one legal move that a text denotes in the current position.
     #[tactic(auto, unfolding(crate::specs::Rules::rules_of))]
     fn reading(&self, text: &[u8]) -> Option<Move> {
         move_read(read_move(self.board(), text))
     }
 
+    // The board's verdict on the current position, if there is one.
     #[tactic(auto, unfolding(crate::specs::Rules::rules_of))]
     fn verdict(&self) -> Option<Verdict> {
         Game::verdict(self)
     }
 
+    // The draw that may be claimed now, if there is one.
     #[tactic(auto, unfolding(crate::specs::Rules::rules_of))]
     fn claim(&self) -> Option<DrawClaim> {
         claim_by(self.claims())
@@ -139,6 +147,8 @@ impl<B: Board> MatchGame for Game<B> {
         has_bare_king(side, &self.position().setup().men)
     }
 
+    // Plays a legal move, and returns both its texts. The SAN is begun before the move is played, and its check mark
+    // added after it.
     #[tactic(auto, unfolding(crate::specs::Rules::rules_of))]
     fn play(&mut self, chosen: Move) -> MoveTexts {
         // The prover wants this law: the move that a text is read as is legal.
@@ -153,6 +163,7 @@ impl<B: Board> MatchGame for Game<B> {
         MoveTexts { san, squares }
     }
 
+    // Appends the line `setboard FEN`, if the start is sent.
     #[tactic(auto, unfolding(crate::specs::Rules::rules_of, crate::specs::Sent::bytes_of))]
     fn add_start(&self, block: &mut Block) {
         match start_text(&self.start()) {

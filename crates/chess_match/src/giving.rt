@@ -21,7 +21,8 @@ use crate::witness::Witness;
 use byte_devices::{Output, WriteFault};
 use chess_base::Colour;
 
-// What a block has after its answers: an offer, and what the phase gives.
+// Appends what this side is sent after the answers to its items: an offer of a draw, and the lines of a new phase, as
+// far as `given` says so.
 fn add_rest<G: MatchGame>(
     block: &mut Block,
     core: &MatchState,
@@ -38,7 +39,7 @@ fn add_rest<G: MatchGame>(
     add_entered(block, core, game, given, side);
 }
 
-// Notes a text that is not empty, and then sends it.
+// Gives the witness a note of a text, and then writes and flushes it; an empty text is skipped.
 fn note_and_put<W: Output, L: Witness>(
     writer: &mut W,
     witness: &mut L,
@@ -56,8 +57,8 @@ fn note_and_put<W: Output, L: Witness>(
     put_and_flush(writer, text)
 }
 
-/// Adds to the answers that wait for a side what else it is given, notes the block that this makes, and sends it by one
-/// write. An empty block is neither noted nor sent.
+/// Appends to the answers in `block` what else this side is sent (`given` says what), gives the witness a note of it
+/// all, writes it by one call, and empties `block`. If there is nothing, nothing is noted or written.
 pub(crate) fn note_and_send<W: Output, L: Witness, G: MatchGame>(
     writer: &mut W,
     witness: &mut L,

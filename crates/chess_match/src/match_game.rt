@@ -14,7 +14,7 @@ use crate::texts::MoveTexts;
 use chess_base::{Colour, Move, Variant};
 use chess_game::Verdict;
 
-/// A game that is being played.
+/// The game of a match, as the match sees it: without any chess.
 pub(crate) trait MatchGame {
     ghost use Rattle.std.specs.Prelude.{List, ℕ};
     ghost use Rattle.chess_base.specs.declared.man.Move.{Move};
@@ -30,29 +30,32 @@ pub(crate) trait MatchGame {
     /// The start, and how many half-moves the game may have: neither ever changes.
     ghost origin: { Self → Setup × ℕ };
 
-    /// Who is on move at the start.
+    /// Which side moves first.
     fn first(&self) -> Colour
         ensures { (r : Rules) → plays self.now r → result ≡ r.first };
 
-    /// Whether the start is sent: it is, unless it is the initial position of normal chess.
+    /// Whether the start is sent by `setboard`: it is not if it is the initial position of normal chess.
     fn has_start(&self) -> bool
         ensures { (r : Rules) → plays self.now r → result ≡ is_some r.start_fen };
 
+    /// The variant.
     fn variant(&self) -> Variant
         ensures { (r : Rules) → plays self.now r → result ≡ r.variant };
 
-    /// Whether as many half-moves are current as the limit allows.
+    /// Whether the game has as many half-moves as its limit allows.
     fn is_full(&self) -> bool
         ensures value { (r : Rules) → plays self.now r → result ≡ nat_le r.limit (length (played self.now)) }
         ensures few { result ≡ false → length (played self.now) < MOST_MOVES };
 
-    /// The one legal move that a text denotes.
+    /// The one legal move that a text denotes now.
     fn reading(&self, text: &[u8]) -> Option<Move>
         ensures { (r : Rules) → plays self.now r → result ≡ r.reading (played self.now) text.now };
 
+    /// The board's verdict, if there is one.
     fn verdict(&self) -> Option<Verdict>
         ensures { (r : Rules) → plays self.now r → result ≡ r.verdict (played self.now) };
 
+    /// The draw that may be claimed now, if there is one.
     fn claim(&self) -> Option<DrawClaim>
         ensures { (r : Rules) → plays self.now r → result ≡ r.claim (played self.now) };
 
@@ -60,7 +63,7 @@ pub(crate) trait MatchGame {
     fn has_bare_king(&self, side: Colour) -> bool
         ensures { (r : Rules) → plays self.now r → result ≡ r.has_bare_king (played self.now) side };
 
-    /// Plays a move that some text denotes, where the game isn't over and has room, and returns its texts.
+    /// Plays a move, which some text denotes, in a game that is not over and has room, and returns the move's texts.
     fn play(&mut self, chosen: Move) -> MoveTexts
         requires { (r : Rules) × (text : List ℕ) × (plays self.old r) × (r.verdict (played self.old) ≡ None)
             × (nat_le r.limit (length (played self.old)) ≡ false) × (r.reading (played self.old) text ≡ Some chosen) }
@@ -69,7 +72,7 @@ pub(crate) trait MatchGame {
         ensures texts { (r : Rules) → plays self.old r → AreTexts r result (played self.new) }
         ensures origin { origin self.new ≡ origin self.old };
 
-    /// The line with the start, where it is sent.
+    /// Appends the line `setboard FEN`, if the start is sent.
     fn add_start(&self, block: &mut Block)
         requires { array_vec_len block.old + 110 ≤ BLOCK_LEN }
         ensures text { (r : Rules) → plays self.now r

@@ -66,7 +66,7 @@ pub enum Reason {
     Faulted(Colour, MatchFault),
 }
 
-// The outcome of a win.
+// The outcome if this side wins.
 fn win_of(colour: Colour) -> Outcome
     ensures { result ≡ win_of colour }
 {
@@ -77,6 +77,7 @@ fn win_of(colour: Colour) -> Outcome
 }
 
 impl DrawClaim {
+    // The comment on the draw.
     fn comment(self) -> &'static [u8]
         ensures value { result.now ≡ claim_comment self }
         ensures short { length result.now ≤ 60 }
@@ -89,7 +90,7 @@ impl DrawClaim {
 }
 
 impl MatchFault {
-    // What is said of White's engine, or of Black's.
+    // What is said of the engine of this side.
     fn comment(self, colour: Colour) -> &'static [u8]
         ensures value { result.now ≡ colour_name colour ++ fault_words self }
         ensures short { length result.now ≤ 60 }
@@ -116,7 +117,7 @@ impl MatchFault {
 }
 
 impl Reason {
-    /// The outcome that it gives.
+    /// The game's outcome.
     pub fn outcome(self) -> Outcome
         ensures { result ≡ outcome_of self }
     {
@@ -136,7 +137,7 @@ impl Reason {
         }
     }
 
-    /// The comment in braces after its outcome.
+    /// The comment on the end, such as `Black resigns` in `result 1-0 {Black resigns}`.
     pub fn comment(self) -> &'static [u8]
         ensures value { result.now ≡ comment_of self }
         ensures short { length result.now ≤ 60 }
@@ -163,7 +164,7 @@ impl Reason {
         }
     }
 
-    /// How the game ended, as the PGN tag `Termination` has it.
+    /// How the game ended, for the PGN tag `Termination`.
     pub fn ended(self) -> HowEnded
         ensures { result ≡ ended_by self }
     {
@@ -184,7 +185,8 @@ impl Reason {
     }
 }
 
-// The first fault: that of the end, else of the end lines, where White's come first.
+// The fault that is reported: the one that ended the match, else a failed write of the last lines, to White or to
+// Black.
 pub(crate) fn first_fault(
     reason: Reason,
     white_failed: bool,

@@ -40,7 +40,7 @@ use chess_moves::Board;
 use chess_pgn::{HowEnded, TagText};
 use engine_lines::{EngineLine, Level, read_engine_line};
 
-/// The most bytes of an engine's line that are read; a longer one says nothing, and counts as ignored.
+/// The most bytes of an engine's line; a longer one is ignored.
 pub const ENGINE_LINE_LEN: usize = 8192;
 
 /// The two ends of an engine: what reads its output, and what writes its input.
@@ -114,11 +114,11 @@ pub fn run_match<R: Input, W: Output, M: Moments, B: Board>(
     run_match_watched(white, black, moments, setup, game, &mut NoWitness)
 }
 
-/// Plays one game as [`run_match`] does, before a witness.
+/// Plays one game as [`run_match`] does, while a witness watches.
 ///
-/// In the contract the witness was given the notes of the transcript, and no others: each event, and after it the block
-/// that each engine is sent, in their order. So what it was given is known from the transcript. That each line is noted
-/// before it is judged, and each block before it is written, is only tested.
+/// The contract says that the witness was given the notes of the transcript, and no others: each event, and after it
+/// the lines that each engine is sent, in order. Only tested is that each line is noted before it is judged, and that
+/// what an engine is sent is noted before it is written.
 pub fn run_match_watched<R: Input, W: Output, M: Moments, B: Board, L: Witness>(
     white: &mut Ends<R, W>,
     black: &mut Ends<R, W>,
@@ -212,6 +212,7 @@ pub(crate) enum Awaited {
     Nothing(Reason),
 }
 
+// What a match in this phase waits for.
 fn awaited_in(phase: Phase) -> Awaited
     ensures { IsAwaited phase result }
 {
@@ -225,7 +226,7 @@ fn awaited_in(phase: Phase) -> Awaited
     }
 }
 
-// Reads the next line of that side's engine, if there is one.
+// Reads the next line of this side's engine into `line`, and returns whether there was one.
 fn next_line<R: Input>(
     white: &mut R,
     black: &mut R,
@@ -255,7 +256,8 @@ pub(crate) struct Failed {
     black: bool,
 }
 
-// Sends each side its block of an end, White first.
+// Sends both sides their last lines, White first, and returns to which a write failed. The blocks have the answers to
+// items; `given` says what else is sent.
 fn send_both<W: Output, L: Witness, G: MatchGame>(
     white: &mut W,
     black: &mut W,
@@ -307,8 +309,8 @@ fn send_both<W: Output, L: Witness, G: MatchGame>(
     }
 }
 
-// A write to a side's engine failed, which ends the match: the other is sent its end lines. Whether a
-// write to it fails too.
+// Ends the match because writing to `side` failed, and sends the other side its last lines by `others`; `waiting` is
+// its block, which is empty. Returns whether that write failed too.
 fn end_for_other<W: Output, L: Witness, G: MatchGame>(
     others: &mut W,
     witness: &mut L,
@@ -333,8 +335,9 @@ fn end_for_other<W: Output, L: Witness, G: MatchGame>(
     note_and_send(others, witness, core, game, given, waiting, side.other()).is_err()
 }
 
-// Sends the blocks of an event in a match that is on, first to the side of which it came. Whether a write to that side
-// failed, and whether one to the other.
+// Sends both sides their lines of an event in a match that is not over: `own` is the input of the side that the event
+// is about, which comes first, `others` the other's. Returns whether a write to each failed; `given` says what is sent
+// beside the answers to items.
 fn send_in_turn<W: Output, L: Witness, G: MatchGame>(
     own: &mut W,
     others: &mut W,
@@ -379,8 +382,9 @@ fn send_in_turn<W: Output, L: Witness, G: MatchGame>(
     (false, false)
 }
 
-// Sends the blocks of an event: first to the side of which it came, and at the end to White and then to Black. A write
-// that fails ends the match. The answers to the items of a line wait in the block of its side.
+// Sends both sides their lines of an event: that of the event (`side`) first, but at the end White first. A write that
+// fails ends the match. `blocks.own` already has the answers to the items of the event's line; `given` says what else
+// is sent.
 fn deliver<W: Output, L: Witness, G: MatchGame>(
     white: &mut W,
     black: &mut W,
@@ -450,14 +454,14 @@ fn deliver<W: Output, L: Witness, G: MatchGame>(
     }
 }
 
-// Whether a line is parsed: byte 10 ends it. What comes after the last byte 10 is the end of the output.
+// Whether a line counts: `\n` ended it. What comes after the last `\n` is the end of the output.
 fn is_parsed(line: &Line<ENGINE_LINE_LEN>) -> bool
     ensures { result ≡ line.now.ended }
 {
     line.is_ended()
 }
 
-// What a line says; of one that is too long nothing.
+// The kind of an engine's line; one that is too long is ignored.
 fn said(line: &Line<ENGINE_LINE_LEN>) -> EngineLine<'_>
     ensures said { seen result ≡ line_kind (text_read line.now) }
     ensures short { (text : List ℕ) → seen result ≡ Features text → length text ≤ ENGINE_LINE_LEN }
@@ -469,8 +473,8 @@ fn said(line: &Line<ENGINE_LINE_LEN>) -> EngineLine<'_>
     }
 }
 
-// Takes a line of a side's engine, and then asks for the moment. Returns what is to be sent; the answers to the
-// line's items are added to an empty block.
+// Reads the clock and takes a line of this side's engine. Returns what is to be sent; the answers to the line's items
+// go to `block`, which must be empty.
 fn hear_line<M: Moments, L: Witness, G: MatchGame>(
     core: &mut MatchState,
     moments: &mut M,
@@ -499,8 +503,8 @@ fn hear_line<M: Moments, L: Witness, G: MatchGame>(
     core.line(game, said(line), moment, block)
 }
 
-// Takes what reading the next line of a side's engine gave. Returns what is to be sent; the answers to the line's items
-// are added to an empty block.
+// Takes what reading the next line of this side's engine gave (`heard`). Returns what is to be sent; the answers to
+// the line's items go to `block`, which must be empty.
 fn hear<M: Moments, L: Witness, G: MatchGame>(
     core: &mut MatchState,
     moments: &mut M,
@@ -548,7 +552,7 @@ fn hear<M: Moments, L: Witness, G: MatchGame>(
     }
 }
 
-// Declares the end where the game has no verdict.
+// Declares the reason's outcome in the game, if it has no verdict.
 fn declare<B: Board>(game: &mut Game<B>, reason: Reason)
     requires { game.old.state.declared ≡ None }
     ensures { game.new ≡ at game.old (with_declared game.old.state (declared_at (verdict_now game.old.state) reason)) }
@@ -559,7 +563,7 @@ fn declare<B: Board>(game: &mut Game<B>, reason: Reason)
     game.declare_open(reason.outcome(), Comment::cut(reason.comment()));
 }
 
-// The report of the end; the end is declared where the game has no verdict.
+// Reports the end of the match, and declares its outcome in the game, if that has no verdict.
 fn end_of<B: Board>(
     core: MatchState,
     game: &mut Game<B>,

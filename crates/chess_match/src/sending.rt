@@ -20,7 +20,7 @@ use chess_base::{Colour, Variant};
 use engine_lines::{Features, is_known, next_item};
 
 impl MatchState {
-    // What that side's engine takes.
+    // The features of this side's engine.
     fn features(&self, side: Colour) -> Features
         ensures { result ≡ (player self.now side).features }
     {
@@ -31,7 +31,7 @@ impl MatchState {
     }
 }
 
-// The last move, as that side's engine takes it, if there is one.
+// Appends the last move, if there is one, in the form that this side's engine asked for.
 fn add_last(block: &mut Block, core: &MatchState, side: Colour)
     requires { array_vec_len block.old + 20 ≤ BLOCK_LEN }
     ensures text { (r : Rules) (played : List Move) (m : Match) → Represents r core.now played m
@@ -47,7 +47,7 @@ fn add_last(block: &mut Block, core: &MatchState, side: Colour)
     }
 }
 
-// Both clocks, for an engine that takes them.
+// Appends `time` and `otim`, unless this side's engine has `time=0`.
 fn add_clocks(block: &mut Block, core: &MatchState, side: Colour)
     requires { array_vec_len block.old + 60 ≤ BLOCK_LEN }
     ensures text { (r : Rules) (played : List Move) (m : Match) → Represents r core.now played m
@@ -61,7 +61,7 @@ fn add_clocks(block: &mut Block, core: &MatchState, side: Colour)
     }
 }
 
-// The opening of a later turn: both clocks, and then the last move.
+// Appends the lines that open a turn of this side, not its first: both clocks, and then the last move.
 fn add_later_opening(block: &mut Block, core: &MatchState, mover: Colour)
     requires { array_vec_len block.old + 100 ≤ BLOCK_LEN }
     ensures text { (r : Rules) (played : List Move) (m : Match) → Represents r core.now played m
@@ -72,7 +72,7 @@ fn add_later_opening(block: &mut Block, core: &MatchState, mover: Colour)
     add_last(block, core, mover);
 }
 
-// The opening of a side's turn.
+// Appends the lines that open a turn of this side; its first ends with `go`.
 fn add_opening(block: &mut Block, core: &MatchState, side: Colour)
     requires { array_vec_len block.old + 100 ≤ BLOCK_LEN }
     ensures text { (r : Rules) (played : List Move) (m : Match) → Represents r core.now played m
@@ -88,7 +88,7 @@ fn add_opening(block: &mut Block, core: &MatchState, side: Colour)
     }
 }
 
-// The variant, where it isn't normal chess.
+// Appends `variant fischerandom`, for Chess960.
 #[tactic(auto, unfolding(crate::specs::Sent::bytes_of))]
 fn add_variant(block: &mut Block, variant: Variant)
     requires { array_vec_len block.old + 30 ≤ BLOCK_LEN }
@@ -101,7 +101,7 @@ fn add_variant(block: &mut Block, variant: Variant)
     }
 }
 
-// The setup of an engine.
+// Appends the lines that set an engine up for the game, from `new` to `ping 1`.
 fn add_setup<G: MatchGame>(block: &mut Block, core: &MatchState, game: &G)
     requires { array_vec_len block.old + 300 ≤ BLOCK_LEN }
     ensures text { (r : Rules) (m : Match) → G.plays game.now r → Represents r core.now (G.played game.now) m
@@ -116,7 +116,7 @@ fn add_setup<G: MatchGame>(block: &mut Block, core: &MatchState, game: &G)
     add_ping(block, 1);
 }
 
-// The last move, if the side is still to be sent it.
+// Appends the last move, if this side has still to be sent it.
 fn add_unsent(block: &mut Block, core: &MatchState, side: Colour)
     requires unsent_to { is_some core.now.unsent_to ≡ true → is_some core.now.last ≡ true }
     requires room { array_vec_len block.old + 20 ≤ BLOCK_LEN }
@@ -134,7 +134,7 @@ fn add_unsent(block: &mut Block, core: &MatchState, side: Colour)
     }
 }
 
-// The lines at the end.
+// Appends the last lines for this side: the last move if it has still to be sent it, `result ..` and `quit`.
 fn add_end_lines(block: &mut Block, core: &MatchState, side: Colour, reason: Reason)
     requires unsent_to { is_some core.now.unsent_to ≡ true → is_some core.now.last ≡ true }
     requires room { array_vec_len block.old + 120 ≤ BLOCK_LEN }
@@ -146,7 +146,7 @@ fn add_end_lines(block: &mut Block, core: &MatchState, side: Colour, reason: Rea
     add_end(block, reason.outcome(), reason.comment());
 }
 
-// Whether a write to that side ended the match.
+// Whether the match ended because writing to this side failed.
 fn is_unwritten(reason: Reason, side: Colour) -> bool
     ensures { result ≡ is_unwritten reason side }
 {
@@ -175,7 +175,7 @@ fn is_unwritten(reason: Reason, side: Colour) -> bool
     }
 }
 
-// What a side's engine is sent where the match came into its phase.
+// Appends the lines that this side is sent when the match enters its phase.
 fn add_entry<G: MatchGame>(block: &mut Block, core: &MatchState, game: &G, side: Colour)
     requires unsent_to { is_some core.now.unsent_to ≡ true → is_some core.now.last ≡ true }
     requires room { array_vec_len block.old + 300 ≤ BLOCK_LEN }
@@ -213,7 +213,7 @@ fn add_entry<G: MatchGame>(block: &mut Block, core: &MatchState, game: &G, side:
     }
 }
 
-// The offer of a draw, if that side is sent one.
+// Appends `draw`, if `given` has an offer for this side.
 #[tactic(auto, unfolding(crate::specs::Sent::bytes_of))]
 pub(crate) fn add_offer(block: &mut Block, given: Actions, side: Colour)
     requires { array_vec_len block.old + 10 ≤ BLOCK_LEN }
@@ -230,7 +230,7 @@ pub(crate) fn add_offer(block: &mut Block, given: Actions, side: Colour)
     }
 }
 
-// What the phase gives, if it was entered.
+// Appends the lines of the phase for this side, if `given` says that it was entered.
 #[tactic(auto, using(crate::proofs::Sends::same_end))]
 pub(crate) fn add_entered<G: MatchGame>(
     block: &mut Block,

@@ -28,7 +28,8 @@ pub(crate) struct Player {
     pub offers: bool,
 }
 
-/// What is to be sent beside answers to items: an offer, and what the phase that was entered gives.
+/// What is sent at an event beside answers to items: `draw`, to this side, and the lines of the phase, if it was
+/// `entered`.
 #[derive(Clone, Copy)]
 pub(crate) struct Actions {
     pub draw: Option<Colour>,
@@ -52,18 +53,20 @@ pub(crate) struct MatchState {
     pub opened: u64,
 }
 
+/// Nothing is sent.
 pub(crate) const NOTHING: Actions = Actions {
     draw: None,
     entered: false,
 };
 
+/// The lines of the phase are sent, which was entered.
 pub(crate) const ENTRY: Actions = Actions {
     draw: None,
     entered: true,
 };
 
 impl Player {
-    // Nothing was said yet.
+    // An engine of which nothing is known yet.
     #[tactic(auto, unfolding(crate::specs::ties::Represents::name_by, engine_lines::specs::Items::told))]
     fn new() -> Self
         ensures features { result.features ≡ features_of [] }
@@ -77,7 +80,8 @@ impl Player {
         }
     }
 
-    /// Takes over what the items of a text say, adds the answers to them, and returns whether they end the handshake.
+    /// Takes over the items of a `feature` line, appends the answers to them to `block`, and returns whether `done=1`
+    /// is among them.
     pub(crate) fn hear(&mut self, text: &[u8], block: &mut Block) -> bool
         requires { array_vec_len block.old + 4 * length text.now ≤ ANSWERS_LEN }
         ensures features { (items : List told.Item) → self.old.features ≡ features_of items
@@ -104,7 +108,7 @@ impl Player {
 }
 
 impl MatchState {
-    /// Before any line: White's handshake.
+    /// A match before its first line: White's handshake is awaited.
     pub(crate) fn new(level: Level) -> Self
         ensures { (r : Rules) → r.level ≡ level → Represents r result [] start }
     {
@@ -133,7 +137,7 @@ pub(crate) fn is_side(side: Colour, other: Colour) -> bool
     }
 }
 
-// Takes over the name that an item says.
+// Takes over the engine's name, if the item is `myname`.
 #[tactic(auto, unfolding(crate::specs::ties::Represents::name_by, engine_lines::specs::Items::told))]
 fn note_name(name: &mut TagText, item: &Item<'_>)
     ensures { (items : List told.Item) → name.old ≡ name_by items

@@ -5,7 +5,7 @@ ghost use Rattle.chess_match.specs.ties.Texts.{text_in};
 
 use chess_text::{CoordinateText, SanText};
 
-/// The texts of a move, made when it is played: it is relayed only later, and then the game has gone on.
+/// Both texts of a move, made when it is played: it is sent to the opponent only later, and then the game has gone on.
 #[derive(Drop)]
 pub(crate) struct MoveTexts {
     pub san: SanText,
@@ -13,7 +13,7 @@ pub(crate) struct MoveTexts {
 }
 
 impl MoveTexts {
-    /// The text in SAN, or by squares.
+    /// The text in SAN, or by squares (`e2e4`).
     pub(crate) fn text(&self, as_san: bool) -> &[u8]
         ensures text { result.now ≡ text_in self.now as_san }
         ensures short { length result.now ≤ 7 }

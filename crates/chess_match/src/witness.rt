@@ -9,7 +9,7 @@ use crate::run::ENGINE_LINE_LEN;
 use chess_base::Colour;
 use chess_cecp::Line;
 
-/// A witness of a match: it is given each event of the transcript, and each block that an engine is sent.
+/// Watches a match, as the log does: it is given each event, and all bytes that an engine is sent.
 pub trait Witness {
     ghost use Rattle.std.specs.Prelude.{List, ℕ};
     ghost use Rattle.chess_match.specs.Notes.{Note};
@@ -18,28 +18,28 @@ pub trait Witness {
     /// before.
     ghost noted: { Self → List ℕ → List Note → Type 0 };
 
-    /// A side's engine sent a line; the moment was asked for after it.
+    /// This side's engine sent a line; the clock then showed `moment`.
     fn line(&mut self, side: Colour, line: &Line<ENGINE_LINE_LEN>, moment: u64)
         ensures { WasNoted (noted self.old) (noted self.new)
             (Happened (events.Line side (text_read line.now) moment) ∷ []) };
 
-    /// The opening of that side's turn was sent; the moment at its end.
+    /// The lines that open this side's turn were sent; the clock then showed `moment`.
     fn opened(&mut self, side: Colour, moment: u64)
         ensures { WasNoted (noted self.old) (noted self.new) (Happened (events.Opened side moment) ∷ []) };
 
-    /// A side's engine ended its output.
+    /// This side's engine closed its output.
     fn output_ends(&mut self, side: Colour)
         ensures { WasNoted (noted self.old) (noted self.new) (Happened (events.OutputEnds side) ∷ []) };
 
-    /// A read of a side's engine failed.
+    /// Reading from this side's engine failed.
     fn read_fails(&mut self, side: Colour)
         ensures { WasNoted (noted self.old) (noted self.new) (Happened (events.FailsToRead side) ∷ []) };
 
-    /// A write to a side's engine failed, which ended the match.
+    /// Writing to this side's engine failed, which ended the match.
     fn write_fails(&mut self, side: Colour)
         ensures { WasNoted (noted self.old) (noted self.new) (Happened (events.FailsToWrite side) ∷ []) };
 
-    /// These bytes, a block of lines, are now written to a side's engine.
+    /// These lines are now written to this side's engine.
     fn gives(&mut self, side: Colour, text: &[u8])
         ensures { WasNoted (noted self.old) (noted self.new) (Gives side text.now ∷ []) };
 }
@@ -51,15 +51,21 @@ pub(crate) struct NoWitness;
 impl Witness for NoWitness {
     ghost noted = { λ w before notes. Unit {0} };
 
+    // Keeps nothing of a line.
     fn line(&mut self, _side: Colour, _line: &Line<ENGINE_LINE_LEN>, _moment: u64) {}
 
+    // Keeps nothing of an opened turn.
     fn opened(&mut self, _side: Colour, _moment: u64) {}
 
+    // Keeps nothing of an output's end.
     fn output_ends(&mut self, _side: Colour) {}
 
+    // Keeps nothing of a failed read.
     fn read_fails(&mut self, _side: Colour) {}
 
+    // Keeps nothing of a failed write.
     fn write_fails(&mut self, _side: Colour) {}
 
+    // Keeps nothing of lines that are sent.
     fn gives(&mut self, _side: Colour, _text: &[u8]) {}
 }

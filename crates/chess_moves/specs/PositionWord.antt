@@ -15,20 +15,23 @@ use Rattle.chess_base.specs.MoveList.{squares}
 -- ---- keys: the numbers, from index 0, that the generator SplitMix64 gives when it starts at 0 (splitmix64.c by Vigna,
 -- 2015, after Steele, Lea and Flood, Fast Splittable Pseudorandom Number Generators, 2014)
 
+-- a constant of the generator SplitMix64: by how much its state grows for each output
 abbrev pub increment : ℕ
 increment = 0x9e3779b97f4a7c15
 
+-- a constant of the generator SplitMix64: the first of the two factors by which it mixes its state
 abbrev pub first_factor : ℕ
 first_factor = 0xbf58476d1ce4e5b9
 
+-- a constant of the generator SplitMix64: the second of the two factors by which it mixes its state
 abbrev pub second_factor : ℕ
 second_factor = 0x94d049bb133111eb
 
--- z with its bits from bit k on laid over its lowest ones
+-- z with its bits from bit k on xored into its lowest ones: z ^ (z >> k) in C
 abbrev pub laid_over : ℕ → ℕ → ℕ
 laid_over z k = bit_xor z (z / 2 ^ k)
 
--- the key with index n
+-- the key with index n: the n-th output of SplitMix64, from 0 on, with seed 0
 unfoldable pub key : ℕ → ℕ
 key n =
     let x = (n + 1) * increment % 2 ^ 64 in
@@ -38,11 +41,12 @@ key n =
 
 -- ---- which keys: twelve times 64 for the pieces on squares, one for Black on move, twice 8 for the rights
 
--- the indices of colours and kinds among the keys of pieces
+-- the index of a colour among the keys of pieces and of castling rights
 abbrev pub colour_index : Colour → ℕ
 colour_index White = 0
 colour_index Black = 1
 
+-- the index of a kind of piece among the keys of pieces: pawn 0 to king 5
 abbrev pub kind_index : Kind → ℕ
 kind_index Pawn = 0
 kind_index Knight = 1
@@ -51,44 +55,44 @@ kind_index Rook = 3
 kind_index Queen = 4
 kind_index King = 5
 
--- the piece x on square s
+-- the key of the piece x on square s: one of the first 768 (12 pieces times 64 squares)
 abbrev pub man_key : Man → ℕ → ℕ
 man_key x s = key (64 * (6 * colour_index x.colour + kind_index x.kind) + s)
 
--- Black on move
+-- the key of Black on move
 abbrev pub side_key : ℕ
 side_key = key 768
 
--- the right of colour c to castle with its rook on r
+-- the key of colour c's right to castle with its rook on square r: one for each file
 abbrev pub right_key : Colour → ℕ → ℕ
 right_key c r = key (769 + 8 * colour_index c + file r)
 
 -- ---- the keys of a position's parts
 
--- of what is on s
+-- the keys of what is on square s: one for a piece, no key for an empty square
 abbrev pub square_keys : ℕ → Option Man → List ℕ
 square_keys s None = []
 square_keys s (Some x) = man_key x s ∷ []
 
--- of the square s of a board
+-- the keys of what is on square s of the board: one for a piece, no key for an empty square
 abbrev pub keys_on : Men → ℕ → List ℕ
 keys_on men s = square_keys s (man_at men s)
 
--- of all pieces
+-- the keys of all pieces on the board
 unfoldable pub men_keys : Men → List ℕ
 men_keys men = flat_map (keys_on men) squares
 
--- of the side on move
+-- the keys of the side on move: none for White, one for Black
 abbrev pub side_keys : Colour → List ℕ
 side_keys White = []
 side_keys Black = side_key ∷ []
 
--- of a right, if it is there
+-- the keys of colour c's castling right with its rook on the given square: no key if there is no right
 abbrev pub right_keys : Colour → Option ℕ → List ℕ
 right_keys c None = []
 right_keys c (Some r) = right_key c r ∷ []
 
--- of all four rights
+-- the keys of the castling rights that are there, of all four
 unfoldable pub rights_keys : Rights → List ℕ
 rights_keys r =
     right_keys White r.white.king_side ++ right_keys White r.white.queen_side ++ right_keys Black r.black.king_side
@@ -100,6 +104,6 @@ rights_keys r =
 abbrev pub xor_of : List ℕ → ℕ
 xor_of ns = fold bit_xor 0 ns
 
--- the exclusive or of all keys of a position
+-- the Zobrist hash of a position: the exclusive or of the keys of its pieces, side on move and castling rights
 unfoldable pub position_word : Men → Colour → Rights → ℕ
 position_word men side rights = xor_of (men_keys men ++ side_keys side ++ rights_keys rights)

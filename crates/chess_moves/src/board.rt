@@ -15,10 +15,11 @@ use crate::set::SquareSet;
 use arrayvec::ArrayVec;
 use chess_base::{Colour, Kind, Move, Position, Saved, Setup, Square};
 
-/// Moves in a list: at most 16 pieces move, and each has at most 56 moves.
+/// A list of moves. It has room for all legal moves of a position: at most 16 pieces move, and each has at most 56
+/// moves.
 pub type MoveList = ArrayVec<Move, 896>;
 
-/// A board: one position at a time, always sound, that goes forward and back by moves.
+/// A board: one position at a time, always sound, that goes forward by making a move and back by taking it back.
 pub trait Board {
     ghost use Rattle.std.specs.Prelude.{ℕ};
     ghost use Rattle.chess_base.specs.declared.man.Colour.{Colour};
@@ -33,7 +34,7 @@ pub trait Board {
     /// rights alone. So the same positions (Laws of Chess 2023, article 9.2.3) have equal hashes; others may have, too.
     ghost word_of: { Men → Colour → Rights → ℕ };
 
-    /// Leaves the board at that position.
+    /// Sets the board to that position.
     fn set(&mut self, to: &Position)
         ensures position { position self.new ≡ to.now }
         ensures sound { IsSound (position self.new) };
@@ -43,7 +44,7 @@ pub trait Board {
         ensures value { result ≡ position self.now }
         ensures sound { IsSound (position self.now) };
 
-    /// The setup of the position that the board is at, lent.
+    /// The position that the board is at, lent as a `Setup` without a copy.
     fn setup(&self) -> &Setup
         ensures value { result.now ≡ position self.now }
         ensures sound { IsSound (position self.now) };
@@ -67,17 +68,16 @@ pub trait Board {
     fn is_legal(&self, m: &Move) -> bool
         ensures { result ≡ is_legal (position self.now) m.now };
 
-    /// Squares from which pieces of a kind, of the side on move, may go to a square: each from which one has a legal
-    /// move to it is among them, others may be.
+    /// A set of squares in which to look for the start of a legal move of such a piece to `to`: each piece of that
+    /// kind, of the side on move, that has a legal move there is on one of them, but others may be in the set too.
     fn origins(&self, kind: Kind, to: Square) -> SquareSet
         ensures { HasOrigins (position self.now) kind to result };
 
-    /// The squares of a colour's pieces of a kind.
+    /// The squares of that colour's pieces of that kind.
     fn men_of(&self, colour: Colour, kind: Kind) -> SquareSet
         ensures { (k : ℕ) → k < 64 → has result k ≡ is_man colour kind (man_at (position self.now).men k) };
 
-    /// The squares from which a piece of a kind, of the side on move, has the legal move to a square without a
-    /// promotion.
+    /// The squares from which a piece of that kind, of the side on move, may legally move to `to` without a promotion.
     fn legal_starts(&self, kind: Kind, to: Square) -> SquareSet
         ensures { HasLegalStarts (position self.now) kind to result };
 
@@ -90,7 +90,7 @@ pub trait Board {
     fn word(&self) -> u64
         ensures { result ≡ word_of (position self.now).men (position self.now).side (position self.now).rights };
 
-    /// Makes a legal move, and gives what it does not keep.
+    /// Makes a legal move, and returns what `take_back` needs to take it back.
     fn make(&mut self, m: Move) -> Saved
         requires { IsTrue (is_legal (position self.old) m) }
         ensures position { position self.new ≡ after (position self.old) m }
@@ -98,7 +98,7 @@ pub trait Board {
         ensures made { WasMade (position self.old) m result (position self.new) }
         ensures sound { IsSound (position self.new) };
 
-    /// Takes back the move that was made last, by what `make` gave for it.
+    /// Takes back the move that was made last, `m`, by what `make` returned for it.
     fn take_back(&mut self, m: Move, saved: Saved)
         requires { IsMade (position self.old) m saved }
         ensures position { position self.new ≡ before (position self.old) m saved }
@@ -106,7 +106,7 @@ pub trait Board {
         ensures sound { IsSound (position self.new) };
 }
 
-/// The law of every board: a legal move that is made and taken back leaves the very position. It gives the
+/// A law of every board: a legal move that is made and then taken back leaves the very same position. It returns the
 /// position in between.
 pub fn make_then_take_back<B: Board>(board: &mut B, m: Move) -> Position
     requires { IsTrue (is_legal (B.position board.old) m) }

@@ -38,7 +38,7 @@ impl Model for Plain {
     ghost inverse = { λ v. record { setup = v } };
 }
 
-// The squares of a colour's pieces of a kind.
+// The squares of that colour's pieces of that kind.
 fn men_of(men: &[Option<Man>; 64], colour: Colour, kind: Kind) -> SquareSet
     ensures { (k : ℕ) → k < 64 → has result k ≡ is_man colour kind (man_at men.now k) }
 {
@@ -52,7 +52,7 @@ fn men_of(men: &[Option<Man>; 64], colour: Colour, kind: Kind) -> SquareSet
     set
 }
 
-// Whether a piece of a kind, of the side on move, has the legal move from there to there without a promotion.
+// Whether on `from` is a piece of that kind, of the side on move, that may legally move to `to` without a promotion.
 fn is_legal_start(setup: &Setup, kind: Kind, from: Square, to: Square) -> bool
     requires { IsSound setup.now }
     ensures { result ≡ (is_man setup.now.side kind (man_at setup.now.men from)
@@ -66,7 +66,7 @@ fn is_legal_start(setup: &Setup, kind: Kind, from: Square, to: Square) -> bool
     is_man(setup.side, kind, setup.men[from.index()]) && is_legal(setup, &m)
 }
 
-// The squares from which a piece of a kind, of the side on move, has the legal move to a square without a promotion.
+// The squares from which a piece of that kind, of the side on move, may legally move to `to` without a promotion.
 fn legal_starts(setup: &Setup, kind: Kind, to: Square) -> SquareSet
     requires { IsSound setup.now }
     ensures { HasLegalStarts setup.now kind to result }
@@ -100,6 +100,7 @@ impl Board for Plain {
 
     ghost word_of = { position_word };
 
+    // Sets the board to that position.
     fn set(&mut self, to: &Position) {
         self.setup = *to.setup();
     }
@@ -128,16 +129,18 @@ impl Board for Plain {
         is_legal(&self.setup, m)
     }
 
-    // All pieces of the kind.
+    // All pieces of the kind, whether or not they could go to the square.
     #[tactic(auto, using(crate::proofs::Origins::all_men))]
     fn origins(&self, kind: Kind, _to: Square) -> SquareSet {
         men_of(&self.setup.men, self.setup.side, kind)
     }
 
+    // The squares of that colour's pieces of that kind.
     fn men_of(&self, colour: Colour, kind: Kind) -> SquareSet {
         men_of(&self.setup.men, colour, kind)
     }
 
+    // The squares from which a piece of that kind, of the side on move, may legally move to `to` without a promotion.
     fn legal_starts(&self, kind: Kind, to: Square) -> SquareSet {
         legal_starts(&self.setup, kind, to)
     }
@@ -146,16 +149,19 @@ impl Board for Plain {
         is_in_check(&self.setup.men, self.setup.side)
     }
 
+    // The position's Zobrist hash, computed from all its pieces at each call.
     fn word(&self) -> u64 {
         position_word(&self.setup)
     }
 
+    // Makes a legal move, and returns what `take_back` needs.
     fn make(&mut self, m: Move) -> Saved {
         let saved = saved_of(&self.setup, &m);
         move_on(&mut self.setup, &m);
         saved
     }
 
+    // Takes back the move that was made last, `m`, by what `make` returned for it.
     fn take_back(&mut self, m: Move, saved: Saved) {
         move_back(&mut self.setup, &m, &saved);
     }

@@ -7,12 +7,14 @@ ghost use Rattle.chess_moves.specs.Sets.{has, IsNearest, members};
 use chess_base::Square;
 use std::marker::Model;
 
-// The words of the a-file and of rank 1.
+// The squares of the a-file, as bits.
 const FILE_A: u64 = 0x0101_0101_0101_0101;
 
+// The squares of rank 1, as bits.
 const RANK_1: u64 = 0xFF;
 
-/// A set of squares. In contracts it is the word in which the bit of each of its squares is 1, a1's the lowest.
+/// A set of squares: a bitboard. In contracts it is the number in which the bit of each of its squares is 1, a1's the
+/// lowest.
 #[derive(Clone, Copy)]
 pub struct SquareSet {
     word: u64,
@@ -29,7 +31,7 @@ impl Model for SquareSet {
 }
 
 impl SquareSet {
-    /// No square.
+    /// The set without any square.
     #[tactic(auto, using(crate::proofs::Words::has_zero))]
     pub const fn empty() -> Self
         ensures { (k : ℕ) → has result k ≡ false }
@@ -37,7 +39,7 @@ impl SquareSet {
         SquareSet { word: 0 }
     }
 
-    /// That square alone.
+    /// The set of that square alone.
     #[tactic(auto, using(crate::proofs::Words::has_single))]
     pub fn single(square: Square) -> Self
         ensures value { (k : ℕ) → has result k ≡ (k == square) }
@@ -48,7 +50,7 @@ impl SquareSet {
         }
     }
 
-    /// The squares of a file, 0 for a to 7 for h.
+    /// The eight squares of a file, 0 for a to 7 for h.
     #[tactic(auto, using(crate::proofs::Shifted::on_file))]
     pub fn of_file(number: u8) -> Self
         requires { number < 8 }
@@ -57,7 +59,7 @@ impl SquareSet {
         SquareSet { word: FILE_A }.raised(number)
     }
 
-    /// The squares of a rank, 0 for rank 1 to 7 for rank 8.
+    /// The eight squares of a rank, 0 for rank 1 to 7 for rank 8.
     #[tactic(auto, using(crate::proofs::Shifted::on_rank))]
     pub fn of_rank(number: u8) -> Self
         requires { number < 8 }
@@ -91,7 +93,7 @@ impl SquareSet {
         self.word.count_ones() as usize
     }
 
-    /// The squares of either set.
+    /// The squares that are in either set.
     #[tactic(auto, using(crate::proofs::Words::has_or))]
     pub fn union(self, other: Self) -> Self
         ensures { (k : ℕ) → has result k ≡ (has self k || has other k) }
@@ -121,7 +123,8 @@ impl SquareSet {
         }
     }
 
-    /// The squares whose numbers are that much below those of the set: by 8 they are one rank down.
+    /// The set with each square's number less by `by`: 8 moves all squares one rank down. Squares that would fall below
+    /// 0 drop out.
     #[tactic(auto, using(crate::proofs::Shifted::has_lowered))]
     pub fn lowered(self, by: u8) -> Self
         requires { by < 64 }
@@ -132,7 +135,8 @@ impl SquareSet {
         }
     }
 
-    /// The squares whose numbers are that much above those of the set: by 8 they are one rank up.
+    /// The set with each square's number more by `by`: 8 moves all squares one rank up. Squares that would go above 63
+    /// drop out.
     #[tactic(auto, using(crate::proofs::Shifted::has_raised))]
     pub fn raised(self, by: u8) -> Self
         requires { by < 64 }
@@ -143,7 +147,7 @@ impl SquareSet {
         }
     }
 
-    /// The lowest square of a set that has one.
+    /// The lowest square of a set that is not empty.
     #[tactic(auto, using(crate::proofs::Words::first_of))]
     pub fn first(self) -> Square
         requires { 0 < self }
@@ -153,7 +157,7 @@ impl SquareSet {
         Square::new(self.word.trailing_zeros() as u8)
     }
 
-    /// The highest square of a set that has one.
+    /// The highest square of a set that is not empty.
     #[tactic(auto, using(crate::proofs::Words::last_of))]
     pub fn last(self) -> Square
         requires { 0 < self }
@@ -163,7 +167,7 @@ impl SquareSet {
         Square::new((63 - self.word.leading_zeros()) as u8)
     }
 
-    /// Takes the lowest square out; `None` where none is left.
+    /// Takes the lowest square out of the set and returns it; `None` if the set is empty.
     #[tactic(auto, using(crate::proofs::Members::members_none, crate::proofs::Members::members_first))]
     pub fn take_first(&mut self) -> Option<Square>
         ensures { MatchOption result ((members self.old ≡ []) × (self.new ≡ self.old))

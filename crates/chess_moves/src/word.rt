@@ -5,25 +5,31 @@ ghost use Rattle.chess_moves.specs.PositionWord.{key, colour_index, kind_index, 
 
 use chess_base::{Colour, Kind, Man, Rights, Setup, Square};
 
-// SplitMix64's increment and its two factors.
+// SplitMix64's increment.
 const INCREMENT: u64 = 0x9E37_79B9_7F4A_7C15;
 
+// SplitMix64's first factor.
 const FIRST_FACTOR: u64 = 0xBF58_476D_1CE4_E5B9;
 
+// SplitMix64's second factor.
 const SECOND_FACTOR: u64 = 0x94D0_49BB_1331_11EB;
 
-/// The keys of which position hashes are made: 768 of pieces on squares, one of Black on move, and 16 of rights.
+/// The Zobrist keys of which position hashes are made: 768 of pieces on squares, one of Black on move, and 16 of
+/// castling rights.
 pub trait Keys {
-    /// The key with that number.
+    /// The key with that number, from 0 on: 0 to 767 for pieces, 768 for Black on move, from 769 on for castling
+    /// rights.
     fn key(&self, number: u16) -> u64
         requires { number < 785 }
         ensures { result ≡ key number };
 }
 
-/// Keys that are computed each time, by three products.
+/// Keys that are computed at each call, by the generator SplitMix64: the key with number n is its n-th output with seed
+/// 0.
 pub struct ComputedKeys;
 
 impl Keys for ComputedKeys {
+    // The key with that number, computed by SplitMix64's three steps.
     #[tactic(auto, unfolding(crate::specs::PositionWord::key))]
     fn key(&self, number: u16) -> u64 {
         let mut z = (number as u64 + 1).wrapping_mul(INCREMENT);
@@ -33,6 +39,7 @@ impl Keys for ComputedKeys {
     }
 }
 
+// The index of a colour among the keys of pieces and of castling rights.
 fn colour_index(colour: Colour) -> u16
     ensures value { result ≡ colour_index colour }
     ensures in_range { result < 2 }
@@ -43,6 +50,7 @@ fn colour_index(colour: Colour) -> u16
     }
 }
 
+// The index of a kind of piece among the keys of pieces: pawn 0 to king 5.
 fn kind_index(kind: Kind) -> u16
     ensures value { result ≡ kind_index kind }
     ensures in_range { result < 6 }
@@ -57,7 +65,7 @@ fn kind_index(kind: Kind) -> u16
     }
 }
 
-/// The key of a piece on a square.
+/// The key of that piece on that square.
 #[inline(always)]
 pub fn man_key<K: Keys>(keys: &K, man: Man, square: Square) -> u64
     ensures { result ≡ man_key man square }
@@ -66,7 +74,7 @@ pub fn man_key<K: Keys>(keys: &K, man: Man, square: Square) -> u64
     keys.key(64 * place + square.number() as u16)
 }
 
-// The hash of what is on a square.
+// The hash of what is on a square: the key of the piece, or 0 if it is empty.
 fn square_word(square: Square, man: Option<Man>) -> u64
     ensures { result ≡ xor_of (square_keys square man) }
 {
@@ -76,7 +84,7 @@ fn square_word(square: Square, man: Option<Man>) -> u64
     }
 }
 
-// The hash of the pieces alone.
+// The exclusive or of the keys of all pieces.
 fn men_word(men: &[Option<Man>; 64]) -> u64
     ensures { result ≡ xor_of (men_keys men.now) }
 {
@@ -88,7 +96,7 @@ fn men_word(men: &[Option<Man>; 64]) -> u64
     word
 }
 
-// The hash of the side on move alone.
+// The hash of the side on move alone: 0 for White, a key for Black.
 fn side_word<K: Keys>(keys: &K, side: Colour) -> u64
     ensures { result ≡ xor_of (side_keys side) }
 {
@@ -98,7 +106,7 @@ fn side_word<K: Keys>(keys: &K, side: Colour) -> u64
     }
 }
 
-// The hash of a right, by the square of its rook, if it is there.
+// The hash of one castling right of that colour, given as its rook's square: 0 if there is no right.
 fn right_word<K: Keys>(keys: &K, colour: Colour, rook: Option<Square>) -> u64
     ensures { result ≡ xor_of (right_keys colour rook) }
 {
@@ -108,7 +116,7 @@ fn right_word<K: Keys>(keys: &K, colour: Colour, rook: Option<Square>) -> u64
     }
 }
 
-// The hash of the castling rights alone.
+// The exclusive or of the keys of the castling rights that are there.
 fn rights_word<K: Keys>(keys: &K, rights: &Rights) -> u64
     ensures { result ≡ xor_of (rights_keys rights.now) }
 {
@@ -119,7 +127,7 @@ fn rights_word<K: Keys>(keys: &K, rights: &Rights) -> u64
     white_king_side ^ white_queen_side ^ black_king_side ^ black_queen_side
 }
 
-/// The position hash of a setup, where that of its pieces is known.
+/// The position hash of a setup, from the hash of its pieces alone, which the caller has.
 pub fn word_with<K: Keys>(keys: &K, of_men: u64, setup: &Setup) -> u64
     requires { of_men ≡ xor_of (men_keys setup.now.men) }
     ensures { result ≡ position_word setup.now.men setup.now.side setup.now.rights }
@@ -127,7 +135,7 @@ pub fn word_with<K: Keys>(keys: &K, of_men: u64, setup: &Setup) -> u64
     of_men ^ side_word(keys, setup.side) ^ rights_word(keys, &setup.rights)
 }
 
-/// The position hash of a setup.
+/// The position hash of a setup, computed anew: a Zobrist hash of pieces, side on move and castling rights.
 pub fn position_word(setup: &Setup) -> u64
     ensures { result ≡ position_word setup.now.men setup.now.side setup.now.rights }
 {

@@ -30,49 +30,56 @@ use Rattle.chess_pgn.specs.Terminations.{termination_named}
 use Rattle.chess_pgn.specs.Tokens.{Token, Skip, Tag, Word, Bad_tag, Unclosed_comment, Unclosed_variation, Bad, after_byte_order_mark, tokens_from}
 use Rattle.chess_pgn.specs.Words.{kind_of}
 
--- the game so far. It is met where it had a tag, number or move, and begun where it had a number or move; the
--- termination is what its tags said
+-- what reading has found so far in a game's text: the game; whether there was a tag, number or move (`is_met`);
+-- whether there was a number or move (`is_begun`), after which a tag belongs to the next game; and what its tag
+-- Termination says
 pub record SoFar : Type 0 where
   pub state : State
   pub is_met : Bool
   pub is_begun : Bool
   pub termination : Option Termination
 
--- the game that is left, and the answer
+-- what reading gives in the end: the game, and either where it ended, or `None` if the text has no more games, or the
+-- fault
 pub record GameRead : Type 0 where
   pub state : State
   pub answer : Result (Option PgnEnd) PgnFault
 
--- what a token leaves: the game goes on, or reading has ended
+-- what follows from one token: reading goes on with the game so far, or stops with what was read
 pub data Step : Type 0 where
   On : (game : SoFar) → Step
   Stop : (read : GameRead) → Step
 
--- reading ends at an offset that can't be read or played: the game holds the moves before it and nothing declared
+-- stops reading with a fault at an offset: the game keeps the moves that it has so far (`g`), and has no declared
+-- result
 abbrev pub fails : SoFar → PgnFaultKind → ℕ → Step
 fails g kind offset = Stop (record { state = g.state; answer = Err (record { kind = kind; offset = offset }) })
 
 -- ---- words
 
--- the outcome named at a game's end is declared where there is no verdict and it is not `*`
+-- what a game's outcome mark declares: its outcome, but nothing if the board has a verdict (the flag) or the mark is
+-- `*`
 abbrev pub declared_after : Bool → Outcome → Option Declared
 declared_after is_decided o =
     if is_decided || same_outcome o Unfinished then None else Some (record { outcome = o; comment = [] })
 
--- the game ends with this outcome, at an offset after its text
+-- stops at the outcome mark `o`: the game is `g` with that outcome declared, and `offset` is that of the byte after
+-- the mark
 abbrev pub ends : SoFar → Outcome → ℕ → Step
 ends g o offset = Stop (record {
   state = with_declared g.state (declared_after (is_some (verdict_now g.state)) o);
   answer = Ok (Some (record { outcome = o; termination = g.termination; offset = offset }));
 })
 
--- no move is played after a verdict, and none past the limit
+-- `next`, if one more move may be played in the game so far (`g`): the board has no verdict yet (else the fault is
+-- AfterEnd), and there are fewer moves than `limit` (else TooLong). `offset` is that of the move's word
 abbrev pub unless_full : ℕ → SoFar → ℕ → Step → Step
 unless_full limit g offset next =
     if is_some (verdict_now g.state) then fails g AfterEnd offset
     else (if nat_lt (length g.state.moves) limit then next else fails g TooLong offset)
 
--- a word that is read as a move, at that offset
+-- what follows from a word that may be a move, by what it denotes in the current position: the move is played, or
+-- there is a fault at the word's offset. `limit` is the most half-moves of a game
 abbrev pub move_step : ℕ → SoFar → ℕ → Reading → Step
 move_step limit g offset reads.NotAMove = fails g BadToken offset
 move_step limit g offset (reads.Move m) = unless_full limit g offset
@@ -80,7 +87,8 @@ move_step limit g offset (reads.Move m) = unless_full limit g offset
 move_step limit g offset reads.Ambiguous = unless_full limit g offset (fails g AmbiguousMove offset)
 move_step limit g offset reads.NoSuch = unless_full limit g offset (fails g IllegalMove offset)
 
--- a word at that offset
+-- what follows from a word of this kind, at that offset: an outcome ends the game, a number begins it, marks are
+-- skipped, a move is played. `limit` is the most half-moves of a game
 abbrev pub word_step : ℕ → SoFar → ℕ → List ℕ → WordKind → Step
 word_step limit g offset word (End o) = ends g o (offset + length word)
 word_step limit g offset word Number = On (record g { is_met = true; is_begun = true })
@@ -89,16 +97,19 @@ word_step limit g offset word Move = move_step limit g offset (reading (current 
 
 -- ---- tags
 
--- a start that a FEN at that offset denotes
+-- what follows from a tag FEN, by how its text was read: the game starts from that position, or the fault is BadFen;
+-- `offset` is that of its string
 abbrev pub fen_step : SoFar → ℕ → Result Setup FenFault → Step
 fen_step g offset (Ok start) = On (record g { state = from_start start; is_met = true })
 fen_step g offset (Err fault) = fails g BadFen offset
 
--- what is known of the game's end after a tag: the last one counts
+-- what is known of Termination after a tag with this name and text, if it was `before`: the last tag of that name
+-- counts
 abbrev pub termination_after : Option Termination → List ℕ → List ℕ → Option Termination
 termination_after before name text = if bytes_eq name (codes "Termination") then termination_named text else before
 
--- a tag whose string begins at that offset
+-- what follows from a tag with this name and text: FEN sets the start, Termination is kept, any other tag is skipped;
+-- `offset` is that of its string
 abbrev pub tag_step : SoFar → List ℕ → List ℕ → ℕ → Step
 tag_step g name text offset =
     if bytes_eq name (codes "FEN") then fen_step g offset (fen_reading_as g.state.start.variant text)
@@ -106,7 +117,8 @@ tag_step g name text offset =
 
 -- ---- tokens, in a text of so many bytes; each with how many bytes are left where it begins
 
--- what one token leaves
+-- what follows from one token. `limit` is the most half-moves of a game, `total` the text's length, and `left` how
+-- many bytes are left from the token on, so that its offset is `total - left`
 abbrev pub step : ℕ → ℕ → SoFar → ℕ → Token → Step
 step limit total g left Skip = On g
 step limit total g left (Tag name text string) =
@@ -117,30 +129,32 @@ step limit total g left (Unclosed_comment brace) = fails g UnclosedComment (tota
 step limit total g left Unclosed_variation = fails g UnclosedVariation (total - left)
 step limit total g left Bad = fails g BadToken (total - left)
 
--- at the text's end there is no game, or one without a result
+-- what was read if the text ends here, before an outcome mark: no game, or a game with the fault NoResult. `total` is
+-- the text's length
 abbrev pub at_text_end : ℕ → SoFar → GameRead
 at_text_end total g =
     record { state = g.state; answer = if g.is_met then Err (record { kind = NoResult; offset = total }) else Ok None }
 
--- what is read later, unless reading has ended
+-- what was read in the end: that of a step which stopped, else what `later` gives for the game so far
 abbrev pub go_on : Step → (SoFar → GameRead) → GameRead
 go_on (On g) later = later g
 go_on (Stop read) later = read
 
--- the game that is read from the tokens left, after the game so far
+-- reads the tokens that are left, after the game so far: what was read in the end. `limit` is the most half-moves of
+-- a game, `total` the text's length
 abbrev pub game_of : ℕ → ℕ → SoFar → List (ℕ × Token) → GameRead
 game_of limit total g [] = at_text_end total g
 game_of limit total g (t ∷ ts) = go_on (step limit total g t.0 t.1) (λ h. game_of limit total h ts)
 
--- a game of a variant from its initial position, of which nothing was read
+-- before the first token: a game of this variant at its initial position
 abbrev pub nothing_read : Variant → SoFar
 nothing_read v =
     record { state = from_start (initial_setup_of v); is_met = false; is_begun = false; termination = None }
 
 -- ---- the variant
 
--- the variant that a tag's text names, in letters of either size: Chess960 by three names. Any other text stands for
--- normal chess, also one that names another variant
+-- the variant that the text of a tag Variant names, in capital or small letters: `fischerandom`, `fischerrandom` and
+-- `chess960` are Chess960; any other text means normal chess, even if it names another variant
 abbrev pub variant_named : List ℕ → Variant
 variant_named text =
     if str_eq_ignore_ascii_case text (codes "fischerandom") || str_eq_ignore_ascii_case text (codes "fischerrandom")
@@ -153,10 +167,11 @@ tagged_variant tokens = option_map_or (λ tag. variant_named tag.0) (last_tag (c
 
 -- ---- the game
 
--- what tokens of a text of so many bytes are read as, for a game of at most so many half-moves
+-- the game that these tokens are read as, in the variant that its tags name. `limit` is the most half-moves of a
+-- game, `total` the text's length
 abbrev pub tokens_read : ℕ → ℕ → List (ℕ × Token) → GameRead
 tokens_read limit total tokens = game_of limit total (nothing_read (tagged_variant tokens)) tokens
 
--- what a text is read as from an offset on
+-- the game that a text is read as from the offset `at` on. `limit` is the most half-moves of a game
 unfoldable pub pgn_read : ℕ → List ℕ → ℕ → GameRead
 pgn_read limit text at = tokens_read limit (length text) (tokens_from text (after_byte_order_mark text at))

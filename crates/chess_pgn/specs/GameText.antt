@@ -21,67 +21,70 @@ use Rattle.chess_pgn.specs.Written.{tag_line, ended, move_text_of}
 
 -- ---- tags
 
--- the seven tags that each game has, in their order
+-- the lines of the seven tags that each game has, in their order (section 8.1.1), for a game with outcome `o`
 abbrev pub roster_lines : Tags → Outcome → List (List ℕ)
 roster_lines t o =
     tag_line (codes "Event") t.event ∷ tag_line (codes "Site") t.site ∷ tag_line (codes "Date") t.date
     ∷ tag_line (codes "Round") t.round ∷ tag_line (codes "White") t.white ∷ tag_line (codes "Black") t.black
     ∷ tag_line (codes "Result") (outcome_text o) ∷ []
 
--- a start of normal chess is the initial position exactly where its FEN is, since no two positions have the same FEN
+-- whether a start of normal chess is the initial position. FENs are compared, since no two positions have the same
+-- one
 abbrev pub is_initial : Setup → Bool
 is_initial start = bytes_eq (fen start) (fen initial_setup)
 
--- the tags of a start: its FEN, and that it is set up
+-- the lines of the tags FEN and SetUp (section 9.7) for a game from this start
 abbrev pub fen_lines : Setup → List (List ℕ)
 fen_lines start = tag_line (codes "FEN") (fen start) ∷ tag_line (codes "SetUp") (codes "1") ∷ []
 
--- the tags of a start that is not the initial position; in Chess960 of each start
+-- the lines of the tags that give the start: none for the initial position of normal chess
 abbrev pub start_lines_in : Variant → Setup → List (List ℕ)
 start_lines_in Normal start = if is_initial start then [] else fen_lines start
 start_lines_in Fischerandom start = fen_lines start
 
--- the tag of Chess960
+-- the line of the tag Variant, for Chess960 only
 abbrev pub variant_lines : Variant → List (List ℕ)
 variant_lines Normal = []
 variant_lines Fischerandom = tag_line (codes "Variant") (codes "fischerandom") ∷ []
 
--- the tag that says how the game ended, and that of the variant
+-- the line of the tag Termination, and for Chess960 that of Variant
 abbrev pub last_lines : Variant → Termination → List (List ℕ)
 last_lines v termination = tag_line (codes "Termination") (termination_text termination) ∷ variant_lines v
 
--- the tags after the seven, in the order of their names' bytes
+-- the lines of the tags after the seven of each game, sorted by name: FEN, SetUp, Termination, Variant
 abbrev pub further_lines : Setup → Termination → List (List ℕ)
 further_lines start termination = start_lines_in start.variant start ++ last_lines start.variant termination
 
--- all tags of a game; Termination is `unterminated` where there is no outcome
+-- the lines of all tags of the game `s`; its outcome comes from the game, not from `t`
 abbrev pub tag_lines : Tags → State → List (List ℕ)
 tag_lines t s = roster_lines t (outcome_now s) ++ further_lines s.start (termination_of t.ended (outcome_now s))
 
 -- ---- the tokens of the moves
 
--- what is written before a move: the position's number before White's, and before a first move by Black
+-- the number before a move by this side: `12.` before each move of White, `12...` only if Black makes the first move
+-- of the text
 abbrev pub number_token : Colour → Bool → ℕ → List (List ℕ)
 number_token White is_first number = (decimal number ++ codes ".") ∷ []
 number_token Black true number = (decimal number ++ codes "...") ∷ []
 number_token Black false number = []
 
--- those of one move
+-- the tokens of the move `m` in the position `p`: a number if one is due, and its SAN
 abbrev pub tokens_of_move : Bool → Setup → Move → List (List ℕ)
 tokens_of_move is_first p m = number_token p.side is_first p.fullmove ++ san p m ∷ []
 
--- those of moves from a position on
+-- the tokens of moves made one after another from the position `p` on: numbers and SAN (section 8.2)
 abbrev pub move_tokens : Bool → Setup → List Move → List (List ℕ)
 move_tokens is_first p [] = []
 move_tokens is_first p (m ∷ ms) = tokens_of_move is_first p m ++ move_tokens false (after p m) ms
 
--- those of a game, the outcome last
+-- the tokens of a game: numbers, moves in SAN, and the outcome last
 abbrev pub game_tokens : State → List (List ℕ)
 game_tokens s = move_tokens true s.start s.moves ++ outcome_text (outcome_now s) ∷ []
 
 -- ---- the whole text: tags, an empty line, the moves in filled lines, an empty line; each line after a prefix
 
--- a game's text
+-- a game's text as it is written: tags, an empty line, the moves, an empty line; each line after `prefix` (`# ` in a
+-- session)
 unfoldable pub pgn : List ℕ → Tags → State → List ℕ
 pgn prefix t s = ended prefix (tag_lines t s ++ [] ∷ []) ++ move_text_of prefix (game_tokens s)
     ++ ended prefix ([] ∷ [])

@@ -3,7 +3,7 @@ use Rattle.std.specs.Prelude.{codes}
 use Rattle.chess_pgn.specs.declared.tags.HowEnded.TheVariants.{Normal}
 use Rattle.chess_pgn.specs.declared.tags.Tags.{Tags}
 
--- nothing is known but that it was a game, which ended in the normal way
+-- the tags of a game of which nothing is known: `?` in each, and a normal end
 abbrev pub default_tags : Tags
 default_tags = record {
   event = codes "?";

@@ -8,7 +8,7 @@ use Rattle.chess_pgn.specs.declared.tags.HowEnded.TheVariants as how
 use Rattle.chess_pgn.specs.declared.termination.Termination.{Termination}
 use Rattle.chess_pgn.specs.declared.termination.Termination.TheVariants.{Abandoned, Adjudication, Death, Emergency, Normal, RulesInfraction, TimeForfeit, Unterminated}
 
--- the words of the tag
+-- the text of the tag Termination, such as `time forfeit`
 abbrev pub termination_text : Termination → List ℕ
 termination_text Abandoned = codes "abandoned"
 termination_text Adjudication = codes "adjudication"
@@ -23,7 +23,7 @@ termination_text Unterminated = codes "unterminated"
 abbrev pub terminations : List Termination
 terminations = Abandoned ∷ Adjudication ∷ Death ∷ Emergency ∷ Normal ∷ RulesInfraction ∷ TimeForfeit ∷ Unterminated ∷ []
 
--- the one that a tag's text names, in letters of either size
+-- the value that a text of the tag Termination names, in capital or small letters: `Time Forfeit` too
 unfoldable pub termination_named : List ℕ → Option Termination
 termination_named text = find (λ t. str_eq_ignore_ascii_case text (termination_text t)) terminations
 

@@ -8,7 +8,8 @@ use Rattle.std.specs.List.{list_any, prefix_len, position_or_len, take_while}
 use Rattle.std.specs.Option.{option_and_then, option_map, option_map_or, unwrap_or}
 use Rattle.std.specs.Str.{bytes_eq}
 
--- what a token is. An offset in it is given by how many bytes of the text are left there
+-- a token of a PGN text (section 7). A field `left` says where something is: it is the number of bytes from there to
+-- the text's end
 pub data Token : Type 0 where
   Skip : Token
   -- a tag's name, the bytes between its quotes as they are, and how many are left at the first of them
@@ -22,30 +23,32 @@ pub data Token : Type 0 where
 
 -- ---- bytes
 
--- a space, a tab, or the end of a line
+-- whether a byte is a space, a tab, or one of `\n` and `\r`
 abbrev pub is_white_space : ℕ → Bool
 is_white_space c = c == space || (c == tab || (c == new_line || c == carriage_return))
 
--- letters, digits and `_`
+-- whether a byte may be in a tag's name: letters, digits and `_`
 abbrev pub is_name_byte : ℕ → Bool
 is_name_byte c = is_letter c || (is_digit c || c == byte "_")
 
--- these, `+`, `#`, `=`, `-`, `/`, `!`, `?` and `:`
+-- whether a byte may be in a word (`Nf3+`, `O-O`, `1/2-1/2`): letters, digits, `_`, `+`, `#`, `=`, `-`, `/`, `!`, `?`
+-- and `:`
 abbrev pub is_word_byte : ℕ → Bool
 is_word_byte c = is_name_byte c || list_any (λ b. c == b) (codes "+#=-/!?:")
 
 -- ---- what is skipped
 
--- from the end of the line on
+-- the text from the end of its first line on: of `ab\ncd` it is `\ncd`, and it is empty if no line ends
 abbrev pub line_end : List ℕ → List ℕ
 line_end text = drop (position_or_len (λ c. c == new_line) text) text
 
--- the text after the first closing brace
+-- the text after its first `}`, if it has one: the rest after a `{` comment (section 5)
 abbrev pub after_brace : List ℕ → Option (List ℕ)
 after_brace [] = None
 after_brace (c ∷ rest) = if c == byte "}" then Some rest else after_brace rest
 
--- the text after white space and `%` lines: in such a line or not, where a line begins or not
+-- the text after the white space and `%` lines (section 6) at its front. The flags say whether its first byte is
+-- inside such a line already, and whether that byte is the first of a line
 abbrev pub after_gap : Bool → Bool → List ℕ → List ℕ
 after_gap skips begins [] = []
 after_gap true begins (c ∷ rest) = after_gap (not (c == new_line)) true rest
@@ -77,12 +80,13 @@ infixl 10 ◌>>=◌
 abbrev pub ◌>>=◌ : {A B : Type 0} → Option A → (A → Option B) → Option B
 o >>= f = option_and_then f o
 
--- a string that goes on after these bytes
+-- puts `front` before the string that was found after it, if one was; `found` is a string's bytes and the text after
+-- it
 abbrev pub onto : List ℕ → Option (List ℕ × List ℕ) → Option (List ℕ × List ℕ)
 onto front string = option_map (λ found. (front ++ found.0, found.1)) string
 
--- a string's bytes up to its closing quote, and what follows it; none where a line or the text ends before. A
--- backslash keeps the next byte from ending it
+-- reads a tag's string after its opening quote: its bytes, and the text after its closing quote. `None` if the line
+-- or the text ends first. A backslash keeps the next byte from ending it: `a\"b"]` gives `a\"b` and `]`
 abbrev pub string_at : List ℕ → Option (List ℕ × List ℕ)
 string_at [] = None
 string_at (c ∷ []) = if c == byte "\"" then Some ([], []) else None
@@ -92,12 +96,12 @@ string_at (c ∷ d ∷ rest) =
     else (if c == byte "\\" then (if d == new_line then None else onto (c ∷ d ∷ []) (string_at rest))
     else onto (c ∷ []) (string_at (d ∷ rest))))
 
--- the text after this byte
+-- the text after its first byte, if that byte is `b`
 abbrev pub after_byte : ℕ → List ℕ → Option (List ℕ)
 after_byte b [] = None
 after_byte b (c ∷ rest) = if c == b then Some rest else None
 
--- the text after a gap and this byte
+-- the text after white space, `%` lines and then the byte `b`, if that comes next
 abbrev pub after_next : ℕ → List ℕ → Option (List ℕ)
 after_next b text = after_byte b (after_gap false false text)
 
@@ -117,12 +121,13 @@ tag_at text = do
 
 -- ---- tokens
 
--- a comment in braces, with what follows it, if it is closed
+-- the token of a comment in braces: `Skip` with the text after its `}`, or a fault if it has none; `left` counts the
+-- bytes from its `{` on
 abbrev pub comment_at : ℕ → Option (List ℕ) → Token × List ℕ
 comment_at left behind = option_map_or (λ rest. (Skip, rest)) behind (Unclosed_comment left, [])
 
--- the first token of a text that isn't empty, where a line begins or not, and what follows it; nothing is read
--- after one that can't be read
+-- the first token of the text `c ∷ rest`, and the text after it, which is empty after a token that can't be read.
+-- `line_begins`: `c` is the first byte of a line, where `%` skips the line
 unfoldable pub token_at : Bool → ℕ → List ℕ → Token × List ℕ
 token_at line_begins c rest =
     if line_begins && c == byte "%" then (Skip, line_end rest)
@@ -137,7 +142,8 @@ token_at line_begins c rest =
     then (Word (take_while is_word_byte (c ∷ rest)), drop (prefix_len is_word_byte (c ∷ rest)) (c ∷ rest))
     else (Bad, [])))))))))
 
--- the tokens of a text, each with how many bytes are left where it begins; at most `most` of them
+-- the tokens of a text in order, each after the number of bytes left where it begins; at most `most` of them.
+-- `line_begins`: a line begins at the text's first byte
 unfoldable pub tokens_of : ℕ → Bool → List ℕ → List (ℕ × Token)
 tokens_of zero line_begins text = []
 tokens_of (suc most) line_begins [] = []
@@ -146,14 +152,15 @@ tokens_of (suc most) line_begins (c ∷ rest) =
 
 -- ---- a text from an offset on
 
--- the bytes EF BB BF at offset 0 are skipped
+-- where reading begins: at 3 if `at` is 0 and the text begins with a UTF-8 byte order mark (EF BB BF), else at `at`
 abbrev pub after_byte_order_mark : List ℕ → ℕ → ℕ
 after_byte_order_mark text at = if (at == 0) && bytes_eq (take 3 text) (239 ∷ 187 ∷ 191 ∷ []) then 3 else at
 
--- the text's first byte is there, or byte 10 before it
+-- whether a line begins at an offset: it is 0, or `\n` comes before it
 abbrev pub begins_line : List ℕ → ℕ → Bool
 begins_line text offset = (offset == 0) || (slice_index text (offset - 1) == new_line)
 
--- the tokens of a text from an offset on. A token takes at least a byte, so no text has more tokens than bytes
+-- the tokens of a text from an offset on, each after the number of bytes left where it begins. A token takes at least
+-- a byte, so no text has more tokens than bytes
 unfoldable pub tokens_from : List ℕ → ℕ → List (ℕ × Token)
 tokens_from text offset = tokens_of (length text) (begins_line text offset) (drop offset text)

@@ -10,7 +10,7 @@ use Rattle.chess_game.specs.declared.results.Outcome.TheVariants.{WhiteWins, Bla
 use Rattle.chess_pgn.specs.declared.word.WordKind.{WordKind}
 use Rattle.chess_pgn.specs.declared.word.WordKind.TheVariants.{End, Number, Marks, Move}
 
--- the outcome that is written so
+-- the outcome that is written `1-0`, `0-1`, `1/2-1/2` or `*`; `None` for any other text
 abbrev pub outcome_of : List ℕ → Option Outcome
 outcome_of word = find (λ o. bytes_eq (outcome_text o) word) (WhiteWins ∷ BlackWins ∷ Draw ∷ Unfinished ∷ [])
 

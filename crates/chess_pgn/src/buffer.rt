@@ -12,7 +12,7 @@ use std::marker::Model;
 // The most bytes that wait.
 const BUFFER_LEN: usize = 4096;
 
-/// Text that waits. In contracts it is the list of its bytes.
+/// Text that is collected before it is written. In contracts it is the list of its bytes.
 #[derive(Drop)]
 pub(crate) struct TextBuffer {
     text: ArrayVec<u8, 4096>,
@@ -27,7 +27,7 @@ impl Model for TextBuffer {
 }
 
 impl TextBuffer {
-    /// Nothing waits.
+    /// An empty buffer.
     pub(crate) fn new() -> Self
         ensures { result ≡ [] }
     {
@@ -36,7 +36,7 @@ impl TextBuffer {
         }
     }
 
-    // Writes what waits, unless there is room after it for so many bytes.
+    // Writes and empties the buffer, unless `len` more bytes fit into it.
     fn make_room<W: Output>(&mut self, writer: &mut W, len: usize) -> Result<(), WriteFault>
         ensures added { Adds (W.seen writer.old) (W.seen writer.new) self.old self.new result [] }
         ensures room { OnOk result (len ≤ BUFFER_LEN → length self.new + len ≤ BUFFER_LEN) }
@@ -49,10 +49,11 @@ impl TextBuffer {
         Ok(())
     }
 
-    /// Adds a text after what waits.
+    /// Adds a text to the buffer, which is written first where the text doesn't fit; a text longer than the buffer is
+    /// written at once.
     ///
     /// # Errors
-    /// Where the writer failed; a beginning of what waited and of the text was taken.
+    /// If the writer fails; a beginning of the buffer and of the text was written then.
     pub(crate) fn add<W: Output>(&mut self, writer: &mut W, text: &[u8]) -> Result<(), WriteFault>
         ensures { Adds (W.seen writer.old) (W.seen writer.new) self.old self.new result text.now }
     {
@@ -64,10 +65,10 @@ impl TextBuffer {
         Ok(())
     }
 
-    /// Adds texts, one after the other.
+    /// Adds texts to the buffer, one after the other.
     ///
     /// # Errors
-    /// Where the writer failed; a beginning of what waited and of the texts was taken.
+    /// If the writer fails; a beginning of the buffer and of the texts was written then.
     pub(crate) fn add_parts<W: Output>(
         &mut self,
         writer: &mut W,
@@ -81,10 +82,10 @@ impl TextBuffer {
         Ok(())
     }
 
-    /// Writes what waits.
+    /// Writes what is in the buffer.
     ///
     /// # Errors
-    /// Where the writer failed; a beginning of what waited was taken.
+    /// If the writer fails; a beginning of the buffer was written then.
     pub(crate) fn finish<W: Output>(self, writer: &mut W) -> Result<(), WriteFault>
         ensures { Puts (W.seen writer.old) (W.seen writer.new) result self }
     {

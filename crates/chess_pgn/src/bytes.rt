@@ -15,26 +15,28 @@ static CLASSES: [u8; 256] = *b"\
     --------------------------------\
     --------------------------------";
 
+/// Whether a byte is a space, a tab, or one of `\n` and `\r`.
 pub(crate) fn is_white_space(byte: u8) -> bool
     ensures { result ≡ is_white_space byte }
 {
     matches!(byte, b' ' | b'\t' | b'\n' | b'\r')
 }
 
+/// Whether a byte is one of `0` to `9`.
 pub(crate) fn is_digit(byte: u8) -> bool
     ensures { result ≡ is_digit byte }
 {
     byte.is_ascii_digit()
 }
 
-// A byte of a tag's name.
+// Whether a byte may be in a tag's name: letters, digits and `_`.
 pub(crate) fn is_name_byte(byte: u8) -> bool
     ensures { result ≡ is_name_byte byte }
 {
     byte.is_ascii_alphanumeric() || byte == b'_'
 }
 
-// A byte of a word: a move, a number, marks or a termination.
+// Whether a byte may be in a word: a move, a number, marks or an outcome.
 #[inline(always)]
 pub(crate) fn is_word_byte(byte: u8) -> bool
     ensures { result ≡ is_word_byte byte }
@@ -42,7 +44,7 @@ pub(crate) fn is_word_byte(byte: u8) -> bool
     CLASSES[byte as usize] == b'w'
 }
 
-// White space or a dot, which count nothing where a token begins.
+// Whether a byte is white space or a dot, which are skipped between tokens.
 #[inline(always)]
 pub(crate) fn is_passed(next: u8) -> bool
     ensures { result ≡ (is_white_space next || next == byte ".") }

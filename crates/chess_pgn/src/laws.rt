@@ -14,8 +14,9 @@ use chess_base::{Position, Variant, after_is_sound};
 use chess_fen::written_is_spelled;
 use chess_text::san_is_a_word;
 
-/// The text that tokens of 1 to 79 bytes make from left to right has them in filled lines, and no other text has: no
-/// line has more than 79 bytes after the prefix, and none could also have taken the first token of the next.
+/// States a law and does nothing: the text that tokens of 1 to 79 bytes make from left to right has them in filled
+/// lines, and no other text has. No line has more than 79 bytes after the prefix, and none could also have taken the
+/// first token of the next.
 pub fn lines_are_filled()
     ensures filled { (prefix : List ℕ) (tokens : List (List ℕ)) → AreShort tokens
         → IsMoveText prefix tokens (move_text_of prefix tokens) }
@@ -23,7 +24,7 @@ pub fn lines_are_filled()
         → IsMoveText prefix tokens text → text ≡ move_text_of prefix tokens }
 {}
 
-/// The text of every game's moves has them in filled lines.
+/// States a law and does nothing: the text of every game's moves has them in filled lines.
 pub fn games_are_in_filled_lines()
     ensures { (prefix : List ℕ) (limit : ℕ) (s : State) → IsPlayable (record { limit = limit; state = s })
         → IsMoveText prefix (game_tokens s) (move_text_of prefix (game_tokens s)) }
@@ -33,16 +34,17 @@ pub fn games_are_in_filled_lines()
     san_is_a_word();
 }
 
-/// A game that is read is that of the first tokens of its text, defined with no reader: which tokens are taken, that
-/// its start is what their last FEN tag denotes, that each move word's reading in the position reached is its move,
-/// what their last tag `Termination` names, and which token ended it or has the fault, with the offset that is
-/// returned.
+/// States a law and does nothing: a game that is read is that of the first tokens of its text, defined with no reader:
+/// which tokens are taken, that its start is what their last FEN tag denotes, that each move word's reading in the
+/// position reached is its move, what their last tag `Termination` names, and which token ended it or has the fault,
+/// with the offset that is returned.
 pub fn games_are_of_tokens()
     ensures { GamesAreOfTokens }
 {}
 
-/// The text of a game that the limit admits is read back where it begins, whatever comes before and after it: the
-/// start, the moves and the outcome are those of the game, and the offset returned is the one after its termination.
+/// States a law and does nothing: the text of a game that the limit admits is read back where it begins, whatever
+/// comes before and after it. The start, the moves and the outcome are those of the game, and the offset returned is
+/// the one after its outcome.
 ///
 /// A result that was declared comes back without its comment, since the text holds none. The tags are not kept.
 pub fn pgn_is_read_back()
@@ -56,19 +58,19 @@ pub fn pgn_is_read_back()
     let _sound = initial.setup();
 }
 
-/// Games of normal chess are written, and texts with no tag `Variant` before the first number, move or
-/// outcome are read, as is defined for normal chess alone: from its initial position, and each FEN as one of normal
-/// chess.
+/// States a law and does nothing: games of normal chess are written, and texts with no tag `Variant` before the first
+/// number, move or outcome are read, as is defined for normal chess alone.
 pub fn normal_is_kept()
     ensures { NormalIsKept }
 {}
 
-/// A fault's offset is in the text, and not before the offset where reading began.
+/// States a law and does nothing: a fault's offset is in the text, and not before the offset where reading began.
 pub fn faults_have_offsets()
     ensures { FaultsHaveOffsets }
 {}
 
-/// A half-move takes at least a byte of its game's text, so that a game has no more half-moves than bytes.
+/// States a law and does nothing: a half-move takes at least a byte of its game's text, so that a game has no more
+/// half-moves than bytes.
 pub fn half_moves_have_bytes()
     ensures { HalfMovesHaveBytes }
 {}

@@ -13,8 +13,8 @@ use byte_devices::{Output, WriteFault};
 // The most bytes of a line of moves, its prefix and its end not counted (PGN standard of 1994, section 4.3).
 const LINE_LEN: usize = 79;
 
-/// Writes lines, each after a prefix. Tokens go into the line that is begun, which has `column` bytes
-/// so far; 0 is no line.
+/// Writes lines through a buffer, each after a prefix. Tokens of moves go into a line of at most 79 bytes, which has
+/// `column` bytes so far; 0: no line is begun.
 #[derive(Drop)]
 pub(crate) struct LineWriter<'a> {
     prefix: &'a [u8],
@@ -24,7 +24,7 @@ pub(crate) struct LineWriter<'a> {
 }
 
 impl<'a> LineWriter<'a> {
-    /// Nothing waits, and no line is begun.
+    /// A writer of lines with this prefix; no line is begun.
     pub(crate) fn new(prefix: &'a [u8]) -> Self
         ensures prefix { result.prefix.now ≡ prefix.now }
         ensures none { result.waiting ≡ [] }
@@ -37,10 +37,10 @@ impl<'a> LineWriter<'a> {
         }
     }
 
-    /// Puts a whole line.
+    /// Writes a whole line, after the prefix; `line` is without its end.
     ///
     /// # Errors
-    /// Where the writer failed; a beginning was taken.
+    /// If the writer fails; a beginning of the text was written then.
     pub(crate) fn put_line<W: Output>(
         &mut self,
         writer: &mut W,
@@ -54,10 +54,10 @@ impl<'a> LineWriter<'a> {
         self.waiting.add_parts(writer, &[self.prefix, line, b"\n"])
     }
 
-    /// Puts a token into the line that is begun, if it has room, else into a new one.
+    /// Adds a token of moves to the line that is begun, after a space, or to a new line if it has no room.
     ///
     /// # Errors
-    /// Where the writer failed; a beginning was taken.
+    /// If the writer fails; a beginning of the text was written then.
     pub(crate) fn put_token<W: Output>(
         &mut self,
         writer: &mut W,
@@ -85,7 +85,7 @@ impl<'a> LineWriter<'a> {
     /// Ends the line that is begun, if there is one.
     ///
     /// # Errors
-    /// Where the writer failed; a beginning was taken.
+    /// If the writer fails; a beginning of the text was written then.
     pub(crate) fn end_line<W: Output>(&mut self, writer: &mut W) -> Result<(), WriteFault>
         ensures added { Adds (W.seen writer.old) (W.seen writer.new) self.old.waiting self.new.waiting result
             (line_close self.old.column) }
@@ -99,10 +99,10 @@ impl<'a> LineWriter<'a> {
         self.waiting.add(writer, b"\n")
     }
 
-    /// Writes what waits.
+    /// Writes what is in the buffer. The last line must be ended before.
     ///
     /// # Errors
-    /// Where the writer failed; a beginning was taken.
+    /// If the writer fails; a beginning of the text was written then.
     pub(crate) fn finish<W: Output>(self, writer: &mut W) -> Result<(), WriteFault>
         ensures { Puts (W.seen writer.old) (W.seen writer.new) result self.entry.waiting }
     {

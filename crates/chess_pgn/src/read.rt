@@ -81,7 +81,7 @@ pub struct PgnFault {
     pub offset: usize,
 }
 
-// How far a game was read.
+// What is known, beside the game's moves, of a game that is being read.
 #[derive(Clone, Copy)]
 struct Progress {
     // Whether a tag, number or move was met.
@@ -93,7 +93,7 @@ struct Progress {
 }
 
 impl Progress {
-    // Before the first token.
+    // What is known before the first token: nothing.
     fn none() -> Self
         ensures { result ≡ record { is_met = false; is_begun = false; termination = None } }
     {
@@ -104,7 +104,7 @@ impl Progress {
         }
     }
 
-    // The progress after a number or move.
+    // What is known after a number or move.
     fn begun(self) -> Self
         ensures { result ≡ record { is_met = true; is_begun = true; termination = self.termination } }
     {
@@ -115,7 +115,7 @@ impl Progress {
         }
     }
 
-    // The progress after a tag.
+    // What is known after a tag.
     fn after_tag(self, tag: &Tag<'_>) -> Self
         ensures { result ≡ record {
           is_met = true;
@@ -131,7 +131,7 @@ impl Progress {
     }
 }
 
-// What is known of the game's end after a tag: the last tag Termination counts.
+// What is known of Termination after a tag, if it was `before`: the last tag of that name counts.
 fn termination_after(before: Option<Termination>, tag: &Tag<'_>) -> Option<Termination>
     ensures { result ≡ termination_after before tag.now.name.now tag.now.text.now }
 {
@@ -142,7 +142,7 @@ fn termination_after(before: Option<Termination>, tag: &Tag<'_>) -> Option<Termi
     }
 }
 
-// What follows a token.
+// What follows from a token.
 enum Step {
     // Reading goes on.
     On(Progress),
@@ -150,7 +150,7 @@ enum Step {
     Ended(PgnEnd),
 }
 
-// Whether the board has a verdict, after which no move is played.
+// Whether the board has a verdict (such as mate), after which no move is played.
 fn is_decided<B: Board>(game: &Game<B>) -> bool
     ensures { result ≡ is_some (verdict_now game.now.state) }
 {
@@ -178,8 +178,8 @@ fn unplayed_kind<B: Board>(game: &Game<B>, kind: PgnFaultKind) -> PgnFaultKind
     }
 }
 
-// Plays a legal move that is written at an offset. The verdict is asked with the help of that move, which costs less
-// than to look for one.
+// Plays a legal move whose text is at `offset`, unless the game has a verdict or is full. That there is a legal move
+// makes the verdict cheaper to find.
 #[inline(always)]
 fn play_move<B: Board>(
     game: &mut Game<B>,
@@ -204,7 +204,7 @@ fn play_move<B: Board>(
     Err(PgnFault { kind, offset })
 }
 
-// Plays the move that a word at an offset is read as.
+// Plays the move that a word denotes in the current position, or gives the fault at `offset`, the word's.
 #[inline(always)]
 fn play_word<B: Board>(
     game: &mut Game<B>,
@@ -227,7 +227,7 @@ fn play_word<B: Board>(
     Err(PgnFault { kind, offset })
 }
 
-// Declares the outcome of a termination, unless the board says one or it is `*`.
+// Declares the outcome at the game's end, unless the board has a verdict or the outcome is `*`.
 fn end_game<B: Board>(game: &mut Game<B>, outcome: Outcome)
     requires { game.old.state.declared ≡ None }
     ensures { game.new
@@ -239,7 +239,7 @@ fn end_game<B: Board>(game: &mut Game<B>, outcome: Outcome)
     }
 }
 
-// Reads a word at an offset.
+// Takes a word, which begins at `offset`: a move is played, an outcome ends the game.
 #[tactic(auto, using(crate::proofs::GameReads::termination_has_bytes))]
 #[inline(always)]
 fn read_word<B: Board>(
@@ -271,7 +271,7 @@ fn read_word<B: Board>(
     }
 }
 
-// Reads a tag whose string begins at an offset.
+// Takes a tag, whose string begins at `offset`: a FEN sets the game's start.
 fn read_tag<B: Board>(
     game: &mut Game<B>,
     progress: Progress,
@@ -297,7 +297,7 @@ fn read_tag<B: Board>(
     Ok(Step::On(progress.after_tag(tag)))
 }
 
-// Reads a token at an offset of a text of so many bytes.
+// Takes a token, which begins at `offset` in a text of `len` bytes.
 #[inline(always)]
 fn read_token<B: Board>(
     game: &mut Game<B>,
@@ -325,7 +325,7 @@ fn read_token<B: Board>(
     }
 }
 
-// What is reported where no token can be read at an offset of a text of so many bytes.
+// The fault of a game's text, for a token that begins at `offset` and can't be read, in a text of `len` bytes.
 fn reported_fault(fault: TokenFault, progress: Progress, len: usize, offset: usize) -> PgnFault
     requires within { IsWithin (len - offset) (fault_seen fault) }
     requires offset { offset ≤ len }
@@ -356,7 +356,8 @@ fn reported_fault(fault: TokenFault, progress: Progress, len: usize, offset: usi
     }
 }
 
-// The variant that a tag's text names.
+// The variant that the text of a tag `Variant` names, such as `fischerandom` or `Chess960`; any other text means
+// normal chess.
 fn variant_named(text: &[u8]) -> Variant
     ensures { result ≡ variant_named text.now }
 {
@@ -370,7 +371,7 @@ fn variant_named(text: &[u8]) -> Variant
     }
 }
 
-// The variant after a token, if more tags may follow it.
+// The variant after a token, if it was `variant`; `None` if no tags of the same game may follow.
 pub(crate) fn variant_after(variant: Variant, token: &Token<'_>) -> Option<Variant>
     ensures { result ≡ variant_after variant (token_seen token.now) }
 {
@@ -390,7 +391,7 @@ pub(crate) fn variant_after(variant: Variant, token: &Token<'_>) -> Option<Varia
     }
 }
 
-// The variant that the tags name from an offset on: the last that they name before a number, move or termination.
+// The variant of the game that begins at `at`: the last that its tags name before the first number, move or outcome.
 fn tagged_variant(text: &[u8], at: usize) -> Variant
     requires { at ≤ length text.now }
     ensures { result ≡ tagged_variant (tokens_from text.now at) }
@@ -411,8 +412,8 @@ fn tagged_variant(text: &[u8], at: usize) -> Variant
     }
 }
 
-// The offset after the white space and dots from an offset on. They are tokens too, but a game is read alike without
-// them.
+// Skips white space and dots from `at` on, and returns the offset after them. They are tokens of their own, but a game
+// is read alike without them; this is faster.
 #[inline(always)]
 fn after_blanks(text: &[u8], at: usize) -> usize
     requires { at ≤ length text.now }
@@ -427,7 +428,7 @@ fn after_blanks(text: &[u8], at: usize) -> usize
     offset
 }
 
-// The offset after the comment at an offset, where one that is closed begins there.
+// The offset after a closed `{` comment that begins at `at`; `None` if there is none.
 #[inline(always)]
 fn after_comment(text: &[u8], at: usize) -> Option<usize>
     requires { at ≤ length text.now }
@@ -446,7 +447,8 @@ fn after_comment(text: &[u8], at: usize) -> Option<usize>
     }
 }
 
-// The offset after the white space, dots and comments from an offset on. A game is read alike without them.
+// Skips white space, dots and `{` comments from `at` on, and returns the offset after them: as `after_blanks`, for
+// speed.
 #[inline(always)]
 fn after_skipped(text: &[u8], at: usize) -> usize
     requires { at ≤ length text.now }
@@ -462,8 +464,9 @@ fn after_skipped(text: &[u8], at: usize) -> usize
     offset
 }
 
-// Reads the tags from an offset on as those of a game of normal chess, and returns the offset of the first number, move
-// or termination. `None` where a tag names another variant, or where a fault or the text's end comes first.
+// Reads the tags from `at` on as those of a game of normal chess, and returns what is known then and the offset of the
+// first number, move or outcome. `None` where a tag names another variant, or where a fault or the text's end comes
+// first.
 fn read_normal_tags<B: Board>(
     text: &[u8],
     at: usize,
@@ -494,8 +497,8 @@ fn read_normal_tags<B: Board>(
     }
 }
 
-// Begins a game whose text begins at an offset, and returns how far it was read. Most games are of normal chess: so
-// their tags are read, and only where they are not is the variant looked for first.
+// Sets the game to its start, for the text from `at` on, and returns what is known and the offset from which to read
+// on. Most games are of normal chess: their tags are read at once. For others the variant is looked for first.
 #[tactic(auto, using(crate::proofs::GameReads::first))]
 fn begin_game<B: Board>(text: &[u8], at: usize, game: &mut Game<B>) -> (Progress, usize)
     requires { at ≤ length text.now }
@@ -509,14 +512,14 @@ fn begin_game<B: Board>(text: &[u8], at: usize, game: &mut Game<B>) -> (Progress
     (Progress::none(), at)
 }
 
-/// Reads the first game of a text from an offset on (PGN standard of 1994; which words are taken is this project's
-/// own). The game begins anew from the initial position or from the last FEN tag's, of the variant that the last tag
-/// `Variant` names; its moves are played as they are met, and the termination's outcome is declared unless there is a
-/// verdict or it is `*`. `None` where there is no tag, number, move or termination up to the text's end. The next game
-/// begins at the offset that is returned.
+/// Reads the first game of a text from the offset `at` on (PGN standard of 1994; which words are taken is this
+/// project's own). `game` begins anew from the initial position or from the last FEN tag's, of the variant that the
+/// last tag `Variant` names; its moves are played as they are read, and the outcome at its end is declared unless the
+/// board has a verdict or it is `*`. `None` where there is no tag, number, move or outcome up to the text's end. The
+/// next game begins at the offset that is returned.
 ///
 /// # Errors
-/// The first offset that can't be read or played. The game holds the moves before it, and nothing is declared.
+/// The first fault of the text, with its offset. `game` then holds the moves before it, and nothing is declared.
 #[tactic(auto, using(crate::proofs::GameReads::read_from))]
 pub fn read_pgn<B: Board>(
     text: &[u8],

@@ -21,7 +21,7 @@ pub struct ResultTag {
     pub offset: usize,
 }
 
-// Whether more tags of a game may follow a token.
+// Whether tags of the same game may follow a token.
 fn may_precede_tags(token: &Token<'_>) -> bool
     ensures { result ≡ may_precede_tags (token_seen token.now) }
 {
@@ -34,7 +34,7 @@ fn may_precede_tags(token: &Token<'_>) -> bool
     }
 }
 
-// A tag Result of a text of so many bytes; a tag with another name leaves the one before it.
+// The last tag `Result` after a tag, if it was `before`, in a text of `len` bytes.
 fn result_after_tag(before: Option<ResultTag>, len: usize, tag: &Tag<'_>) -> Option<ResultTag>
     requires within { tag.now.left ≤ len }
     ensures { result ≡ result_after_tag len before tag.now.name.now tag.now.text.now tag.now.left }
@@ -50,7 +50,7 @@ fn result_after_tag(before: Option<ResultTag>, len: usize, tag: &Tag<'_>) -> Opt
     }
 }
 
-// The last tag Result after a token of a text of so many bytes.
+// The last tag `Result` after a token, if it was `before`, in a text of `len` bytes.
 fn result_after(before: Option<ResultTag>, len: usize, token: &Token<'_>) -> Option<ResultTag>
     requires within { IsWithin len (token_seen token.now) }
     ensures { result ≡ result_after len before (token_seen token.now) }
@@ -61,8 +61,8 @@ fn result_after(before: Option<ResultTag>, len: usize, token: &Token<'_>) -> Opt
     }
 }
 
-/// The last tag `Result` of the game that is read from an offset on; `None` where it has none before its first number,
-/// move or termination.
+/// The last tag `Result` of the game that begins at the offset `at`; `None` where it has none before its first number,
+/// move or outcome.
 pub fn result_tag(text: &[u8], at: usize) -> Option<ResultTag>
     requires { at ≤ length text.now }
     ensures tag { result ≡ result_tag_of text.now at }

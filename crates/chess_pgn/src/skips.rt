@@ -7,7 +7,7 @@ ghost use Rattle.chess_pgn.specs.ties.Braces.{has_brace};
 
 use crate::bytes::is_white_space;
 
-// From the end of the line on.
+// The text from the end of its first line on, which begins with `\n`; empty if no line ends.
 pub(crate) fn line_end(text: &[u8]) -> &[u8]
     ensures rest { result.now ≡ line_end text.now }
     ensures shorter { length result.now ≤ length text.now }
@@ -22,7 +22,7 @@ pub(crate) fn line_end(text: &[u8]) -> &[u8]
     rest
 }
 
-// Whether a closing brace is among these bytes. All of them are looked at, so that the compiler may take them at once.
+// Whether a `}` is among these bytes. It looks at all of them, so that the compiler can use vector instructions.
 #[inline(always)]
 fn has_brace(piece: &[u8]) -> bool
     ensures { result ≡ has_brace piece.now }
@@ -34,8 +34,7 @@ fn has_brace(piece: &[u8]) -> bool
     any
 }
 
-// Skips pieces of `len` bytes without a closing brace. What is left begins with a piece that has one, or is shorter
-// than `len`.
+// Drops pieces of `len` bytes from the text's front as long as they have no `}`.
 #[tactic(auto, using(crate::proofs::Skipped::no_brace))]
 #[inline(always)]
 fn near_brace(len: usize, text: &[u8]) -> &[u8]
@@ -54,7 +53,8 @@ fn near_brace(len: usize, text: &[u8]) -> &[u8]
     rest
 }
 
-// The text after the first closing brace. Pieces of 8 bytes go fast over long comments, and those of 4 end a clock's.
+// The text after its first `}`, if it has one. Pieces of 8 bytes are fast over long comments, those of 4 over the end
+// of a comment with a clock's time.
 #[inline(always)]
 pub(crate) fn after_brace(text: &[u8]) -> Option<&[u8]>
     ensures rest { option_map (λ r. r.now) result ≡ after_brace text.now }
@@ -71,7 +71,7 @@ pub(crate) fn after_brace(text: &[u8]) -> Option<&[u8]>
     None
 }
 
-// The text after white space and `%` lines, where no line begins at the text's first byte.
+// The text after the white space and `%` lines at its front; the text's first byte is not the first of a line.
 pub(crate) fn after_gap(text: &[u8]) -> &[u8]
     ensures { result.now ≡ after_gap false false text.now }
 {

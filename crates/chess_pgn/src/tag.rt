@@ -10,8 +10,8 @@ ghost use Rattle.chess_pgn.specs.ties.Seen.{tag_seen};
 use crate::bytes::is_name_byte;
 use crate::skips::after_gap;
 
-/// A tag: its name, the bytes between its quotes as they are, and how many bytes of the text are left at the first of
-/// these.
+/// A tag: of `[Event "a"]` the name `Event`, the text `a` (with its backslashes), and the number of bytes from that
+/// `a` to the text's end, by which its offset is known.
 #[derive(Clone, Copy)]
 pub(crate) struct Tag<'a> {
     pub name: &'a [u8],
@@ -19,7 +19,7 @@ pub(crate) struct Tag<'a> {
     pub left: usize,
 }
 
-// A name, and what follows it.
+// The tag's name at a text's front, maybe empty, and the text after it.
 pub(crate) fn split_name(text: &[u8]) -> (&[u8], &[u8])
     ensures name { result.0.now ≡ take_while is_name_byte text.now }
     ensures rest { result.1.now ≡ drop (prefix_len is_name_byte text.now) text.now }
@@ -31,7 +31,7 @@ pub(crate) fn split_name(text: &[u8]) -> (&[u8], &[u8])
     text.split_at(end)
 }
 
-// The text after a gap and this byte, if it is there.
+// The text after white space, `%` lines and then this byte, if that comes next.
 pub(crate) fn after_next(byte: u8, text: &[u8]) -> Option<&[u8]>
     ensures { option_map (λ r. r.now) result ≡ after_next byte text.now }
 {
@@ -41,8 +41,8 @@ pub(crate) fn after_next(byte: u8, text: &[u8]) -> Option<&[u8]>
     }
 }
 
-// A string's bytes up to its closing quote, and what follows that. A backslash keeps the next
-// byte from being one.
+// Splits a text after a string's opening quote: the string's bytes, and the text after its closing quote; `None` if
+// the line or the text ends first. A backslash keeps the next byte from ending the string.
 pub(crate) fn split_string(text: &[u8]) -> Option<(&[u8], &[u8])>
     ensures { option_map (λ r. (r.0.now, r.1.now)) result ≡ string_at text.now }
 {
@@ -62,7 +62,7 @@ pub(crate) fn split_string(text: &[u8]) -> Option<(&[u8], &[u8])>
     None
 }
 
-// A tag after its opening bracket, and what follows it.
+// Reads a tag after its `[`, and returns it with the text after it; `None` if this is no tag.
 pub(crate) fn read_tag(text: &[u8]) -> Option<(Tag<'_>, &[u8])>
     ensures { tag_seen result ≡ tag_by_parts text.now }
 {

@@ -14,7 +14,7 @@ use byte_devices::{Output, WriteFault};
 // The line of a tag, put together.
 type TagLine = ArrayVec<u8, 256>;
 
-// A text with a backslash before each quote and backslash.
+// Appends a text to the line, with a backslash before each quote and backslash.
 fn write_escaped(line: &mut TagLine, text: &[u8])
     requires { array_vec_len line.old + 2 * length text.now ≤ 256 }
     ensures text { line.new.items ≡ line.old.items ++ escaped text.now }
@@ -28,7 +28,7 @@ fn write_escaped(line: &mut TagLine, text: &[u8])
     }
 }
 
-// The line of a tag.
+// A tag's line without its end, such as `[Event "a"]`.
 fn tag_line(name: &[u8], text: &[u8]) -> TagLine
     requires name { length name.now ≤ 20 }
     requires text { length text.now ≤ 100 }
@@ -43,10 +43,10 @@ fn tag_line(name: &[u8], text: &[u8]) -> TagLine
     line
 }
 
-/// Puts the lines of tags.
+/// Writes each tag on a line of its own.
 ///
 /// # Errors
-/// Where the writer failed; a beginning was taken.
+/// If the writer fails; a beginning of the text was written then.
 pub(crate) fn put_tags<W: Output>(
     lines: &mut LineWriter<'_>,
     writer: &mut W,

@@ -28,7 +28,7 @@ impl Model for TagText {
 }
 
 impl TagText {
-    /// What is kept of a text for a tag: its first 60 bytes, with `?` for each byte outside 32 to 126.
+    /// The text as a tag keeps it: its first 60 bytes, with `?` for each that is no printable ASCII (32 to 126).
     pub fn cut(text: &[u8]) -> Self
         ensures { result ≡ cut_tag text.now }
     {
@@ -37,7 +37,7 @@ impl TagText {
         }
     }
 
-    /// Its bytes, without escapes.
+    /// The text's bytes, without backslashes before quotes.
     pub fn as_bytes(&self) -> &[u8]
         ensures value { result.now ≡ self.now }
         ensures valid { IsTagText self.now }
@@ -46,14 +46,14 @@ impl TagText {
     }
 }
 
-// The byte as a tag's text holds it.
+// A byte as a tag's text holds it: `?` in place of what is no printable ASCII.
 fn tag_byte(byte: u8) -> u8
     ensures { result ≡ tag_byte byte }
 {
     if byte < 32 || byte > 126 { b'?' } else { byte }
 }
 
-// The bytes as a tag's text holds them.
+// The bytes with `?` in place of what is no printable ASCII.
 fn tag_bytes(bytes: &[u8]) -> ArrayVec<u8, 60>
     requires { length bytes.now ≤ TAG_LEN }
     ensures { result.items ≡ map tag_byte bytes.now }

@@ -28,7 +28,7 @@ pub enum Termination {
 }
 
 impl Termination {
-    /// The tag's text.
+    /// The text of the tag `Termination`, such as `time forfeit`.
     pub fn text(self) -> &'static [u8]
         ensures value { result.now ≡ termination_text self }
         ensures short { length result.now ≤ 16 }
@@ -45,7 +45,7 @@ impl Termination {
         }
     }
 
-    /// The one that a tag's text names, in letters of either size.
+    /// The value that a text of the tag names, in capital or small letters: `Time Forfeit` too.
     #[tactic(auto, unfolding(crate::specs::Terminations::termination_named))]
     pub(crate) fn named(text: &[u8]) -> Option<Self>
         ensures { result ≡ termination_named text.now }
@@ -71,7 +71,7 @@ impl Termination {
         }
     }
 
-    /// That of a game which has an outcome.
+    /// The tag's value for a game with this outcome, that ended so: `Unterminated` if the outcome is `*`.
     pub(crate) fn of(ended: HowEnded, outcome: Outcome) -> Self
         ensures { result ≡ termination_of ended outcome }
     {

@@ -12,7 +12,7 @@ use crate::skips::{after_brace, line_end};
 use crate::tag::{Tag, read_tag};
 use crate::variation::after_variation;
 
-/// What was read.
+/// A token of a PGN text.
 #[derive(Clone, Copy)]
 pub(crate) enum Token<'a> {
     /// Nothing that counts: white space, a dot, a comment, a `%` line, a `$` glyph or a variation.
@@ -23,7 +23,7 @@ pub(crate) enum Token<'a> {
     Word(&'a [u8]),
 }
 
-/// Why no token can be read. An offset is given by how many bytes of the text are left there.
+/// Why no token can be read. A field `left` is the number of bytes from the fault to the text's end.
 #[derive(Clone, Copy)]
 pub(crate) enum TokenFault {
     /// An opening bracket that begins no tag.
@@ -36,6 +36,7 @@ pub(crate) enum TokenFault {
     BadByte,
 }
 
+// The text after the digits at its front, as after the `$` of a glyph such as `$14`.
 fn after_digits(text: &[u8]) -> &[u8]
     ensures { result.now ≡ drop (prefix_len is_digit text.now) text.now }
 {
@@ -46,7 +47,7 @@ fn after_digits(text: &[u8]) -> &[u8]
     &text[end..]
 }
 
-// A word, and what follows it.
+// The word at a text's front, and the text after it.
 #[inline(always)]
 fn split_word(text: &[u8]) -> (&[u8], &[u8])
     ensures word { result.0.now ≡ take_while is_word_byte text.now }
@@ -59,7 +60,7 @@ fn split_word(text: &[u8]) -> (&[u8], &[u8])
     text.split_at(end)
 }
 
-// A comment after its brace, where so many bytes are left at that.
+// Reads a comment after its `{`; `left` is the number of bytes from that on.
 #[inline(never)]
 fn read_comment(left: usize, text: &[u8]) -> Result<(Token<'_>, &[u8]), TokenFault>
     ensures { first_seen result ≡ comment_at left (after_brace text.now) }
@@ -70,7 +71,7 @@ fn read_comment(left: usize, text: &[u8]) -> Result<(Token<'_>, &[u8]), TokenFau
     }
 }
 
-// A variation after its bracket.
+// Reads a variation after its `(`.
 #[inline(never)]
 fn read_variation(text: &[u8]) -> Result<(Token<'_>, &[u8]), TokenFault>
     ensures { first_seen result ≡ variation_at None false 1 text.now }
@@ -81,7 +82,7 @@ fn read_variation(text: &[u8]) -> Result<(Token<'_>, &[u8]), TokenFault>
     }
 }
 
-// A tag after its bracket.
+// Reads a tag after its `[`.
 #[tactic(auto, using(crate::proofs::TagParts::parts_are))]
 #[inline(never)]
 fn read_bracket(text: &[u8]) -> Result<(Token<'_>, &[u8]), TokenFault>
@@ -93,8 +94,8 @@ fn read_bracket(text: &[u8]) -> Result<(Token<'_>, &[u8]), TokenFault>
     }
 }
 
-// The first token of a text that begins with this byte, where a line begins or not, and what follows it. The byte is
-// none of a word.
+// Reads the first token of `text`, which is `first` and then `rest`, and returns it with the text after it;
+// `line_begins`: it is at the beginning of a line. The first byte is not one of a word.
 #[tactic(auto, unfolding(crate::specs::Tokens::token_at))]
 #[inline(never)]
 fn read_token<'a>(
@@ -120,7 +121,7 @@ fn read_token<'a>(
     }
 }
 
-// Whether a line begins at an offset: it is the text's first byte, or byte 10 comes before it.
+// Whether a line begins at the offset `at`: it is 0, or `\n` comes before it.
 fn begins_line(text: &[u8], at: usize) -> bool
     requires { at ≤ length text.now }
     ensures { result ≡ begins_line text.now at }
@@ -128,10 +129,10 @@ fn begins_line(text: &[u8], at: usize) -> bool
     at == 0 || text[at - 1] == b'\n'
 }
 
-/// The next token of a text from an offset on, and the offset after it; `None` at the text's end.
+/// The first token of a text from the offset `at` on, and the offset after it; `None` at the text's end.
 ///
 /// # Errors
-/// Where no token can be read at the first byte from there on.
+/// If no token can be read at that offset.
 #[inline(always)]
 pub(crate) fn next_token(text: &[u8], at: usize) -> Result<Option<(Token<'_>, usize)>, TokenFault>
     requires { at ≤ length text.now }

@@ -9,7 +9,8 @@ ghost use Rattle.chess_pgn.specs.ties.Seen.{variation_seen};
 use crate::skips::{after_brace, line_end};
 use crate::token::TokenFault;
 
-// The text after a byte, or after the `%` line or comment that it begins.
+// The text after `byte`, or after the `%` line or comment that it begins; `None` if that comment is not closed. `rest`
+// is the text after the byte.
 fn after_part(line_begins: bool, byte: u8, rest: &[u8]) -> Option<&[u8]>
     ensures behind { option_map (λ r. r.now) result ≡ after_part line_begins byte rest.now }
     ensures shorter { IfSome result (λ r. length r.now ≤ length rest.now) }
@@ -34,7 +35,7 @@ fn depth_after(depth: usize, byte: u8) -> Option<usize>
     }
 }
 
-// The text after a variation, whose `(` comes before the text.
+// The text after a variation, where the text given begins after its `(`.
 pub(crate) fn after_variation(text: &[u8]) -> Result<&[u8], TokenFault>
     ensures { variation_seen result ≡ variation_at None false 1 text.now }
 {

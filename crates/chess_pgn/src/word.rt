@@ -9,7 +9,7 @@ ghost use Rattle.chess_pgn.specs.ties.Begins.{begins_from_a};
 use crate::bytes::is_digit;
 use chess_game::Outcome;
 
-/// What a word of a game's text is.
+/// What a word of a game's text may be.
 #[derive(Clone, Copy, Debug, PartialEq, Eq)]
 pub(crate) enum WordKind {
     /// The game's end, with its outcome.
@@ -22,6 +22,7 @@ pub(crate) enum WordKind {
     Move,
 }
 
+/// The outcome that a word denotes: `1-0`, `0-1`, `1/2-1/2` or `*`.
 pub(crate) fn outcome_of(word: &[u8]) -> Option<Outcome>
     ensures { result ≡ outcome_of word.now }
 {
@@ -34,12 +35,14 @@ pub(crate) fn outcome_of(word: &[u8]) -> Option<Outcome>
     }
 }
 
+// Whether all bytes of a word are digits.
 fn has_digits_alone(word: &[u8]) -> bool
     ensures { result ≡ list_all is_digit word.now }
 {
     word.iter().all(|byte| is_digit(*byte))
 }
 
+// Whether all bytes of a word are `!` or `?`.
 fn has_marks_alone(word: &[u8]) -> bool
     ensures { result ≡ list_all (λ c. c == byte "!" || c == byte "?") word.now }
 {
@@ -56,7 +59,7 @@ fn begins_from_a(word: &[u8]) -> bool
     }
 }
 
-// What a word is, by all of its bytes.
+// What a word is, whatever its first byte is.
 #[tactic(auto, using(crate::proofs::PgnWords::number_kind))]
 #[inline(never)]
 fn low_word_kind(word: &[u8]) -> WordKind
@@ -73,7 +76,7 @@ fn low_word_kind(word: &[u8]) -> WordKind
     }
 }
 
-/// What a word is. Most are moves, and these mostly begin with a letter, which is asked first.
+/// What a word is. Most words are moves that begin with a letter, so this is tested first.
 #[tactic(auto, using(crate::proofs::PgnWords::from_a_kind))]
 #[inline(always)]
 pub(crate) fn word_kind(word: &[u8]) -> WordKind

@@ -23,15 +23,15 @@ use chess_moves::Board;
 use chess_text::{san, san_is_a_word};
 use itoa::Buffer;
 
-// The token of a number: at most ten digits, and three dots.
+// The token of a move number: at most ten digits, and three dots.
 type NumberText = ArrayVec<u8, 13>;
 
 /// Writes a game's text (PGN standard of 1994, section 3.2, the form for exchange): its tags, an empty line, its moves
-/// in SAN with the outcome last, and an empty line. Each line comes after the prefix and is ended by byte 10. The
-/// writer is not flushed; the scratch board is left at some position.
+/// in SAN with the outcome last, and an empty line. Each line begins with `prefix` and ends with `\n`. The writer is
+/// not flushed; the board `scratch`, used for SAN, is left at some position.
 ///
 /// # Errors
-/// Where the writer failed; a beginning was taken.
+/// If the writer fails; a beginning of the text was written then.
 pub fn write_pgn<B: Board, W: Output>(
     game: &Game<B>,
     scratch: &mut B,
@@ -46,7 +46,7 @@ pub fn write_pgn<B: Board, W: Output>(
     lines.finish(writer)
 }
 
-// Puts the lines of a game.
+// Writes all lines of a game.
 fn put_game<B: Board, W: Output>(
     lines: &mut LineWriter<'_>,
     writer: &mut W,
@@ -64,7 +64,7 @@ fn put_game<B: Board, W: Output>(
     lines.put_line(writer, b"")
 }
 
-// Puts the tags of a game with that outcome, and an empty line.
+// Writes the lines of a game's tags, and an empty line.
 fn put_tag_lines<B: Board, W: Output>(
     lines: &mut LineWriter<'_>,
     writer: &mut W,
@@ -84,7 +84,7 @@ fn put_tag_lines<B: Board, W: Output>(
     lines.put_line(writer, b"")
 }
 
-// Puts the tags that each game has.
+// Writes the lines of the seven tags that each game has.
 fn put_roster<W: Output>(
     lines: &mut LineWriter<'_>,
     writer: &mut W,
@@ -129,7 +129,7 @@ fn put_roster<W: Output>(
     put_tags(lines, writer, &roster)
 }
 
-// Puts the tags after the seven.
+// Writes the lines of the tags that follow the seven of each game: FEN and SetUp, Termination, Variant.
 fn put_further<W: Output>(
     lines: &mut LineWriter<'_>,
     writer: &mut W,
@@ -145,7 +145,7 @@ fn put_further<W: Output>(
     put_last(lines, writer, start.variant(), termination)
 }
 
-// Puts the tags of a start: none for the initial position of normal chess.
+// Writes the tags that give the start: none for the initial position of normal chess.
 fn put_start<W: Output>(
     lines: &mut LineWriter<'_>,
     writer: &mut W,
@@ -169,7 +169,7 @@ fn is_initial(start: &Position) -> bool
     write_fen(start).as_slice() == write_fen(&Position::initial()).as_slice()
 }
 
-// Puts the tags `FEN` and `SetUp` of a start, each on its line.
+// Writes the tags `FEN` and `SetUp` of a start, each on its line.
 fn put_fen<W: Output>(
     lines: &mut LineWriter<'_>,
     writer: &mut W,
@@ -194,7 +194,7 @@ fn put_fen<W: Output>(
     put_tags(lines, writer, &tags)
 }
 
-// Puts the tag that says how the game ended, and in Chess960 that of the variant.
+// Writes the tag `Termination`, and for Chess960 the tag `Variant`.
 fn put_last<W: Output>(
     lines: &mut LineWriter<'_>,
     writer: &mut W,
@@ -222,7 +222,7 @@ fn put_last<W: Output>(
     }
 }
 
-// Puts the lines of the moves, with the outcome last.
+// Writes the lines of the moves, with the outcome last.
 fn put_move_text<B: Board, W: Output>(
     lines: &mut LineWriter<'_>,
     writer: &mut W,
@@ -241,7 +241,7 @@ fn put_move_text<B: Board, W: Output>(
     lines.end_line(writer)
 }
 
-// Puts the tokens of the moves.
+// Writes the numbers and the SAN of all moves; `scratch` is set to the start and plays them.
 fn put_moves<B: Board, W: Output>(
     lines: &mut LineWriter<'_>,
     writer: &mut W,
@@ -265,7 +265,7 @@ fn put_moves<B: Board, W: Output>(
     Ok(())
 }
 
-// Puts the tokens of a legal move, and makes it on the board.
+// Writes a legal move, with its number if one is due, and makes it on the board; `is_first`: it is the game's first.
 fn put_move<B: Board, W: Output>(
     lines: &mut LineWriter<'_>,
     writer: &mut W,
@@ -293,7 +293,8 @@ fn put_move<B: Board, W: Output>(
     Ok(())
 }
 
-// Puts the number that comes before a move: before each of White's, and before a first one by Black.
+// Writes the number before a move in the position `setup`: `12.` before each of White's, and `12...` if the game's
+// first move is Black's.
 fn put_number<W: Output>(
     lines: &mut LineWriter<'_>,
     writer: &mut W,
@@ -314,7 +315,7 @@ fn put_number<W: Output>(
     lines.put_token(writer, number_text(setup.fullmove, dots).as_slice())
 }
 
-// A number, and dots after it.
+// A number with dots after it, such as `12.` or `12...`.
 #[tactic(auto, using(crate::proofs::GameTexts::short_decimal))]
 fn number_text(number: u32, dots: &[u8]) -> NumberText
     requires some { 0 < length dots.now }

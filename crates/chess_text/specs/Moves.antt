@@ -25,12 +25,12 @@ use Rattle.chess_text.specs.Parts.{unmarked, kind_text, file_text, rank_text, fo
 
 -- ---- what a text can say of a move
 
--- an enemy piece is on the end square, or the pawn takes en passant
+-- move m captures: an enemy piece is on its end square, or it is en passant
 unfoldable pub captures : Setup → Move → Bool
 captures p m = is_of (other p.side) (man_at p.men m.to) || is_en_passant p m
 
--- the description of a move in a position: the piece on its start square, both squares, the promotion, whether it
--- captures, and to which side it castles; nothing where no piece is there
+-- a move as far as a text can describe it: the kind of its piece, both squares, the promotion, whether it captures, and
+-- to which side it castles; none if no piece is on its start square
 unfoldable pub described : Setup → Move → Option Described
 described p m =
     option_map (λ x. record {
@@ -86,16 +86,16 @@ texts_of_pawn d =
     (start ++ (square_text d.to ++ promotion)) ∷ []))
     else []
 
--- castling is written with the letter O, or with the digit 0
+-- the texts that denote castling to that side, with the letter O or with the digit 0
 abbrev pub castling_texts : CastlingSide → List (List ℕ)
 castling_texts KingSide = codes "O-O" ∷ codes "0-0" ∷ []
 castling_texts QueenSide = codes "O-O-O" ∷ codes "0-0-0" ∷ []
 
--- without its marks, the text denotes castling to that side
+-- without the marks at its end, the text denotes castling to side w
 unfoldable pub is_castling_text : List ℕ → CastlingSide → Bool
 is_castling_text text w = list_any (bytes_eq (unmarked text)) (castling_texts w)
 
--- something is there, and passes the test
+-- an optional value is there, and the test holds for it
 abbrev pub passes : {A : Type 0} → (A → Bool) → Option A → Bool
 passes test o = option_map_or test o false
 
@@ -116,7 +116,7 @@ all_described =
 unfoldable pub shape : List ℕ → Bool
 shape text = list_any (λ d. spells_described text d) all_described
 
--- the text denotes this move of the position
+-- the text denotes move m in position p: Nf3, Ng1f3, g1f3 and Nf3+ all denote the knight's move in the initial position
 unfoldable pub spells : Setup → List ℕ → Move → Bool
 spells p text m = passes (spells_described text) (described p m)
 
@@ -138,7 +138,7 @@ abbrev pub has_shape : Reading → Bool
 has_shape reads.NotAMove = false
 has_shape _ = true
 
--- a move that is read is legal
+-- if a text was read as a move, this move is legal in position p
 abbrev pub IsLegalReading : Setup → Reading → Type 0
 IsLegalReading p (reads.Move m) = IsTrue (is_legal p m)
 IsLegalReading p reads.Ambiguous = Unit {0}

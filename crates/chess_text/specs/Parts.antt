@@ -4,30 +4,30 @@ use Rattle.std.specs.List.{suffix_len}
 use Rattle.chess_base.specs.declared.man.Kind.{Kind}
 use Rattle.chess_base.specs.Letters.{byte, white_letter}
 
--- the marks + # ! ?, which say something of a move and don't name it
+-- the byte is one of the marks + # ! ?, which comment on a move and don't name it
 abbrev pub is_mark : ℕ → Bool
 is_mark c = (c == byte "+") || (c == byte "#") || (c == byte "!") || (c == byte "?")
 
--- a text without the run of marks at its end
+-- a text without the run of marks at its end: Qh4 for Qh4#
 unfoldable pub unmarked : List ℕ → List ℕ
 unmarked text = take (length text - suffix_len is_mark text) text
 
--- the text where that is so, else nothing
+-- the text if b is true, else the empty text
 abbrev pub when : Bool → List ℕ → List ℕ
 when b text = if b then text else []
 
--- the capital letter of a kind
+-- the capital letter of a kind of piece, as text
 abbrev pub kind_text : Kind → List ℕ
 kind_text k = white_letter k ∷ []
 
--- a file's letter
+-- a file's letter, a for 0
 abbrev pub file_text : ℕ → List ℕ
 file_text f = (byte "a" + f) ∷ []
 
--- a rank's digit
+-- a rank's digit, 1 for 0
 abbrev pub rank_text : ℕ → List ℕ
 rank_text r = (byte "1" + r) ∷ []
 
--- what f gives for each of these, joined
+-- the lists that f gives for the elements of xs, joined
 abbrev pub for_each : {A B : Type 0} → List A → (A → List B) → List B
 for_each xs f = flat_map f xs

@@ -24,7 +24,7 @@ use Rattle.chess_text.specs.declared.described.Described.{Described}
 use Rattle.chess_text.specs.Parts.{when, kind_text, file_text, rank_text}
 use Rattle.chess_text.specs.Moves.{described, passes}
 
--- castling, with the letter O
+-- castling to that side, written with the letter O
 abbrev pub castling_text : CastlingSide → List ℕ
 castling_text KingSide = codes "O-O"
 castling_text QueenSide = codes "O-O-O"
@@ -58,7 +58,7 @@ piece_text rivals d =
 abbrev pub unmarked_san : List ℕ → Described → List ℕ
 unmarked_san rivals d = option_map_or castling_text d.castles (piece_text rivals d)
 
--- `#` where the position is mate (5.1.1), `+` where it is check (3.9.1)
+-- the mark for the position p that a move leads to: `#` for mate (5.1.1), `+` for check (3.9.1), else nothing
 unfoldable pub check_mark : Setup → List ℕ
 check_mark p = when (is_in_check p.men p.side) (if length (moves p) == 0 then codes "#" else codes "+")
 
@@ -66,11 +66,11 @@ check_mark p = when (is_in_check p.men p.side) (if length (moves p) == 0 then co
 unfoldable pub san : Setup → Move → List ℕ
 san p m = optional (λ d. unmarked_san (rival_starts p (moves p) d) d ++ check_mark (after p m)) (described p m)
 
--- how lists and lines of moves name a move: by its squares, but castling in Chess960 by its side
+-- a move as lists of moves show it: by its squares, as e2e4, but castling in Chess960 as O-O or O-O-O
 abbrev pub shown_as : Variant → Option CastlingSide → Move → List ℕ
 shown_as Normal castles m = coordinate m
 shown_as Fischerandom castles m = option_map_or castling_text castles (coordinate m)
 
--- how such lists name a move of this position
+-- the move m of position p as lists of moves show it
 unfoldable pub shown_move : Setup → Move → List ℕ
 shown_move p m = shown_as p.variant (castling p m) m

@@ -9,9 +9,10 @@ use arrayvec::ArrayVec;
 use chess_base::rules::castling;
 use chess_base::{CastlingSide, Kind, Move, Position, Variant};
 
-/// The coordinate text of a move: four or five bytes.
+/// The text of a move by its squares: four or five bytes, as `e2e4` or `e7e8q`.
 pub type CoordinateText = ArrayVec<u8, 5>;
 
+// The small letter of a kind of piece, as in the promotion of `e7e8q`: `q` for a queen.
 fn small_letter(kind: Kind) -> u8
     ensures { result ∷ [] ≡ small_letter_text kind }
 {
@@ -25,7 +26,7 @@ fn small_letter(kind: Kind) -> u8
     }
 }
 
-// The text of castling to that side.
+// The text of castling to that side: `O-O` or `O-O-O`.
 fn castling_name(castling_side: CastlingSide) -> CoordinateText
     ensures text { result.items ≡ castling_text castling_side }
     ensures len { array_vec_len result ≤ 5 }
@@ -39,8 +40,8 @@ fn castling_name(castling_side: CastlingSide) -> CoordinateText
     text
 }
 
-/// The text of a move as lists and lines of moves show it: its coordinate text, but `O-O` or `O-O-O` for
-/// castling in Chess960.
+/// The text of a move as lists of moves show it: its coordinate text, as `e2e4`, but `O-O` or `O-O-O` for castling in
+/// Chess960.
 #[tactic(auto, unfolding(crate::specs::San::shown_move))]
 pub fn move_text(position: &Position, m: Move) -> CoordinateText
     ensures text { result.items ≡ shown_move position.now m }
@@ -58,7 +59,7 @@ pub fn move_text(position: &Position, m: Move) -> CoordinateText
 }
 
 /// The coordinate text of a move, as CECP has it: its start square, its end square, and for a promotion one letter of
-/// `qrbn`. Castling is named by the king's squares, in Chess960 by the king's and the rook's.
+/// `qrbn`, as `e7e8q`. Castling is written by the king's squares, in Chess960 by the king's and the rook's.
 pub fn coordinate(m: Move) -> CoordinateText
     ensures text { result.items ≡ coordinate m }
     ensures len { array_vec_len result ≤ 5 }

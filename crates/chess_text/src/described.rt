@@ -8,8 +8,8 @@ use crate::parts::{Parts, Promotion};
 use chess_base::rules::{castling, is_en_passant, is_of};
 use chess_base::{CastlingSide, Kind, Move, Setup, Square};
 
-/// A move of a position, as far as a text can describe it: its piece, squares and promotion, whether it captures, and
-/// to which side it castles.
+/// A move as far as a text can describe it: the kind of its piece, both squares and the promotion, whether it captures,
+/// and to which side it castles.
 #[derive(Clone, Copy, Debug, PartialEq, Eq)]
 pub struct Described {
     pub man: Kind,
@@ -20,7 +20,7 @@ pub struct Described {
     pub castles: Option<CastlingSide>,
 }
 
-// Whether the move takes an enemy piece, en passant too.
+// Whether the move captures an enemy piece, en passant too.
 #[tactic(auto, unfolding(crate::specs::Moves::captures))]
 pub(crate) fn captures(setup: &Setup, m: &Move) -> bool
     ensures { result ≡ captures setup.now m.now }
@@ -28,7 +28,7 @@ pub(crate) fn captures(setup: &Setup, m: &Move) -> bool
     is_of(setup.side.other(), setup.men[m.to.index()]) || is_en_passant(setup, m)
 }
 
-// The move of the piece on its start square, if there is one.
+// The description of a move; none if no piece is on its start square.
 #[tactic(auto, unfolding(crate::specs::Moves::described))]
 pub(crate) fn describe(setup: &Setup, m: &Move) -> Option<Described>
     ensures { result ≡ described setup.now m.now }
@@ -44,7 +44,7 @@ pub(crate) fn describe(setup: &Setup, m: &Move) -> Option<Described>
     })
 }
 
-// Whether a file or rank is the one that a text names, if it names one.
+// Whether a text that may name a file or rank admits that number: it names it, or none at all.
 pub(crate) fn admits(told: Option<u8>, number: u8) -> bool
     ensures { result ≡ admits told number }
 {
@@ -54,7 +54,7 @@ pub(crate) fn admits(told: Option<u8>, number: u8) -> bool
     }
 }
 
-// Whether a text names that file or rank.
+// Whether a text that may name a file or rank names one, and it is that number.
 pub(crate) fn names(told: Option<u8>, number: u8) -> bool
     ensures { result ≡ names told number }
 {
@@ -64,6 +64,7 @@ pub(crate) fn names(told: Option<u8>, number: u8) -> bool
     }
 }
 
+// Whether a text that may name a kind of piece by its letter names one, and it is that kind.
 fn names_kind(letter: Option<Kind>, kind: Kind) -> bool
     ensures { result ≡ names_kind letter kind }
 {
@@ -73,6 +74,7 @@ fn names_kind(letter: Option<Kind>, kind: Kind) -> bool
     }
 }
 
+// Whether the promotion that a text names is the move's: of the same kind, or both name none.
 fn promotes_so(told: Option<Promotion>, promotion: Option<Kind>) -> bool
     ensures { result ≡ promotes_so told promotion }
 {
@@ -83,6 +85,7 @@ fn promotes_so(told: Option<Promotion>, promotion: Option<Kind>) -> bool
     }
 }
 
+// Whether a text's promotion is there and written with `=`.
 fn has_equals(told: Option<Promotion>) -> bool
     ensures { result ≡ has_equals told }
 {
@@ -92,6 +95,7 @@ fn has_equals(told: Option<Promotion>) -> bool
     }
 }
 
+// Whether the parts denote the move by its squares, as `e2e4` or `e7e8q`: any piece's move, castling too.
 #[tactic(auto, unfolding(crate::specs::ties::Fitting::is_by_squares))]
 fn is_by_squares(parts: &Parts, d: &Described) -> bool
     ensures { result ≡ is_by_squares parts.now d.now }
@@ -105,6 +109,8 @@ fn is_by_squares(parts: &Parts, d: &Described) -> bool
         && promotes_so(parts.end.promotion, d.promotion)
 }
 
+// Whether the parts denote the move by its piece's letter and its end square, as `Nf3` or `Nbxd2`: no pawn's move and
+// not castling; with `x` only a capture.
 #[tactic(auto, unfolding(crate::specs::ties::Fitting::is_by_letter))]
 fn is_by_letter(parts: &Parts, d: &Described) -> bool
     ensures { result ≡ is_by_letter parts.now d.now }
@@ -118,6 +124,7 @@ fn is_by_letter(parts: &Parts, d: &Described) -> bool
         && parts.end.promotion.is_none()
 }
 
+// Whether the parts denote the move by its end square alone, as `e4` or `e8=Q`: a pawn's move straight ahead.
 #[tactic(auto, unfolding(crate::specs::ties::Fitting::is_straight))]
 fn is_straight(parts: &Parts, d: &Described) -> bool
     ensures { result ≡ is_straight parts.now d.now }
@@ -132,6 +139,8 @@ fn is_straight(parts: &Parts, d: &Described) -> bool
         && promotes_so(parts.end.promotion, d.promotion)
 }
 
+// Whether the parts denote the move by its start file and its end square, as `exd5`: a pawn's move; with `x` only a
+// capture.
 #[tactic(auto, unfolding(crate::specs::ties::Fitting::is_from_file))]
 fn is_from_file(parts: &Parts, d: &Described) -> bool
     ensures { result ≡ is_from_file parts.now d.now }
@@ -145,7 +154,7 @@ fn is_from_file(parts: &Parts, d: &Described) -> bool
         && promotes_so(parts.end.promotion, d.promotion)
 }
 
-// Whether the parts denote the move in one of the forms of a text.
+// Whether the parts denote the move in one of these four forms.
 #[tactic(auto, unfolding(crate::specs::ties::Fitting::parts_fit))]
 pub(crate) fn parts_fit(parts: &Parts, d: &Described) -> bool
     ensures { result ≡ parts_fit parts.now d.now }
@@ -156,7 +165,8 @@ pub(crate) fn parts_fit(parts: &Parts, d: &Described) -> bool
         || is_from_file(parts, d)
 }
 
-// Whether the parts are those of a form: a letter and no promotion, or no letter and a file, or a square alone.
+// Whether the parts are those of one of the four forms: a letter and no promotion (`Nf3`), or no letter and a start
+// file (`exd5`), or an end square alone (`e4`). The parts of `xd5` are not.
 #[tactic(auto, unfolding(crate::specs::ties::Fitting::is_form))]
 pub(crate) fn is_form(parts: &Parts) -> bool
     ensures { result ≡ is_form parts.now }

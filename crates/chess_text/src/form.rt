@@ -7,13 +7,15 @@ use crate::described::{Described, describe, is_form, parts_fit};
 use crate::parts::{Parts, read_parts, unmarked};
 use chess_base::{CastlingSide, Move, Setup};
 
-/// A text of a move: castling, or the parts of any other text.
+/// What the text of a move is read as before any position is looked at: castling to a side, or the parts of any other
+/// text.
 #[derive(Clone, Copy, Debug, PartialEq, Eq)]
 pub enum Form {
     Castling(CastlingSide),
     Piece(Parts),
 }
 
+// The side to which a text without marks denotes castling, with the letter O or the digit 0; none if it denotes none.
 #[inline(always)]
 fn castling_named(text: &[u8]) -> Option<CastlingSide>
     ensures { result ≡ castling_named text.now }
@@ -25,7 +27,8 @@ fn castling_named(text: &[u8]) -> Option<CastlingSide>
     }
 }
 
-// The form of a text, if it has a move's shape.
+// What a text is read as before any position is looked at: castling, or its parts; none if it hasn't the shape of a
+// move.
 #[tactic(auto, unfolding(crate::specs::ties::Forms::form_of))]
 #[inline(always)]
 pub(crate) fn read_form(text: &[u8]) -> Option<Form>
@@ -43,6 +46,7 @@ pub(crate) fn read_form(text: &[u8]) -> Option<Form>
     }
 }
 
+// Whether the text that was read as this form denotes the described move.
 fn form_fits(form: &Form, d: &Described) -> bool
     ensures { result ≡ form_fits form.now d.now }
 {
@@ -52,7 +56,7 @@ fn form_fits(form: &Form, d: &Described) -> bool
     }
 }
 
-// Whether the text of that form denotes the move.
+// Whether the text that was read as this form denotes the move.
 #[tactic(auto, unfolding(crate::specs::ties::Forms::is_spelled))]
 pub(crate) fn is_spelled(form: &Form, setup: &Setup, m: &Move) -> bool
     ensures { result ≡ is_spelled form.now setup.now m.now }

@@ -6,44 +6,47 @@ ghost use Rattle.chess_base.specs.declared.man.Variant.TheVariants.{Normal};
 ghost use Rattle.chess_base.specs.declared.setup.Setup.{Setup};
 ghost use Rattle.chess_text.specs.laws.Normal.{NormalIsKept};
 
-/// The SAN of a legal move of a sound position denotes it and no other legal move, and is read as it.
+/// A law: the contract says it, and the function does nothing. The SAN of a legal move of a sound position denotes that
+/// move and no other legal move, and is read as it.
 pub fn san_spells_its_move()
     ensures spells { SanSpellsItsMove }
     ensures shape { SanHasShape }
     ensures read_back { SanIsReadBack }
 {}
 
-/// The SAN of a legal move of a sound position has two to seven bytes, all of them letters, digits, `+`, `#`,
-/// `=` and `-`, and begins with a letter: so it is one word, and no number or outcome of a game (PGN standard
-/// of 1994, section 8.2).
+/// A law: the contract says it, and the function does nothing. The SAN of a legal move of a sound position has two to
+/// seven bytes, all of them letters, digits, `+`, `#`, `=` and `-`, and begins with a letter: so in PGN it is one
+/// token, and no move number or result (PGN standard of 1994, section 8.2).
 pub fn san_is_a_word()
     ensures short { SanIsShort }
     ensures bytes { SanHasBytes }
     ensures letter { SanBeginsWithLetter }
 {}
 
-/// The move that a text is read as is legal.
+/// A law: the contract says it, and the function does nothing. If a text is read as a move, this move is legal.
 pub fn read_moves_are_legal()
     ensures { ReadMovesAreLegal }
 {}
 
-/// The coordinate text of a legal move of a sound position denotes it and no other legal move, and is read as it.
+/// A law: the contract says it, and the function does nothing. The coordinate text (`e2e4`) of a legal move of a sound
+/// position denotes that move and no other legal move, and is read as it.
 pub fn coordinate_spells_its_move()
     ensures spells { CoordinateSpellsItsMove }
     ensures shape { CoordinateHasShape }
     ensures read_back { CoordinateIsReadBack }
 {}
 
-/// The text of a legal move of a sound position as lists and lines of moves show it, castling in Chess960 among them,
-/// denotes it and no other legal move, and is read as it.
+/// A law: the contract says it, and the function does nothing. The text by which lists of moves show a legal move of a
+/// sound position, castling in Chess960 too, denotes that move and no other legal move, and is read as it.
 pub fn move_text_spells_its_move()
     ensures spells { ShownMoveSpellsItsMove }
     ensures shape { ShownMoveHasShape }
     ensures read_back { ShownMoveIsReadBack }
 {}
 
-/// The parts of a text are those that it is written from; so a text denotes the castling that it names, or what the
-/// parts fit whose text it is, and has a move's shape if it names castling, or is the text of parts that have a form.
+/// A law: the contract says it, and the function does nothing. A text is read as exactly those parts
+/// (`[letter][file][rank][x]square[[=]promotion]`) from which it would be written. So the definitions, which look for a
+/// text's parts in a list of all parts, say no more and no less than that the text is written from such parts.
 pub fn texts_have_parts()
     ensures read { PartsAreTheTexts }
     ensures written { PartsAreRead }
@@ -51,8 +54,8 @@ pub fn texts_have_parts()
     ensures shaped { ShapedByText }
 {}
 
-/// On positions of normal chess the legal moves, the move that a text is read as, SAN, and how lists show a move are
-/// those defined for normal chess alone.
+/// A law: the contract says it, and the function does nothing. On positions of normal chess the legal moves, the move
+/// that a text is read as, SAN, and how lists show a move are those defined for normal chess alone.
 pub fn normal_is_kept()
     ensures { (p : Setup) → p.variant ≡ Normal → NormalIsKept p }
 {}

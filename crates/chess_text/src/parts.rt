@@ -14,15 +14,15 @@ pub struct Promotion {
     pub small: bool,
 }
 
-/// What comes last in a text: the end square, and the promotion, if one is named.
+/// The last part of a move's text: the end square, and the promotion if one is named, as `e8=Q`.
 #[derive(Clone, Copy, Debug, PartialEq, Eq)]
 pub struct End {
     pub to: Square,
     pub promotion: Option<Promotion>,
 }
 
-/// The parts of a text `[letter][file][rank][x]square[[=]promotion]`: the piece's letter, the file and rank of the
-/// start square, both from 0, whether `x` is there, and what comes last.
+/// The parts of a move's text, `[letter][file][rank][x]square[[=]promotion]`, as `Nbxd2`: the piece's letter, the file
+/// and rank of the start square, both from 0, whether `x` is there, and what comes last.
 #[derive(Clone, Copy, Debug, PartialEq, Eq)]
 pub struct Parts {
     pub letter: Option<Kind>,
@@ -32,13 +32,14 @@ pub struct Parts {
     pub end: End,
 }
 
+// Whether a byte is one of the marks `+`, `#`, `!` and `?`.
 fn is_mark(byte: u8) -> bool
     ensures { result ≡ is_mark byte }
 {
     byte == b'+' || byte == b'#' || byte == b'!' || byte == b'?'
 }
 
-// The text without the run of marks at its end.
+// The text without the run of marks at its end: `Qh4` for `Qh4#`.
 #[inline(always)]
 #[tactic(auto, unfolding(crate::specs::Parts::unmarked))]
 pub(crate) fn unmarked(text: &[u8]) -> &[u8]
@@ -51,6 +52,8 @@ pub(crate) fn unmarked(text: &[u8]) -> &[u8]
     &text[..end]
 }
 
+// The promotion with that letter, capital or small, and with `=` before it or not; none if it is no letter of a piece
+// that a pawn may become.
 fn promotion_by(equals: bool, letter: u8) -> Option<Promotion>
     ensures { result ≡ promotion_by equals letter }
 {
@@ -72,7 +75,8 @@ fn promotion_by(equals: bool, letter: u8) -> Option<Promotion>
     })
 }
 
-// What follows the end square: nothing, or a promotion.
+// What the text after the end square denotes: no promotion if it is empty (`Some(None)`), else a promotion; `None` if
+// it is neither.
 #[inline(always)]
 fn read_promotion(text: &[u8]) -> Option<Option<Promotion>>
     ensures { result ≡ promotion_at text.now }
@@ -85,6 +89,7 @@ fn read_promotion(text: &[u8]) -> Option<Option<Promotion>>
     }
 }
 
+// The last part of a move's text, if `text` is that: the end square and perhaps a promotion.
 #[inline(always)]
 fn read_end(text: &[u8]) -> Option<End>
     ensures { result ≡ end_at text.now }
@@ -101,6 +106,7 @@ fn read_end(text: &[u8]) -> Option<End>
     }
 }
 
+// Whether the text left begins with `x`, and the last part after it.
 #[inline(always)]
 fn read_takes(text: &[u8]) -> Option<(bool, End)>
     ensures { result ≡ takes_at text.now }
@@ -111,6 +117,7 @@ fn read_takes(text: &[u8]) -> Option<(bool, End)>
     }
 }
 
+// The start square's rank, if the text left begins with one, whether `x` follows, and the last part.
 #[inline(always)]
 fn read_rank(text: &[u8]) -> Option<(Option<u8>, bool, End)>
     ensures { result ≡ rank_at text.now }
@@ -127,7 +134,8 @@ fn read_rank(text: &[u8]) -> Option<(Option<u8>, bool, End)>
     }
 }
 
-// The first file's letter is the end square's where no square follows it.
+// The parts after a piece's letter. Their first file letter belongs to the end square if the text can be read so
+// (`e4`), else it is the start square's file (`exd5`).
 #[inline(always)]
 fn read_file(letter: Option<Kind>, text: &[u8]) -> Option<Parts>
     ensures { result ≡ file_at letter text.now }
@@ -156,7 +164,7 @@ fn read_file(letter: Option<Kind>, text: &[u8]) -> Option<Parts>
     }
 }
 
-// The parts of a text without marks.
+// The parts of a move's text without marks; none if it has no such parts.
 #[inline(always)]
 pub(crate) fn read_parts(text: &[u8]) -> Option<Parts>
     ensures { result ≡ parts_at text.now }

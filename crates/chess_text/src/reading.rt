@@ -15,7 +15,7 @@ use chess_base::rules::{castled_king_file, castling, home_square, right_of};
 use chess_base::{CastlingSide, Colour, Kind, Move, Setup, Square, Variant};
 use chess_moves::{Board, SquareSet, would_promote};
 
-/// What a text is in a position.
+/// What a text is read as in a position.
 #[derive(Clone, Copy, Debug, PartialEq, Eq)]
 pub enum Reading {
     /// It denotes this legal move and no other.
@@ -28,16 +28,17 @@ pub enum Reading {
     NotAMove,
 }
 
-/// Whether a text has the shape of a move, in any position: a move by coordinates, castling, or a piece's move,
-/// as SAN (PGN standard of 1994, section 8.2.3) or without what SAN asks for; a run of `+`, `#`, `!` and `?` at
-/// its end is passed over.
+/// Whether a text has the shape of a move, in any position: as coordinates (`e2e4`), castling, or SAN (PGN standard of
+/// 1994, section 8.2.3), also with more of the start square than is needed (`Ng1f3`) or without `x` or `=`. A run of
+/// `+`, `#`, `!` and `?` at its end is skipped.
 pub fn has_move_shape(text: &[u8]) -> bool
     ensures { result ≡ shape text.now }
 {
     read_form(text).is_some()
 }
 
-// The square on which the move ends that names castling, with the right that is there.
+// The end square of the move by which `side` castles: in normal chess the king's end square, in Chess960 the square of
+// the right's rook (if there is no right, no such move is legal).
 fn castling_end(
     variant: Variant,
     side: Colour,
@@ -53,7 +54,7 @@ fn castling_end(
     }
 }
 
-// The square on which every move ends that the form denotes.
+// The end square of each move that a text of this form can denote in this position.
 fn end_square(form: &Form, setup: &Setup) -> Square
     ensures { result ≡ end_square form.now setup.now }
 {
@@ -68,7 +69,7 @@ fn end_square(form: &Form, setup: &Setup) -> Square
     }
 }
 
-// The square of a file and a rank, if both are named and are on the board.
+// The square on that file and rank, if both are given and on the board.
 #[inline(always)]
 fn named_square(file: Option<u8>, rank: Option<u8>) -> Option<Square>
     ensures { result ≡ named_square file rank }
@@ -95,7 +96,8 @@ fn piece_origins<B: Board>(board: &B, parts: &Parts) -> SquareSet
     board.origins(Kind::Pawn, parts.end.to)
 }
 
-// Squares among which each legal move begins that the form denotes.
+// Squares in which to look for the start of each legal move that a text of this form denotes; `to` is the end square of
+// them all.
 #[tactic(auto, using(crate::proofs::Origins::by_castling))]
 fn form_origins<B: Board>(board: &B, form: &Form, to: Square) -> SquareSet
     requires { to ≡ end_square form.now (B.position board.now) }
@@ -168,7 +170,8 @@ fn with_spelled_between<B: Board>(
     }
 }
 
-// The kind of all pieces whose moves the parts denote, if it is one kind and none of these moves promotes.
+// The kind of the pieces whose moves these parts denote, if the parts say it and name no promotion: a knight for `Nf3`,
+// a pawn for `e4`, none for `e2e4`.
 #[inline(always)]
 fn one_kind(parts: &Parts) -> Option<Kind>
     ensures { result ≡ one_kind parts.now }
@@ -183,7 +186,8 @@ fn one_kind(parts: &Parts) -> Option<Kind>
     }
 }
 
-// Whether the letter denotes a legal move of a piece of that kind, with no promotion, to the end square.
+// Whether the parts, which have the letter of that kind, denote `m`, a legal move of such a piece to their end square:
+// it starts on the file and rank that they name, is a capture if they have `x`, and is not castling.
 #[inline(always)]
 fn is_spelled_by_letter(parts: &Parts, setup: &Setup, kind: Kind, m: &Move) -> bool
     ensures { result ≡ is_spelled_by_letter parts.now setup.now kind m.now }
@@ -194,7 +198,8 @@ fn is_spelled_by_letter(parts: &Parts, setup: &Setup, kind: Kind, m: &Move) -> b
         && !(kind == Kind::King && castling(setup, m).is_some())
 }
 
-// Whether the parts, with no letter, denote a legal move of a pawn, with no promotion, to the end square.
+// Whether the parts, which have no letter, denote `m`, a pawn's legal move to their end square without a promotion:
+// straight ahead if they name no file (`e4`), else from that file, and a capture if they have `x` (`exd5`).
 #[inline(always)]
 fn is_spelled_by_pawn(parts: &Parts, setup: &Setup, m: &Move) -> bool
     ensures { result ≡ is_spelled_by_pawn parts.now setup.now m.now }
@@ -208,7 +213,8 @@ fn is_spelled_by_pawn(parts: &Parts, setup: &Setup, m: &Move) -> bool
     }
 }
 
-// Whether the parts denote a legal move of a piece of that one kind, with no promotion, to the end square.
+// Whether the parts, which denote moves of that kind alone, denote `m`, a legal move of such a piece to their end
+// square without a promotion.
 #[inline(always)]
 fn is_spelled_of(parts: &Parts, setup: &Setup, kind: Kind, m: &Move) -> bool
     ensures { result ≡ is_spelled_of parts.now setup.now kind m.now }
@@ -319,8 +325,8 @@ fn spelled<B: Board>(board: &B, form: &Form) -> Reading
     spelled_from_origins(board, form)
 }
 
-/// What a text is in the board's position: of the legal moves it may denote one, several or none. Whether a mark `+` or
-/// `#` is true isn't asked; en passant is a capture.
+/// Reads a text as a move of the board's position: a legal move if the text denotes exactly one, else why it doesn't.
+/// Whether a mark `+` or `#` is true isn't asked; en passant is a capture.
 #[inline(always)]
 pub fn read_move<B: Board>(board: &B, text: &[u8]) -> Reading
     ensures value { result ≡ reading (B.position board.now) text.now }

@@ -29,7 +29,7 @@ pub struct Disambiguation {
     pub rank: bool,
 }
 
-// Whether one of the squares is on the file.
+// Whether one of the squares is on that file.
 fn some_on_file(file: u8, squares: SquareSet) -> bool
     ensures { result ≡ some_on_file file (members squares) }
 {
@@ -42,7 +42,7 @@ fn some_on_file(file: u8, squares: SquareSet) -> bool
     false
 }
 
-// Whether one of the squares is on the rank.
+// Whether one of the squares is on that rank.
 fn some_on_rank(rank: u8, squares: SquareSet) -> bool
     ensures { result ≡ some_on_rank rank (members squares) }
 {
@@ -77,7 +77,8 @@ fn disambiguate(from: Square, others: SquareSet) -> Disambiguation
     }
 }
 
-// Where the other pieces of the kind start that have the legal move to the same square.
+// The start squares of the other pieces of the same kind that may legally go to the same end square; the described move
+// is no pawn's.
 fn rival_starts<B: Board>(board: &B, d: &Described) -> SquareSet
     requires { same_kind d.now.man Pawn ≡ false }
     ensures { members result ≡ rival_starts (B.position board.now) (moves (B.position board.now)) d.now }
@@ -97,6 +98,7 @@ fn push_if(text: &mut SanText, is_written: bool, byte: u8)
     }
 }
 
+// Appends the name of a square, as `e4`.
 fn write_square(text: &mut SanText, square: Square)
     requires room { array_vec_len text.old + 2 ≤ 7 }
     ensures text { text.new.items ≡ text.old.items ++ square_text square }
@@ -106,6 +108,7 @@ fn write_square(text: &mut SanText, square: Square)
     text.push(b'1' + square.rank());
 }
 
+// The capital letter of a kind of piece: `N` for a knight.
 fn letter(kind: Kind) -> u8
     ensures { result ≡ white_letter kind }
 {
@@ -119,6 +122,7 @@ fn letter(kind: Kind) -> u8
     }
 }
 
+// Castling to that side in SAN: `O-O` or `O-O-O`.
 fn castling_text(castling_side: CastlingSide) -> SanText
     ensures text { result.items ≡ castling_text castling_side }
     ensures len { array_vec_len result ≤ 6 }
@@ -132,6 +136,7 @@ fn castling_text(castling_side: CastlingSide) -> SanText
     text
 }
 
+// A pawn's move in SAN, without the mark for check or mate, as `exd5` or `e8=Q`.
 fn pawn_text(d: &Described) -> SanText
     ensures text { result.items ≡ parts_text (pawn_parts d.now) }
     ensures len { array_vec_len result ≤ 6 }
@@ -162,7 +167,8 @@ fn lettered_text(others: SquareSet, d: &Described) -> SanText
     text
 }
 
-// The text of a described move without its mark, beside the board's legal moves.
+// The described move in SAN, without the mark for check or mate. The board is at the position before the move: its
+// other legal moves decide how much of the start square is written.
 fn described_text<B: Board>(board: &B, d: &Described) -> SanText
     requires promotes { promotes_as_a_pawn d.now }
     ensures text { result.items
@@ -178,8 +184,8 @@ fn described_text<B: Board>(board: &B, d: &Described) -> SanText
     lettered_text(rival_starts(board, d), d)
 }
 
-/// The SAN of a legal move without its mark, which is that of the position after the move: [`add_check_mark`] adds it
-/// there.
+/// The SAN of a legal move without the mark for check or mate, which depends on the position after the move:
+/// [`add_check_mark`] appends it there.
 pub fn unmarked_san<B: Board>(board: &B, m: &Move) -> SanText
     requires { IsTrue (is_legal (B.position board.now) m.now) }
     ensures text { result.items ++ check_mark (after (B.position board.now) m.now) ≡ san (B.position board.now) m.now }
@@ -191,7 +197,8 @@ pub fn unmarked_san<B: Board>(board: &B, m: &Move) -> SanText
     described_text(board, &d)
 }
 
-/// Adds the mark of the position after a move: `#` for mate, or `+` for check.
+/// Appends the mark for the board's position, which is the one after the move: `#` for mate, `+` for check, else
+/// nothing.
 #[tactic(auto, unfolding(crate::specs::San::check_mark))]
 pub fn add_check_mark<B: Board>(board: &B, text: &mut SanText)
     requires room { array_vec_len text.old < 7 }
@@ -203,10 +210,10 @@ pub fn add_check_mark<B: Board>(board: &B, text: &mut SanText)
     }
 }
 
-/// The SAN of a legal move: castling as `O-O` or `O-O-O`; of a pawn for a capture its file and `x`, the end square,
-/// and for a promotion `=` and a letter; of another piece its letter, what distinguishes it from the other legal moves
-/// of such pieces to that square, `x` for a capture, and the end square; last `#` for mate, or `+` for check. The board
-/// is left at its position.
+/// The SAN of a legal move, as `Nbxd2+`: castling as `O-O` or `O-O-O`; of a pawn for a capture its file and `x`, the
+/// end square, and for a promotion `=` and a letter; of another piece its letter, what distinguishes it from the other
+/// legal moves of such pieces to that square, `x` for a capture, and the end square; last `#` for mate, or `+` for
+/// check. The board is left at its position.
 pub fn san<B: Board>(board: &mut B, m: Move) -> SanText
     requires { IsTrue (is_legal (B.position board.old) m) }
     ensures text { result.items ≡ san (B.position board.old) m }

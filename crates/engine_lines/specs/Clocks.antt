@@ -4,27 +4,27 @@ use Rattle.chess_base.specs.declared.man.Colour.{Colour}
 use Rattle.chess_base.specs.declared.man.Colour.TheVariants.{White, Black}
 use Rattle.engine_lines.specs.Levels.{LevelSeen, left}
 
--- what a side spent: how many moves it made, and the time that they used
+-- what a side used so far: how many moves it made, and the time that they took
 pub record Spent : Type 0 where
   pub moves : ℕ
   -- in milliseconds
   pub used : ℕ
 
--- what clocks are seen as: their level, and what each side spent
+-- what contracts see of a game's clocks: the time control, and what each side used
 pub record ClocksSeen : Type 0 where
   pub level : LevelSeen
   pub white : Spent
   pub black : Spent
 
--- no move, and no time
+-- no moves and no time
 abbrev pub nothing_spent : Spent
 nothing_spent = record { moves = 0; used = 0 }
 
--- before the first move
+-- the clocks before the first move
 abbrev pub new_clocks : LevelSeen → ClocksSeen
 new_clocks level = record { level = level; white = nothing_spent; black = nothing_spent }
 
--- what that side spent
+-- what this side used so far
 abbrev pub spent_by : ClocksSeen → Colour → Spent
 spent_by clocks White = clocks.white
 spent_by clocks Black = clocks.black
@@ -33,11 +33,11 @@ spent_by clocks Black = clocks.black
 abbrev pub remaining : ClocksSeen → Colour → ℕ
 remaining clocks c = left clocks.level (spent_by clocks c).moves (spent_by clocks c).used
 
--- a move more, which used so many milliseconds
+-- what a side used after one more move, which took `used` milliseconds
 abbrev pub spent_more : Spent → ℕ → Spent
 spent_more s used = record { moves = s.moves + 1; used = s.used + used }
 
--- the clocks once that side made a move more, which used so many milliseconds
+-- the clocks after this side made one more move, which took `used` milliseconds
 abbrev pub charged : ClocksSeen → Colour → ℕ → ClocksSeen
 charged clocks White used = record clocks { white = spent_more clocks.white used }
 charged clocks Black used = record clocks { black = spent_more clocks.black used }

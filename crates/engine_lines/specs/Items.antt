@@ -19,7 +19,7 @@ pub record Item : Type 0 where
   pub name : List ℕ
   pub value : Value
 
--- how many bytes are before the next double quote
+-- the index of the first double quote; the text's length if there is none
 abbrev pub quote_at : List ℕ → ℕ
 quote_at text = position_or_len (λ c. c == byte "\"") text
 
@@ -32,91 +32,96 @@ value_of (c ∷ cs) =
     else if is_digit c then Some (Digits (take_while is_digit (c ∷ cs)), drop (prefix_len is_digit (c ∷ cs)) (c ∷ cs))
     else None
 
--- here is a space, a tab or the line's end
+-- whether an item may end before this text: it is empty, or begins with a space or tab
 abbrev pub is_apart : List ℕ → Bool
 is_apart [] = true
 is_apart (c ∷ cs) = is_blank c
 
--- the item of this name with the value at the front of a text, if a space, a tab or the end follows; and what follows
+-- reads the value of the item with this name, and gives the text after it and its spaces and tabs too; `None` if it
+-- is malformed
 abbrev pub with_value : List ℕ → List ℕ → Option (Item × List ℕ)
 with_value name rest =
     option_and_then (λ (p : Value × List ℕ). if is_apart p.1 then Some
     (record { name = name; value = p.0 }, without_front_blanks p.1) else None) (value_of rest)
 
--- the item of this name, if it isn't empty and is followed by an equals sign and a value; and what follows
+-- reads `=` and a value after an item's name, which must not be empty; `None` if they are malformed
 abbrev pub with_name : List ℕ → List ℕ → Option (Item × List ℕ)
 with_name (n ∷ ns) (c ∷ cs) = if c == byte "=" then with_value (n ∷ ns) cs else None
 with_name _ _ = None
 
--- the item at the front of a text, and what follows it and its spaces and tabs; none where it is malformed
+-- reads an item at a text's front, such as `ping=1` or `myname="Sjeng"`, and gives the text after it and its spaces
+-- and tabs too; `None` if it is malformed
 unfoldable pub item_of : List ℕ → Option (Item × List ℕ)
 item_of text = with_name (take_while is_name_byte text) (drop (prefix_len is_name_byte text) text)
 
 -- ---- the items of a line
 
--- the digit 1 alone, without quotes
+-- whether a value is the digit 1, without quotes
 abbrev pub is_one : Value → Bool
 is_one (Digits ds) = bytes_eq ds (codes "1")
 is_one (Quoted cs) = false
 
--- `done=1`
+-- whether an item is `done=1`, which ends the handshake
 abbrev pub ends_hello : Item → Bool
 ends_hello i = bytes_eq i.name (codes "done") && is_one i.value
 
--- the items of a text, at most n, up to a malformed one or one that ends the handshake
+-- the items of a text, at most as many as the number, up to a malformed one or to `done=1`
 abbrev pub first_items : ℕ → List ℕ → List Item
 first_items zero text = []
 first_items (suc n) text =
     option_map_or (λ p. if ends_hello p.0 then p.0 ∷ [] else p.0 ∷ first_items n p.1) (item_of text) []
 
--- an item has at least three bytes, so a text has no more items than bytes
+-- the items of a `feature` line, up to a malformed one or to `done=1`. Each takes at least three bytes, so there are
+-- no more than bytes
 unfoldable pub items_of : List ℕ → List Item
 items_of text = first_items (length text) text
 
--- one of the items ends the handshake
+-- whether `done=1` is among the items
 unfoldable pub has_done : List Item → Bool
 has_done items = list_any ends_hello items
 
 -- ---- what an engine says by its items
 
--- what f gives of the last value of a name, else a default
+-- what `f` gives of the value of the last item with this name; `default` if there is none
 abbrev pub last_said : {A : Type 0} → (Value → A) → A → List ℕ → List Item → A
 last_said f default name items = fold (λ before i. if bytes_eq i.name name then f i.value else before) default items
 
--- an engine takes what a name asks for: what isn't said is 1 for `time` and `draw`, else 0
+-- whether an engine has a feature on, by the last item of that name; without one, `time` and `draw` are on, others
+-- off
 unfoldable pub takes : List ℕ → List Item → Bool
 takes name items = last_said is_one (bytes_eq name (codes "time") || bytes_eq name (codes "draw")) name items
 
--- the text of a value, without quotes
+-- a value's text, without quotes
 abbrev pub value_text : Value → List ℕ
 value_text (Digits ds) = ds
 value_text (Quoted cs) = cs
 
--- the text of the last value of a name, else none
+-- the text of the last value of a feature, such as `myname`; empty if there is none
 unfoldable pub told : List ℕ → List Item → List ℕ
 told name items = last_said value_text [] name items
 
--- a comma, space or tab: the words of a value are between these
+-- whether a byte separates the names in the value of `variants`: a comma, space or tab
 abbrev pub is_comma_or_blank : ℕ → Bool
 is_comma_or_blank c = is_blank c || (c == byte ",")
 
--- a text, cut at commas, spaces and tabs, has this word
+-- whether a list with commas, spaces or tabs between, such as `normal,fischerandom`, has this word
 unfoldable pub has_word : List ℕ → List ℕ → Bool
 has_word word text = list_any (λ piece. bytes_eq piece word) (slice_split is_comma_or_blank text)
 
--- the last value of `variants` names fischerandom; an engine that doesn't say its variants is taken to play it
+-- whether an engine plays Chess960: the value of its last item `variants` names `fischerandom`, or there is no such
+-- item
 unfoldable pub plays_fischerandom : List Item → Bool
 plays_fischerandom items = last_said (λ v. has_word (codes "fischerandom") (value_text v)) true (codes "variants") items
 
 -- ---- the answer to an item
 
--- the names of features that are accepted
+-- the names of the features that are answered by `accepted`
 abbrev pub known_names : List (List ℕ)
 known_names =
     codes "ping" ∷ codes "setboard" ∷ codes "playother" ∷ codes "san" ∷ codes "usermove" ∷ codes "time" ∷ codes "draw"
     ∷ codes "sigint" ∷ codes "sigterm" ∷ codes "reuse" ∷ codes "analyze" ∷ codes "myname" ∷ codes "variants"
     ∷ codes "colors" ∷ codes "debug" ∷ codes "done" ∷ []
 
--- a feature of that name is accepted
+-- whether a feature of this name is answered by `accepted`, else by `rejected`
 unfoldable pub is_known : List ℕ → Bool
 is_known name = list_any (bytes_eq name) known_names

@@ -7,7 +7,8 @@ use Rattle.chess_cecp.specs.Commands.{word_of, argument_of, short_number}
 use Rattle.chess_cecp.specs.Lines.{without_front_blanks}
 use Rattle.chess_cecp.specs.Options.{◌>>=◌}
 
--- moves of a session, 0 for one session without end; base and increment in seconds
+-- a time control, as `level 40 5 0` sets it: `moves` per session (0: one session for the whole game), the `base` time
+-- of each session and the `increment` per move, both in seconds
 pub record LevelSeen : Type 0 where
   pub moves : ℕ
   pub base : ℕ
@@ -15,16 +16,16 @@ pub record LevelSeen : Type 0 where
 
 -- ---- spelling
 
--- how many bytes are before the first colon
+-- the index of the first colon; the text's length if there is none
 abbrev pub colon_at : List ℕ → ℕ
 colon_at text = position_or_len (λ c. c == byte ":") text
 
--- minutes and seconds, both there and with fewer than 60 seconds, in seconds
+-- minutes and seconds as seconds, if both were read and the seconds are below 60
 abbrev pub in_seconds : Option ℕ → Option ℕ → Option ℕ
 in_seconds (Some m) (Some s) = if nat_lt s 60 then Some (60 * m + s) else None
 in_seconds _ _ = None
 
--- minutes, or minutes and seconds with a colon between
+-- the base time of a text in seconds: minutes (`5`), or minutes and seconds (`0:30`)
 unfoldable pub base_of : List ℕ → Option ℕ
 base_of text =
     if colon_at text == length text then option_map (λ m. 60 * m) (short_number 3 text)
@@ -48,27 +49,27 @@ level_of text =
 abbrev pub two_digits : ℕ → List ℕ
 two_digits n = (byte "0" + n / 10) ∷ (byte "0" + n % 10) ∷ []
 
--- minutes, and where they aren't 0 seconds
+-- a base time as it is written: minutes, and seconds if there are any, such as `5` or `0:30`
 abbrev pub base_text : ℕ → List ℕ
 base_text base = if base % 60 == 0 then decimal (base / 60) else decimal (base / 60)
     ++ (codes ":" ++ two_digits (base % 60))
 
--- a level as it is written: moves, base and increment, with spaces between
+-- a time control as it is written after `level`, such as `40 5 0`
 unfoldable pub level_text : LevelSeen → List ℕ
 level_text level =
     decimal level.moves ++ (codes " " ++ (base_text level.base ++ (codes " " ++ decimal level.increment)))
 
 -- ---- time
 
--- how many sessions a side has begun after k moves
+-- how many sessions a side has begun after `k` moves
 unfoldable pub sessions : LevelSeen → ℕ → ℕ
 sessions level k = if level.moves == 0 then 1 else 1 + k / level.moves
 
--- the milliseconds that a side was given for k moves and the next one
+-- the milliseconds that a side was given in all, after `k` moves: the base for each session begun, the increment for
+-- each move
 unfoldable pub allotted : LevelSeen → ℕ → ℕ
 allotted level k = 1000 * (level.base * sessions level k + level.increment * k)
 
--- the milliseconds that a side has left after k moves that used so many in all: base for each session that it has
--- begun, and increment for each move, less what was used, and at least 0
+-- the milliseconds that a side has left after `k` moves that took `used` in all; at least 0
 unfoldable pub left : LevelSeen → ℕ → ℕ → ℕ
 left level k used = allotted level k - used

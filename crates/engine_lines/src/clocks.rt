@@ -9,15 +9,14 @@ use crate::level::Level;
 use chess_base::Colour;
 use std::marker::Model;
 
-// What a side spent: its moves, and the milliseconds that they used.
+// What a side used so far: how many moves it made, and the milliseconds that they took.
 #[derive(Clone, Copy)]
 struct SideClock {
     moves: u32,
     used: u64,
 }
 
-/// The clocks of a game at a level: of each side the number of its moves, and the sum of the
-/// milliseconds that they used.
+/// The clocks of a game at a time control: the number of each side's moves, and the milliseconds that they took.
 #[derive(Clone, Copy)]
 pub struct Clocks {
     level: Level,
@@ -48,7 +47,7 @@ impl Model for Clocks {
 }
 
 impl Clocks {
-    /// Before the first move.
+    /// The clocks before the first move.
     pub fn new(level: Level) -> Self
         ensures { result ≡ new_clocks level }
     {
@@ -59,14 +58,14 @@ impl Clocks {
         }
     }
 
-    /// The level.
+    /// The time control.
     pub fn level(&self) -> Level
         ensures { result ≡ self.now.level }
     {
         self.level
     }
 
-    /// How many moves that side made.
+    /// How many moves this side made.
     pub fn moves(&self, side: Colour) -> u32
         ensures value { result ≡ (spent_by self.now side).moves }
         ensures few { result ≤ MOST_MOVES }
@@ -77,7 +76,7 @@ impl Clocks {
         }
     }
 
-    /// The milliseconds that that side has left.
+    /// The milliseconds that this side has left.
     #[tactic(auto, unfolding(crate::specs::Levels::left))]
     pub fn remaining(&self, side: Colour) -> u64
         ensures { result ≡ remaining self.now side }
@@ -88,7 +87,7 @@ impl Clocks {
         }
     }
 
-    /// That side made a move that used so many milliseconds.
+    /// Charges this side for a move that took `used` milliseconds.
     pub fn charge(&mut self, side: Colour, used: u64)
         requires in_time { used ≤ remaining self.old side }
         requires few { (spent_by self.old side).moves < MOST_MOVES }

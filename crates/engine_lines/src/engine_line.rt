@@ -32,6 +32,7 @@ pub enum EngineLine<'a> {
     Other,
 }
 
+// The kind of a line `pong N`, by the text of N; a line without a number is ignored.
 fn pong(text: &[u8]) -> EngineLine<'_>
     ensures { seen result ≡ option_map_or Answers (command_number text.now) SaysElse }
 {
@@ -41,8 +42,8 @@ fn pong(text: &[u8]) -> EngineLine<'_>
     }
 }
 
-/// What a line with this text says, by its first words. Spaces and tabs at the text's ends are not cut here: a
-/// line's text has none.
+/// The kind of a line with this text, by its first words: `move e2e4` makes a move. The text must have no spaces or
+/// tabs at its ends.
 #[tactic(auto, unfolding(crate::specs::EngineLines::kind_of))]
 pub fn read_engine_line(text: &[u8]) -> EngineLine<'_>
     ensures { seen result ≡ kind_of text.now }

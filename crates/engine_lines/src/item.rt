@@ -19,20 +19,21 @@ pub enum Value<'a> {
     Quoted(&'a [u8]),
 }
 
-/// `NAME=VALUE`
+/// An item of a `feature` line: `NAME=VALUE`.
 #[derive(Clone, Copy, Debug)]
 pub struct Item<'a> {
     pub name: &'a [u8],
     pub value: Value<'a>,
 }
 
+// Whether a byte may be in an item's name: letters, digits and `_`.
 fn is_name_byte(byte: u8) -> bool
     ensures { result ≡ is_name_byte byte }
 {
     byte.is_ascii_alphanumeric() || byte == b'_'
 }
 
-// How many of the first bytes are a name's.
+// How many bytes the name at a text's front has.
 fn name_len(text: &[u8]) -> usize
     ensures value { result ≡ prefix_len is_name_byte text.now }
     ensures in_range { result ≤ length text.now }
@@ -44,7 +45,7 @@ fn name_len(text: &[u8]) -> usize
     at
 }
 
-// How many of the first bytes are digits.
+// How many digits are at a text's front.
 fn digits_len(text: &[u8]) -> usize
     ensures value { result ≡ prefix_len is_digit text.now }
     ensures in_range { result ≤ length text.now }
@@ -56,7 +57,7 @@ fn digits_len(text: &[u8]) -> usize
     at
 }
 
-// Counts the bytes before the next double quote.
+// The index of the first double quote; the text's length if there is none.
 fn quote_at(text: &[u8]) -> usize
     ensures value { result ≡ quote_at text.now }
     ensures in_range { result ≤ length text.now }
@@ -68,7 +69,7 @@ fn quote_at(text: &[u8]) -> usize
     at
 }
 
-// The value at the front of a text, and what follows it.
+// Reads the value at a text's front, and returns it with the text after it; `None` if there is none.
 fn read_value(text: &[u8]) -> Option<(Value<'_>, &[u8])>
     ensures { value_read result ≡ value_of text.now }
 {
@@ -92,7 +93,7 @@ fn read_value(text: &[u8]) -> Option<(Value<'_>, &[u8])>
     }
 }
 
-// Whether the text is empty or begins with a space or tab.
+// Whether an item may end before this text: it is empty, or begins with a space or tab.
 fn is_apart(text: &[u8]) -> bool
     ensures { result ≡ is_apart text.now }
 {
@@ -102,7 +103,8 @@ fn is_apart(text: &[u8]) -> bool
     }
 }
 
-/// The item at the front of a text, and what follows it and its spaces and tabs; none where it is malformed.
+/// Reads the item at a text's front, such as `ping=1` or `myname="Sjeng"`, and returns it with the text after it and
+/// its spaces and tabs; `None` if it is malformed.
 #[tactic(auto, unfolding(crate::specs::Items::item_of))]
 pub fn next_item(text: &[u8]) -> Option<(Item<'_>, &[u8])>
     ensures { item_read result ≡ item_of text.now }
@@ -133,7 +135,7 @@ pub fn next_item(text: &[u8]) -> Option<(Item<'_>, &[u8])>
 }
 
 impl<'a> Value<'a> {
-    /// Whether it is the digit 1 alone, without quotes.
+    /// Whether the value is the digit 1, without quotes.
     pub fn is_one(&self) -> bool
         ensures { result ≡ is_one (value_seen self.now) }
     {
@@ -143,7 +145,7 @@ impl<'a> Value<'a> {
         }
     }
 
-    /// Its digits, or the text between its quotes.
+    /// The value's digits, or the text between its quotes.
     pub fn text(&self) -> &'a [u8]
         ensures { result.now ≡ value_text (value_seen self.now) }
     {
@@ -155,7 +157,7 @@ impl<'a> Value<'a> {
 }
 
 impl Item<'_> {
-    /// Whether the engine takes the feature `name`: by this item if it has that name, else as `before`.
+    /// Whether the engine has the feature `name` on: as this item says if it has that name, else as `before`.
     pub(crate) fn says_or(&self, name: &[u8], before: bool) -> bool
         ensures { result ≡ said_again name.now (item_seen self.now) before }
     {
@@ -166,7 +168,7 @@ impl Item<'_> {
         }
     }
 
-    /// Whether its variants, if it names them, have fischerandom.
+    /// Whether the engine plays Chess960: as this item says if it is `variants`, else as `before`.
     pub(crate) fn names_fischerandom_or(&self, before: bool) -> bool
         ensures { result ≡ fischerandom_again (item_seen self.now) before }
     {
@@ -177,7 +179,7 @@ impl Item<'_> {
         }
     }
 
-    /// Whether it is `done=1`.
+    /// Whether this is `done=1`, which ends the handshake.
     pub fn ends_hello(&self) -> bool
         ensures { result ≡ ends_hello (item_seen self.now) }
     {
@@ -185,13 +187,14 @@ impl Item<'_> {
     }
 }
 
+// Whether a byte separates the names in the value of `variants`.
 fn is_comma_or_blank(byte: u8) -> bool
     ensures { result ≡ is_comma_or_blank byte }
 {
     is_blank(byte) || byte == b','
 }
 
-// Whether a text, cut at commas, spaces and tabs, has that word.
+// Whether a list with commas, spaces or tabs between, such as `normal,fischerandom`, has this word.
 #[tactic(auto, unfolding(crate::specs::Items::has_word))]
 fn has_word(text: &[u8], word: &[u8]) -> bool
     ensures { result ≡ has_word word.now text.now }
@@ -210,7 +213,7 @@ fn has_word(text: &[u8], word: &[u8]) -> bool
     &text[from..] == word
 }
 
-/// Whether a feature of that name is known.
+/// Whether a feature of this name is answered by `accepted`, else by `rejected`.
 #[tactic(auto, unfolding(crate::specs::Items::is_known))]
 pub fn is_known(name: &[u8]) -> bool
     ensures { result ≡ is_known name.now }

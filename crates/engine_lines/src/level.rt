@@ -7,8 +7,8 @@ ghost use Rattle.chess_game.specs.declared.game.TheConstants.{MOST_MOVES};
 use chess_cecp::{argument, first_word, short_number, trim_start};
 use std::marker::Model;
 
-/// A level of time (CECP, version 2, command `level`): so many moves a session, 0 for one session without end, and a
-/// base and an increment in seconds.
+/// A time control (CECP, version 2, command `level`): moves per session, 0 for one session without end, and a base and
+/// an increment in seconds.
 #[derive(Clone, Copy, PartialEq, Eq)]
 pub struct Level {
     moves: u32,
@@ -33,7 +33,7 @@ impl Model for Level {
     ghost inverse = { λ v. record { moves = v.moves; base = v.base; increment = v.increment } };
 }
 
-// Counts the bytes before the first colon.
+// The index of the first colon; the text's length if there is none.
 fn colon_at(text: &[u8]) -> usize
     ensures value { result ≡ colon_at text.now }
     ensures in_range { result ≤ length text.now }
@@ -45,7 +45,7 @@ fn colon_at(text: &[u8]) -> usize
     at
 }
 
-// Minutes and seconds in seconds.
+// Minutes and seconds as seconds, if both were read and the seconds are below 60.
 fn in_seconds(minutes: Option<u32>, seconds: Option<u32>) -> Option<u32>
     requires { IfSome minutes (λ n. n ≤ 999) }
     ensures value { result ≡ in_seconds minutes seconds }
@@ -64,7 +64,7 @@ fn in_seconds(minutes: Option<u32>, seconds: Option<u32>) -> Option<u32>
     }
 }
 
-// The base that a text denotes, in seconds.
+// The base time that a text such as `5` or `0:30` denotes, in seconds.
 #[tactic(auto, unfolding(crate::specs::Levels::base_of))]
 fn base(text: &[u8]) -> Option<u32>
     ensures value { result ≡ base_of text.now }
@@ -85,8 +85,8 @@ fn base(text: &[u8]) -> Option<u32>
 }
 
 impl Level {
-    /// The level that a text denotes: `MOVES BASE INCREMENT`, each a number of one to three digits, with spaces or tabs
-    /// between and perhaps around. The base is in minutes, or `minutes:seconds` with one or two digits for
+    /// The time control that a text denotes: `MOVES BASE INCREMENT`, each a number of one to three digits, with spaces
+    /// or tabs between and perhaps around. The base is in minutes, or `minutes:seconds` with one or two digits for
     /// fewer than 60 seconds.
     #[tactic(auto, unfolding(crate::specs::Levels::level_of))]
     pub fn read(text: &[u8]) -> Option<Self>
@@ -116,7 +116,7 @@ impl Level {
         self.moves
     }
 
-    /// The base in seconds.
+    /// The base time of a session in seconds.
     pub fn base(self) -> u32
         ensures value { result ≡ self.base }
         ensures few { result ≤ 59999 }
@@ -124,7 +124,7 @@ impl Level {
         self.base
     }
 
-    /// The increment in seconds.
+    /// The increment per move in seconds.
     pub fn increment(self) -> u32
         ensures value { result ≡ self.increment }
         ensures few { result ≤ 999 }
@@ -132,7 +132,7 @@ impl Level {
         self.increment
     }
 
-    /// The milliseconds that a side is given for so many moves and the next one.
+    /// The milliseconds that a side was given in all, after so many moves.
     #[tactic(auto, unfolding(crate::specs::Levels::allotted, crate::specs::Levels::sessions))]
     pub(crate) fn allotted(self, moves: u32) -> u64
         requires { moves ≤ MOST_MOVES }

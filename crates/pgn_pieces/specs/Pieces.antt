@@ -10,11 +10,11 @@ use Rattle.pgn_pieces.specs.declared.pieces.TheConstants.{PIECE_LEN}
 
 -- ---- the pieces of a text (PGN standard of 1994, section 8.1.1: the tag Event comes first)
 
--- a text begins as the line of a tag Event
+-- whether a text begins with `[Event `, as the first tag of a game does
 abbrev pub begins_event : List ℕ → Bool
 begins_event text = bytes_eq (take 7 text) (codes "[Event ")
 
--- a piece ends with this byte, before these bytes: with a byte 10 that `[Event ` follows
+-- whether a piece ends with the byte `c`, which is followed by `rest`: `c` is `\n`, and `[Event ` follows
 abbrev pub ends_piece : ℕ → List ℕ → Bool
 ends_piece c rest = (c == 10) && begins_event rest
 
@@ -23,12 +23,12 @@ abbrev pub cut : List ℕ → List (List ℕ)
 cut [] = []
 cut (c ∷ cs) = if ends_piece c cs then (c ∷ []) ∷ cut cs else onto_first c (cut cs)
 
--- a piece: the offset at which it begins in the text, and its bytes, unless it has more than 16,777,216
+-- a piece: the offset of its first byte in the input, and its bytes, or `None` if it has more than 16,777,216
 pub record Piece : Type 0 where
   pub offset : ℕ
   pub bytes : Option (List ℕ)
 
--- the piece of these bytes that begins there
+-- the piece with these bytes, of which the first is at that offset of the input
 abbrev pub piece_at : ℕ → List ℕ → Piece
 piece_at offset bytes =
     record { offset = offset; bytes = if nat_le (length bytes) PIECE_LEN then Some bytes else None }
@@ -44,20 +44,22 @@ pieces ended text = let all = cut text in with_offsets 0 (if ended then all else
 
 -- ---- what was read of an input
 
--- this was read of the input, and no read failed; where it has ended this is all of it, and its end was reported once
+-- between two states of the input, `r` and then `r'`, just this text was read, and no read failed. `ended`: the end
+-- of the input was reached, and was reported by one read
 pub record HasRead (ended : Bool) (r r' : InputState) (text : List ℕ) : Type 0 where
   pub bytes : Consumes r.known_bytes r'.known_bytes text
   pub failures : r'.failure_count ≡ r.failure_count
   pub ends : r'.end_count ≡ (if ended then risen r.end_count else r.end_count)
   pub at_end : ended ≡ true → IsAtEnd r'.known_bytes
 
--- this was read of the input, then a read failed, and there was no other
+-- between two states of the input, `r` and then `r'`, this text was read, and then one read failed
 pub record BrokeOff (r r' : InputState) (text : List ℕ) : Type 0 where
   pub bytes : Consumes r.known_bytes r'.known_bytes text
   pub failures : r'.failure_count ≡ risen r.failure_count
   pub ends : r'.end_count ≡ r.end_count
 
--- why no more than this text was read: a read failed, we ran out of memory, or it has nearly 2^63 bytes
+-- why nothing was read after this text, between the input's states `r` and `r'`: a read failed, memory ran out, or
+-- the text has nearly 2^63 bytes or more
 abbrev pub IsCause : InputState → InputState → List ℕ → PieceFault → Type 0
 IsCause r r' text ReadFailed = BrokeOff r r' text
 IsCause r r' text NoMemory = HasRead false r r' text

@@ -4,23 +4,23 @@ use Rattle.byte_devices.specs.Devices.{InputState}
 use Rattle.pgn_pieces.specs.declared.pieces.PieceFault.{PieceFault}
 use Rattle.pgn_pieces.specs.Pieces.{Piece, piece_at, ends_piece, HasRead, IsCause}
 
--- what is held of an input: the offset at which a piece begins, the bytes of it, and the bytes after these; and whether
--- the input has ended. Of a piece that is too long any bytes may be here, as many as it has
+-- how far an input is cut: the offset at which the current piece begins, its bytes so far, the bytes that were read
+-- after these, and whether the input has ended. Of a piece that is too long only the number of its bytes counts
 pub record State : Type 0 where
   pub offset : ℕ
   pub part : List ℕ
   pub coming : List ℕ
   pub ended : Bool
 
--- nothing was read yet
+-- before the first read
 abbrev pub unread : State
 unread = record { offset = 0; part = []; coming = []; ended = false }
 
--- after the piece, with no byte of the next one
+-- after the current piece: the next one begins at its end, and has no bytes so far
 abbrev pub past_piece : State → State
 past_piece s = record { offset = s.offset + length s.part; part = []; coming = s.coming; ended = s.ended }
 
--- the piece
+-- the current piece, with the bytes so far
 abbrev pub current : State → Piece
 current s = piece_at s.offset s.part
 
@@ -36,18 +36,20 @@ pieces_after_part ended offset part (c ∷ cs) =
 abbrev pub pieces_held : Bool → State → List ℕ → List Piece
 pieces_held ended s rest = pieces_after_part ended s.offset s.part (s.coming ++ rest)
 
--- once a text has ended nothing may follow it
+-- if the first flag says that the input has ended, nothing may follow: it has still ended (`ended`), and the rest is
+-- empty
 abbrev pub MayFollow : Bool → Bool → List ℕ → Type 0
 MayFollow false ended rest = Unit {0}
 MayFollow true ended rest = (ended ≡ true) × (rest ≡ [])
 
--- the state once this text was read
+-- `s` is the state after this text was read, while the input went from its state `r` to `r'`
 pub record IsStateOf (s : State) (r r' : InputState) (text : List ℕ) : Type 0 where
   pub read : HasRead s.ended r r' text
   pub all : s.offset + (length s.part + length s.coming) ≡ length text
 
--- a call for the next piece, once this text was read. More may be read, unless the text has ended; then the pieces that
--- are left, however the text goes on, are the next one and those after it; or there is none
+-- a call for the next piece takes the state `s` to `s'` and the input from `r` to `r'`; this text was read before,
+-- and the call may read `more`. It returned true: `s'` has that piece, and the others follow it, however the input
+-- goes on; false: no piece is left; or a fault
 abbrev pub Next : State → State → InputState → InputState → List ℕ → Result Bool PieceFault → Type 0
 Next s s' r r' text (Ok true) = (more : List ℕ) × IsStateOf s' r r' (text ++ more)
     × (s.ended ≡ true → (s'.ended ≡ true) × (more ≡ []))

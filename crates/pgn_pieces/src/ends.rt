@@ -5,17 +5,17 @@ ghost use Rattle.std.specs.Str.{bytes_eq};
 ghost use Rattle.pgn_pieces.specs.Pieces.{ends_piece};
 ghost use Rattle.pgn_pieces.specs.ties.Held.{EndsAfter, Passes, has_line_end};
 
-// The bytes of `[Event `.
+// The length of `[Event `.
 pub(crate) const EVENT_LEN: usize = 7;
 
-// Whether a text begins as the line of a tag Event.
+// Whether a text begins with `[Event `.
 fn begins_event(text: &[u8]) -> bool
     ensures { result ≡ bytes_eq (take 7 text.now) (codes "[Event ") }
 {
     text.starts_with(b"[Event ")
 }
 
-// Whether a piece ends with the byte before the offset.
+// Whether a new piece begins at `offset`: a line that begins with `[Event `.
 fn ends_before(text: &[u8], offset: usize) -> bool
     requires some { 0 < offset }
     requires within { offset ≤ length text.now }
@@ -24,7 +24,7 @@ fn ends_before(text: &[u8], offset: usize) -> bool
     text[offset - 1] == b'\n' && begins_event(&text[offset..])
 }
 
-// Whether byte 10 is among these bytes. All of them are looked at, so that the compiler may take them at once.
+// Whether `\n` is among these bytes. It looks at all of them, so that the compiler can use vector instructions.
 #[inline(always)]
 fn has_line_end(bytes: &[u8]) -> bool
     ensures { result ≡ has_line_end bytes.now }
@@ -36,7 +36,7 @@ fn has_line_end(bytes: &[u8]) -> bool
     any
 }
 
-// Whether 16 bytes without byte 10 follow at an offset, and seven more.
+// Whether the 16 bytes from `offset` on have no `\n`, and seven more follow them.
 #[inline(always)]
 fn is_plain(text: &[u8], offset: usize) -> bool
     requires { offset ≤ length text.now }

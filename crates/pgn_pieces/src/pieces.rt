@@ -15,10 +15,10 @@ use std::marker::Model;
 /// The most bytes of a piece that is returned.
 pub const PIECE_LEN: usize = 16_777_216;
 
-// The most bytes of a read.
+// How many bytes a read asks for.
 const CHUNK_LEN: usize = 65_536;
 
-// The most bytes after which one more read is tried: fewer than 2^63 less those of a read.
+// The most bytes after which the input is read once more: 2^63 less those of a read, and less one.
 const MOST_READ: usize = 9_223_372_036_854_710_271;
 
 /// Why there are no more pieces.
@@ -76,10 +76,10 @@ impl Model for PgnPieces {
 }
 
 impl PgnPieces {
-    /// The pieces of an input of which nothing was read.
+    /// For an input of which nothing was read; it has no piece before the first call of `next`.
     ///
     /// # Errors
-    /// Where there is no memory.
+    /// If memory runs out.
     pub fn open(alloc: Global) -> Result<Self, AllocError>
         ensures { IfOk result (λ s. s ≡ unread) }
     {
@@ -95,7 +95,7 @@ impl PgnPieces {
         })
     }
 
-    /// Where in the input the piece begins.
+    /// The offset of the piece's first byte in the input.
     pub fn offset(&self) -> usize
         ensures value { result ≡ self.now.offset }
         ensures small { result + length self.now.part < 2 ^ 63 }
@@ -103,7 +103,7 @@ impl PgnPieces {
         self.offset
     }
 
-    /// The piece; `None` where it is too long.
+    /// The piece's bytes; `None` where it has more than `PIECE_LEN`.
     pub fn text(&self) -> Option<&[u8]>
         ensures { option_map (λ text. text.now) result ≡ (current self.now).bytes }
     {
@@ -113,7 +113,7 @@ impl PgnPieces {
         Some(&self.held[self.at..self.at + self.len])
     }
 
-    // Goes past the piece.
+    // Goes past the piece: the next one begins at its end, and has no bytes so far.
     fn pass_piece(&mut self)
         ensures { self.new ≡ past_piece self.old }
     {
@@ -123,7 +123,8 @@ impl PgnPieces {
         self.len = 0;
     }
 
-    // Looks in what is held for the piece's end.
+    // Looks for the piece's end in what was read after it, and adds the bytes up to there to the piece. Returns
+    // whether the end was found.
     fn find_end(&mut self) -> bool
         ensures { FindsEnd self.old self.new result }
     {
@@ -140,7 +141,7 @@ impl PgnPieces {
         }
     }
 
-    // The piece takes all that is held, and returns whether it has a byte.
+    // Adds all that was read to the piece, which is the last, and returns whether it has a byte.
     fn take_rest(&mut self) -> bool
         ensures state { self.new ≡ passed (length self.old.coming) self.old }
         ensures some { result ≡ nat_lt 0 (length self.new.part) }
@@ -149,7 +150,7 @@ impl PgnPieces {
         self.len > 0 || self.gone > 0
     }
 
-    // Lets go of what was looked through of a piece that is too long.
+    // Forgets the bytes of a piece that is too long, and counts them.
     fn let_go(&mut self)
         ensures same { SamePieces self.old self.new }
         ensures keeps { Keeps self.old self.new }
@@ -162,7 +163,7 @@ impl PgnPieces {
         }
     }
 
-    // Lets go of what is done with.
+    // Removes the bytes that are no longer needed from `held`.
     fn compact(&mut self)
         ensures { self.new ≡ self.old }
     {
@@ -175,7 +176,7 @@ impl PgnPieces {
         }
     }
 
-    // Reads more, and holds it after what is held.
+    // Reads once, and adds the bytes to `held`. A read without bytes is the input's end.
     fn read_more<R: Input>(&mut self, input: &mut R) -> Result<(), PieceFault>
         ensures { Adds self.old self.new (R.seen input.old) (R.seen input.new) result }
     {
@@ -198,8 +199,8 @@ impl PgnPieces {
     /// Goes on to the next piece, and returns whether there is one. Nothing is read where its end is held.
     ///
     /// # Errors
-    /// Where a read failed, we ran out of memory, or nearly 2^63 bytes or more were read. There is no next piece
-    /// then, as far as the input was read: its end was not seen. No clause says what later calls return.
+    /// If a read fails, memory runs out, or nearly 2^63 bytes or more were read. There is no next piece then, as far as
+    /// the input was read: its end was not seen. No clause says what later calls return.
     pub fn next<R: Input>(&mut self, input: &mut R) -> Result<bool, PieceFault>
         ensures next { (r : InputState) (text : List ℕ) → IsStateOf self.old r (R.seen input.old) text
             → Next self.old self.new r (R.seen input.new) text result }

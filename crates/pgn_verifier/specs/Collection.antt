@@ -15,18 +15,19 @@ use Rattle.pgn_verifier.specs.Reports.{reports_in, lines_of, counts_line, counts
 abbrev pub collection_reports : Bool → Bool → List ℕ → List Report
 collection_reports strict ended text = flat_map (reports_in strict) (pieces ended text)
 
--- their lines
+-- the lines of these reports: `game 1: 4 half-moves, 0-1` and so on, numbered from 1; `ended`: the collection has
+-- ended
 abbrev pub collection_lines : VerifyOptions → Bool → List ℕ → List ℕ
 collection_lines options ended text = lines_of options.quiet 1 (collection_reports options.strict ended text)
 
--- what is written of a collection: after the lines of all pieces come the counts
+-- all that is written of a collection: the lines of its games, and once it has ended (`ended`) the line of counts
 abbrev pub collection_text : VerifyOptions → Bool → List ℕ → List ℕ
 collection_text options ended text = collection_lines options ended text
     ++ (if ended then counts_line (counts_of (collection_reports options.strict ended text)) else [])
 
--- the whole promise: all of the input was read, and the lines of its pieces and the counts were written and flushed; or
--- a write failed, and a beginning of them was written. Where a read failed, where there are nearly 2^63 bytes, or where
--- we ran out of memory, the lines of the pieces whose end was read were written
+-- what verifying a collection does, from the input's state `r` to `r'` and the output's `w` to `w'`. It read all of
+-- the input, wrote the text and flushed it; or a write failed, and a beginning was written; or the input failed, and
+-- the lines of the pieces read by then were written
 abbrev pub VerifiesCollection : VerifyOptions → InputState → InputState → OutputState → OutputState
     → Result Verified VerifyFault → Type 0
 VerifiesCollection options r r' w w' (Ok verdict) =

@@ -25,7 +25,8 @@ result_differs None end = None
 result_differs (Some tag) end = if option_eq same_outcome tag.outcome (Some end.outcome) then None
     else Some (record { kind = ResultDiffers; offset = tag.offset })
 
--- the board has a verdict with another outcome than the termination; the offset is the termination's first byte
+-- the fault of a game that ends with another outcome than the board's verdict (such as mate), at the offset of its
+-- outcome
 abbrev pub board_says_otherwise : Option Verdict → PgnEnd → Option GameFault
 board_says_otherwise verdict end = if is_other verdict end.outcome
     then Some (record { kind = BoardSaysOtherwise; offset = end.offset - length (outcome_text end.outcome) }) else None
@@ -45,18 +46,19 @@ judged strict tag verdict (Ok None) = Ok None
 judged strict tag verdict (Ok (Some end)) = option_map_or Err (contradiction strict tag verdict end) (Ok (Some end))
 judged strict tag verdict (Err fault) = Err (record { kind = Pgn fault.kind; offset = fault.offset })
 
--- a game of a text from an offset on, of at most 20,000 half-moves
+-- reads the game of a text from an offset on, of at most 20,000 half-moves
 abbrev pub read_at : List ℕ → ℕ → GameRead
 read_at = pgn_read MOST_MOVES
 
--- how it is judged: its end, or its fault; nothing where no game is left
+-- what is reported of the game from the offset `at` on: its end, its fault, or `None` if the text has no more games.
+-- `strict`: results are compared
 abbrev pub judged_at : Bool → List ℕ → ℕ → Result (Option PgnEnd) GameFault
 judged_at strict text at =
     let read = read_at text at in judged strict (result_tag_of text at) (verdict_now read.state) read.answer
 
 -- ---- names
 
--- the name of a fault of a game's text
+-- the words that report a fault of reading
 abbrev pub pgn_fault_name : PgnFaultKind → List ℕ
 pgn_fault_name BadTag = codes "bad tag"
 pgn_fault_name BadFen = codes "bad FEN"
@@ -69,7 +71,7 @@ pgn_fault_name UnclosedComment = codes "unclosed comment"
 pgn_fault_name UnclosedVariation = codes "unclosed variation"
 pgn_fault_name NoResult = codes "no result"
 
--- the name of a fault
+-- the words that report a fault, as in `game 2: illegal move at byte 39`
 abbrev pub fault_name : FaultKind → List ℕ
 fault_name (Pgn kind) = pgn_fault_name kind
 fault_name ResultDiffers = codes "result differs"

@@ -27,14 +27,16 @@ report_then start (Ok None) plies later = []
 report_then start (Ok (Some end)) plies later = Game plies end.outcome end.termination ∷ later end.offset
 report_then start (Err fault) plies later = Faulty (record fault { offset = start + fault.offset }) ∷ []
 
--- the reports on the games of a text from an offset on, of which there are no more than n
+-- the reports on the games of a text from the offset `at` on, at most as many as the number. The text begins at
+-- `start` of the input; `strict`: results are compared
 unfoldable pub reports_from : Bool → ℕ → ℕ → List ℕ → ℕ → List Report
 reports_from strict start zero text at = []
 reports_from strict start (suc n) text at =
     report_then start (judged_at strict text at) (length (read_at text at).state.moves)
     (λ next. reports_from strict start n text next)
 
--- the reports on all games of a text that begins there, up to the first fault: each game has a byte at least
+-- the reports on all games of a text up to its first fault. The text begins at `start` of the input. Each game has at
+-- least a byte, so there are at most as many reports as bytes, and one more
 abbrev pub reports_on : Bool → ℕ → List ℕ → List Report
 reports_on strict start text = reports_from strict start (length text + 1) text 0
 
@@ -47,37 +49,37 @@ reports_in strict piece = option_map_or (reports_on strict piece.offset) piece.b
 
 -- ---- their lines
 
--- how the game ended, if its text says so
+-- what the line says of the tag Termination, such as `, time forfeit`; nothing if the game has none
 abbrev pub termination_part : Option Termination → List ℕ
 termination_part termination = option_map_or (λ t. codes ", " ++ termination_text t) termination []
 
--- the text of a report
+-- a report's text: `4 half-moves, 0-1`, or `illegal move at byte 39`
 abbrev pub report_text : Report → List ℕ
 report_text (Game plies outcome termination) = decimal plies
     ++ (codes " half-moves, " ++ (outcome_text outcome ++ termination_part termination))
 report_text (Faulty fault) = fault_name fault.kind ++ (codes " at byte " ++ decimal fault.offset)
 
--- the line of the game with that number
+-- a report's line, such as `game 2: illegal move at byte 39`; `number` is the game's
 unfoldable pub report_line : ℕ → Report → List ℕ
 report_line number report = codes "game " ++ (decimal number ++ (codes ": " ++ (report_text report ++ new_line ∷ [])))
 
--- with `quiet` only the lines of faults are written
+-- whether a report is written: with `quiet` only faults are
 abbrev pub is_written : Bool → Report → Bool
 is_written quiet (Game plies outcome termination) = not quiet
 is_written quiet (Faulty fault) = true
 
--- the line of a report, if it is written
+-- a report's line, or nothing if it isn't written
 abbrev pub written_line : Bool → ℕ → Report → List ℕ
 written_line quiet number report = if is_written quiet report then report_line number report else []
 
--- the lines of reports on games with numbers from there on
+-- the lines of reports, whose games are numbered from `number` on; with `quiet` only those of faults
 abbrev pub lines_of : Bool → ℕ → List Report → List ℕ
 lines_of quiet number [] = []
 lines_of quiet number (report ∷ rest) = written_line quiet number report ++ lines_of quiet (number + 1) rest
 
 -- ---- the counts
 
--- the counts with a report more: of games without a fault, of their half-moves, and of faults
+-- the counts after one more report: of games without a fault, of their half-moves, and of faults
 abbrev pub with_report : Tally → Report → Tally
 with_report t (Game plies outcome termination) =
     record t { games = t.games + 1; half_moves = t.half_moves + plies }
@@ -87,11 +89,11 @@ with_report t (Faulty fault) = record t { faults = t.faults + 1 }
 abbrev pub counts_of : List Report → Tally
 counts_of reports = fold with_report (record { games = 0; half_moves = 0; faults = 0 }) reports
 
--- whether a fault was counted
+-- how verifying ended, by the counts: each game is without fault, or a fault was reported
 abbrev pub verified : Tally → Verified
 verified t = if t.faults == 0 then EachGame else FaultTold
 
--- the line of the counts
+-- the last line of a collection, such as `games 2 half-moves 6 faults 1`
 unfoldable pub counts_line : Tally → List ℕ
 counts_line t =
     codes "games " ++ (decimal t.games ++ (codes " half-moves " ++ (decimal t.half_moves

@@ -9,17 +9,17 @@ use Rattle.pgn_verifier.specs.declared.options.VerifyOptions.{VerifyOptions}
 use Rattle.pgn_verifier.specs.declared.tally.Verified.{Verified}
 use Rattle.pgn_verifier.specs.Reports.{reports_on, lines_of, counts_of, verified}
 
--- these are all bytes that the input still had to give, and no more than 16,777,216; its end was reported once
+-- between the input's states `r` and `r'` all that was left of it was read, this text, of at most 16,777,216 bytes
 abbrev pub IsAll : InputState → InputState → List ℕ → Type 0
 IsAll r r' text = HasRead true r r' text × (length text ≤ PIECE_LEN)
 
--- what is written of a text: the lines of its reports
+-- all that is written of a text: the lines of its games up to the first fault, numbered from 1
 abbrev pub text_lines : VerifyOptions → List ℕ → List ℕ
 text_lines options text = lines_of options.quiet 1 (reports_on options.strict 0 text)
 
--- the whole promise: all of the input was read, and its lines were written and flushed; or a write failed, and a
--- beginning of them was written. Where a read failed, where there are more than 16,777,216 bytes, or where we ran out of
--- memory for the input or for a game, nothing was written
+-- what verifying a text does, from the input's state `r` to `r'` and the output's `w` to `w'`. It read all of the
+-- input, wrote the lines and flushed them; or a write failed, and a beginning was written; or the input failed, was
+-- too long or memory ran out, and nothing was written
 abbrev pub Verifies : VerifyOptions → InputState → InputState → OutputState → OutputState
     → Result Verified VerifyFault → Type 0
 Verifies options r r' w w' (Ok verdict) = (text : List ℕ) × IsAll r r' text × Sent w w' (text_lines options text)

@@ -16,10 +16,10 @@ use chess_game::Game;
 use pgn_pieces::PIECE_LEN;
 use std::alloc::Global;
 
-// The most bytes of a read.
+// How many bytes a read asks for.
 const READ_LEN: usize = 4096;
 
-// All bytes of the input, which may have as many as a piece.
+// Reads the input to its end; at most `PIECE_LEN` bytes.
 fn read_all<R: Input>(alloc: Global, input: &mut R) -> Result<Vec<u8>, VerifyFault>
     ensures all { IfOk result (λ text. IsAll (R.seen input.old) (R.seen input.new) text.items) }
     ensures failed { IfErr result (λ f. IsNotAll (R.seen input.old) (R.seen input.new) f) }
@@ -42,7 +42,7 @@ fn read_all<R: Input>(alloc: Global, input: &mut R) -> Result<Vec<u8>, VerifyFau
     }
 }
 
-// Writes the lines of the games of a text, and flushes them.
+// Writes the lines of a text's games, and flushes them.
 fn finish<W: Output>(
     options: VerifyOptions,
     text: &[u8],
@@ -63,14 +63,14 @@ fn finish<W: Output>(
     }
 }
 
-/// Reads all games of the input and writes a line for each, `game K: N half-moves, OUTCOME`, with the outcome of its
-/// termination, and after it `, TERMINATION` where its tag says how it ended. A game with a fault has the line
-/// `game K: FAULT at byte B` and is the last. `options` say which lines are left out, and whether results are compared.
-/// All lines were flushed.
+/// Reads all games of the input and writes a line for each: `game 1: 4 half-moves, 0-1`, and after that
+/// `, time forfeit` or the like if its last tag `Termination` has a known text. A game with a fault has the line
+/// `game 2: illegal move at byte 39` and is the last. `options` say which lines are left out, and whether results are
+/// compared. If it returns `Ok`, all lines were flushed.
 ///
 /// # Errors
-/// Where a device or memory failed, or the input has more than 16,777,216 bytes. Lines are left only by a
-/// failed writer: a beginning of them.
+/// If a device fails, memory runs out, or the input has more than 16,777,216 bytes. Nothing was written then, unless it
+/// was the output that failed: a beginning of the lines was.
 pub fn verify<R: Input, W: Output>(
     alloc: Global,
     options: VerifyOptions,

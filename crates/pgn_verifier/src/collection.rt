@@ -22,7 +22,7 @@ use chess_pgn::PgnFaultKind;
 use pgn_pieces::{PgnPieces, PieceFault, pieces_are_cut};
 use std::alloc::Global;
 
-// The fault where a fault ends the pieces.
+// The fault of verifying, if cutting the input into pieces ended so.
 fn piece_fault(fault: PieceFault) -> VerifyFault
     ensures { result ≡ piece_fault fault }
 {
@@ -33,7 +33,8 @@ fn piece_fault(fault: PieceFault) -> VerifyFault
     }
 }
 
-// Reports the games of a piece, or that it is too long.
+// Writes and counts the reports on the current piece's games; a piece that is too long is one fault. `before` are the
+// counts so far.
 fn verify_piece<W: Output>(
     options: VerifyOptions,
     pieces: &PgnPieces,
@@ -65,7 +66,7 @@ fn verify_piece<W: Output>(
     }
 }
 
-// Reports and counts the games of all pieces.
+// Writes and counts the reports on the games of all pieces.
 fn verify_pieces<R: Input, W: Output>(
     options: VerifyOptions,
     pieces: &mut PgnPieces,
@@ -95,7 +96,7 @@ fn verify_pieces<R: Input, W: Output>(
     }
 }
 
-// Writes the line of the counts, and flushes all lines.
+// Writes the line of counts, and flushes the output.
 fn finish<W: Output>(output: &mut W, tally: Tally) -> Result<(), WriteFault>
     ensures { Sends (W.seen output.old) (W.seen output.new) result (counts_line tally) }
 {
@@ -103,7 +104,7 @@ fn finish<W: Output>(output: &mut W, tally: Tally) -> Result<(), WriteFault>
     output.flush()
 }
 
-// Reports the games of all pieces and the counts, and flushes the lines.
+// Writes the reports on the games of all pieces and the line of counts, and flushes the output.
 fn verify_all<R: Input, W: Output>(
     options: VerifyOptions,
     pieces: &mut PgnPieces,
@@ -137,8 +138,8 @@ fn verify_all<R: Input, W: Output>(
 /// bytes of one read, and a piece's lines are written before more is read than shows its end.
 ///
 /// # Errors
-/// Where a read failed, we ran out of memory, or nearly 2^63 bytes were read: the lines of the pieces whose end was
-/// read were written. Where a write or the flush failed: a beginning of the lines was written.
+/// If a read fails, memory runs out, or nearly 2^63 bytes were read: the lines of the pieces whose end was read were
+/// written. If a write or the flush fails: a beginning of the lines was written.
 pub fn verify_collection<R: Input, W: Output>(
     alloc: Global,
     options: VerifyOptions,

@@ -12,7 +12,7 @@ use chess_game::{Game, Outcome, Verdict};
 use chess_moves::Board;
 use chess_pgn::{PgnEnd, ResultTag, result_tag};
 
-// Whether a tag's text, which denotes this outcome, is that of the termination.
+// Whether a tag `Result`, whose text denotes `denoted`, has the text of this outcome.
 fn is_text_of(outcome: Outcome, denoted: Option<Outcome>) -> bool
     ensures { result ≡ option_eq same_outcome denoted (Some outcome) }
 {
@@ -22,7 +22,7 @@ fn is_text_of(outcome: Outcome, denoted: Option<Outcome>) -> bool
     }
 }
 
-// The fault of a tag Result with another text than the termination.
+// The fault of a game that ends with another outcome than its tag `Result` has.
 fn result_differs(tag: Option<ResultTag>, end: PgnEnd) -> Option<GameFault>
     ensures { result ≡ result_differs tag end }
 {
@@ -36,7 +36,7 @@ fn result_differs(tag: Option<ResultTag>, end: PgnEnd) -> Option<GameFault>
     })
 }
 
-// Whether there is a verdict with another outcome.
+// Whether the board has a verdict with another outcome.
 fn is_other(verdict: Option<Verdict>, outcome: Outcome) -> bool
     ensures { result ≡ is_other verdict outcome }
 {
@@ -46,7 +46,7 @@ fn is_other(verdict: Option<Verdict>, outcome: Outcome) -> bool
     }
 }
 
-// The fault of a termination with another outcome than the verdict.
+// The fault of a game that ends with another outcome than the board's verdict.
 fn board_says_otherwise(verdict: Option<Verdict>, end: PgnEnd) -> Option<GameFault>
     ensures { result ≡ board_says_otherwise verdict end }
 {
@@ -59,7 +59,7 @@ fn board_says_otherwise(verdict: Option<Verdict>, end: PgnEnd) -> Option<GameFau
     })
 }
 
-// The first of two faults, if there is one.
+// The first of two faults, as far as there are any.
 fn first_fault(first: Option<GameFault>, second: Option<GameFault>) -> Option<GameFault>
     ensures { result ≡ option_or first second }
 {
@@ -69,7 +69,8 @@ fn first_fault(first: Option<GameFault>, second: Option<GameFault>) -> Option<Ga
     }
 }
 
-// The contradiction of the game that is read from an offset on and has this end; without `strict` none is looked for.
+// What `strict` finds wrong with the game that was read from `at` on and ended so: its result differs from the tag
+// `Result`, or from the board's verdict.
 pub(crate) fn contradiction<B: Board>(
     strict: bool,
     text: &[u8],

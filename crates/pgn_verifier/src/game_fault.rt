@@ -28,7 +28,7 @@ pub(crate) struct GameFault {
 }
 
 impl GameFault {
-    // A fault of a game's text.
+    // A fault that reading found, as one of a game.
     pub(crate) fn of_pgn(fault: PgnFault) -> Self
         ensures { result ≡ record { kind = Pgn fault.kind; offset = fault.offset } }
     {
@@ -38,7 +38,7 @@ impl GameFault {
         }
     }
 
-    // The same fault, counted from the first byte of an input in which the text begins at an offset.
+    // The same fault, with its offset counted from the input's first byte; the game's text begins at `start` there.
     pub(crate) fn moved(self, start: usize) -> Self
         requires { start + self.offset < 2 ^ 64 }
         ensures { result ≡ moved start self }
@@ -50,7 +50,7 @@ impl GameFault {
     }
 }
 
-// The name of a fault of a game's text.
+// The words that report a fault of reading.
 fn pgn_fault_name(kind: PgnFaultKind) -> &'static [u8]
     ensures value { result.now ≡ pgn_fault_name kind }
     ensures short { length result.now ≤ 18 }
@@ -69,7 +69,7 @@ fn pgn_fault_name(kind: PgnFaultKind) -> &'static [u8]
     }
 }
 
-// The name of a fault.
+// The words that report a fault, as in `game 2: illegal move at byte 39`.
 pub(crate) fn fault_name(kind: FaultKind) -> &'static [u8]
     ensures value { result.now ≡ fault_name kind }
     ensures short { length result.now ≤ 20 }

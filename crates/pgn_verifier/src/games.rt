@@ -18,7 +18,7 @@ use chess_game::{Game, MOST_MOVES};
 use chess_pgn::{PgnEnd, faults_have_offsets, half_moves_have_bytes, read_pgn};
 use std::alloc::{AllocError, Global};
 
-// A game with its board, over those tables.
+// A new game of at most `MOST_MOVES` half-moves, on a bitboard that uses these tables.
 pub(crate) fn open_game<'t>(
     alloc: Global,
     tables: &'t AttackTables,
@@ -28,7 +28,8 @@ pub(crate) fn open_game<'t>(
     Game::open(alloc, Bits::new(tables), MOST_MOVES)
 }
 
-// Reads the game of a text from an offset on, and judges it: its end, or its fault; `None` where no game is left.
+// Reads the game of a text from the offset `at` on, and returns its end or its fault; `None` if no game is left.
+// `strict`: results are compared.
 fn judge_game(
     strict: bool,
     text: &[u8],
@@ -58,7 +59,8 @@ fn judge_game(
     }
 }
 
-// Reads game after game of a text that begins at an offset of the input, writes their lines and counts them.
+// Reads the games of a text up to its first fault, writes their lines, and returns the counts so far, which were
+// `before`. The text begins at the offset `start` of the input.
 pub(crate) fn verify_text<W: Output>(
     options: VerifyOptions,
     start: usize,

@@ -33,7 +33,7 @@ pub(crate) enum Report {
     Faulty(GameFault),
 }
 
-// A text at the end of a line.
+// Appends a text to the line.
 fn write_text(line: &mut ReportLine, text: &[u8])
     requires { array_vec_len line.old + length text.now ≤ LINE_LEN }
     ensures text { line.new.items ≡ line.old.items ++ text.now }
@@ -42,7 +42,7 @@ fn write_text(line: &mut ReportLine, text: &[u8])
     line.try_extend_from_slice(text).unwrap();
 }
 
-// A number at the end of a line.
+// Appends a number to the line.
 fn write_number(line: &mut ReportLine, number: usize)
     requires { array_vec_len line.old + 20 ≤ LINE_LEN }
     ensures text { line.new.items ≡ line.old.items ++ decimal number }
@@ -52,7 +52,7 @@ fn write_number(line: &mut ReportLine, number: usize)
     write_text(line, buffer.format(number as u64).as_bytes());
 }
 
-// How a game ended, if its text says so, at the end of a line.
+// Appends what the tag `Termination` says, such as `, time forfeit`.
 fn write_termination(line: &mut ReportLine, termination: Option<Termination>)
     requires { array_vec_len line.old + 18 ≤ LINE_LEN }
     ensures text { line.new.items ≡ line.old.items ++ termination_part termination }
@@ -64,7 +64,7 @@ fn write_termination(line: &mut ReportLine, termination: Option<Termination>)
     }
 }
 
-// The text of a report at the end of a line.
+// Appends a report's text: `4 half-moves, 0-1`, or `illegal move at byte 39`.
 fn write_report(line: &mut ReportLine, report: &Report)
     requires { array_vec_len line.old + 60 ≤ LINE_LEN }
     ensures text { line.new.items ≡ line.old.items ++ report_text report.now }
@@ -89,7 +89,7 @@ fn write_report(line: &mut ReportLine, report: &Report)
     }
 }
 
-// The line of the game with that number.
+// A report's line, such as `game 2: illegal move at byte 39`; `number` is the game's.
 #[tactic(auto, unfolding(crate::specs::Reports::report_line))]
 fn report_line(number: usize, report: &Report) -> ReportLine
     ensures { result.items ≡ report_line number report.now }
@@ -103,7 +103,7 @@ fn report_line(number: usize, report: &Report) -> ReportLine
     line
 }
 
-// With `quiet` only the lines of faults are written.
+// Whether a report is written: with `quiet` only faults are.
 fn is_written(quiet: bool, report: &Report) -> bool
     ensures { result ≡ is_written quiet report.now }
 {
@@ -113,7 +113,7 @@ fn is_written(quiet: bool, report: &Report) -> bool
     }
 }
 
-// Writes the line of the game with that number, unless it is left out.
+// Writes a report's line, unless `quiet` leaves it out; `number` is the game's.
 pub(crate) fn write_line<W: Output>(
     quiet: bool,
     output: &mut W,
@@ -128,7 +128,7 @@ pub(crate) fn write_line<W: Output>(
     Ok(())
 }
 
-// The line of the counts.
+// The last line of a collection, such as `games 2 half-moves 6 faults 1`.
 #[tactic(auto, unfolding(crate::specs::Reports::counts_line))]
 fn counts_line(tally: Tally) -> ReportLine
     ensures { result.items ≡ counts_line tally }
@@ -144,7 +144,7 @@ fn counts_line(tally: Tally) -> ReportLine
     line
 }
 
-// Writes the line of the counts.
+// Writes the line of counts.
 pub(crate) fn write_counts<W: Output>(output: &mut W, tally: Tally) -> Result<(), WriteFault>
     ensures { Puts (W.seen output.old) (W.seen output.new) result (counts_line tally) }
 {

@@ -12,7 +12,7 @@ pub enum Verified {
     FaultTold,
 }
 
-/// What was counted.
+/// Counts of what was reported.
 #[derive(Clone, Copy)]
 pub(crate) struct Tally {
     /// How many games have no fault.
@@ -24,7 +24,7 @@ pub(crate) struct Tally {
 }
 
 impl Tally {
-    // Nothing yet.
+    // The counts before the first report.
     pub(crate) fn none() -> Self
         ensures { result ≡ record { games = 0; half_moves = 0; faults = 0 } }
     {
@@ -35,7 +35,7 @@ impl Tally {
         }
     }
 
-    // The counts after one more game without a fault, of so many half-moves.
+    // The counts after one more game without a fault, which has `plies` half-moves.
     pub(crate) fn with_game(self, plies: usize) -> Self
         requires games { self.games + 1 < 2 ^ 64 }
         requires half_moves { self.half_moves + plies < 2 ^ 64 }
@@ -60,7 +60,7 @@ impl Tally {
         }
     }
 
-    // The number of the next game.
+    // The number of the next game: games are counted with and without faults.
     pub(crate) fn next_number(self) -> usize
         requires { self.games + self.faults + 1 < 2 ^ 64 }
         ensures { result ≡ self.games + self.faults + 1 }
@@ -68,7 +68,7 @@ impl Tally {
         self.games + self.faults + 1
     }
 
-    // What the counts come to.
+    // How verifying ended, by these counts.
     pub(crate) fn verified(self) -> Verified
         ensures { result ≡ verified self }
     {

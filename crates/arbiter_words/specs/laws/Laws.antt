@@ -9,34 +9,35 @@ use Rattle.arbiter_words.specs.declared.plan.Plan.TheVariants.{Session, Verify, 
 use Rattle.arbiter_words.specs.declared.plan.VerifyPlan.{VerifyPlan}
 use Rattle.arbiter_words.specs.Plans.{verify_plan_of, IsPlanOf}
 
--- the command that a plan is asked for by
+-- the subcommand that asks for this plan
 abbrev pub command_name : Plan → Text
 command_name Session = codes "session"
 command_name (Verify v) = codes "verify"
 command_name (Stub words) = codes "stub"
 command_name (Match plan) = codes "match"
 
+-- each plan is asked for by the subcommand of its kind
 abbrev pub PlansAreNamed : Type 0
 PlansAreNamed = (p : Text × List Row) (plan : Plan) → IsPlanOf p plan → p.0 ≡ command_name plan
 
--- a plan to verify has the flags that the arguments set
+-- a plan to verify has the flags that were given; `p` is the subcommand's name and its options as matched
 abbrev pub VerifyIsAsAsked : Type 0
 VerifyIsAsAsked = (p : Text × List Row) (v : VerifyPlan) → IsPlanOf p (Verify v) → v ≡ verify_plan_of p.1
 
--- the arguments are taken, and ask for the command of that name, with none of its own arguments given
+-- `clap` accepts these arguments, and they ask for the subcommand `name` with no options given
 pub record AskFor (words : List Text) (name : Text) : Type 0 where
   pub taken : (names : Lent) → faults_in names words ≡ []
   pub named : (names : Lent) → (asked names words).0 ≡ name
   pub bare : (names : Lent) → list_any (λ r. explicit_source r.source) (asked names words).1 ≡ false
 
--- the arguments are refused, and by one of these kinds
+-- `clap` refuses these arguments, with a fault of one of these kinds
 abbrev pub AreRefused : List Text → Kinds → Type 0
 AreRefused words kinds = (names : Lent) → faults_in names words ≡ kinds
 
--- as `verify` alone verifies
+-- what `verify` does without flags
 abbrev pub bare_plan : VerifyPlan
 bare_plan = record { keep_going = false; quiet = false; strict = false }
 
--- the arguments ask for this
+-- these arguments ask for what `verify` does without flags
 abbrev pub VerifyAsBare : List Text → Type 0
 VerifyAsBare words = (names : Lent) → verify_plan_of (asked names words).1 ≡ bare_plan

@@ -24,7 +24,7 @@ use Rattle.clap.specs.declared.error.kind.ErrorKind.TheVariants.{OutOfMemory}
 abbrev pub start_of : Variant → Option Text → Result Setup FenFault
 start_of v fen = option_map_or (fen_reading_as v) fen (Ok (initial_setup_of v))
 
--- these are the options of a match, as written or by default
+-- the request of a match has its options, each as given or by default, not yet read as levels or positions
 pub record IsMatchOf (rows : List Row) (m : MatchRequest) : Type 0 where
   pub white : first_of (codes "white") rows ≡ Some m.white.now
   pub black : first_of (codes "black") rows ≡ Some m.black.now
@@ -36,7 +36,8 @@ pub record IsMatchOf (rows : List Row) (m : MatchRequest) : Type 0 where
   pub variant : m.variant ≡ variant_in rows
   pub log : m.log ≡ is_set (codes "log") rows
 
--- what the arguments ask for, as written
+-- the request is what the arguments ask for, not yet read as levels or positions; `p` is the subcommand's name and
+-- its options as matched
 abbrev pub IsRequestOf : Text × List Row → Request → Type 0
 IsRequestOf p request.Session = p.0 ≡ codes "session"
 IsRequestOf p (request.Verify v) = (p.0 ≡ codes "verify") × (v ≡ verify_plan_of p.1)
@@ -44,7 +45,7 @@ IsRequestOf p (request.Stub words) = (p.0 ≡ codes "stub")
     × (map (λ w. w.now) words.items ≡ unwrap_or (all_of (codes "words") p.1) [])
 IsRequestOf p (request.Match m) = (p.0 ≡ codes "match") × IsMatchOf p.1 m
 
--- a match is played by what its options, as written, denote
+-- the plan of a match is what the texts of the request denote
 pub record IsJudged (m : MatchRequest) (plan : MatchPlan) : Type 0 where
   pub white : plan.white ≡ m.white
   pub black : plan.black ≡ m.black
@@ -55,7 +56,7 @@ pub record IsJudged (m : MatchRequest) (plan : MatchPlan) : Type 0 where
   pub log : plan.log ≡ m.log
   pub good_date : is_date m.date.now ≡ true
 
--- the fault is that of the first of level, FEN and date that isn't in its form
+-- the fault is right for this request of a match: that of the first of level, FEN and date that is invalid
 abbrev pub IsJudgedFault : MatchRequest → WordsFault → Type 0
 IsJudgedFault m (Words e) = ⊥
 IsJudgedFault m NoMemory = ⊥
@@ -65,18 +66,19 @@ IsJudgedFault m (BadFen f) = (l : LevelSeen) × (level_of m.level.now ≡ Some l
 IsJudgedFault m BadDate = (l : LevelSeen) × (p : Setup) × (level_of m.level.now ≡ Some l)
     × (start_of m.variant (option_map (λ t. t.now) m.fen) ≡ Ok p) × (is_date m.date.now ≡ false)
 
--- the plan is what was written; a match has its level, FEN and date read
+-- the plan is that of the request: for a match with its level, FEN and date read
 abbrev pub IsPlanned : Request → Plan → Type 0
 IsPlanned request.Session plan = plan ≡ Session
 IsPlanned (request.Verify v) plan = plan ≡ Verify v
 IsPlanned (request.Stub words) plan = plan ≡ Stub words
 IsPlanned (request.Match m) plan = (p : MatchPlan) × (plan ≡ Match p) × IsJudged m p
 
+-- the fault is right for this request: only that of a match may have one
 abbrev pub IsPlanFault : Request → WordsFault → Type 0
 IsPlanFault (request.Match m) f = IsJudgedFault m f
 IsPlanFault _ f = ⊥
 
--- out of memory is reported as such, and what else `clap` gave is reported as it is
+-- the fault that is reported is right for this error of `clap`: out of memory, or the error itself
 abbrev pub Refuses : Error → WordsFault → Type 0
 Refuses e (Words told) = (kind_of e ≢ OutOfMemory) × (told ≡ e)
 Refuses e NoMemory = kind_of e ≡ OutOfMemory

@@ -3,9 +3,11 @@ use Rattle.std.specs.Prelude.{◌≡◌, ℕ, ◌+◌, ◌-◌, ◌^◌, min, �
 use Rattle.byte_devices.specs.Devices.{risen}
 use Rattle.byte_devices.specs.declared.counted.Counts.{Counts}
 
+-- the counts before the first call: all 0
 abbrev pub no_counts : Counts
 no_counts = record { failures = 0; ends = 0; last = 0; pieces = 0; unflushed = 0 }
 
+-- the counts with one more failed call, and all else as it was
 abbrev pub one_failure_more : Counts → Counts
 one_failure_more c = record {
   failures = risen c.failures;
@@ -15,12 +17,13 @@ one_failure_more c = record {
   unflushed = c.unflushed;
 }
 
--- an answer is passed on, each `Err` as this fault
+-- a device's result with its value kept, and each error replaced by the given fault
 abbrev pub passed_on : {A E F : Type 0} → F → Result A E → Result A F
 passed_on fault (Ok value) = Ok value
 passed_on fault (Err e) = Err fault
 
--- the counts after a read that answered so
+-- the counts after a read for which the device returned this: `Ok 0` is an end, `Ok n` a piece of n bytes, `Err` a
+-- failure
 abbrev pub counts_after_read : {E : Type 0} → Counts → Result ℕ E → Counts
 counts_after_read c (Ok n) = record {
   failures = c.failures;
@@ -31,16 +34,17 @@ counts_after_read c (Ok n) = record {
 }
 counts_after_read c (Err e) = one_failure_more c
 
--- a writer's answer to a piece of that length is passed on, but to take nothing of one that isn't empty is a failure
+-- the result of a write of `len` bytes, from what the device returned: each error becomes the given fault, and so does
+-- `Ok 0` for a piece that isn't empty
 abbrev pub write_passed_on : {E F : Type 0} → F → ℕ → Result ℕ E → Result ℕ F
 write_passed_on fault len (Ok n) = if (n == 0) && nat_lt 0 len then Err fault else Ok n
 write_passed_on fault len (Err e) = Err fault
 
--- a count after so many bytes, which stays at 2 ^ 64 - 1
+-- a counter raised by n, but at most to 2 ^ 64 - 1
 abbrev pub raised_by : ℕ → ℕ → ℕ
 raised_by count n = if n == 0 then count else min (count + n) (2 ^ 64 - 1)
 
--- the counts after a write that came to this
+-- the counts after a write with this result: `Ok n` adds n unflushed bytes, `Err` is a failure
 abbrev pub counts_after_write : {E : Type 0} → Counts → Result ℕ E → Counts
 counts_after_write c (Ok n) = record {
   failures = c.failures;
@@ -51,7 +55,7 @@ counts_after_write c (Ok n) = record {
 }
 counts_after_write c (Err e) = one_failure_more c
 
--- the counts after a flush that came to this
+-- the counts after a flush with this result: `Ok` leaves no byte unflushed, `Err` is a failure
 abbrev pub counts_after_flush : {A E : Type 0} → Counts → Result A E → Counts
 counts_after_flush c (Ok value) = record {
   failures = c.failures;

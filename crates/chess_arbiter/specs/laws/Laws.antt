@@ -6,7 +6,7 @@ use Rattle.byte_devices.specs.Devices.{InputState, OutputState}
 use Rattle.chess_arbiter.specs.Log.{LogSeen}
 use Rattle.chess_arbiter.specs.Program.{RanHelp, RanProgram, RanSession, RanVerify}
 
--- a program with these arguments is a session
+-- a program with these arguments runs a session
 abbrev pub ServesSession : List Text → Type 0
 ServesSession words = (r r' : InputState) (w w' : OutputState) (l l' : LogSeen) (status : ℕ)
     → RanProgram words r r' w w' l l' status
@@ -18,13 +18,13 @@ VerifiesGames words = (r r' : InputState) (w w' : OutputState) (l l' : LogSeen) 
     → RanProgram words r r' w w' l l' status
     → RanVerify bare_plan r r' w w' status
 
--- a program with these arguments shows a text of help, and leaves the input alone
+-- a program with these arguments writes a text of help, and reads nothing
 abbrev pub ShowsHelp : List Text → Type 0
 ShowsHelp words = (r r' : InputState) (w w' : OutputState) (l l' : LogSeen) (status : ℕ)
     → RanProgram words r r' w w' l l' status
     → (r' ≡ r) × RanHelp w w' status
 
--- a program with these arguments leaves input and output alone, and ends with 2, or with 1 where it is out of memory
+-- a program with these arguments reads and writes nothing, and has exit status 2, or 1 if memory ran out
 abbrev pub RefusesWords : List Text → Type 0
 RefusesWords words = (r r' : InputState) (w w' : OutputState) (l l' : LogSeen) (status : ℕ)
     → RanProgram words r r' w w' l l' status

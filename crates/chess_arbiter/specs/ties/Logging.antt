@@ -24,12 +24,14 @@ abbrev pub after_notes : LogState → List Note → LogState
 after_notes s [] = s
 after_notes s (n ∷ notes) = after_notes (after_note s n) notes
 
--- this text was logged after what was logged before
+-- logging `more` took the output and the pending bytes from `o` and `p` to `o'` and `p'`: whatever text was logged
+-- before, that text and `more` are now
 pub record Adds (o o' : OutputState) (p p' : Pending) (more : List ℕ) : Type 0 where
   pub after : (from : LogSeen) (text : List ℕ) → Logs from.broken p.broken from.output o p.bytes.items text
       → Logs from.broken p'.broken from.output o' p'.bytes.items (text ++ more)
 
--- from that on the log of these notes was logged, and the first engine has that side
+-- since the state `from` of the log just the log of these notes was logged, in a game in which the engine of
+-- `--white` has the side `first`
 pub record IsLog (first : Colour) (from : LogSeen) (side : Colour) (o : OutputState) (p : Pending) (state : LogState)
     (notes : List Note) : Type 0 where
   pub sided : side ≡ first
@@ -38,23 +40,28 @@ pub record IsLog (first : Colour) (from : LogSeen) (side : Colour) (o : OutputSt
 
 -- ---- what a log began with, as a text: a witness is known by a text that it held before
 
+-- bytes, if they are known, as one text
 abbrev pub text_of_bytes : Option (List ℕ) → List ℕ
 text_of_bytes None = []
 text_of_bytes (Some bytes) = 0 ∷ bytes
 
+-- the bytes that `text_of_bytes` made a text of
 abbrev pub bytes_of_text : List ℕ → Option (List ℕ)
 bytes_of_text [] = None
 bytes_of_text (_ ∷ bytes) = Some bytes
 
--- the side of the first engine, and the log before
+-- a log's state and the side of the engine of `--white`, as one text (a witness is described by a text that it held
+-- before)
 abbrev pub text_of_log : Colour → LogSeen → List ℕ
 text_of_log first l = (if same_colour first White then 1 else 0) ∷ (if l.broken then 1 else 0)
     ∷ l.output.failure_count ∷ l.output.unflushed ∷ text_of_bytes l.output.known_bytes
 
+-- the side that `text_of_log` put into a text
 abbrev pub first_of_text : List ℕ → Colour
 first_of_text [] = White
 first_of_text (c ∷ _) = if c == 1 then White else Black
 
+-- the log's state that `text_of_log` put into a text
 abbrev pub log_of_text : List ℕ → LogSeen
 log_of_text (_ ∷ b ∷ failures ∷ unflushed ∷ rest) = record {
   output = record { known_bytes = bytes_of_text rest; failure_count = failures; unflushed = unflushed };

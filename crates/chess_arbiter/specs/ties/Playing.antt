@@ -46,22 +46,25 @@ score_after first outcome s = record {
 
 -- ---- a game
 
--- the side of the first engine, where the plan asks for a log
+-- the side of the engine of `--white` in the game of this number, if the plan asks for a log
 abbrev pub logged_side : MatchPlan → ℕ → Option Colour
 logged_side plan number = if plan.log then Some (first_side number) else None
 
--- a game of these notes was logged, where a log is asked for; the first engine has that side
+-- between the log's states `l` and `l'` the game of these notes was logged, if a side of the engine of `--white` is
+-- given; else nothing was
 abbrev pub LogsGame : Option Colour → LogSeen → LogSeen → List Note → Type 0
 LogsGame None l l' notes = l' ≡ l
 LogsGame (Some first) l l' notes = Logged l l' (log_text first notes)
 
--- a match ran as `MatchRan` says, and was logged where a log is asked for
+-- a game ran as `MatchRan` says, and was logged if a side of the engine of `--white` is given (`first`). `l`, `g`,
+-- `w` and `coming` are log, game, devices and clock before, `l'`, `g'`, `w'` and `coming'` after
 abbrev pub Relayed : Option Colour → LogSeen → LogSeen → Setup → LevelSeen → Seen → Seen → MatchEnd → Ports → Ports
     → (ℕ → Option ℕ) → (ℕ → Option ℕ) → Type 0
 Relayed first l l' start level g g' end w w' coming coming' =
     (notes : List Note) × RanNoted notes start level g g' end w w' coming coming' × LogsGame first l l' notes
 
--- these were White's and Black's engines, by their ports before; the game was logged where a log is asked for
+-- `end` is the end of a game between engines whose devices were `w` before; it was logged if a side of the engine of
+-- `--white` is given (`log`). `l` and `g` are log and game before, `l'` and `g'` after
 abbrev pub IsMatchEndOf : Option Colour → LogSeen → LogSeen → Setup → LevelSeen → Seen → Seen → MatchEnd → Ports
     → Type 0
 IsMatchEndOf log l l' start level g g' end w =
@@ -74,13 +77,14 @@ FailsToStart command NoMemory = ⊤
 FailsToStart command (CanNotStart c) = c.now ≡ command
 FailsToStart command _ = ⊥
 
--- out of memory is reported as such, and all else by the engine's command
+-- how the fault of starting an engine is reported: out of memory as such, all else by the engine's command
 abbrev pub ReportsStart : StartFault → List ℕ → GamesFault → Type 0
 ReportsStart start.NoMemory command fault = fault ≡ NoMemory
 ReportsStart start.CanNotStart command fault = (c : Bor (List ℕ)) × (fault ≡ CanNotStart c) × (c.now ≡ command)
 
--- the game with that number was played and logged, and its text was written and flushed; or its engines could not be
--- started, and nothing was written; or a beginning of its text was
+-- what playing the game of this number does: its PGN was written and flushed, and the game logged; or only a
+-- beginning was written; or its engines could not be started. `w` and `l` are output and log before, `w'` and `l'`
+-- after
 abbrev pub PlayedOne : MatchPlan → ℕ → OutputState → OutputState → LogSeen → LogSeen → Result MatchEnd GamesFault
     → Type 0
 PlayedOne plan number w w' l l' (Ok end) =
@@ -92,7 +96,8 @@ PlayedOne plan number w w' l l' (Err WriteFailed) =
     × LogsGame (logged_side plan number) l l' told.notes
 PlayedOne plan number w w' l l' (Err fault) = IsStartFault plan fault × (w' ≡ w) × (l' ≡ l)
 
--- games were played, each was written and logged, and the score counts them
+-- games were played, each was written and logged, and the score counts them; or the match broke off. `w` and `l` are
+-- output and log before, `w'` and `l'` after
 abbrev pub HasPlayed : MatchPlan → OutputState → OutputState → LogSeen → LogSeen → Result GamesPlayed GamesFault → Type 0
 HasPlayed plan w w' l l' (Ok played) =
     (games : List GameRecord) × EndsGames plan games played.fault × (played.score ≡ score_of games)

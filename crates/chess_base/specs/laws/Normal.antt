@@ -19,12 +19,16 @@ use Rattle.chess_base.specs.Castling.{right_of, rook_file, king_home_file, home_
 use Rattle.chess_base.specs.Steps.{men_stepped}
 use Rattle.chess_base.specs.Moves.{pawn_moves, is_en_passant, behind, man_moves, man_that_lands, rights_after, target_after, halfmove_after, fullmove_after, is_legal, after}
 
+-- a castling right of colour c on side w, given as its rook's square, has its king and rook on their initial squares;
+-- true if there is no right
 abbrev pub normal_right_is_sound_at : Men → Colour → CastlingSide → Option ℕ → Bool
 normal_right_is_sound_at men c w None = true
 normal_right_is_sound_at men c w (Some s) =
     (s == home_square c (rook_file w)) && is_man c King (man_at men (home_square c king_home_file))
     && is_man c Rook (man_at men s)
 
+-- move m is castling on side w: the side on move has that right, and its king goes from e1 to g1 or c1 (or e8 to g8 or
+-- c8)
 unfoldable pub normal_says_castling : Setup → Move → CastlingSide → Bool
 normal_says_castling p m w =
     is_some (right_of p.rights p.side w)
@@ -32,13 +36,17 @@ normal_says_castling p m w =
     && (m.from == home_square p.side king_home_file)
     && (m.to == home_square p.side (castled_king_file w))
 
+-- the side to which move m castles; none if it is not castling
 unfoldable pub normal_castling : Setup → Move → Option CastlingSide
 normal_castling p m = if normal_says_castling p m KingSide then Some KingSide else if normal_says_castling p m QueenSide
     then Some QueenSide else None
 
+-- the four squares of the castling that move m is; none if it is not castling
 unfoldable pub normal_castle_of : Setup → Move → Option Castle
 normal_castle_of p m = castle_by p.side p.rights m (normal_castling p m)
 
+-- move m is a pseudo-legal move of the given piece: the piece is of the side on move, and goes as a pawn, or as another
+-- piece by an ordinary move or castling; false if there is no piece
 abbrev pub normal_moves_as : Setup → Move → Option Man → Bool
 normal_moves_as p m None = false
 normal_moves_as p m (Some x) =
@@ -46,9 +54,11 @@ normal_moves_as p m (Some x) =
     && (if same_kind Pawn x.kind then pawn_moves p m else option_map_or (castles p m) (normal_castle_of p m)
     (man_moves p m))
 
+-- the move is pseudo-legal: a piece of the side on move can make it, but may leave its own king in check
 unfoldable pub normal_has_pattern : Setup → Move → Bool
 normal_has_pattern p m = nat_lt m.from 64 && nat_lt m.to 64 && normal_moves_as p m (man_at p.men m.from)
 
+-- what the move changes on the board: which pieces leave and arrive, and on which squares
 abbrev pub normal_steps_of : Setup → Move → Steps
 normal_steps_of p m = record {
   from = m.from;
@@ -60,9 +70,11 @@ normal_steps_of p m = record {
   mover = man_that_lands (man_at p.men m.from) m.promotion;
 }
 
+-- the pieces on the board after the move m of position p
 unfoldable pub normal_men_after : Setup → Move → Men
 normal_men_after p m = men_stepped p.men (normal_steps_of p m)
 
+-- the whole position after the move m of position p
 unfoldable pub normal_after : Setup → Move → Setup
 normal_after p m = record {
   variant = Normal;
@@ -74,10 +86,12 @@ normal_after p m = record {
   fullmove = fullmove_after p.side p.fullmove;
 }
 
+-- the move is legal: it is pseudo-legal, and the mover's king is not attacked after it (3.9.2)
 unfoldable pub normal_is_legal : Setup → Move → Bool
 normal_is_legal p m = normal_has_pattern p m && not (is_in_check (normal_after p m).men p.side)
 
--- on positions of normal chess the rules of both variants are these
+-- on position p of normal chess, the rules for both variants agree with those of this file: on which castling rights
+-- are sound, which moves are legal, and the position after a move
 pub record NormalIsKept (p : Setup) : Type 0 where
   pub stands : (c : Colour) (w : CastlingSide)
       → right_is_sound p c w ≡ normal_right_is_sound_at p.men c w (right_of p.rights c w)

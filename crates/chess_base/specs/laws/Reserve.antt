@@ -6,15 +6,15 @@ use Rattle.chess_base.specs.declared.man.Man.{Man}
 use Rattle.chess_base.specs.Squares.{rank, gap, from_below}
 use Rattle.chess_base.specs.Men.{Men, man_at, same_kind, other, first_rank}
 
--- how many ranks a pawn of colour c on s is from its last one
+-- how many ranks a pawn of colour c on square s is from its last rank: 6 for White's on e2
 abbrev pub ranks_to_go : Colour → ℕ → ℕ
 ranks_to_go c s = gap (rank s) (first_rank (other c))
 
--- a piece counts one, and a pawn one more for each rank that it has to go
+-- what the content of square s counts: 1 for a piece, and for a pawn 1 more for each rank that it still has to go
 abbrev pub weight : ℕ → Option Man → ℕ
 weight s None = 0
 weight s (Some x) = if same_kind Pawn x.kind then 1 + ranks_to_go x.colour s else 1
 
--- the weights of the pieces on the 64 squares, together
+-- the weights of the contents of all 64 squares, together
 unfoldable pub reserve : Men → ℕ
 reserve men = sum (from_below 64 (λ s. weight s (man_at men s)))

@@ -7,7 +7,8 @@ use Rattle.chess_bits.specs.ties.KindSets.{IsKinds}
 use Rattle.chess_moves.specs.PositionWord.{men_keys, xor_of}
 use Rattle.chess_moves.specs.Sets.{has}
 
--- the sets and the exclusive or are those of these pieces
+-- the sets s are those of these pieces: of each colour by kind and together; and `men_word` is the exclusive or of
+-- their keys
 pub record IsSets (s : Sets) (men : Men) : Type 0 where
   pub of_white : IsKinds s.white.sets White men
   pub of_black : IsKinds s.black.sets Black men

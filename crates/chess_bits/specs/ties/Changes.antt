@@ -14,37 +14,39 @@ use Rattle.chess_base.specs.MoveList.{triple}
 use Rattle.chess_base.specs.Moves.{is_pseudo_legal, is_en_passant, second_square_emptied}
 use Rattle.chess_base.specs.Squares.{is_square}
 
--- the squares that a move changes, and those that it fills
+-- by move m of position p a piece arrives on square k or leaves it
 abbrev pub is_changed : Setup → Move → ℕ → Bool
 is_changed p m k = (lands_on p m == k) || is_square (castling_rook_to p m) k
     || (is_square (second_square_emptied p m) k || (m.from == k))
 
+-- by move m of position p a piece arrives on square k: the mover, or the castling rook
 abbrev pub is_filled : Setup → Move → ℕ → Bool
 is_filled p m k = (lands_on p m == k) || is_square (castling_rook_to p m) k
 
--- the piece on a, other than the king, has the pattern of a move to b without a promotion and not en passant
+-- the move from square a to square b without a promotion is pseudo-legal, not the king's and not en passant; so only
+-- what is on a and b changes
 pub record StepsPlainly (p : Setup) (a b : ℕ) : Type 0 where
   pub pattern : is_pseudo_legal p (triple a b None) ≡ true
   pub no_king : is_man p.side King (man_at p.men a) ≡ false
   pub no_passing : (is_man p.side Pawn (man_at p.men a) && is_square p.target b) ≡ false
 
--- neither colour may castle any more
+-- neither colour has a castling right
 abbrev pub has_no_right : Rights → Bool
 has_no_right r = is_none r.white.king_side && is_none r.white.queen_side && is_none r.black.king_side
     && is_none r.black.queen_side
 
--- a piece of which a castling right speaks: a king or a rook
+-- a square's content is a king or a rook, of either colour
 abbrev pub is_king_or_rook : Option Man → Bool
 is_king_or_rook None = false
 is_king_or_rook (Some x) = same_kind King x.kind || same_kind Rook x.kind
 
--- the move is neither castling nor a capture en passant
+-- move m of position p is neither castling nor en passant, so only what is on its two squares changes
 pub record IsPlainly (p : Setup) (m : Move) : Type 0 where
   pub no_castle : castle_of p m ≡ None
   pub no_passing : is_en_passant p m ≡ false
 
--- the move of a piece of that kind is neither: a king without rights does not castle, and a pawn captures en passant on
--- the target only
+-- move m, of a piece of that kind, is surely neither castling nor en passant: it is a king's without castling rights, a
+-- pawn's but not to the en passant target, or another piece's
 abbrev pub goes_plainly : Setup → Move → Kind → Bool
 goes_plainly p m King = has_no_right p.rights
 goes_plainly p m Queen = true
@@ -53,15 +55,16 @@ goes_plainly p m Bishop = true
 goes_plainly p m Knight = true
 goes_plainly p m Pawn = not (is_square p.target m.to)
 
--- it takes the piece from one square to the other, and changes no more than that
+-- move m, of a piece of kind k, is no promotion, and surely neither castling nor en passant: it takes the piece from
+-- one square to the other and changes no more
 abbrev pub shifts : Setup → Move → Kind → Bool
 shifts p m k = is_none m.promotion && goes_plainly p m k
 
--- that piece, if it is there and the move does so
+-- the given piece, if move m of it takes it from one square to the other and changes no more; else none
 abbrev pub shifted : Setup → Move → Option Man → Option Man
 shifted p m None = None
 shifted p m (Some x) = if shifts p m x.kind then Some x else None
 
--- the halfmove clock after n, when a piece of that kind goes to a square with that on it
+-- the halfmove clock after a move of a piece of that kind to a square with the content `taken`; it was n before
 abbrev pub clock_left : ℕ → Kind → Option Man → ℕ
 clock_left n kind taken = if same_kind Pawn kind || is_some taken then 0 else min (n + 1) COUNTER_LIMIT

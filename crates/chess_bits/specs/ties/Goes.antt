@@ -22,78 +22,86 @@ use Rattle.chess_bits.specs.ties.Shapes.{in_shape}
 use Rattle.chess_moves.specs.Promoting.{would_promote}
 use Rattle.chess_moves.specs.Sets.{has}
 
--- where a pawn promotes, one promotion stands for all: to a queen
+-- the promotion with which a move from a to b is tried: to a queen, as one of the four kinds, if a pawn of the side on
+-- move would reach its last rank; else none
 abbrev pub usual_promotion : Setup → ℕ → ℕ → Option Kind
 usual_promotion p a b = if would_promote p a b then Some Queen else None
 
--- a piece of the side on move goes from a to b
+-- some move from square a to square b is pseudo-legal
 unfoldable pub goes : Setup → ℕ → ℕ → Bool
 goes p a b = is_pseudo_legal p (triple a b (usual_promotion p a b))
 
--- b is the end square that names castling with that rook, if the right is there
+-- b is the end square of colour c's castling on side w, whose right is given as its rook's square: in normal chess the
+-- king's end square, in Chess960 the rook's square. False if there is no right
 abbrev pub names_end : Variant → Colour → CastlingSide → Option ℕ → ℕ → Bool
 names_end v c w None b = false
 names_end Normal c w (Some rook) b = b == home_square c (castled_king_file w)
 names_end Fischerandom c w (Some rook) b = b == rook
 
--- the end square that names castling with that rook
+-- the end square of colour c's castling on side w with that rook: in normal chess the king's end square, in Chess960
+-- the rook's square
 abbrev pub castling_end : Variant → Colour → CastlingSide → ℕ → ℕ
 castling_end Normal c w rook = home_square c (castled_king_file w)
 castling_end Fischerandom c w rook = rook
 
--- s, but for castling, which is included exactly where it is legal
+-- whether move m is legal, if it is a castling (whose squares are given); for any other move the answer s
 abbrev pub legal_or : Setup → Move → Option Castle → Bool → Bool
 legal_or p m None s = s
 legal_or p m (Some castle) s = is_legal p m
 
--- s, but for castling on that side, which is included exactly where it is legal
+-- whether the move from a to b is legal, if it is castling and b is where castling on side w ends; for any other move
+-- the answer s
 abbrev pub castling_or : Setup → CastlingSide → ℕ → ℕ → Bool → Bool
 castling_or p w a b s =
     if names_end p.variant p.side w (right_of p.rights p.side w) b then legal_or p (triple a b None)
     (castle_of p (triple a b None)) s else s
 
--- where a piece other than a pawn goes; castling is included exactly where it is legal
+-- a piece other than a pawn may go from a to b: by an ordinary pseudo-legal move, or by legal castling
 abbrev pub man_goes : Setup → ℕ → ℕ → Bool
 man_goes p a b = legal_or p (triple a b None) (castle_of p (triple a b None)) (man_moves p (triple a b None))
 
--- the pieces, but for the one on a
+-- the pieces, with the one on square a taken off
 abbrev pub lifted : Men → ℕ → Men
 lifted men a = with_man men (Some a) None
 
--- taken off, the piece on a opens no rank or file to k for a rook or queen of the other side; and no diagonal for a
--- bishop or queen
+-- with the piece on a taken off, no rook or queen of the other side attacks square k along a rank or file that did not
+-- do so before
 abbrev pub OpensNoLine : Setup → ℕ → ℕ → Type 0
 OpensNoLine p a k =
     (b : ℕ) → b < 64 → (is_man (other p.side) Rook (man_at p.men b) || is_man (other p.side) Queen (man_at p.men b))
     ≡ true
     → (not (b == k) && share_rank_or_file b k) ≡ true → is_clear (lifted p.men a) b k ≡ true → is_clear p.men b k ≡ true
 
+-- with the piece on a taken off, no bishop or queen of the other side attacks square k along a diagonal that did not do
+-- so before
 abbrev pub OpensNoDiagonal : Setup → ℕ → ℕ → Type 0
 OpensNoDiagonal p a k =
     (b : ℕ) → b < 64 → (is_man (other p.side) Bishop (man_at p.men b) || is_man (other p.side) Queen (man_at p.men b))
     ≡ true
     → (not (b == k) && share_diagonal b k) ≡ true → is_clear (lifted p.men a) b k ≡ true → is_clear p.men b k ≡ true
 
--- the piece on a is not the king of the side on move, which is not attacked even with that piece taken off
+-- a does not hold the king of the side on move, and this king is not attacked even with the piece on a taken off: so it
+-- is safe wherever that piece goes
 pub record IsFree (p : Setup) (a : ℕ) : Type 0 where
   pub apart : (k : ℕ) → k < 64 → is_man p.side King (man_at p.men k) ≡ true → (a == k) ≡ false
   pub safe : (k : ℕ) → k < 64 → is_man p.side King (man_at p.men k) ≡ true
       → is_attacked (lifted p.men a) k (other p.side) ≡ false
 
--- on each square of the set is a piece of that kind of the side on move, and it is free
+-- each square of the set w holds a piece of that kind, of the side on move, that is free: its king is safe wherever it
+-- goes
 abbrev pub AreFree : Setup → Kind → ℕ → Type 0
 AreFree p kind w = (k : ℕ) → k < 64 → has w k ≡ true → (is_man p.side kind (man_at p.men k) ≡ true) × IsFree p k
 
--- a piece of colour c and that kind is there, which is neither king nor pawn
+-- o, a square's content, is a piece of colour c and that kind: a queen, rook, bishop or knight
 pub record IsOfficer (c : Colour) (kind : Kind) (o : Option Man) : Type 0 where
   pub man : is_man c kind o ≡ true
   pub usual : (same_kind King kind || same_kind Pawn kind) ≡ false
 
--- a pawn of colour c on a attacks that square, if there is one
+-- a pawn of colour c on square a would attack the given square, if there is one
 abbrev pub aims_at : Option ℕ → Colour → ℕ → Bool
 aims_at None c a = false
 aims_at (Some t) c a = in_shape (shape.Pawn c) a t
 
--- a pawn of the side on move on a would promote, or attacks the en passant target
+-- a pawn of the side on move on square a would promote by its next move, or attacks the en passant target
 abbrev pub goes_unusually : Setup → ℕ → Bool
 goes_unusually p a = aims_at p.target p.side a || (rank a == pawn_rank (other p.side))

@@ -5,11 +5,12 @@ use Rattle.chess_base.specs.declared.man.Kind.{Kind}
 use Rattle.chess_base.specs.Men.{Men, man_at, is_man}
 use Rattle.chess_moves.specs.Sets.{has}
 
--- the squares that are not empty
+-- the set w has exactly the squares that are not empty
 pub record IsOccupied (w : ℕ) (men : Men) : Type 0 where
   pub of_men : (k : ℕ) → k < 64 → has w k ≡ not (is_none (man_at men k))
 
--- what is on the squares later: those of one set are filled, those of the other changed, and no piece of colour c came
+-- `later` are the pieces after a change, such as a move of the other colour than c: `filled` has the squares on which
+-- pieces arrived, `changed` these and the ones that pieces left, and no piece of colour c arrived anywhere
 pub record IsLater (changed filled : ℕ) (c : Colour) (men later : Men) : Type 0 where
   pub of_all : (k : ℕ) → k < 64 → (has filled k || (not (is_none (man_at men k)) && not (has changed k)))
       ≡ not (is_none (man_at later k))

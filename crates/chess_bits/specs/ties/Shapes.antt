@@ -6,7 +6,8 @@ use Rattle.chess_bits.specs.declared.table.Shape.{Shape}
 use Rattle.chess_bits.specs.declared.table.Shape.TheVariants.{King, Knight, Pawn, Lines, Diagonals, Ray}
 use Rattle.chess_bits.specs.ties.Rays.{is_on_ray}
 
--- b is in that shape on a
+-- square b belongs to that shape from square a: a king, knight or pawn on a attacks b; or b is on a's rank or file, on
+-- a's diagonals, or on that ray from a
 unfoldable pub in_shape : Shape → ℕ → ℕ → Bool
 in_shape King a b = not (a == b) && nat_le (gap (file a) (file b)) 1 && nat_le (gap (rank a) (rank b)) 1
 in_shape Knight a b =

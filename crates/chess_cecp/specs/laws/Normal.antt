@@ -25,59 +25,60 @@ use Rattle.chess_cecp.specs.Session.{says, refuses, becomes, verdict_line, fen_f
 use Rattle.chess_cecp.specs.laws.NormalGame.{normal_initial, normal_current, normal_rep, normal_claims, normal_verdict_now, normal_is_over}
 use Rattle.chess_cecp.specs.laws.NormalPgn.{normal_pgn}
 
--- the game changes, and the verdict on it is answered
+-- the game changes to this one, and the verdict on it is answered, if there is one; without Chess960
 abbrev pub normal_becomes_judged : State → Response State
 normal_becomes_judged s = says s (verdict_line (normal_verdict_now s))
 
--- the game starts anew from the sound position that a FEN denotes
+-- `setboard`, by how its FEN was read; without Chess960
 abbrev pub normal_setboard_row : State → Result Setup FenFault → Response State
 normal_setboard_row s (Ok start) = normal_becomes_judged (from_start start)
 normal_setboard_row s (Err fault) =
     refuses s (codes "tellusererror Illegal position (") (fen_fault_name fault ++ codes ")")
 
--- the one legal move that a text denotes is played
+-- a move's text, by what it denotes in the current position: the move is played, or refused; without Chess960
 abbrev pub normal_reading_row : State → List ℕ → Reading → Response State
 normal_reading_row s text (reads.Move m) = normal_becomes_judged (played s m)
 normal_reading_row s text reads.Ambiguous = refuses s (codes "Error (ambiguous move): ") text
 normal_reading_row s text reads.NoSuch = refuses s (codes "Illegal move: ") text
 normal_reading_row s text reads.NotAMove = refuses s (codes "Illegal move: ") text
 
--- a move with this text is asked for
+-- a move's text: refused if the game is over or has `limit` half-moves, else played or refused by what it denotes;
+-- without Chess960
 abbrev pub normal_move_row : ℕ → State → List ℕ → Response State
 normal_move_row limit s text =
     if normal_is_over s then refuses s (codes "Illegal move (game over): ") text
     else if nat_le limit (length s.moves) then refuses s (codes "Error (game too long): ") text
     else normal_reading_row s text (normal_reading (normal_current s) text)
 
--- a result is declared, unless the text declares none or there is a verdict with another outcome
+-- `result`, by what its argument declares; without Chess960
 abbrev pub normal_result_row : State → List ℕ → Option Declared → Response State
 normal_result_row s text None = refuses s (codes "Error (bad result): ") text
 normal_result_row s text (Some d) =
     if is_other (normal_verdict_now s) d.outcome then refuses s (codes "Error (the board says otherwise): ") text
     else becomes (with_declared s (Some d))
 
--- a draw is claimed
+-- `claim`: a draw by threefold repetition or 50 moves; without Chess960
 abbrev pub normal_claim_row : State → Response State
 normal_claim_row s =
     if normal_is_over s then refuses s (codes "Error (command not legal now): ") (codes "claim")
     else claimed s (normal_claims s.start s.moves)
 
--- normal chess is the one variant that can be asked for
+-- `variant`, without Chess960: only `normal` is accepted
 abbrev pub normal_variant_row : State → List ℕ → List ℕ → Response State
 normal_variant_row s text argument =
     if bytes_eq argument (codes "normal") then says s [] else refuses s (codes "Error (unsupported variant): ") text
 
--- and the one that is offered
+-- the answer to `protover 2`, without Chess960
 unfoldable pub normal_feature_text : List ℕ
 normal_feature_text =
     codes "feature ping=1 setboard=1 playother=0 san=0 usermove=1 time=1 draw=1 sigint=0 sigterm=0 reuse=1 analyze=0 colors=0 debug=1 myname=\"CECP arbiter\" variants=\"normal\" done=1"
 
--- the line that lists moves, all by their squares
+-- the answer of `showmoves`: `# moves 20 b1a3 b1c3 ..`, castling by the king's squares; without Chess960
 abbrev pub normal_moves_line : List Move → List ℕ
 normal_moves_line ms =
     joined_line (codes "# moves ") (decimal (length ms) ++ flat_map (λ m. space ∷ coordinate m) ms)
 
--- what `showstate` shows of a game
+-- what `showstate` writes after `# state ply `; without Chess960
 unfoldable pub normal_state_text : State → List ℕ
 normal_state_text s =
     decimal (length s.moves)
@@ -86,7 +87,7 @@ normal_state_text s =
     ++ (codes " verdict " ++ (verdict_text (normal_verdict_now s)
     ++ (codes " declared " ++ declared_text s.declared)))))))))
 
--- the table
+-- the table of commands, without Chess960; `text` is the line's, `argument` what follows its first word
 abbrev pub normal_row_of : Tags → ℕ → State → List ℕ → List ℕ → Command → Response State
 normal_row_of tags limit s text argument New = becomes (from_start normal_initial)
 normal_row_of tags limit s text argument SetBoard = normal_setboard_row s (normal_fen_reading argument)
@@ -110,7 +111,7 @@ normal_row_of tags limit s text argument Silent = says s []
 normal_row_of tags limit s text argument BadNumber = refuses s (codes "Error (bad number): ") text
 normal_row_of tags limit s text argument Unknown = refuses s (codes "Error (unknown command): ") text
 
--- the command's row is the same without Chess960
+-- whether this command does in a game of normal chess what it would do without Chess960
 abbrev pub keeps_its_row : Command → Bool
 keeps_its_row Variant = false
 keeps_its_row (Protover n) = false

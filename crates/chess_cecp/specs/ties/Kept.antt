@@ -4,16 +4,19 @@ use Rattle.byte_devices.specs.Devices.{InputState, GavePiece, FailedToRead}
 use Rattle.chess_cecp.specs.Lines.{LineSeen, Held, lines_from, lines_held}
 use Rattle.chess_cecp.specs.declared.lines.TheConstants.{PIECE_LEN}
 
--- of a line of more bytes than are kept, the bytes that are kept, and one more in place of the rest
+-- the bytes that a line has so far, as the definitions see the code's: if they are too many, one more is added for
+-- all that were dropped
 abbrev pub kept_part : List ℕ → Bool → List ℕ
 kept_part bytes true = bytes ++ 0 ∷ []
 kept_part bytes false = bytes
 
--- both stand for what has come of a line: whatever follows, the lines are the same
+-- whatever bytes follow, a line that begins with `part` gives the same as one that begins with `part'`, if lines have
+-- at most `n` bytes
 abbrev pub SameLines : ℕ → List ℕ → List ℕ → Type 0
 SameLines n part part' = (told : Bool) (bytes : List ℕ) → lines_from n told part bytes ≡ lines_from n told part' bytes
 
--- the search of what is held for a line
+-- what looking for a whole line in the bytes held found, which were `held` before and are `held'` after: that line,
+-- the first of them; or none, and all bytes were looked at
 abbrev pub HeldLine : ℕ → Held → Held → Option LineSeen → Type 0
 HeldLine n held held' (Some line) =
     (line.ended ≡ true) × (length held'.coming < length held.coming)
@@ -22,7 +25,7 @@ HeldLine n held held' None =
     (lines_held n false held [] ≡ []) × (held'.coming ≡ [])
     × ((told : Bool) (rest : List ℕ) → lines_held n told held rest ≡ lines_held n told held' rest)
 
--- a piece was read into an empty window, or a read failed
+-- a read into the empty window, from the input's state `r` to `r'`, gave these bytes, or failed
 abbrev pub Filled : {E : Type 0} → InputState → InputState → Result ℕ E → List ℕ → Type 0
 Filled r r' (Ok n) coming = (n ≡ length coming) × (n ≤ PIECE_LEN) × GavePiece r r' coming
 Filled r r' (Err e) coming = (coming ≡ []) × FailedToRead r r'

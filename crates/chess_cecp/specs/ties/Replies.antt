@@ -30,19 +30,21 @@ is_quit line = not line.too_long && is_quit_command (command_of line.text)
 abbrev pub unnamed_command : List ℕ → Command
 unnamed_command text = if shape text then BareMove else Unknown
 
--- the one command whose answer may be long: the game's text
+-- whether a command is `showpgn`, the one whose answer may be longer than the buffer for answers
 abbrev pub shows_pgn : Command → Bool
 shows_pgn ShowPgn = true
 shows_pgn command = false
 
--- the line asks for the game's text
+-- whether a line is `showpgn`
 unfoldable pub asks_for_pgn : LineSeen → Bool
 asks_for_pgn line = not line.too_long && shows_pgn (command_of line.text)
 
--- to a command
+-- how the code answers a command: by the game's text, or by a text in its buffer, after which the session goes on or
+-- ends
 abbrev pub reply_of : Command → Reply
 reply_of command = if shows_pgn command then Pgn else Text (if is_quit_command command then Quit else On)
 
--- to a line
+-- how the code answers a line: by the game's text, or by a text in its buffer, after which the session goes on or
+-- ends
 abbrev pub reply_to : LineSeen → Reply
 reply_to line = if asks_for_pgn line then Pgn else Text (if is_quit line then Quit else On)

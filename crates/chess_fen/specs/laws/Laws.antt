@@ -11,20 +11,20 @@ use Rattle.chess_fen.specs.Reading.{fen_reading_as}
 use Rattle.chess_fen.specs.Spelling.{SpellsFenAs, IsCastling, SpellsRights}
 use Rattle.chess_fen.specs.laws.NamedRooks.{RightIsNamed}
 
--- the FEN that is written for a sound position denotes it in its variant
+-- the FEN that is written for a sound position denotes that position, in its variant
 abbrev pub WrittenIsSpelled : Type 0
 WrittenIsSpelled = (p : Setup) → IsSound p → SpellsFenAs p.variant (fen p) p
 
--- it denotes no other position of that variant
+-- the FEN that is written for a sound position denotes no other position of its variant
 abbrev pub WrittenSpellsNoOther : Type 0
 WrittenSpellsNoOther = (p q : Setup) → IsSound p → SpellsFenAs p.variant (fen p) q → q ≡ p
 
--- it is read as that position
+-- the FEN that is written for a sound position is read as that position, in its variant
 abbrev pub WrittenIsReadBack : Type 0
 WrittenIsReadBack = (p : Setup) → IsSound p → fen_reading_as p.variant (fen p) ≡ Ok p
 
--- in Chess960 a text denotes a sound position's rights exactly where it is a field of rights and names each right as it
--- is
+-- in Chess960, a text denotes the castling rights of a sound position exactly if it has the form of a castling field
+-- and `RightIsNamed` holds for each right
 abbrev pub RightsAreNamed : Type 0
 RightsAreNamed =
     (text : List ℕ) → (p : Setup) → p.variant ≡ Fischerandom → IsSound p

@@ -25,33 +25,33 @@ use Rattle.chess_fen.specs.Writing.{placement_text, side_text, target_text, or_d
 
 -- ---- written
 
--- the letter, where there is a right
+-- the letter c if the castling right is there, else nothing
 abbrev pub letter_if : Option ℕ → ℕ → List ℕ
 letter_if None c = []
 letter_if (Some corner) c = c ∷ []
 
--- the letters of the rights that are there, in the order KQkq, or a dash
+-- a FEN's third field: the letters of the castling rights that are there, in the order KQkq, or a dash
 abbrev pub normal_rights_text : Rights → List ℕ
 normal_rights_text r = or_dash (letter_if r.white.king_side (byte "K") ++ letter_if r.white.queen_side (byte "Q")
     ++ letter_if r.black.king_side (byte "k") ++ letter_if r.black.queen_side (byte "q"))
 
--- six fields, with one space between
+-- the FEN of a position: its six fields, with one space between them
 abbrev pub normal_fen : Setup → List ℕ
 normal_fen p = join_with_byte space (placement_text p.men ∷ side_text p.side ∷ normal_rights_text p.rights ∷ target_text
     p.target ∷ decimal p.halfmove ∷ decimal p.fullmove ∷ [])
 
 -- ---- read
 
--- K, Q, k or q, and there once
+-- the byte c is K, Q, k or q, and occurs once in the text
 abbrev pub normal_names_once : List ℕ → ℕ → Bool
 normal_names_once text c = occurs c (codes "KQkq") && (times c text == 1)
 
--- a dash, or one to four of these letters, none twice
+-- the text has the form of a castling field: a dash, or one to four of the letters K, Q, k and q, none twice
 abbrev pub normal_is_castling : List ℕ → Bool
 normal_is_castling text = bytes_eq text (codes "-")
     || (nat_lt 0 (length text) && nat_le (length text) 4 && list_all (normal_names_once text) text)
 
--- the rights that letters name: the rooks are on h1 and a1, h8 and a8
+-- the castling rights that the letters name: the rooks are on h1 (7) and a1 (0), h8 (63) and a8 (56)
 abbrev pub normal_rights_named : List ℕ → Rights
 normal_rights_named letters = record {
   white = record {
@@ -68,7 +68,8 @@ normal_rights_named letters = record {
 abbrev pub normal_rights_of : List ℕ → Option Rights
 normal_rights_of text = if normal_is_castling text then Some (normal_rights_named text) else None
 
--- the position that the fields denote; the first field that is wrong is the fault
+-- the position that the fields of a FEN denote, read from left to right, sound or not; or the fault of the first field
+-- that denotes nothing
 abbrev pub normal_setup_by : List ℕ → List ℕ → List ℕ → List ℕ → List ℕ → List ℕ → Result Setup FenFault
 normal_setup_by placement side castling target halfmove fullmove = do
   men ← ok_or (placement_of placement) faults.Placement
@@ -93,7 +94,7 @@ normal_setup_in (a ∷ b ∷ c ∷ d ∷ []) = normal_setup_by a b c d (codes "0
 normal_setup_in (a ∷ b ∷ c ∷ d ∷ e ∷ f ∷ []) = normal_setup_by a b c d e f
 normal_setup_in _ = Err faults.Fields
 
--- each right that is there has king and rook at home
+-- each castling right that is there has its king and its rook on their initial squares
 abbrev pub normal_rights_are_sound : Setup → Bool
 normal_rights_are_sound p =
     normal_right_is_sound_at p.men White KingSide p.rights.white.king_side
@@ -101,7 +102,7 @@ normal_rights_are_sound p =
     && normal_right_is_sound_at p.men Black KingSide p.rights.black.king_side
     && normal_right_is_sound_at p.men Black QueenSide p.rights.black.queen_side
 
--- the first condition of soundness that the position fails
+-- the fault of the first condition of soundness that the position fails; none if it meets them all
 unfoldable pub normal_fault : Setup → Option FenFault
 normal_fault p =
     first_failing
@@ -114,10 +115,10 @@ normal_fault p =
     ∷ (faults.Check, not (is_in_check p.men (other p.side)))
     ∷ [])
 
--- the position, if it is sound
+-- the position if it is sound, else the first condition of soundness that it fails
 abbrev pub normal_sound : Setup → Result Setup FenFault
 normal_sound p = unless_fault p (normal_fault p)
 
--- the position that the text denotes, or its first fault
+-- the position that the text denotes as a FEN, or the text's first fault
 abbrev pub normal_fen_reading : List ℕ → Result Setup FenFault
 normal_fen_reading text = normal_setup_in (fields_of text) >>= normal_sound

@@ -7,7 +7,7 @@ use Rattle.chess_base.specs.declared.man.Variant.{Variant}
 use Rattle.chess_fen.specs.declared.fields.Fields.{Fields}
 use Rattle.chess_fen.specs.Reading.{setup_by, setup_in}
 
--- the parts after a separator
+-- the parts, between separators c, of what is left of a text; no part if nothing is left
 abbrev pub parts_of : ℕ → Option (Bor (List ℕ)) → List (List ℕ)
 parts_of c None = []
 parts_of c (Some rest) = slice_split (λ b. b == c) rest.now

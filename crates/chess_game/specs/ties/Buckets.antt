@@ -12,58 +12,60 @@ use Rattle.chess_game.specs.declared.repetition.Hashed.{Hashed}
 use Rattle.chess_game.specs.declared.game.PlayedMove.{PlayedMove}
 use Rattle.chess_game.specs.declared.index.TheConstants.{BUCKETS}
 
--- the number of a position's bucket
+-- the number of the bucket that a position is put into, by its hash
 abbrev pub bucket : Hashed → ℕ
 bucket k = k.word % BUCKETS
 
--- a move from the present position of a game gave this one
+-- `now` is a position that one more legal move gives, after the played moves xs from `start`
 abbrev pub IsNext : Hashed → List PlayedMove → Hashed → Type 0
 IsNext start xs now = (m : Move) × (s : Saved) × WasMade (last start.position (moves_of xs)) m s now.position
 
--- the position with that number
+-- the position with that number in the game from `start` by the played moves: 0 for the start, k + 1 for the one that
+-- played move k reached; the last one for greater numbers
 unfoldable pub known_at : Hashed → List PlayedMove → ℕ → Hashed
 known_at start xs zero = start
 known_at start [] (suc k) = start
 known_at start (x ∷ xs) (suc k) = known_at x.reached xs k
 
--- whether the position with that number is in bucket b
+-- whether the position with number k, in the game from `start` by the played moves xs, is in bucket b
 abbrev pub is_in : Hashed → List PlayedMove → ℕ → ℕ → Bool
 is_in start xs b k = bucket (known_at start xs k) == b
 
--- whether the position with that number is the same as q
+-- whether the position with number k, in the game from `start` by the played moves xs, is the same as q (9.2.3)
 abbrev pub is_same_at : Hashed → List PlayedMove → Setup → ℕ → Bool
 is_same_at start xs q k = same (known_at start xs k).position q
 
--- one more than the greatest number below n that passes the test, or 0 where none does
+-- one more than the greatest number below n for which t holds, or 0 if it holds for none
 unfoldable pub latest_below : (ℕ → Bool) → ℕ → ℕ
 latest_below t zero = zero
 latest_below t (suc n) = if t n then suc n else latest_below t n
 
--- how many numbers below n pass the test
+-- for how many numbers below n the test t holds
 unfoldable pub count_below : (ℕ → Bool) → ℕ → ℕ
 count_below t zero = zero
 count_below t (suc n) = count_below t n + cond (t n) 1 0
 
--- the head of each bucket is the latest of the first n positions in it
+-- the table has for each bucket the latest position in it, of the first n positions in the game from `start` by the
+-- played moves xs: its number plus one, or 0 if there is none
 abbrev pub HaveHeads : List ℕ → Hashed → List PlayedMove → ℕ → Type 0
 HaveHeads table start xs n = (b : ℕ) → b < BUCKETS → get_or table b 0 ≡ latest_below (is_in start xs b) n
 
--- there is a head for each bucket, and no position in any
+-- the table has an element for each bucket, and says that no position is in any
 pub record IsEmpty (table : List ℕ) : Type 0 where
   pub buckets : length table ≡ BUCKETS
   pub none : (b : ℕ) → b < BUCKETS → get_or table b 0 ≡ 0
 
--- the entry of played move k links to the latest earlier position in the bucket of its own, and has the count of its own: how
--- many of the positions up to it, itself among them, are the same
+-- the entry of played move k, which is x: a link to the latest earlier position in the bucket of the position that it
+-- reached, and the count of how many positions up to that one, itself included, are the same as it
 pub record HasEntry (start : Hashed) (xs : List PlayedMove) (k : ℕ) (x : PlayedMove) : Type 0 where
   pub earlier : x.entry.earlier ≡ latest_below (is_in start xs (bucket x.reached)) (suc k)
   pub count : x.entry.count ≡ suc (count_below (is_same_at start xs x.reached.position) (suc k))
 
--- each played move has its entry
+-- each of the played moves xs, in the game from `start`, has its entry in the index, as `HasEntry` says
 abbrev pub HaveEntries : Hashed → List PlayedMove → Type 0
 HaveEntries start xs = (k : ℕ) (d : PlayedMove) → k < length xs → HasEntry start xs k (get_or xs k d)
 
--- the index is that of all positions of a game
+-- the table of heads and the entries of the played moves xs are the index of all positions in the game from `start`
 pub record IsIndexed (table : List ℕ) (start : Hashed) (xs : List PlayedMove) : Type 0 where
   pub buckets : length table ≡ BUCKETS
   pub heads : HaveHeads table start xs (suc (length xs))

@@ -11,7 +11,7 @@ use Rattle.chess_moves.specs.Sets.{has}
 use Rattle.chess_game.specs.Ends.{is_kind}
 use Rattle.chess_game.specs.declared.packed.PackedMen.{PackedMen}
 
--- the kind of the piece on a square, if one is there
+-- the kind of the piece on square s by the sets; none if no set of a kind has it
 abbrev pub kind_in : PackedMen → ℕ → Option Kind
 kind_in p s =
     if has p.kings s then Some King
@@ -22,24 +22,25 @@ kind_in p s =
     else if has p.pawns s then Some Pawn
     else None
 
--- the colour of the piece on a square, where one is there
+-- the colour of the piece on square s by the sets: White if White's set has it, else Black (also for an empty square)
 abbrev pub colour_in : PackedMen → ℕ → Colour
 colour_in p s = if has p.white s then White else Black
 
--- a piece of that colour and kind, if there is a kind
+-- a piece of that colour and kind; none if there is no kind
 abbrev pub man_of : Colour → Option Kind → Option Man
 man_of c None = None
 man_of c (Some kind) = Some (record { colour = c; kind = kind })
 
--- the piece on a square, if there is one
+-- the piece on square s by the sets, or none
 unfoldable pub man_in : PackedMen → ℕ → Option Man
 man_in p s = man_of (colour_in p s) (kind_in p s)
 
--- the pieces on all 64 squares
+-- the pieces on all 64 squares by the sets
 unfoldable pub men_in : PackedMen → Men
 men_in p = from_below 64 (man_in p)
 
--- the sets report of square s that this piece, or none, is there
+-- the sets have square s as the content o of that square wants it: White's set if o is white, a kind's set if o is of
+-- that kind
 pub record IsPackedAt (p : PackedMen) (s : ℕ) (o : Option Man) : Type 0 where
   pub white : has p.white s ≡ is_of White o
   pub kings : has p.kings s ≡ is_kind King o
@@ -49,6 +50,6 @@ pub record IsPackedAt (p : PackedMen) (s : ℕ) (o : Option Man) : Type 0 where
   pub knights : has p.knights s ≡ is_kind Knight o
   pub pawns : has p.pawns s ≡ is_kind Pawn o
 
--- the sets are those of these pieces
+-- the sets are those of these pieces, on each of the 64 squares
 abbrev pub ArePacked : PackedMen → Men → Type 0
 ArePacked p men = (s : ℕ) → s < 64 → IsPackedAt p s (man_at men s)

@@ -14,49 +14,52 @@ use Rattle.chess_game.specs.declared.repetition.Hashed.{Hashed}
 use Rattle.chess_game.specs.declared.game.PlayedMove.{PlayedMove}
 use Rattle.chess_game.specs.declared.game.TheConstants.{MOST_MOVES}
 
--- the current moves
+-- the moves alone, of the played moves that a game keeps with their positions
 abbrev pub moves_of : List PlayedMove → List Move
 moves_of played_moves = map (λ x. x.made) played_moves
 
--- a position is kept with its live target
+-- the live target that is kept with a position (its en passant target, if a legal move captures on it) is that of the
+-- position
 abbrev pub IsKnown : Hashed → Type 0
 IsKnown k = k.live_target ≡ live_target k.position
 
--- a definition of position hashes, as a board has one
+-- the type of a definition of position hashes: a number from pieces, side on move and castling rights
 abbrev pub Hashing : Type 0
 Hashing = Men → Colour → Rights → ℕ
 
--- a position is kept with its hash by that definition
+-- the hash that is kept with a position is that of the position, by the definition f
 abbrev pub HasHash : Hashing → Hashed → Type 0
 HasHash f k = k.word ≡ f k.position.men k.position.side k.position.rights
 
--- two positions are kept with their hashes by one definition
+-- the hashes that are kept with two positions are by one and the same definition
 abbrev pub ShareHashing : Hashed → Hashed → Type 0
 ShareHashing x y = (f : Hashing) × HasHash f x × HasHash f y
 
--- the start and each position that a played move reached are kept with their hashes by that definition
+-- the hashes that are kept with the start and with each position that a played move reached are by the definition f
 pub record HaveHashes (f : Hashing) (first : Hashed) (played_moves : List PlayedMove) : Type 0 where
   pub start : HasHash f first
   pub behind : AllByRecursion (λ (x : PlayedMove). HasHash f x.reached) played_moves
 
--- each move was made in the position before it, and is kept with what that saved and the position that it gave
+-- from position p on, each played move was legal where it was made, and is kept with what it saved and the position
+-- that it reached
 abbrev pub Follows : Setup → List PlayedMove → Type 0
 Follows p [] = Unit {0}
 Follows p (x ∷ xs) = WasMade p x.made x.saved x.reached.position × IsKnown x.reached × Follows x.reached.position xs
 
--- from this start the played moves follow, all with hashes by the board's definition, and the board is at the position at the
--- end of the line
+-- what a game keeps is true: the played moves follow from the start, all hashes are by the board's definition f, and
+-- the board is at the position after the last move
 pub record IsKept (f : Hashing) (start : Hashed) (played_moves : List PlayedMove) (board : Setup) : Type 0 where
   pub known : IsKnown start
   pub follows : Follows start.position played_moves
   pub words : HaveHashes f start played_moves
   pub at_end : board ≡ last start.position (moves_of played_moves)
 
--- no verdict came before the last move
+-- no verdict came before the last of these moves
 pub record IsUnended (start : Setup) (moves : List Move) : Type 0 where
   pub before : (k : ℕ) → k < length moves → verdict start (take k moves) ≡ None
 
--- no more places are taken than the limit, and there is memory for as many
+-- a game keeps at most as many moves (`taken`) as its limit, has memory for that many (`capacity`), and the limit is at
+-- most `MOST_MOVES`
 pub record HasRoom (taken limit capacity : ℕ) : Type 0 where
   pub few : taken ≤ limit
   pub made : limit ≤ capacity

@@ -6,7 +6,7 @@ use Rattle.chess_match.specs.declared.phase.Phase.TheVariants.{Over}
 use Rattle.chess_match.specs.declared.run.Awaited.{Awaited}
 use Rattle.chess_match.specs.declared.run.Awaited.TheVariants.{Line, Moment, Nothing}
 
--- in this phase the match waits for this
+-- a match in this phase waits for this
 abbrev pub IsAwaited : Phase → Awaited → Type 0
 IsAwaited p (Line S) = reads p S ≡ true
 IsAwaited p (Moment S) = opens p S ≡ true

@@ -18,20 +18,20 @@ use Rattle.chess_match.specs.Transcript.{is_on}
 use Rattle.chess_match.specs.declared.state.MatchState.{MatchState}
 use Rattle.chess_base.specs.Letters.{new_line}
 
--- what is that side's, and what is the other's
+-- of two values the one for the last argument's side: `own` if that is the first argument's side, else `others`
 abbrev pub by_turn : {A : Type 0} → Colour → A → A → Colour → A
 by_turn White own others = by_colour own others
 by_turn Black own others = by_colour others own
 
 -- ---- what is parsed
 
--- the event that a call for the next line of S is; a last line that byte 10 doesn't end is the end
+-- the event that reading the next line of the side `S` gives. A last line without `\n` is the end of the output
 abbrev pub event_read : {E : Type 0} → Colour → ℕ → Result (Option LineSeen) E → Event
 event_read S moment (Ok (Some line)) = if line.ended then Line S (text_read line) moment else OutputEnds S
 event_read S moment (Ok None) = OutputEnds S
 event_read S moment (Err e) = FailsToRead S
 
--- a line of S that byte 10 ended
+-- the event of a line of the side `S` that `\n` ended
 abbrev pub line_event : Colour → LineSeen → ℕ → Event
 line_event S line moment = Line S (text_read line) moment
 
@@ -41,8 +41,9 @@ line_event S line moment = Line S (text_read line) moment
 abbrev pub first_in : Match → Colour → Colour
 first_in m S = if is_on m.phase then S else White
 
--- no write failed before the end: each engine was sent what is due to it, and at the end a beginning where a write
--- failed
+-- no write failed, or only one of the last lines: each engine was sent its lines `due` (a beginning of them, if that
+-- write failed), the side `first` first, and the witness was given notes of them. `w` and `w'` are the engines'
+-- inputs before and after
 pub record AllSent (r : Rules) (core : MatchState) (played : List Move) (m : Match) (due : Colour → List SentLine)
     (first : Colour) (w w' : Colour → OutputState) (failed : Colour → Bool) (notes notes' : Noted) : Type 0 where
   pub stands : Represents r core played m
@@ -50,15 +51,16 @@ pub record AllSent (r : Rules) (core : MatchState) (played : List Move) (m : Mat
   pub fine : is_on m.phase ≡ true → (S : Colour) → failed S ≡ false
   pub noted : WasNoted notes notes' (both_notes (first_in m first) due)
 
--- what is noted where a write to c fails: what is due, but not what comes after, the failure, and the other's end lines
+-- the notes if writing to the side `c` fails: what is sent before, the failure, and the other side's last lines.
+-- `due` are the lines of both sides, and `first` is the side that is written to first
 abbrev pub broken_notes : Rules → Match → (Colour → List SentLine) → Colour → Colour → List Note
 broken_notes r m due first c =
     both_notes first (λ S. if same_colour first c && not (same_colour c S) then [] else due S)
     ++ Happened (FailsToWrite c)
     ∷ both_notes White (λ S. if same_colour c S then [] else block r m (after r m (FailsToWrite c)) S)
 
--- a write to c failed, which ended the match. The other engine was sent what is due to it, unless it comes after, and
--- its end lines
+-- a write to the side `c` failed, which ended the match: the other engine was sent its lines, unless they come after,
+-- and its last lines. `w` and `w'` are the engines' inputs before and after
 pub record OneFailed (r : Rules) (core : MatchState) (played : List Move) (m : Match) (due : Colour → List SentLine)
     (first : Colour) (w w' : Colour → OutputState) (failed : Colour → Bool) (notes notes' : Noted)
     (c : Colour) : Type 0 where
@@ -72,19 +74,19 @@ pub record OneFailed (r : Rules) (core : MatchState) (played : List Move) (m : M
       × SendsIf (failed (other c)) v (w' (other c)) (bytes_of (block r m (after r m (FailsToWrite c)) (other c)))
   pub noted : WasNoted notes notes' (broken_notes r m due first c)
 
--- the blocks that are due were sent, first to that side, and no write failed before the end, or the first that failed
--- ended the match; a witness was given notes of them
+-- the lines `due` at an event were sent, those of the side `first` first: all of them, or up to a write that failed,
+-- which ended the match. `w` and `w'` are the engines' inputs before and after
 abbrev pub Delivered : Rules → MatchState → List Move → Match → (Colour → List SentLine) → Colour → (Colour → OutputState)
     → (Colour → OutputState) → (Colour → Bool) → Noted → Noted → Type 0
 Delivered r core played m due first w w' failed notes notes' =
     AllSent r core played m due first w w' failed notes notes'
     ⊎ ((c : Colour) × OneFailed r core played m due first w w' failed notes notes' c)
 
--- core and game stand for a match in which there is a last move, if someone is still to be sent it
+-- if a side has still to be sent the last move, there is a last move
 abbrev pub HasLast : MatchState → List Move → Type 0
 HasLast core played = (r : Rules) × (m : Match) × Represents r core played m
     × (is_some m.unsent_to ≡ true → 0 < length m.played)
 
--- the line that answers an item of that name
+-- the line that answers an item of this name
 abbrev pub answer_line : List ℕ → List ℕ
 answer_line name = answer_words name ++ new_line ∷ []

@@ -21,25 +21,25 @@ use Rattle.chess_match.specs.declared.state.MatchState.{MatchState}
 use Rattle.chess_match.specs.declared.texts.MoveTexts.{MoveTexts}
 use Rattle.chess_match.specs.ties.Texts.{AreOfLast}
 
--- the name of an engine, by the items that it said
+-- the name that an engine with these items gave, cut for a PGN tag
 unfoldable pub name_by : List Item → List ℕ
 name_by items = cut_tag (told (codes "myname") items)
 
--- what is kept of an engine is what it said
+-- what the code keeps of an engine is what is known of it
 pub record Keeps (kept : Player) (known : Seat) : Type 0 where
   pub features : kept.features ≡ features_of known.items
   pub name : kept.name ≡ name_by known.items
   pub offers : kept.offers ≡ known.offers
 
--- what a side spent, by its moves' times
+-- what a side used so far, by the times of its moves
 abbrev pub spent_of : Seat → Spent
 spent_of s = record { moves = length s.used; used = sum s.used }
 
--- the clocks of a match
+-- the clocks of a match with this time control
 abbrev pub clocks_of : LevelSeen → Match → ClocksSeen
 clocks_of level m = record { level = level; white = spent_of m.white; black = spent_of m.black }
 
--- the core, and the moves that were played, stand for the match m
+-- the code's state of the match, with the game's moves `played`, is the match `m` of the definitions
 pub record Represents (r : Rules) (core : MatchState) (played : List Move) (m : Match) : Type 0 where
   pub phase : core.phase ≡ m.phase
   pub white : Keeps core.white m.white
@@ -51,45 +51,46 @@ pub record Represents (r : Rules) (core : MatchState) (played : List Move) (m : 
   pub count : core.count ≡ m.count
   pub opened : core.opened ≡ m.opened
 
--- a text for one side, if there is one: S is sent it where S is that side
+-- the lines `text` if `S` is the side in the option, else none
 abbrev pub to : Option Colour → Colour → List SentLine → List SentLine
 to None S text = []
 to (Some c) S text = if same_colour c S then text else []
 
--- the items that each side's engine said: these that side's, and none
+-- these items for the side `c`, none for the other side
 abbrev pub items_to : Colour → List Item → Colour → List Item
 items_to c items S = if same_colour c S then items else []
 
+-- no items for either side
 abbrev pub nothing_said : Colour → List Item
 nothing_said S = []
 
--- what is given after the answers: the offer, and what the phase gives
+-- what the side `S` is sent after the answers: an offer of a draw, and the lines of a new phase
 abbrev pub after_answers : Rules → Actions → Match → Colour → List SentLine
 after_answers r given m S = to given.draw S (Says (codes "draw") ∷ []) ++ (if given.entered then entry r m S else [])
 
--- the block that is given for S: answers to its items, an offer, and what the phase gives
+-- all that the side `S` is sent at an event: answers to its items, an offer of a draw, and the lines of a new phase
 unfoldable pub given_block : Rules → Actions → (Colour → List Item) → Match → Colour → List SentLine
 given_block r given items m S = answers_to (items S) ++ after_answers r given m S
 
--- from m to m' the core goes on to stand for m', and gives the blocks between them
+-- the code's step from the match `m` to `m'`: its state is then `m'`, and what it sends to each side is what is due
 pub record Goes (r : Rules) (core : MatchState) (played : List Move) (given : Actions) (items : Colour → List Item)
     (m m' : Match) : Type 0 where
   pub stands : Represents r core played m'
   pub gives : (S : Colour) → given_block r given items m' S ≡ block r m m' S
 
--- what the core keeps of that side's engine
+-- what the code keeps of this side's engine
 abbrev pub player : MatchState → Colour → Player
 player core White = core.white
 player core Black = core.black
 
--- the core once S's offer is open
+-- the code's state once this side's draw offer is open
 abbrev pub offered_core : MatchState → Colour → MatchState
 offered_core core White =
     record core { white = record { features = core.white.features; name = core.white.name; offers = true } }
 offered_core core Black =
     record core { black = record { features = core.black.features; name = core.black.name; offers = true } }
 
--- the core once S's move is played, which has these texts
+-- the code's state once this side played a move, which took `used` milliseconds and has these texts
 abbrev pub played_core : MatchState → Colour → ℕ → MoveTexts → MatchState
 played_core core White used texts = record core {
   phase = AwaitPong White;
@@ -106,7 +107,7 @@ played_core core Black used texts = record core {
   white = record { features = core.white.features; name = core.white.name; offers = false };
 }
 
--- the items of a line: those of a handshake alone
+-- the items of a line, which count only in a handshake
 abbrev pub items_in : Phase → LineKind → List Item
 items_in (Hello c) kind = items_of_line kind
 items_in _ kind = []

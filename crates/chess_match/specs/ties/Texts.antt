@@ -4,15 +4,15 @@ use Rattle.chess_base.specs.declared.man.Move.{Move}
 use Rattle.chess_match.specs.Rules.{Rules}
 use Rattle.chess_match.specs.declared.texts.MoveTexts.{MoveTexts}
 
--- the text in SAN, or by squares
+-- the text in SAN if the flag is true, else by squares (`e2e4`)
 abbrev pub text_in : MoveTexts → Bool → List ℕ
 text_in t as_san = if as_san then t.san.items else t.squares.items
 
--- the texts are those of the last of these moves
+-- these are the texts of the last of these moves
 abbrev pub AreTexts : Rules → MoveTexts → List Move → Type 0
 AreTexts r t played = (as_san : Bool) → text_in t as_san ≡ r.move_text as_san played
 
--- where there is a last move, its texts are kept
+-- if there is a last move, its texts are kept
 abbrev pub AreOfLast : Rules → Option MoveTexts → List Move → Type 0
 AreOfLast r None played = played ≡ []
 AreOfLast r (Some t) played = (0 < length played) × AreTexts r t played

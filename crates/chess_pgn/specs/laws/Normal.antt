@@ -19,6 +19,7 @@ use Rattle.chess_pgn.specs.Written.{tag_line}
 
 -- ---- written
 
+-- the lines of the tags after the seven, for a game of normal chess: no tag Variant
 abbrev pub normal_further_lines : Setup → Termination → List (List ℕ)
 normal_further_lines start termination =
     (if is_initial start then [] else fen_lines start)
@@ -26,6 +27,8 @@ normal_further_lines start termination =
 
 -- ---- read
 
+-- what follows from a tag, if there were no Chess960: FEN is read as one of normal chess. `offset` is that of its
+-- string
 abbrev pub normal_tag_step : SoFar → List ℕ → List ℕ → ℕ → Step
 normal_tag_step g name text offset =
     if bytes_eq name (codes "FEN") then fen_step g offset (fen_reading text)
@@ -36,6 +39,8 @@ normal_tag_step g name text offset =
       termination = termination_after g.termination name text;
     })
 
+-- what follows from one token, if there were no Chess960. `limit` is the most half-moves of a game, `total` the
+-- text's length, and `left` how many bytes are left from the token on
 abbrev pub normal_step : ℕ → ℕ → SoFar → ℕ → Token → Step
 normal_step limit total g left (Tag name text string) =
     if g.is_begun then fails g NoResult (total - left) else normal_tag_step g name text (total - string)
@@ -46,17 +51,20 @@ normal_step limit total g left (Unclosed_comment brace) = step limit total g lef
 normal_step limit total g left Unclosed_variation = step limit total g left Unclosed_variation
 normal_step limit total g left Bad = step limit total g left Bad
 
+-- reads the tokens that are left after the game so far, if there were no Chess960; `limit` and `total` as in
+-- `normal_step`
 abbrev pub normal_game_of : ℕ → ℕ → SoFar → List (ℕ × Token) → GameRead
 normal_game_of limit total g [] = at_text_end total g
 normal_game_of limit total g (t ∷ ts) = go_on (normal_step limit total g t.0 t.1) (λ h. normal_game_of limit total h ts)
 
--- from the initial position
+-- the game that tokens are read as, if there were no Chess960: from the initial position of normal chess on
 abbrev pub normal_read : ℕ → ℕ → List (ℕ × Token) → GameRead
 normal_read limit total tokens = normal_game_of limit total
     (record { state = from_start initial_setup; is_met = false; is_begun = false; termination = None }) tokens
 
 -- ---- texts that name no variant
 
+-- whether a token is a tag Variant
 abbrev pub names_variant : Token → Bool
 names_variant (Tag name text left) = bytes_eq name (codes "Variant")
 names_variant Skip = false
@@ -66,13 +74,14 @@ names_variant (Unclosed_comment left) = false
 names_variant Unclosed_variation = false
 names_variant Bad = false
 
+-- whether a word is marks such as `!?`
 abbrev pub is_mark_word : WordKind → Bool
 is_mark_word Marks = true
 is_mark_word Number = false
 is_mark_word Move = false
 is_mark_word (End o) = false
 
--- a number, move or outcome, or what can't be read: no tag of the game comes after it
+-- whether no tag of the game may follow a token: a number, a move, an outcome, or what can't be read
 abbrev pub ends_tags : Token → Bool
 ends_tags Skip = false
 ends_tags (Tag name text left) = false
@@ -82,12 +91,13 @@ ends_tags (Unclosed_comment left) = true
 ends_tags Unclosed_variation = true
 ends_tags Bad = true
 
--- before the first of these no tag is named Variant
+-- whether no tag Variant comes before the first token after which no tag of the game may follow
 abbrev pub names_no_variant : List (ℕ × Token) → Bool
 names_no_variant [] = true
 names_no_variant (t ∷ ts) = if ends_tags t.1 then true else not (names_variant t.1) && names_no_variant ts
 
 -- ---- on starts of normal chess, and in texts that name no variant, games are written and read so
+-- a game of normal chess is written, and a text with no tag Variant is read, as if there were no Chess960
 pub record NormalIsKept : Type 0 where
   pub written : (start : Setup) (termination : Termination) → start.variant ≡ Normal
       → further_lines start termination ≡ normal_further_lines start termination

@@ -2,12 +2,14 @@
 use Rattle.std.specs.Prelude.{◌≤◌, ℕ, ◌+◌, List, length, IfOk, IfErr, IfSome}
 use Rattle.chess_pgn.specs.GameRead.{pgn_read}
 
--- a fault's offset is in the text or right after it, and not before the offset where reading began
+-- if reading from `at` on finds a fault, its offset is from `at` to the text's length; `limit` is the most half-moves
+-- of a game
 abbrev pub FaultsHaveOffsets : Type 0
 FaultsHaveOffsets = (limit : ℕ) (text : List ℕ) (at : ℕ) → at ≤ length text
     → IfErr (pgn_read limit text at).answer (λ f. (at ≤ f.offset) × (f.offset ≤ length text))
 
--- a half-move takes at least a byte of the text that a game has from the offset on
+-- a game read from `at` on has no more half-moves than bytes from there to its end; `limit` is the most half-moves of
+-- a game
 abbrev pub HalfMovesHaveBytes : Type 0
 HalfMovesHaveBytes =
     (limit : ℕ) (text : List ℕ) (at : ℕ) → at ≤ length text

@@ -8,7 +8,7 @@ use Rattle.chess_pgn.specs.GameRead.{GameRead, pgn_read}
 use Rattle.chess_pgn.specs.GameText.{pgn}
 use Rattle.chess_pgn.specs.Written.{IsTagText}
 
--- each tag has a tag's text
+-- the text of each tag is at most 60 bytes of printable ASCII
 pub record AreTagTexts (t : Tags) : Type 0 where
   pub event : IsTagText t.event
   pub site : IsTagText t.site
@@ -17,8 +17,9 @@ pub record AreTagTexts (t : Tags) : Type 0 where
   pub white : IsTagText t.white
   pub black : IsTagText t.black
 
--- reading left a game with the start, the moves and the outcome of this one, whose text ends at an offset. It returned
--- that outcome, how the game ended, and the offset after the outcome, which the ends of two lines follow
+-- reading the written text of the game `s` gave its start, moves and outcome and this termination. `text_end` is the
+-- offset after its text; the game ends two bytes before (after its outcome come the ends of its last line and of an
+-- empty one)
 pub record IsReadBack (s : State) (termination : Termination) (text_end : ℕ) (r : GameRead) : Type 0 where
   pub start : r.state.start ≡ s.start
   pub moves : r.state.moves ≡ s.moves
@@ -27,7 +28,8 @@ pub record IsReadBack (s : State) (termination : Termination) (text_end : ℕ) (
   pub answer : r.answer ≡ Ok (Some (record { outcome = outcome_now s; termination = Some termination; offset = offset }))
   pub behind : offset + 2 ≡ text_end
 
--- the text of a game that the limit admits is read back at its offset, whatever is before and after it
+-- each playable game within the limit, if it is written without a line prefix, is read back from where its text
+-- begins, whatever text comes before and after it
 abbrev pub PgnIsReadBack : Type 0
 PgnIsReadBack =
     (limit : ℕ) → (tags : Tags) → (s : State) → (before after : List ℕ) → AreTagTexts tags

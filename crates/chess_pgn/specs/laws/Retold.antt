@@ -30,19 +30,21 @@ use Rattle.chess_pgn.specs.Words.{kind_of}
 
 -- ---- kinds of tokens
 
+-- whether a word is a move number or may be a move
 abbrev pub is_number_or_move : WordKind → Bool
 is_number_or_move (End o) = false
 is_number_or_move Number = true
 is_number_or_move Marks = false
 is_number_or_move Move = true
 
+-- whether a word is an outcome such as `1-0`
 abbrev pub is_outcome : WordKind → Bool
 is_outcome (End o) = true
 is_outcome Number = false
 is_outcome Marks = false
 is_outcome Move = false
 
--- a number or move: after it no tag belongs to the game
+-- whether a token is a number or a move: after it no tag belongs to the game
 abbrev pub begins : Token → Bool
 begins (Word word) = is_number_or_move (kind_of word)
 begins Skip = false
@@ -52,7 +54,7 @@ begins (Unclosed_comment left) = false
 begins Unclosed_variation = false
 begins Bad = false
 
--- a tag, number or move: with one a game is there
+-- whether a token is a tag, number or move, so that a text with it has a game
 abbrev pub counts : Token → Bool
 counts (Tag name text left) = true
 counts (Word word) = is_number_or_move (kind_of word)
@@ -62,12 +64,15 @@ counts (Unclosed_comment left) = false
 counts Unclosed_variation = false
 counts Bad = false
 
+-- whether a tag of this name gives the start
 abbrev pub is_fen : List ℕ → Bool
 is_fen name = bytes_eq name (codes "FEN")
 
 -- ---- what can be taken: a tag before the first number or move, a FEN tag only if it denotes a sound position; a word
 -- that is no outcome; never a token that can't be read
 
+-- whether reading goes on after a token: it is skipped, a word but no outcome, or a tag before the first number or
+-- move (`begun` says if that came), where FEN must denote a sound position of the variant `v`
 abbrev pub can_be_taken : Variant → Bool → Token → Bool
 can_be_taken v begun Skip = true
 can_be_taken v begun (Tag name text left) = not begun && (not (is_fen name) || is_ok (fen_reading_as v text))
@@ -77,19 +82,21 @@ can_be_taken v begun (Unclosed_comment left) = false
 can_be_taken v begun Unclosed_variation = false
 can_be_taken v begun Bad = false
 
+-- whether reading goes on after each of these tokens; `begun`: a number or move came before them
 abbrev pub can_all_be_taken : Variant → Bool → List (ℕ × Token) → Bool
 can_all_be_taken v begun [] = true
 can_all_be_taken v begun (t ∷ ts) = can_be_taken v begun t.1 && can_all_be_taken v (begun || begins t.1) ts
 
 -- ---- what they say
 
--- the words that are moves, in their order
+-- a list of the word, if it may be a move, else the empty list
 abbrev pub if_move : List ℕ → WordKind → List (List ℕ)
 if_move word (End o) = []
 if_move word Number = []
 if_move word Marks = []
 if_move word Move = word ∷ []
 
+-- a list of the token's word, if it may be a move, else the empty list
 abbrev pub move_words_of : Token → List (List ℕ)
 move_words_of (Word word) = if_move word (kind_of word)
 move_words_of Skip = []
@@ -99,14 +106,16 @@ move_words_of (Unclosed_comment left) = []
 move_words_of Unclosed_variation = []
 move_words_of Bad = []
 
+-- the words that may be moves, in order
 abbrev pub move_words : List (ℕ × Token) → List (List ℕ)
 move_words tokens = flat_map (λ t. move_words_of t.1) tokens
 
--- what the last FEN tag denotes, else the position before it
+-- the position that a FEN was read as, else `p` if it had a fault
 abbrev pub if_read : Setup → Result Setup FenFault → Setup
 if_read p (Ok start) = start
 if_read p (Err fault) = p
 
+-- the game's start after one more token, if it was `p`: a tag FEN sets it, read as one of the variant `v`
 abbrev pub start_by : Variant → Setup → Token → Setup
 start_by v p (Tag name text left) = if is_fen name then if_read p (fen_reading_as v text) else p
 start_by v p Skip = p
@@ -116,11 +125,12 @@ start_by v p (Unclosed_comment left) = p
 start_by v p Unclosed_variation = p
 start_by v p Bad = p
 
+-- the start that the last FEN tag of these tokens gives, read as one of the variant `v`; else `p`
 abbrev pub tagged_start : Variant → Setup → List (ℕ × Token) → Setup
 tagged_start v p [] = p
 tagged_start v p (t ∷ ts) = tagged_start v (start_by v p t.1) ts
 
--- what the last tag Termination names
+-- what is known of Termination after one more token, if it was `o`: a tag of that name sets it
 abbrev pub termination_by_token : Option Termination → Token → Option Termination
 termination_by_token o (Tag name text left) = termination_after o name text
 termination_by_token o Skip = o
@@ -130,12 +140,13 @@ termination_by_token o (Unclosed_comment left) = o
 termination_by_token o Unclosed_variation = o
 termination_by_token o Bad = o
 
+-- what the last tag Termination of these tokens names; `o` if there is none
 abbrev pub tagged_termination : Option Termination → List (ℕ × Token) → Option Termination
 tagged_termination o [] = o
 tagged_termination o (t ∷ ts) = tagged_termination (termination_by_token o t.1) ts
 
--- after some moves each word is read as its move, in the position reached, where no verdict holds and fewer moves
--- are current than the limit
+-- after the moves `done` from a start, each of the words denotes the move at its index, in the position reached by
+-- then, where the game has no verdict and fewer than `limit` moves
 abbrev pub AreReadAs : ℕ → Setup → List Played → List (List ℕ) → List Played → Type 0
 AreReadAs limit start done [] [] = Unit {0}
 AreReadAs limit start done [] (m ∷ ms) = ⊥
@@ -146,27 +157,32 @@ AreReadAs limit start done (w ∷ ws) (m ∷ ms) =
 
 -- ---- why a token is not taken
 
+-- the fault AfterEnd if the game has a verdict, else TooLong if it has `limit` moves, else the one given
 abbrev pub unless_closed : ℕ → State → Option PgnFaultKind → Option PgnFaultKind
 unless_closed limit s kind = if is_some (verdict_now s) then Some AfterEnd else
     (if nat_lt (length s.moves) limit then kind else Some TooLong)
 
--- why a word with this reading is not played, if it isn't
+-- why a word that denotes this is not played in the game `s`, if it isn't; `limit` is the most half-moves of a game
 abbrev pub move_fault : ℕ → State → Reading → Option PgnFaultKind
 move_fault limit s reads.NotAMove = Some BadToken
 move_fault limit s (reads.Move m) = unless_closed limit s None
 move_fault limit s reads.Ambiguous = unless_closed limit s (Some AmbiguousMove)
 move_fault limit s reads.NoSuch = unless_closed limit s (Some IllegalMove)
 
+-- why a word of this kind can't be taken in the game `s`, if it can't; `limit` is the most half-moves of a game
 abbrev pub word_fault : ℕ → State → List ℕ → WordKind → Option PgnFaultKind
 word_fault limit s word (End o) = None
 word_fault limit s word Number = None
 word_fault limit s word Marks = None
 word_fault limit s word Move = move_fault limit s (reading (current s) word)
 
+-- the fault of this kind at an offset, if there is one
 abbrev pub fault_at : ℕ → Option PgnFaultKind → Option PgnFault
 fault_at offset kind = option_map (λ k. record { kind = k; offset = offset }) kind
 
--- in a game of that variant, begun or not, at a token with so many bytes left of so many
+-- why a token can't be taken in the game `s` of the variant `v`, if it can't, with the fault's offset. `total` is the
+-- text's length, `left` how many bytes are left from the token on, and `begun` says if a number or move came before
+-- it
 abbrev pub token_fault : ℕ → ℕ → Variant → Bool → State → ℕ → Token → Option PgnFault
 token_fault limit total v begun s left Skip = None
 token_fault limit total v begun s left (Tag name text string) =
@@ -180,8 +196,8 @@ token_fault limit total v begun s left Bad = fault_at (total - left) (Some BadTo
 
 -- ---- the game
 
--- where reading stopped, in a text of so many bytes: at its end, with a game there or not; at the outcome that is
--- named; or at the token that has the fault. Only an outcome declares anything
+-- why reading stopped after the tokens `taken`, before the others, in a text of `total` bytes: at the text's end with
+-- no game (`Ok None`), at an outcome (`Ok (Some e)`), or at a fault. Only an outcome declares a result
 abbrev pub StopsAt : ℕ → ℕ → Variant → List (ℕ × Token) → List (ℕ × Token) → State → Result (Option PgnEnd) PgnFault
     → Type 0
 StopsAt limit total v taken [] s (Ok None) = (s.declared ≡ None) × (list_any (λ t. counts t.1) taken ≡ false)
@@ -196,8 +212,8 @@ StopsAt limit total v taken (t ∷ ts) s (Ok (Some e)) =
 StopsAt limit total v taken (t ∷ ts) s (Err f) =
     (s.declared ≡ None) × (token_fault limit total v (list_any (λ u. begins u.1) taken) s t.0 t.1 ≡ Some f)
 
--- a game is that of the first tokens: these can be taken, its start is what their last FEN tag denotes, else the
--- initial position of the variant, and its moves are those of their words
+-- the game read is that of a first part of the tokens, `taken`: its start is what their last FEN denotes, else the
+-- initial position of the variant `v`, its moves are those of their words, and reading stopped rightly after them
 pub record IsOfTokens (limit total : ℕ) (v : Variant) (tokens : List (ℕ × Token)) (r : GameRead) : Type 0 where
   pub taken : List (ℕ × Token)
   pub others : List (ℕ × Token)
@@ -207,6 +223,7 @@ pub record IsOfTokens (limit total : ℕ) (v : Variant) (tokens : List (ℕ × T
   pub moves : AreReadAs limit r.state.start [] (move_words taken) r.state.moves
   pub stop : StopsAt limit total v taken others r.state r.answer
 
+-- each game that is read is that of its text's first tokens, as `IsOfTokens` says without a reader
 abbrev pub GamesAreOfTokens : Type 0
 GamesAreOfTokens =
     (limit : ℕ) (text : List ℕ) (at : ℕ) → let tokens =

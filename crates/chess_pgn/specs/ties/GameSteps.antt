@@ -18,23 +18,23 @@ refusal_kind Over = faults.AfterEnd
 refusal_kind TooLong = faults.TooLong
 refusal_kind Illegal = faults.IllegalMove
 
--- the game so far
+-- the definitions' `SoFar` that corresponds to the game's state and the code's `Progress`
 abbrev pub so_far : State → Progress → SoFar
 so_far s p = record { state = s; is_met = p.is_met; is_begun = p.is_begun; termination = p.termination }
 
--- a step that left the game in that state
+-- the definitions' `Step` that corresponds to what the code returned for a token, and the state that it left
 abbrev pub step_seen : State → Result code.Step PgnFault → Step
 step_seen s (Ok (does.On p)) = On (so_far s p)
 step_seen s (Ok (does.Ended end)) = Stop (record { state = s; answer = Ok (Some end) })
 step_seen s (Err fault) = Stop (record { state = s; answer = Err fault })
 
--- a game that ended did so after the first offset, and not after the last
+-- if a token ended the game, the offset after it is greater than `first` and at most `last`
 abbrev pub EndsIn : ℕ → ℕ → Result code.Step PgnFault → Type 0
 EndsIn first last (Ok (does.On p)) = Unit {0}
 EndsIn first last (Ok (does.Ended end)) = (first < end.offset) × (end.offset ≤ last)
 EndsIn first last (Err fault) = Unit {0}
 
--- the offsets that a token gives are in the text: so many bytes are left where it begins
+-- what a token says of offsets is within the text: at most `left` bytes, those from its first byte on, are left there
 abbrev pub IsWithin : ℕ → Token → Type 0
 IsWithin left Skip = Unit {0}
 IsWithin left (Tag name text string) = string ≤ left
@@ -44,12 +44,13 @@ IsWithin left (Unclosed_comment brace) = brace ≤ left
 IsWithin left Unclosed_variation = Unit {0}
 IsWithin left Bad = Unit {0}
 
--- whatever was read before, the rest of a game is read alike from either offset on
+-- reading on from the offset `a` gives the same as from `b`, whatever was read before
 abbrev pub ReadsAlike : List ℕ → ℕ → ℕ → Type 0
 ReadsAlike text a b = (limit : ℕ) (g : SoFar)
     → game_of limit (length text) g (tokens_from text a) ≡ game_of limit (length text) g (tokens_from text b)
 
--- the game of a text from an offset on was read up to another, and the rest with what was read gives the whole
+-- a game was begun at the offset `from` and is read up to `here`, with this progress: reading on from `here` gives
+-- what reading from `from` on gives
 pub record IsReadOn (limit : ℕ) (text : List ℕ) (from : ℕ) (game : Seen) (progress : Progress) (here : ℕ)
     : Type 0 where
   pub behind : from ≤ here

@@ -25,12 +25,14 @@ abbrev pub HasLetter : Kind → Type 0
 HasLetter Pawn = ⊥
 HasLetter k = Unit {0}
 
+-- a pawn may become a piece of this kind: queen, rook, bishop or knight
 abbrev pub CanPromote : Kind → Type 0
 CanPromote Pawn = ⊥
 CanPromote King = ⊥
 CanPromote k = Unit {0}
 
--- parts that a text can have
+-- these can be the parts of a text: files and ranks below 8, an end square below 64, a letter of no pawn, a promotion
+-- to what a pawn may become
 pub record AreParts (q : Parts) : Type 0 where
   pub letter_is : IfSome q.letter HasLetter
   pub file_is : IfSome q.file (λ f. f < 8)
@@ -38,72 +40,83 @@ pub record AreParts (q : Parts) : Type 0 where
   pub to_is : q.end.to < 64
   pub promotion_is : IfSome q.end.promotion (λ p. CanPromote p.kind)
 
--- the text denotes the move, and of the legal moves no other
+-- the text denotes move m in position p, and no other legal move
 abbrev pub SpellsAlone : Setup → List ℕ → Move → Type 0
 SpellsAlone p text m = IsTrue (spells p text m)
     × ((n : Move) → IsTrue (is_legal p n) → IsTrue (spells p text n) → n ≡ m)
 
--- what is written for a legal move denotes it alone, has a move's shape, and is read as it
+-- the SAN of a legal move of a sound position denotes that move, and no other legal move
 abbrev pub SanSpellsItsMove : Type 0
 SanSpellsItsMove = (p : Setup) → (m : Move) → IsSound p → IsTrue (is_legal p m) → SpellsAlone p (san p m) m
 
+-- the SAN of a legal move of a sound position has the shape of a move
 abbrev pub SanHasShape : Type 0
 SanHasShape = (p : Setup) → (m : Move) → IsSound p → IsTrue (is_legal p m) → IsTrue (shape (san p m))
 
+-- the SAN of a legal move of a sound position is read as that move
 abbrev pub SanIsReadBack : Type 0
 SanIsReadBack = (p : Setup) → (m : Move) → IsSound p → IsTrue (is_legal p m) → reading p (san p m) ≡ reads.Move m
 
+-- the bytes that SAN may have: letters, digits, + # = and -
 abbrev pub is_san_byte : ℕ → Bool
 is_san_byte c = is_letter c || is_digit c || (c == byte "+") || (c == byte "#") || (c == byte "=") || (c == byte "-")
 
+-- the first byte of the text is a letter
 abbrev pub begins_with_letter : List ℕ → Bool
 begins_with_letter [] = false
 begins_with_letter (c ∷ cs) = is_letter c
 
--- what is written for a legal move has two to seven bytes, each of them one of these, and begins with a letter, as no
--- number and no outcome of a game does
+-- the SAN of a legal move of a sound position has two to seven bytes
 abbrev pub SanIsShort : Type 0
 SanIsShort = (p : Setup) → (m : Move) → IsSound p → IsTrue (is_legal p m)
     → (2 ≤ length (san p m)) × (length (san p m) ≤ 7)
 
+-- the SAN of a legal move of a sound position has only letters, digits, + # = and -
 abbrev pub SanHasBytes : Type 0
 SanHasBytes = (p : Setup) → (m : Move) → IsSound p → IsTrue (is_legal p m)
     → IsTrue (list_all (λ c. is_san_byte c) (san p m))
 
+-- the SAN of a legal move of a sound position begins with a letter, as no move number and no result in PGN does
 abbrev pub SanBeginsWithLetter : Type 0
 SanBeginsWithLetter = (p : Setup) → (m : Move) → IsSound p → IsTrue (is_legal p m)
     → IsTrue (begins_with_letter (san p m))
 
--- a text is read as a legal move, if as any
+-- if a text is read as a move, this move is legal
 abbrev pub ReadMovesAreLegal : Type 0
 ReadMovesAreLegal = (p : Setup) → (text : List ℕ) → (m : Move) → reading p text ≡ reads.Move m → IsTrue (is_legal p m)
 
--- the same of coordinates
+-- the coordinate text (e2e4) of a legal move of a sound position denotes that move, and no other legal move
 abbrev pub CoordinateSpellsItsMove : Type 0
 CoordinateSpellsItsMove = (p : Setup) → (m : Move) → IsSound p → IsTrue (is_legal p m) → SpellsAlone p (coordinate m) m
 
+-- the coordinate text of a legal move of a sound position has the shape of a move
 abbrev pub CoordinateHasShape : Type 0
 CoordinateHasShape = (p : Setup) → (m : Move) → IsSound p → IsTrue (is_legal p m) → IsTrue (shape (coordinate m))
 
+-- the coordinate text of a legal move of a sound position is read as that move
 abbrev pub CoordinateIsReadBack : Type 0
 CoordinateIsReadBack = (p : Setup) → (m : Move) → IsSound p → IsTrue (is_legal p m)
     → reading p (coordinate m) ≡ reads.Move m
 
--- and of the text that lists and lines of moves show
+-- the text by which lists of moves show a legal move of a sound position denotes that move, and no other legal move
 abbrev pub ShownMoveSpellsItsMove : Type 0
 ShownMoveSpellsItsMove = (p : Setup) → (m : Move) → IsSound p → IsTrue (is_legal p m) → SpellsAlone p (shown_move p m) m
 
+-- the text by which lists of moves show a legal move of a sound position has the shape of a move
 abbrev pub ShownMoveHasShape : Type 0
 ShownMoveHasShape = (p : Setup) → (m : Move) → IsSound p → IsTrue (is_legal p m) → IsTrue (shape (shown_move p m))
 
+-- the text by which lists of moves show a legal move of a sound position is read as that move
 abbrev pub ShownMoveIsReadBack : Type 0
 ShownMoveIsReadBack = (p : Setup) → (m : Move) → IsSound p → IsTrue (is_legal p m)
     → reading p (shown_move p m) ≡ reads.Move m
 
--- the code reads parts of a text exactly where it is the text of these
+-- if `parts_at`, by which code reads, finds the parts q in a text, then q can be the parts of a text, and it is the
+-- text of q
 abbrev pub PartsAreTheTexts : Type 0
 PartsAreTheTexts = (text : List ℕ) → (q : Parts) → parts_at text ≡ Some q → AreParts q × (text ≡ parts_text q)
 
+-- in the text of parts q, which can be the parts of a text, `parts_at`, by which code reads, finds q
 abbrev pub PartsAreRead : Type 0
 PartsAreRead = (q : Parts) → AreParts q → parts_at (parts_text q) ≡ Some q
 
@@ -113,14 +126,17 @@ IsSpelled text d =
     ((w : CastlingSide) × (d.castles ≡ Some w) × IsTrue (is_castling_text text w))
     ⊎ ((q : Parts) × IfSome q.letter HasLetter × (unmarked text ≡ parts_text q) × IsTrue (parts_fit q d))
 
+-- what `spells_described` finds by the list of all parts is what `IsSpelled` says without it
 abbrev pub SpelledByText : Type 0
 SpelledByText = (text : List ℕ) → (d : Described) → IsTrue (spells_described text d) ↔ IsSpelled text d
 
--- a text has a move's shape where it names castling, or is without marks the text of parts that have a form
+-- the text has the shape of a move: it denotes castling, or it is, without its marks, the text of parts of a form. This
+-- is said without the list of all parts
 abbrev pub IsShaped : List ℕ → Type 0
 IsShaped text =
     ((w : CastlingSide) × IsTrue (is_castling_text text w))
     ⊎ ((q : Parts) × AreParts q × (unmarked text ≡ parts_text q) × IsTrue (is_form q))
 
+-- what `shape` finds by the list of all parts is what `IsShaped` says without it
 abbrev pub ShapedByText : Type 0
 ShapedByText = (text : List ℕ) → IsTrue (shape text) ↔ IsShaped text

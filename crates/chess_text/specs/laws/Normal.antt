@@ -17,7 +17,7 @@ use Rattle.chess_text.specs.Moves.{captures, passes, shape, spells_described, on
 use Rattle.chess_text.specs.Parts.{when}
 use Rattle.chess_text.specs.San.{unmarked_san, san, shown_move}
 
--- all legal moves, in their order
+-- all legal moves of position p, rising by start square, end square and promotion
 unfoldable pub normal_moves : Setup → List Move
 normal_moves p = filter (λ m. normal_is_legal p m) all_triples
 
@@ -35,26 +35,29 @@ normal_described p m =
       castles = normal_castling p m;
     }) (man_at p.men m.from)
 
--- the text denotes this move of the position
+-- the text denotes move m in position p
 unfoldable pub normal_spells : Setup → List ℕ → Move → Bool
 normal_spells p text m = passes (spells_described text) (normal_described p m)
 
--- what a text is in a position, by the legal moves that it denotes
+-- what a text is read as in position p: `NotAMove` if it hasn't the shape of a move; else the legal move that it
+-- denotes, `Ambiguous` if it denotes several, `NoSuch` if it denotes none
 unfoldable pub normal_reading : Setup → List ℕ → Reading
 normal_reading p text = if shape text then one_of (filter (λ m. normal_spells p text m) (normal_moves p)) else NotAMove
 
 -- ---- written
 
--- a move of a piece of the same kind to the same square from another one
+-- move m goes to the end square of the move d with a piece of the same kind, but from another square; so SAN has to
+-- distinguish d from it
 unfoldable pub normal_is_rival : Setup → Described → Move → Bool
 normal_is_rival p d m =
     (m.to == d.to) && not (m.from == d.from) && passes (λ e. same_kind e.man d.man) (normal_described p m)
 
--- where such moves start
+-- the start squares of the legal moves that go to the end square of the move d with a piece of the same kind, but from
+-- another square
 unfoldable pub normal_rival_starts : Setup → Described → List ℕ
 normal_rival_starts p d = map (λ m. m.from) (filter (λ m. normal_is_rival p d m) (normal_moves p))
 
--- `#` where the position is mate, `+` where it is check
+-- the mark for the position p that a move leads to: `#` for mate, `+` for check, else nothing
 unfoldable pub normal_check_mark : Setup → List ℕ
 normal_check_mark p =
     when (is_in_check p.men p.side) (if length (normal_moves p) == 0 then codes "#" else codes "+")
@@ -64,8 +67,8 @@ unfoldable pub normal_san : Setup → Move → List ℕ
 normal_san p m = optional (λ d. unmarked_san (normal_rival_starts p d) d ++ normal_check_mark (normal_after p m))
     (normal_described p m)
 
--- on positions of normal chess what is said of both variants is this; lists and lines of moves show all by their
--- squares
+-- on position p of normal chess, the definitions for both variants agree with those of this file, and lists of moves
+-- show each move by its squares
 pub record NormalIsKept (p : Setup) : Type 0 where
   pub moves : moves p ≡ normal_moves p
   pub reading : (text : List ℕ) → reading p text ≡ normal_reading p text

@@ -17,37 +17,38 @@ lettered_kinds = King ∷ Queen ∷ Rook ∷ Bishop ∷ Knight ∷ []
 abbrev pub promoted : List Kind
 promoted = Queen ∷ Rook ∷ Bishop ∷ Knight ∷ []
 
--- the kind of this letter
+-- the one of these kinds whose capital letter is the byte c, if there is one
 abbrev pub kind_from : List Kind → ℕ → Option Kind
 kind_from kinds c = find (λ k. white_letter k == c) kinds
 
--- from `a` to `h`
+-- the byte is a file's letter, `a` to `h`
 abbrev pub is_file_letter : ℕ → Bool
 is_file_letter c = nat_le (byte "a") c && nat_le c (byte "h")
 
--- from `1` to `8`
+-- the byte is a rank's digit, `1` to `8`
 abbrev pub is_rank_digit : ℕ → Bool
 is_rank_digit c = nat_le (byte "1") c && nat_le c (byte "8")
 
--- the first that is there
+-- the first value if it is there, else the second
 abbrev pub or_else : {A : Type 0} → Option A → Option A → Option A
 or_else (Some x) o = Some x
 or_else None o = o
 
--- the promotion that a letter names, capital or small, after `=` or not
+-- the promotion with the letter c, capital or small, and with `=` before it or not; none if c names no such piece
 abbrev pub promotion_by : Bool → ℕ → Option Promotion
 promotion_by equals c =
     or_else (option_map (λ k. record { kind = k; equals = equals; small = false }) (kind_from promoted c))
     (option_map (λ k. record { kind = k; equals = equals; small = true }) (kind_from promoted (c - 32)))
 
--- what the pawn becomes, where that is all that is left: some or none
+-- what the text after the end square denotes: no promotion if it is empty (`Some None`), else a promotion, and nothing
+-- more may follow; none if it is neither
 abbrev pub promotion_at : List ℕ → Option (Option Promotion)
 promotion_at [] = Some None
 promotion_at (c ∷ []) = option_map Some (promotion_by false c)
 promotion_at (c ∷ d ∷ []) = if c == byte "=" then option_map Some (promotion_by true d) else None
 promotion_at (c ∷ d ∷ e ∷ cs) = None
 
--- the end square, and what the pawn becomes after it
+-- the last part of a move's text, if the text left is that: the end square and perhaps a promotion, as e8=Q
 abbrev pub end_at : List ℕ → Option End
 end_at [] = None
 end_at (f ∷ []) = None
@@ -56,36 +57,39 @@ end_at (f ∷ r ∷ rest) =
     then option_map (λ p. record { to = 8 * (r - byte "1") + (f - byte "a"); promotion = p }) (promotion_at rest)
     else None
 
--- an `x` or none, and the end
+-- whether the text left begins with `x`, and the last part after it; none if no last part follows
 abbrev pub takes_at : List ℕ → Option (Bool × End)
 takes_at [] = None
 takes_at (c ∷ rest) = if c == byte "x" then option_map (λ e. (true, e)) (end_at rest) else option_map (λ e. (false, e))
     (end_at (c ∷ rest))
 
--- a rank or none, and what follows
+-- the start square's rank, if the text left begins with a rank's digit, and what follows it: `x` or none, and the last
+-- part
 abbrev pub rank_at : List ℕ → Option (Option ℕ × Bool × End)
 rank_at [] = None
 rank_at (c ∷ rest) =
     if is_rank_digit c then option_map (λ (x : Bool × End). (Some (c - byte "1"), x.0, x.1)) (takes_at rest)
     else option_map (λ (x : Bool × End). (None, x.0, x.1)) (takes_at (c ∷ rest))
 
--- these parts, together
+-- the parts with this letter and start file, and with the rank, the `x` and the last part of x
 abbrev pub with_parts : Option Kind → Option ℕ → Option ℕ × Bool × End → Parts
 with_parts letter file x = record { letter = letter; file = file; rank = x.0; takes = x.1; end = x.2 }
 
--- a file is one of the start only where a square follows
+-- the parts after a piece's letter. Their first file letter belongs to the end square if the text can be read so (e4),
+-- else it is the start square's file (exd5)
 abbrev pub file_at : Option Kind → List ℕ → Option Parts
 file_at letter [] = None
 file_at letter (c ∷ rest) =
     or_else (option_map (with_parts letter None) (rank_at (c ∷ rest)))
     (if is_file_letter c then option_map (with_parts letter (Some (c - byte "a"))) (rank_at rest) else None)
 
--- the parts after a piece's letter, or where there is none
+-- the parts of a text of first byte c and the rest: c is a piece's letter if a kind is given, else it belongs to the
+-- parts after it
 abbrev pub at_letter : Option Kind → ℕ → List ℕ → Option Parts
 at_letter None c rest = file_at None (c ∷ rest)
 at_letter (Some k) c rest = file_at (Some k) rest
 
--- the parts whose text it is, if there are such
+-- the parts of a move's text without marks; none if it has no such parts
 abbrev pub parts_at : List ℕ → Option Parts
 parts_at [] = None
 parts_at (c ∷ rest) = at_letter (kind_from lettered_kinds c) c rest

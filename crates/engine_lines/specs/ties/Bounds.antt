@@ -4,13 +4,13 @@ use Rattle.engine_lines.specs.Levels.{LevelSeen, allotted}
 use Rattle.chess_game.specs.declared.game.TheConstants.{MOST_MOVES}
 use Rattle.engine_lines.specs.Clocks.{Spent}
 
--- no number of a level is greater than can be written
+-- the numbers of a time control are within what a text can denote: 999 moves, 999 minutes and 59 seconds, 999 seconds
 pub record IsLevel (level : LevelSeen) : Type 0 where
   pub moves : level.moves ≤ 999
   pub base : level.base ≤ 59999
   pub increment : level.increment ≤ 999
 
--- no side used more than it was given
+-- a side used no more time than the time control gave it, and made at most 20,000 moves
 pub record IsWithin (level : LevelSeen) (s : Spent) : Type 0 where
   pub moves : s.moves ≤ MOST_MOVES
   pub used : s.used ≤ allotted level s.moves

@@ -7,31 +7,33 @@ use Rattle.pgn_pieces.specs.declared.pieces.PieceFault.TheVariants.{ReadFailed, 
 use Rattle.pgn_pieces.specs.Pieces.{piece_at}
 use Rattle.pgn_pieces.specs.Stream.{State, past_piece, current, pieces_after_part, pieces_held}
 
--- the first so many of the bytes that are held after the piece come to it
+-- the next `n` of the bytes that were read become part of the current piece
 abbrev pub passed : ℕ → State → State
 passed n s =
     record { offset = s.offset; part = s.part ++ take n s.coming; coming = drop n s.coming; ended = s.ended }
 
--- however the text goes on, the pieces are the same
+-- both states, `s` before a step and `s'` after it, have the same pieces to come, however the input goes on
 abbrev pub SamePieces : State → State → Type 0
 SamePieces s s' = (ended : Bool) (rest : List ℕ) → pieces_held ended s rest ≡ pieces_held ended s' rest
 
--- the piece is the first of the pieces
+-- the current piece of `s'` is the first of those that `s` has to come, however the input goes on
 abbrev pub IsNext : State → State → Type 0
 IsNext s s' = (ended : Bool) (rest : List ℕ)
     → pieces_held ended s rest ≡ current s' ∷ pieces_held ended (past_piece s') rest
 
--- a byte 10 is among these bytes
+-- whether `\n` is among these bytes
 abbrev pub has_line_end : List ℕ → Bool
 has_line_end = list_any (λ c. c == 10)
 
--- no piece ends from one offset of a text to another: however the text goes on, the pieces are the same
+-- skipping from the offset `a` of a text to `b` leaves out no end of a piece: however the text goes on, the pieces
+-- are the same
 abbrev pub Passes : List ℕ → ℕ → ℕ → Type 0
 Passes text a b = (ended : Bool) (offset : ℕ) (part rest : List ℕ)
     → pieces_after_part ended offset (part ++ take a text) (drop a text ++ rest)
     ≡ pieces_after_part ended offset (part ++ take b text) (drop b text ++ rest)
 
--- the first so many bytes of a text belong to its piece, which ends there; or all but the last seven do, and it goes on
+-- what looking for a piece's end in a text found: it ends after `n` bytes, or it has all bytes but the last seven,
+-- which may be the beginning of a cut `[Event `
 abbrev pub EndsAfter : List ℕ → Option ℕ → Type 0
 EndsAfter text (Some n) = (0 < n) × (n ≤ length text)
     × ((ended : Bool) (offset : ℕ) (part rest : List ℕ)
@@ -42,23 +44,25 @@ EndsAfter text None = (ended : Bool) (offset : ℕ) (part rest : List ℕ)
     → pieces_after_part ended offset part (text ++ rest)
     ≡ pieces_after_part ended offset (part ++ take (length text - 7) text) (drop (length text - 7) text ++ rest)
 
--- the piece begins where it began, and as many bytes are held
+-- a step from the state `s` to `s'` changed neither the piece's offset nor how many bytes are held
 pub record Keeps (s s' : State) : Type 0 where
   pub offset : s'.offset ≡ s.offset
   pub ended : s'.ended ≡ s.ended
   pub all : length s'.part + length s'.coming ≡ length s.part + length s.coming
 
--- the end of the piece is looked for in what is held
+-- what looking for the piece's end does to the state: `true`, `s'` has the whole piece; `false`, it goes on, and at
+-- most seven bytes are not yet part of it
 abbrev pub FindsEnd : State → State → Bool → Type 0
 FindsEnd s s' true = Keeps s s' × IsNext s s' × (0 < length s'.part)
 FindsEnd s s' false = Keeps s s' × SamePieces s s' × (length s'.coming ≤ 7)
 
--- these bytes are held after the others; none where the input has ended
+-- the state after a read that gave these bytes; a read without bytes means the input's end
 abbrev pub with_more : List ℕ → State → State
 with_more more s =
     record { offset = s.offset; part = s.part; coming = s.coming ++ more; ended = length more == 0 }
 
--- a read gave bytes, or there was none
+-- a read of the input, from its state `r` to `r'`, takes the state `s` to `s'`: its bytes were added, or there is a
+-- fault and `s'` is `s`
 abbrev pub Adds : {A : Type 0} → State → State → InputState → InputState → Result A PieceFault → Type 0
 Adds s s' r r' (Ok _) = (more : List ℕ) × GavePiece r r' more × (s' ≡ with_more more s)
 Adds s s' r r' (Err ReadFailed) = FailedToRead r r' × (s' ≡ s)

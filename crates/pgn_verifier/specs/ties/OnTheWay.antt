@@ -15,20 +15,23 @@ use Rattle.pgn_verifier.specs.Verify.{text_lines}
 use Rattle.pgn_verifier.specs.Collection.{collection_reports, collection_lines, VerifiesCollection}
 use Rattle.pgn_verifier.specs.declared.report.Report.{Report}
 
--- why not all of the input was read: a read failed, there are more than 16,777,216 bytes, or we ran out of memory
+-- why, between the input's states `r` and `r'`, not all of it was read: a read failed, memory ran out, or it has more
+-- than 16,777,216 bytes
 abbrev pub IsNotAll : InputState → InputState → VerifyFault → Type 0
 IsNotAll r r' ReadFailed = (text : List ℕ) × BrokeOff r r' text
 IsNotAll r r' WriteFailed = ⊥
 IsNotAll r r' NoMemory = (text : List ℕ) × HasRead false r r' text
 IsNotAll r r' InputTooLong = (text : List ℕ) × HasRead false r r' text × (PIECE_LEN < length text)
 
--- the lines of a text were written and flushed; where the writer failed, a beginning of them was written
+-- between the output's states `w` and `w'` the lines of a text were written and flushed; or a write failed, and a
+-- beginning of them was written
 abbrev pub WritesText : {E : Type 0} → VerifyOptions → List ℕ → OutputState → OutputState → Result Verified E → Type 0
 WritesText options text w w' (Ok verdict) =
     (verdict ≡ verified (counts_of (reports_on options.strict 0 text))) × Sent w w' (text_lines options text)
 WritesText options text w w' (Err e) = BreaksOff w w' (text_lines options text)
 
--- the lines of all pieces were written, and their reports counted
+-- from the input's state `r` to `r'` and the output's `w` to `w'`, the lines of all pieces were written, and their
+-- reports counted; the line of counts is still to be written
 abbrev pub WritesCollection : VerifyOptions → InputState → InputState → OutputState → OutputState
     → Result Tally VerifyFault → Type 0
 WritesCollection options r r' w w' (Ok tally) =
@@ -48,18 +51,18 @@ reports_of strict pieces = flat_map (reports_in strict) pieces
 abbrev pub counted : Tally → List Report → Tally
 counted t reports = fold with_report t reports
 
--- the number of the next game
+-- the number of the next game, after these counts
 abbrev pub next_number : Tally → ℕ
 next_number before = before.games + before.faults + 1
 
--- the lines of reports were written, and they were counted; where the writer failed, a beginning of the lines was
--- written
+-- between the output's states `w` and `w'` the lines of these reports were written, and the reports counted on top of
+-- `before`; or a write failed, and a beginning of the lines was written
 abbrev pub Writes : {E : Type 0} → Bool → Tally → OutputState → OutputState → Result Tally E → List Report → Type 0
 Writes quiet before w w' (Ok after) reports =
     Took w w' (lines_of quiet (next_number before) reports) × (after ≡ counted before reports)
 Writes quiet before w w' (Err e) reports = BreaksOff w w' (lines_of quiet (next_number before) reports)
 
--- a text of so many bytes has no more half-moves than bytes, and at most one report more
+-- a text of `len` bytes adds at most as many half-moves to the counts, and at most one report more than it has bytes
 pub record GrowsBy (len : ℕ) (before after : Tally) : Type 0 where
   pub reports : after.games + after.faults ≤ before.games + before.faults + len + 1
   pub half_moves : after.half_moves ≤ before.half_moves + len
