@@ -1,5 +1,5 @@
--- The rivals of the move of a piece that has a letter begin on the squares from which another piece of its kind has the legal move to the
--- end square.
+-- The rivals of a move of a piece other than a pawn begin on the squares from which another piece of its kind has the
+-- legal move to the end square.
 use mathlib.Core.Bool.{and-false}
 use Rattle.std.proofs.Common.{◌≡◌, ◌≢◌, ℕ, zero, suc, ◌<◌, ◌+◌, ◌≤◌, inl, inr, Bool, true, false, not, ◌&&◌, ◌==◌, if◌then◌else◌, cond, Some, None, List, [], ◌∷◌, ◌++◌, map, refl, sym, ap, ◌∙◌, arith}
 use Rattle.std.proofs.lemmas.Bool.{cases_Bool, and_parts, false_from_ne_true, eqb-true, eq-eqb}
@@ -162,7 +162,7 @@ rivals p d w s v other legal_starts single without =
     from : ℕ → List Move
     from a = filter (legal_rival p d) (flat_map (λ b. map (triple a b) promotions) squares)
 
--- ---- what is said of the start
+-- ---- what is written of the start
 
 some_member : (w : ℕ) → some_square (λ k. has w k) ≡ true → list_any (λ s. true) (members w) ≡ true
 unfolding members
@@ -197,9 +197,9 @@ beside_others from w empty is off = by_others from (members w) (some_member w (o
     by_others from [] h = absurd cc
     by_others from (x ∷ xs) h = refl
 
-pub file_said : (from f w : ℕ) (empty on : Bool) → empty ≡ not (some_square (λ k. has w k)) → empty ≡ false
+pub file_written : (from f w : ℕ) (empty on : Bool) → empty ≡ not (some_square (λ k. has w k)) → empty ≡ false
     → f ≡ file from → on ≡ some_on_file f (members w) → on ≡ false → distinction true false ≡ disambiguate from (members w)
-file_said from f w empty on is full at found off =
+file_written from f w empty on is full at found off =
     let none : some_on_file (file from) (members w) ≡ false = ap (λ n. some_on_file n (members w)) (sym at) ∙ sym found
     ∙ off in
     sym (ap (λ b. if not b then distinction true false

@@ -108,13 +108,13 @@ pawn_is : (p : Setup) (m : Move) (k : Kind)
     → pawn_parts (told_of p m k) ≡ pawn_named (captures p m) m.from m.to (written true false m.promotion)
 pawn_is p m k = ap (pawn_named (captures p m) m.from m.to) (as_written m.promotion)
 
-said_file : (c : Bool) (s : ℕ) → IfSome (if_written c (file s)) (λ f. f < 8)
-said_file true s = omega arith
-said_file false s = tt
+written_file : (c : Bool) (s : ℕ) → IfSome (if_written c (file s)) (λ f. f < 8)
+written_file true s = omega arith
+written_file false s = tt
 
-said_rank : (c : Bool) (s : ℕ) → s < 64 → IfSome (if_written c (rank s)) (λ r. r < 8)
-said_rank true s h = omega arith
-said_rank false s h = tt
+written_rank : (c : Bool) (s : ℕ) → s < 64 → IfSome (if_written c (rank s)) (λ r. r < 8)
+written_rank true s h = omega arith
+written_rank false s h = tt
 
 promotion_part : (o : Option Kind) → IfSome o CanPromote → IfSome (written true false o) (λ p. CanPromote p.kind)
 promotion_part None h = tt
@@ -124,7 +124,7 @@ pawn_are_parts : (c : Bool) (from to : ℕ) (o : Option Kind) → to < 64 → If
     → AreParts (pawn_named c from to (written true false o))
 pawn_are_parts c from to o h k = record {
   letter_is = tt;
-  file_is = said_file c from;
+  file_is = written_file c from;
   rank_is = tt;
   to_is = h;
   promotion_is = promotion_part o k;
@@ -304,8 +304,8 @@ lettered_are_parts : (k : Kind) (start : Disambiguation) (c : Bool) (from to : �
 lettered_are_parts k start c from to lettered f t =
     record {
       letter_is = lettered;
-      file_is = said_file start.file from;
-      rank_is = said_rank start.rank from f;
+      file_is = written_file start.file from;
+      rank_is = written_rank start.rank from f;
       to_is = t;
       promotion_is = tt;
     }
@@ -435,17 +435,17 @@ pawn_word false from to (Some k) = record { short = omega arith; long = omega ar
 
 lettered_word : (k : Kind) (start : Disambiguation) (c : Bool) (from to : ℕ)
     → IsWord (parts_text (lettered_named k start c from to))
-lettered_word k start c from to = by_said start.file start.rank c
+lettered_word k start c from to = by_written start.file start.rank c
   where
-    by_said : (f r c : Bool) → IsWord (parts_text (lettered_named k (record { file = f; rank = r }) c from to))
-    by_said true true true = record { short = omega arith; long = omega arith; letter = man_letter k }
-    by_said true true false = record { short = omega arith; long = omega arith; letter = man_letter k }
-    by_said true false true = record { short = omega arith; long = omega arith; letter = man_letter k }
-    by_said true false false = record { short = omega arith; long = omega arith; letter = man_letter k }
-    by_said false true true = record { short = omega arith; long = omega arith; letter = man_letter k }
-    by_said false true false = record { short = omega arith; long = omega arith; letter = man_letter k }
-    by_said false false true = record { short = omega arith; long = omega arith; letter = man_letter k }
-    by_said false false false = record { short = omega arith; long = omega arith; letter = man_letter k }
+    by_written : (f r c : Bool) → IsWord (parts_text (lettered_named k (record { file = f; rank = r }) c from to))
+    by_written true true true = record { short = omega arith; long = omega arith; letter = man_letter k }
+    by_written true true false = record { short = omega arith; long = omega arith; letter = man_letter k }
+    by_written true false true = record { short = omega arith; long = omega arith; letter = man_letter k }
+    by_written true false false = record { short = omega arith; long = omega arith; letter = man_letter k }
+    by_written false true true = record { short = omega arith; long = omega arith; letter = man_letter k }
+    by_written false true false = record { short = omega arith; long = omega arith; letter = man_letter k }
+    by_written false false true = record { short = omega arith; long = omega arith; letter = man_letter k }
+    by_written false false false = record { short = omega arith; long = omega arith; letter = man_letter k }
 
 -- the text without its mark has these parts, which fit the move alone
 record HasParts (p : Setup) (m : Move) (k : Kind) (q : Parts) : Type 0 where
@@ -486,19 +486,19 @@ lettered_by p m h walks k lettered is =
     let none = no_promotion p m k lettered so in
     along p m k _ _ (lettered_is p m k (rivals p m k) none) (lettered_parts_of p m k lettered walks none h.from_in h.to_in)
 
-walk_by : (p : Setup) (m : Move) → IsSound p → (h : IsMove p m) → castling p m ≡ None → (k : Kind) → h.man ≡ k
+piece_by : (p : Setup) (m : Move) → IsSound p → (h : IsMove p m) → castling p m ≡ None → (k : Kind) → h.man ≡ k
     → HasParts p m k (piece_parts (rivals p m k) (told_of p m k))
 unfolding piece_parts
-walk_by p m sound h walks Pawn is = along p m Pawn _ _ (pawn_is p m Pawn) (pawn_parts_of p m sound h is)
-walk_by p m sound h walks King is = lettered_by p m h walks King tt is
-walk_by p m sound h walks Queen is = lettered_by p m h walks Queen tt is
-walk_by p m sound h walks Rook is = lettered_by p m h walks Rook tt is
-walk_by p m sound h walks Bishop is = lettered_by p m h walks Bishop tt is
-walk_by p m sound h walks Knight is = lettered_by p m h walks Knight tt is
+piece_by p m sound h walks Pawn is = along p m Pawn _ _ (pawn_is p m Pawn) (pawn_parts_of p m sound h is)
+piece_by p m sound h walks King is = lettered_by p m h walks King tt is
+piece_by p m sound h walks Queen is = lettered_by p m h walks Queen tt is
+piece_by p m sound h walks Rook is = lettered_by p m h walks Rook tt is
+piece_by p m sound h walks Bishop is = lettered_by p m h walks Bishop tt is
+piece_by p m sound h walks Knight is = lettered_by p m h walks Knight tt is
 
-walk_has_parts : (p : Setup) (m : Move) → IsSound p → (h : IsMove p m) → castling p m ≡ None
+piece_has_parts : (p : Setup) (m : Move) → IsSound p → (h : IsMove p m) → castling p m ≡ None
     → HasParts p m h.man (piece_parts (rivals p m h.man) (told_of p m h.man))
-walk_has_parts p m sound h walks = walk_by p m sound h walks h.man refl
+piece_has_parts p m sound h walks = piece_by p m sound h walks h.man refl
 
 san_text : (p : Setup) (m : Move) (h : IsMove p m)
     → san p m ≡ option_map_or castling_text (castling p m) (piece_text (rivals p m h.man) (told_of p m h.man)) ++ check_mark (after p m)
@@ -529,9 +529,9 @@ castling_law p m text w sound h e bare =
       );
     }
 
-walk_law : (p : Setup) (m : Move) (text : List ℕ) (q : Parts) (h : IsMove p m) → HasParts p m h.man q
+piece_law : (p : Setup) (m : Move) (text : List ℕ) (q : Parts) (h : IsMove p m) → HasParts p m h.man q
     → unmarked text ≡ parts_text q → Law p m text
-walk_law p m text q h parts bare = record {
+piece_law p m text q h parts bare = record {
   has_shape = shape_parts text q bare parts.are parts.form;
   alone = (
     spells_move p text m h ∙ spelled_parts text q (told_of p m h.man) bare parts.are ∙ parts.fits_it,
@@ -552,10 +552,10 @@ law_by p m text sound h (Some w) e is = (
 )
 law_by p m text sound h None e is =
     let q = piece_parts (rivals p m h.man) (told_of p m h.man) in
-    let parts = walk_has_parts p m sound h e in
+    let parts = piece_has_parts p m sound h e in
     let written : text ≡ parts_text q ++ check_mark (after p m) =
     is ∙ ap (λ v. v ++ check_mark (after p m)) (piece_written (rivals p m h.man) (told_of p m h.man)) in (
-      walk_law p m text q h parts (ap unmarked written ∙ bare_marked (after p m) (parts_text q)
+      piece_law p m text q h parts (ap unmarked written ∙ bare_marked (after p m) (parts_text q)
           (bare_parts q parts.are.to_is)),
       marked_word (after p m) (parts_text q) text parts.word (parts_bytes q parts.are) written,
     )

@@ -1,4 +1,4 @@
--- What is said of a start square.
+-- What is written of a start square.
 use Rattle.std.proofs.Common.{◌≡◌, ◌≢◌, ℕ, Bool, true, false, not, cond, List, [], ◌∷◌, refl, ap, arith}
 use Rattle.std.proofs.lemmas.Bool.{eqb-true, eq-eqb}
 use Rattle.chess_base.specs.Squares.{file, rank}

@@ -70,8 +70,8 @@ texts_by_letter d =
     else for_each (start_texts d.from) (λ start. for_each (capture_texts d.captures) (λ takes.
     (kind_text d.man ++ (start ++ (takes ++ square_text d.to))) ∷ []))
 
--- what a pawn's text has before the end square: nothing, if the pawn stays on its file; or its file or its square, and
--- perhaps `x`
+-- what may come before the end square of a pawn's move: nothing, if the pawn stays on its file; or, in any case, its file
+-- or its start square, and `x` for a capture
 abbrev pub pawn_starts : Described → List (List ℕ)
 pawn_starts d =
     (if file d.from == file d.to then [] ∷ [] else [])
@@ -99,17 +99,18 @@ is_castling_text text w = list_any (bytes_eq (unmarked text)) (castling_texts w)
 abbrev pub passes : {A : Type 0} → (A → Bool) → Option A → Bool
 passes test o = option_map_or test o false
 
--- without its marks, the text denotes the move that is described: as castling, by two squares, by a letter, or as a pawn's
+-- without its marks, the text is one of those of the move that is described: as castling, by its squares, by its letter,
+-- or as a pawn's move
 unfoldable pub spells_described : List ℕ → Described → Bool
 spells_described text d = passes (is_castling_text text) d.castles
     || list_any (bytes_eq (unmarked text)) (texts_by_squares d ++ (texts_by_letter d ++ texts_of_pawn d))
 
--- all descriptions of moves, whether or not there is such a move: any piece, from any square to any other
+-- all descriptions of moves, whether or not there are such moves
 unfoldable pub all_described : List Described
 all_described =
-    for_each (King ∷ Queen ∷ Rook ∷ Bishop ∷ Knight ∷ Pawn ∷ []) (λ man. for_each squares (λ from. for_each squares (λ to.
-    for_each promotions (λ promotion. for_each (false ∷ true ∷ []) (λ takes.
-    for_each (None ∷ Some KingSide ∷ Some QueenSide ∷ []) (λ castles.
+    for_each (King ∷ Queen ∷ Rook ∷ Bishop ∷ Knight ∷ Pawn ∷ []) (λ man.
+    for_each squares (λ from. for_each squares (λ to. for_each promotions (λ promotion.
+    for_each (false ∷ true ∷ []) (λ takes. for_each (None ∷ Some KingSide ∷ Some QueenSide ∷ []) (λ castles.
     record { man = man; from = from; to = to; promotion = promotion; captures = takes; castles = castles } ∷ []))))))
 
 -- the text has a move's shape: it denotes a move of some description

@@ -37,8 +37,8 @@ is_rival p d m = (m.to == d.to) && not (m.from == d.from) && passes (λ e. same_
 unfoldable pub rival_starts : Setup → List Move → Described → List ℕ
 rival_starts p ms d = map (λ m. m.from) (filter (λ m. is_rival p d m) ms)
 
--- what distinguishes a start square from those of the rivals (8.2.3.4): nothing where there are none; its file where none
--- is on it; else its rank where none is on it; else both
+-- what distinguishes a start square from those of the rivals (8.2.3.4): nothing where there are none; its file where no
+-- rival is on it; else its rank where no rival is on it; else both
 abbrev pub start_text : ℕ → List ℕ → List ℕ
 start_text from [] = []
 start_text from (other ∷ others) =
