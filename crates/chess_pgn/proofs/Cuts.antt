@@ -5,7 +5,7 @@ use Rattle.std.specs.List.{prefix_len, take_while}
 use Rattle.std.proofs.lemmas.Bool.Decides.{nat_tests}
 use Rattle.std.proofs.lemmas.List.{take-append-drop}
 use Rattle.chess_pgn.specs.Tokens.{Token, Unclosed_comment, Unclosed_variation, is_white_space, is_word_byte, is_name_byte, after_brace, after_gap, string_at, onto, after_byte, after_next, variation_at, comment_at, token_at}
-use Rattle.chess_pgn.specs.ties.TagParts.{closed, with_text, with_string, with_name, tag_by_parts}
+use Rattle.chess_pgn.specs.ties.TagParts.{closed, with_text, with_string, with_tag_name, tag_by_parts}
 use Rattle.chess_base.specs.Letters.{is_digit}
 use Rattle.chess_pgn.proofs.TagParts.{parts_are}
 
@@ -190,7 +190,7 @@ string_left name from None h = inl refl
 string_left name from (Some string) h = suffix_left from string _ (cut_suffix from string h)
     (text_left name string (length string) (string_at string) (string_suffix string))
 
-pub name_left : (name from : List ℕ) → LeavesOf from (with_name name from)
+pub name_left : (name from : List ℕ) → LeavesOf from (with_tag_name name from)
 name_left [] from = inl refl
 name_left (n ∷ ns) from = string_left (n ∷ ns) from (after_next 34 from) (next_cut 34 from refl)
 
@@ -198,7 +198,7 @@ tag_left : (text : List ℕ) → LeavesOf text (tag_by_parts text)
 tag_left text = by_name (after_gap false false text) (gap_suffix false false text)
   where
     by_name : (inner : List ℕ) → Suffix text inner
-        → LeavesOf text (with_name (take_while is_name_byte inner) (drop (prefix_len is_name_byte inner) inner))
+        → LeavesOf text (with_tag_name (take_while is_name_byte inner) (drop (prefix_len is_name_byte inner) inner))
     by_name inner h =
         let n : ℕ = prefix_len is_name_byte inner in
         suffix_left text (drop n inner) _ (suffix_then text inner (drop n inner) h

@@ -4,7 +4,7 @@ use Rattle.std.specs.List.{list_all, prefix_len, take_while, AllByRecursion}
 use Rattle.std.proofs.lemmas.Bool.{and_parts, and_from, or_parts}
 use Rattle.std.proofs.lemmas.Bool.Decides.{nat_tests}
 use Rattle.chess_pgn.specs.Tokens.{Tag, is_name_byte, after_gap, string_at, onto, token_at}
-use Rattle.chess_pgn.specs.ties.TagParts.{with_text, with_name, tag_by_parts}
+use Rattle.chess_pgn.specs.ties.TagParts.{with_text, with_tag_name, tag_by_parts}
 use Rattle.chess_pgn.specs.Written.{IsTagText, escaped, tag_line}
 use Rattle.chess_pgn.proofs.PgnWords.{whole_run, not_byte, no_percent}
 use Rattle.chess_pgn.proofs.TagParts.{parts_are}
@@ -95,7 +95,7 @@ no_gap n rest h =
     ) refl
 
 with_name_written : (n : ℕ) (ns text rest : List ℕ) → list_all is_in_line text ≡ true
-    → with_name (n ∷ ns) (32 ∷ 34 ∷ (escaped text ++ 34 ∷ 93 ∷ rest))
+    → with_tag_name (n ∷ ns) (32 ∷ 34 ∷ (escaped text ++ 34 ∷ 93 ∷ rest))
     ≡ (Tag (n ∷ ns) (escaped text) (length (escaped text ++ 34 ∷ 93 ∷ rest)), rest)
 with_name_written n ns text rest h = ap (with_text (n ∷ ns) (length (escaped text ++ 34 ∷ 93 ∷ rest)))
     (string_written text (93 ∷ rest) h)
@@ -108,10 +108,10 @@ tag_written n ns text rest name h =
     let inner : List ℕ = n ∷ (ns ++ 32 ∷ behind) in
     let both = and_parts (is_name_byte n) (list_all is_name_byte ns) name in
     let run = whole_run is_name_byte (n ∷ ns) 32 behind name refl in
-    ap (λ xs. with_name (take_while is_name_byte xs) (drop (prefix_len is_name_byte xs) xs))
+    ap (λ xs. with_tag_name (take_while is_name_byte xs) (drop (prefix_len is_name_byte xs) xs))
     (no_gap n (ns ++ 32 ∷ behind) both.0)
-    ∙ ap (λ xs. with_name xs (drop (prefix_len is_name_byte inner) inner)) run.taken
-    ∙ ap (with_name (n ∷ ns)) run.left
+    ∙ ap (λ xs. with_tag_name xs (drop (prefix_len is_name_byte inner) inner)) run.taken
+    ∙ ap (with_tag_name (n ∷ ns)) run.left
     ∙ with_name_written n ns text rest h
 
 pub tag_token : (begins : Bool) (name text rest : List ℕ) → is_tag_name name ≡ true → list_all is_in_line text ≡ true

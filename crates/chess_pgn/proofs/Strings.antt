@@ -5,7 +5,7 @@ use Rattle.std.proofs.lemmas.Bool.Decides.{nat_tests}
 use Rattle.std.proofs.lemmas.List.{at_drop_more, take_rest}
 use Rattle.std.specs.List.{prefix_len, take_while}
 use Rattle.chess_pgn.specs.Tokens.{Bad_tag, is_name_byte, after_gap, onto, string_at, after_next}
-use Rattle.chess_pgn.specs.ties.TagParts.{closed, with_text, with_string, with_name, tag_by_parts}
+use Rattle.chess_pgn.specs.ties.TagParts.{closed, with_text, with_string, with_tag_name, tag_by_parts}
 
 -- a string whose first byte a backslash keeps, or not
 abbrev pub string_behind : Bool → List ℕ → Option (List ℕ × List ℕ)
@@ -113,7 +113,7 @@ place_quote text offset kept h k quote =
 
 -- a tag that isn't closed
 unclosed : (name rest string text behind : List ℕ) → Some string ≡ after_next 34 rest
-    → Some (text, behind) ≡ string_at string → None ≡ after_next 93 behind → with_name name rest ≡ (Bad_tag, [])
+    → Some (text, behind) ≡ string_at string → None ≡ after_next 93 behind → with_tag_name name rest ≡ (Bad_tag, [])
 unclosed [] rest string text behind a b e = refl
 unclosed (n ∷ ns) rest string text behind a b e =
     ap (with_string (n ∷ ns)) (sym a) ∙ ap (with_text (n ∷ ns) (length string)) (sym b)
@@ -124,7 +124,7 @@ pub tag_unclosed : (from inner name rest string text behind : List ℕ) → inne
     → Some string ≡ after_next 34 rest → Some (text, behind) ≡ string_at string → None ≡ after_next 93 behind
     → tag_by_parts from ≡ (Bad_tag, [])
 tag_unclosed from inner name rest string text behind i n r a b e =
-    ap (λ xs. with_name (take_while is_name_byte xs) (drop (prefix_len is_name_byte xs) xs)) (sym i)
-    ∙ ap (λ xs. with_name xs (drop (prefix_len is_name_byte inner) inner)) (sym n)
-    ∙ ap (with_name name) (sym r)
+    ap (λ xs. with_tag_name (take_while is_name_byte xs) (drop (prefix_len is_name_byte xs) xs)) (sym i)
+    ∙ ap (λ xs. with_tag_name xs (drop (prefix_len is_name_byte inner) inner)) (sym n)
+    ∙ ap (with_tag_name name) (sym r)
     ∙ unclosed name rest string text behind a b e

@@ -6,7 +6,7 @@ use Rattle.std.proofs.lemmas.List.Sums.{prefix_len-le-length}
 use Rattle.std.specs.List.{prefix_len, take_while}
 use Rattle.std.specs.Option.{option_and_then, unwrap_or}
 use Rattle.chess_pgn.specs.Tokens.{Token, Tag, Bad_tag, is_name_byte, after_gap, after_next, string_at, tag_at}
-use Rattle.chess_pgn.specs.ties.TagParts.{closed, with_text, with_string, with_name, tag_by_parts}
+use Rattle.chess_pgn.specs.ties.TagParts.{closed, with_text, with_string, with_tag_name, tag_by_parts}
 
 abbrev after_string : List ℕ → ℕ → List ℕ × List ℕ → Option (Token × List ℕ)
 after_string name left inside =
@@ -36,7 +36,7 @@ by_string name None = refl
 by_string name (Some string) = by_text name (length string) (string_at string)
 
 by_name : (name rest : List ℕ)
-    → or_bad (option_and_then after_name (cond (eqb (length name) 0) None (Some (name, rest)))) ≡ with_name name rest
+    → or_bad (option_and_then after_name (cond (eqb (length name) 0) None (Some (name, rest)))) ≡ with_tag_name name rest
 by_name [] rest = refl
 by_name (n ∷ ns) rest =
     let some : eqb (length (n ∷ ns)) 0 ≡ false = grind (arith, nat_tests) in
@@ -49,8 +49,8 @@ parts_are text = by_inner (after_gap false false text)
     by_inner : (inner : List ℕ)
         → or_bad (option_and_then after_name (cond (eqb (length (take_while is_name_byte inner)) 0) None
         (Some (take_while is_name_byte inner, drop (length (take_while is_name_byte inner)) inner))))
-        ≡ with_name (take_while is_name_byte inner) (drop (prefix_len is_name_byte inner) inner)
+        ≡ with_tag_name (take_while is_name_byte inner) (drop (prefix_len is_name_byte inner) inner)
     by_inner inner =
         by_name (take_while is_name_byte inner) (drop (length (take_while is_name_byte inner)) inner)
-        ∙ ap (λ n. with_name (take_while is_name_byte inner) (drop n inner))
+        ∙ ap (λ n. with_tag_name (take_while is_name_byte inner) (drop n inner))
         (length-take-le (prefix_len is_name_byte inner) inner (prefix_len-le-length is_name_byte inner))

@@ -4,7 +4,7 @@ use Rattle.std.specs.Prelude.{◌&&◌, ◌||◌}
 use Rattle.std.specs.List.{prefix_len, take_while}
 use Rattle.std.proofs.lemmas.List.{length-append, length-drop, take-append-drop}
 use Rattle.chess_pgn.specs.Tokens.{Token, Unclosed_comment, Unclosed_variation, is_white_space, is_word_byte, is_name_byte, after_brace, after_gap, string_at, after_next, variation_at, comment_at, token_at, begins_line, tokens_from}
-use Rattle.chess_pgn.specs.ties.TagParts.{closed, with_text, with_string, with_name, tag_by_parts}
+use Rattle.chess_pgn.specs.ties.TagParts.{closed, with_text, with_string, with_tag_name, tag_by_parts}
 use Rattle.chess_pgn.specs.ties.GameSteps.{IsWithin}
 use Rattle.chess_pgn.proofs.Cuts.{Cut, Suffix, pick, gap_suffix, next_cut}
 use Rattle.chess_pgn.proofs.TagParts.{parts_are}
@@ -57,7 +57,7 @@ string_within n name from None h cut = tt
 string_within n name from (Some string) h cut = text_within n (length string) name (string_at string)
     (omega (arith, h, simp length-append at (ap length cut.is)))
 
-name_within : (n : ℕ) (name from : List ℕ) → length from ≤ n → Within n (with_name name from)
+name_within : (n : ℕ) (name from : List ℕ) → length from ≤ n → Within n (with_tag_name name from)
 name_within n [] from h = tt
 name_within n (c ∷ cs) from h = string_within n (c ∷ cs) from (after_next 34 from) h (next_cut 34 from refl)
 
@@ -65,7 +65,7 @@ tag_within : (n : ℕ) (text : List ℕ) → length text ≤ n → Within n (tag
 tag_within n text h = by_name (after_gap false false text) (gap_suffix false false text)
   where
     by_name : (inner : List ℕ) → Suffix text inner
-        → Within n (with_name (take_while is_name_byte inner) (drop (prefix_len is_name_byte inner) inner))
+        → Within n (with_tag_name (take_while is_name_byte inner) (drop (prefix_len is_name_byte inner) inner))
     by_name inner k =
         name_within n (take_while is_name_byte inner) (drop (prefix_len is_name_byte inner) inner)
         (omega (arith, h, length-drop (prefix_len is_name_byte inner) inner, simp length-append at (ap length k.is)))

@@ -6,7 +6,7 @@ use Rattle.std.specs.List.{flat_map, AllByRecursion}
 
 -- ---- tokens in lines from left to right, by how many bytes the line that is begun has so far; with 0 none is begun
 
--- a token goes on in a line that is begun if that has at most 79 bytes with a space and the token more
+-- a token goes into the line that is begun: with a space and the token that line has at most 79 bytes
 abbrev pub fits : ℕ → List ℕ → Bool
 fits column token = not (column == 0) && nat_le (column + 1 + length token) 79
 

@@ -20,11 +20,11 @@ with_string name None = (Bad_tag, [])
 with_string name (Some string) = with_text name (length string) (string_at string)
 
 -- a tag with its name, which has a byte at least, and what follows that
-abbrev pub with_name : List ℕ → List ℕ → Token × List ℕ
-with_name [] rest = (Bad_tag, [])
-with_name (n ∷ ns) rest = with_string (n ∷ ns) (after_next (byte "\"") rest)
+abbrev pub with_tag_name : List ℕ → List ℕ → Token × List ℕ
+with_tag_name [] rest = (Bad_tag, [])
+with_tag_name (n ∷ ns) rest = with_string (n ∷ ns) (after_next (byte "\"") rest)
 
 -- a tag after its opening bracket, or what is none
 abbrev pub tag_by_parts : List ℕ → Token × List ℕ
-tag_by_parts text = let inner = after_gap false false text in with_name (take_while is_name_byte inner)
+tag_by_parts text = let inner = after_gap false false text in with_tag_name (take_while is_name_byte inner)
     (drop (prefix_len is_name_byte inner) inner)
