@@ -1,7 +1,7 @@
 //! What reads pieces, and what takes them.
 
 ghost use Rattle.std.specs.Prelude.{◌<◌, length};
-ghost use Rattle.byte_devices.specs.Devices.{InputState, OutputState, ReadStep, WriteStep, FlushStep, Puts, joined};
+ghost use Rattle.byte_devices.specs.Devices.{InputState, OutputState, ReadStep, WriteStep, FlushStep, Puts, Sends, joined};
 
 /// A read failed. What was read before stays.
 #[derive(Clone, Copy, Debug, PartialEq, Eq, thiserror::Error)]
@@ -47,6 +47,14 @@ pub fn put<W: Output>(writer: &mut W, text: &[u8]) -> Result<(), WriteFault>
         at += writer.write(&text[at..])?;
     }
     Ok(())
+}
+
+/// Writes all of a text, and flushes. After a fault a beginning of it has been taken.
+pub fn send<W: Output>(writer: &mut W, text: &[u8]) -> Result<(), WriteFault>
+    ensures { Sends (W.seen writer.old) (W.seen writer.new) result text.now }
+{
+    put(writer, text)?;
+    writer.flush()
 }
 
 /// Writes texts, one after the other. After a fault a beginning of them has been taken.

@@ -22,7 +22,8 @@ pub(crate) enum WordKind {
     Move,
 }
 
-pub(crate) fn outcome_of(word: &[u8]) -> Option<Outcome>
+/// The outcome that a word denotes: `1-0`, `0-1`, `1/2-1/2` or `*`.
+pub fn outcome_of(word: &[u8]) -> Option<Outcome>
     ensures { result ≡ outcome_of word.now }
 {
     match word {
