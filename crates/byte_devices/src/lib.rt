@@ -19,4 +19,4 @@ mod traits;
 pub use counted::Counted;
 pub use gated::{GatedReader, GatedWriter};
 pub use memory::{PieceReader, PieceWriter};
-pub use traits::{Input, Output, ReadFault, WriteFault, put, put_parts};
+pub use traits::{Input, Output, ReadFault, WriteFault, put, put_parts, send};

@@ -1,7 +1,7 @@
 //! What reads pieces, and what takes them.
 
 ghost use Rattle.std.specs.Prelude.{◌<◌, length};
-ghost use Rattle.byte_devices.specs.Devices.{InputState, OutputState, ReadStep, WriteStep, FlushStep, Puts, joined};
+ghost use Rattle.byte_devices.specs.Devices.{InputState, OutputState, ReadStep, WriteStep, FlushStep, Puts, Sends, joined};
 
 /// The error of a read that failed. It consumed no byte of the input.
 #[derive(Clone, Copy, Debug, PartialEq, Eq, thiserror::Error)]
@@ -48,6 +48,14 @@ pub fn put<W: Output>(writer: &mut W, text: &[u8]) -> Result<(), WriteFault>
         at += writer.write(&text[at..])?;
     }
     Ok(())
+}
+
+/// Writes all of a text, and flushes. If the write or the flush fails, only a prefix of the text may have been written.
+pub fn send<W: Output>(writer: &mut W, text: &[u8]) -> Result<(), WriteFault>
+    ensures { Sends (W.seen writer.old) (W.seen writer.new) result text.now }
+{
+    put(writer, text)?;
+    writer.flush()
 }
 
 /// Writes the texts of `parts` one after the other, without a flush. If a write fails, only a prefix of them all was

@@ -2,24 +2,11 @@
 
 ghost use Rattle.std.specs.Prelude.{◌≡◌, ◌≤◌, length};
 ghost use Rattle.std.specs.Option.{option_map};
-ghost use Rattle.chess_pgn.specs.Words.{outcome_of};
 ghost use Rattle.chess_cecp.specs.Declaring.{result_comment, read_result, claims_text};
 
 use crate::command::{argument, first_word};
-use chess_game::{Claims, Comment, Declared, Outcome};
-
-// The outcome that a word denotes.
-fn outcome_of(word: &[u8]) -> Option<Outcome>
-    ensures { result ≡ outcome_of word.now }
-{
-    match word {
-        b"1-0" => Some(Outcome::WhiteWins),
-        b"0-1" => Some(Outcome::BlackWins),
-        b"1/2-1/2" => Some(Outcome::Draw),
-        b"*" => Some(Outcome::Unfinished),
-        _ => None,
-    }
-}
+use chess_game::{Claims, Comment, Declared};
+use chess_pgn::outcome_of;
 
 // The comment after the outcome of `result`: the text within braces, or empty; `None` for any other text.
 #[tactic(auto, unfolding(crate::specs::Declaring::result_comment))]

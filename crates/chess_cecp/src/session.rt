@@ -24,7 +24,7 @@ use crate::answer::{
 use crate::command::{Command, named_command, split_word};
 use crate::declaring::read_result;
 use crate::lines::Line;
-use byte_devices::{Output, WriteFault, put};
+use byte_devices::{Output, WriteFault, send};
 use chess_base::{Position, Variant};
 use chess_fen::{read_fen_as, write_fen};
 use chess_game::{Comment, Game, Outcome, PlayRefusal};
@@ -435,15 +435,7 @@ impl<B: Board> Session<B> {
     }
 }
 
-// Writes a text, and flushes.
-fn send<W: Output>(writer: &mut W, text: &[u8]) -> Result<(), WriteFault>
-    ensures { Sends (W.seen writer.old) (W.seen writer.new) result text.now }
-{
-    put(writer, text)?;
-    writer.flush()
-}
-
-// How a command is answered.
+// What answers the lines of a command.
 fn reply_of(command: Command) -> Reply
     ensures { result ≡ reply_of command }
 {

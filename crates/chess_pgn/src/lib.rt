@@ -35,4 +35,5 @@ pub use read::{PgnEnd, PgnFault, PgnFaultKind, read_pgn};
 pub use results::{ResultTag, result_tag};
 pub use tags::{HowEnded, TagText, Tags};
 pub use termination::Termination;
+pub use word::outcome_of;
 pub use write::write_pgn;

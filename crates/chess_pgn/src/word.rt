@@ -23,7 +23,7 @@ pub(crate) enum WordKind {
 }
 
 /// The outcome that a word denotes: `1-0`, `0-1`, `1/2-1/2` or `*`.
-pub(crate) fn outcome_of(word: &[u8]) -> Option<Outcome>
+pub fn outcome_of(word: &[u8]) -> Option<Outcome>
     ensures { result ≡ outcome_of word.now }
 {
     match word {
