@@ -17,10 +17,14 @@ uses = $(shell sed -n 's/^$1: *//p' $(top)/crates.txt)
 now = { echo '$(call uses,$1)'; find $(top)/crates/$1/{src,specs,proofs} '$(kit)/WHAT' -type f \
     \( -name '*.rt' -o -name '*.antt' -o -name WHAT \) -printf '%p %s %T@\n' 2>/dev/null | LC_ALL=C sort; }
 
-# What little waits for gets the processors that the others leave.
-arbiter_grammar chess_bits pgn_pieces pgn_verifier: private nice := nice -n 10
+# A second process for a crate costs a fifth of a processor's time more than one process alone, and four cost half more. So a crate
+# that little waits for gets one process, on the processors that the others leave, and those that are proved beside each other two.
+at_leisure := arbiter_grammar arbiter_words chess_bits pgn_pieces pgn_verifier
+side_by_side := chess_fen chess_game chess_text
+processes = $(if $(filter $@,$(at_leisure)),1,$(if $(filter $@,$(side_by_side)),$(if $(filter 1,$(jobs)),1,2),$(jobs)))
+nice = $(if $(filter $@,$(at_leisure)),nice -n 5)
 
-build = $(nice) $(kit)/bin/rattle build --crate-name $@ --jobs $(jobs) --links $@= \
+build = $(nice) $(kit)/bin/rattle build --crate-name $@ --jobs $(processes) --links $@= \
     --antt-project $(kit)/rattle/logic/antt-project.json --logic-built $(kit)/logic_built \
     --extern std=$(kit)/rlibs/std.rlib -L dependency=$(kit)/rlibs -L dependency=$(here) \
     $(foreach it,$(call uses,$@),--extern $(it)=$(if $(filter $(it),$(crates)),$(here),$(kit)/rlibs)/$(it).rlib)

@@ -268,22 +268,28 @@ fn commands_are_named_by_their_first_word(rt: HostRuntime) {
 
 // A session that sets up a position and asks for its moves, with the beginning of the answer.
 fn moves_row(alloc: Global, row: &Perft) -> Result<Vec<u8>, AllocError> {
+    let moves = row.lines[0];
     let mut text = Vec::new(alloc);
     text.extend_from_slice(b"> setboard ")?;
     text.extend_from_slice(row.fen)?;
     text.extend_from_slice(b"\n> showmoves\n# moves ")?;
-    text.extend_from_slice(Buffer::new().format(row.lines[0]).as_bytes())?;
+    text.extend_from_slice(Buffer::new().format(moves).as_bytes())?;
     text.extend_from_slice(b" ")?;
     Ok(text)
 }
 
-#[test]
-fn moves_of_test_positions_are_counted(rt: HostRuntime) -> Result<(), Fail> {
-    for row in &NORMAL {
-        let text = moves_row(rt.alloc(), row)?;
-        check(&rt, rt.alloc(), Way::Begun, [text.as_slice()].as_slice(), 100)?;
+// Sets up the position of each row, and asks for its moves.
+fn check_counts(rt: &impl Abort, alloc: Global, rows: &[Perft]) -> Result<(), Fail> {
+    for row in rows {
+        let text = moves_row(alloc, row)?;
+        check(rt, alloc, Way::Begun, [text.as_slice()].as_slice(), 100)?;
     }
     Ok(())
+}
+
+#[test]
+fn moves_of_test_positions_are_counted(rt: HostRuntime) -> Result<(), Fail> {
+    check_counts(&rt, rt.alloc(), NORMAL.as_slice())
 }
 
 #[test]
