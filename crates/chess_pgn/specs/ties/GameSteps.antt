@@ -28,13 +28,15 @@ step_seen s (Ok (does.On p)) = On (so_far s p)
 step_seen s (Ok (does.Ended end)) = Stop (record { state = s; answer = Ok (Some end) })
 step_seen s (Err fault) = Stop (record { state = s; answer = Err fault })
 
--- if a token ended the game, the offset after it is greater than `first` and at most `last`
+-- if a token ended the game (`Ended`), the game's end offset is greater than `first` and at most `last`; for any other
+-- result nothing is said
 abbrev pub EndsIn : ℕ → ℕ → Result code.Step PgnFault → Type 0
 EndsIn first last (Ok (does.On p)) = Unit {0}
 EndsIn first last (Ok (does.Ended end)) = (first < end.offset) × (end.offset ≤ last)
 EndsIn first last (Err fault) = Unit {0}
 
--- what a token says of offsets is within the text: at most `left` bytes, those from its first byte on, are left there
+-- the places that a token names are inside the token and what follows: at most `left` bytes, those from its first byte
+-- on, are left at each
 abbrev pub IsWithin : ℕ → Token → Type 0
 IsWithin left Skip = Unit {0}
 IsWithin left (Tag name text string) = string ≤ left
@@ -49,8 +51,8 @@ abbrev pub ReadsAlike : List ℕ → ℕ → ℕ → Type 0
 ReadsAlike text a b = (limit : ℕ) (g : SoFar)
     → game_of limit (length text) g (tokens_from text a) ≡ game_of limit (length text) g (tokens_from text b)
 
--- a game was begun at the offset `from` and is read up to `here`, with this progress: reading on from `here` gives
--- what reading from `from` on gives
+-- a game was begun at the offset `from` of the text and is read up to `here`; `game` and `progress` are what was read.
+-- Reading on from `here` gives what reading from `from` on gives. `limit` is the most half-moves
 pub record IsReadOn (limit : ℕ) (text : List ℕ) (from : ℕ) (game : Seen) (progress : Progress) (here : ℕ)
     : Type 0 where
   pub behind : from ≤ here

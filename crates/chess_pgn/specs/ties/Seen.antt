@@ -37,8 +37,8 @@ abbrev pub first_seen : Result (Token × Bor (List ℕ)) TokenFault → told.Tok
 first_seen (Ok r) = (token_seen r.0, r.1.now)
 first_seen (Err f) = (fault_seen f, [])
 
--- the code's answer for the next token from `at` on is the first of the definitions' tokens, and the offset returned
--- is the one after it; nothing is read after a fault
+-- what code returned for the next token of the text from `at` on is the first of the definitions' tokens, and the
+-- offset returned is the one after it; `None`: no token is left; a fault is the last token
 abbrev pub IsNextToken : List ℕ → ℕ → Result (Option (Token × ℕ)) TokenFault → Type 0
 IsNextToken text at (Ok None) = tokens_from text at ≡ []
 IsNextToken text at (Ok (Some r)) = (tokens_from text at ≡ (length text - at, token_seen r.0) ∷ tokens_from text r.1)
