@@ -58,9 +58,9 @@ after_gap false begins (c ∷ rest) =
 
 -- ---- variations
 
--- the token of a variation and the text after it, from a text inside it, where that many variations are open (1 after
--- its `(`). `comment` is `None`, or if the text is inside a comment or `%` line, the byte that ends that, and the token
--- if no such byte comes; `line_begins`: the text's first byte begins a line
+-- the token of a variation and the text after it, from a text inside it; the third argument counts the variations open
+-- there, 1 right after its `(`. `comment` is `None`, or if the text is inside a comment or `%` line, the byte that ends
+-- that, and the token if no such byte comes; `line_begins`: the text's first byte begins a line
 abbrev pub variation_at : Option (ℕ × Token) → Bool → ℕ → List ℕ → Token × List ℕ
 variation_at comment line_begins zero text = (Skip, text)
 variation_at comment line_begins (suc depth) [] = (option_map_or (λ skipped. skipped.1) comment Unclosed_variation, [])

@@ -31,7 +31,8 @@ pub(crate) fn split_name(text: &[u8]) -> (&[u8], &[u8])
     text.split_at(end)
 }
 
-// The text after white space, `%` lines and then this byte, if that comes next.
+// The text after any white space and `%` lines, and then this byte; `None` if another byte comes there. The text's own
+// first byte begins no line, so a `%` there is not skipped.
 pub(crate) fn after_next(byte: u8, text: &[u8]) -> Option<&[u8]>
     ensures { option_map (λ r. r.now) result ≡ after_next byte text.now }
 {

@@ -28,7 +28,7 @@ pub(crate) struct GameFault {
 }
 
 impl GameFault {
-    // A fault that reading found, as one of a game.
+    // A fault of reading the PGN text, as a fault of the game: the same byte, the same kind.
     pub(crate) fn of_pgn(fault: PgnFault) -> Self
         ensures { result ≡ record { kind = Pgn fault.kind; offset = fault.offset } }
     {
