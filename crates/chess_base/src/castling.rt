@@ -221,7 +221,8 @@ pub fn castling(setup: &Setup, m: &Move) -> Option<CastlingSide>
     }
 }
 
-// The four squares of that colour's castling to that side, with the king and the rook on those squares before it.
+// The four squares of this colour's castling to that side, where the king starts on the square `king` and the rook on
+// the square `rook`.
 fn castle_from(colour: Colour, castling_side: CastlingSide, king: Square, rook: Square) -> Castle
     ensures { result ≡ castle_from colour castling_side king rook }
 {
@@ -256,7 +257,8 @@ pub fn castle_of(setup: &Setup, m: &Move) -> Option<Castle>
     castle_by(setup.side, setup.rights, m, castling(setup, m))
 }
 
-// The square on which the moving piece ends: the move's end square, or the king's end square if the move is a castling.
+// The square on which the moving piece ends: the move's end square, or the king's end square if the move is castling
+// (`castle`).
 pub(crate) fn mover_to(m: &Move, castle: &Option<Castle>) -> Square
     ensures { result ≡ mover_to m.now castle.now }
 {

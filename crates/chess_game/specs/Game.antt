@@ -75,7 +75,8 @@ opened limit = record { limit = limit; state = from_start initial_setup }
 abbrev pub is_full : Seen → Bool
 is_full g = nat_le g.limit (length g.state.moves)
 
--- why no move at all is played, if none is: the game is over, or else the limit allows no more half-moves
+-- why no move at all is played in the game: it is over, or else it has as many half-moves as its limit allows; none if
+-- a move may be played
 abbrev pub refusal_now : Seen → Option PlayRefusal
 refusal_now g = if is_over g.state then Some Over else if is_full g then Some TooLong else None
 
@@ -105,15 +106,15 @@ last_move ms = by_end (slice_get ms (length ms - 1))
 abbrev pub after_take_back : Seen → Seen
 after_take_back g = if nat_le 1 (length g.state.moves) then at g (taken_back g.state 1) else g
 
--- there is a verdict, and its outcome is not o
+-- there is a verdict on the game, such as mate, and its outcome is not o
 abbrev pub is_other : Option Verdict → Outcome → Bool
 is_other verdict o = option_map_or (λ v. not (same_outcome (verdict_outcome v) o)) verdict false
 
--- the game after the result d was to be declared: with d, or unchanged if a verdict has another outcome
+-- the game once the result d was to be declared: with d declared, or unchanged if a verdict has another outcome
 abbrev pub after_declare : Seen → Declared → Seen
 after_declare g d = if is_other (verdict_now g.state) d.outcome then g else at g (with_declared g.state (Some d))
 
--- why a result with outcome o is refused, or none if it may be declared: a verdict has another outcome
+-- the error for declaring a result with outcome o, if a verdict has another outcome; else none
 abbrev pub declare_refusal : Seen → Outcome → Option BoardSaysOtherwise
 declare_refusal g o = if is_other (verdict_now g.state) o then Some (record {}) else None
 

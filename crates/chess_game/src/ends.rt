@@ -170,8 +170,8 @@ fn minor_count(men: &[Option<Man>; 64]) -> usize
     men.iter().filter(|man| is_minor(**man)).count()
 }
 
-// Whether there is no pawn, rook or queen, and at most one bishop or knight, or bishops alone, all on squares of one
-// colour: no moves lead from there to a mate.
+// Whether neither side can mate for lack of pieces: no pawn, rook or queen is there, and at most one bishop or knight,
+// or bishops alone, all on squares of one colour.
 #[tactic(auto, unfolding(crate::specs::Ends::has_insufficient_material))]
 pub(crate) fn has_insufficient_material<B: Board>(board: &B) -> bool
     ensures { result ≡ has_insufficient_material (B.position board.now).men }

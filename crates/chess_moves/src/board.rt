@@ -68,8 +68,8 @@ pub trait Board {
     fn is_legal(&self, m: &Move) -> bool
         ensures { result ≡ is_legal (position self.now) m.now };
 
-    /// A set of squares in which to look for the start of a legal move of such a piece to `to`: each piece of that
-    /// kind, of the side on move, that has a legal move there is on one of them, but others may be in the set too.
+    /// A set of squares that has at least the squares of those pieces of this kind, of the side on move, that have a
+    /// legal move to `to`; others may be in the set too.
     fn origins(&self, kind: Kind, to: Square) -> SquareSet
         ensures { HasOrigins (position self.now) kind to result };
 

@@ -105,31 +105,38 @@ impl Board for Plain {
         self.setup = *to.setup();
     }
 
+    // The position that the board is at.
     fn position(&self) -> Position {
         Position::from_sound(self.setup)
     }
 
+    // The position that the board is at, lent as a `Setup` without a copy.
     fn setup(&self) -> &Setup {
         &self.setup
     }
 
+    // All legal moves, each once, rising by start square, end square and promotion.
     fn legal_moves(&self) -> MoveList {
         legal_moves(&self.setup)
     }
 
+    // How many legal moves there are.
     fn legal_move_count(&self) -> usize {
         self.legal_moves().len()
     }
 
+    // Whether there is a legal move.
     fn has_legal_move(&self) -> bool {
         has_legal_move(&self.setup)
     }
 
+    // Whether a move is legal.
     fn is_legal(&self, m: &Move) -> bool {
         is_legal(&self.setup, m)
     }
 
-    // All pieces of the kind, whether or not they could go to the square.
+    // A set of squares that has at least the starts of the legal moves of this kind to a square: here all pieces of the
+    // kind, of the side on move, whether or not they could go there.
     #[tactic(auto, using(crate::proofs::Origins::all_men))]
     fn origins(&self, kind: Kind, _to: Square) -> SquareSet {
         men_of(&self.setup.men, self.setup.side, kind)
@@ -145,6 +152,7 @@ impl Board for Plain {
         legal_starts(&self.setup, kind, to)
     }
 
+    // Whether the side on move is in check.
     fn in_check(&self) -> bool {
         is_in_check(&self.setup.men, self.setup.side)
     }

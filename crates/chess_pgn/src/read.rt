@@ -81,7 +81,7 @@ pub struct PgnFault {
     pub offset: usize,
 }
 
-// What is known, beside the game's moves, of a game that is being read.
+// What is known, beside the moves, of a game that is being read.
 #[derive(Clone, Copy)]
 struct Progress {
     // Whether a tag, number or move was met.

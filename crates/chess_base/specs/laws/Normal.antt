@@ -45,8 +45,8 @@ normal_castling p m = if normal_says_castling p m KingSide then Some KingSide el
 unfoldable pub normal_castle_of : Setup → Move → Option Castle
 normal_castle_of p m = castle_by p.side p.rights m (normal_castling p m)
 
--- move m is a pseudo-legal move of the given piece: the piece is of the side on move, and goes as a pawn, or as another
--- piece by an ordinary move or castling; false if there is no piece
+-- the given piece, if it is one of the side on move, can make move m: a pawn as pawns do; any other piece by castling,
+-- if m is castling, or else as it moves. False if no piece is given
 abbrev pub normal_moves_as : Setup → Move → Option Man → Bool
 normal_moves_as p m None = false
 normal_moves_as p m (Some x) =
@@ -58,7 +58,8 @@ normal_moves_as p m (Some x) =
 unfoldable pub normal_has_pattern : Setup → Move → Bool
 normal_has_pattern p m = nat_lt m.from 64 && nat_lt m.to 64 && normal_moves_as p m (man_at p.men m.from)
 
--- what the move changes on the board: which pieces leave and arrive, and on which squares
+-- what move m changes on the board, in normal chess: the mover goes from its start to its end square; in castling the
+-- rook goes too, and a pawn taken en passant leaves
 abbrev pub normal_steps_of : Setup → Move → Steps
 normal_steps_of p m = record {
   from = m.from;

@@ -16,7 +16,7 @@ use Rattle.chess_game.specs.declared.index.TheConstants.{BUCKETS}
 abbrev pub bucket : Hashed → ℕ
 bucket k = k.word % BUCKETS
 
--- `now` is a position that one more legal move gives, after the played moves xs from `start`
+-- `now` is a position that one more legal move gives, in the game from `start` by the played moves xs
 abbrev pub IsNext : Hashed → List PlayedMove → Hashed → Type 0
 IsNext start xs now = (m : Move) × (s : Saved) × WasMade (last start.position (moves_of xs)) m s now.position
 
@@ -35,7 +35,7 @@ is_in start xs b k = bucket (known_at start xs k) == b
 abbrev pub is_same_at : Hashed → List PlayedMove → Setup → ℕ → Bool
 is_same_at start xs q k = same (known_at start xs k).position q
 
--- one more than the greatest number below n for which t holds, or 0 if it holds for none
+-- one more than the greatest number below n for which the test t holds, or 0 if it holds for none
 unfoldable pub latest_below : (ℕ → Bool) → ℕ → ℕ
 latest_below t zero = zero
 latest_below t (suc n) = if t n then suc n else latest_below t n
