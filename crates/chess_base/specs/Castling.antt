@@ -157,7 +157,7 @@ unfoldable pub castling_way_is_safe : Men → Colour → Castle → Bool
 castling_way_is_safe men c k = each_square
     (λ x. not (is_on_way k.king_from k.king_to x) || not (is_attacked men x (other c)))
 
--- nothing prevents castling k, which move m is: the squares in between are empty, the king's are not attacked, and m
--- names no promotion
+-- nothing prevents castling k, which move m is: the squares that king and rook cross or end on are empty but for these
+-- two, the king's are not attacked, and m names no promotion
 unfoldable pub castles : Setup → Move → Castle → Bool
 castles p m k = is_none m.promotion && castling_way_is_empty p.men k && castling_way_is_safe p.men p.side k

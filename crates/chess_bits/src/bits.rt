@@ -71,7 +71,7 @@ impl<'t> Bits<'t> {
         kings.first()
     }
 
-    // Whether a piece of colour `by` attacks the square.
+    // Whether some piece of colour `by` attacks the square, given the pieces on the board.
     pub(crate) fn is_attacked(&self, square: Square, by: Colour) -> bool
         ensures { result ≡ is_attacked self.now.men square by }
     {
@@ -94,32 +94,39 @@ impl Board for Bits<'_> {
         self.setup = *setup;
     }
 
+    // The position that the board is at.
     fn position(&self) -> Position {
         Position::from_sound(self.setup)
     }
 
+    // The position that the board is at, lent as a `Setup` without a copy.
     fn setup(&self) -> &Setup {
         &self.setup
     }
 
+    // All legal moves, each once, rising by start square, end square and promotion.
     fn legal_moves(&self) -> MoveList {
         self.moves()
     }
 
+    // How many legal moves there are.
     fn legal_move_count(&self) -> usize {
         self.count()
     }
 
+    // Whether there is a legal move.
     fn has_legal_move(&self) -> bool {
         self.has_move()
     }
 
+    // Whether a move is legal.
     fn is_legal(&self, m: &Move) -> bool {
         self.is_legal_by_kind(m)
     }
 
-    // The squares in which to look for a legal move's start: for a king its own square, for pawns the squares of `to`'s
-    // file and those from which they attack `to`, for any other kind the pieces that attack `to`.
+    // A set of squares that has at least the starts of the legal moves of this kind of piece to `to`: for a king its
+    // own square, for pawns those on `to`'s file and those that attack `to`, for any other kind the pieces that attack
+    // `to`.
     fn origins(&self, kind: Kind, to: Square) -> SquareSet {
         let side = self.setup.side;
         let men = self.sets.of(side);
@@ -146,6 +153,7 @@ impl Board for Bits<'_> {
         self.starts_of(kind, to)
     }
 
+    // Whether the side on move is in check.
     #[tactic(auto, using(crate::proofs::AfterSets::check_is))]
     fn in_check(&self) -> bool {
         let side = self.setup.side;
