@@ -89,8 +89,8 @@ right_is_sound p c w = option_map_or (are_placed_for_castling p.variant p.men c 
 
 -- ---- which moves are castling
 
--- the squares of move m are those of colour c's castling on side w with that rook: in normal chess the king's start and
--- end square (e1g1), in Chess960 the king's and the rook's square, on one rank (e1h1)
+-- the squares of move m are those of colour c's castling on side w with the rook on square `rook`: in normal chess the
+-- king's start and end square (e1g1), in Chess960 the king's and the rook's square, on one rank (e1h1)
 abbrev pub names_castling_with : Variant → Colour → Move → CastlingSide → ℕ → Bool
 names_castling_with Normal c m w rook = (m.from == home_square c king_home_file)
     && (m.to == home_square c (castled_king_file w))

@@ -126,7 +126,7 @@ resets_clock p m = is_man p.side Pawn (man_at p.men m.from) || is_of (other p.si
 unfoldable pub halfmove_after : Setup → Move → ℕ
 halfmove_after p m = if resets_clock p m then 0 else min (p.halfmove + 1) COUNTER_LIMIT
 
--- the fullmove number after a move of that colour, from the number before: one more after Black's, up to 999,999
+-- the fullmove number after a move of this colour, from the number before: one more after Black's, up to 999,999
 abbrev pub fullmove_after : Colour → ℕ → ℕ
 fullmove_after White n = n
 fullmove_after Black n = min (n + 1) COUNTER_LIMIT

@@ -73,7 +73,7 @@ pub(crate) fn men_after(setup: &Setup, m: &Move) -> [Option<Man>; 64]
     men
 }
 
-// What the move leaves of one castling right (the square of its rook): it is lost when that colour's king moves, or
+// What the move leaves of one castling right (the square of its rook): it is lost when this colour's king moves, or
 // when a move starts or ends on the rook's square.
 fn right_after(
     setup: &Setup,

@@ -54,7 +54,7 @@ pub fn saved_of(setup: &Setup, m: &Move) -> Saved
     }
 }
 
-// The square of the piece that the move of that colour captured, from what was saved; none if it captured nothing. A
+// The square of the piece that the move of this colour captured, from what was saved; none if it captured nothing. A
 // capture on the old en passant target was en passant, since the target is empty.
 #[tactic(auto, unfolding(crate::specs::Before::captured_from))]
 fn captured_from(colour: Colour, m: &Move, saved: &Saved) -> Option<Square>

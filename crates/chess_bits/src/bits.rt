@@ -61,7 +61,7 @@ impl<'t> Bits<'t> {
         self.sets.occupied()
     }
 
-    // The square of that colour's king.
+    // The square of this colour's king.
     pub(crate) fn king(&self, colour: Colour) -> Square
         ensures alone { (k : ℕ) → k < 64 → is_man colour King (man_at self.now.men k) ≡ (k == result) }
         ensures in_range { result < 64 }
@@ -87,7 +87,7 @@ impl Board for Bits<'_> {
 
     ghost word_of = { position_word };
 
-    // Sets the board to that position.
+    // Sets the board to the position `to`.
     fn set(&mut self, to: &Position) {
         let setup = to.setup();
         self.sets = Sets::standing(self.tables.keys(), &setup.men);
@@ -141,13 +141,13 @@ impl Board for Bits<'_> {
         own.intersection(reached)
     }
 
-    // The squares of that colour's pieces of that kind.
+    // The squares of this colour's pieces of this kind.
     #[inline(always)]
     fn men_of(&self, colour: Colour, kind: Kind) -> SquareSet {
         self.sets.of(colour).of(kind)
     }
 
-    // The squares from which a piece of that kind, of the side on move, may legally move to `to` without a promotion.
+    // The squares from which a piece of this kind, of the side on move, may legally move to `to` without a promotion.
     #[inline(always)]
     fn legal_starts(&self, kind: Kind, to: Square) -> SquareSet {
         self.starts_of(kind, to)

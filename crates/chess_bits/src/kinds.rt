@@ -157,14 +157,14 @@ fn met_on_diagonals(
 }
 
 impl Kinds {
-    /// The squares of this colour's pieces of that kind.
+    /// The squares of this colour's pieces of this kind.
     pub fn of(&self, kind: Kind) -> SquareSet
         ensures { result ≡ slice_index self.now.sets (kind_number kind) }
     {
         self.sets[number(kind)]
     }
 
-    /// The squares of those of these pieces, which are of this colour, that attack `square`; `occupied` are the
+    /// The squares of the pieces in these sets, which are of this colour, that attack `square`; `occupied` are the
     /// occupied squares of the board.
     #[inline(always)]
     pub fn attackers(
@@ -197,8 +197,8 @@ impl Kinds {
             .union(pawns)
     }
 
-    /// Whether one of these pieces, which are of this colour, attacks `square`; `occupied` are the occupied squares of
-    /// the board.
+    /// Whether a piece in these sets, which are of this colour, attacks `square`; `occupied` are the occupied squares
+    /// of the board.
     #[tactic(auto, unfolding(chess_base::specs::Attacks::is_attacked))]
     pub fn attacks(
         &self,
@@ -213,8 +213,9 @@ impl Kinds {
         !self.attackers(tables, colour, square, occupied).is_empty()
     }
 
-    /// Whether one of these pieces, which are of this colour, attacks `square` after a move; `occupied` are the squares
-    /// occupied then. Pieces on squares of `changed`, those that the move changed, don't count: they were captured.
+    /// Whether a piece in these sets, which are of this colour, attacks `square` after a move; `occupied` are the
+    /// squares occupied then. Pieces on squares of `changed`, those that the move changed, don't count: they were
+    /// captured.
     #[inline(always)]
     #[tactic(auto, unfolding(chess_base::specs::Attacks::is_attacked))]
     pub fn attacks_outside(

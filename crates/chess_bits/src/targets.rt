@@ -93,7 +93,7 @@ impl Bits<'_> {
         }
     }
 
-    // The set `targets` of end squares from `from`, corrected for castling to that side: if the move from `from` to its
+    // The set `targets` of end squares from `from`, corrected for castling to this side: if the move from `from` to its
     // end square is castling, that square is in the result exactly if the castling is legal.
     fn with_castling(
         &self,

@@ -116,7 +116,7 @@ fn spelled_position(variant: Variant, text: &[u8]) -> Result<Position, FenFault>
     }
 }
 
-/// The position of that variant that a text denotes as FEN (PGN standard of 1994, section 16.1), or the first fault of
+/// The position of this variant that a text denotes as FEN (PGN standard of 1994, section 16.1), or the first fault of
 /// the text. Only spaces (byte 32) separate the fields; there may be several, and at both ends too. In Chess960 a right
 /// is named by the letter of its rook's file, or by `K`, `Q`, `k` or `q` as the outermost rook on that side.
 pub fn read_fen_as(variant: Variant, text: &[u8]) -> Result<Position, FenFault>

@@ -87,7 +87,7 @@ pub struct Claims {
     pub fifty_moves: bool,
 }
 
-// The verdict that the side of that colour has mated the other.
+// The verdict that the side of this colour has mated the other.
 pub(crate) fn mates(colour: Colour) -> Verdict
     ensures { result ≡ mates colour }
 {
@@ -97,7 +97,7 @@ pub(crate) fn mates(colour: Colour) -> Verdict
     }
 }
 
-// Whether a square's content is a piece of that kind, of either colour.
+// Whether a square's content is a piece of this kind, of either colour.
 fn is_kind(kind: Kind, man: Option<Man>) -> bool
     ensures { result ≡ is_kind kind man }
 {
@@ -114,7 +114,7 @@ fn is_minor(man: Option<Man>) -> bool
     is_kind(Kind::Bishop, man) || is_kind(Kind::Knight, man)
 }
 
-// The colour of the square with that number: a1 (0) is black.
+// The colour of the square with this number: a1 (0) is black.
 fn square_colour(number: u8) -> Colour
     requires { number < 64 }
     ensures { result ≡ square_colour number }
@@ -126,7 +126,7 @@ fn square_colour(number: u8) -> Colour
     }
 }
 
-// Whether some bishop, of either side, is on a square of that colour.
+// Whether some bishop, of either side, is on a square of this colour.
 #[tactic(auto, unfolding(crate::specs::Ends::has_bishop_on))]
 fn has_bishop_on(colour: Colour, men: &[Option<Man>; 64]) -> bool
     ensures { result ≡ has_bishop_on colour men.now }
@@ -139,7 +139,7 @@ fn has_bishop_on(colour: Colour, men: &[Option<Man>; 64]) -> bool
     is_found
 }
 
-// Whether a piece of that kind, of either colour, is on the board.
+// Whether a piece of this kind, of either colour, is on the board.
 fn has_kind<B: Board>(board: &B, kind: Kind) -> bool
     requires { IsSound (B.position board.now) }
     ensures { result ≡ list_any (is_kind kind) (B.position board.now).men }

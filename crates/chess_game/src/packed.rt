@@ -81,7 +81,7 @@ impl PackedMen {
         }
     }
 
-    // The kind of the piece on that square, if there is one.
+    // The kind of the piece on this square, if there is one.
     fn kind_at(&self, square: Square) -> Option<Kind>
         ensures { result ≡ kind_in self.now square }
     {
@@ -102,7 +102,7 @@ impl PackedMen {
         }
     }
 
-    // The colour of the piece on that square; Black also if the square is empty.
+    // The colour of the piece on this square; Black also if the square is empty.
     fn colour_at(&self, square: Square) -> Colour
         ensures { result ≡ colour_in self.now square }
     {
@@ -113,7 +113,7 @@ impl PackedMen {
         }
     }
 
-    // The piece on that square, or none.
+    // The piece on this square, or none.
     #[tactic(auto, unfolding(crate::specs::ties::Packed::man_in))]
     fn man_at(&self, square: Square) -> Option<Man>
         ensures { result ≡ man_in self.now square }

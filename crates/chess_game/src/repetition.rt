@@ -94,8 +94,8 @@ fn live_target<B: Board>(board: &B) -> Option<Square>
     }
 }
 
-// Whether some legal move captures en passant on that target. Few positions have a target, so this is kept out of the
-// code that calls it.
+// Whether some legal move captures en passant on the square `target`. Few positions have a target, so this is not
+// inlined.
 #[inline(never)]
 fn is_captured_on<B: Board>(board: &B, target: Square) -> bool
     requires { (B.position board.now).target ≡ Some target }

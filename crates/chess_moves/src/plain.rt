@@ -38,7 +38,7 @@ impl Model for Plain {
     ghost inverse = { λ v. record { setup = v } };
 }
 
-// The squares of that colour's pieces of that kind.
+// The squares of this colour's pieces of this kind.
 fn men_of(men: &[Option<Man>; 64], colour: Colour, kind: Kind) -> SquareSet
     ensures { (k : ℕ) → k < 64 → has result k ≡ is_man colour kind (man_at men.now k) }
 {
@@ -52,7 +52,7 @@ fn men_of(men: &[Option<Man>; 64], colour: Colour, kind: Kind) -> SquareSet
     set
 }
 
-// Whether on `from` is a piece of that kind, of the side on move, that may legally move to `to` without a promotion.
+// Whether on `from` is a piece of this kind, of the side on move, that may legally move to `to` without a promotion.
 fn is_legal_start(setup: &Setup, kind: Kind, from: Square, to: Square) -> bool
     requires { IsSound setup.now }
     ensures { result ≡ (is_man setup.now.side kind (man_at setup.now.men from)
@@ -66,7 +66,7 @@ fn is_legal_start(setup: &Setup, kind: Kind, from: Square, to: Square) -> bool
     is_man(setup.side, kind, setup.men[from.index()]) && is_legal(setup, &m)
 }
 
-// The squares from which a piece of that kind, of the side on move, may legally move to `to` without a promotion.
+// The squares from which a piece of this kind, of the side on move, may legally move to `to` without a promotion.
 fn legal_starts(setup: &Setup, kind: Kind, to: Square) -> SquareSet
     requires { IsSound setup.now }
     ensures { HasLegalStarts setup.now kind to result }
@@ -100,7 +100,7 @@ impl Board for Plain {
 
     ghost word_of = { position_word };
 
-    // Sets the board to that position.
+    // Sets the board to the position `to`.
     fn set(&mut self, to: &Position) {
         self.setup = *to.setup();
     }
@@ -142,12 +142,12 @@ impl Board for Plain {
         men_of(&self.setup.men, self.setup.side, kind)
     }
 
-    // The squares of that colour's pieces of that kind.
+    // The squares of this colour's pieces of this kind.
     fn men_of(&self, colour: Colour, kind: Kind) -> SquareSet {
         men_of(&self.setup.men, colour, kind)
     }
 
-    // The squares from which a piece of that kind, of the side on move, may legally move to `to` without a promotion.
+    // The squares from which a piece of this kind, of the side on move, may legally move to `to` without a promotion.
     fn legal_starts(&self, kind: Kind, to: Square) -> SquareSet {
         legal_starts(&self.setup, kind, to)
     }

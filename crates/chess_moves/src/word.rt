@@ -65,7 +65,7 @@ fn kind_index(kind: Kind) -> u16
     }
 }
 
-/// The key of that piece on that square.
+/// The Zobrist key of this piece on this square.
 #[inline(always)]
 pub fn man_key<K: Keys>(keys: &K, man: Man, square: Square) -> u64
     ensures { result ≡ man_key man square }

@@ -89,7 +89,7 @@ texts_of_pawn d =
     (start ++ (square_text d.to ++ promotion)) ∷ []))
     else []
 
--- the texts that denote castling to that side, with the letter O or with the digit 0
+-- the texts that denote castling to this side, with the letter O or with the digit 0
 abbrev pub castling_texts : CastlingSide → List (List ℕ)
 castling_texts KingSide = codes "O-O" ∷ codes "0-0" ∷ []
 castling_texts QueenSide = codes "O-O-O" ∷ codes "0-0-0" ∷ []

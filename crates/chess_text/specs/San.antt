@@ -24,7 +24,7 @@ use Rattle.chess_text.specs.declared.described.Described.{Described}
 use Rattle.chess_text.specs.Parts.{when, kind_text, file_text, rank_text}
 use Rattle.chess_text.specs.Moves.{described, passes}
 
--- castling to that side, written with the letter O
+-- castling to this side, written with the letter O
 abbrev pub castling_text : CastlingSide → List ℕ
 castling_text KingSide = codes "O-O"
 castling_text QueenSide = codes "O-O-O"

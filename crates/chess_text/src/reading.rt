@@ -37,7 +37,7 @@ pub fn has_move_shape(text: &[u8]) -> bool
     read_form(text).is_some()
 }
 
-// The end square of the move by which `side` castles to that side: in normal chess the king's end square, in Chess960
+// The end square of the move by which `side` castles to this side: in normal chess the king's end square, in Chess960
 // the square of the rook of the right (`right`; if there is none, no such move is legal).
 fn castling_end(
     variant: Variant,
@@ -69,7 +69,7 @@ fn end_square(form: &Form, setup: &Setup) -> Square
     }
 }
 
-// The square on that file and rank, if both are given and on the board.
+// The square on this file and rank, if both are given and on the board.
 #[inline(always)]
 fn named_square(file: Option<u8>, rank: Option<u8>) -> Option<Square>
     ensures { result ≡ named_square file rank }
@@ -188,7 +188,7 @@ fn one_kind(parts: &Parts) -> Option<Kind>
     }
 }
 
-// Whether the parts, which have the letter of that kind, denote `m`, a legal move of such a piece to their end square:
+// Whether the parts, which have the letter of this kind, denote `m`, a legal move of such a piece to their end square:
 // it starts on the file and rank that they name, is a capture if they have `x`, and is not castling.
 #[inline(always)]
 fn is_spelled_by_letter(parts: &Parts, setup: &Setup, kind: Kind, m: &Move) -> bool

@@ -29,7 +29,7 @@ pub struct Disambiguation {
     pub rank: bool,
 }
 
-// Whether one of the squares is on that file.
+// Whether one of the squares is on this file.
 fn some_on_file(file: u8, squares: SquareSet) -> bool
     ensures { result ≡ some_on_file file (members squares) }
 {
@@ -42,7 +42,7 @@ fn some_on_file(file: u8, squares: SquareSet) -> bool
     false
 }
 
-// Whether one of the squares is on that rank.
+// Whether one of the squares is on this rank.
 fn some_on_rank(rank: u8, squares: SquareSet) -> bool
     ensures { result ≡ some_on_rank rank (members squares) }
 {
@@ -124,7 +124,7 @@ fn letter(kind: Kind) -> u8
     }
 }
 
-// Castling to that side in SAN: `O-O` or `O-O-O`.
+// Castling to this side in SAN: `O-O` or `O-O-O`.
 fn castling_text(castling_side: CastlingSide) -> SanText
     ensures text { result.items ≡ castling_text castling_side }
     ensures len { array_vec_len result ≤ 6 }

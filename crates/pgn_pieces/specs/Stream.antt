@@ -43,7 +43,8 @@ abbrev pub MayFollow : Bool → Bool → List ℕ → Type 0
 MayFollow false ended rest = Unit {0}
 MayFollow true ended rest = (ended ≡ true) × (rest ≡ [])
 
--- `s` is the state after this text was read, while the input went from its state `r` to `r'`
+-- `s` is the state of cutting an input into pieces once just this text of it was read, which took the input from its
+-- state `r` to `r'`; all bytes of the text are accounted for in `s`
 pub record IsStateOf (s : State) (r r' : InputState) (text : List ℕ) : Type 0 where
   pub read : HasRead s.ended r r' text
   pub all : s.offset + (length s.part + length s.coming) ≡ length text

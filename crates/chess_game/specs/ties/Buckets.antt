@@ -20,8 +20,8 @@ bucket k = k.word % BUCKETS
 abbrev pub IsNext : Hashed → List PlayedMove → Hashed → Type 0
 IsNext start xs now = (m : Move) × (s : Saved) × WasMade (last start.position (moves_of xs)) m s now.position
 
--- the position with that number in the game from `start` by the played moves: 0 for the start, k + 1 for the one that
--- played move k reached; the last one for greater numbers
+-- the position number k in the game from `start` by the played moves xs: the start for 0, the one that played move k
+-- reached for k + 1; for greater numbers the last one
 unfoldable pub known_at : Hashed → List PlayedMove → ℕ → Hashed
 known_at start xs zero = start
 known_at start [] (suc k) = start
@@ -55,8 +55,9 @@ pub record IsEmpty (table : List ℕ) : Type 0 where
   pub buckets : length table ≡ BUCKETS
   pub none : (b : ℕ) → b < BUCKETS → get_or table b 0 ≡ 0
 
--- the entry of played move k, which is x: a link to the latest earlier position in the bucket of the position that it
--- reached, and the count of how many positions up to that one, itself included, are the same as it
+-- the entry of played move k, which is x, in the game from `start` by the played moves xs: a link to the latest earlier
+-- position in the bucket of the position that x reached, and how many positions up to that one, itself included, are
+-- the same as it
 pub record HasEntry (start : Hashed) (xs : List PlayedMove) (k : ℕ) (x : PlayedMove) : Type 0 where
   pub earlier : x.entry.earlier ≡ latest_below (is_in start xs (bucket x.reached)) (suc k)
   pub count : x.entry.count ≡ suc (count_below (is_same_at start xs x.reached.position) (suc k))

@@ -26,7 +26,7 @@ kind_in p s =
 abbrev pub colour_in : PackedMen → ℕ → Colour
 colour_in p s = if has p.white s then White else Black
 
--- a piece of that colour and kind; none if there is no kind
+-- a piece of this colour and kind; none if there is no kind
 abbrev pub man_of : Colour → Option Kind → Option Man
 man_of c None = None
 man_of c (Some kind) = Some (record { colour = c; kind = kind })

@@ -82,7 +82,8 @@ can_be_taken v begun (Unclosed_comment left) = false
 can_be_taken v begun Unclosed_variation = false
 can_be_taken v begun Bad = false
 
--- whether reading goes on after each of these tokens; `begun`: a number or move came before them
+-- whether reading goes on after each of these tokens; `v` is the variant by which a FEN is read, `begun`: a number or
+-- move came before them
 abbrev pub can_all_be_taken : Variant → Bool → List (ℕ × Token) → Bool
 can_all_be_taken v begun [] = true
 can_all_be_taken v begun (t ∷ ts) = can_be_taken v begun t.1 && can_all_be_taken v (begun || begins t.1) ts

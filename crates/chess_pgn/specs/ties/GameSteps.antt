@@ -12,17 +12,18 @@ use Rattle.chess_pgn.specs.declared.read.Step.TheVariants as does
 use Rattle.chess_pgn.specs.Tokens.{Token, Skip, Tag, Word, Bad_tag, Unclosed_comment, Unclosed_variation, Bad, tokens_from}
 use Rattle.chess_pgn.specs.GameRead.{SoFar, Step, On, Stop, game_of, tokens_read}
 
--- the fault of a move that is refused
+-- the fault to give for a move that the game refuses: it is over, full (`TooLong`), or the move is illegal
 abbrev pub refusal_kind : PlayRefusal → PgnFaultKind
 refusal_kind Over = faults.AfterEnd
 refusal_kind TooLong = faults.TooLong
 refusal_kind Illegal = faults.IllegalMove
 
--- the definitions' `SoFar` that corresponds to the game's state and the code's `Progress`
+-- what is read so far, as the definitions have it, from the code's game state `s` and its `Progress`
 abbrev pub so_far : State → Progress → SoFar
 so_far s p = record { state = s; is_met = p.is_met; is_begun = p.is_begun; termination = p.termination }
 
--- the definitions' `Step` that corresponds to what the code returned for a token, and the state that it left
+-- what the code returned for a token, as the definitions have it: reading goes on, or stops with an end or a fault; `s`
+-- is the game's state after it
 abbrev pub step_seen : State → Result code.Step PgnFault → Step
 step_seen s (Ok (does.On p)) = On (so_far s p)
 step_seen s (Ok (does.Ended end)) = Stop (record { state = s; answer = Ok (Some end) })

@@ -3,7 +3,7 @@ use Rattle.std.specs.Prelude.{List, ℕ, map, [], ◌∷◌, ◌++◌}
 use Rattle.chess_pgn.specs.declared.tags.TagPair.{TagPair}
 use Rattle.chess_pgn.specs.Written.{tag_line, wrapped_token, next_column}
 
--- the lines of these tags
+-- the lines of these tags in order, each as `[Event "a"]`
 abbrev pub tag_lines_of : List TagPair → List (List ℕ)
 tag_lines_of pairs = map (λ p. tag_line p.name.now p.text.now) pairs
 

@@ -47,7 +47,8 @@ abbrev pub form_at : Option CastlingSide → List ℕ → Option Form
 form_at (Some w) text = Some (Castling w)
 form_at None text = form_of_parts (parts_at text)
 
--- what a text is read as before any position is looked at: castling, or parts of a form, or nothing
+-- what a text is read as before any position is looked at: castling, or its parts, such as letter and end square;
+-- `None` if it hasn't the shape of a move
 unfoldable pub form_of : List ℕ → Option Form
 form_of text = form_at (castling_named (unmarked text)) (unmarked text)
 
@@ -96,7 +97,7 @@ abbrev pub with_moves : Reading → List Move → Reading
 with_moves found [] = found
 with_moves found (m ∷ ms) = with_moves (with_move found m) ms
 
--- the square on that file and rank, if both are given and on the board
+-- the square on this file and rank, if both are given and on the board
 abbrev pub named_square : Option ℕ → Option ℕ → Option ℕ
 named_square None rank = None
 named_square (Some f) None = None
