@@ -174,7 +174,7 @@ impl<W: Write> Counted<W> {
         &self.device
     }
 
-    /// Unwraps the writer that was passed to `writing`.
+    /// Gives back the writer that was passed to `writing`, and drops the counts.
     pub fn into_writer(self) -> W
         ensures { W.contents result ≡ (⟦<Counted<W> as Output>⟧.seen self).known_bytes }
     {
@@ -220,13 +220,14 @@ impl<W: Write> Output for Counted<W> {
       unflushed = c.counts.unflushed;
     } };
 
-    // One `write` of the writer, counted.
+    // One `write` of the wrapped writer, counted. An error, or 0 bytes taken of a text that isn't empty, gives
+    // `WriteFault`.
     fn write(&mut self, buf: &[u8]) -> Result<usize, WriteFault> {
         let answered = self.device.write(buf);
         self.counts.end_write(buf.len(), answered)
     }
 
-    // One `flush` of the writer, counted.
+    // One `flush` of the wrapped writer, counted. An error gives `WriteFault`.
     fn flush(&mut self) -> Result<(), WriteFault> {
         let answered = self.device.flush();
         self.counts.end_flush(answered)

@@ -123,7 +123,7 @@ impl Write for GatedWriter<'_> {
         Ok(buf.len())
     }
 
-    // Opens the gate.
+    // Opens the gate, so that the `GatedReader` gives its next line. It never fails.
     fn flush(&mut self) -> Result<()>
         ensures bytes { Keeps (Some self.old.bytes.items) (Some self.new.bytes.items) }
         ensures never_fails { IsOk result }

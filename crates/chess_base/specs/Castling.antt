@@ -33,12 +33,12 @@ abbrev pub rook_file : CastlingSide → ℕ
 rook_file KingSide = 7
 rook_file QueenSide = 0
 
--- castling takes the king to the g-file or the c-file (3.8.2)
+-- the file to which castling on this side takes the king: g (6) or c (2) (3.8.2)
 abbrev pub castled_king_file : CastlingSide → ℕ
 castled_king_file KingSide = 6
 castled_king_file QueenSide = 2
 
--- castling takes the rook to the f-file or the d-file (3.8.2)
+-- the file to which castling on this side takes the rook: f (5) or d (3) (3.8.2)
 abbrev pub castled_rook_file : CastlingSide → ℕ
 castled_rook_file KingSide = 5
 castled_rook_file QueenSide = 3
@@ -53,7 +53,7 @@ right_of r White QueenSide = r.white.queen_side
 right_of r Black KingSide = r.black.king_side
 right_of r Black QueenSide = r.black.queen_side
 
--- the four rights, each as f gives it for its colour and side
+-- the castling rights of both colours and sides, each as f gives it: the square of the rook, or none
 abbrev pub rights_by : (Colour → CastlingSide → Option ℕ) → Rights
 rights_by f = record {
   white = record { king_side = f White KingSide; queen_side = f White QueenSide };

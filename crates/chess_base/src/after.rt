@@ -62,7 +62,7 @@ pub fn steps_of(setup: &Setup, m: &Move) -> Steps
     }
 }
 
-// The pieces on all 64 squares after the move.
+// The pieces on all 64 squares after move `m` of the position.
 #[tactic(auto, unfolding(crate::specs::Moves::men_after))]
 pub(crate) fn men_after(setup: &Setup, m: &Move) -> [Option<Man>; 64]
     requires { IsSound setup.now }

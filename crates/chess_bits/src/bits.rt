@@ -40,7 +40,7 @@ impl<'t> Model for Bits<'t> {
 }
 
 impl<'t> Bits<'t> {
-    /// A board at the initial position, which looks attacks up in those tables.
+    /// A board at the initial position, which looks attacks up in `tables`.
     pub fn new(tables: &'t AttackTables) -> Self
         ensures { result ≡ initial_setup }
     {
@@ -54,7 +54,7 @@ impl<'t> Bits<'t> {
         }
     }
 
-    // The squares that are not empty.
+    // The squares that are not empty: those of the pieces of both colours.
     pub(crate) fn occupied(&self) -> SquareSet
         ensures { IsOccupied result self.now.men }
     {
@@ -167,7 +167,7 @@ impl Board for Bits<'_> {
         word_with(self.tables.keys(), self.sets.men_word, &self.setup)
     }
 
-    // Makes a legal move, and returns what `take_back` needs.
+    // Makes a legal move, and returns what `take_back` needs to take it back.
     #[inline(always)]
     fn make(&mut self, m: Move) -> Saved {
         let keys = self.tables.keys();

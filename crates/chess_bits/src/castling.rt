@@ -27,7 +27,7 @@ impl Bits<'_> {
         above.intersection(self.tables.at(Shape::Ray(Line::Rank, false), high))
     }
 
-    // The squares strictly between two squares of one rank.
+    // The squares strictly between two squares of one rank, in either order.
     #[tactic(auto, using(crate::proofs::CastlingBySets::between_up, crate::proofs::CastlingBySets::between_down))]
     fn between(&self, a: Square, b: Square) -> SquareSet
         requires { rank a ≡ rank b }
@@ -39,7 +39,7 @@ impl Bits<'_> {
         self.above_and_below(b, a)
     }
 
-    // The squares from one square of a rank to another, both included.
+    // The squares of a rank from one square to another, both included.
     fn way(&self, a: Square, b: Square) -> SquareSet
         requires { rank a ≡ rank b }
         ensures { (k : ℕ) → k < 64 → has result k ≡ is_on_way a b k }

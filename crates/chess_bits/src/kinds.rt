@@ -38,7 +38,7 @@ fn number(kind: Kind) -> usize
 }
 
 impl Kinds {
-    /// The sets of a colour without pieces.
+    /// The sets of a colour that has no pieces.
     #[tactic(auto, using(crate::proofs::Standing::no_kinds))]
     pub fn empty() -> Kinds
         ensures { (c : Side) → (men : Men) → ((k : ℕ) → k < 64 → man_at men k ≡ None) → IsKinds result.sets c men }
@@ -157,7 +157,7 @@ fn met_on_diagonals(
 }
 
 impl Kinds {
-    /// The squares of this colour's pieces of this kind.
+    /// The squares of the pieces of this kind, of the colour that these sets are of.
     pub fn of(&self, kind: Kind) -> SquareSet
         ensures { result ≡ slice_index self.now.sets (kind_number kind) }
     {

@@ -25,7 +25,7 @@ pub(crate) fn set_of(square: Option<Square>) -> SquareSet
     }
 }
 
-// The squares on which pieces arrive by these steps of a move.
+// The squares on which pieces arrive by these steps: the mover's, and the castling rook's.
 #[inline(always)]
 fn filled_by(steps: &Steps) -> SquareSet
     ensures { (k : ℕ) → has result k ≡ ((steps.now.to == k) || is_square steps.now.second_to k) }
@@ -34,7 +34,8 @@ fn filled_by(steps: &Steps) -> SquareSet
     to.union(set_of(steps.second_to))
 }
 
-// The squares that pieces leave by these steps of a move.
+// The squares that pieces leave by these steps: the mover's, and that of the castling rook or of the pawn taken en
+// passant.
 #[inline(always)]
 fn emptied_by(steps: &Steps) -> SquareSet
     ensures { (k : ℕ) → has result k ≡ (is_square steps.now.second_from k || (steps.now.from == k)) }

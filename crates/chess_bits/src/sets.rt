@@ -59,7 +59,7 @@ impl Sets {
         }
     }
 
-    /// The squares that are not empty.
+    /// The squares that are not empty: those of the pieces of both colours.
     #[tactic(auto, using(crate::proofs::Standing::occupied_by))]
     pub fn occupied(&self) -> SquareSet
         ensures { (men : Men) → IsSets self.now men → IsOccupied result men }

@@ -80,7 +80,7 @@ impl Model for Table {
 }
 
 impl Table {
-    /// Computes the table of that shape.
+    /// Computes the table of this shape: for each square the squares that belong to the shape from there.
     pub fn new(shape: Shape) -> Self
         ensures { result ≡ shape }
     {

@@ -146,7 +146,7 @@ fn write_target(out: &mut FenText, target: Option<Square>)
     }
 }
 
-// Appends a number of at most six digits.
+// Appends a number of at most six digits, without leading zeros.
 #[tactic(auto, using(crate::proofs::Lengths::short_decimal))]
 fn write_number(out: &mut FenText, number: u32)
     requires few { number < 1000000 }

@@ -31,7 +31,7 @@ pub enum Verdict {
 }
 
 impl Verdict {
-    /// The outcome that it gives: a win of the side that mates, or a draw.
+    /// The outcome that the verdict gives: a win of the side that mates, or a draw.
     pub fn outcome(self) -> Outcome
         ensures { result ≡ verdict_outcome self }
     {
@@ -45,7 +45,7 @@ impl Verdict {
         }
     }
 
-    /// The comment on it, such as `White mates`.
+    /// The comment on the verdict, such as `White mates`.
     pub fn as_str(self) -> &'static str
         ensures value { result.now ≡ verdict_comment self }
         ensures short { length result.now ≤ 60 }
@@ -60,7 +60,7 @@ impl Verdict {
         }
     }
 
-    /// The comment on it as bytes, as in the braces of `1-0 {White mates}`.
+    /// The comment on the verdict as bytes, as in the braces of `1-0 {White mates}`.
     pub fn comment(self) -> &'static [u8]
         ensures value { result.now ≡ verdict_comment self }
         ensures short { length result.now ≤ 60 }

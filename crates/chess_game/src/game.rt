@@ -369,7 +369,8 @@ impl<B: Board> Game<B> {
         repetitions(self.played_moves.as_slice())
     }
 
-    /// By what the player on move may claim a draw.
+    /// By what the player on move may claim a draw: the position for the third time, or 50 moves without a pawn move or
+    /// capture.
     pub fn claims(&self) -> Claims
         ensures { result ≡ claims self.now.state.start self.now.state.moves }
     {

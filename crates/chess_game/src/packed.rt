@@ -65,7 +65,7 @@ fn difference(these: SquareSet, those: SquareSet) -> SquareSet
 }
 
 impl PackedMen {
-    // The pieces of the board's position.
+    // The pieces of the board's position, as sets of squares.
     #[inline(always)]
     fn of<B: Board>(board: &B) -> Self
         ensures { ArePacked result (B.position board.now).men }

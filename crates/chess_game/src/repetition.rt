@@ -69,7 +69,7 @@ impl Hashed {
             && same_square(self.live_target, other.live_target)
     }
 
-    // 1 where the two positions are the same, else 0.
+    // 1 if the two positions are the same (Laws of Chess 2023, article 9.2.3), else 0.
     pub(crate) fn times_same(&self, other: &Hashed) -> u32
         requires this { IsKnown self.now }
         requires other { IsKnown other.now }

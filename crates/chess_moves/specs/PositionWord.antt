@@ -41,12 +41,12 @@ key n =
 
 -- ---- which keys: twelve times 64 for the pieces on squares, one for Black on move, twice 8 for the rights
 
--- the index of a colour among the keys of pieces and of castling rights
+-- the index of a colour among the Zobrist keys of pieces and of castling rights
 abbrev pub colour_index : Colour → ℕ
 colour_index White = 0
 colour_index Black = 1
 
--- the index of a kind of piece among the keys of pieces: pawn 0 to king 5
+-- the index of a kind of piece among the Zobrist keys of pieces: pawn 0 to king 5
 abbrev pub kind_index : Kind → ℕ
 kind_index Pawn = 0
 kind_index Knight = 1

@@ -162,7 +162,7 @@ impl Board for Plain {
         position_word(&self.setup)
     }
 
-    // Makes a legal move, and returns what `take_back` needs.
+    // Makes a legal move, and returns what `take_back` needs to take it back.
     fn make(&mut self, m: Move) -> Saved {
         let saved = saved_of(&self.setup, &m);
         move_on(&mut self.setup, &m);

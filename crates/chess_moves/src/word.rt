@@ -39,7 +39,7 @@ impl Keys for ComputedKeys {
     }
 }
 
-// The index of a colour among the keys of pieces and of castling rights.
+// The index of a colour among the Zobrist keys of pieces and of castling rights.
 fn colour_index(colour: Colour) -> u16
     ensures value { result ≡ colour_index colour }
     ensures in_range { result < 2 }
@@ -50,7 +50,7 @@ fn colour_index(colour: Colour) -> u16
     }
 }
 
-// The index of a kind of piece among the keys of pieces: pawn 0 to king 5.
+// The index of a kind of piece among the Zobrist keys of pieces: pawn 0 to king 5.
 fn kind_index(kind: Kind) -> u16
     ensures value { result ≡ kind_index kind }
     ensures in_range { result < 6 }

@@ -77,7 +77,8 @@ variation_at None line_begins (suc depth) (c ∷ rest) =
 -- ---- tags
 
 infixl 10 ◌>>=◌
--- f of the value, if there is one
+-- goes on with f from a value that was found; none if none was found: so a chain of steps stops at the first that finds
+-- nothing
 abbrev pub ◌>>=◌ : {A B : Type 0} → Option A → (A → Option B) → Option B
 o >>= f = option_and_then f o
 
@@ -96,7 +97,7 @@ string_at (c ∷ d ∷ rest) =
     else (if c == byte "\\" then (if d == new_line then None else onto (c ∷ d ∷ []) (string_at rest))
     else onto (c ∷ []) (string_at (d ∷ rest))))
 
--- the text after its first byte, if that byte is `b`
+-- the text after its first byte, if that byte is `b`; else none
 abbrev pub after_byte : ℕ → List ℕ → Option (List ℕ)
 after_byte b [] = None
 after_byte b (c ∷ rest) = if c == b then Some rest else None

@@ -56,10 +56,10 @@ cut_tag text = map tag_byte (take 60 text)
 abbrev pub escaped : List ℕ → List ℕ
 escaped text = flat_map (λ c. if c == byte "\"" || c == byte "\\" then byte "\\" ∷ c ∷ [] else c ∷ []) text
 
--- a tag's line without its end, such as `[Event "a"]`
+-- the line of a tag with this name and text, without its end, such as `[Event "a"]`
 abbrev pub tag_line : List ℕ → List ℕ → List ℕ
 tag_line name text = codes "[" ++ name ++ codes " \"" ++ escaped text ++ codes "\"]"
 
--- lines, each with `prefix` before it and `\n` after it
+-- the text of these lines, each with `prefix` before it and `\n` after it
 abbrev pub ended : List ℕ → List (List ℕ) → List ℕ
 ended prefix lines = flat_map (λ line. prefix ++ line ++ new_line ∷ []) lines

@@ -93,7 +93,7 @@ struct Progress {
 }
 
 impl Progress {
-    // What is known before the first token: nothing.
+    // What is known before the first token: no tag, number or move was met.
     fn none() -> Self
         ensures { result ≡ record { is_met = false; is_begun = false; termination = None } }
     {

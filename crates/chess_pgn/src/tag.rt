@@ -19,7 +19,7 @@ pub(crate) struct Tag<'a> {
     pub left: usize,
 }
 
-// The tag's name at a text's front, maybe empty, and the text after it.
+// The name at a text's front (letters, digits and `_`), maybe empty, and the text after it.
 pub(crate) fn split_name(text: &[u8]) -> (&[u8], &[u8])
     ensures name { result.0.now ≡ take_while is_name_byte text.now }
     ensures rest { result.1.now ≡ drop (prefix_len is_name_byte text.now) text.now }

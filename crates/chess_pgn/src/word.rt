@@ -22,7 +22,7 @@ pub(crate) enum WordKind {
     Move,
 }
 
-/// The outcome that a word denotes: `1-0`, `0-1`, `1/2-1/2` or `*`.
+/// The outcome that a word denotes: `1-0`, `0-1`, `1/2-1/2` or `*`; `None` for any other word.
 pub(crate) fn outcome_of(word: &[u8]) -> Option<Outcome>
     ensures { result ≡ outcome_of word.now }
 {

@@ -44,11 +44,11 @@ described p m =
 
 -- ---- the texts of a move
 
--- the start square, as far as it is written: not at all, by its file, by its rank, or in full
+-- what may be written of the start square `from`: nothing, its file, its rank, or both (its name)
 abbrev pub start_texts : ℕ → List (List ℕ)
 start_texts from = [] ∷ file_text (file from) ∷ rank_text (rank from) ∷ square_text from ∷ []
 
--- a capture is written with `x` or without it, any other move without it
+-- what is written for a capture: `x` or nothing; nothing for any other move
 abbrev pub capture_texts : Bool → List (List ℕ)
 capture_texts captures = [] ∷ (if captures then codes "x" ∷ [] else [])
 
@@ -117,7 +117,7 @@ all_described =
     for_each (None ∷ Some KingSide ∷ Some QueenSide ∷ []) (λ castles.
     record { man = man; from = from; to = to; promotion = promotion; captures = takes; castles = castles } ∷ []))))))
 
--- the text has a move's shape: it denotes a move of some description
+-- the text has a move's shape: it denotes some described move, whether or not that is legal anywhere
 unfoldable pub shape : List ℕ → Bool
 shape text = list_any (λ d. spells_described text d) all_described
 

@@ -69,7 +69,7 @@ fn end_square(form: &Form, setup: &Setup) -> Square
     }
 }
 
-// The square on this file and rank, if both are given and on the board.
+// The square on this file and rank, from 0 on, if both are given and below 8; else `None`.
 #[inline(always)]
 fn named_square(file: Option<u8>, rank: Option<u8>) -> Option<Square>
     ensures { result ≡ named_square file rank }

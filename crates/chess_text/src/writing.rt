@@ -29,7 +29,7 @@ pub struct Disambiguation {
     pub rank: bool,
 }
 
-// Whether one of the squares is on this file.
+// Whether one of the squares is on the file `file`, 0 for a.
 fn some_on_file(file: u8, squares: SquareSet) -> bool
     ensures { result ≡ some_on_file file (members squares) }
 {
@@ -42,7 +42,7 @@ fn some_on_file(file: u8, squares: SquareSet) -> bool
     false
 }
 
-// Whether one of the squares is on this rank.
+// Whether one of the squares is on the rank `rank`, 0 for rank 1.
 fn some_on_rank(rank: u8, squares: SquareSet) -> bool
     ensures { result ≡ some_on_rank rank (members squares) }
 {

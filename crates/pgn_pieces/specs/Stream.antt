@@ -20,7 +20,7 @@ unread = record { offset = 0; part = []; coming = []; ended = false }
 abbrev pub past_piece : State → State
 past_piece s = record { offset = s.offset + length s.part; part = []; coming = s.coming; ended = s.ended }
 
--- the current piece, with the bytes so far
+-- the current piece of the state s, with the bytes that it has so far
 abbrev pub current : State → Piece
 current s = piece_at s.offset s.part
 

@@ -163,7 +163,7 @@ impl PgnPieces {
         }
     }
 
-    // Removes the bytes that are no longer needed from `held`.
+    // Removes the bytes before the current piece from `held`; nothing else changes.
     fn compact(&mut self)
         ensures { self.new ≡ self.old }
     {
@@ -196,7 +196,7 @@ impl PgnPieces {
         Ok(())
     }
 
-    /// Goes on to the next piece, and returns whether there is one. Nothing is read where its end is held.
+    /// Goes on to the next piece, and returns whether there is one. Nothing is read if its end is among the bytes held.
     ///
     /// # Errors
     /// If a read fails, memory runs out, or nearly 2^63 bytes or more were read. There is no next piece then, as far as

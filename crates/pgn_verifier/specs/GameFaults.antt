@@ -59,7 +59,7 @@ judged_at strict text at =
 
 -- ---- names
 
--- the words that report a fault of reading
+-- the words by which a line names a fault of reading a game's text, as `illegal move`
 abbrev pub pgn_fault_name : PgnFaultKind → List ℕ
 pgn_fault_name BadTag = codes "bad tag"
 pgn_fault_name BadFen = codes "bad FEN"
@@ -72,7 +72,7 @@ pgn_fault_name UnclosedComment = codes "unclosed comment"
 pgn_fault_name UnclosedVariation = codes "unclosed variation"
 pgn_fault_name NoResult = codes "no result"
 
--- the words that report a fault, as in `game 2: illegal move at byte 39`
+-- the words by which a line names a game's fault, as in `game 2: illegal move at byte 39`
 abbrev pub fault_name : FaultKind → List ℕ
 fault_name (Pgn kind) = pgn_fault_name kind
 fault_name ResultDiffers = codes "result differs"

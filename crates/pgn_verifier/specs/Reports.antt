@@ -70,7 +70,8 @@ abbrev pub is_written : Bool → Report → Bool
 is_written quiet (Game plies outcome termination) = not quiet
 is_written quiet (Faulty fault) = true
 
--- a report's line, or nothing if it isn't written
+-- a report's line, such as `game 2: illegal move at byte 39`; nothing for a game without a fault if `quiet`. `number`
+-- is the game's number
 abbrev pub written_line : Bool → ℕ → Report → List ℕ
 written_line quiet number report = if is_written quiet report then report_line number report else []
 
@@ -87,7 +88,7 @@ with_report t (Game plies outcome termination) =
     record t { games = t.games + 1; half_moves = t.half_moves + plies }
 with_report t (Faulty fault) = record t { faults = t.faults + 1 }
 
--- the counts of these reports
+-- the counts of these reports: games without a fault, their half-moves, and faults
 abbrev pub counts_of : List Report → Tally
 counts_of reports = fold with_report (record { games = 0; half_moves = 0; faults = 0 }) reports
 

@@ -52,7 +52,7 @@ fn write_number(line: &mut ReportLine, number: usize)
     write_text(line, buffer.format(number as u64).as_bytes());
 }
 
-// Appends what the tag `Termination` says, such as `, time forfeit`.
+// Appends what the tag `Termination` says, such as `, time forfeit`; nothing if there is none.
 fn write_termination(line: &mut ReportLine, termination: Option<Termination>)
     requires { array_vec_len line.old + 18 ≤ LINE_LEN }
     ensures text { line.new.items ≡ line.old.items ++ termination_part termination }

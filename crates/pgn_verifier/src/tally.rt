@@ -24,7 +24,7 @@ pub(crate) struct Tally {
 }
 
 impl Tally {
-    // The counts before the first report.
+    // The counts before the first report: all 0.
     pub(crate) fn none() -> Self
         ensures { result ≡ record { games = 0; half_moves = 0; faults = 0 } }
     {

@@ -36,12 +36,12 @@ normal_says_castling p m w =
     && (m.from == home_square p.side king_home_file)
     && (m.to == home_square p.side (castled_king_file w))
 
--- the side to which move m castles; none if it is not castling
+-- normal chess: the side to which move m castles; none if it is not castling
 unfoldable pub normal_castling : Setup → Move → Option CastlingSide
 normal_castling p m = if normal_says_castling p m KingSide then Some KingSide else if normal_says_castling p m QueenSide
     then Some QueenSide else None
 
--- the four squares of the castling that move m is; none if it is not castling
+-- normal chess: the four squares of the castling that move m is; none if it is not castling
 unfoldable pub normal_castle_of : Setup → Move → Option Castle
 normal_castle_of p m = castle_by p.side p.rights m (normal_castling p m)
 
@@ -71,11 +71,11 @@ normal_steps_of p m = record {
   mover = man_that_lands (man_at p.men m.from) m.promotion;
 }
 
--- the pieces on the board after the move m of position p
+-- normal chess: the pieces on the board after the move m of position p
 unfoldable pub normal_men_after : Setup → Move → Men
 normal_men_after p m = men_stepped p.men (normal_steps_of p m)
 
--- the whole position after the move m of position p
+-- normal chess: the whole position after the move m of position p
 unfoldable pub normal_after : Setup → Move → Setup
 normal_after p m = record {
   variant = Normal;

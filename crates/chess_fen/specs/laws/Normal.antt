@@ -35,7 +35,7 @@ abbrev pub normal_rights_text : Rights → List ℕ
 normal_rights_text r = or_dash (letter_if r.white.king_side (byte "K") ++ letter_if r.white.queen_side (byte "Q")
     ++ letter_if r.black.king_side (byte "k") ++ letter_if r.black.queen_side (byte "q"))
 
--- the FEN of a position: its six fields, with one space between them
+-- the FEN of a position of normal chess: its six fields, with one space between them
 abbrev pub normal_fen : Setup → List ℕ
 normal_fen p = join_with_byte space (placement_text p.men ∷ side_text p.side ∷ normal_rights_text p.rights ∷ target_text
     p.target ∷ decimal p.halfmove ∷ decimal p.fullmove ∷ [])

@@ -75,7 +75,7 @@ names_variant (Unclosed_comment left) = false
 names_variant Unclosed_variation = false
 names_variant Bad = false
 
--- whether a word is marks such as `!?`
+-- whether a word of this kind is marks alone, such as `!?`
 abbrev pub is_mark_word : WordKind → Bool
 is_mark_word Marks = true
 is_mark_word Number = false

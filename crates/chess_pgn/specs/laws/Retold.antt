@@ -30,14 +30,14 @@ use Rattle.chess_pgn.specs.Words.{kind_of}
 
 -- ---- kinds of tokens
 
--- whether a word is a move number or may be a move
+-- whether a word of this kind is a move number or may be a move
 abbrev pub is_number_or_move : WordKind → Bool
 is_number_or_move (End o) = false
 is_number_or_move Number = true
 is_number_or_move Marks = false
 is_number_or_move Move = true
 
--- whether a word is an outcome such as `1-0`
+-- whether a word of this kind is an outcome such as `1-0`
 abbrev pub is_outcome : WordKind → Bool
 is_outcome (End o) = true
 is_outcome Number = false
@@ -64,7 +64,7 @@ counts (Unclosed_comment left) = false
 counts Unclosed_variation = false
 counts Bad = false
 
--- whether a tag of this name gives the start
+-- whether a tag with this name gives the game's start: the name is FEN
 abbrev pub is_fen : List ℕ → Bool
 is_fen name = bytes_eq name (codes "FEN")
 
@@ -90,14 +90,14 @@ can_all_be_taken v begun (t ∷ ts) = can_be_taken v begun t.1 && can_all_be_tak
 
 -- ---- what they say
 
--- a list of the word, if it may be a move, else the empty list
+-- the word as a list of one, if its kind says that it may be a move, else the empty list
 abbrev pub if_move : List ℕ → WordKind → List (List ℕ)
 if_move word (End o) = []
 if_move word Number = []
 if_move word Marks = []
 if_move word Move = word ∷ []
 
--- a list of the token's word, if it may be a move, else the empty list
+-- the token's word as a list of one, if it may be a move, else the empty list
 abbrev pub move_words_of : Token → List (List ℕ)
 move_words_of (Word word) = if_move word (kind_of word)
 move_words_of Skip = []
@@ -107,11 +107,12 @@ move_words_of (Unclosed_comment left) = []
 move_words_of Unclosed_variation = []
 move_words_of Bad = []
 
--- the words that may be moves, in order
+-- the words of these tokens that may be moves, in order
 abbrev pub move_words : List (ℕ × Token) → List (List ℕ)
 move_words tokens = flat_map (λ t. move_words_of t.1) tokens
 
--- the position that a FEN was read as, else `p` if it had a fault
+-- the start that a tag FEN gives, by what its text was read as: that position, or `p`, the start so far, if it has a
+-- fault
 abbrev pub if_read : Setup → Result Setup FenFault → Setup
 if_read p (Ok start) = start
 if_read p (Err fault) = p
@@ -181,7 +182,7 @@ word_fault limit s word Number = None
 word_fault limit s word Marks = None
 word_fault limit s word Move = move_fault limit s (reading (current s) word)
 
--- the fault of this kind at an offset, if there is one
+-- the fault of this kind (if one is given) at this offset, else none
 abbrev pub fault_at : ℕ → Option PgnFaultKind → Option PgnFault
 fault_at offset kind = option_map (λ k. record { kind = k; offset = offset }) kind
 

@@ -20,7 +20,7 @@ use Rattle.chess_text.specs.San.{san, shown_move}
 use Rattle.chess_base.specs.declared.man.Kind.{Kind}
 use Rattle.chess_base.specs.declared.man.Kind.TheVariants.{King, Pawn}
 
--- a letter names pieces of this kind; a pawn may become one
+-- a move's text names pieces of this kind by a letter: all kinds but the pawn
 abbrev pub HasLetter : Kind → Type 0
 HasLetter Pawn = ⊥
 HasLetter k = Unit {0}
@@ -81,7 +81,7 @@ abbrev pub SanBeginsWithLetter : Type 0
 SanBeginsWithLetter = (p : Setup) → (m : Move) → IsSound p → IsTrue (is_legal p m)
     → IsTrue (begins_with_letter (san p m))
 
--- if a text is read as a move, this move is legal
+-- if a text is read in a position as a move, this move is legal there
 abbrev pub ReadMovesAreLegal : Type 0
 ReadMovesAreLegal = (p : Setup) → (text : List ℕ) → (m : Move) → reading p text ≡ reads.Move m → IsTrue (is_legal p m)
 

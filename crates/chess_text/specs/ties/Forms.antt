@@ -97,7 +97,7 @@ abbrev pub with_moves : Reading → List Move → Reading
 with_moves found [] = found
 with_moves found (m ∷ ms) = with_moves (with_move found m) ms
 
--- the square on this file and rank, if both are given and on the board
+-- the square on this file and rank, from 0 on, if both are given and below 8; else none
 abbrev pub named_square : Option ℕ → Option ℕ → Option ℕ
 named_square None rank = None
 named_square (Some f) None = None

@@ -10,11 +10,11 @@ use Rattle.chess_text.specs.declared.parts.End.{End}
 use Rattle.chess_text.specs.declared.parts.Parts.{Parts}
 use Rattle.chess_text.specs.declared.writing.Disambiguation.{Disambiguation}
 
--- one of these squares is on the file
+-- one of these squares is on the file f, 0 for a
 abbrev pub some_on_file : ℕ → List ℕ → Bool
 some_on_file f squares = list_any (λ s. file s == f) squares
 
--- one of these squares is on the rank
+-- one of these squares is on the rank r, 0 for rank 1
 abbrev pub some_on_rank : ℕ → List ℕ → Bool
 some_on_rank r squares = list_any (λ s. rank s == r) squares
 

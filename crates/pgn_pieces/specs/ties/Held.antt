@@ -7,7 +7,7 @@ use Rattle.pgn_pieces.specs.declared.pieces.PieceFault.TheVariants.{ReadFailed, 
 use Rattle.pgn_pieces.specs.Pieces.{piece_at}
 use Rattle.pgn_pieces.specs.Stream.{State, past_piece, current, pieces_after_part, pieces_held}
 
--- the next `n` of the bytes that were read become part of the current piece
+-- the state s with the next `n` of the bytes that were read (`coming`) added to the current piece
 abbrev pub passed : ℕ → State → State
 passed n s =
     record { offset = s.offset; part = s.part ++ take n s.coming; coming = drop n s.coming; ended = s.ended }
