@@ -369,8 +369,8 @@ impl<B: Board> Game<B> {
         repetitions(self.played_moves.as_slice())
     }
 
-    /// By what the player on move may claim a draw: the position for the third time, or 50 moves without a pawn move or
-    /// capture.
+    /// By what the player on move may claim a draw: the position is there for the third time, or 50 moves of each side
+    /// without a pawn move or capture.
     pub fn claims(&self) -> Claims
         ensures { result ≡ claims self.now.state.start self.now.state.moves }
     {

@@ -48,7 +48,7 @@ described p m =
 abbrev pub start_texts : ℕ → List (List ℕ)
 start_texts from = [] ∷ file_text (file from) ∷ rank_text (rank from) ∷ square_text from ∷ []
 
--- what is written for a capture: `x` or nothing; nothing for any other move
+-- what may be written before the end square: nothing, or `x`, the latter only if the move captures
 abbrev pub capture_texts : Bool → List (List ℕ)
 capture_texts captures = [] ∷ (if captures then codes "x" ∷ [] else [])
 

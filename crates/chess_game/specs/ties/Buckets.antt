@@ -1,5 +1,5 @@
--- The index of a game's positions: the heads of its buckets, and the entry of each played move. Positions are numbered from 0,
--- the start, on; number k + 1 is the one that played move k reached.
+-- The index of a game's positions: the heads of its buckets, and the entry of each played move. Positions are numbered
+-- from 0, the start, on; number k + 1 is the one that played move k reached.
 use Rattle.std.specs.Prelude.{◌≡◌, ◌<◌, ◌+◌, ◌%◌, ◌==◌, ℕ, zero, suc, Bool, cond, if◌then◌else◌, List, [], ◌∷◌, length, get_or}
 use Rattle.chess_base.specs.declared.man.Move.{Move}
 use Rattle.chess_base.specs.declared.setup.Saved.{Saved}

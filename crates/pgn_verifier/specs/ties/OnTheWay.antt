@@ -1,4 +1,5 @@
--- What becomes of verifying on the way: of a text that is read as a whole, and of pieces before their counts are written.
+-- What becomes of verifying on the way: of a text that is read as a whole, and of pieces before their counts are
+-- written.
 use Rattle.std.specs.Prelude.{◌≡◌, ◌<◌, ℕ, true, false, List, length, Result, Ok, Err, ◌≤◌, ◌+◌, Bool}
 use Rattle.std.specs.List.{flat_map, fold}
 use Rattle.byte_devices.specs.Devices.{InputState, OutputState, Took, Sent, BreaksOff}
