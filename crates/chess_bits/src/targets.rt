@@ -93,8 +93,8 @@ impl Bits<'_> {
         }
     }
 
-    // The set `targets` of end squares from `from`, corrected for castling to this side: if the move from `from` to its
-    // end square is castling, that square is in the result exactly if the castling is legal.
+    // The set `targets` of end squares from `from`, corrected for castling to this side: if the king's move from `from`
+    // to the end square of that castling is castling, the result has this square exactly if the castling is legal.
     fn with_castling(
         &self,
         targets: SquareSet,

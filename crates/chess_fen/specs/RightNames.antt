@@ -57,8 +57,8 @@ outer_rook men c w = unwrap_or (find (λ s. is_man c Rook (man_at men s)) (from_
 abbrev pub is_left_of : Option ℕ → ℕ → Bool
 is_left_of king s = option_map_or (λ k. nat_lt s k) king false
 
--- square s is on that side of the king, both on one rank: nearer to the a-file than he is for the queen's side, else
--- for the king's
+-- square s is on the given side of the king, both on one rank: nearer to the a-file than he is for the queen's side,
+-- else for the king's
 abbrev pub is_towards : CastlingSide → Option ℕ → ℕ → Bool
 is_towards KingSide king s = not (is_left_of king s)
 is_towards QueenSide king s = is_left_of king s

@@ -44,7 +44,7 @@ fn bucket(known: &Hashed) -> usize
 }
 
 // The number of the earliest position of the game that can be the same as `now`, which one more move than
-// `played_moves` gave. None from before the last capture or pawn move can; the halfmove clock tells when that was.
+// `played_moves` gave. None from before the last capture or pawn move can; the halfmove clock shows when that was.
 fn oldest(played_moves: &[PlayedMove], now: &Hashed) -> usize
     requires { IsKnown now.now }
     ensures { (start : Hashed) → Follows start.position played_moves.now → IsNext start played_moves.now now.now → (k : ℕ)

@@ -92,7 +92,8 @@ with_report t (Faulty fault) = record t { faults = t.faults + 1 }
 abbrev pub counts_of : List Report → Tally
 counts_of reports = fold with_report (record { games = 0; half_moves = 0; faults = 0 }) reports
 
--- how verifying ended, by the counts of all reports: `EachGame` is without a fault, or some fault was reported
+-- how verifying ended, by the counts of all reports: `EachGame` if each game is without a fault, `FaultTold` if a fault
+-- was reported
 abbrev pub verified : Tally → Verified
 verified t = if t.faults == 0 then EachGame else FaultTold
 
