@@ -16,8 +16,9 @@ use Rattle.pgn_verifier.specs.Reports.{reports_in, lines_of, counts_line, counts
 abbrev pub collection_reports : Bool → Bool → List ℕ → List Report
 collection_reports strict ended text = flat_map (reports_in strict) (pieces ended text)
 
--- the lines that report the games of a collection of which this text was read: `game 1: 4 half-moves, 0-1` and so on,
--- numbered from 1. `ended`: the text is all of it; if not, its last piece isn't reported
+-- the lines that report the games of a collection of which this text was read, numbered from 1: `game 1: 4 half-moves,
+-- 0-1`. `ended`: the text is all of it; if not, its last piece isn't reported. `options` say whether results are
+-- compared, and whether only faults have a line
 abbrev pub collection_lines : VerifyOptions → Bool → List ℕ → List ℕ
 collection_lines options ended text = lines_of options.quiet 1 (collection_reports options.strict ended text)
 

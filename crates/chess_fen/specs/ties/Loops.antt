@@ -1,4 +1,4 @@
--- The definitions that loops compute, from where a loop stands on.
+-- The definitions that loops compute, from any step of the loop on.
 use Rattle.std.specs.Prelude.{ℕ, zero, suc, ◌-◌, List, map, Option, if◌then◌else◌}
 use Rattle.std.specs.List.{fold, join_with_byte}
 use Rattle.chess_base.specs.declared.man.Colour.{Colour}

@@ -121,7 +121,7 @@ abbrev pub PartsAreRead : Type 0
 PartsAreRead = (q : Parts) → AreParts q → parts_at (parts_text q) ≡ Some q
 
 -- the text denotes the described move: it names its castling, or it is, but for its marks, the text of parts (letter,
--- file, rank, `x`, end) that fit it. Said with parts in place of lists of texts
+-- file, rank, `x`, end) that fit it. Said by parts, without lists of all texts
 abbrev pub IsSpelled : List ℕ → Described → Type 0
 IsSpelled text d =
     ((w : CastlingSide) × (d.castles ≡ Some w) × IsTrue (is_castling_text text w))

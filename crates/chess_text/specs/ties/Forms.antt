@@ -84,7 +84,7 @@ abbrev pub spelled_with : Form → Setup → ℕ → ℕ → List (Option Kind) 
 spelled_with form p a b ks = filter (λ m. is_spelled form p m && is_legal p m) (map (triple a b) ks)
 
 -- what a text is read as after one more legal move m that it denotes, from the reading so far: m if it was `NoSuch`,
--- `Ambiguous` if there was a move already
+-- `Ambiguous` if there was a move already (`NotAMove` stays)
 abbrev pub with_move : Reading → Move → Reading
 with_move reads.NoSuch m = reads.Move m
 with_move (reads.Move n) m = reads.Ambiguous
