@@ -7,8 +7,9 @@ ghost use Rattle.byte_devices.specs.ties.Counting.{no_counts, one_failure_more, 
 use crate::traits::{Input, Output, ReadFault, WriteFault};
 use std::io::{self, Read, Write};
 
-// What is counted of a device's calls: calls that failed, reads that reported the end of the input, the length of the
-// last piece read, the pieces read in all, and the bytes written since the last successful flush.
+// What is counted of a device's calls: calls that failed, reads that reported the end of the input, the length of what
+// the last read gave, the reads that succeeded in all (`pieces`: each gave a piece of the input, an empty one at its
+// end), and the bytes written since the last successful flush.
 #[derive(Drop)]
 pub(crate) struct Counts {
     failures: u64,
@@ -33,7 +34,8 @@ impl Counts {
         }
     }
 
-    // Whether 2^64 - 1 pieces were read, so that one more can't be counted. Every later read is then a failure.
+    // Whether 2^64 - 1 reads succeeded (`Ok(0)` counts too), so that one more can't be counted. Every later read is
+    // then a failure.
     fn is_spent(&self) -> bool
         ensures value { result ≡ (self.now.pieces == 2 ^ 64 - 1) }
         ensures room { result ≡ false → self.now.pieces < 2 ^ 64 - 1 }
@@ -48,8 +50,8 @@ impl Counts {
         self.failures = count_up(self.failures);
     }
 
-    // Counts a read by what the device returned: `Ok(0)` reports the end of the input, `Err` is a failure and becomes
-    // `ReadFault`.
+    // Counts a read by what the device returned, and returns that, with `ReadFault` for any error: `Ok(0)` reports the
+    // end of the input, `Err` is a failure.
     fn end_read(&mut self, answered: io::Result<usize>) -> Result<usize, ReadFault>
         requires { self.old.pieces < 2 ^ 64 - 1 }
         ensures answer { result ≡ passed_on (record {}) answered }
@@ -71,8 +73,8 @@ impl Counts {
         }
     }
 
-    // Counts a write of `len` bytes by what the device returned. `Ok(0)` for a piece that isn't empty is a failure, as
-    // `Err` is; both become `WriteFault`.
+    // Counts a write of `len` bytes by what the device returned, and returns that. `Ok(0)` for a text that isn't empty
+    // is a failure, as `Err` is; both become `WriteFault`.
     fn end_write(&mut self, len: usize, answered: io::Result<usize>) -> Result<usize, WriteFault>
         ensures answer { result ≡ write_passed_on (record {}) len answered }
         ensures counts { self.new ≡ counts_after_write self.old result }
@@ -172,7 +174,7 @@ impl<W: Write> Counted<W> {
         &self.device
     }
 
-    /// Unwraps the writer that was passed to `writing`.
+    /// Gives back the writer that was passed to `writing`, and drops the counts.
     pub fn into_writer(self) -> W
         ensures { W.contents result ≡ (⟦<Counted<W> as Output>⟧.seen self).known_bytes }
     {
@@ -218,13 +220,14 @@ impl<W: Write> Output for Counted<W> {
       unflushed = c.counts.unflushed;
     } };
 
-    // One `write` of the writer, counted.
+    // One `write` of the wrapped writer, counted. An error, or 0 bytes taken of a text that isn't empty, gives
+    // `WriteFault`.
     fn write(&mut self, buf: &[u8]) -> Result<usize, WriteFault> {
         let answered = self.device.write(buf);
         self.counts.end_write(buf.len(), answered)
     }
 
-    // One `flush` of the writer, counted.
+    // One `flush` of the wrapped writer, counted. An error gives `WriteFault`.
     fn flush(&mut self) -> Result<(), WriteFault> {
         let answered = self.device.flush();
         self.counts.end_flush(answered)

@@ -39,7 +39,7 @@ impl<'a> GatedReader<'a> {
     }
 }
 
-// The offset of the first line feed (byte 10), if there is one.
+// The offset of the text's first line feed (byte 10), if there is one.
 fn line_end(text: &[u8]) -> Option<usize>
     ensures value { result ≡ position (λ b. b == 10) text.now }
     ensures in_range { IfSome result (λ at. at < length text.now) }
@@ -123,7 +123,7 @@ impl Write for GatedWriter<'_> {
         Ok(buf.len())
     }
 
-    // Opens the gate.
+    // Opens the gate, so that the `GatedReader` gives its next line. It never fails.
     fn flush(&mut self) -> Result<()>
         ensures bytes { Keeps (Some self.old.bytes.items) (Some self.new.bytes.items) }
         ensures never_fails { IsOk result }

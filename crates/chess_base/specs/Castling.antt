@@ -33,26 +33,27 @@ abbrev pub rook_file : CastlingSide → ℕ
 rook_file KingSide = 7
 rook_file QueenSide = 0
 
--- castling takes the king to the g-file or the c-file (3.8.2)
+-- the file to which castling on this side takes the king: g (6) or c (2) (3.8.2)
 abbrev pub castled_king_file : CastlingSide → ℕ
 castled_king_file KingSide = 6
 castled_king_file QueenSide = 2
 
--- castling takes the rook to the f-file or the d-file (3.8.2)
+-- the file to which castling on this side takes the rook: f (5) or d (3) (3.8.2)
 abbrev pub castled_rook_file : CastlingSide → ℕ
 castled_rook_file KingSide = 5
 castled_rook_file QueenSide = 3
 
 -- ---- rights (3.8.2.1)
 
--- the square of the rook with which a colour may castle on that side, if it may
+-- colour c's castling right on that side, as the rights r have it: the square of the rook with which it may castle
+-- there, or none
 abbrev pub right_of : Rights → Colour → CastlingSide → Option ℕ
 right_of r White KingSide = r.white.king_side
 right_of r White QueenSide = r.white.queen_side
 right_of r Black KingSide = r.black.king_side
 right_of r Black QueenSide = r.black.queen_side
 
--- the four rights, each as f gives it for its colour and side
+-- the castling rights of both colours and sides, each as f gives it: the square of the rook, or none
 abbrev pub rights_by : (Colour → CastlingSide → Option ℕ) → Rights
 rights_by f = record {
   white = record { king_side = f White KingSide; queen_side = f White QueenSide };
@@ -82,20 +83,21 @@ are_placed_for_castling Normal men c w s =
     && is_man c Rook (man_at men s)
 are_placed_for_castling Fischerandom men c w s = is_beside c w (king_square men c) s && is_man c Rook (man_at men s)
 
--- the right, if it is there, has its king and its rook where castling begins
+-- colour c's castling right on side w, if it is there, has its king and its rook where castling begins
 unfoldable pub right_is_sound : Setup → Colour → CastlingSide → Bool
 right_is_sound p c w = option_map_or (are_placed_for_castling p.variant p.men c w) (right_of p.rights c w) true
 
 -- ---- which moves are castling
 
--- the squares of move m are those of colour c's castling on side w with that rook: in normal chess the king's start and
--- end square (e1g1), in Chess960 the king's and the rook's square, on one rank (e1h1)
+-- the squares of move m are those of colour c's castling on side w with the rook on square `rook`: in normal chess the
+-- king's start and end square (e1g1), in Chess960 the king's and the rook's square, on one rank (e1h1)
 abbrev pub names_castling_with : Variant → Colour → Move → CastlingSide → ℕ → Bool
 names_castling_with Normal c m w rook = (m.from == home_square c king_home_file)
     && (m.to == home_square c (castled_king_file w))
 names_castling_with Fischerandom c m w rook = (rank m.from == rank rook) && (m.to == rook)
 
--- the king makes the move, the right to castle on that side is there, and the squares name castling with its rook
+-- move m is castling to side w: the side on move has that right, its king makes the move, and the squares are those of
+-- castling with the right's rook. Whether anything prevents it is not asked here
 unfoldable pub says_castling : Setup → Move → CastlingSide → Bool
 says_castling p m w = is_man p.side King (man_at p.men m.from)
     && option_map_or (names_castling_with p.variant p.side m w) (right_of p.rights p.side w) false
@@ -116,8 +118,8 @@ castle_from c w k r = record {
   rook_to = home_square c (castled_rook_file w);
 }
 
--- the four squares of colour c's castling on the given side, with the rights r: the king starts on the move's start
--- square, the rook on the square of its right; none if there is no side or no right
+-- the four squares of colour c's castling on the given side, by the rights r: the king starts on move m's start square,
+-- the rook on the square of its right; none if no side is given or there is no right
 abbrev pub castle_by : Colour → Rights → Move → Option CastlingSide → Option Castle
 castle_by c r m side = option_and_then (λ w. option_map (castle_from c w m.from) (right_of r c w)) side
 
@@ -130,7 +132,7 @@ castle_of p m = castle_by p.side p.rights m (castling p m)
 unfoldable pub lands_on : Setup → Move → ℕ
 lands_on p m = option_map_or (λ k. k.king_to) (castle_of p m) m.to
 
--- where the castling rook arrives, if the move is castling
+-- the square on which the castling rook ends, as f1 for e1g1; none if the move is not castling
 unfoldable pub castling_rook_to : Setup → Move → Option ℕ
 castling_rook_to p m = option_map (λ k. k.rook_to) (castle_of p m)
 
@@ -155,6 +157,7 @@ unfoldable pub castling_way_is_safe : Men → Colour → Castle → Bool
 castling_way_is_safe men c k = each_square
     (λ x. not (is_on_way k.king_from k.king_to x) || not (is_attacked men x (other c)))
 
--- nothing prevents castling k, and the move names no promotion
+-- nothing prevents castling k, which move m is: the squares that king and rook cross or end on are empty but for these
+-- two, the king's are not attacked, and m names no promotion
 unfoldable pub castles : Setup → Move → Castle → Bool
 castles p m k = is_none m.promotion && castling_way_is_empty p.men k && castling_way_is_safe p.men p.side k

@@ -7,7 +7,7 @@ use Rattle.chess_base.specs.declared.man.Kind.{Kind}
 use Rattle.chess_base.specs.declared.man.Kind.TheVariants.{Pawn, Knight, Bishop, Rook, Queen, King}
 use Rattle.chess_base.specs.Squares.{file, rank}
 
--- the first number of a list, 0 where it is empty: for `byte`
+-- the first number of a list; 0 for the empty list
 abbrev first_of : List ℕ → ℕ
 first_of [] = 0
 first_of (c ∷ cs) = c

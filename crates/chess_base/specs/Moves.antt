@@ -56,8 +56,8 @@ pawn_moves p m =
 unfoldable pub man_moves : Setup → Move → Bool
 man_moves p m = is_none m.promotion && attacks p.men m.from m.to && not (is_of p.side (man_at p.men m.to))
 
--- that piece, if it is one of the side on move, goes so: a pawn as pawns do, any other piece as it castles, if the move
--- is castling, or else as it moves
+-- the given piece, if it is one of the side on move, can make move m: a pawn as pawns do; any other piece by castling,
+-- if m is castling, or else as it moves. False if no piece is given
 abbrev pub moves_as : Setup → Move → Option Man → Bool
 moves_as p m None = false
 moves_as p m (Some x) =
@@ -76,13 +76,13 @@ man_that_lands None k = None
 man_that_lands (Some x) None = Some x
 man_that_lands (Some x) (Some k) = Some (record { colour = x.colour; kind = k })
 
--- the square one step back from s, as pawns of colour c go: for a black pawn that takes on the target e3 it is e4, where
--- the pawn is that it takes en passant
+-- the square one step back from s for a pawn of colour c: when a black pawn takes en passant on e3, the pawn that it
+-- takes is on e4, one step back from e3 for Black
 abbrev pub behind : Colour → ℕ → ℕ
 behind c s = forward (other c) s
 
--- the square, beside the start square, that the move empties: that of the pawn taken en passant, or of the castling
--- rook; none for any other move
+-- the square, beside its start square, that move m empties: that of the pawn taken en passant, or of the castling rook;
+-- none for any other move
 unfoldable pub second_square_emptied : Setup → Move → Option ℕ
 second_square_emptied p m = if is_en_passant p m then Some (behind p.side m.to) else option_map (λ k. k.rook_from) (castle_of p m)
 
@@ -109,7 +109,8 @@ right_after p m c None = None
 right_after p m c (Some s) =
     if is_man c King (man_at p.men m.from) || (m.from == s) || (m.to == s) then None else Some s
 
--- the four rights after a move
+-- the four castling rights after move m: each as before, unless its king moves, or m starts or ends on its rook's
+-- square
 unfoldable pub rights_after : Setup → Move → Rights
 rights_after p m = rights_by (λ c w. right_after p m c (right_of p.rights c w))
 
@@ -125,7 +126,7 @@ resets_clock p m = is_man p.side Pawn (man_at p.men m.from) || is_of (other p.si
 unfoldable pub halfmove_after : Setup → Move → ℕ
 halfmove_after p m = if resets_clock p m then 0 else min (p.halfmove + 1) COUNTER_LIMIT
 
--- the fullmove number after a move of that colour, from the number before: one more after Black's, up to 999,999
+-- the fullmove number after a move of this colour, from the number before: one more after Black's, up to 999,999
 abbrev pub fullmove_after : Colour → ℕ → ℕ
 fullmove_after White n = n
 fullmove_after Black n = min (n + 1) COUNTER_LIMIT

@@ -62,7 +62,7 @@ pub fn steps_of(setup: &Setup, m: &Move) -> Steps
     }
 }
 
-// The pieces on all 64 squares after the move.
+// The pieces on all 64 squares after move `m` of the position.
 #[tactic(auto, unfolding(crate::specs::Moves::men_after))]
 pub(crate) fn men_after(setup: &Setup, m: &Move) -> [Option<Man>; 64]
     requires { IsSound setup.now }
@@ -73,7 +73,7 @@ pub(crate) fn men_after(setup: &Setup, m: &Move) -> [Option<Man>; 64]
     men
 }
 
-// What the move leaves of one castling right (the square of its rook): it is lost when that colour's king moves, or
+// What the move leaves of one castling right (the square of its rook): it is lost when this colour's king moves, or
 // when a move starts or ends on the rook's square.
 fn right_after(
     setup: &Setup,

@@ -54,7 +54,7 @@ pub fn saved_of(setup: &Setup, m: &Move) -> Saved
     }
 }
 
-// The square of the piece that the move of that colour captured, from what was saved; none if it captured nothing. A
+// The square of the piece that the move of this colour captured, from what was saved; none if it captured nothing. A
 // capture on the old en passant target was en passant, since the target is empty.
 #[tactic(auto, unfolding(crate::specs::Before::captured_from))]
 fn captured_from(colour: Colour, m: &Move, saved: &Saved) -> Option<Square>
@@ -71,8 +71,8 @@ fn captured_from(colour: Colour, m: &Move, saved: &Saved) -> Option<Square>
     }
 }
 
-// Whether the move of that colour, which left the pieces `men`, was castling on that side: the right was there, the
-// squares are those of castling, and the king is where that castling takes him.
+// Whether move `m` of this colour, which left the pieces `men`, was castling on that side: the right was there before
+// (it is in `saved`), `m` has the squares of castling, and the king is where that castling takes him.
 #[tactic(auto, unfolding(crate::specs::Before::was_castling))]
 fn was_castling(
     variant: Variant,
@@ -95,7 +95,8 @@ fn was_castling(
         )
 }
 
-// The side to which the move of that colour, which left the pieces `men`, castled; none if it was not castling.
+// The side to which move `m` of this colour castled; `None` if it was not castling. `men` are the pieces after it,
+// `saved` is what was saved of the position before it.
 #[tactic(auto, unfolding(crate::specs::Before::castled))]
 fn castled(
     variant: Variant,
@@ -140,8 +141,8 @@ fn man_that_left(man: Option<Man>, promotion: Option<Kind>) -> Option<Man>
     }
 }
 
-// The square on which a second piece returns when the move is taken back: the castling rook, or else the captured
-// piece; none if neither.
+// The square on which a second piece returns when move `m` of this colour is taken back: that of the castling rook, if
+// `m` was castling (`castle`), or else of the captured piece; `None` if nothing was captured.
 fn second_back_to(
     colour: Colour,
     m: &Move,
@@ -157,8 +158,8 @@ fn second_back_to(
     }
 }
 
-// The second piece that returns when the move is taken back: the castling rook, or else the captured piece; none if
-// neither.
+// The second piece that returns when a move of this colour is taken back: the castling rook, if the move was castling
+// (`castle`), or else the captured piece; `None` if nothing was captured.
 fn second_back(colour: Colour, saved: &Saved, castle: &Option<Castle>) -> Option<Man>
     ensures { result ≡ second_back colour saved.now castle.now }
 {

@@ -21,7 +21,7 @@ pub struct Castle {
     pub rook_to: Square,
 }
 
-/// The square on that file (0 for a) of that colour's first rank: for White and 4 that is `e1`.
+/// The square on this file (0 for a) of this colour's first rank: for White and 4 that is `e1`.
 pub fn home_square(colour: Colour, file: u8) -> Square
     requires { file < 8 }
     ensures { result ≡ home_square colour file }
@@ -37,7 +37,7 @@ pub(crate) fn king_home_file() -> u8
     4
 }
 
-/// The file on which that side's rook begins in normal chess (Laws of Chess 2023, article 2.3).
+/// The file on which this side's rook begins in normal chess (Laws of Chess 2023, article 2.3).
 pub fn rook_file(castling_side: CastlingSide) -> u8
     ensures value { result ≡ rook_file castling_side }
     ensures in_range { result < 8 }
@@ -70,7 +70,7 @@ pub fn castled_rook_file(castling_side: CastlingSide) -> u8
     }
 }
 
-/// The castling right of that colour on that side: the square of the rook with which it may castle there, or none.
+/// The castling right of this colour on that side: the square of the rook with which it may castle there, or none.
 pub fn right_of(rights: Rights, colour: Colour, castling_side: CastlingSide) -> Option<Square>
     ensures { result ≡ right_of rights colour castling_side }
 {
@@ -82,7 +82,7 @@ pub fn right_of(rights: Rights, colour: Colour, castling_side: CastlingSide) -> 
     }
 }
 
-// The index of that colour's king in the list of pieces, which is the number of its square; none if it has no king.
+// The index of this colour's king in the list of pieces, which is the number of its square; none if it has no king.
 #[tactic(auto, unfolding(crate::specs::Castling::king_square))]
 fn king_index(men: &[Option<Man>; 64], colour: Colour) -> Option<usize>
     ensures value { result ≡ king_square men.now colour }
@@ -91,7 +91,7 @@ fn king_index(men: &[Option<Man>; 64], colour: Colour) -> Option<usize>
     men.iter().position(|man| is_man(colour, Kind::King, *man))
 }
 
-/// The square of the king of that colour, of several the first from a1 on; none where it has none.
+/// The square of the king of this colour, of several the first from a1 on; none where it has none.
 pub fn king_square(men: &[Option<Man>; 64], colour: Colour) -> Option<Square>
     ensures { result ≡ king_square men.now colour }
 {
@@ -126,7 +126,7 @@ fn is_beside(colour: Colour, castling_side: CastlingSide, king: Option<Square>, 
     }
 }
 
-// Whether that colour's king, and its rook on square `rook`, are where castling to that side begins: in normal chess
+// Whether this colour's king, and its rook on square `rook`, are where castling to this side begins: in normal chess
 // both on their initial squares, in Chess960 both on the first rank, the rook on that side of the king.
 fn are_placed_for_castling(
     variant: Variant,
@@ -191,7 +191,7 @@ pub(crate) fn names_castling(
     }
 }
 
-// Whether the move is castling to that side: the side on move has the right, and its king makes that move. Whether
+// Whether the move is castling to this side: the side on move has the right, and its king makes that move. Whether
 // anything prevents it is asked by `castles`.
 #[tactic(auto, unfolding(crate::specs::Castling::says_castling))]
 fn says_castling(setup: &Setup, m: &Move, castling_side: CastlingSide) -> bool
@@ -221,7 +221,8 @@ pub fn castling(setup: &Setup, m: &Move) -> Option<CastlingSide>
     }
 }
 
-// The four squares of that colour's castling to that side, with the king and the rook on those squares before it.
+// The four squares of this colour's castling to this side, where the king starts on the square `king` and the rook on
+// the square `rook`.
 fn castle_from(colour: Colour, castling_side: CastlingSide, king: Square, rook: Square) -> Castle
     ensures { result ≡ castle_from colour castling_side king rook }
 {
@@ -233,7 +234,7 @@ fn castle_from(colour: Colour, castling_side: CastlingSide, king: Square, rook: 
     }
 }
 
-// The four squares of that colour's castling to the given side: the king starts on the move's start square, the rook on
+// The four squares of this colour's castling to the given side: the king starts on the move's start square, the rook on
 // the square of its right. None if there is no side, or no right.
 pub(crate) fn castle_by(
     colour: Colour,
@@ -256,7 +257,8 @@ pub fn castle_of(setup: &Setup, m: &Move) -> Option<Castle>
     castle_by(setup.side, setup.rights, m, castling(setup, m))
 }
 
-// The square on which the moving piece ends: the move's end square, or the king's end square if the move is a castling.
+// The square on which the moving piece ends: the move's end square, or the king's end square if the move is castling
+// (`castle`).
 pub(crate) fn mover_to(m: &Move, castle: &Option<Castle>) -> Square
     ensures { result ≡ mover_to m.now castle.now }
 {
@@ -337,7 +339,7 @@ fn castling_way_is_empty(men: &[Option<Man>; 64], castle: &Castle) -> bool
     true
 }
 
-// Whether no square that the king of that colour starts on, crosses or ends on is attacked (Laws of Chess 2023, article
+// Whether no square that the king of this colour starts on, crosses or ends on is attacked (Laws of Chess 2023, article
 // 3.8.2.2.1).
 #[tactic(auto, unfolding(crate::specs::Castling::castling_way_is_safe))]
 fn castling_way_is_safe(men: &[Option<Man>; 64], colour: Colour, castle: &Castle) -> bool

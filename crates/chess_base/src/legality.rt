@@ -13,7 +13,7 @@ use crate::man::{Colour, Kind, Man, Move};
 use crate::pawns::pawn_moves;
 use crate::setup::Setup;
 
-/// The rank of that colour's king and rooks at the start: 0 (rank 1) for White, 7 (rank 8) for Black.
+/// The rank of this colour's king and rooks at the start: 0 (rank 1) for White, 7 (rank 8) for Black.
 pub fn first_rank(colour: Colour) -> u8
     ensures { result ≡ first_rank colour }
 {
@@ -23,7 +23,7 @@ pub fn first_rank(colour: Colour) -> u8
     }
 }
 
-// The piece on the square with that number; none if it is empty, or if the number is not below 64.
+// The piece on the square with this number; none if it is empty, or if the number is not below 64.
 pub(crate) fn man_on(men: &[Option<Man>; 64], number: u8) -> Option<Man>
     ensures { result ≡ man_at men.now number }
 {

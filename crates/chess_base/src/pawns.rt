@@ -10,7 +10,7 @@ use crate::man::{Colour, Kind, Move};
 use crate::setup::Setup;
 use crate::square::is_square;
 
-// The number of the square straight ahead for a pawn of that colour: from `e2` (12) White's is `e3` (20). On its last
+// The number of the square straight ahead for a pawn of this colour: from `e2` (12) White's is `e3` (20). On its last
 // rank, where no pawn is, the result means nothing: White's is above 63, Black's 0.
 pub(crate) fn forward(colour: Colour, number: u8) -> u8
     requires { number < 248 }
@@ -22,7 +22,7 @@ pub(crate) fn forward(colour: Colour, number: u8) -> u8
     }
 }
 
-/// The rank of that colour's pawns at the start: 1 (rank 2) for White, 6 (rank 7) for Black (Laws of Chess 2023,
+/// The rank of this colour's pawns at the start: 1 (rank 2) for White, 6 (rank 7) for Black (Laws of Chess 2023,
 /// article 2.3).
 pub fn pawn_rank(colour: Colour) -> u8
     ensures { result ≡ pawn_rank colour }

@@ -62,7 +62,7 @@ impl Position {
         Position::initial_of(Variant::Normal)
     }
 
-    /// The initial position of normal chess, with that variant: in Chess960 it is one of the 960 starting positions.
+    /// The initial position of normal chess, with this variant: in Chess960 it is one of the 960 starting positions.
     pub fn initial_of(variant: Variant) -> Self
         ensures { result ≡ initial_setup_of variant }
     {
@@ -118,7 +118,7 @@ impl Position {
         self.setup.side
     }
 
-    /// The piece on that square, or none.
+    /// The piece on this square, or none.
     pub fn at(&self, square: Square) -> Option<Man>
         ensures { result ≡ man_at self.now.men square }
     {

@@ -40,7 +40,7 @@ impl<'t> Model for Bits<'t> {
 }
 
 impl<'t> Bits<'t> {
-    /// A board at the initial position, which looks attacks up in those tables.
+    /// A board at the initial position, which looks attacks up in `tables`.
     pub fn new(tables: &'t AttackTables) -> Self
         ensures { result ≡ initial_setup }
     {
@@ -54,14 +54,14 @@ impl<'t> Bits<'t> {
         }
     }
 
-    // The squares that are not empty.
+    // The squares that are not empty: those of the pieces of both colours.
     pub(crate) fn occupied(&self) -> SquareSet
         ensures { IsOccupied result self.now.men }
     {
         self.sets.occupied()
     }
 
-    // The square of that colour's king.
+    // The square of this colour's king.
     pub(crate) fn king(&self, colour: Colour) -> Square
         ensures alone { (k : ℕ) → k < 64 → is_man colour King (man_at self.now.men k) ≡ (k == result) }
         ensures in_range { result < 64 }
@@ -71,7 +71,7 @@ impl<'t> Bits<'t> {
         kings.first()
     }
 
-    // Whether a piece of colour `by` attacks the square.
+    // Whether some piece of colour `by` attacks the square, given the pieces on the board.
     pub(crate) fn is_attacked(&self, square: Square, by: Colour) -> bool
         ensures { result ≡ is_attacked self.now.men square by }
     {
@@ -87,39 +87,46 @@ impl Board for Bits<'_> {
 
     ghost word_of = { position_word };
 
-    // Sets the board to that position.
+    // Sets the board to the position `to`.
     fn set(&mut self, to: &Position) {
         let setup = to.setup();
         self.sets = Sets::standing(self.tables.keys(), &setup.men);
         self.setup = *setup;
     }
 
+    // The position that the board is at.
     fn position(&self) -> Position {
         Position::from_sound(self.setup)
     }
 
+    // The position that the board is at, lent as a `Setup` without a copy.
     fn setup(&self) -> &Setup {
         &self.setup
     }
 
+    // All legal moves, each once, rising by start square, end square and promotion.
     fn legal_moves(&self) -> MoveList {
         self.moves()
     }
 
+    // How many legal moves there are.
     fn legal_move_count(&self) -> usize {
         self.count()
     }
 
+    // Whether there is a legal move.
     fn has_legal_move(&self) -> bool {
         self.has_move()
     }
 
+    // Whether a move is legal.
     fn is_legal(&self, m: &Move) -> bool {
         self.is_legal_by_kind(m)
     }
 
-    // The squares in which to look for a legal move's start: for a king its own square, for pawns the squares of `to`'s
-    // file and those from which they attack `to`, for any other kind the pieces that attack `to`.
+    // A set of squares that has at least the starts of the legal moves of this kind of piece to `to`: for a king its
+    // own square, for pawns those on `to`'s file and those that attack `to`, for any other kind the pieces that attack
+    // `to`.
     fn origins(&self, kind: Kind, to: Square) -> SquareSet {
         let side = self.setup.side;
         let men = self.sets.of(side);
@@ -134,18 +141,19 @@ impl Board for Bits<'_> {
         own.intersection(reached)
     }
 
-    // The squares of that colour's pieces of that kind.
+    // The squares of this colour's pieces of this kind.
     #[inline(always)]
     fn men_of(&self, colour: Colour, kind: Kind) -> SquareSet {
         self.sets.of(colour).of(kind)
     }
 
-    // The squares from which a piece of that kind, of the side on move, may legally move to `to` without a promotion.
+    // The squares from which a piece of this kind, of the side on move, may legally move to `to` without a promotion.
     #[inline(always)]
     fn legal_starts(&self, kind: Kind, to: Square) -> SquareSet {
         self.starts_of(kind, to)
     }
 
+    // Whether the side on move is in check.
     #[tactic(auto, using(crate::proofs::AfterSets::check_is))]
     fn in_check(&self) -> bool {
         let side = self.setup.side;
@@ -159,7 +167,7 @@ impl Board for Bits<'_> {
         word_with(self.tables.keys(), self.sets.men_word, &self.setup)
     }
 
-    // Makes a legal move, and returns what `take_back` needs.
+    // Makes a legal move, and returns what `take_back` needs to take it back.
     #[inline(always)]
     fn make(&mut self, m: Move) -> Saved {
         let keys = self.tables.keys();

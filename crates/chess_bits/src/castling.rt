@@ -27,7 +27,7 @@ impl Bits<'_> {
         above.intersection(self.tables.at(Shape::Ray(Line::Rank, false), high))
     }
 
-    // The squares strictly between two squares of one rank.
+    // The squares strictly between two squares of one rank, in either order.
     #[tactic(auto, using(crate::proofs::CastlingBySets::between_up, crate::proofs::CastlingBySets::between_down))]
     fn between(&self, a: Square, b: Square) -> SquareSet
         requires { rank a ≡ rank b }
@@ -39,7 +39,7 @@ impl Bits<'_> {
         self.above_and_below(b, a)
     }
 
-    // The squares from one square of a rank to another, both included.
+    // The squares of a rank from one square to another, both included.
     fn way(&self, a: Square, b: Square) -> SquareSet
         requires { rank a ≡ rank b }
         ensures { (k : ℕ) → k < 64 → has result k ≡ is_on_way a b k }
@@ -48,7 +48,7 @@ impl Bits<'_> {
         ends.union(self.between(a, b))
     }
 
-    // Whether the other side attacks no square of this set.
+    // Whether the side that is not on move attacks no square of the set `way`.
     fn is_safe_way(&self, way: SquareSet) -> bool
         ensures { result ≡ each_square
             (λ x. not (has way x) || not (is_attacked (self.now).men x (other (self.now).side))) }
@@ -63,8 +63,8 @@ impl Bits<'_> {
         true
     }
 
-    // Whether nothing prevents that castling: the squares that king and rook cross or end on are empty, and those of
-    // the king are not attacked.
+    // Whether nothing prevents the castling with these squares: those that king and rook cross or end on are empty, but
+    // for these two, and those of the king are not attacked.
     fn castles(&self, castle: &Castle) -> bool
         requires kings { rank castle.now.king_from ≡ rank castle.now.king_to }
         requires rooks { rank castle.now.rook_from ≡ rank castle.now.rook_to }
@@ -84,7 +84,7 @@ impl Bits<'_> {
         self.is_safe_way(walk)
     }
 
-    // Whether the move, which is that castling, is legal.
+    // Whether the move `m`, which is the castling with these squares, is legal.
     pub(crate) fn castles_legally(&self, m: &Move, castle: &Castle) -> bool
         requires castle { castle_of self.now m.now ≡ Some castle.now }
         requires none { m.now.promotion ≡ None }
@@ -102,8 +102,8 @@ impl Bits<'_> {
         }
     }
 
-    // Whether the king is not attacked after that castling, which nothing prevents: in Chess960 the rook, now gone, may
-    // have been between it and an attacker.
+    // Whether the king is not attacked after the move `m`, which is the castling with these squares and which nothing
+    // prevents: in Chess960 the rook, now gone, may have been between it and an attacker.
     fn is_safe_castled(&self, m: &Move, castle: &Castle) -> bool
         requires castle { castle_of self.now m.now ≡ Some castle.now }
         requires none { m.now.promotion ≡ None }

@@ -27,7 +27,7 @@ impl Bits<'_> {
         if self.is_safe_after(m) { 1 } else { 0 }
     }
 
-    // 1 if the pawn's promotion to that kind, on its way from `from` to `to`, is legal, else 0.
+    // 1 if the promotion of the pawn on `from` to a piece of this kind, on `to`, is legal, else 0.
     fn times_promoted(&self, from: Square, to: Square, kind: Kind) -> usize
         requires goes { goes self.now from to ≡ true }
         requires fits { promotion_fits (would_promote self.now from to) (Some kind) ≡ true }
@@ -60,7 +60,7 @@ impl Bits<'_> {
         }
     }
 
-    // How many legal moves there are from that square.
+    // How many legal moves there are from the square `from`.
     fn count_from(&self, from: Square) -> usize
         requires { length (moves_from self.now from) ≤ 896 }
         ensures { result ≡ length (moves_from self.now from) }
@@ -73,7 +73,7 @@ impl Bits<'_> {
         count
     }
 
-    // 1 if the king's ordinary move from `king` to `to` is legal, else 0.
+    // 1 if the king's ordinary move (not castling) from `king` to `to` is legal, else 0.
     fn times_stepped(&self, king: Square, to: Square) -> usize
         requires king { is_man (self.now).side King (man_at (self.now).men king) ≡ true }
         requires step { man_moves self.now (triple king to None) ≡ true }
@@ -82,7 +82,7 @@ impl Bits<'_> {
         if self.is_safe_step(king, to) { 1 } else { 0 }
     }
 
-    // How many legal moves the king on that square has: ordinary ones, and castling.
+    // How many legal moves the king on the square `king` has: ordinary ones, and castling.
     fn count_king(&self, king: Square) -> usize
         requires king { is_man (self.now).side King (man_at (self.now).men king) ≡ true }
         requires few { length (moves_from self.now king) ≤ 896 }
@@ -112,8 +112,8 @@ impl Bits<'_> {
         self.count_usual_pawns(usual) + self.count_each(unusual)
     }
 
-    // How many legal moves the queen, rook, bishop or knight on `from` has, of that kind. It is free: its king is safe
-    // wherever it goes, so each square that it reaches counts.
+    // How many legal moves the piece on `from`, a queen, rook, bishop or knight of this kind, has. It is free: its king
+    // is safe wherever it goes, so each square that it reaches counts.
     #[inline(always)]
     fn count_officer(&self, kind: Kind, from: Square) -> usize
         requires kind { (same_kind King kind || same_kind Pawn kind) ≡ false }
@@ -127,7 +127,8 @@ impl Bits<'_> {
         self.steps(kind, from).len()
     }
 
-    // How many legal moves these free pieces of a kind have, neither kings nor pawns.
+    // How many legal moves the pieces of this kind (neither king nor pawn) on the squares `men` have. They are free:
+    // their king is safe wherever they go.
     #[inline(always)]
     fn count_officers(&self, kind: Kind, men: SquareSet) -> usize
         requires kind { (same_kind King kind || same_kind Pawn kind) ≡ false }
@@ -143,8 +144,8 @@ impl Bits<'_> {
         count
     }
 
-    // Takes the pieces of that kind that are in the set `free` out of the set `men`, and returns how many legal moves
-    // they have.
+    // Takes the pieces of this kind that are in the set `free` out of the set `men`, and returns how many legal moves
+    // they have. The king is safe wherever pieces in `free` go.
     #[inline(always)]
     fn count_kind(&self, kind: Kind, free: SquareSet, men: &mut SquareSet) -> usize
         requires kind { same_kind King kind ≡ false }
@@ -207,7 +208,7 @@ impl Bits<'_> {
         pawns + knights + bishops + rooks + queens + others
     }
 
-    // Whether there is a legal move from that square. It looks no further than the first.
+    // Whether there is a legal move from the square `from`. It looks no further than the first.
     fn has_move_from(&self, from: Square) -> bool
         ensures { result ≡ nat_lt 0 (length (moves_from self.now from)) }
     {
@@ -263,8 +264,8 @@ impl Bits<'_> {
         false
     }
 
-    // A quick test for a legal move: whether the king is not in check, and a knight or pawn that is on no rank, file or
-    // diagonal of the king has a legal move. `false` says nothing.
+    // A quick test for a legal move: true only if the king is not in check, and a knight or pawn on no rank, file or
+    // diagonal of the king has a legal move. If it is false, there may be a legal move all the same.
     fn has_usual_move(&self) -> bool
         ensures { result ≡ true → nat_lt 0 (length (moves self.now)) ≡ true }
     {

@@ -5,7 +5,7 @@ ghost use Rattle.chess_moves.specs.PositionWord.{key};
 
 use chess_moves::{ComputedKeys, Keys};
 
-/// All 785 keys of position hashes, by their numbers.
+/// All 785 Zobrist keys, of which position hashes are made, by their numbers.
 #[derive(Drop)]
 pub struct KeyTable {
     keys: [u64; 785],
@@ -13,7 +13,7 @@ pub struct KeyTable {
 }
 
 impl KeyTable {
-    /// Computes all keys.
+    /// Computes all 785 Zobrist keys.
     pub fn new() -> Self {
         let mut keys = [0; 785];
         for number in 0..785 {
@@ -24,7 +24,7 @@ impl KeyTable {
 }
 
 impl Keys for KeyTable {
-    // The key with that number, looked up.
+    // The Zobrist key with this number, from 0 to 784, looked up in the table.
     #[inline(always)]
     fn key(&self, number: u16) -> u64 {
         self.keys[number as usize]

@@ -38,7 +38,7 @@ fn number(kind: Kind) -> usize
 }
 
 impl Kinds {
-    /// The sets of a colour without pieces.
+    /// The sets of a colour that has no pieces.
     #[tactic(auto, using(crate::proofs::Standing::no_kinds))]
     pub fn empty() -> Kinds
         ensures { (c : Side) → (men : Men) → ((k : ℕ) → k < 64 → man_at men k ≡ None) → IsKinds result.sets c men }
@@ -49,7 +49,7 @@ impl Kinds {
         }
     }
 
-    /// Adds a piece of that kind on a square, which is empty.
+    /// Adds a piece of this kind on a square, which is empty.
     pub fn put(&mut self, kind: Kind, square: Square)
         ensures { (men : Men) → (c : Side) → length men ≡ 64 → man_at men square ≡ None → IsKinds self.old.sets c men
             → IsKinds self.new.sets c (slice_set men square (Some (record { colour = c; kind = kind }))) }
@@ -58,7 +58,7 @@ impl Kinds {
         self.sets[at] = self.sets[at].union(SquareSet::single(square));
     }
 
-    /// Removes a piece of that kind from its square.
+    /// Removes a piece of this kind from its square.
     pub fn lift(&mut self, kind: Kind, square: Square)
         ensures { (men : Men) → (c : Side) → length men ≡ 64
             → man_at men square ≡ Some (record { colour = c; kind = kind }) → IsKinds self.old.sets c men
@@ -68,7 +68,7 @@ impl Kinds {
         self.sets[at] = self.sets[at].without(SquareSet::single(square));
     }
 
-    /// Moves a piece of that kind from one square to another, which is empty.
+    /// Moves a piece of this kind from one square to another, which is empty.
     #[inline(always)]
     pub fn shift(&mut self, kind: Kind, from: Square, to: Square)
         ensures { (men : Men) → (c : Side) → length men ≡ 64
@@ -157,14 +157,15 @@ fn met_on_diagonals(
 }
 
 impl Kinds {
-    /// The squares of this colour's pieces of that kind.
+    /// The squares of the pieces of this kind, of the colour that these sets are of.
     pub fn of(&self, kind: Kind) -> SquareSet
         ensures { result ≡ slice_index self.now.sets (kind_number kind) }
     {
         self.sets[number(kind)]
     }
 
-    /// Those of these pieces, which are of that colour, that attack `square`, given the occupied squares of the board.
+    /// The squares of the pieces in these sets, which are of this colour, that attack `square`; `occupied` are the
+    /// occupied squares of the board.
     #[inline(always)]
     pub fn attackers(
         &self,
@@ -196,8 +197,8 @@ impl Kinds {
             .union(pawns)
     }
 
-    /// Whether one of these pieces, which are of that colour, attacks `square`, given the occupied squares of the
-    /// board.
+    /// Whether a piece in these sets, which are of this colour, attacks `square`; `occupied` are the occupied squares
+    /// of the board.
     #[tactic(auto, unfolding(chess_base::specs::Attacks::is_attacked))]
     pub fn attacks(
         &self,
@@ -212,8 +213,9 @@ impl Kinds {
         !self.attackers(tables, colour, square, occupied).is_empty()
     }
 
-    /// Whether one of these pieces, which are of that colour, attacks `square`, given the squares that are occupied
-    /// after a move. Pieces on squares of `changed`, the ones that the move changed, don't count: they were captured.
+    /// Whether a piece in these sets, which are of this colour, attacks `square` after a move; `occupied` are the
+    /// squares occupied then. Pieces on squares of `changed`, those that the move changed, don't count: they were
+    /// captured.
     #[inline(always)]
     #[tactic(auto, unfolding(chess_base::specs::Attacks::is_attacked))]
     pub fn attacks_outside(

@@ -15,7 +15,7 @@ use chess_base::rules::{Steps, is_man};
 use chess_base::{Kind, Move, Square};
 use chess_moves::SquareSet;
 
-// The set of that square alone, or the empty set if there is none.
+// The set of the given square alone; the empty set if none is given.
 pub(crate) fn set_of(square: Option<Square>) -> SquareSet
     ensures { (k : ℕ) → has result k ≡ is_square square k }
 {
@@ -25,7 +25,7 @@ pub(crate) fn set_of(square: Option<Square>) -> SquareSet
     }
 }
 
-// The squares on which pieces arrive by these steps of a move.
+// The squares on which pieces arrive by these steps: the mover's, and the castling rook's.
 #[inline(always)]
 fn filled_by(steps: &Steps) -> SquareSet
     ensures { (k : ℕ) → has result k ≡ ((steps.now.to == k) || is_square steps.now.second_to k) }
@@ -34,7 +34,8 @@ fn filled_by(steps: &Steps) -> SquareSet
     to.union(set_of(steps.second_to))
 }
 
-// The squares that pieces leave by these steps of a move.
+// The squares that pieces leave by these steps: the mover's, and that of the castling rook or of the pawn taken en
+// passant.
 #[inline(always)]
 fn emptied_by(steps: &Steps) -> SquareSet
     ensures { (k : ℕ) → has result k ≡ (is_square steps.now.second_from k || (steps.now.from == k)) }
@@ -44,8 +45,8 @@ fn emptied_by(steps: &Steps) -> SquareSet
 }
 
 impl Bits<'_> {
-    // The square of the king of the side on move after a pseudo-legal move with these steps: where the mover arrives if
-    // it is the king, else where the king is now.
+    // The square of the king of the side on move after the pseudo-legal move `m`, which makes these steps: where the
+    // mover arrives if it is the king, else where the king is now.
     fn king_after(&self, m: &Move, steps: &Steps) -> Square
         requires pattern { IsTrue (is_pseudo_legal self.now m.now) }
         requires steps { steps.now ≡ steps_of self.now m.now }
@@ -102,7 +103,7 @@ impl Bits<'_> {
         self.is_safe_by(m, &steps)
     }
 
-    // Whether a pseudo-legal move with these steps is legal: the mover's king is not attacked after it.
+    // Whether the pseudo-legal move `m`, which makes these steps, is legal: the mover's king is not attacked after it.
     pub(crate) fn is_safe_by(&self, m: &Move, steps: &Steps) -> bool
         requires pattern { IsTrue (is_pseudo_legal self.now m.now) }
         requires steps { steps.now ≡ steps_of self.now m.now }

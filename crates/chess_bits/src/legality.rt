@@ -25,8 +25,8 @@ fn is_officer(kind: Kind) -> bool
     !(is_king(kind) || is_pawn(kind))
 }
 
-// The kind of the piece on a square with that content, if it is a queen, rook, bishop or knight of that colour; else
-// none.
+// The kind of the piece `man`, a square's content, if it is a queen, rook, bishop or knight of this colour; else
+// `None`.
 #[inline(always)]
 fn officer_of(colour: Colour, man: Option<Man>) -> Option<Kind>
     ensures { MatchOption result (true ≡ true) (λ kind. IsOfficer colour kind man) }
@@ -44,7 +44,7 @@ fn officer_of(colour: Colour, man: Option<Man>) -> Option<Kind>
 }
 
 impl Bits<'_> {
-    // Whether the queen, rook, bishop or knight on `from`, of that kind, may legally go to `to`.
+    // Whether the piece on `from`, a queen, rook, bishop or knight of this kind, may legally go to `to`.
     #[inline(always)]
     fn goes_legally(&self, kind: Kind, from: Square, to: Square) -> bool
         requires { IsOfficer (self.now).side kind (man_at (self.now).men from) }
@@ -59,7 +59,7 @@ impl Bits<'_> {
         self.is_safe_usual(from, to)
     }
 
-    // Whether a move is legal, where a queen, rook, bishop or knight of that kind is on its start square.
+    // Whether the move `m` is legal; the piece on its start square is a queen, rook, bishop or knight of this kind.
     #[inline(always)]
     fn is_officer_legal(&self, kind: Kind, m: &Move) -> bool
         requires { IsOfficer (self.now).side kind (man_at (self.now).men m.now.from) }
@@ -71,8 +71,8 @@ impl Bits<'_> {
         self.goes_legally(kind, m.from, m.to)
     }
 
-    // Whether a move of any piece is legal: its end square is among those of its piece, its promotion fits, and its
-    // king is safe after it.
+    // Whether the move `m` of any piece is legal: its end square is among those of its piece, its promotion fits, and
+    // its king is safe after it.
     fn is_legal_by_targets(&self, m: &Move) -> bool
         ensures { result ≡ is_legal self.now m.now }
     {
@@ -87,8 +87,8 @@ impl Bits<'_> {
         self.is_safe_after(m)
     }
 
-    // Whether a move is legal. For a queen, rook, bishop or knight the squares that it reaches decide, for a king or
-    // pawn, or where no own piece is on the start square, the general test.
+    // Whether the move `m` is legal. For a queen, rook, bishop or knight the squares that it reaches decide; for a king
+    // or pawn, or if no own piece is on the start square, the general test.
     #[inline(always)]
     pub(crate) fn is_legal_by_kind(&self, m: &Move) -> bool
         ensures { result ≡ is_legal self.now m.now }
@@ -131,7 +131,7 @@ impl Bits<'_> {
         self.is_safe_usual(from, to)
     }
 
-    // Those of these squares, which all hold pawns of the side on move, from which the pawn may legally go to `to`
+    // Those of the squares `men`, which all hold pawns of the side on move, from which the pawn may legally go to `to`
     // without a promotion.
     #[inline(always)]
     fn pawn_starts_among(&self, men: SquareSet, to: Square) -> SquareSet
@@ -148,8 +148,8 @@ impl Bits<'_> {
         starts
     }
 
-    // Those of these squares from which the piece may legally go to `to`. For all of them this move is pseudo-legal,
-    // not the king's, no promotion and not en passant.
+    // Those of the squares `men` from which the piece there may legally go to `to`. For all of them this move is
+    // pseudo-legal, not the king's, no promotion and not en passant.
     #[inline(always)]
     fn safe_starts(&self, men: SquareSet, to: Square) -> SquareSet
         requires { (k : ℕ) → k < 64 → has men k ≡ true → StepsPlainly self.now k to }
@@ -165,8 +165,8 @@ impl Bits<'_> {
         starts
     }
 
-    // The squares from which queens, rooks, bishops or knights (that kind) of the side on move may legally go to `to`.
-    // They are among those that such a piece on `to` would attack.
+    // The squares from which pieces of this kind (queen, rook, bishop or knight) of the side on move may legally go to
+    // `to`. They are among those that such a piece on `to` would attack.
     fn officer_starts(&self, kind: Kind, to: Square) -> SquareSet
         requires { (same_kind King kind || same_kind Pawn kind) ≡ false }
         ensures { HasLegalStarts self.now kind to result }
@@ -196,7 +196,7 @@ impl Bits<'_> {
         self.castling_ends(king).contains(to)
     }
 
-    // The square of the king of the side on move if it may legally go to `to`, else no square.
+    // The set of the king's square, of the side on move, if the king may legally go to `to`; else the empty set.
     fn king_starts(&self, to: Square) -> SquareSet
         ensures { HasLegalStarts self.now King to result }
     {
@@ -216,7 +216,7 @@ impl Bits<'_> {
         self.pawn_starts_among(own.intersection(self.origins(Kind::Pawn, to)), to)
     }
 
-    // The squares from which pieces of that kind, of the side on move, may legally go to `to` without a promotion.
+    // The squares from which pieces of this kind, of the side on move, may legally go to `to` without a promotion.
     #[inline(always)]
     pub(crate) fn starts_of(&self, kind: Kind, to: Square) -> SquareSet
         ensures { HasLegalStarts self.now kind to result }

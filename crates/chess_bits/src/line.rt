@@ -15,8 +15,8 @@ pub enum Line {
     Antidiagonal,
 }
 
-// The number of the line of that kind on which a square is: two squares are on one line exactly if their numbers are
-// equal.
+// The number of the line of this kind on which a square is: two squares are on one line exactly if their numbers are
+// equal. For ranks it is the square's rank.
 fn line_number(line: Line, square: Square) -> u8
     ensures { result ≡ line_number line square }
 {
@@ -28,7 +28,8 @@ fn line_number(line: Line, square: Square) -> u8
     }
 }
 
-/// Whether x is on the line of that kind through a, with a greater number than a if `up`, else with a smaller one.
+/// Whether square x is on the line of this kind through square a, with a greater number than a if `up`, else with a
+/// smaller one.
 pub(crate) fn is_on_ray(line: Line, up: bool, a: Square, x: Square) -> bool
     ensures { result ≡ is_on_ray line up a x }
 {

@@ -29,8 +29,8 @@ fn each_promotion() -> [Option<Kind>; 4]
 }
 
 impl Bits<'_> {
-    // Appends to `list` the legal moves from `from` to `to` that name one of those promotions. The promotions fit the
-    // move, so it is pseudo-legal with each.
+    // Appends to `list` the legal moves from `from` to `to` that name one of `promotions` (`None` for a move that
+    // promotes nothing). They fit the move, so that it is pseudo-legal with each.
     fn add_moves_with(
         &self,
         from: Square,

@@ -15,7 +15,7 @@ use chess_base::rules::{is_man, pawn_rank};
 use chess_base::{Colour, Kind, Square};
 use chess_moves::{Board, SquareSet};
 
-// The squares from which one step straight ahead takes a pawn of that colour to a square of the set: for White the set
+// The squares from which one step straight ahead takes a pawn of this colour to a square of the set: for White the set
 // moved one rank down, for Black one rank up.
 #[inline(always)]
 fn behind(colour: Colour, squares: SquareSet) -> SquareSet
@@ -27,7 +27,7 @@ fn behind(colour: Colour, squares: SquareSet) -> SquareSet
     }
 }
 
-// The squares from which a pawn of that colour attacks a square of the set on the next file towards the a-file.
+// The squares from which a pawn of this colour attacks a square of the set on the next file towards the a-file.
 #[inline(always)]
 fn attacking_left(colour: Colour, squares: SquareSet) -> SquareSet
     ensures { (k : ℕ) → k < 64 → 8 ≤ k → forward colour k < 64
@@ -37,7 +37,7 @@ fn attacking_left(colour: Colour, squares: SquareSet) -> SquareSet
     starts.without(SquareSet::of_file(0))
 }
 
-// The squares from which a pawn of that colour attacks a square of the set on the next file towards the h-file.
+// The squares from which a pawn of this colour attacks a square of the set on the next file towards the h-file.
 #[inline(always)]
 fn attacking_right(colour: Colour, squares: SquareSet) -> SquareSet
     ensures { (k : ℕ) → k < 64 → 8 ≤ k
@@ -73,8 +73,8 @@ impl Bits<'_> {
     }
 
     // How many legal moves these pawns have. They are free (their king is safe wherever they go), and none may promote
-    // or take en passant. Each has one move for each of four ways that is open to it: one or two squares ahead, and a
-    // capture to the left or to the right.
+    // or take en passant. Each has a move for each way open to it: one or two squares ahead, a capture to the left or
+    // right.
     pub(crate) fn count_usual_pawns(&self, pawns: SquareSet) -> usize
         requires free { AreFree self.now Pawn pawns }
         requires usual { (k : ℕ) → k < 64 → has pawns k ≡ true → goes_unusually self.now k ≡ false }

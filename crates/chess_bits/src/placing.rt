@@ -21,8 +21,8 @@ use chess_base::rules::{
 };
 use chess_base::{COUNTER_LIMIT, Kind, Man, Move, Rights, Saved, Setup, Square};
 
-// Changes the content of a square, if one is given, to that piece or to none, both in the list of pieces and in the
-// sets.
+// Puts the piece `man`, or none, on the given square in place of what is there, both in the list of pieces and in the
+// sets; does nothing if no square is given. `keys` keep the pieces' hash up to date.
 #[inline(always)]
 fn place(
     men: &mut [Option<Man>; 64],
@@ -42,7 +42,7 @@ fn place(
 }
 
 impl Sets {
-    /// The sets of the pieces on the board, computed from the list of pieces.
+    /// The sets of these pieces, computed from the list of them by squares; `keys` are for their hash.
     pub fn standing(keys: &KeyTable, men: &[Option<Man>; 64]) -> Sets
         ensures { IsSets result men.now }
     {
@@ -62,7 +62,8 @@ impl Sets {
     }
 }
 
-// Changes the pieces by these steps, both in the list of pieces and in the sets.
+// Changes the pieces by these steps of a move, both in the list of pieces and in the sets; `keys` keep the pieces' hash
+// up to date.
 fn take_steps(men: &mut [Option<Man>; 64], sets: &mut Sets, keys: &KeyTable, steps: &Steps)
     ensures men { men.new ≡ men_stepped men.old steps.now }
     ensures sets { IsSets sets.old men.old → IsSets sets.new men.new }
@@ -73,7 +74,7 @@ fn take_steps(men: &mut [Option<Man>; 64], sets: &mut Sets, keys: &KeyTable, ste
     place(men, sets, keys, Some(steps.to), steps.mover);
 }
 
-// Whether that square is the en passant target.
+// Whether the square is the position's en passant target.
 #[inline(always)]
 pub(crate) fn is_target(setup: &Setup, square: Square) -> bool
     ensures { result ≡ is_square (setup.now).target square }
@@ -144,8 +145,8 @@ fn may_lose_right(mover: Man, taken: Option<Man>) -> bool
     is_king_or_rook(Some(mover)) || is_king_or_rook(taken)
 }
 
-// The castling rights after the move of `mover` to a square with the content `taken`. They are as before where neither
-// is a king or a rook, or where no right is left; else they are computed.
+// The castling rights after the move `m` of `mover` to a square with the content `taken`: as before if neither is a
+// king or a rook, or if no right is left; else computed.
 #[inline(always)]
 #[tactic(auto, using(crate::proofs::Making::none_lost, crate::proofs::Making::rights_kept))]
 fn rights_left(setup: &Setup, m: &Move, mover: Man, taken: Option<Man>) -> Rights
@@ -163,8 +164,8 @@ fn rights_left(setup: &Setup, m: &Move, mover: Man, taken: Option<Man>) -> Right
     rights_after(setup, m)
 }
 
-// Whether the move, of a piece of that kind, is sure to change only what is on its two squares: it is a king's without
-// castling rights, a pawn's but not to the en passant target, or another piece's.
+// Whether the move `m`, of a piece of this kind, is sure to change only what is on its two squares: it is a king's
+// without castling rights, a pawn's but not to the en passant target, or another piece's.
 #[inline(always)]
 fn goes_plainly(setup: &Setup, m: &Move, kind: Kind) -> bool
     ensures { result ≡ goes_plainly setup.now m.now kind }
@@ -176,7 +177,7 @@ fn goes_plainly(setup: &Setup, m: &Move, kind: Kind) -> bool
     }
 }
 
-// Whether the move, of a piece of that kind, is no promotion and is sure to change only what is on its two squares.
+// Whether the move `m`, of a piece of this kind, is no promotion and is sure to change only what is on its two squares.
 #[inline(always)]
 fn shifts(setup: &Setup, m: &Move, kind: Kind) -> bool
     ensures { result ≡ shifts setup.now m.now kind }
@@ -184,7 +185,8 @@ fn shifts(setup: &Setup, m: &Move, kind: Kind) -> bool
     m.promotion.is_none() && goes_plainly(setup, m, kind)
 }
 
-// The piece that moves, if the move is sure to do no more than take it from one square to the other; else none.
+// The piece that makes the move `m`, if `m` is sure to do no more than take it from one square to the other; else
+// `None`.
 #[inline(always)]
 fn shifted(setup: &Setup, m: &Move) -> Option<Man>
     ensures { result ≡ shifted setup.now m.now (man_at setup.now.men m.now.from) }
@@ -197,7 +199,7 @@ fn shifted(setup: &Setup, m: &Move) -> Option<Man>
     }
 }
 
-// The en passant target after the move, which is one of the piece `man`; none unless it is a pawn.
+// The en passant target after the move `m` of the piece `man`; none unless it is a pawn's double advance.
 #[inline(always)]
 fn target_left(setup: &Setup, m: &Move, man: Man) -> Option<Square>
     requires { man_at setup.now.men m.now.from ≡ Some man }
@@ -210,7 +212,8 @@ fn target_left(setup: &Setup, m: &Move, man: Man) -> Option<Square>
     }
 }
 
-// The halfmove clock after a move of `man` to a square with the content `taken`.
+// The halfmove clock after a move of `man` to a square with the content `taken`: 0 for a pawn or a capture, else one
+// more than before.
 #[inline(always)]
 fn halfmove_left(setup: &Setup, man: Man, taken: Option<Man>) -> u32
     ensures { result ≡ clock_left setup.now.halfmove man.kind taken }
@@ -222,8 +225,8 @@ fn halfmove_left(setup: &Setup, man: Man, taken: Option<Man>) -> u32
     }
 }
 
-// Makes the legal move of that piece, which does no more than take it from one square to the other, and returns what is
-// needed to take it back.
+// Makes the legal move `m` of the piece `man`, which does no more than take it from one square to the other, in place;
+// returns what is needed to take it back. `keys` keep the pieces' hash up to date.
 #[inline(always)]
 fn shift(setup: &mut Setup, sets: &mut Sets, keys: &KeyTable, m: &Move, man: Man) -> Saved
     requires sound { IsSound setup.old }
@@ -256,8 +259,8 @@ fn shift(setup: &mut Setup, sets: &mut Sets, keys: &KeyTable, m: &Move, man: Man
     saved
 }
 
-// Makes any legal move, and returns what is needed to take it back. Few moves need it, so it is kept out of what calls
-// it.
+// Makes any legal move `m` in place, and returns what is needed to take it back; `keys` keep the pieces' hash up to
+// date. Few moves need it (such as castling, en passant and promotions), so it is not inlined.
 #[inline(never)]
 #[tactic(auto, unfolding(chess_base::specs::Moves::after, chess_base::specs::Moves::men_after))]
 fn make_in_steps(setup: &mut Setup, sets: &mut Sets, keys: &KeyTable, m: &Move) -> Saved
@@ -280,7 +283,8 @@ fn make_in_steps(setup: &mut Setup, sets: &mut Sets, keys: &KeyTable, m: &Move) 
     saved
 }
 
-// Makes the legal move, and returns what is needed to take it back.
+// Makes the legal move `m` in place, in the setup and its sets, and returns what is needed to take it back; `keys` keep
+// the pieces' hash up to date.
 #[inline(always)]
 pub(crate) fn make_move(setup: &mut Setup, sets: &mut Sets, keys: &KeyTable, m: &Move) -> Saved
     requires sound { IsSound setup.old }
@@ -295,7 +299,8 @@ pub(crate) fn make_move(setup: &mut Setup, sets: &mut Sets, keys: &KeyTable, m: 
     shift(setup, sets, keys, m, man)
 }
 
-// Takes the move back, by what was saved when it was made.
+// Takes the move `m`, which led to this setup, back in place, in the setup and its sets, by what was saved when it was
+// made; `keys` keep the pieces' hash up to date.
 #[tactic(auto, unfolding(chess_base::specs::Before::before, chess_base::specs::Before::men_before))]
 pub(crate) fn move_back(
     setup: &mut Setup,

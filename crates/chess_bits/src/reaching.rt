@@ -12,8 +12,8 @@ use crate::tables::AttackTables;
 use chess_base::{Colour, Kind, Square};
 use chess_moves::SquareSet;
 
-/// The squares on which a piece of that colour and kind on `from` could capture, given the occupied squares of the
-/// board.
+/// The squares on which a piece of this colour and kind on `from` could capture; `occupied` are the occupied squares of
+/// the board.
 #[inline(always)]
 #[tactic(auto, using(crate::proofs::Reached::king_from, crate::proofs::Reached::queen_from, crate::proofs::Reached::rook_from, crate::proofs::Reached::bishop_from, crate::proofs::Reached::knight_from, crate::proofs::Reached::pawn_from))]
 pub fn reached_from(

@@ -39,7 +39,7 @@ impl Sets {
         }
     }
 
-    /// The sets of that colour's pieces by kind.
+    /// The sets of this colour's pieces, one for each kind.
     pub fn of(&self, colour: Colour) -> &Kinds
         ensures { (men : Men) → IsSets self.now men → IsKinds result.now.sets colour men }
     {
@@ -49,7 +49,7 @@ impl Sets {
         }
     }
 
-    /// The squares of all pieces of that colour.
+    /// The squares of all pieces of this colour.
     pub fn all(&self, colour: Colour) -> SquareSet
         ensures { (men : Men) → IsSets self.now men → (k : ℕ) → k < 64 → has result k ≡ is_of colour (man_at men k) }
     {
@@ -59,7 +59,7 @@ impl Sets {
         }
     }
 
-    /// The squares that are not empty.
+    /// The squares that are not empty: those of the pieces of both colours.
     #[tactic(auto, using(crate::proofs::Standing::occupied_by))]
     pub fn occupied(&self) -> SquareSet
         ensures { (men : Men) → IsSets self.now men → IsOccupied result men }
@@ -67,7 +67,7 @@ impl Sets {
         self.all_white.union(self.all_black)
     }
 
-    // Removes a piece from its square.
+    // Removes the piece `man` from its square, and its key from the hash.
     #[inline(always)]
     fn lift(&mut self, keys: &KeyTable, square: Square, man: Man)
         ensures { (men : Men) → length men ≡ 64 → man_at men square ≡ Some man → IsSets self.old men
@@ -87,7 +87,7 @@ impl Sets {
         }
     }
 
-    // Adds a piece on a square, which is empty.
+    // Adds the piece `man` on a square, which is empty, and its key to the hash.
     #[inline(always)]
     fn put(&mut self, keys: &KeyTable, square: Square, man: Man)
         ensures { (men : Men) → length men ≡ 64 → man_at men square ≡ None → IsSets self.old men
@@ -107,7 +107,7 @@ impl Sets {
         }
     }
 
-    /// Moves a piece from one square to another, which is empty.
+    /// Moves the piece `man` from one square to another, which is empty; `keys` keep the hash up to date.
     #[inline(always)]
     pub fn shift(&mut self, keys: &KeyTable, man: Man, from: Square, to: Square)
         ensures { (men : Men) → length men ≡ 64 → man_at men from ≡ Some man → man_at men to ≡ None
@@ -133,7 +133,7 @@ impl Sets {
         }
     }
 
-    /// Empties a square that holds `old`, a piece or nothing.
+    /// Empties a square that holds `old`, a piece or nothing; `keys` keep the hash up to date.
     #[inline(always)]
     pub fn clear(&mut self, keys: &KeyTable, square: Square, old: Option<Man>)
         ensures { (men : Men) → length men ≡ 64 → man_at men square ≡ old → IsSets self.old men
@@ -144,7 +144,7 @@ impl Sets {
         }
     }
 
-    // Puts `new`, a piece or nothing, on a square, which is empty.
+    // Puts `new`, a piece or nothing, on a square, which is empty; `keys` keep the hash up to date.
     #[inline(always)]
     fn fill(&mut self, keys: &KeyTable, square: Square, new: Option<Man>)
         ensures { (men : Men) → length men ≡ 64 → man_at men square ≡ None → IsSets self.old men
@@ -155,7 +155,7 @@ impl Sets {
         }
     }
 
-    /// Replaces the content of a square, `old`, by `new`; each is a piece or nothing.
+    /// Replaces the content of a square, `old`, by `new`; each is a piece or nothing. `keys` keep the hash up to date.
     #[inline(always)]
     pub fn write(&mut self, keys: &KeyTable, square: Square, old: Option<Man>, new: Option<Man>)
         ensures { (men : Men) → length men ≡ 64 → man_at men square ≡ old → IsSets self.old men

@@ -12,9 +12,9 @@ use chess_base::{Kind, Square};
 use chess_moves::{Board, SquareSet};
 
 impl Bits<'_> {
-    // Own pieces that may be pinned to the king on `king` along its rank or file: those that it sees there, if taking
-    // them off would show it an enemy rook or queen; else none. Taking off any other own piece opens no such line to
-    // the king.
+    // The own pieces that may be pinned to the king on `king` along its rank or file: the nearest ones to it there, if
+    // an enemy rook or queen would attack it with them off the board; else none. Taking off any other own piece opens
+    // no rank or file to the king.
     #[tactic(auto, unfolding(crate::specs::ties::Shapes::in_shape))]
     fn line_shields(&self, king: Square) -> SquareSet
         ensures { (a : ℕ) → a < 64 → is_of (self.now).side (man_at (self.now).men a) ≡ true → has result a ≡ false
@@ -39,9 +39,9 @@ impl Bits<'_> {
         near
     }
 
-    // Own pieces that may be pinned to the king on `king` along its diagonals: those that it sees there, if taking them
-    // off would show it an enemy bishop or queen; else none. Taking off any other own piece opens no diagonal to the
-    // king.
+    // The own pieces that may be pinned to the king on `king` along its diagonals: the nearest ones to it there, if an
+    // enemy bishop or queen would attack it with them off the board; else none. Taking off any other own piece opens no
+    // diagonal to the king.
     #[tactic(auto, unfolding(crate::specs::ties::Shapes::in_shape))]
     fn diagonal_shields(&self, king: Square) -> SquareSet
         ensures { (a : ℕ) → a < 64 → is_of (self.now).side (man_at (self.now).men a) ≡ true → has result a ≡ false

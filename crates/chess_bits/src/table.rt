@@ -25,7 +25,8 @@ pub enum Shape {
     Ray(Line, bool),
 }
 
-// Whether square b belongs to the shape from square a: for `Knight`, whether a knight on a attacks b.
+// Whether square b belongs to the shape from square a: for `Knight`, whether a knight on a attacks b; for `Lines`,
+// whether b is another square of a's rank or file.
 #[tactic(auto, unfolding(crate::specs::ties::Shapes::in_shape))]
 fn in_shape(shape: Shape, a: Square, b: Square) -> bool
     ensures { result ≡ in_shape shape a b }
@@ -43,7 +44,7 @@ fn in_shape(shape: Shape, a: Square, b: Square) -> bool
     }
 }
 
-// The squares that belong to the shape from square a.
+// The squares that belong to the shape from square a: for `Knight`, those that a knight on a attacks.
 fn squares_of(shape: Shape, a: Square) -> SquareSet
     ensures { (k : ℕ) → k < 64 → has result k ≡ in_shape shape a k }
 {
@@ -79,7 +80,7 @@ impl Model for Table {
 }
 
 impl Table {
-    /// Computes the table of that shape.
+    /// Computes the table of this shape: for each square the squares that belong to the shape from there.
     pub fn new(shape: Shape) -> Self
         ensures { result ≡ shape }
     {
@@ -91,7 +92,7 @@ impl Table {
         Table { shape, sets }
     }
 
-    /// The squares that belong to the table's shape from that square.
+    /// The squares that belong to the table's shape from `square`: for `Knight`, those that a knight there attacks.
     pub fn at(&self, square: Square) -> SquareSet
         ensures { (k : ℕ) → k < 64 → has result k ≡ in_shape self.now square k }
     {

@@ -56,8 +56,8 @@ pub struct AttackTables {
     tables: Box<Tables>,
 }
 
-// The lowest square of the set if `up`, else its highest. For the empty set it is h8 or a1, the last square in that
-// direction.
+// The lowest of the squares if `up`, else the highest. For the empty set it is h8 if `up`, else a1: the last square in
+// that direction.
 #[inline(always)]
 fn nearest(squares: SquareSet, up: bool) -> Square
     ensures in_range { result < 64 }
@@ -99,13 +99,13 @@ impl AttackTables {
         })
     }
 
-    // The keys of position hashes.
+    // The Zobrist keys, of which position hashes are made.
     #[inline(always)]
     pub(crate) fn keys(&self) -> &KeyTable {
         &self.tables.keys
     }
 
-    // The table of that shape.
+    // The table of this shape: for each square the squares that belong to the shape from there.
     fn table(&self, shape: Shape) -> &Table
         ensures { result.now ≡ shape }
     {
@@ -128,16 +128,16 @@ impl AttackTables {
         }
     }
 
-    // The squares that belong to that shape from that square, looked up.
+    // The squares that belong to this shape from `square`, looked up: for `Knight`, those that a knight there attacks.
     pub(crate) fn at(&self, shape: Shape, square: Square) -> SquareSet
         ensures { (k : ℕ) → k < 64 → has result k ≡ in_shape shape square k }
     {
         self.table(shape).at(square)
     }
 
-    /// The squares of the ray from `from` along that line, with rising numbers if `up`, to its first occupied square,
-    /// that one included. A ray that meets none ends with the board, where no ray in its direction goes on, so no
-    /// branch is needed.
+    /// The squares of the ray from `from` (not included) along that line, with rising numbers if `up`, up to and with
+    /// its first occupied square, or else to the board's edge. A ray that meets none is cut at the board's last square,
+    /// so no branch is needed.
     #[inline(always)]
     #[tactic(auto, unfolding(crate::specs::ties::Shapes::in_shape))]
     pub(crate) fn sweep(&self, line: Line, up: bool, from: Square, occupied: SquareSet) -> SquareSet

@@ -28,7 +28,7 @@ use chess_base::rules::{
 use chess_base::{CastlingSide, Colour, Kind, Move, Square, Variant};
 use chess_moves::SquareSet;
 
-// The square straight ahead for a pawn of that colour; for White none from the last rank.
+// The square straight ahead of `square` for a pawn of this colour; for White `None` from its last rank.
 fn ahead(colour: Colour, square: Square) -> Option<Square>
     ensures { MatchOption result (64 ≤ forward colour square) (λ s. s ≡ forward colour square) }
 {
@@ -54,7 +54,7 @@ pub(crate) fn is_pawn(kind: Kind) -> bool
 }
 
 impl Bits<'_> {
-    // The squares that a piece of that kind on `from`, of the side on move, attacks and that hold no piece of its own
+    // The squares that a piece of this kind on `from`, of the side on move, attacks and that hold no piece of its own
     // colour.
     #[inline(always)]
     pub(crate) fn steps(&self, kind: Kind, from: Square) -> SquareSet
@@ -67,9 +67,9 @@ impl Bits<'_> {
         reached.without(self.sets.all(side))
     }
 
-    // The four squares of the castling that the move is, if it is castling to that side with the rook on `rook`; else
-    // none. The caller knows that the right is there, and that the move ends where such a castling does, so in normal
-    // chess only the king has to be looked for: with a right he is at home.
+    // The four squares of the castling that the move `m` is, if the king of the side on move makes it; else `None`. The
+    // caller knows that the right on that side is there, with the rook on `rook`, and that `m` ends where such a
+    // castling does.
     fn castle_to(&self, m: &Move, castling_side: CastlingSide, rook: Square) -> Option<Castle>
         requires right { right_of (self.now).rights (self.now).side castling_side ≡ Some rook }
         requires end { m.now.to ≡ castling_end (self.now).variant (self.now).side castling_side rook }
@@ -93,8 +93,8 @@ impl Bits<'_> {
         }
     }
 
-    // The set `targets` of end squares from `from`; but if a move from there to where castling to that side ends is
-    // castling, that end square is in the result exactly if the castling is legal.
+    // The set `targets` of end squares from `from`, corrected for castling to this side: if the king's move from `from`
+    // to the end square of that castling is castling, the result has this square exactly if the castling is legal.
     fn with_castling(
         &self,
         targets: SquareSet,
@@ -127,8 +127,8 @@ impl Bits<'_> {
         }
     }
 
-    // The end squares of the legal castlings of the king on that square: in normal chess where he arrives (g1), in
-    // Chess960 the square of his rook (h1).
+    // The end squares of the legal castlings of the king on `king`: in normal chess where he arrives (g1), in Chess960
+    // the square of his rook (h1).
     pub(crate) fn castling_ends(&self, king: Square) -> SquareSet
         ensures { (k : ℕ) → k < 64
             → has result k ≡ legal_or self.now (triple king k None) (castle_of self.now (triple king k None)) false }
@@ -138,8 +138,8 @@ impl Bits<'_> {
         self.with_castling(far, king, CastlingSide::KingSide)
     }
 
-    // The end squares of the piece on `from`, which is of the side on move and no pawn: of its pseudo-legal moves, but
-    // of castling only where it is legal.
+    // The end squares of the piece on `from`, which is of the side on move and no pawn: those of its pseudo-legal
+    // moves, but of castling only if it is legal.
     fn man_targets(&self, from: Square) -> SquareSet
         requires { is_of (self.now).side (man_at (self.now).men from) ≡ true }
         ensures { (k : ℕ) → k < 64 → has result k ≡ man_goes self.now from k }
@@ -196,8 +196,8 @@ impl Bits<'_> {
         reached.intersection(aims)
     }
 
-    // Squares in which to look for pawns that may go straight ahead to `to`: all others of its file if it is empty,
-    // else none.
+    // A set of squares that has at least those from which pawns may go straight ahead to `to`: all others of its file
+    // if `to` is empty, else none.
     #[inline(always)]
     #[tactic(auto, unfolding(crate::specs::ties::Shapes::in_shape))]
     fn straight_starts(&self, to: Square) -> SquareSet
@@ -231,7 +231,8 @@ impl Bits<'_> {
         self.tables.at(Shape::Pawn(theirs), to)
     }
 
-    // Squares in which to look for pawns of the side on move that may go to `to`, straight ahead or by a capture.
+    // A set of squares that has at least those from which pawns of the side on move may go to `to`, straight ahead or
+    // by a capture.
     pub(crate) fn pawn_starts(&self, to: Square) -> SquareSet
         ensures { (k : ℕ) → k < 64
             → has result k ≡ ((not (is_some (man_at (self.now).men to))
@@ -243,7 +244,7 @@ impl Bits<'_> {
         straight.union(self.capture_starts(to))
     }
 
-    // The end squares of the pawn on `from`, which is of the side on move: of its pseudo-legal moves, with a promotion
+    // The end squares of the pseudo-legal moves of the pawn on `from`, which is of the side on move, with a promotion
     // or without.
     pub(crate) fn pawn_targets(&self, from: Square) -> SquareSet
         requires { is_man (self.now).side Pawn (man_at (self.now).men from) ≡ true }
@@ -256,8 +257,8 @@ impl Bits<'_> {
         advances.union(captures)
     }
 
-    // The end squares of the piece on `from`, if it is of the side on move: each of a legal move is among them, and
-    // each is that of a pseudo-legal move.
+    // The end squares of the piece on `from`, if it is of the side on move (else none): those of its legal moves are
+    // among them, and each is that of a pseudo-legal move.
     pub(crate) fn targets(&self, from: Square) -> SquareSet
         ensures sound { (k : ℕ) → k < 64 → has result k ≡ true → goes self.now from k ≡ true }
         ensures complete { (m : Move) → is_legal self.now m ≡ true → m.from ≡ from → has result m.to ≡ true }

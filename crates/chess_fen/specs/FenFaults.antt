@@ -26,7 +26,8 @@ abbrev pub SpellsSomeTarget : List ℕ → Type 0
 SpellsSomeTarget text = (target : Option ℕ) × SpellsTarget text target
 
 -- the field that this fault is about denotes nothing, and each field before it does denote something: for `Castling`
--- the third is wrong, the first two are right. a, b, c and d are the first four fields, `more` the counters or nothing
+-- the third is wrong, the first two are right. a, b, c and d are the first four fields, `more` is the list of the two
+-- counters or empty
 abbrev pub IsFieldFault : Variant → List ℕ → List ℕ → List ℕ → List ℕ → List (List ℕ) → FenFault → Type 0
 IsFieldFault v a b c d more Placement = (men : Men) → SpellsPlacement a men → ⊥
 IsFieldFault v a b c d more Side = SpellsSomeMen a × ((colour : Colour) → b ≢ side_text colour)

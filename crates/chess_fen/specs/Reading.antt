@@ -19,7 +19,7 @@ use Rattle.chess_fen.specs.RightNames.{right_by_letters}
 use Rattle.chess_fen.specs.Texts.{placement_of, is_castling, target_of, number_of, fields_of}
 
 infixl 10 ◌>>=◌
--- f of the value if there is one, else the error: so a chain of steps stops at the first error
+-- goes on with f from a step's value, or stops with its error: so a chain of steps gives the first error
 abbrev pub ◌>>=◌ : {A B E : Type 0} → Result A E → (A → Result B E) → Result B E
 (Ok x) >>= f = f x
 (Err e) >>= f = Err e
@@ -29,12 +29,13 @@ abbrev pub side_of : List ℕ → Option Colour
 side_of (c ∷ []) = if c == byte "w" then Some White else (if c == byte "b" then Some Black else None)
 side_of _ = None
 
--- the rights that the field of rights names, if it is a dash or letters that may name rights
+-- the castling rights that a FEN's third field denotes in a position with these pieces; none if it is neither a dash
+-- nor letters that may name rights
 abbrev pub rights_of : Variant → Men → List ℕ → Option Rights
 rights_of v men text = if is_castling v text then Some (rights_by (right_by_letters v men text)) else None
 
--- the position that the fields denote, sound or not; the first field that is wrong is the fault. A fullmove number of 0
--- is read as 1
+-- the position that the six fields of a FEN denote, read from left to right, sound or not; or the fault of the first
+-- field that denotes nothing. A fullmove number of 0 is read as 1
 abbrev pub setup_by : Variant → List ℕ → List ℕ → List ℕ → List ℕ → List ℕ → List ℕ → Result Setup FenFault
 setup_by v placement side castling target halfmove fullmove = do
   men ← ok_or (placement_of placement) faults.Placement
@@ -53,20 +54,23 @@ setup_by v placement side castling target halfmove fullmove = do
     fullmove = max number 1;
   })
 
--- six fields, or four, and then the counters are 0 and 1
+-- the position that a list of a FEN's fields denotes: six fields, or four, and then the counters are 0 and 1; any other
+-- number of fields is a fault
 abbrev pub setup_in : Variant → List (List ℕ) → Result Setup FenFault
 setup_in v (a ∷ b ∷ c ∷ d ∷ []) = setup_by v a b c d (codes "0") (codes "1")
 setup_in v (a ∷ b ∷ c ∷ d ∷ e ∷ f ∷ []) = setup_by v a b c d e f
 setup_in v _ = Err faults.Fields
 
--- the position p if no fault is given, else that fault
+-- `Ok p` if the optional fault is none, else that fault as an error
 abbrev pub unless_fault : Setup → Option FenFault → Result Setup FenFault
 unless_fault p fault = option_map_or Err fault (Ok p)
 
--- the position that the text denotes in that variant, if it is sound; else the first fault
+-- the sound position that a text denotes as a FEN of variant v; or the fault: of the first wrong field, or of the first
+-- condition of soundness that fails
 abbrev pub fen_reading_as : Variant → List ℕ → Result Setup FenFault
 fen_reading_as v text = setup_in v (fields_of text) >>= λ p. unless_fault p (setup_fault p)
 
--- the position that a text denotes as a FEN of normal chess, or the text's first fault
+-- the sound position that a text denotes as a FEN of normal chess; or the fault: of the first wrong field, or of the
+-- first condition of soundness that fails
 abbrev pub fen_reading : List ℕ → Result Setup FenFault
 fen_reading text = fen_reading_as Normal text

@@ -16,7 +16,8 @@ use Rattle.chess_base.specs.Castling.{home_square, king_square, rook_file}
 use Rattle.chess_fen.specs.ManLetters.{letter_by}
 use Rattle.chess_fen.specs.Texts.{occurs, first_letter, names_file}
 
--- the letter of a side: the colour's king's or queen's, so K, Q, k or q
+-- the letter by which a FEN of normal chess names colour c's castling right on that side: K or Q for White, k or q for
+-- Black
 abbrev pub side_letter : Colour → CastlingSide → ℕ
 side_letter c KingSide = letter_by c King
 side_letter c QueenSide = letter_by c Queen
@@ -29,8 +30,8 @@ right_letter Fischerandom c w s = first_letter c + file s
 
 -- ---- normal chess
 
--- normal chess: the castling right of this letter, if the letter occurs in the field: its rook is on the given corner
--- square
+-- normal chess: a castling right, as its rook's square: the corner given, if the right's letter is in the castling
+-- field `letters`; else none
 abbrev pub right_named : List ℕ → ℕ → ℕ → Option ℕ
 right_named letters letter corner = if occurs letter letters then Some corner else None
 
@@ -41,7 +42,8 @@ right_named letters letter corner = if occurs letter letters then Some corner el
 abbrev pub nowhere : ℕ
 nowhere = 24
 
--- the squares of a colour's first rank, from the edge on that side to the other
+-- the squares of colour c's first rank from the board's edge on that side to the other: for White's king side from h1
+-- to a1
 abbrev pub from_edge : Colour → CastlingSide → List ℕ
 from_edge c KingSide = map (home_square c) (7 ∷ 6 ∷ 5 ∷ 4 ∷ 3 ∷ 2 ∷ 1 ∷ 0 ∷ [])
 from_edge c QueenSide = map (home_square c) (0 ∷ 1 ∷ 2 ∷ 3 ∷ 4 ∷ 5 ∷ 6 ∷ 7 ∷ [])
@@ -51,12 +53,12 @@ from_edge c QueenSide = map (home_square c) (0 ∷ 1 ∷ 2 ∷ 3 ∷ 4 ∷ 5 ∷
 unfoldable pub outer_rook : Men → Colour → CastlingSide → ℕ
 outer_rook men c w = unwrap_or (find (λ s. is_man c Rook (man_at men s)) (from_edge c w)) nowhere
 
--- for squares on one rank: s is nearer to the a-file than the king's square, which is given first; false if there is no
--- king
+-- square s is nearer to the a-file than the king, both on one rank; false if there is no king (`None`)
 abbrev pub is_left_of : Option ℕ → ℕ → Bool
 is_left_of king s = option_map_or (λ k. nat_lt s k) king false
 
--- square s is on that side of the king, both on one rank: to the left of him on the queen's side, else on the king's
+-- square s is on the given side of the king, both on one rank: nearer to the a-file than he is for the queen's side,
+-- else for the king's
 abbrev pub is_towards : CastlingSide → Option ℕ → ℕ → Bool
 is_towards KingSide king s = not (is_left_of king s)
 is_towards QueenSide king s = is_left_of king s
@@ -70,7 +72,8 @@ named_square men c w letter =
     else if names_file c letter && is_towards w (king_square men c) s then Some s
     else None
 
--- the one that is named, if any is; where two are, a square on which no right is available
+-- of the rook's squares that two letters name for one right: the one that is named, if only one is; none if none is;
+-- `nowhere` (then the position is unsound) if both are
 abbrev pub only_one_of : Option ℕ → Option ℕ → Option ℕ
 only_one_of None o = o
 only_one_of (Some s) None = Some s
@@ -78,7 +81,8 @@ only_one_of (Some s) (Some t) = Some nowhere
 
 -- ---- both
 
--- the right of a colour on that side that the letters name, by the square of its rook
+-- colour c's castling right on side w that a castling field's letters name, as the square of its rook; none if they
+-- don't name it
 abbrev pub right_by_letters : Variant → Men → List ℕ → Colour → CastlingSide → Option ℕ
 right_by_letters Normal men letters c w = right_named letters (side_letter c w) (home_square c (rook_file w))
 right_by_letters Fischerandom men letters c w = fold only_one_of None (map (named_square men c w) letters)

@@ -20,12 +20,13 @@ use Rattle.chess_base.specs.Letters.{byte}
 use Rattle.chess_fen.specs.Texts.{times, occurs, may_name_right, fields_of}
 use Rattle.chess_fen.specs.Writing.{side_text, target_text}
 
--- a byte of a rank's text denotes these squares: a letter one with that piece, a digit from 1 to 8 so many empty ones
+-- one byte of a rank's text denotes these squares: a piece's letter one square with that piece, a digit n from 1 to 8 n
+-- empty squares
 abbrev pub StandsFor : ℕ → List (Option Man) → Type 0
 StandsFor c squares = ((man : Man) × (c ≡ letter man) × (squares ≡ Some man ∷ []))
     ⊎ ((n : ℕ) × (0 < n) × (n ≤ 8) × (c ≡ byte "0" + n) × (squares ≡ replicate n None))
 
--- a part of a rank's text denotes these squares: "p2" a black pawn and two empty squares
+-- a part of a rank's text denotes these squares, from left to right: "p2" a black pawn and two empty squares
 abbrev pub SpellsSquares : List ℕ → List (Option Man) → Type 0
 SpellsSquares [] squares = squares ≡ []
 SpellsSquares (c ∷ cs) squares = (first : List (Option Man)) × (others : List (Option Man)) × StandsFor c first
@@ -56,7 +57,8 @@ pub record AreRightLetters (v : Variant) (text : List ℕ) : Type 0 where
 abbrev pub IsCastling : Variant → List ℕ → Type 0
 IsCastling v text = (text ≡ codes "-") ⊎ AreRightLetters v text
 
--- the castling right is there exactly if its letter occurs in the text, and then its rook is on the given corner
+-- a castling right of normal chess (`right`: its rook's square, or none) is there exactly if its letter occurs in the
+-- text, and then its rook is on the given corner
 abbrev pub IsHeldBy : ℕ → List ℕ → Option ℕ → ℕ → Type 0
 IsHeldBy letter text right corner = (IsSome right ↔ IsTrue (occurs letter text))
     × IfSome right (λ square. square ≡ corner)
@@ -94,7 +96,8 @@ SpellsCounters (a ∷ b ∷ []) halfmove fullmove =
     SpellsNumber a halfmove × ((n : ℕ) × SpellsNumber b n × (fullmove ≡ max n 1))
 SpellsCounters (a ∷ b ∷ c ∷ more) halfmove fullmove = ⊥
 
--- the fields of a FEN (a, b, c, d, and the counters if there are any) denote position p, each its part
+-- the fields of a FEN denote position p: a the pieces, b the side on move, c the rights, d the en passant target, and
+-- `counters_text` the two counters (or none of them)
 pub record SpellsFields (a b c d : List ℕ) (counters_text : List (List ℕ)) (p : Setup) : Type 0 where
   pub men : SpellsPlacement a p.men
   pub side : b ≡ side_text p.side

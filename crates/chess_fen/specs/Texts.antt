@@ -22,14 +22,14 @@ number_of text = if nat_lt 0 (length text) && nat_le (length text) 6
 
 -- ---- ranks
 
--- the squares that a byte of a rank's text denotes: so many empty ones by a digit from 1 to 8, one with a piece by the
+-- the squares that one byte of a rank's text denotes: n empty ones by a digit n from 1 to 8, one with a piece by the
 -- piece's letter; none for any other byte
 abbrev pub squares_of : ℕ → Option (List (Option Man))
 squares_of c = if nat_le (byte "1") c && nat_le c (byte "8") then Some (replicate (c - byte "0") None) else option_map
     (λ m. Some m ∷ []) (man_with_letter c)
 
--- the eight squares of a rank, from the ones read so far (`row`) and the text that is left; none if a byte denotes
--- nothing, or if there are not eight
+-- the eight squares of a rank: `row`, those read so far, and then those that the rest of its text denotes; none if a
+-- byte denotes nothing, or if they are not eight
 abbrev pub rank_after : List (Option Man) → List ℕ → Option (List (Option Man))
 rank_after row [] = if length row == 8 then Some row else None
 rank_after row (c ∷ cs) = option_and_then (λ squares. rank_after (row ++ squares) cs) (squares_of c)
@@ -40,8 +40,8 @@ rank_of text = rank_after [] text
 
 -- ---- placement
 
--- the squares of the ranks whose texts are left, from the highest down, put below those read so far (`above`); none if
--- one of them is not the text of a rank
+-- squares from a1 on, by the texts of ranks, the highest first: each rank's squares are put in front of `above`, those
+-- of the higher ranks read so far; none if a text is not that of a rank
 abbrev pub stacked : List (Option Man) → List (List ℕ) → Option (List (Option Man))
 stacked above [] = Some above
 stacked above (text ∷ texts) = option_and_then (λ row. stacked (row ++ above) texts) (rank_of text)
@@ -71,7 +71,7 @@ first_letter Black = byte "a"
 abbrev pub names_file : Colour → ℕ → Bool
 names_file c letter = nat_le (first_letter c) letter && nat_lt letter (first_letter c + 8)
 
--- the letters that may name castling rights: K, Q, k and q, and in Chess960 those of files too
+-- the letter may name a castling right: it is K, Q, k or q, or in Chess960 a file's letter, A to H or a to h
 unfoldable pub may_name_right : Variant → ℕ → Bool
 may_name_right Normal letter = occurs letter (codes "KQkq")
 may_name_right Fischerandom letter = occurs letter (codes "KQkq") || names_file White letter || names_file Black letter
@@ -80,7 +80,8 @@ may_name_right Fischerandom letter = occurs letter (codes "KQkq") || names_file 
 abbrev pub names_once : Variant → List ℕ → ℕ → Bool
 names_once v text c = may_name_right v c && (times c text == 1)
 
--- a dash, or one to four letters, each of which may name a right and is there once
+-- the text has the form of a castling field: a dash, or one to four letters, each of which may name a right and occurs
+-- once
 abbrev pub is_castling : Variant → List ℕ → Bool
 is_castling v text = bytes_eq text (codes "-")
     || (nat_lt 0 (length text) && nat_le (length text) 4 && list_all (names_once v text) text)

@@ -86,8 +86,8 @@ fn first_letter(colour: Colour) -> u8
     }
 }
 
-// The letter that is written for a castling right with the rook on that square: in normal chess `K`, `Q`, `k` or `q`,
-// in Chess960 that of the rook's file, as `H` for White's rook on `h1`.
+// The letter that is written for the castling right of a colour on a side, with the rook on the square `rook`: in
+// normal chess `K`, `Q`, `k` or `q`, in Chess960 that of the rook's file, as `H` for White's rook on `h1`.
 pub(crate) fn right_letter(
     variant: Variant,
     colour: Colour,
@@ -102,8 +102,8 @@ pub(crate) fn right_letter(
     }
 }
 
-// Normal chess: that colour's castling right on that side, if its letter is in the field; its rook is then on the
-// corner of that side.
+// Normal chess: a colour's castling right on a side, as its rook's square: the corner on that side, if the right's
+// letter is in the castling field `letters`; else `None`.
 fn right_named(letters: &[u8], colour: Colour, castling_side: CastlingSide) -> Option<Square>
     ensures { result ≡ right_named letters.now (side_letter colour castling_side)
         (home_square colour (rook_file castling_side)) }
@@ -115,8 +115,8 @@ fn right_named(letters: &[u8], colour: Colour, castling_side: CastlingSide) -> O
     }
 }
 
-// For a scan of all files from the edge on that side inwards: the file that is looked at when `left` more are left. It
-// begins with 7 left, at the h-file on the king's side, at the a-file on the queen's.
+// The next file in a search of all files from the edge on that side inwards, with `left` files left after it: with 7
+// left the h-file on the king's side, the a-file on the queen's.
 fn edge_file(castling_side: CastlingSide, left: u8) -> u8
     requires { left < 8 }
     ensures value { result ≡ edge_file castling_side left }
@@ -128,8 +128,8 @@ fn edge_file(castling_side: CastlingSide, left: u8) -> u8
     }
 }
 
-// The square of that colour's rook on its first rank that is nearest to the edge on that side, even if it is not on
-// that side of the king. If there is no rook, it is square 24 (a4), where no right can have its rook.
+// The square of the colour's rook on its first rank that is nearest to the edge on that side, even if it is not on that
+// side of the king. If there is no rook, it is square 24 (a4), where no right can have its rook.
 fn outer_rook(men: &[Option<Man>; 64], colour: Colour, castling_side: CastlingSide) -> Square
     ensures { result ≡ outer_rook men.now colour castling_side }
 {
@@ -152,8 +152,8 @@ fn is_left_of(king: Option<Square>, s: Square) -> bool
     }
 }
 
-// Whether a square is on that side of the king, both on one rank: to the left of him on the queen's side, else on the
-// king's.
+// Whether square `s` is on that side of the king, both on one rank: nearer to the a-file than he is for the queen's
+// side, else for the king's.
 fn is_towards(castling_side: CastlingSide, king: Option<Square>, s: Square) -> bool
     ensures { result ≡ is_towards castling_side king s }
 {
@@ -163,7 +163,7 @@ fn is_towards(castling_side: CastlingSide, king: Option<Square>, s: Square) -> b
     }
 }
 
-// Chess960: the rook's square by which this letter names that colour's right on that side, or none if it names another
+// Chess960: the rook's square by which this letter names the colour's right on that side; `None` if it names another
 // right. `K`, `Q`, `k` and `q` name the outermost rook, a file's letter names that file, if it is on that side of the
 // king.
 fn named_square(
@@ -188,9 +188,9 @@ fn named_square(
     }
 }
 
-// Chess960: one castling right from two letters of the field, where each gives the rook's square if it names this
-// right: the one that is given. If both are, it is square 24 (a4), where no right can have its rook, so the text is
-// refused.
+// Chess960: a castling right's rook square from two letters, each of which gives a square if it names the right: the
+// one given, `None` if none is. If both are given, it is square 24 (a4), where no right can have its rook, so that the
+// text is refused.
 fn only_one_of(first: Option<Square>, second: Option<Square>) -> Option<Square>
     ensures { result ≡ only_one_of first second }
 {
@@ -201,8 +201,8 @@ fn only_one_of(first: Option<Square>, second: Option<Square>) -> Option<Square>
     }
 }
 
-// Chess960: that colour's castling right on that side, as the letters of the field name it: the square of its rook, or
-// none.
+// Chess960: the colour's castling right on that side that the letters of a castling field name, as the square of its
+// rook; `None` if they don't name it.
 fn right_of_letters(
     men: &[Option<Man>; 64],
     letters: &[u8],
@@ -218,7 +218,8 @@ fn right_of_letters(
     found
 }
 
-// The right on that side that the letters name.
+// The colour's castling right on that side that the letters of a castling field name, as the square of its rook; `None`
+// if they don't name it.
 pub(crate) fn right_by_letters(
     variant: Variant,
     men: &[Option<Man>; 64],

@@ -6,14 +6,14 @@ ghost use Rattle.chess_base.specs.Letters.{space};
 ghost use Rattle.chess_fen.specs.Texts.{fields_of};
 ghost use Rattle.chess_fen.specs.ties.Fields.{FieldsAre, parts_of};
 
-// The offset of the first byte that is no space, if there is one.
+// The offset of a text's first byte that is no space, if there is one.
 fn first_other(text: &[u8]) -> Option<usize>
     ensures { result ≡ position (λ b. not (b == space)) text.now }
 {
     text.iter().position(|byte| *byte != b' ')
 }
 
-// The offset of the first separator, if there is one.
+// The offset of the first byte `separator` in a text, if there is one.
 fn separator_at(text: &[u8], separator: u8) -> Option<usize>
     ensures { result ≡ position (λ b. b == separator) text.now }
 {
@@ -53,7 +53,8 @@ fn next_field(text: &[u8]) -> Option<(&[u8], &[u8])>
     }
 }
 
-// The part before the first separator, and the text after that separator; `None` if there is no separator.
+// The part of a text before the first byte `separator`, and the text after it, which is `None` if there is no
+// separator.
 pub(crate) fn next_part(text: &[u8], separator: u8) -> (&[u8], Option<&[u8]>)
     ensures { slice_split (λ c. c == separator) text.now ≡ result.0.now ∷ parts_of separator result.1 }
 {
@@ -75,7 +76,8 @@ pub(crate) struct Fields<'a> {
     pub fullmove: &'a [u8],
 }
 
-// Cuts a text into its fields; none if there are neither four nor six.
+// Cuts a FEN into its fields, of which four or six are between spaces: without the counters these are 0 and 1. `None`
+// for any other number of fields.
 pub(crate) fn read_fields(text: &[u8]) -> Option<Fields<'_>>
     ensures { FieldsAre result (fields_of text.now) }
 {

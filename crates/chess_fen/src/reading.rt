@@ -31,7 +31,7 @@ fn read_side(text: &[u8]) -> Option<Colour>
     }
 }
 
-// The rights that the letters name.
+// The four castling rights that the letters of a castling field name in a position with these pieces.
 fn rights_by_letters(variant: Variant, men: &[Option<Man>; 64], letters: &[u8]) -> Rights
     ensures { result ≡ rights_by (right_by_letters variant men.now letters.now) }
 {
@@ -58,7 +58,8 @@ fn rights_by_letters(variant: Variant, men: &[Option<Man>; 64], letters: &[u8]) 
     Rights { white, black }
 }
 
-// The rights that the field of rights names.
+// The castling rights that a FEN's third field denotes in a position with these pieces; `None` if it is neither a dash
+// nor letters that may name rights.
 fn read_rights(variant: Variant, men: &[Option<Man>; 64], text: &[u8]) -> Option<Rights>
     ensures { result ≡ rights_of variant men.now text.now }
 {
@@ -69,7 +70,8 @@ fn read_rights(variant: Variant, men: &[Option<Man>; 64], text: &[u8]) -> Option
     }
 }
 
-// The position that the fields denote, sound or not, or the fault of the first that is wrong.
+// The position that a FEN's six fields denote, read from left to right, sound or not; or the fault of the first field
+// that denotes nothing. A fullmove number of 0 is read as 1.
 fn setup_by(variant: Variant, fields: &Fields<'_>) -> Result<Setup, FenFault>
     ensures { result ≡ setup_by variant fields.now.placement.now fields.now.side.now fields.now.castling.now
         fields.now.target.now fields.now.halfmove.now fields.now.fullmove.now }
@@ -91,7 +93,8 @@ fn setup_by(variant: Variant, fields: &Fields<'_>) -> Result<Setup, FenFault>
     })
 }
 
-// The position that a text denotes, sound or not, or the first fault.
+// The position that a FEN denotes, sound or not; or the fault of the first field that denotes nothing, or of a wrong
+// number of fields.
 fn read_setup(variant: Variant, text: &[u8]) -> Result<Setup, FenFault>
     ensures { result ≡ setup_in variant (fields_of text.now) }
 {
@@ -101,7 +104,8 @@ fn read_setup(variant: Variant, text: &[u8]) -> Result<Setup, FenFault>
     }
 }
 
-// The position that a text denotes as a FEN of that variant, or the text's first fault.
+// The sound position that a text denotes as a FEN of this variant; or the fault: of the first wrong field, or of the
+// first condition of soundness that fails.
 fn spelled_position(variant: Variant, text: &[u8]) -> Result<Position, FenFault>
     ensures value { result ≡ fen_reading_as variant text.now }
     ensures sound { IfOk result IsSound }
@@ -112,7 +116,7 @@ fn spelled_position(variant: Variant, text: &[u8]) -> Result<Position, FenFault>
     }
 }
 
-/// The position of that variant that a text denotes as FEN (PGN standard of 1994, section 16.1), or the first fault of
+/// The position of this variant that a text denotes as FEN (PGN standard of 1994, section 16.1), or the first fault of
 /// the text. Only spaces (byte 32) separate the fields; there may be several, and at both ends too. In Chess960 a right
 /// is named by the letter of its rook's file, or by `K`, `Q`, `k` or `q` as the outermost rook on that side.
 pub fn read_fen_as(variant: Variant, text: &[u8]) -> Result<Position, FenFault>

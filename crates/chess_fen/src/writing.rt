@@ -46,7 +46,7 @@ fn write_rank(out: &mut FenText, row: &[Option<Man>])
     write_run(out, empty);
 }
 
-// Appends the first field: the eight ranks, rank 8 first, with `/` between them.
+// Appends a FEN's first field, the pieces: the eight ranks, rank 8 first, with `/` between them.
 fn write_placement(out: &mut FenText, men: &[Option<Man>; 64])
     requires room { array_vec_len out.old + 71 ≤ 100 }
     ensures text { out.new.items ≡ out.old.items ++ placement_text men.now }
@@ -60,7 +60,7 @@ fn write_placement(out: &mut FenText, men: &[Option<Man>; 64])
     }
 }
 
-// Appends the second field: `w` or `b`.
+// Appends a FEN's second field, the side on move: `w` or `b`.
 fn write_side(out: &mut FenText, side: Colour)
     requires room { array_vec_len out.old < 100 }
     ensures text { out.new.items ≡ out.old.items ++ side_text side }
@@ -72,7 +72,8 @@ fn write_side(out: &mut FenText, side: Colour)
     });
 }
 
-// Appends the letter of a castling right, given as its rook's square; nothing if there is no right.
+// Appends the letter of a colour's castling right on a side, given as its rook's square; nothing if there is no right
+// (`None`).
 fn write_right(
     out: &mut FenText,
     variant: Variant,
@@ -89,8 +90,8 @@ fn write_right(
     }
 }
 
-// Appends the third field: the letters of White's rights on the king's side and on the queen's, then of Black's, or
-// `-`.
+// Appends a FEN's third field: the letters of White's castling rights on the king's side and on the queen's, then of
+// Black's, or `-` if there is none.
 fn write_rights(out: &mut FenText, variant: Variant, rights: Rights)
     requires room { array_vec_len out.old + 4 ≤ 100 }
     ensures text { out.new.items ≡ out.old.items ++ rights_text variant rights }
@@ -130,7 +131,7 @@ fn write_rights(out: &mut FenText, variant: Variant, rights: Rights)
     }
 }
 
-// Appends the fourth field: the name of the en passant target, or `-`.
+// Appends a FEN's fourth field: the name of the en passant target, or `-`.
 fn write_target(out: &mut FenText, target: Option<Square>)
     requires room { array_vec_len out.old + 2 ≤ 100 }
     ensures text { out.new.items ≡ out.old.items ++ target_text target }
@@ -145,7 +146,7 @@ fn write_target(out: &mut FenText, target: Option<Square>)
     }
 }
 
-// Appends a number of at most six digits.
+// Appends a number of at most six digits, without leading zeros.
 #[tactic(auto, using(crate::proofs::Lengths::short_decimal))]
 fn write_number(out: &mut FenText, number: u32)
     requires few { number < 1000000 }

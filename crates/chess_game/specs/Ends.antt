@@ -26,7 +26,7 @@ use Rattle.chess_game.specs.declared.ends.Claims.{Claims}
 abbrev pub square_colour : ℕ → Colour
 square_colour s = if (file s + rank s) % 2 == 0 then Black else White
 
--- a square's content is a piece of kind k, of either colour
+-- the square's content `o` is a piece of kind k, of either colour; false for an empty square
 abbrev pub is_kind : Kind → Option Man → Bool
 is_kind k o = option_map_or (λ x. same_kind k x.kind) o false
 
@@ -47,8 +47,9 @@ abbrev pub mates : Colour → Verdict
 mates White = WhiteMates
 mates Black = BlackMates
 
--- the first end that holds at the end of the line: without a legal move mate in check, else stalemate; insufficient material;
--- the position for the fifth time; 75 moves of each side, 150 half-moves, without a pawn move or capture
+-- why the game from `start` by the moves ms is over, if it is, the first of: without a legal move mate in check, else
+-- stalemate; insufficient material; the position for the fifth time; 75 moves of each side, 150 half-moves, without a
+-- pawn move or capture
 unfoldable pub verdict : Setup → List Move → Option Verdict
 verdict start ms =
     let p = last start ms in
@@ -73,7 +74,7 @@ verdict_comment InsufficientMaterial = codes "Insufficient material"
 verdict_comment FivefoldRepetition = codes "Fivefold repetition"
 verdict_comment SeventyFiveMoves = codes "75-move rule"
 
--- what the player on move may claim a draw by, after the moves ms from `start`: the position for the third time; 50
--- moves of each side, 100 half-moves, without a pawn move or capture (9.2, 9.3)
+-- what the player on move may claim a draw by, after the moves ms from `start`: the position is there for the third
+-- time (9.2); there were 50 moves of each side, 100 half-moves, without a pawn move or capture (9.3)
 abbrev pub claims : Setup → List Move → Claims
 claims start ms = record { threefold = nat_le 3 (rep start ms); fifty_moves = nat_le 100 (last start ms).halfmove }

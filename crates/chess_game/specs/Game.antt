@@ -30,7 +30,7 @@ pub record Seen : Type 0 where
   pub limit : ℕ
   pub state : State
 
--- the present position
+-- the present position of the game: the one after all its current moves
 abbrev pub current : State → Setup
 current s = last s.start s.moves
 
@@ -39,7 +39,7 @@ current s = last s.start s.moves
 abbrev pub verdict_now : State → Option Verdict
 verdict_now s = verdict s.start s.moves
 
--- a game is over by a verdict or a declared result
+-- the game is over: there is a verdict, such as mate, or a result was declared
 abbrev pub is_over : State → Bool
 is_over s = is_some (verdict_now s) || is_some s.declared
 
@@ -51,15 +51,15 @@ outcome_now s = option_map_or verdict_outcome (verdict_now s) (option_map_or (λ
 abbrev pub from_start : Setup → State
 from_start start = record { start = start; moves = []; declared = None }
 
--- the state with one move more
+-- the game's state s with move m played after the others
 abbrev pub played : State → Move → State
 played s m = record s { moves = s.moves ++ m ∷ [] }
 
--- the state without its last n moves; what was declared is cleared
+-- the game's state s without its last n moves; what was declared is cleared
 abbrev pub taken_back : State → ℕ → State
 taken_back s n = record s { moves = take (length s.moves - n) s.moves; declared = None }
 
--- the state with d declared (or nothing), in place of what was declared before
+-- the game's state s with the result d declared (or none), in place of what was declared before
 abbrev pub with_declared : State → Option Declared → State
 with_declared s d = record s { declared = d }
 
@@ -67,7 +67,7 @@ with_declared s d = record s { declared = d }
 abbrev pub at : Seen → State → Seen
 at g s = record g { state = s }
 
--- a game as it opens with that limit: the initial position, no moves, nothing declared
+-- a game as it opens, for at most `limit` half-moves: the initial position, no moves, nothing declared
 abbrev pub opened : ℕ → Seen
 opened limit = record { limit = limit; state = from_start initial_setup }
 
@@ -75,25 +75,29 @@ opened limit = record { limit = limit; state = from_start initial_setup }
 abbrev pub is_full : Seen → Bool
 is_full g = nat_le g.limit (length g.state.moves)
 
--- why no move at all is played, if none is: the game is over, or else the limit allows no more half-moves
+-- why no move at all is played in the game: it is over, or else it has as many half-moves as its limit allows; none if
+-- a move may be played
 abbrev pub refusal_now : Seen → Option PlayRefusal
 refusal_now g = if is_over g.state then Some Over else if is_full g then Some TooLong else None
 
--- why a move is refused, or none if it may be played; the first reason in this order
+-- why move m is not played in the game, the first reason of: it is over, it is full, m is illegal; none if m may be
+-- played
 abbrev pub play_refusal : Seen → Move → Option PlayRefusal
 play_refusal g m = option_or (refusal_now g) (if is_legal (current g.state) m then None else Some Illegal)
 
--- what a call returns: `Ok` if there is no reason to refuse, else that reason
+-- what a call returns, from the reason to refuse it, if there is one: `Ok` if there is none, else the reason as an
+-- error
 abbrev pub unless_refused : {E : Type 0} → Option E → Result (Unit {0}) E
 unless_refused None = Ok tt
 unless_refused (Some e) = Err e
 
--- the game after move m was asked for: with the move, or unchanged if there was a reason to refuse it
+-- the game g after it was asked to play move m: with the move if there is no reason to refuse it (the last argument),
+-- else unchanged
 abbrev pub after_play : Seen → Move → Option PlayRefusal → Seen
 after_play g m None = at g (played g.state m)
 after_play g m (Some e) = g
 
--- the last of the moves, or the error that there is none
+-- the last of the moves, or the error `NoMove` if there are none
 abbrev pub last_move : List Move → Result Move NoMove
 last_move ms = by_end (slice_get ms (length ms - 1))
   where
@@ -105,15 +109,15 @@ last_move ms = by_end (slice_get ms (length ms - 1))
 abbrev pub after_take_back : Seen → Seen
 after_take_back g = if nat_le 1 (length g.state.moves) then at g (taken_back g.state 1) else g
 
--- there is a verdict, and its outcome is not o
+-- there is a verdict on the game, such as mate, and its outcome is not o
 abbrev pub is_other : Option Verdict → Outcome → Bool
 is_other verdict o = option_map_or (λ v. not (same_outcome (verdict_outcome v) o)) verdict false
 
--- the game after the result d was to be declared: with d, or unchanged if a verdict has another outcome
+-- the game once the result d was to be declared: with d declared, or unchanged if a verdict has another outcome
 abbrev pub after_declare : Seen → Declared → Seen
 after_declare g d = if is_other (verdict_now g.state) d.outcome then g else at g (with_declared g.state (Some d))
 
--- why a result with outcome o is refused, or none if it may be declared: a verdict has another outcome
+-- the error for declaring a result with outcome o, if a verdict has another outcome; else none
 abbrev pub declare_refusal : Seen → Outcome → Option BoardSaysOtherwise
 declare_refusal g o = if is_other (verdict_now g.state) o then Some (record {}) else None
 

@@ -17,7 +17,7 @@ use Rattle.chess_game.specs.Line.{line, last}
 abbrev pub same_man : Option Man → Option Man → Bool
 same_man o r = option_eq (λ x y. same_colour x.colour y.colour && same_kind x.kind y.kind) o r
 
--- on each square two boards have the same content
+-- on each square two boards have the same content: a piece of the same kind and colour, or none
 unfoldable pub same_men : Men → Men → Bool
 same_men men others = each_square (λ s. same_man (man_at men s) (man_at others s))
 

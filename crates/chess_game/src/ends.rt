@@ -31,7 +31,7 @@ pub enum Verdict {
 }
 
 impl Verdict {
-    /// The outcome that it gives: a win of the side that mates, or a draw.
+    /// The outcome that the verdict gives: a win of the side that mates, or a draw.
     pub fn outcome(self) -> Outcome
         ensures { result ≡ verdict_outcome self }
     {
@@ -45,7 +45,7 @@ impl Verdict {
         }
     }
 
-    /// The comment on it, such as `White mates`.
+    /// The comment on the verdict, such as `White mates`.
     pub fn as_str(self) -> &'static str
         ensures value { result.now ≡ verdict_comment self }
         ensures short { length result.now ≤ 60 }
@@ -60,7 +60,7 @@ impl Verdict {
         }
     }
 
-    /// The comment on it as bytes, as in the braces of `1-0 {White mates}`.
+    /// The comment on the verdict as bytes, as in the braces of `1-0 {White mates}`.
     pub fn comment(self) -> &'static [u8]
         ensures value { result.now ≡ verdict_comment self }
         ensures short { length result.now ≤ 60 }
@@ -87,7 +87,7 @@ pub struct Claims {
     pub fifty_moves: bool,
 }
 
-// The verdict that the side of that colour has mated the other.
+// The verdict that the side of this colour has mated the other.
 pub(crate) fn mates(colour: Colour) -> Verdict
     ensures { result ≡ mates colour }
 {
@@ -97,7 +97,7 @@ pub(crate) fn mates(colour: Colour) -> Verdict
     }
 }
 
-// Whether a square's content is a piece of that kind, of either colour.
+// Whether a square's content is a piece of this kind, of either colour.
 fn is_kind(kind: Kind, man: Option<Man>) -> bool
     ensures { result ≡ is_kind kind man }
 {
@@ -114,7 +114,7 @@ fn is_minor(man: Option<Man>) -> bool
     is_kind(Kind::Bishop, man) || is_kind(Kind::Knight, man)
 }
 
-// The colour of the square with that number: a1 (0) is black.
+// The colour of the square with this number: a1 (0) is black.
 fn square_colour(number: u8) -> Colour
     requires { number < 64 }
     ensures { result ≡ square_colour number }
@@ -126,7 +126,7 @@ fn square_colour(number: u8) -> Colour
     }
 }
 
-// Whether some bishop, of either side, is on a square of that colour.
+// Whether some bishop, of either side, is on a square of this colour.
 #[tactic(auto, unfolding(crate::specs::Ends::has_bishop_on))]
 fn has_bishop_on(colour: Colour, men: &[Option<Man>; 64]) -> bool
     ensures { result ≡ has_bishop_on colour men.now }
@@ -139,7 +139,7 @@ fn has_bishop_on(colour: Colour, men: &[Option<Man>; 64]) -> bool
     is_found
 }
 
-// Whether a piece of that kind, of either colour, is on the board.
+// Whether a piece of this kind, of either colour, is on the board.
 fn has_kind<B: Board>(board: &B, kind: Kind) -> bool
     requires { IsSound (B.position board.now) }
     ensures { result ≡ list_any (is_kind kind) (B.position board.now).men }
@@ -170,8 +170,8 @@ fn minor_count(men: &[Option<Man>; 64]) -> usize
     men.iter().filter(|man| is_minor(**man)).count()
 }
 
-// Whether there is no pawn, rook or queen, and at most one bishop or knight, or bishops alone, all on squares of one
-// colour: no moves lead from there to a mate.
+// Whether neither side can mate for lack of pieces: no pawn, rook or queen is there, and at most one bishop or knight,
+// or bishops alone, all on squares of one colour.
 #[tactic(auto, unfolding(crate::specs::Ends::has_insufficient_material))]
 pub(crate) fn has_insufficient_material<B: Board>(board: &B) -> bool
     ensures { result ≡ has_insufficient_material (B.position board.now).men }

@@ -91,7 +91,8 @@ impl<B: Board> Model for Game<B> {
         × IsIndexed g.index.heads.items g.start g.played_moves.items };
 }
 
-// How many positions from the start on are the same as the present one: the last played move has that count.
+// How many positions of the game, from the start to the present one, are the same as the present one; `played_moves`
+// are its moves, and the last of them has that count.
 fn repetitions(played_moves: &[PlayedMove]) -> u32
     ensures { (start : Hashed) → Follows start.position played_moves.now → HaveEntries start played_moves.now
         → result ≡ rep start.position (moves_of played_moves.now) }
@@ -103,8 +104,8 @@ fn repetitions(played_moves: &[PlayedMove]) -> u32
     }
 }
 
-// The verdict on the game of that board and those played moves, given that there is a legal move: so neither mate nor
-// stalemate has to be looked for.
+// The verdict on a game whose present position has a legal move, so that neither mate nor stalemate has to be looked
+// for. The board is at that position, `played_moves` led to it.
 #[tactic(auto, unfolding(crate::specs::Ends::verdict))]
 #[inline(always)]
 fn verdict_of_moving<B: Board>(board: &B, played_moves: &[PlayedMove]) -> Option<Verdict>
@@ -123,7 +124,8 @@ fn verdict_of_moving<B: Board>(board: &B, played_moves: &[PlayedMove]) -> Option
     }
 }
 
-// The verdict on the game of that board and those played moves, if there is one.
+// The verdict on a game, such as mate or stalemate, if there is one. The board is at its present position,
+// `played_moves` led to it.
 #[tactic(auto, unfolding(crate::specs::Ends::verdict))]
 fn verdict_on<B: Board>(board: &B, played_moves: &[PlayedMove]) -> Option<Verdict>
     ensures { (start : Hashed) → IsKept B.word_of start played_moves.now (B.position board.now)
@@ -165,7 +167,7 @@ impl<B: Board + Drop> Game<B> {
 }
 
 impl<B: Board> Game<B> {
-    /// Begins a new game from that position: no moves, nothing declared.
+    /// Begins a new game from the position `start`: no moves, nothing declared; the limit stays.
     pub fn restart(&mut self, start: &Position)
         ensures { self.new ≡ at self.old (from_start start.now) }
     {
@@ -291,7 +293,7 @@ impl<B: Board> Game<B> {
         Ok(())
     }
 
-    /// Declares a result in a game without a verdict, in place of what was declared before.
+    /// Declares a result in a game that is known to have no verdict, in place of what was declared before.
     pub fn declare_open(&mut self, outcome: Outcome, comment: Comment)
         requires { verdict_now self.old.state ≡ None }
         ensures { self.new
@@ -344,7 +346,7 @@ impl<B: Board> Game<B> {
         self.played_moves.len()
     }
 
-    /// The half-move with that number, counted from 0.
+    /// The half-move number `ply`, counted from 0.
     pub fn move_at(&self, ply: usize) -> Move
         requires { ply < length self.now.state.moves }
         ensures { slice_get self.now.state.moves ply ≡ Some result }
@@ -367,7 +369,8 @@ impl<B: Board> Game<B> {
         repetitions(self.played_moves.as_slice())
     }
 
-    /// By what the player on move may claim a draw.
+    /// By what the player on move may claim a draw: the position is there for the third time, or 50 moves of each side
+    /// without a pawn move or capture.
     pub fn claims(&self) -> Claims
         ensures { result ≡ claims self.now.state.start self.now.state.moves }
     {
@@ -385,8 +388,8 @@ impl<B: Board> Game<B> {
         verdict_on(&self.board, self.played_moves.as_slice())
     }
 
-    /// The verdict, given some legal move `m` of the present position: so neither mate nor stalemate has to be looked
-    /// for.
+    /// The verdict on the game, given that `m` is a legal move of the present position: so neither mate nor stalemate
+    /// has to be looked for.
     #[inline(always)]
     pub fn verdict_of_moving(&self, m: &Move) -> Option<Verdict>
         requires { IsTrue (is_legal (current self.now.state) m.now) }
@@ -420,7 +423,8 @@ impl<B: Board> Game<B> {
         self.declared.is_some() || self.verdict().is_some()
     }
 
-    // Why no move at all is played, by whether the game is over.
+    // Why no move at all is played, given whether the game is over (`over`): it is over, or it has as many half-moves
+    // as its limit allows; `None` if a move may be played.
     #[inline(always)]
     fn refusal_by(&self, over: bool) -> Option<PlayRefusal>
         requires { over ≡ is_over self.now.state }
@@ -436,8 +440,8 @@ impl<B: Board> Game<B> {
         }
     }
 
-    /// Why no move at all is played, if none is: the game is over, or else as many half-moves are current as the limit
-    /// allows.
+    /// Why no move at all is played: the game is over, or else it has as many half-moves as its limit allows; `None` if
+    /// a move may be played.
     pub fn refusal(&self) -> Option<PlayRefusal>
         ensures value { result ≡ refusal_now self.now }
         ensures possible { result ≢ Some PlayRefusal.Illegal }
@@ -445,7 +449,8 @@ impl<B: Board> Game<B> {
         self.refusal_by(self.is_over())
     }
 
-    /// The same, found with the help of a legal move, as `verdict_of_moving` finds the verdict.
+    /// Why no move at all is played, given that `m` is a legal move of the present position, so that neither mate nor
+    /// stalemate has to be looked for: the game is over, or it is full; `None` if a move may be played.
     #[inline(always)]
     pub fn refusal_of_moving(&self, m: &Move) -> Option<PlayRefusal>
         requires { IsTrue (is_legal (current self.now.state) m.now) }

@@ -43,8 +43,8 @@ fn bucket(known: &Hashed) -> usize
     (known.word % BUCKETS as u64) as usize
 }
 
-// The number of the earliest position of the game that can be the same as `now`, which one more move gave: none from
-// before the last capture or pawn move can, and the halfmove clock gives that.
+// The number of the earliest position of the game that can be the same as `now`, which one more move than
+// `played_moves` gave. None from before the last capture or pawn move can; the halfmove clock shows when that was.
 fn oldest(played_moves: &[PlayedMove], now: &Hashed) -> usize
     requires { IsKnown now.now }
     ensures { (start : Hashed) → Follows start.position played_moves.now → IsNext start played_moves.now now.now → (k : ℕ)
@@ -68,8 +68,9 @@ fn oldest(played_moves: &[PlayedMove], now: &Hashed) -> usize
     }
 }
 
-// How many positions of the game are the same as `now`, which one more move gave, itself included. From the head of its
-// bucket the search follows the links back to the latest position that is the same, and adds one to its count.
+// How many positions of the game are the same as `now`, which one more move than `played_moves` gave, itself included.
+// From `head`, its bucket's latest position (its number plus one), links lead back to the latest that is the same, and
+// its count is one less.
 fn count_same(head: u16, start: &Hashed, played_moves: &[PlayedMove], now: &Hashed) -> u32
     requires start { IsKnown start.now }
     requires now { IsKnown now.now }
@@ -123,7 +124,8 @@ impl Index {
         self.heads[bucket(start)] = 1;
     }
 
-    // Adds the position `reached`, which one more move gave, and returns its entry.
+    // Adds the position `reached`, which one more move than `played_moves` gave, to its bucket, and returns its entry
+    // in the index.
     pub(crate) fn push(
         &mut self,
         start: &Hashed,
@@ -150,7 +152,8 @@ impl Index {
         }
     }
 
-    // Removes the latest position from its bucket; the bucket's head is then the position that its entry links to.
+    // Removes the latest position of its bucket, which this played move reached; the bucket's head is then the position
+    // that its entry links to.
     fn remove(&mut self, played_move: &PlayedMove)
         requires { length self.old.heads.items ≡ BUCKETS }
         ensures { self.new.heads.items ≡ set self.old.heads.items (bucket played_move.now.reached) played_move.now.entry.earlier }
@@ -167,7 +170,8 @@ impl Index {
         self.remove(played_move);
     }
 
-    // Removes all positions of a game, one by one, so it takes no longer for more buckets.
+    // Removes all positions of the game from `start` by `played_moves`, one by one, so that this takes no longer for
+    // more buckets.
     pub(crate) fn clear(&mut self, start: &Hashed, played_moves: &[PlayedMove])
         requires { IsIndexed self.old.heads.items start.now played_moves.now }
         ensures { IsEmpty self.new.heads.items }

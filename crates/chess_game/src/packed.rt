@@ -25,7 +25,7 @@ pub(crate) struct PackedMen {
     pawns: SquareSet,
 }
 
-// The squares of the pieces of that kind, of both colours.
+// The squares of the board's pieces of this kind, of both colours.
 #[tactic(auto, using(crate::proofs::SomeKind::of_colours))]
 #[inline(always)]
 pub(crate) fn squares_of<B: Board>(board: &B, kind: Kind) -> SquareSet
@@ -36,7 +36,7 @@ pub(crate) fn squares_of<B: Board>(board: &B, kind: Kind) -> SquareSet
     white.union(black)
 }
 
-// The squares of White's pieces.
+// The squares of White's pieces on the board.
 #[tactic(auto, using(crate::proofs::AsSets::white_kinds))]
 #[inline(always)]
 fn white_squares<B: Board>(board: &B) -> SquareSet
@@ -65,7 +65,7 @@ fn difference(these: SquareSet, those: SquareSet) -> SquareSet
 }
 
 impl PackedMen {
-    // The pieces of the board's position.
+    // The pieces of the board's position, as sets of squares.
     #[inline(always)]
     fn of<B: Board>(board: &B) -> Self
         ensures { ArePacked result (B.position board.now).men }
@@ -81,7 +81,7 @@ impl PackedMen {
         }
     }
 
-    // The kind of the piece on that square, if there is one.
+    // The kind of the piece on this square, if there is one.
     fn kind_at(&self, square: Square) -> Option<Kind>
         ensures { result ≡ kind_in self.now square }
     {
@@ -102,7 +102,7 @@ impl PackedMen {
         }
     }
 
-    // The colour of the piece on that square; Black also if the square is empty.
+    // The colour of the piece on this square; Black also if the square is empty.
     fn colour_at(&self, square: Square) -> Colour
         ensures { result ≡ colour_in self.now square }
     {
@@ -113,7 +113,7 @@ impl PackedMen {
         }
     }
 
-    // The piece on that square, or none.
+    // The piece on this square, or none.
     #[tactic(auto, unfolding(crate::specs::ties::Packed::man_in))]
     fn man_at(&self, square: Square) -> Option<Man>
         ensures { result ≡ man_in self.now square }
@@ -123,7 +123,7 @@ impl PackedMen {
         Some(Man { colour, kind })
     }
 
-    // The pieces on all 64 squares, as a list by squares.
+    // The pieces on all 64 squares, from a1 to h8.
     fn unpacked(&self) -> [Option<Man>; 64]
         ensures { result ≡ men_in self.now }
     {
@@ -135,7 +135,7 @@ impl PackedMen {
         men
     }
 
-    // The squares whose content differs from that of the other pieces.
+    // The squares whose content (a piece's kind and colour, or none) differs between these pieces and the other ones.
     #[tactic(auto, using(crate::proofs::AsSets::differ_at))]
     fn differing(&self, other: &PackedMen) -> SquareSet
         requires this { ArePacked self.now (men_in self.now) }
@@ -259,7 +259,7 @@ impl PackedPosition {
         self.halfmove
     }
 
-    /// Whether each square has the same content as in the other position.
+    /// Whether each square has the same content, a piece's kind and colour or none, as in the other position.
     #[tactic(auto, using(crate::proofs::AsSets::same_where_none))]
     pub(crate) fn same_men(&self, other: &PackedPosition) -> bool
         ensures { result ≡ same_men self.now.men other.now.men }

@@ -22,8 +22,8 @@ pub(crate) struct Hashed {
 }
 
 impl Hashed {
-    // The position of the board, hashed and packed. It is packed last, since there is rarely a target that can be
-    // captured on: nothing has then to be kept through the search for a capture.
+    // The board's present position, packed, with its hash and its live en passant target. It is packed last: so nothing
+    // has to be kept through the search for a capture on the target, which there rarely is.
     #[inline(always)]
     pub(crate) fn on<B: Board>(board: &B) -> Self
         ensures position { result.position ≡ B.position board.now }
@@ -69,7 +69,7 @@ impl Hashed {
             && same_square(self.live_target, other.live_target)
     }
 
-    // 1 where the two positions are the same, else 0.
+    // 1 if the two positions are the same (Laws of Chess 2023, article 9.2.3), else 0.
     pub(crate) fn times_same(&self, other: &Hashed) -> u32
         requires this { IsKnown self.now }
         requires other { IsKnown other.now }
@@ -94,8 +94,8 @@ fn live_target<B: Board>(board: &B) -> Option<Square>
     }
 }
 
-// Whether some legal move captures en passant on that target. Few positions have a target, so this is kept out of the
-// code that calls it.
+// Whether some legal move captures en passant on the square `target`. Few positions have a target, so this is not
+// inlined.
 #[inline(never)]
 fn is_captured_on<B: Board>(board: &B, target: Square) -> bool
     requires { (B.position board.now).target ≡ Some target }
@@ -112,7 +112,7 @@ fn is_captured_on<B: Board>(board: &B, target: Square) -> bool
     false
 }
 
-// Whether the move from `from` to `to` is a legal capture en passant.
+// Whether the move from `from` to `to` is a legal capture en passant in the board's position.
 fn captures_from<B: Board>(board: &B, from: Square, to: Square) -> bool
     ensures { result ≡ captures_legally (B.position board.now) to from }
 {

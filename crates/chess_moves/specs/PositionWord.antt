@@ -31,7 +31,7 @@ second_factor = 0x94d049bb133111eb
 abbrev pub laid_over : ℕ → ℕ → ℕ
 laid_over z k = bit_xor z (z / 2 ^ k)
 
--- the key with index n: the n-th output of SplitMix64, from 0 on, with seed 0
+-- the Zobrist key with index n: the n-th output of the generator SplitMix64, counted from 0, with seed 0
 unfoldable pub key : ℕ → ℕ
 key n =
     let x = (n + 1) * increment % 2 ^ 64 in
@@ -41,12 +41,12 @@ key n =
 
 -- ---- which keys: twelve times 64 for the pieces on squares, one for Black on move, twice 8 for the rights
 
--- the index of a colour among the keys of pieces and of castling rights
+-- the index of a colour among the Zobrist keys of pieces and of castling rights
 abbrev pub colour_index : Colour → ℕ
 colour_index White = 0
 colour_index Black = 1
 
--- the index of a kind of piece among the keys of pieces: pawn 0 to king 5
+-- the index of a kind of piece among the Zobrist keys of pieces: pawn 0 to king 5
 abbrev pub kind_index : Kind → ℕ
 kind_index Pawn = 0
 kind_index Knight = 1
@@ -55,44 +55,44 @@ kind_index Rook = 3
 kind_index Queen = 4
 kind_index King = 5
 
--- the key of the piece x on square s: one of the first 768 (12 pieces times 64 squares)
+-- the Zobrist key of the piece x on square s: one of the first 768 (12 pieces times 64 squares)
 abbrev pub man_key : Man → ℕ → ℕ
 man_key x s = key (64 * (6 * colour_index x.colour + kind_index x.kind) + s)
 
--- the key of Black on move
+-- the Zobrist key of Black on move
 abbrev pub side_key : ℕ
 side_key = key 768
 
--- the key of colour c's right to castle with its rook on square r: one for each file
+-- the Zobrist key of colour c's right to castle with its rook on square r: one for each file
 abbrev pub right_key : Colour → ℕ → ℕ
 right_key c r = key (769 + 8 * colour_index c + file r)
 
 -- ---- the keys of a position's parts
 
--- the keys of what is on square s: one for a piece, no key for an empty square
+-- the Zobrist keys of the content of square s: one for a piece, no key for an empty square
 abbrev pub square_keys : ℕ → Option Man → List ℕ
 square_keys s None = []
 square_keys s (Some x) = man_key x s ∷ []
 
--- the keys of what is on square s of the board: one for a piece, no key for an empty square
+-- the Zobrist keys of what is on square s of the board: one for a piece, no key for an empty square
 abbrev pub keys_on : Men → ℕ → List ℕ
 keys_on men s = square_keys s (man_at men s)
 
--- the keys of all pieces on the board
+-- the Zobrist keys of all pieces on the board
 unfoldable pub men_keys : Men → List ℕ
 men_keys men = flat_map (keys_on men) squares
 
--- the keys of the side on move: none for White, one for Black
+-- the Zobrist keys of the side on move: none for White, one for Black
 abbrev pub side_keys : Colour → List ℕ
 side_keys White = []
 side_keys Black = side_key ∷ []
 
--- the keys of colour c's castling right with its rook on the given square: no key if there is no right
+-- the Zobrist keys of colour c's castling right with its rook on the given square: no key if there is no right
 abbrev pub right_keys : Colour → Option ℕ → List ℕ
 right_keys c None = []
 right_keys c (Some r) = right_key c r ∷ []
 
--- the keys of the castling rights that are there, of all four
+-- the Zobrist keys of the castling rights that are there, of all four
 unfoldable pub rights_keys : Rights → List ℕ
 rights_keys r =
     right_keys White r.white.king_side ++ right_keys White r.white.queen_side ++ right_keys Black r.black.king_side

@@ -34,7 +34,7 @@ pub trait Board {
     /// rights alone. So the same positions (Laws of Chess 2023, article 9.2.3) have equal hashes; others may have, too.
     ghost word_of: { Men → Colour → Rights → ℕ };
 
-    /// Sets the board to that position.
+    /// Sets the board to the position `to`.
     fn set(&mut self, to: &Position)
         ensures position { position self.new ≡ to.now }
         ensures sound { IsSound (position self.new) };
@@ -68,16 +68,16 @@ pub trait Board {
     fn is_legal(&self, m: &Move) -> bool
         ensures { result ≡ is_legal (position self.now) m.now };
 
-    /// A set of squares in which to look for the start of a legal move of such a piece to `to`: each piece of that
-    /// kind, of the side on move, that has a legal move there is on one of them, but others may be in the set too.
+    /// A set of squares that has at least the squares of those pieces of this kind, of the side on move, that have a
+    /// legal move to `to`; others may be in the set too.
     fn origins(&self, kind: Kind, to: Square) -> SquareSet
         ensures { HasOrigins (position self.now) kind to result };
 
-    /// The squares of that colour's pieces of that kind.
+    /// The squares of this colour's pieces of this kind.
     fn men_of(&self, colour: Colour, kind: Kind) -> SquareSet
         ensures { (k : ℕ) → k < 64 → has result k ≡ is_man colour kind (man_at (position self.now).men k) };
 
-    /// The squares from which a piece of that kind, of the side on move, may legally move to `to` without a promotion.
+    /// The squares from which a piece of this kind, of the side on move, may legally move to `to` without a promotion.
     fn legal_starts(&self, kind: Kind, to: Square) -> SquareSet
         ensures { HasLegalStarts (position self.now) kind to result };
 

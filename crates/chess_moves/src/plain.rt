@@ -38,7 +38,7 @@ impl Model for Plain {
     ghost inverse = { λ v. record { setup = v } };
 }
 
-// The squares of that colour's pieces of that kind.
+// The squares of this colour's pieces of this kind.
 fn men_of(men: &[Option<Man>; 64], colour: Colour, kind: Kind) -> SquareSet
     ensures { (k : ℕ) → k < 64 → has result k ≡ is_man colour kind (man_at men.now k) }
 {
@@ -52,7 +52,7 @@ fn men_of(men: &[Option<Man>; 64], colour: Colour, kind: Kind) -> SquareSet
     set
 }
 
-// Whether on `from` is a piece of that kind, of the side on move, that may legally move to `to` without a promotion.
+// Whether on `from` is a piece of this kind, of the side on move, that may legally move to `to` without a promotion.
 fn is_legal_start(setup: &Setup, kind: Kind, from: Square, to: Square) -> bool
     requires { IsSound setup.now }
     ensures { result ≡ (is_man setup.now.side kind (man_at setup.now.men from)
@@ -66,7 +66,7 @@ fn is_legal_start(setup: &Setup, kind: Kind, from: Square, to: Square) -> bool
     is_man(setup.side, kind, setup.men[from.index()]) && is_legal(setup, &m)
 }
 
-// The squares from which a piece of that kind, of the side on move, may legally move to `to` without a promotion.
+// The squares from which a piece of this kind, of the side on move, may legally move to `to` without a promotion.
 fn legal_starts(setup: &Setup, kind: Kind, to: Square) -> SquareSet
     requires { IsSound setup.now }
     ensures { HasLegalStarts setup.now kind to result }
@@ -100,51 +100,59 @@ impl Board for Plain {
 
     ghost word_of = { position_word };
 
-    // Sets the board to that position.
+    // Sets the board to the position `to`.
     fn set(&mut self, to: &Position) {
         self.setup = *to.setup();
     }
 
+    // The position that the board is at.
     fn position(&self) -> Position {
         Position::from_sound(self.setup)
     }
 
+    // The position that the board is at, lent as a `Setup` without a copy.
     fn setup(&self) -> &Setup {
         &self.setup
     }
 
+    // All legal moves, each once, rising by start square, end square and promotion.
     fn legal_moves(&self) -> MoveList {
         legal_moves(&self.setup)
     }
 
+    // How many legal moves there are.
     fn legal_move_count(&self) -> usize {
         self.legal_moves().len()
     }
 
+    // Whether there is a legal move.
     fn has_legal_move(&self) -> bool {
         has_legal_move(&self.setup)
     }
 
+    // Whether a move is legal.
     fn is_legal(&self, m: &Move) -> bool {
         is_legal(&self.setup, m)
     }
 
-    // All pieces of the kind, whether or not they could go to the square.
+    // A set of squares that has at least the starts of the legal moves of this kind to a square: here all pieces of the
+    // kind, of the side on move, whether or not they could go there.
     #[tactic(auto, using(crate::proofs::Origins::all_men))]
     fn origins(&self, kind: Kind, _to: Square) -> SquareSet {
         men_of(&self.setup.men, self.setup.side, kind)
     }
 
-    // The squares of that colour's pieces of that kind.
+    // The squares of this colour's pieces of this kind.
     fn men_of(&self, colour: Colour, kind: Kind) -> SquareSet {
         men_of(&self.setup.men, colour, kind)
     }
 
-    // The squares from which a piece of that kind, of the side on move, may legally move to `to` without a promotion.
+    // The squares from which a piece of this kind, of the side on move, may legally move to `to` without a promotion.
     fn legal_starts(&self, kind: Kind, to: Square) -> SquareSet {
         legal_starts(&self.setup, kind, to)
     }
 
+    // Whether the side on move is in check.
     fn in_check(&self) -> bool {
         is_in_check(&self.setup.men, self.setup.side)
     }
@@ -154,7 +162,7 @@ impl Board for Plain {
         position_word(&self.setup)
     }
 
-    // Makes a legal move, and returns what `take_back` needs.
+    // Makes a legal move, and returns what `take_back` needs to take it back.
     fn make(&mut self, m: Move) -> Saved {
         let saved = saved_of(&self.setup, &m);
         move_on(&mut self.setup, &m);

@@ -39,7 +39,7 @@ impl SquareSet {
         SquareSet { word: 0 }
     }
 
-    /// The set of that square alone.
+    /// The set that has this square alone.
     #[tactic(auto, using(crate::proofs::Words::has_single))]
     pub fn single(square: Square) -> Self
         ensures value { (k : ℕ) → has result k ≡ (k == square) }

@@ -17,7 +17,7 @@ const SECOND_FACTOR: u64 = 0x94D0_49BB_1331_11EB;
 /// The Zobrist keys of which position hashes are made: 768 of pieces on squares, one of Black on move, and 16 of
 /// castling rights.
 pub trait Keys {
-    /// The key with that number, from 0 on: 0 to 767 for pieces, 768 for Black on move, from 769 on for castling
+    /// The Zobrist key with this number: 0 to 767 for pieces on squares, 768 for Black on move, 769 to 784 for castling
     /// rights.
     fn key(&self, number: u16) -> u64
         requires { number < 785 }
@@ -29,7 +29,7 @@ pub trait Keys {
 pub struct ComputedKeys;
 
 impl Keys for ComputedKeys {
-    // The key with that number, computed by SplitMix64's three steps.
+    // The Zobrist key with this number, from 0 on, computed by the three steps of the generator SplitMix64.
     #[tactic(auto, unfolding(crate::specs::PositionWord::key))]
     fn key(&self, number: u16) -> u64 {
         let mut z = (number as u64 + 1).wrapping_mul(INCREMENT);
@@ -39,7 +39,7 @@ impl Keys for ComputedKeys {
     }
 }
 
-// The index of a colour among the keys of pieces and of castling rights.
+// The index of a colour among the Zobrist keys of pieces and of castling rights.
 fn colour_index(colour: Colour) -> u16
     ensures value { result ≡ colour_index colour }
     ensures in_range { result < 2 }
@@ -50,7 +50,7 @@ fn colour_index(colour: Colour) -> u16
     }
 }
 
-// The index of a kind of piece among the keys of pieces: pawn 0 to king 5.
+// The index of a kind of piece among the Zobrist keys of pieces: pawn 0 to king 5.
 fn kind_index(kind: Kind) -> u16
     ensures value { result ≡ kind_index kind }
     ensures in_range { result < 6 }
@@ -65,7 +65,7 @@ fn kind_index(kind: Kind) -> u16
     }
 }
 
-/// The key of that piece on that square.
+/// The Zobrist key of this piece on this square.
 #[inline(always)]
 pub fn man_key<K: Keys>(keys: &K, man: Man, square: Square) -> u64
     ensures { result ≡ man_key man square }
@@ -74,7 +74,7 @@ pub fn man_key<K: Keys>(keys: &K, man: Man, square: Square) -> u64
     keys.key(64 * place + square.number() as u16)
 }
 
-// The hash of what is on a square: the key of the piece, or 0 if it is empty.
+// The part of the Zobrist hash of what is on a square: the key of the piece there, or 0 if it is empty.
 fn square_word(square: Square, man: Option<Man>) -> u64
     ensures { result ≡ xor_of (square_keys square man) }
 {
@@ -84,7 +84,7 @@ fn square_word(square: Square, man: Option<Man>) -> u64
     }
 }
 
-// The exclusive or of the keys of all pieces.
+// The part of the Zobrist hash of the pieces: the exclusive or of the keys of all pieces on their squares.
 fn men_word(men: &[Option<Man>; 64]) -> u64
     ensures { result ≡ xor_of (men_keys men.now) }
 {
@@ -96,7 +96,7 @@ fn men_word(men: &[Option<Man>; 64]) -> u64
     word
 }
 
-// The hash of the side on move alone: 0 for White, a key for Black.
+// The part of the Zobrist hash of the side on move: 0 for White, a key for Black.
 fn side_word<K: Keys>(keys: &K, side: Colour) -> u64
     ensures { result ≡ xor_of (side_keys side) }
 {
@@ -106,7 +106,8 @@ fn side_word<K: Keys>(keys: &K, side: Colour) -> u64
     }
 }
 
-// The hash of one castling right of that colour, given as its rook's square: 0 if there is no right.
+// The part of the Zobrist hash of one castling right of this colour, given as its rook's square: 0 if there is no
+// right.
 fn right_word<K: Keys>(keys: &K, colour: Colour, rook: Option<Square>) -> u64
     ensures { result ≡ xor_of (right_keys colour rook) }
 {
@@ -116,7 +117,7 @@ fn right_word<K: Keys>(keys: &K, colour: Colour, rook: Option<Square>) -> u64
     }
 }
 
-// The exclusive or of the keys of the castling rights that are there.
+// The part of the Zobrist hash of the castling rights: the exclusive or of the keys of those that are there.
 fn rights_word<K: Keys>(keys: &K, rights: &Rights) -> u64
     ensures { result ≡ xor_of (rights_keys rights.now) }
 {
@@ -127,7 +128,7 @@ fn rights_word<K: Keys>(keys: &K, rights: &Rights) -> u64
     white_king_side ^ white_queen_side ^ black_king_side ^ black_queen_side
 }
 
-/// The position hash of a setup, from the hash of its pieces alone, which the caller has.
+/// The Zobrist hash of a position, from `of_men`, the exclusive or of its pieces' keys, which the caller knows already.
 pub fn word_with<K: Keys>(keys: &K, of_men: u64, setup: &Setup) -> u64
     requires { of_men ≡ xor_of (men_keys setup.now.men) }
     ensures { result ≡ position_word setup.now.men setup.now.side setup.now.rights }

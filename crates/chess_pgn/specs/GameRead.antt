@@ -71,8 +71,8 @@ ends g o offset = Stop (record {
   answer = Ok (Some (record { outcome = o; termination = g.termination; offset = offset }));
 })
 
--- `next`, if one more move may be played in the game so far (`g`): the board has no verdict yet (else the fault is
--- AfterEnd), and there are fewer moves than `limit` (else TooLong). `offset` is that of the move's word
+-- `next`, if one more move may be played in the game so far (`g`); else a fault at `offset`, that of the move's word:
+-- AfterEnd if the board has a verdict, TooLong if the game has `limit` moves
 abbrev pub unless_full : ℕ → SoFar → ℕ → Step → Step
 unless_full limit g offset next =
     if is_some (verdict_now g.state) then fails g AfterEnd offset
@@ -87,8 +87,8 @@ move_step limit g offset (reads.Move m) = unless_full limit g offset
 move_step limit g offset reads.Ambiguous = unless_full limit g offset (fails g AmbiguousMove offset)
 move_step limit g offset reads.NoSuch = unless_full limit g offset (fails g IllegalMove offset)
 
--- what follows from a word of this kind, at that offset: an outcome ends the game, a number begins it, marks are
--- skipped, a move is played. `limit` is the most half-moves of a game
+-- what follows from a word of the given kind at the given offset: an outcome ends the game `g`, a number begins its
+-- moves, marks such as `!?` are skipped, a move is played. `limit` is the most half-moves of a game
 abbrev pub word_step : ℕ → SoFar → ℕ → List ℕ → WordKind → Step
 word_step limit g offset word (End o) = ends g o (offset + length word)
 word_step limit g offset word Number = On (record g { is_met = true; is_begun = true })
@@ -103,13 +103,13 @@ abbrev pub fen_step : SoFar → ℕ → Result Setup FenFault → Step
 fen_step g offset (Ok start) = On (record g { state = from_start start; is_met = true })
 fen_step g offset (Err fault) = fails g BadFen offset
 
--- what is known of Termination after a tag with this name and text, if it was `before`: the last tag of that name
--- counts
+-- what the last tag Termination read so far says, once a tag with this name and text is read: what that tag says, if
+-- its name is Termination, else `before`, what was known before it
 abbrev pub termination_after : Option Termination → List ℕ → List ℕ → Option Termination
 termination_after before name text = if bytes_eq name (codes "Termination") then termination_named text else before
 
--- what follows from a tag with this name and text: FEN sets the start, Termination is kept, any other tag is skipped;
--- `offset` is that of its string
+-- what follows from a tag with this name and text: FEN sets the start, what Termination says is kept, any other tag
+-- changes nothing; `g` is the game so far, `offset` that of the tag's string
 abbrev pub tag_step : SoFar → List ℕ → List ℕ → ℕ → Step
 tag_step g name text offset =
     if bytes_eq name (codes "FEN") then fen_step g offset (fen_reading_as g.state.start.variant text)
@@ -117,8 +117,8 @@ tag_step g name text offset =
 
 -- ---- tokens, in a text of so many bytes; each with how many bytes are left where it begins
 
--- what follows from one token. `limit` is the most half-moves of a game, `total` the text's length, and `left` how
--- many bytes are left from the token on, so that its offset is `total - left`
+-- what follows from one token for the game so far (`g`). `limit` is the most half-moves of a game, `total` the text's
+-- length, and `left` how many bytes are left from the token on, so that its offset is `total - left`
 abbrev pub step : ℕ → ℕ → SoFar → ℕ → Token → Step
 step limit total g left Skip = On g
 step limit total g left (Tag name text string) =
@@ -129,24 +129,25 @@ step limit total g left (Unclosed_comment brace) = fails g UnclosedComment (tota
 step limit total g left Unclosed_variation = fails g UnclosedVariation (total - left)
 step limit total g left Bad = fails g BadToken (total - left)
 
--- what was read if the text ends here, before an outcome mark: no game, or a game with the fault NoResult. `total` is
--- the text's length
+-- what was read if the text ends here, before an outcome mark: no game (`None`), or the fault NoResult at the end if a
+-- tag, number or move was met. `g` is the game so far, `total` the text's length
 abbrev pub at_text_end : ℕ → SoFar → GameRead
 at_text_end total g =
     record { state = g.state; answer = if g.is_met then Err (record { kind = NoResult; offset = total }) else Ok None }
 
--- what was read in the end: that of a step which stopped, else what `later` gives for the game so far
+-- what was read in the end: if the step says that reading goes on, what `later` gives for the game so far; else what
+-- the step stopped with
 abbrev pub go_on : Step → (SoFar → GameRead) → GameRead
 go_on (On g) later = later g
 go_on (Stop read) later = read
 
--- reads the tokens that are left, after the game so far: what was read in the end. `limit` is the most half-moves of
--- a game, `total` the text's length
+-- what was read in the end, from the game so far (`g`) and the tokens that are left, each after how many bytes are left
+-- where it begins. `limit` is the most half-moves of a game, `total` the text's length
 abbrev pub game_of : ℕ → ℕ → SoFar → List (ℕ × Token) → GameRead
 game_of limit total g [] = at_text_end total g
 game_of limit total g (t ∷ ts) = go_on (step limit total g t.0 t.1) (λ h. game_of limit total h ts)
 
--- before the first token: a game of this variant at its initial position
+-- what is known before the first token: the game is at the initial position of this variant, and nothing else was met
 abbrev pub nothing_read : Variant → SoFar
 nothing_read v =
     record { state = from_start (initial_setup_of v); is_met = false; is_begun = false; termination = None }
@@ -161,17 +162,18 @@ variant_named text =
     || str_eq_ignore_ascii_case text (codes "chess960") then Fischerandom
     else Normal
 
--- the variant that the last tag Variant names: normal chess where there is none
+-- the variant that the last tag Variant among the game's own tags names; normal chess if there is no such tag
 abbrev pub tagged_variant : List (ℕ × Token) → Variant
 tagged_variant tokens = option_map_or (λ tag. variant_named tag.0) (last_tag (codes "Variant") tokens) Normal
 
 -- ---- the game
 
--- the game that these tokens are read as, in the variant that its tags name. `limit` is the most half-moves of a
--- game, `total` the text's length
+-- what was read from these tokens, each after how many bytes are left where it begins, in the variant that their tags
+-- name. `limit` is the most half-moves of a game, `total` the text's length
 abbrev pub tokens_read : ℕ → ℕ → List (ℕ × Token) → GameRead
 tokens_read limit total tokens = game_of limit total (nothing_read (tagged_variant tokens)) tokens
 
--- the game that a text is read as from the offset `at` on. `limit` is the most half-moves of a game
+-- what is read of a text from the offset `at` on: the game up to its outcome mark and where it ended, or `None` if no
+-- game is left, or the first fault. `limit` is the most half-moves of a game
 unfoldable pub pgn_read : ℕ → List ℕ → ℕ → GameRead
 pgn_read limit text at = tokens_read limit (length text) (tokens_from text (after_byte_order_mark text at))

@@ -37,7 +37,8 @@ is_initial start = bytes_eq (fen start) (fen initial_setup)
 abbrev pub fen_lines : Setup → List (List ℕ)
 fen_lines start = tag_line (codes "FEN") (fen start) ∷ tag_line (codes "SetUp") (codes "1") ∷ []
 
--- the lines of the tags that give the start: none for the initial position of normal chess
+-- the lines of the tags that give a game's start in variant v: none for the initial position of normal chess, else FEN
+-- and SetUp
 abbrev pub start_lines_in : Variant → Setup → List (List ℕ)
 start_lines_in Normal start = if is_initial start then [] else fen_lines start
 start_lines_in Fischerandom start = fen_lines start
@@ -68,11 +69,13 @@ number_token White is_first number = (decimal number ++ codes ".") ∷ []
 number_token Black true number = (decimal number ++ codes "...") ∷ []
 number_token Black false number = []
 
--- the tokens of the move `m` in the position `p`: a number if one is due, and its SAN
+-- the tokens of move m in position p: its SAN, and before it a number if one is due. `is_first`: the text's moves begin
+-- with m
 abbrev pub tokens_of_move : Bool → Setup → Move → List (List ℕ)
 tokens_of_move is_first p m = number_token p.side is_first p.fullmove ++ san p m ∷ []
 
--- the tokens of moves made one after another from the position `p` on: numbers and SAN (section 8.2)
+-- the tokens of moves made one after another from the position `p` on: numbers and SAN (section 8.2). `is_first`: the
+-- text's moves begin with them
 abbrev pub move_tokens : Bool → Setup → List Move → List (List ℕ)
 move_tokens is_first p [] = []
 move_tokens is_first p (m ∷ ms) = tokens_of_move is_first p m ++ move_tokens false (after p m) ms

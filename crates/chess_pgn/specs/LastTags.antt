@@ -1,4 +1,5 @@
--- The last tag of a name among a game's tags, which come before its first number, move or termination; and its tag Result.
+-- The last tag of a name among a game's tags, which come before its first number, move or termination; and its tag
+-- Result.
 use Rattle.std.specs.Prelude.{ℕ, ◌-◌, Bool, true, false, if◌then◌else◌, List, length, codes, Option, Some, None}
 use Rattle.std.specs.List.{filter_map, last_or, take_while}
 use Rattle.std.specs.Option.{option_map}
@@ -9,28 +10,31 @@ use Rattle.chess_pgn.specs.declared.word.WordKind.TheVariants.{Marks}
 use Rattle.chess_pgn.specs.Tokens.{Token, Skip, Tag, Word, after_byte_order_mark, tokens_from}
 use Rattle.chess_pgn.specs.Words.{outcome_of, kind_of}
 
--- a game's tags may go on after marks, and after no other word
+-- a word of this kind is marks alone, such as `!?`
 abbrev pub is_marks : WordKind → Bool
 is_marks Marks = true
 is_marks _ = false
 
--- more tags of a game may follow a token
+-- after this token more tags of the same game may come: it is skipped, a tag, or marks such as `!?`
 abbrev pub may_precede_tags : Token → Bool
 may_precede_tags Skip = true
 may_precede_tags (Tag name text left) = true
 may_precede_tags (Word word) = is_marks (kind_of word)
 may_precede_tags _ = false
 
--- the text of a tag, and how many bytes of the game's text are left where it begins, if the tag has that name
+-- the text of a token that is a tag with the given name, and how many bytes of the game's text are left where that text
+-- begins; none for any other token
 abbrev pub named_tag : List ℕ → Token → Option (List ℕ × ℕ)
 named_tag name (Tag other text left) = if bytes_eq other name then Some (text, left) else None
 named_tag name _ = None
 
--- the last tag of that name before the first token that no tag of the game may follow
+-- the last tag with that name among a game's tags, which end before the first number, move, outcome or fault: its text,
+-- and how many bytes are left where that begins. Each token comes after how many bytes are left at it
 abbrev pub last_tag : List ℕ → List (ℕ × Token) → Option (List ℕ × ℕ)
 last_tag name tokens = last_or None (filter_map (λ t. named_tag name t.1) (take_while (λ t. may_precede_tags t.1) tokens))
 
--- the tag Result of the game that is read from an offset on
+-- the last tag Result of the game that is read from the offset `at` on: the outcome that it names, if any, and the
+-- offset of its string; none if the game has no tag Result
 abbrev pub result_tag_of : List ℕ → ℕ → Option ResultTag
 result_tag_of text at = option_map (λ tag. record { outcome = outcome_of tag.0; offset = length text - tag.1 })
     (last_tag (codes "Result") (tokens_from text (after_byte_order_mark text at)))

@@ -8,8 +8,8 @@ use Rattle.std.specs.List.{list_any, prefix_len, position_or_len, take_while}
 use Rattle.std.specs.Option.{option_and_then, option_map, option_map_or, unwrap_or}
 use Rattle.std.specs.Str.{bytes_eq}
 
--- a token of a PGN text (section 7). A field `left` says where something is: it is the number of bytes from there to
--- the text's end
+-- a token of a PGN text (section 7): what is skipped, such as white space, a comment or a variation; a tag; a word,
+-- such as a move; or what can't be read. A field `left` is the number of bytes from a place to the text's end
 pub data Token : Type 0 where
   Skip : Token
   -- a tag's name, the bytes between its quotes as they are, and how many are left at the first of them
@@ -47,8 +47,8 @@ abbrev pub after_brace : List ℕ → Option (List ℕ)
 after_brace [] = None
 after_brace (c ∷ rest) = if c == byte "}" then Some rest else after_brace rest
 
--- the text after the white space and `%` lines (section 6) at its front. The flags say whether its first byte is
--- inside such a line already, and whether that byte is the first of a line
+-- the text after the white space and `%` lines (section 6) at its front. The flags say whether its first byte is inside
+-- such a line already (`skips`), and whether it is the first of its line (`begins`)
 abbrev pub after_gap : Bool → Bool → List ℕ → List ℕ
 after_gap skips begins [] = []
 after_gap true begins (c ∷ rest) = after_gap (not (c == new_line)) true rest
@@ -58,8 +58,9 @@ after_gap false begins (c ∷ rest) =
 
 -- ---- variations
 
--- a variation after its `(`, where so many are open. In a comment or in a line that is skipped, the first argument is the
--- byte that ends that, and the token if there is no such byte
+-- the token of a variation and the text after it, from a text inside it; the third argument counts the variations open
+-- there, 1 right after its `(`. `comment` is `None`, or if the text is inside a comment or `%` line, the byte that ends
+-- that, and the token if no such byte comes; `line_begins`: the text's first byte begins a line
 abbrev pub variation_at : Option (ℕ × Token) → Bool → ℕ → List ℕ → Token × List ℕ
 variation_at comment line_begins zero text = (Skip, text)
 variation_at comment line_begins (suc depth) [] = (option_map_or (λ skipped. skipped.1) comment Unclosed_variation, [])
@@ -76,12 +77,12 @@ variation_at None line_begins (suc depth) (c ∷ rest) =
 -- ---- tags
 
 infixl 10 ◌>>=◌
--- f of the value, if there is one
+-- goes on with f from a value that was found; none if none was found: so a chain of steps stops at the first that finds
+-- nothing
 abbrev pub ◌>>=◌ : {A B : Type 0} → Option A → (A → Option B) → Option B
 o >>= f = option_and_then f o
 
--- puts `front` before the string that was found after it, if one was; `found` is a string's bytes and the text after
--- it
+-- puts `front` before the bytes of a string that was found (its bytes, and the text after it); none if none was found
 abbrev pub onto : List ℕ → Option (List ℕ × List ℕ) → Option (List ℕ × List ℕ)
 onto front string = option_map (λ found. (front ++ found.0, found.1)) string
 
@@ -96,21 +97,24 @@ string_at (c ∷ d ∷ rest) =
     else (if c == byte "\\" then (if d == new_line then None else onto (c ∷ d ∷ []) (string_at rest))
     else onto (c ∷ []) (string_at (d ∷ rest))))
 
--- the text after its first byte, if that byte is `b`
+-- the text after its first byte, if that byte is `b`; else none
 abbrev pub after_byte : ℕ → List ℕ → Option (List ℕ)
 after_byte b [] = None
 after_byte b (c ∷ rest) = if c == b then Some rest else None
 
--- the text after white space, `%` lines and then the byte `b`, if that comes next
+-- the text after any white space and `%` lines, and then the byte `b`; none if another byte comes there. The text's own
+-- first byte begins no line, so a `%` there is not skipped
 abbrev pub after_next : ℕ → List ℕ → Option (List ℕ)
 after_next b text = after_byte b (after_gap false false text)
 
--- a name, which has a byte at least, and what follows it
+-- the tag's name at the text's front, at least one letter, digit or `_`, and the text after it; none if there is no
+-- name
 abbrev pub name_at : List ℕ → Option (List ℕ × List ℕ)
 name_at text = let name = take_while is_name_byte text in
     if length name == 0 then None else Some (name, drop (length name) text)
 
--- a tag after its opening bracket, and what follows it: a name, a string and the closing bracket, with gaps before each
+-- a tag, from the text after its `[`, and the text after its `]`: a name, a string in quotes and the bracket, each
+-- after white space if there is any; none if this is no tag
 abbrev pub tag_at : List ℕ → Option (Token × List ℕ)
 tag_at text = do
   name ← name_at (after_gap false false text)
@@ -121,8 +125,8 @@ tag_at text = do
 
 -- ---- tokens
 
--- the token of a comment in braces: `Skip` with the text after its `}`, or a fault if it has none; `left` counts the
--- bytes from its `{` on
+-- the token of a `{` comment and the text after it. `behind` is the text after its `}`, or `None` if that is missing,
+-- which is a fault; `left` counts the bytes from its `{` on
 abbrev pub comment_at : ℕ → Option (List ℕ) → Token × List ℕ
 comment_at left behind = option_map_or (λ rest. (Skip, rest)) behind (Unclosed_comment left, [])
 
@@ -142,7 +146,7 @@ token_at line_begins c rest =
     then (Word (take_while is_word_byte (c ∷ rest)), drop (prefix_len is_word_byte (c ∷ rest)) (c ∷ rest))
     else (Bad, [])))))))))
 
--- the tokens of a text in order, each after the number of bytes left where it begins; at most `most` of them.
+-- the tokens of a text in order, each paired with the number of bytes left where it begins; at most `most` of them.
 -- `line_begins`: a line begins at the text's first byte
 unfoldable pub tokens_of : ℕ → Bool → List ℕ → List (ℕ × Token)
 tokens_of zero line_begins text = []
@@ -160,7 +164,7 @@ after_byte_order_mark text at = if (at == 0) && bytes_eq (take 3 text) (239 ∷ 
 abbrev pub begins_line : List ℕ → ℕ → Bool
 begins_line text offset = (offset == 0) || (slice_index text (offset - 1) == new_line)
 
--- the tokens of a text from an offset on, each after the number of bytes left where it begins. A token takes at least
--- a byte, so no text has more tokens than bytes
+-- the tokens of a text from an offset on, each paired with the number of bytes left where it begins. A token takes at
+-- least a byte, so no text has more tokens than bytes
 unfoldable pub tokens_from : List ℕ → ℕ → List (ℕ × Token)
 tokens_from text offset = tokens_of (length text) (begins_line text offset) (drop offset text)

@@ -14,7 +14,8 @@ use Rattle.chess_pgn.specs.declared.word.WordKind.TheVariants.{End, Number, Mark
 abbrev pub outcome_of : List ℕ → Option Outcome
 outcome_of word = find (λ o. bytes_eq (outcome_text o) word) (WhiteWins ∷ BlackWins ∷ Draw ∷ Unfinished ∷ [])
 
--- what a word is: an outcome, or else digits alone, marks alone, or what may be a move
+-- what a word is: an outcome such as `1-0`, a number (digits alone), marks (`!` and `?` alone), or else what may be a
+-- move
 abbrev pub kind_of : List ℕ → WordKind
 kind_of word = option_map_or End (outcome_of word)
     (if list_all is_digit word then Number

@@ -36,7 +36,7 @@ impl TextBuffer {
         }
     }
 
-    // Writes and empties the buffer, unless `len` more bytes fit into it.
+    // Writes and empties the buffer if `len` more bytes don't fit into it; else does nothing.
     fn make_room<W: Output>(&mut self, writer: &mut W, len: usize) -> Result<(), WriteFault>
         ensures added { Adds (W.seen writer.old) (W.seen writer.new) self.old self.new result [] }
         ensures room { OnOk result (len ≤ BUFFER_LEN → length self.new + len ≤ BUFFER_LEN) }

@@ -44,7 +44,7 @@ pub(crate) fn is_word_byte(byte: u8) -> bool
     CLASSES[byte as usize] == b'w'
 }
 
-// Whether a byte is white space or a dot, which are skipped between tokens.
+// Whether the byte `next` is white space or a dot, which are skipped between tokens.
 #[inline(always)]
 pub(crate) fn is_passed(next: u8) -> bool
     ensures { result ≡ (is_white_space next || next == byte ".") }

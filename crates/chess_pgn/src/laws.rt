@@ -24,7 +24,8 @@ pub fn lines_are_filled()
         → IsMoveText prefix tokens text → text ≡ move_text_of prefix tokens }
 {}
 
-/// States a law and does nothing: the text of every game's moves has them in filled lines.
+/// States a law and does nothing: the moves of every playable game are written in filled lines, of which none has more
+/// than 79 bytes after the prefix, and none could also have taken the first token of the next.
 pub fn games_are_in_filled_lines()
     ensures { (prefix : List ℕ) (limit : ℕ) (s : State) → IsPlayable (record { limit = limit; state = s })
         → IsMoveText prefix (game_tokens s) (move_text_of prefix (game_tokens s)) }

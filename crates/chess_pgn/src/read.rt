@@ -81,7 +81,7 @@ pub struct PgnFault {
     pub offset: usize,
 }
 
-// What is known, beside the game's moves, of a game that is being read.
+// What is known, beside the moves, of a game that is being read.
 #[derive(Clone, Copy)]
 struct Progress {
     // Whether a tag, number or move was met.
@@ -93,7 +93,7 @@ struct Progress {
 }
 
 impl Progress {
-    // What is known before the first token: nothing.
+    // What is known before the first token: no tag, number or move was met.
     fn none() -> Self
         ensures { result ≡ record { is_met = false; is_begun = false; termination = None } }
     {
@@ -104,7 +104,7 @@ impl Progress {
         }
     }
 
-    // What is known after a number or move.
+    // What is known after a number or move, from what was known before it (`self`).
     fn begun(self) -> Self
         ensures { result ≡ record { is_met = true; is_begun = true; termination = self.termination } }
     {
@@ -115,7 +115,7 @@ impl Progress {
         }
     }
 
-    // What is known after a tag.
+    // What is known after a tag, from what was known before it (`self`).
     fn after_tag(self, tag: &Tag<'_>) -> Self
         ensures { result ≡ record {
           is_met = true;
@@ -131,7 +131,8 @@ impl Progress {
     }
 }
 
-// What is known of Termination after a tag, if it was `before`: the last tag of that name counts.
+// What the last tag `Termination` read so far says, when `tag` is read: what `tag` says, if it is one, else `before`,
+// what was known before it.
 fn termination_after(before: Option<Termination>, tag: &Tag<'_>) -> Option<Termination>
     ensures { result ≡ termination_after before tag.now.name.now tag.now.text.now }
 {
@@ -142,7 +143,7 @@ fn termination_after(before: Option<Termination>, tag: &Tag<'_>) -> Option<Termi
     }
 }
 
-// What follows from a token.
+// What follows from one token of a game's text.
 enum Step {
     // Reading goes on.
     On(Progress),
@@ -157,7 +158,7 @@ fn is_decided<B: Board>(game: &Game<B>) -> bool
     game.verdict().is_some()
 }
 
-// The fault of a move that is refused.
+// The fault to give for a move that the game refuses: it is over, full (`TooLong`), or the move is illegal.
 fn refusal_kind(refusal: PlayRefusal) -> PgnFaultKind
     ensures { result ≡ refusal_kind refusal }
 {
@@ -168,7 +169,8 @@ fn refusal_kind(refusal: PlayRefusal) -> PgnFaultKind
     }
 }
 
-// The fault of a word that denotes no one move: first that no move at all is played there.
+// The fault of a word that denotes no one legal move: that the game is over or full, if it is; else `kind`, the fault
+// of the word itself.
 fn unplayed_kind<B: Board>(game: &Game<B>, kind: PgnFaultKind) -> PgnFaultKind
     ensures { result ≡ option_map_or refusal_kind (refusal_now game.now) kind }
 {
@@ -178,8 +180,8 @@ fn unplayed_kind<B: Board>(game: &Game<B>, kind: PgnFaultKind) -> PgnFaultKind
     }
 }
 
-// Plays a legal move whose text is at `offset`, unless the game has a verdict or is full. That there is a legal move
-// makes the verdict cheaper to find.
+// Plays the legal move `m`, unless the game has a verdict or is full: then there is a fault at `offset`, that of the
+// move's text. Returns what is known after it; `progress` is what was known before.
 #[inline(always)]
 fn play_move<B: Board>(
     game: &mut Game<B>,
@@ -204,7 +206,8 @@ fn play_move<B: Board>(
     Err(PgnFault { kind, offset })
 }
 
-// Plays the move that a word denotes in the current position, or gives the fault at `offset`, the word's.
+// Plays the move that a word denotes in the current position, or returns the fault at `offset`, the word's. `progress`
+// is what is known before the word.
 #[inline(always)]
 fn play_word<B: Board>(
     game: &mut Game<B>,
@@ -239,7 +242,8 @@ fn end_game<B: Board>(game: &mut Game<B>, outcome: Outcome)
     }
 }
 
-// Takes a word, which begins at `offset`: a move is played, an outcome ends the game.
+// Takes a word, which begins at `offset`: a move is played, an outcome such as `1-0` ends the game. `progress` is what
+// is known before the word.
 #[tactic(auto, using(crate::proofs::GameReads::termination_has_bytes))]
 #[inline(always)]
 fn read_word<B: Board>(
@@ -271,7 +275,8 @@ fn read_word<B: Board>(
     }
 }
 
-// Takes a tag, whose string begins at `offset`: a FEN sets the game's start.
+// Takes a tag, whose string begins at `offset`: a FEN sets the game's start. `progress` is what is known before the
+// tag.
 fn read_tag<B: Board>(
     game: &mut Game<B>,
     progress: Progress,
@@ -297,7 +302,8 @@ fn read_tag<B: Board>(
     Ok(Step::On(progress.after_tag(tag)))
 }
 
-// Takes a token, which begins at `offset` in a text of `len` bytes.
+// Takes a token, which begins at `offset` in a text of `len` bytes, and returns whether reading goes on or the game
+// ended. `progress` is what is known before the token.
 #[inline(always)]
 fn read_token<B: Board>(
     game: &mut Game<B>,
@@ -326,6 +332,7 @@ fn read_token<B: Board>(
 }
 
 // The fault of a game's text, for a token that begins at `offset` and can't be read, in a text of `len` bytes.
+// `progress` is what is known before the token: a bad tag after moves means that the game has no result.
 fn reported_fault(fault: TokenFault, progress: Progress, len: usize, offset: usize) -> PgnFault
     requires within { IsWithin (len - offset) (fault_seen fault) }
     requires offset { offset ≤ len }
@@ -371,7 +378,8 @@ fn variant_named(text: &[u8]) -> Variant
     }
 }
 
-// The variant after a token, if it was `variant`; `None` if no tags of the same game may follow.
+// The variant after one more token: what a tag `Variant` names, else `variant`, the variant so far; `None` if no more
+// tags of the game may follow this token.
 pub(crate) fn variant_after(variant: Variant, token: &Token<'_>) -> Option<Variant>
     ensures { result ≡ variant_after variant (token_seen token.now) }
 {
@@ -391,7 +399,8 @@ pub(crate) fn variant_after(variant: Variant, token: &Token<'_>) -> Option<Varia
     }
 }
 
-// The variant of the game that begins at `at`: the last that its tags name before the first number, move or outcome.
+// The variant of the game that begins at `at`: the one that its last tag `Variant` before its first number, move or
+// outcome names; normal chess, if it has no such tag.
 fn tagged_variant(text: &[u8], at: usize) -> Variant
     requires { at ≤ length text.now }
     ensures { result ≡ tagged_variant (tokens_from text.now at) }
@@ -412,8 +421,8 @@ fn tagged_variant(text: &[u8], at: usize) -> Variant
     }
 }
 
-// Skips white space and dots from `at` on, and returns the offset after them. They are tokens of their own, but a game
-// is read alike without them; this is faster.
+// Skips white space and dots from `at` on, and returns the offset after them. `next_token` would skip them one by one;
+// this is faster.
 #[inline(always)]
 fn after_blanks(text: &[u8], at: usize) -> usize
     requires { at ≤ length text.now }
@@ -428,7 +437,7 @@ fn after_blanks(text: &[u8], at: usize) -> usize
     offset
 }
 
-// The offset after a closed `{` comment that begins at `at`; `None` if there is none.
+// The offset after the closed `{` comment that begins at `at`; `None` if no comment begins there, or it isn't closed.
 #[inline(always)]
 fn after_comment(text: &[u8], at: usize) -> Option<usize>
     requires { at ≤ length text.now }
@@ -447,8 +456,8 @@ fn after_comment(text: &[u8], at: usize) -> Option<usize>
     }
 }
 
-// Skips white space, dots and `{` comments from `at` on, and returns the offset after them: as `after_blanks`, for
-// speed.
+// Skips white space, dots and closed `{` comments from `at` on, and returns the offset after them; `next_token` would
+// skip them one by one, this is faster.
 #[inline(always)]
 fn after_skipped(text: &[u8], at: usize) -> usize
     requires { at ≤ length text.now }
@@ -464,9 +473,8 @@ fn after_skipped(text: &[u8], at: usize) -> usize
     offset
 }
 
-// Reads the tags from `at` on as those of a game of normal chess, and returns what is known then and the offset of the
-// first number, move or outcome. `None` where a tag names another variant, or where a fault or the text's end comes
-// first.
+// Reads the tags from `at` on as those of a game of normal chess; returns what is known then, and the offset of the
+// first number, move or outcome. `None` if a tag names another variant, or a fault or the text's end comes first.
 fn read_normal_tags<B: Board>(
     text: &[u8],
     at: usize,
@@ -497,8 +505,8 @@ fn read_normal_tags<B: Board>(
     }
 }
 
-// Sets the game to its start, for the text from `at` on, and returns what is known and the offset from which to read
-// on. Most games are of normal chess: their tags are read at once. For others the variant is looked for first.
+// Sets the game to its start, for the text from `at` on; returns what is known so far, and the offset from which to
+// read on. The tags of normal chess, which most games have, are read at once; else only the variant is looked for.
 #[tactic(auto, using(crate::proofs::GameReads::first))]
 fn begin_game<B: Board>(text: &[u8], at: usize, game: &mut Game<B>) -> (Progress, usize)
     requires { at ≤ length text.now }

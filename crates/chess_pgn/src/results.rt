@@ -21,7 +21,7 @@ pub struct ResultTag {
     pub offset: usize,
 }
 
-// Whether tags of the same game may follow a token.
+// Whether more tags of the same game may come after this token: it is skipped, a tag, or marks such as `!?`.
 fn may_precede_tags(token: &Token<'_>) -> bool
     ensures { result ≡ may_precede_tags (token_seen token.now) }
 {
@@ -34,7 +34,8 @@ fn may_precede_tags(token: &Token<'_>) -> bool
     }
 }
 
-// The last tag `Result` after a tag, if it was `before`, in a text of `len` bytes.
+// The last tag `Result` read so far, when `tag` is read: `tag`, if it is one, else `before`, the last one before it.
+// `len` is the length of the whole text: the tag's string begins at the byte `len - tag.left`.
 fn result_after_tag(before: Option<ResultTag>, len: usize, tag: &Tag<'_>) -> Option<ResultTag>
     requires within { tag.now.left ≤ len }
     ensures { result ≡ result_after_tag len before tag.now.name.now tag.now.text.now tag.now.left }
@@ -50,7 +51,8 @@ fn result_after_tag(before: Option<ResultTag>, len: usize, tag: &Tag<'_>) -> Opt
     }
 }
 
-// The last tag `Result` after a token, if it was `before`, in a text of `len` bytes.
+// The last tag `Result` read so far, when `token` is read: `token`, if it is one, else `before`, the last one before
+// it. `len` is the length of the whole text.
 fn result_after(before: Option<ResultTag>, len: usize, token: &Token<'_>) -> Option<ResultTag>
     requires within { IsWithin len (token_seen token.now) }
     ensures { result ≡ result_after len before (token_seen token.now) }

@@ -34,7 +34,8 @@ fn has_brace(piece: &[u8]) -> bool
     any
 }
 
-// Drops pieces of `len` bytes from the text's front as long as they have no `}`.
+// Drops pieces of `len` bytes from the text's front as long as they have no `}`, and returns what is left: it begins
+// near the first `}`.
 #[tactic(auto, using(crate::proofs::Skipped::no_brace))]
 #[inline(always)]
 fn near_brace(len: usize, text: &[u8]) -> &[u8]

@@ -19,7 +19,7 @@ pub(crate) struct Tag<'a> {
     pub left: usize,
 }
 
-// The tag's name at a text's front, maybe empty, and the text after it.
+// The name at a text's front (letters, digits and `_`), maybe empty, and the text after it.
 pub(crate) fn split_name(text: &[u8]) -> (&[u8], &[u8])
     ensures name { result.0.now ≡ take_while is_name_byte text.now }
     ensures rest { result.1.now ≡ drop (prefix_len is_name_byte text.now) text.now }
@@ -31,7 +31,8 @@ pub(crate) fn split_name(text: &[u8]) -> (&[u8], &[u8])
     text.split_at(end)
 }
 
-// The text after white space, `%` lines and then this byte, if that comes next.
+// The text after any white space and `%` lines, and then this byte; `None` if another byte comes there. The text's own
+// first byte begins no line, so a `%` there is not skipped.
 pub(crate) fn after_next(byte: u8, text: &[u8]) -> Option<&[u8]>
     ensures { option_map (λ r. r.now) result ≡ after_next byte text.now }
 {

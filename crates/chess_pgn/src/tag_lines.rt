@@ -28,7 +28,7 @@ fn write_escaped(line: &mut TagLine, text: &[u8])
     }
 }
 
-// A tag's line without its end, such as `[Event "a"]`.
+// The line of a tag with this name and text, without its end, such as `[Event "a"]`.
 fn tag_line(name: &[u8], text: &[u8]) -> TagLine
     requires name { length name.now ≤ 20 }
     requires text { length text.now ≤ 100 }

@@ -101,7 +101,7 @@ impl Default for Tags {
 
     ghost is_default = { λ t. t ≡ default_tags };
 
-    /// What isn't known is `?`, in the date for each digit; a game ends in the normal way.
+    /// The tags of a game of which nothing is known: `?` for each, `????.??.??` for the date, and a normal end.
     fn default() -> Self {
         Tags {
             event: TagText::cut(b"?"),

@@ -47,7 +47,7 @@ fn after_digits(text: &[u8]) -> &[u8]
     &text[end..]
 }
 
-// The word at a text's front, and the text after it.
+// The word at a text's front (its bytes up to the first that no word may have), and the text after it.
 #[inline(always)]
 fn split_word(text: &[u8]) -> (&[u8], &[u8])
     ensures word { result.0.now ≡ take_while is_word_byte text.now }
@@ -60,7 +60,8 @@ fn split_word(text: &[u8]) -> (&[u8], &[u8])
     text.split_at(end)
 }
 
-// Reads a comment after its `{`; `left` is the number of bytes from that on.
+// Reads a comment, from `text`, which begins after its `{`: a skipped token, and the text after its `}`, or a fault if
+// it has none. `left` counts the bytes from the `{` to the text's end.
 #[inline(never)]
 fn read_comment(left: usize, text: &[u8]) -> Result<(Token<'_>, &[u8]), TokenFault>
     ensures { first_seen result ≡ comment_at left (after_brace text.now) }
@@ -71,7 +72,8 @@ fn read_comment(left: usize, text: &[u8]) -> Result<(Token<'_>, &[u8]), TokenFau
     }
 }
 
-// Reads a variation after its `(`.
+// Skips a variation, from the text after its `(`: a skipped token and the text after its `)`, or a fault if it isn't
+// closed.
 #[inline(never)]
 fn read_variation(text: &[u8]) -> Result<(Token<'_>, &[u8]), TokenFault>
     ensures { first_seen result ≡ variation_at None false 1 text.now }
@@ -82,7 +84,7 @@ fn read_variation(text: &[u8]) -> Result<(Token<'_>, &[u8]), TokenFault>
     }
 }
 
-// Reads a tag after its `[`.
+// Reads a tag, from the text after its `[`: the tag and the text after its `]`, or a fault if it is no tag.
 #[tactic(auto, using(crate::proofs::TagParts::parts_are))]
 #[inline(never)]
 fn read_bracket(text: &[u8]) -> Result<(Token<'_>, &[u8]), TokenFault>

@@ -9,8 +9,8 @@ ghost use Rattle.chess_pgn.specs.ties.Seen.{variation_seen};
 use crate::skips::{after_brace, line_end};
 use crate::token::TokenFault;
 
-// The text after `byte`, or after the `%` line or comment that it begins; `None` if that comment is not closed. `rest`
-// is the text after the byte.
+// The text after `byte` inside a variation, or after the `%` line or comment that it begins; `None` if that comment is
+// not closed. `rest` is the text after `byte`; `line_begins`: `byte` is the first of its line.
 fn after_part(line_begins: bool, byte: u8, rest: &[u8]) -> Option<&[u8]>
     ensures behind { option_map (λ r. r.now) result ≡ after_part line_begins byte rest.now }
     ensures shorter { IfSome result (λ r. length r.now ≤ length rest.now) }
@@ -23,7 +23,8 @@ fn after_part(line_begins: bool, byte: u8, rest: &[u8]) -> Option<&[u8]>
     }
 }
 
-// How many variations are open inside the outermost one after a byte; `None` if the byte closes the outermost one.
+// How many variations are open inside the outermost one after `byte`, where `depth` were open before it; `None` if
+// `byte` closes the outermost one.
 fn depth_after(depth: usize, byte: u8) -> Option<usize>
     requires { depth + 1 < 2 ^ 64 }
     ensures { result ≡ depth_after depth byte }
@@ -35,7 +36,7 @@ fn depth_after(depth: usize, byte: u8) -> Option<usize>
     }
 }
 
-// The text after a variation, where the text given begins after its `(`.
+// The text after a variation, from `text`, which begins after its `(`; a fault if it or a comment in it is not closed.
 pub(crate) fn after_variation(text: &[u8]) -> Result<&[u8], TokenFault>
     ensures { variation_seen result ≡ variation_at None false 1 text.now }
 {

@@ -22,7 +22,7 @@ pub(crate) enum WordKind {
     Move,
 }
 
-/// The outcome that a word denotes: `1-0`, `0-1`, `1/2-1/2` or `*`.
+/// The outcome that a word denotes: `1-0`, `0-1`, `1/2-1/2` or `*`; `None` for any other word.
 pub fn outcome_of(word: &[u8]) -> Option<Outcome>
     ensures { result ≡ outcome_of word.now }
 {
@@ -49,7 +49,7 @@ fn has_marks_alone(word: &[u8]) -> bool
     word.iter().all(|byte| *byte == b'!' || *byte == b'?')
 }
 
-// Whether a word begins with a letter or `_`, or with any other byte from `A` on. No outcome, number or mark does.
+// Whether a word's first byte is `A` or greater: a letter or `_`. No outcome, number or mark begins so.
 fn begins_from_a(word: &[u8]) -> bool
     ensures { result ≡ begins_from_a word.now }
 {
@@ -59,7 +59,7 @@ fn begins_from_a(word: &[u8]) -> bool
     }
 }
 
-// What a word is, whatever its first byte is.
+// What a word is, found without the short cut that most words are moves and begin with a letter.
 #[tactic(auto, using(crate::proofs::PgnWords::number_kind))]
 #[inline(never)]
 fn low_word_kind(word: &[u8]) -> WordKind

@@ -46,7 +46,8 @@ pub fn write_pgn<B: Board, W: Output>(
     lines.finish(writer)
 }
 
-// Writes all lines of a game.
+// Writes a game's whole text through `lines`: tags, an empty line, moves, an empty line. The board `scratch` plays the
+// moves for their SAN.
 fn put_game<B: Board, W: Output>(
     lines: &mut LineWriter<'_>,
     writer: &mut W,
@@ -64,7 +65,7 @@ fn put_game<B: Board, W: Output>(
     lines.put_line(writer, b"")
 }
 
-// Writes the lines of a game's tags, and an empty line.
+// Writes the lines of a game's tags, and an empty line; `outcome` is the game's.
 fn put_tag_lines<B: Board, W: Output>(
     lines: &mut LineWriter<'_>,
     writer: &mut W,
@@ -84,7 +85,7 @@ fn put_tag_lines<B: Board, W: Output>(
     lines.put_line(writer, b"")
 }
 
-// Writes the lines of the seven tags that each game has.
+// Writes the lines of the seven tags that each game has, Event to Result; `outcome` is the text of Result.
 fn put_roster<W: Output>(
     lines: &mut LineWriter<'_>,
     writer: &mut W,
@@ -129,7 +130,8 @@ fn put_roster<W: Output>(
     put_tags(lines, writer, &roster)
 }
 
-// Writes the lines of the tags that follow the seven of each game: FEN and SetUp, Termination, Variant.
+// Writes the lines of the tags after the seven of each game: FEN and SetUp if the start needs them, Termination, and
+// Variant for Chess960.
 fn put_further<W: Output>(
     lines: &mut LineWriter<'_>,
     writer: &mut W,
@@ -222,7 +224,8 @@ fn put_last<W: Output>(
     }
 }
 
-// Writes the lines of the moves, with the outcome last.
+// Writes the lines of the moves, and the game's outcome as their last token; the board `scratch` plays the moves for
+// their SAN.
 fn put_move_text<B: Board, W: Output>(
     lines: &mut LineWriter<'_>,
     writer: &mut W,
@@ -241,7 +244,7 @@ fn put_move_text<B: Board, W: Output>(
     lines.end_line(writer)
 }
 
-// Writes the numbers and the SAN of all moves; `scratch` is set to the start and plays them.
+// Writes the numbers and the SAN of all moves of the game; the board `scratch` is set to its start and plays them.
 fn put_moves<B: Board, W: Output>(
     lines: &mut LineWriter<'_>,
     writer: &mut W,
@@ -265,7 +268,8 @@ fn put_moves<B: Board, W: Output>(
     Ok(())
 }
 
-// Writes a legal move, with its number if one is due, and makes it on the board; `is_first`: it is the game's first.
+// Writes the legal move `m` of the board's position, with its number if one is due, and makes it on the board;
+// `is_first`: it is the game's first.
 fn put_move<B: Board, W: Output>(
     lines: &mut LineWriter<'_>,
     writer: &mut W,

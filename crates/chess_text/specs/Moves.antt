@@ -44,26 +44,28 @@ described p m =
 
 -- ---- the texts of a move
 
--- the start square, as far as it is written: not at all, by its file, by its rank, or in full
+-- what may be written of the start square `from`: nothing, its file, its rank, or both (its name)
 abbrev pub start_texts : ℕ → List (List ℕ)
 start_texts from = [] ∷ file_text (file from) ∷ rank_text (rank from) ∷ square_text from ∷ []
 
--- a capture is written with `x` or without it, any other move without it
+-- what may be written before the end square: nothing, or `x`, the latter only if the move captures
 abbrev pub capture_texts : Bool → List (List ℕ)
 capture_texts captures = [] ∷ (if captures then codes "x" ∷ [] else [])
 
--- a promotion is written as a letter, capital or small, after one of these signs
+-- the texts of a promotion: each of `signs` ("" or "=") followed by the piece's letter, capital or small; only the
+-- empty text if there is no promotion
 abbrev pub promotion_texts : List (List ℕ) → Option Kind → List (List ℕ)
 promotion_texts signs None = [] ∷ []
 promotion_texts signs (Some k) = for_each signs (λ sign. (sign ++ kind_text k) ∷ (sign ++ small_letter_text k) ∷ [])
 
--- any move by its two squares, castling too; a promotion is written without `=`
+-- the texts of the described move by its two squares, as g1f3 or e7e8q, castling too (e1g1); a promotion's letter
+-- follows without `=`
 abbrev pub texts_by_squares : Described → List (List ℕ)
 texts_by_squares d =
     for_each (promotion_texts ([] ∷ []) d.promotion) (λ promotion.
     (square_text d.from ++ (square_text d.to ++ promotion)) ∷ [])
 
--- a move of another piece than a pawn by its letter, if it is not castling
+-- the texts of the described move by its piece's letter, as Nf3, Ng1f3 or Nxf3; none for a pawn's move or castling
 abbrev pub texts_by_letter : Described → List (List ℕ)
 texts_by_letter d =
     if same_kind d.man Pawn || is_some d.castles then []
@@ -78,7 +80,8 @@ pawn_starts d =
     ++ for_each (file_text (file d.from) ∷ square_text d.from ∷ []) (λ start.
     for_each (capture_texts d.captures) (λ takes. (start ++ takes) ∷ []))
 
--- a pawn's move; a promotion is written with `=` or without it
+-- the texts of the described move as a pawn's, such as e4, exd5, e7e8Q or e8=Q; none if another piece makes it. A
+-- promotion is written with `=` or without it
 abbrev pub texts_of_pawn : Described → List (List ℕ)
 texts_of_pawn d =
     if same_kind Pawn d.man
@@ -86,21 +89,22 @@ texts_of_pawn d =
     (start ++ (square_text d.to ++ promotion)) ∷ []))
     else []
 
--- the texts that denote castling to that side, with the letter O or with the digit 0
+-- the texts that denote castling to this side, with the letter O or with the digit 0
 abbrev pub castling_texts : CastlingSide → List (List ℕ)
 castling_texts KingSide = codes "O-O" ∷ codes "0-0" ∷ []
 castling_texts QueenSide = codes "O-O-O" ∷ codes "0-0-0" ∷ []
 
--- without the marks at its end, the text denotes castling to side w
+-- the text, but for the marks (+ # ! ?) at its end, is castling to side w: O-O or 0-0 on the king's side, O-O-O or
+-- 0-0-0 on the queen's
 unfoldable pub is_castling_text : List ℕ → CastlingSide → Bool
 is_castling_text text w = list_any (bytes_eq (unmarked text)) (castling_texts w)
 
--- an optional value is there, and the test holds for it
+-- the optional value `o` is there, and the test holds for it
 abbrev pub passes : {A : Type 0} → (A → Bool) → Option A → Bool
 passes test o = option_map_or test o false
 
--- without its marks, the text is one of those of the move that is described: as castling, by its squares, by its letter,
--- or as a pawn's move
+-- the text, but for the marks (+ # ! ?) at its end, denotes the described move: as castling, by its two squares, by its
+-- piece's letter, or as a pawn's
 unfoldable pub spells_described : List ℕ → Described → Bool
 spells_described text d = passes (is_castling_text text) d.castles
     || list_any (bytes_eq (unmarked text)) (texts_by_squares d ++ (texts_by_letter d ++ texts_of_pawn d))
@@ -113,7 +117,7 @@ all_described =
     for_each (false ∷ true ∷ []) (λ takes. for_each (None ∷ Some KingSide ∷ Some QueenSide ∷ []) (λ castles.
     record { man = man; from = from; to = to; promotion = promotion; captures = takes; castles = castles } ∷ []))))))
 
--- the text has a move's shape: it denotes a move of some description
+-- the text has a move's shape: it denotes some described move, whether or not that is legal anywhere
 unfoldable pub shape : List ℕ → Bool
 shape text = list_any (λ d. spells_described text d) all_described
 
@@ -123,7 +127,8 @@ spells p text m = passes (spells_described text) (described p m)
 
 -- ---- reading
 
--- the reading of a text that denotes just these legal moves
+-- what a text is read as if these are all the legal moves that it denotes: the move if there is just one, `NoSuch` if
+-- there is none, `Ambiguous` if there are several
 abbrev pub one_of : List Move → Reading
 one_of [] = reads.NoSuch
 one_of (m ∷ []) = reads.Move m
@@ -134,7 +139,7 @@ one_of (m ∷ n ∷ ms) = reads.Ambiguous
 unfoldable pub reading : Setup → List ℕ → Reading
 reading p text = if shape text then one_of (filter (λ m. spells p text m) (moves p)) else reads.NotAMove
 
--- the text that was read so has a move's shape
+-- the text that was read with this result has a move's shape: the result is not `NotAMove`
 abbrev pub has_shape : Reading → Bool
 has_shape reads.NotAMove = false
 has_shape _ = true

@@ -24,21 +24,23 @@ use Rattle.chess_text.specs.declared.described.Described.{Described}
 use Rattle.chess_text.specs.Parts.{when, kind_text, file_text, rank_text}
 use Rattle.chess_text.specs.Moves.{described, passes}
 
--- castling to that side, written with the letter O
+-- castling to this side, written with the letter O
 abbrev pub castling_text : CastlingSide → List ℕ
 castling_text KingSide = codes "O-O"
 castling_text QueenSide = codes "O-O-O"
 
--- the move is a rival of the described one: of a piece of the same kind to the same square from another one
+-- move m is a rival of the move d: it goes to the same end square with a piece of the same kind, but from another
+-- square, so SAN must distinguish d from it
 unfoldable pub is_rival : Setup → Described → Move → Bool
 is_rival p d m = (m.to == d.to) && not (m.from == d.from) && passes (λ e. same_kind e.man d.man) (described p m)
 
--- where its rivals among these moves start
+-- the start squares of those of the moves ms that are rivals of the move d: that go to its end square with a piece of
+-- the same kind from another square
 unfoldable pub rival_starts : Setup → List Move → Described → List ℕ
 rival_starts p ms d = map (λ m. m.from) (filter (λ m. is_rival p d m) ms)
 
--- what distinguishes a start square from those of the rivals (8.2.3.4): nothing where there are none; its file where no
--- rival is on it; else its rank where no rival is on it; else both
+-- what SAN writes to distinguish the start square `from` from those of the rivals (8.2.3.4): nothing if there are no
+-- rivals; its file if none is on it; else its rank if none is on it; else both
 abbrev pub start_text : ℕ → List ℕ → List ℕ
 start_text from [] = []
 start_text from (other ∷ others) =
@@ -46,15 +48,17 @@ start_text from (other ∷ others) =
     else if not (list_any (λ s. rank s == rank from) (other ∷ others)) then rank_text (rank from)
     else square_text from
 
--- the text of a move that is not castling: of a pawn the file where it captures, of another piece its letter and what
--- distinguishes its start square; then `x` for a capture, the end square, and `=` and a letter for a promotion
+-- the text of a move that is not castling: for a pawn its file if it captures, for another piece its letter and what
+-- distinguishes it from rivals on these squares; then `x` for a capture, the end square, and `=` and a letter for a
+-- promotion
 abbrev pub piece_text : List ℕ → Described → List ℕ
 piece_text rivals d =
     (if same_kind d.man Pawn then when d.captures (file_text (file d.from))
     else kind_text d.man ++ start_text d.from rivals)
     ++ (when d.captures (codes "x") ++ (square_text d.to ++ optional (λ k. byte "=" ∷ kind_text k) d.promotion))
 
--- the text of a described move without its mark, beside rivals that start on these squares
+-- the SAN of the described move without `+` or `#`; `rivals` are the start squares of other pieces of its kind that
+-- could legally move to its end square
 abbrev pub unmarked_san : List ℕ → Described → List ℕ
 unmarked_san rivals d = option_map_or castling_text d.castles (piece_text rivals d)
 
@@ -62,11 +66,12 @@ unmarked_san rivals d = option_map_or castling_text d.castles (piece_text rivals
 unfoldable pub check_mark : Setup → List ℕ
 check_mark p = when (is_in_check p.men p.side) (if length (moves p) == 0 then codes "#" else codes "+")
 
--- the text of a legal move, with the mark of the position after it
+-- the SAN of legal move m in position p, with `+` or `#` at its end if it gives check or mate: Nf3, exd5, Qh4#
 unfoldable pub san : Setup → Move → List ℕ
 san p m = optional (λ d. unmarked_san (rival_starts p (moves p) d) d ++ check_mark (after p m)) (described p m)
 
--- a move as lists of moves show it: by its squares, as e2e4, but castling in Chess960 as O-O or O-O-O
+-- a move as lists of moves show it: by its squares, as e2e4, but castling in Chess960 as O-O or O-O-O. `castles` is the
+-- side to which it castles, `None` if it is not castling
 abbrev pub shown_as : Variant → Option CastlingSide → Move → List ℕ
 shown_as Normal castles m = coordinate m
 shown_as Fischerandom castles m = option_map_or castling_text castles (coordinate m)

@@ -26,7 +26,7 @@ fn small_letter(kind: Kind) -> u8
     }
 }
 
-// The text of castling to that side: `O-O` or `O-O-O`.
+// The text of castling to this side: `O-O` or `O-O-O`.
 fn castling_name(castling_side: CastlingSide) -> CoordinateText
     ensures text { result.items ≡ castling_text castling_side }
     ensures len { array_vec_len result ≤ 5 }

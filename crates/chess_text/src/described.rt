@@ -28,7 +28,8 @@ pub(crate) fn captures(setup: &Setup, m: &Move) -> bool
     is_of(setup.side.other(), setup.men[m.to.index()]) || is_en_passant(setup, m)
 }
 
-// The description of a move; none if no piece is on its start square.
+// What a text can say of the move: its piece, squares and promotion, whether it captures, to which side it castles;
+// `None` if no piece is on its start square.
 #[tactic(auto, unfolding(crate::specs::Moves::described))]
 pub(crate) fn describe(setup: &Setup, m: &Move) -> Option<Described>
     ensures { result ≡ described setup.now m.now }
@@ -44,7 +45,7 @@ pub(crate) fn describe(setup: &Setup, m: &Move) -> Option<Described>
     })
 }
 
-// Whether a text that may name a file or rank admits that number: it names it, or none at all.
+// Whether a text that names this file or rank (`told`), or none, can mean `number`: it names that, or none at all.
 pub(crate) fn admits(told: Option<u8>, number: u8) -> bool
     ensures { result ≡ admits told number }
 {
@@ -54,7 +55,7 @@ pub(crate) fn admits(told: Option<u8>, number: u8) -> bool
     }
 }
 
-// Whether a text that may name a file or rank names one, and it is that number.
+// Whether a text names a file or rank (`told`), and it is `number`.
 pub(crate) fn names(told: Option<u8>, number: u8) -> bool
     ensures { result ≡ names told number }
 {
@@ -64,7 +65,7 @@ pub(crate) fn names(told: Option<u8>, number: u8) -> bool
     }
 }
 
-// Whether a text that may name a kind of piece by its letter names one, and it is that kind.
+// Whether a text names a kind of piece by its letter, and it is `kind`.
 fn names_kind(letter: Option<Kind>, kind: Kind) -> bool
     ensures { result ≡ names_kind letter kind }
 {
@@ -74,7 +75,7 @@ fn names_kind(letter: Option<Kind>, kind: Kind) -> bool
     }
 }
 
-// Whether the promotion that a text names is the move's: of the same kind, or both name none.
+// Whether the promotion that a text names (`told`) is the move's (`promotion`): both to the same kind, or both none.
 fn promotes_so(told: Option<Promotion>, promotion: Option<Kind>) -> bool
     ensures { result ≡ promotes_so told promotion }
 {
@@ -85,7 +86,7 @@ fn promotes_so(told: Option<Promotion>, promotion: Option<Kind>) -> bool
     }
 }
 
-// Whether a text's promotion is there and written with `=`.
+// Whether a text names a promotion (`told`), and writes it with `=`.
 fn has_equals(told: Option<Promotion>) -> bool
     ensures { result ≡ has_equals told }
 {
@@ -109,8 +110,8 @@ fn is_by_squares(parts: &Parts, d: &Described) -> bool
         && promotes_so(parts.end.promotion, d.promotion)
 }
 
-// Whether the parts denote the move by its piece's letter and its end square, as `Nf3` or `Nbxd2`: no pawn's move and
-// not castling; with `x` only a capture.
+// Whether the parts denote the move, no pawn's and not castling, by its piece's letter and its end square, as `Nf3` or
+// `Nbxd2`. A file or rank that they name is the start square's; with `x` it is a capture.
 #[tactic(auto, unfolding(crate::specs::ties::Fitting::is_by_letter))]
 fn is_by_letter(parts: &Parts, d: &Described) -> bool
     ensures { result ≡ is_by_letter parts.now d.now }
@@ -139,8 +140,8 @@ fn is_straight(parts: &Parts, d: &Described) -> bool
         && promotes_so(parts.end.promotion, d.promotion)
 }
 
-// Whether the parts denote the move by its start file and its end square, as `exd5`: a pawn's move; with `x` only a
-// capture.
+// Whether the parts denote the move, a pawn's, by its start file and its end square, as `exd5` or `exd8=Q`. A start
+// rank that they name is the pawn's, with `x` it is a capture, and the promotions agree.
 #[tactic(auto, unfolding(crate::specs::ties::Fitting::is_from_file))]
 fn is_from_file(parts: &Parts, d: &Described) -> bool
     ensures { result ≡ is_from_file parts.now d.now }
@@ -154,7 +155,8 @@ fn is_from_file(parts: &Parts, d: &Described) -> bool
         && promotes_so(parts.end.promotion, d.promotion)
 }
 
-// Whether the parts denote the move in one of these four forms.
+// Whether the parts of a text denote the move: by its two squares, by its piece's letter, or as a pawn's, by its end
+// square alone or from its start file.
 #[tactic(auto, unfolding(crate::specs::ties::Fitting::parts_fit))]
 pub(crate) fn parts_fit(parts: &Parts, d: &Described) -> bool
     ensures { result ≡ parts_fit parts.now d.now }
@@ -165,8 +167,8 @@ pub(crate) fn parts_fit(parts: &Parts, d: &Described) -> bool
         || is_from_file(parts, d)
 }
 
-// Whether the parts are those of one of the four forms: a letter and no promotion (`Nf3`), or no letter and a start
-// file (`exd5`), or an end square alone (`e4`). The parts of `xd5` are not.
+// Whether the parts can be those of a move's text: a letter and no promotion (`Nf3`), or no letter and either a start
+// file (`exd5`) or an end square alone (`e4`). The parts of `xd5` can't.
 #[tactic(auto, unfolding(crate::specs::ties::Fitting::is_form))]
 pub(crate) fn is_form(parts: &Parts) -> bool
     ensures { result ≡ is_form parts.now }

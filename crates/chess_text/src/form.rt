@@ -15,7 +15,8 @@ pub enum Form {
     Piece(Parts),
 }
 
-// The side to which a text without marks denotes castling, with the letter O or the digit 0; none if it denotes none.
+// The side to which a text, already without marks, denotes castling, with the letter O or the digit 0; `None` if it
+// doesn't.
 #[inline(always)]
 fn castling_named(text: &[u8]) -> Option<CastlingSide>
     ensures { result ≡ castling_named text.now }
@@ -27,8 +28,8 @@ fn castling_named(text: &[u8]) -> Option<CastlingSide>
     }
 }
 
-// What a text is read as before any position is looked at: castling, or its parts; none if it hasn't the shape of a
-// move.
+// What a text is read as before any position is looked at: castling, or its parts, such as letter and end square;
+// `None` if it hasn't the shape of a move.
 #[tactic(auto, unfolding(crate::specs::ties::Forms::form_of))]
 #[inline(always)]
 pub(crate) fn read_form(text: &[u8]) -> Option<Form>
@@ -56,7 +57,7 @@ fn form_fits(form: &Form, d: &Described) -> bool
     }
 }
 
-// Whether the text that was read as this form denotes the move.
+// Whether the text that was read as this form denotes the move `m` of the position.
 #[tactic(auto, unfolding(crate::specs::ties::Forms::is_spelled))]
 pub(crate) fn is_spelled(form: &Form, setup: &Setup, m: &Move) -> bool
     ensures { result ≡ is_spelled form.now setup.now m.now }

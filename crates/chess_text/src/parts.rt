@@ -52,8 +52,8 @@ pub(crate) fn unmarked(text: &[u8]) -> &[u8]
     &text[..end]
 }
 
-// The promotion with that letter, capital or small, and with `=` before it or not; none if it is no letter of a piece
-// that a pawn may become.
+// The promotion to the piece with that letter, capital or small; `equals` says whether `=` was before it. `None` if a
+// pawn can't become such a piece.
 fn promotion_by(equals: bool, letter: u8) -> Option<Promotion>
     ensures { result ≡ promotion_by equals letter }
 {
@@ -75,8 +75,8 @@ fn promotion_by(equals: bool, letter: u8) -> Option<Promotion>
     })
 }
 
-// What the text after the end square denotes: no promotion if it is empty (`Some(None)`), else a promotion; `None` if
-// it is neither.
+// The promotion that the text after the end square denotes (`Q`, `q`, `=Q` or `=q`): `Some(None)` if that text is
+// empty, `None` if it is neither empty nor just a promotion.
 #[inline(always)]
 fn read_promotion(text: &[u8]) -> Option<Option<Promotion>>
     ensures { result ≡ promotion_at text.now }
@@ -89,7 +89,7 @@ fn read_promotion(text: &[u8]) -> Option<Option<Promotion>>
     }
 }
 
-// The last part of a move's text, if `text` is that: the end square and perhaps a promotion.
+// The end square and promotion that a text denotes, if it has just these, as `e4` or `e8=Q`; else `None`.
 #[inline(always)]
 fn read_end(text: &[u8]) -> Option<End>
     ensures { result ≡ end_at text.now }
@@ -106,7 +106,8 @@ fn read_end(text: &[u8]) -> Option<End>
     }
 }
 
-// Whether the text left begins with `x`, and the last part after it.
+// Whether a text of the form `[x]end`, as `xd5` or `e8=Q`, begins with `x`, and its end square and promotion; `None`
+// for any other text.
 #[inline(always)]
 fn read_takes(text: &[u8]) -> Option<(bool, End)>
     ensures { result ≡ takes_at text.now }
@@ -117,7 +118,8 @@ fn read_takes(text: &[u8]) -> Option<(bool, End)>
     }
 }
 
-// The start square's rank, if the text left begins with one, whether `x` follows, and the last part.
+// The parts of a text of the form `[rank][x]end`, as `1xf3` or `f3`: the start rank if it is named, whether `x` is
+// there, and the end square with its promotion; `None` for any other text.
 #[inline(always)]
 fn read_rank(text: &[u8]) -> Option<(Option<u8>, bool, End)>
     ensures { result ≡ rank_at text.now }
@@ -134,8 +136,8 @@ fn read_rank(text: &[u8]) -> Option<(Option<u8>, bool, End)>
     }
 }
 
-// The parts after a piece's letter. Their first file letter belongs to the end square if the text can be read so
-// (`e4`), else it is the start square's file (`exd5`).
+// The parts of the text after the piece's letter, which is given. Its first file letter belongs to the end square if
+// the text can be read so (`e4`), else it is the start file (`exd5`).
 #[inline(always)]
 fn read_file(letter: Option<Kind>, text: &[u8]) -> Option<Parts>
     ensures { result ≡ file_at letter text.now }
@@ -164,7 +166,8 @@ fn read_file(letter: Option<Kind>, text: &[u8]) -> Option<Parts>
     }
 }
 
-// The parts of a move's text without marks; none if it has no such parts.
+// The parts (letter, start file, start rank, `x`, end square, promotion) of a move's text without marks; `None` if it
+// isn't made of such parts.
 #[inline(always)]
 pub(crate) fn read_parts(text: &[u8]) -> Option<Parts>
     ensures { result ≡ parts_at text.now }

@@ -37,8 +37,8 @@ pub fn has_move_shape(text: &[u8]) -> bool
     read_form(text).is_some()
 }
 
-// The end square of the move by which `side` castles: in normal chess the king's end square, in Chess960 the square of
-// the right's rook (if there is no right, no such move is legal).
+// The end square of the move by which `side` castles to this side: in normal chess the king's end square, in Chess960
+// the square of the rook of the right (`right`; if there is none, no such move is legal).
 fn castling_end(
     variant: Variant,
     side: Colour,
@@ -69,7 +69,7 @@ fn end_square(form: &Form, setup: &Setup) -> Square
     }
 }
 
-// The square on that file and rank, if both are given and on the board.
+// The square on this file and rank, from 0 on, if both are given and below 8; else `None`.
 #[inline(always)]
 fn named_square(file: Option<u8>, rank: Option<u8>) -> Option<Square>
     ensures { result ≡ named_square file rank }
@@ -82,7 +82,7 @@ fn named_square(file: Option<u8>, rank: Option<u8>) -> Option<Square>
     }
 }
 
-// Squares among which each legal move begins that the parts denote.
+// A set of squares that has at least the start square of each legal move that the parts denote; it may have others too.
 #[tactic(auto, using(crate::proofs::Origins::by_letter, crate::proofs::Origins::by_squares, crate::proofs::Origins::by_pawn))]
 fn piece_origins<B: Board>(board: &B, parts: &Parts) -> SquareSet
     ensures { IsStart (B.position board.now) (Piece parts.now) result }
@@ -96,8 +96,8 @@ fn piece_origins<B: Board>(board: &B, parts: &Parts) -> SquareSet
     board.origins(Kind::Pawn, parts.end.to)
 }
 
-// Squares in which to look for the start of each legal move that a text of this form denotes; `to` is the end square of
-// them all.
+// A set of squares that has at least the start square of each legal move that a text of this form denotes; `to` is the
+// end square of them all.
 #[tactic(auto, using(crate::proofs::Origins::by_castling))]
 fn form_origins<B: Board>(board: &B, form: &Form, to: Square) -> SquareSet
     requires { to ≡ end_square form.now (B.position board.now) }
@@ -109,7 +109,8 @@ fn form_origins<B: Board>(board: &B, form: &Form, to: Square) -> SquareSet
     }
 }
 
-// The reading of a text that denotes this legal move beside those found before.
+// What a text is read as after one more legal move `m` that it denotes, from the reading so far (`found`): `m` if it
+// was `NoSuch`, `Ambiguous` if there was a move already.
 fn with_move(found: Reading, m: Move) -> Reading
     ensures { result ≡ with_move found m }
 {
@@ -120,8 +121,8 @@ fn with_move(found: Reading, m: Move) -> Reading
     }
 }
 
-// The reading of a text of that form, by what was found before and the legal moves between two squares that it denotes,
-// with one of those promotions.
+// What a text of this form is read as, from the reading so far (`before`) and those of the legal moves between the two
+// squares, with one of these promotions, that it denotes: a single move in all is the reading, several are `Ambiguous`.
 fn with_spelled<B: Board>(
     board: &B,
     form: &Form,
@@ -146,7 +147,8 @@ fn with_spelled<B: Board>(
     found
 }
 
-// The reading of a text of that form, by what was found before and the legal moves between two squares that it denotes.
+// What a text of this form is read as, from the reading so far (`found`) and those of the legal moves between the two
+// squares that it denotes: a single move in all is the reading, several are `Ambiguous`.
 #[tactic(auto, using(crate::proofs::Promoting::all_promote, crate::proofs::Promoting::none_promotes))]
 fn with_spelled_between<B: Board>(
     board: &B,
@@ -186,7 +188,7 @@ fn one_kind(parts: &Parts) -> Option<Kind>
     }
 }
 
-// Whether the parts, which have the letter of that kind, denote `m`, a legal move of such a piece to their end square:
+// Whether the parts, which have the letter of this kind, denote `m`, a legal move of such a piece to their end square:
 // it starts on the file and rank that they name, is a capture if they have `x`, and is not castling.
 #[inline(always)]
 fn is_spelled_by_letter(parts: &Parts, setup: &Setup, kind: Kind, m: &Move) -> bool
@@ -213,8 +215,8 @@ fn is_spelled_by_pawn(parts: &Parts, setup: &Setup, m: &Move) -> bool
     }
 }
 
-// Whether the parts, which denote moves of that kind alone, denote `m`, a legal move of such a piece to their end
-// square without a promotion.
+// Whether the parts, in which only pieces of this kind can be meant, denote `m`, a legal move of such a piece to their
+// end square, without a promotion.
 #[inline(always)]
 fn is_spelled_of(parts: &Parts, setup: &Setup, kind: Kind, m: &Move) -> bool
     ensures { result ≡ is_spelled_of parts.now setup.now kind m.now }
@@ -226,8 +228,9 @@ fn is_spelled_of(parts: &Parts, setup: &Setup, kind: Kind, m: &Move) -> bool
     }
 }
 
-// The reading of a text of these parts, by what was found before and the legal move from that square, if it denotes
-// that.
+// What a text of these parts is read as, from the reading so far (`found`) and the legal move of a piece of this kind
+// from `from` to their end square, if the parts denote it: a single move in all is the reading, several are
+// `Ambiguous`.
 #[inline(always)]
 fn with_start(found: Reading, setup: &Setup, parts: &Parts, kind: Kind, from: Square) -> Reading
     ensures { result ≡ with_moves found (spelled_start parts.now setup.now kind from) }
@@ -244,8 +247,9 @@ fn with_start(found: Reading, setup: &Setup, parts: &Parts, kind: Kind, from: Sq
     }
 }
 
-// The same, for the legal moves from each of those squares. Few texts name a square to which several pieces of a kind
-// go, so it is kept out of what calls it.
+// What a text of these parts is read as, from the reading so far (`before`) and the legal moves of pieces of this kind
+// from the squares `starts` to their end square, as far as the parts denote them: a single move in all is the reading,
+// several are `Ambiguous`. Seldom called, so not inlined.
 #[inline(never)]
 fn with_starts(
     before: Reading,
@@ -264,8 +268,8 @@ fn with_starts(
     found
 }
 
-// The reading of a text of these parts, whose moves are of pieces of that kind that have the legal move from those
-// squares.
+// What a text of these parts, in which only pieces of this kind can be meant, is read as. `starts` has the squares from
+// which such pieces may legally move to the parts' end square.
 #[inline(always)]
 fn spelled_among(setup: &Setup, parts: &Parts, kind: Kind, starts: SquareSet) -> Reading
     ensures { result ≡ one_of (flat_map (spelled_start parts.now setup.now kind) (members starts)) }
@@ -281,7 +285,8 @@ fn spelled_among(setup: &Setup, parts: &Parts, kind: Kind, starts: SquareSet) ->
     with_starts(found, setup, parts, kind, rest)
 }
 
-// The reading of a text of these parts, whose moves are of pieces of that kind alone and don't promote.
+// What a text of these parts, in which only pieces of this kind can be meant, and no promotion, is read as in the
+// board's position: one legal move, several (`Ambiguous`) or none (`NoSuch`).
 #[inline(always)]
 fn spelled_by_kind<B: Board>(board: &B, parts: &Parts, kind: Kind) -> Reading
     requires { one_kind parts.now ≡ Some kind }
@@ -296,7 +301,8 @@ fn spelled_by_kind<B: Board>(board: &B, parts: &Parts, kind: Kind) -> Reading
     )
 }
 
-// The reading of a text of that form, found from all squares where a move that it denotes may begin.
+// What a text of this form is read as in the board's position, by trying moves from all squares where one that it
+// denotes may begin: one legal move, several (`Ambiguous`) or none (`NoSuch`).
 #[inline(never)]
 fn spelled_from_origins<B: Board>(board: &B, form: &Form) -> Reading
     ensures { result ≡ one_of
@@ -311,7 +317,8 @@ fn spelled_from_origins<B: Board>(board: &B, form: &Form) -> Reading
     found
 }
 
-// The reading of a text of that form: it denotes one legal move, several or none.
+// What a text of this form is read as in the board's position: one legal move, several (`Ambiguous`) or none
+// (`NoSuch`).
 #[inline(always)]
 fn spelled<B: Board>(board: &B, form: &Form) -> Reading
     ensures { result ≡ one_of

@@ -29,7 +29,7 @@ pub struct Disambiguation {
     pub rank: bool,
 }
 
-// Whether one of the squares is on that file.
+// Whether one of the squares is on the file `file`, 0 for a.
 fn some_on_file(file: u8, squares: SquareSet) -> bool
     ensures { result ≡ some_on_file file (members squares) }
 {
@@ -42,7 +42,7 @@ fn some_on_file(file: u8, squares: SquareSet) -> bool
     false
 }
 
-// Whether one of the squares is on that rank.
+// Whether one of the squares is on the rank `rank`, 0 for rank 1.
 fn some_on_rank(rank: u8, squares: SquareSet) -> bool
     ensures { result ≡ some_on_rank rank (members squares) }
 {
@@ -55,13 +55,15 @@ fn some_on_rank(rank: u8, squares: SquareSet) -> bool
     false
 }
 
+// What SAN writes of the start square: its file if `file`, its rank if `rank`.
 fn distinction(file: bool, rank: bool) -> Disambiguation
     ensures { result ≡ distinction file rank }
 {
     Disambiguation { file, rank }
 }
 
-// What distinguishes a start square from those of the rivals, whose moves the text would denote without it.
+// What SAN writes of the start square `from` beside rivals (pieces of the kind that could go to the same square) on
+// `others`: nothing if there are none; its file if none is on it; else its rank if none is on it; else both.
 #[tactic(auto, using(crate::proofs::Rivals::alone, crate::proofs::Rivals::beside_others))]
 fn disambiguate(from: Square, others: SquareSet) -> Disambiguation
     ensures { result ≡ disambiguate from (members others) }
@@ -77,8 +79,8 @@ fn disambiguate(from: Square, others: SquareSet) -> Disambiguation
     }
 }
 
-// The start squares of the other pieces of the same kind that may legally go to the same end square; the described move
-// is no pawn's.
+// The start squares of the other pieces of the same kind that could legally move to the end square of the move `d`,
+// which is no pawn's.
 fn rival_starts<B: Board>(board: &B, d: &Described) -> SquareSet
     requires { same_kind d.now.man Pawn ≡ false }
     ensures { members result ≡ rival_starts (B.position board.now) (moves (B.position board.now)) d.now }
@@ -87,7 +89,7 @@ fn rival_starts<B: Board>(board: &B, d: &Described) -> SquareSet
     starts.without(SquareSet::single(d.from))
 }
 
-// Adds a byte where it is to be written.
+// Appends a byte to the text if `is_written`, else nothing.
 fn push_if(text: &mut SanText, is_written: bool, byte: u8)
     requires room { array_vec_len text.old < 7 }
     ensures text { text.new.items ≡ text.old.items ++ when is_written (byte ∷ []) }
@@ -122,7 +124,7 @@ fn letter(kind: Kind) -> u8
     }
 }
 
-// Castling to that side in SAN: `O-O` or `O-O-O`.
+// Castling to this side in SAN: `O-O` or `O-O-O`.
 fn castling_text(castling_side: CastlingSide) -> SanText
     ensures text { result.items ≡ castling_text castling_side }
     ensures len { array_vec_len result ≤ 6 }
@@ -152,6 +154,8 @@ fn pawn_text(d: &Described) -> SanText
     text
 }
 
+// The SAN of a move of another piece than a pawn, not castling, without the mark for check or mate, as `Nbxd2`.
+// `others` has the start squares of other pieces of its kind that could legally move to its end square.
 fn lettered_text(others: SquareSet, d: &Described) -> SanText
     requires { d.now.promotion ≡ None }
     ensures text { result.items ≡ parts_text (lettered_parts (members others) d.now) }
@@ -167,7 +171,7 @@ fn lettered_text(others: SquareSet, d: &Described) -> SanText
     text
 }
 
-// The described move in SAN, without the mark for check or mate. The board is at the position before the move: its
+// The SAN of the described move, without the mark for check or mate. The board is at the position before it, whose
 // other legal moves decide how much of the start square is written.
 fn described_text<B: Board>(board: &B, d: &Described) -> SanText
     requires promotes { promotes_as_a_pawn d.now }

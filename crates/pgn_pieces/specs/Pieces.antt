@@ -18,7 +18,7 @@ begins_event text = bytes_eq (take 7 text) (codes "[Event ")
 abbrev pub ends_piece : ℕ → List ℕ → Bool
 ends_piece c rest = (c == 10) && begins_event rest
 
--- the pieces of a text, from its first byte on: a byte that ends no piece is the first of the piece that goes on
+-- the pieces that a text is cut into: each ends with a `\n` that is followed by `[Event `, or at the text's end
 abbrev pub cut : List ℕ → List (List ℕ)
 cut [] = []
 cut (c ∷ cs) = if ends_piece c cs then (c ∷ []) ∷ cut cs else onto_first c (cut cs)
@@ -33,12 +33,13 @@ abbrev pub piece_at : ℕ → List ℕ → Piece
 piece_at offset bytes =
     record { offset = offset; bytes = if nat_le (length bytes) PIECE_LEN then Some bytes else None }
 
--- the pieces of these bytes, one after another, of which the first begins there
+-- the pieces whose bytes are given, one after another in the input; the first begins at this offset
 abbrev pub with_offsets : ℕ → List (List ℕ) → List Piece
 with_offsets offset [] = []
 with_offsets offset (bytes ∷ rest) = piece_at offset bytes ∷ with_offsets (offset + length bytes) rest
 
--- the pieces of a text of which this was read: until the text has ended, all but the last, which may go on
+-- the pieces that are known of an input whose first bytes are this text: all pieces, if the text is all of the input
+-- (`ended`), else all but the last, which may go on
 unfoldable pub pieces : Bool → List ℕ → List Piece
 pieces ended text = let all = cut text in with_offsets 0 (if ended then all else take (length all - 1) all)
 

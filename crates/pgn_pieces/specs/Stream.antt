@@ -12,37 +12,39 @@ pub record State : Type 0 where
   pub coming : List ℕ
   pub ended : Bool
 
--- before the first read
+-- the state before the first read: no bytes are held, and the input has not ended
 abbrev pub unread : State
 unread = record { offset = 0; part = []; coming = []; ended = false }
 
--- after the current piece: the next one begins at its end, and has no bytes so far
+-- the state after the current piece of `s`: the next one begins at that one's end, and has no bytes so far
 abbrev pub past_piece : State → State
 past_piece s = record { offset = s.offset + length s.part; part = []; coming = s.coming; ended = s.ended }
 
--- the current piece, with the bytes so far
+-- the current piece of the state s, with the bytes that it has so far
 abbrev pub current : State → Piece
 current s = piece_at s.offset s.part
 
 -- the pieces that are still to come of a text: the first of them begins at that offset, `part` is what was read of it,
--- and the last argument is the text after that part
+-- and the last argument is the text after that part. `ended`: the input ends there; if not, the last piece is left out
 unfoldable pub pieces_after_part : Bool → ℕ → List ℕ → List ℕ → List Piece
 pieces_after_part ended offset part [] = if ended && nat_lt 0 (length part) then piece_at offset part ∷ [] else []
 pieces_after_part ended offset part (c ∷ cs) =
     if ends_piece c cs then piece_at offset (part ++ c ∷ []) ∷ pieces_after_part ended (offset + (length part + 1)) [] cs
     else pieces_after_part ended offset (part ++ c ∷ []) cs
 
--- the pieces that are still to come where a state is held, and these bytes follow what is held
+-- the pieces that are still to come in the state `s`, the current one first, if the bytes `rest` follow those that were
+-- read. `ended`: the input ends after them; if not, the last piece may go on and is left out
 abbrev pub pieces_held : Bool → State → List ℕ → List Piece
 pieces_held ended s rest = pieces_after_part ended s.offset s.part (s.coming ++ rest)
 
--- if the first flag says that the input has ended, nothing may follow: it has still ended (`ended`), and the rest is
--- empty
+-- what may still be read, `rest` and then the end or not (`ended`), fits the first flag: if that says that the input
+-- has ended already, `rest` is empty and `ended` true
 abbrev pub MayFollow : Bool → Bool → List ℕ → Type 0
 MayFollow false ended rest = Unit {0}
 MayFollow true ended rest = (ended ≡ true) × (rest ≡ [])
 
--- `s` is the state after this text was read, while the input went from its state `r` to `r'`
+-- `s` is the state of cutting an input into pieces once just this text of it was read, which took the input from its
+-- state `r` to `r'`; all bytes of the text are accounted for in `s`
 pub record IsStateOf (s : State) (r r' : InputState) (text : List ℕ) : Type 0 where
   pub read : HasRead s.ended r r' text
   pub all : s.offset + (length s.part + length s.coming) ≡ length text

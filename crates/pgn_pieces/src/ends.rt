@@ -15,7 +15,7 @@ fn begins_event(text: &[u8]) -> bool
     text.starts_with(b"[Event ")
 }
 
-// Whether a new piece begins at `offset`: a line that begins with `[Event `.
+// Whether a piece ends right before `offset`: `\n` comes before it, and `[Event ` begins there.
 fn ends_before(text: &[u8], offset: usize) -> bool
     requires some { 0 < offset }
     requires within { offset ≤ length text.now }
@@ -49,7 +49,8 @@ fn is_plain(text: &[u8], offset: usize) -> bool
     !has_line_end(&text[offset..offset + 16])
 }
 
-// The offset after the bytes without byte 10 from an offset on, as far as 16 of them at a time go: no piece ends there.
+// Skips 16 bytes at a time from `at` on as long as they have no `\n`, and returns the offset after them: no piece ends
+// there. The text's last seven bytes are never skipped.
 #[inline(always)]
 fn behind_plain(text: &[u8], at: usize) -> usize
     requires { at + 7 ≤ length text.now }
@@ -64,8 +65,8 @@ fn behind_plain(text: &[u8], at: usize) -> usize
     offset
 }
 
-// The offset from which to look on for a piece's end, where none is at this one. Right after the end of a line, 16 bytes
-// at a time are passed as long as no line ends in them: a piece ends where a line does.
+// The offset from which to look on for a piece's end, where none ends at `at`. After a `\n` bytes are skipped by
+// sixteens as long as they have no `\n`, since a piece ends only where a line does; else it is `at`.
 #[inline(always)]
 fn further(text: &[u8], at: usize) -> usize
     requires some { 0 < at }
@@ -80,7 +81,7 @@ fn further(text: &[u8], at: usize) -> usize
     behind_plain(text, at)
 }
 
-// How many bytes the first piece of a text has, if its end can be seen there: it is seen by the seven bytes `[Event `
+// How many bytes the first piece of a text has, if its end can be seen; else `None`. An end is seen by the `[Event `
 // after it, so not in the text's last seven bytes.
 pub(crate) fn first_end(text: &[u8]) -> Option<usize>
     ensures { EndsAfter text.now result }

@@ -123,8 +123,8 @@ impl PgnPieces {
         self.len = 0;
     }
 
-    // Looks for the piece's end in what was read after it, and adds the bytes up to there to the piece. Returns
-    // whether the end was found.
+    // Looks for the current piece's end in the bytes that were read after it, and adds the bytes up to there to the
+    // piece. Returns whether the end was found; if not, all but the last seven bytes are added.
     fn find_end(&mut self) -> bool
         ensures { FindsEnd self.old self.new result }
     {
@@ -141,7 +141,7 @@ impl PgnPieces {
         }
     }
 
-    // Adds all that was read to the piece, which is the last, and returns whether it has a byte.
+    // Adds all bytes that were read to the current piece, the input's last, and returns whether the piece has any byte.
     fn take_rest(&mut self) -> bool
         ensures state { self.new ≡ passed (length self.old.coming) self.old }
         ensures some { result ≡ nat_lt 0 (length self.new.part) }
@@ -150,7 +150,7 @@ impl PgnPieces {
         self.len > 0 || self.gone > 0
     }
 
-    // Forgets the bytes of a piece that is too long, and counts them.
+    // Forgets the bytes of the current piece if it is too long (over `PIECE_LEN` bytes), and only counts them.
     fn let_go(&mut self)
         ensures same { SamePieces self.old self.new }
         ensures keeps { Keeps self.old self.new }
@@ -163,7 +163,7 @@ impl PgnPieces {
         }
     }
 
-    // Removes the bytes that are no longer needed from `held`.
+    // Removes the bytes before the current piece from `held`; nothing else changes.
     fn compact(&mut self)
         ensures { self.new ≡ self.old }
     {
@@ -196,7 +196,7 @@ impl PgnPieces {
         Ok(())
     }
 
-    /// Goes on to the next piece, and returns whether there is one. Nothing is read where its end is held.
+    /// Goes on to the next piece, and returns whether there is one. Nothing is read if its end is among the bytes held.
     ///
     /// # Errors
     /// If a read fails, memory runs out, or nearly 2^63 bytes or more were read. There is no next piece then, as far as

@@ -11,16 +11,19 @@ use Rattle.pgn_verifier.specs.declared.report.Report.{Report}
 use Rattle.pgn_verifier.specs.declared.tally.Verified.{Verified}
 use Rattle.pgn_verifier.specs.Reports.{reports_in, lines_of, counts_line, counts_of, verified}
 
--- the reports on the pieces of a collection of which this was read: its last piece counts once its end was read
+-- the reports on the games of a collection of which this text was read: on all its pieces, if the text is all of it
+-- (`ended`), else on all but the last. `strict`: results are compared
 abbrev pub collection_reports : Bool → Bool → List ℕ → List Report
 collection_reports strict ended text = flat_map (reports_in strict) (pieces ended text)
 
--- the lines of these reports: `game 1: 4 half-moves, 0-1` and so on, numbered from 1; `ended`: the collection has
--- ended
+-- the lines that report the games of a collection of which this text was read, numbered from 1: `game 1: 4 half-moves,
+-- 0-1`. `ended`: the text is all of it; if not, its last piece isn't reported. `options` say whether results are
+-- compared, and whether only faults have a line
 abbrev pub collection_lines : VerifyOptions → Bool → List ℕ → List ℕ
 collection_lines options ended text = lines_of options.quiet 1 (collection_reports options.strict ended text)
 
--- all that is written of a collection: the lines of its games, and once it has ended (`ended`) the line of counts
+-- all that is written of a collection of which this text was read: the lines of its games, and if the text is all of it
+-- (`ended`) the line of counts
 abbrev pub collection_text : VerifyOptions → Bool → List ℕ → List ℕ
 collection_text options ended text = collection_lines options ended text
     ++ (if ended then counts_line (counts_of (collection_reports options.strict ended text)) else [])

@@ -18,35 +18,36 @@ use Rattle.pgn_verifier.specs.declared.game_fault.GameFault.{GameFault}
 
 -- ---- contradictions
 
--- the tag Result has another text than the termination: each outcome has one text. The offset is the first byte of the
--- tag's string
+-- the fault of a game whose last tag Result (`tag`) names another outcome than the one that ends its text (`end`); none
+-- without such a tag. Its offset is the first byte of the tag's string
 abbrev pub result_differs : Option ResultTag → PgnEnd → Option GameFault
 result_differs None end = None
 result_differs (Some tag) end = if option_eq same_outcome tag.outcome (Some end.outcome) then None
     else Some (record { kind = ResultDiffers; offset = tag.offset })
 
--- the fault of a game that ends with another outcome than the board's verdict (such as mate), at the offset of its
--- outcome
+-- the fault of a game whose text ends with another outcome (`end`) than the board's verdict, such as mate; none without
+-- a verdict. Its offset is that of the text's outcome mark
 abbrev pub board_says_otherwise : Option Verdict → PgnEnd → Option GameFault
 board_says_otherwise verdict end = if is_other verdict end.outcome
     then Some (record { kind = BoardSaysOtherwise; offset = end.offset - length (outcome_text end.outcome) }) else None
 
--- the contradiction of a game that was read to its termination, that of the tag first; without `strict` none is looked
--- for
+-- the fault of a game whose outcome (`end`) differs from its last tag Result (`tag`) or else from the board's verdict;
+-- none if it agrees, or if it isn't compared (`strict` is false)
 abbrev pub contradiction : Bool → Option ResultTag → Option Verdict → PgnEnd → Option GameFault
 contradiction strict tag verdict end =
     if strict then option_or (result_differs tag end) (board_says_otherwise verdict end) else None
 
 -- ---- a game
 
--- how a game with that tag Result and that verdict is judged, by how its text was read: a contradiction is a fault too
+-- what is reported of a game, from how its text was read (the last argument): its end, its fault, or `None` if there is
+-- none. With `strict` it is a fault too if its end contradicts its tag Result (`tag`) or the board's verdict
 abbrev pub judged : Bool → Option ResultTag → Option Verdict → Result (Option PgnEnd) PgnFault
     → Result (Option PgnEnd) GameFault
 judged strict tag verdict (Ok None) = Ok None
 judged strict tag verdict (Ok (Some end)) = option_map_or Err (contradiction strict tag verdict end) (Ok (Some end))
 judged strict tag verdict (Err fault) = Err (record { kind = Pgn fault.kind; offset = fault.offset })
 
--- reads the game of a text from an offset on, of at most 20,000 half-moves
+-- what is read of a text from an offset on: a game of at most 20,000 half-moves, none, or a fault
 abbrev pub read_at : List ℕ → ℕ → GameRead
 read_at = pgn_read MOST_MOVES
 
@@ -58,7 +59,7 @@ judged_at strict text at =
 
 -- ---- names
 
--- the words that report a fault of reading
+-- the words by which a line names a fault of reading a game's text, as `illegal move`
 abbrev pub pgn_fault_name : PgnFaultKind → List ℕ
 pgn_fault_name BadTag = codes "bad tag"
 pgn_fault_name BadFen = codes "bad FEN"
@@ -71,7 +72,7 @@ pgn_fault_name UnclosedComment = codes "unclosed comment"
 pgn_fault_name UnclosedVariation = codes "unclosed variation"
 pgn_fault_name NoResult = codes "no result"
 
--- the words that report a fault, as in `game 2: illegal move at byte 39`
+-- the words by which a line names a game's fault, as in `game 2: illegal move at byte 39`
 abbrev pub fault_name : FaultKind → List ℕ
 fault_name (Pgn kind) = pgn_fault_name kind
 fault_name ResultDiffers = codes "result differs"

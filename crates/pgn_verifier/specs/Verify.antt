@@ -13,7 +13,8 @@ use Rattle.pgn_verifier.specs.Reports.{reports_on, lines_of, counts_of, verified
 abbrev pub IsAll : InputState → InputState → List ℕ → Type 0
 IsAll r r' text = HasRead true r r' text × (length text ≤ PIECE_LEN)
 
--- all that is written of a text: the lines of its games up to the first fault, numbered from 1
+-- all that is written of a text: the lines of its games up to the first fault, numbered from 1. `options` say whether
+-- results are compared, and whether only faults have a line
 abbrev pub text_lines : VerifyOptions → List ℕ → List ℕ
 text_lines options text = lines_of options.quiet 1 (reports_on options.strict 0 text)
 

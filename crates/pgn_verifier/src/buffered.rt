@@ -19,7 +19,7 @@ use std::alloc::Global;
 // How many bytes a read asks for.
 const READ_LEN: usize = 4096;
 
-// Reads the input to its end; at most `PIECE_LEN` bytes.
+// Reads the input to its end and returns its bytes; a fault if there are more than `PIECE_LEN` (16,777,216).
 fn read_all<R: Input>(alloc: Global, input: &mut R) -> Result<Vec<u8>, VerifyFault>
     ensures all { IfOk result (λ text. IsAll (R.seen input.old) (R.seen input.new) text.items) }
     ensures failed { IfErr result (λ f. IsNotAll (R.seen input.old) (R.seen input.new) f) }
@@ -42,7 +42,8 @@ fn read_all<R: Input>(alloc: Global, input: &mut R) -> Result<Vec<u8>, VerifyFau
     }
 }
 
-// Writes the lines of a text's games, and flushes them.
+// Reads the games of a text, writes their lines to `output` and flushes it; returns whether each game is without a
+// fault. `game` is only room for the games that are read.
 fn finish<W: Output>(
     options: VerifyOptions,
     text: &[u8],

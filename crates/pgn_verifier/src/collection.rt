@@ -22,7 +22,8 @@ use chess_pgn::PgnFaultKind;
 use pgn_pieces::{PgnPieces, PieceFault, pieces_are_cut};
 use std::alloc::Global;
 
-// The fault of verifying, if cutting the input into pieces ended so.
+// The fault of verifying a collection if cutting the input into pieces failed with this fault: the one of the same
+// name.
 fn piece_fault(fault: PieceFault) -> VerifyFault
     ensures { result ≡ piece_fault fault }
 {
@@ -33,8 +34,8 @@ fn piece_fault(fault: PieceFault) -> VerifyFault
     }
 }
 
-// Writes and counts the reports on the current piece's games; a piece that is too long is one fault. `before` are the
-// counts so far.
+// Reads the games of the current piece and writes their lines; returns the counts, `before` with these reports added. A
+// piece that is too long is one fault. `game` is only room for the games that are read.
 fn verify_piece<W: Output>(
     options: VerifyOptions,
     pieces: &PgnPieces,
@@ -66,7 +67,8 @@ fn verify_piece<W: Output>(
     }
 }
 
-// Writes and counts the reports on the games of all pieces.
+// Reads the games of all pieces of the input and writes their lines; returns the counts of the reports. `game` is only
+// room for the games that are read.
 fn verify_pieces<R: Input, W: Output>(
     options: VerifyOptions,
     pieces: &mut PgnPieces,
@@ -96,7 +98,7 @@ fn verify_pieces<R: Input, W: Output>(
     }
 }
 
-// Writes the line of counts, and flushes the output.
+// Writes the line of counts, as `games 2 half-moves 6 faults 1`, and flushes the output.
 fn finish<W: Output>(output: &mut W, tally: Tally) -> Result<(), WriteFault>
     ensures { Sends (W.seen output.old) (W.seen output.new) result (counts_line tally) }
 {
@@ -104,7 +106,8 @@ fn finish<W: Output>(output: &mut W, tally: Tally) -> Result<(), WriteFault>
     output.flush()
 }
 
-// Writes the reports on the games of all pieces and the line of counts, and flushes the output.
+// Reads the games of all pieces of the input, writes their lines and the line of counts, and flushes the output;
+// returns whether each game is without a fault. `game` is only room for the games that are read.
 fn verify_all<R: Input, W: Output>(
     options: VerifyOptions,
     pieces: &mut PgnPieces,

@@ -12,7 +12,7 @@ use chess_game::{Game, Outcome, Verdict};
 use chess_moves::Board;
 use chess_pgn::{PgnEnd, ResultTag, result_tag};
 
-// Whether a tag `Result`, whose text denotes `denoted`, has the text of this outcome.
+// Whether a tag `Result` names this outcome; `denoted` is what its text denotes, `None` if it denotes no outcome.
 fn is_text_of(outcome: Outcome, denoted: Option<Outcome>) -> bool
     ensures { result ≡ option_eq same_outcome denoted (Some outcome) }
 {
@@ -22,7 +22,8 @@ fn is_text_of(outcome: Outcome, denoted: Option<Outcome>) -> bool
     }
 }
 
-// The fault of a game that ends with another outcome than its tag `Result` has.
+// The fault of a game that ends with another outcome (`end`) than its last tag `Result` (`tag`) names; `None` if they
+// agree or there is no tag.
 fn result_differs(tag: Option<ResultTag>, end: PgnEnd) -> Option<GameFault>
     ensures { result ≡ result_differs tag end }
 {
@@ -36,7 +37,7 @@ fn result_differs(tag: Option<ResultTag>, end: PgnEnd) -> Option<GameFault>
     })
 }
 
-// Whether the board has a verdict with another outcome.
+// Whether the board has a verdict, such as mate, and its outcome is not this one.
 fn is_other(verdict: Option<Verdict>, outcome: Outcome) -> bool
     ensures { result ≡ is_other verdict outcome }
 {
@@ -46,7 +47,8 @@ fn is_other(verdict: Option<Verdict>, outcome: Outcome) -> bool
     }
 }
 
-// The fault of a game that ends with another outcome than the board's verdict.
+// The fault of a game that ends with another outcome (`end`) than the board's verdict, such as mate; `None` if they
+// agree or there is no verdict.
 fn board_says_otherwise(verdict: Option<Verdict>, end: PgnEnd) -> Option<GameFault>
     ensures { result ≡ board_says_otherwise verdict end }
 {
@@ -59,7 +61,7 @@ fn board_says_otherwise(verdict: Option<Verdict>, end: PgnEnd) -> Option<GameFau
     })
 }
 
-// The first of two faults, as far as there are any.
+// The first fault if there is one, else the second, if there is one.
 fn first_fault(first: Option<GameFault>, second: Option<GameFault>) -> Option<GameFault>
     ensures { result ≡ option_or first second }
 {
@@ -69,8 +71,8 @@ fn first_fault(first: Option<GameFault>, second: Option<GameFault>) -> Option<Ga
     }
 }
 
-// What `strict` finds wrong with the game that was read from `at` on and ended so: its result differs from the tag
-// `Result`, or from the board's verdict.
+// What is wrong with the outcome (`end`) of the game that was read from `at` on: it differs from its tag `Result`, or
+// else from the board's verdict. `None` if it agrees, or if it isn't compared (`strict` is false).
 pub(crate) fn contradiction<B: Board>(
     strict: bool,
     text: &[u8],

@@ -28,7 +28,7 @@ pub(crate) struct GameFault {
 }
 
 impl GameFault {
-    // A fault that reading found, as one of a game.
+    // A fault of reading the PGN text, as a fault of the game: the same byte, the same kind.
     pub(crate) fn of_pgn(fault: PgnFault) -> Self
         ensures { result ≡ record { kind = Pgn fault.kind; offset = fault.offset } }
     {
@@ -50,7 +50,7 @@ impl GameFault {
     }
 }
 
-// The words that report a fault of reading.
+// The words by which a line names a fault of reading a game's text, as `illegal move`.
 fn pgn_fault_name(kind: PgnFaultKind) -> &'static [u8]
     ensures value { result.now ≡ pgn_fault_name kind }
     ensures short { length result.now ≤ 18 }
@@ -69,7 +69,7 @@ fn pgn_fault_name(kind: PgnFaultKind) -> &'static [u8]
     }
 }
 
-// The words that report a fault, as in `game 2: illegal move at byte 39`.
+// The words by which a line names a game's fault, as in `game 2: illegal move at byte 39`.
 pub(crate) fn fault_name(kind: FaultKind) -> &'static [u8]
     ensures value { result.now ≡ fault_name kind }
     ensures short { length result.now ≤ 20 }

@@ -28,8 +28,8 @@ pub(crate) fn open_game<'t>(
     Game::open(alloc, Bits::new(tables), MOST_MOVES)
 }
 
-// Reads the game of a text from the offset `at` on, and returns its end or its fault; `None` if no game is left.
-// `strict`: results are compared.
+// Reads the game of a text from the offset `at` on into `game`, and returns its end or its fault; `None` if no game is
+// left. With `strict`, an end that contradicts the tag `Result` or the board is a fault.
 fn judge_game(
     strict: bool,
     text: &[u8],
@@ -59,8 +59,8 @@ fn judge_game(
     }
 }
 
-// Reads the games of a text up to its first fault, writes their lines, and returns the counts so far, which were
-// `before`. The text begins at the offset `start` of the input.
+// Reads the games of a text up to its first fault, writes their lines, and returns the counts, `before` with these
+// reports added. The text begins at the offset `start` of the input; `game` is only room for the games that are read.
 pub(crate) fn verify_text<W: Output>(
     options: VerifyOptions,
     start: usize,

@@ -52,7 +52,7 @@ fn write_number(line: &mut ReportLine, number: usize)
     write_text(line, buffer.format(number as u64).as_bytes());
 }
 
-// Appends what the tag `Termination` says, such as `, time forfeit`.
+// Appends what the tag `Termination` says, such as `, time forfeit`; nothing if there is none.
 fn write_termination(line: &mut ReportLine, termination: Option<Termination>)
     requires { array_vec_len line.old + 18 ≤ LINE_LEN }
     ensures text { line.new.items ≡ line.old.items ++ termination_part termination }
@@ -89,7 +89,7 @@ fn write_report(line: &mut ReportLine, report: &Report)
     }
 }
 
-// A report's line, such as `game 2: illegal move at byte 39`; `number` is the game's.
+// A report's line, such as `game 2: illegal move at byte 39`; `number` is the game's number.
 #[tactic(auto, unfolding(crate::specs::Reports::report_line))]
 fn report_line(number: usize, report: &Report) -> ReportLine
     ensures { result.items ≡ report_line number report.now }
@@ -113,7 +113,8 @@ fn is_written(quiet: bool, report: &Report) -> bool
     }
 }
 
-// Writes a report's line, unless `quiet` leaves it out; `number` is the game's.
+// Writes a report's line to `output`, unless it is a game without a fault and `quiet` leaves it out; `number` is the
+// game's number.
 pub(crate) fn write_line<W: Output>(
     quiet: bool,
     output: &mut W,
@@ -144,7 +145,7 @@ fn counts_line(tally: Tally) -> ReportLine
     line
 }
 
-// Writes the line of counts.
+// Writes the line of counts, such as `games 2 half-moves 6 faults 1`.
 pub(crate) fn write_counts<W: Output>(output: &mut W, tally: Tally) -> Result<(), WriteFault>
     ensures { Puts (W.seen output.old) (W.seen output.new) result (counts_line tally) }
 {

@@ -24,7 +24,7 @@ pub(crate) struct Tally {
 }
 
 impl Tally {
-    // The counts before the first report.
+    // The counts before the first report: all 0.
     pub(crate) fn none() -> Self
         ensures { result ≡ record { games = 0; half_moves = 0; faults = 0 } }
     {
@@ -49,7 +49,7 @@ impl Tally {
         }
     }
 
-    // The counts after one more fault.
+    // The counts after one more game with a fault.
     pub(crate) fn with_fault(self) -> Self
         requires { self.faults + 1 < 2 ^ 64 }
         ensures { result ≡ record { games = self.games; half_moves = self.half_moves; faults = self.faults + 1 } }
@@ -68,7 +68,7 @@ impl Tally {
         self.games + self.faults + 1
     }
 
-    // How verifying ended, by these counts.
+    // How verifying ended, by the counts of all reports: each game is without a fault, or a fault was reported.
     pub(crate) fn verified(self) -> Verified
         ensures { result ≡ verified self }
     {

@@ -22,8 +22,8 @@ abbrev pub passed_on : {A E F : Type 0} → F → Result A E → Result A F
 passed_on fault (Ok value) = Ok value
 passed_on fault (Err e) = Err fault
 
--- the counts after a read for which the device returned this: `Ok 0` is an end, `Ok n` a piece of n bytes, `Err` a
--- failure
+-- the counts after a read for which the device returned this: `Ok 0` is an end of the input, `Ok n` gave n bytes of it,
+-- `Err` is a failure; both `Ok` count as a piece of the input
 abbrev pub counts_after_read : {E : Type 0} → Counts → Result ℕ E → Counts
 counts_after_read c (Ok n) = record {
   failures = c.failures;
@@ -35,7 +35,7 @@ counts_after_read c (Ok n) = record {
 counts_after_read c (Err e) = one_failure_more c
 
 -- the result of a write of `len` bytes, from what the device returned: each error becomes the given fault, and so does
--- `Ok 0` for a piece that isn't empty
+-- `Ok 0` if `len` is not 0
 abbrev pub write_passed_on : {E F : Type 0} → F → ℕ → Result ℕ E → Result ℕ F
 write_passed_on fault len (Ok n) = if (n == 0) && nat_lt 0 len then Err fault else Ok n
 write_passed_on fault len (Err e) = Err fault

@@ -36,17 +36,17 @@ normal_says_castling p m w =
     && (m.from == home_square p.side king_home_file)
     && (m.to == home_square p.side (castled_king_file w))
 
--- the side to which move m castles; none if it is not castling
+-- normal chess: the side to which move m castles; none if it is not castling
 unfoldable pub normal_castling : Setup → Move → Option CastlingSide
 normal_castling p m = if normal_says_castling p m KingSide then Some KingSide else if normal_says_castling p m QueenSide
     then Some QueenSide else None
 
--- the four squares of the castling that move m is; none if it is not castling
+-- normal chess: the four squares of the castling that move m is; none if it is not castling
 unfoldable pub normal_castle_of : Setup → Move → Option Castle
 normal_castle_of p m = castle_by p.side p.rights m (normal_castling p m)
 
--- move m is a pseudo-legal move of the given piece: the piece is of the side on move, and goes as a pawn, or as another
--- piece by an ordinary move or castling; false if there is no piece
+-- the given piece, if it is one of the side on move, can make move m: a pawn as pawns do; any other piece by castling,
+-- if m is castling, or else as it moves. False if no piece is given
 abbrev pub normal_moves_as : Setup → Move → Option Man → Bool
 normal_moves_as p m None = false
 normal_moves_as p m (Some x) =
@@ -58,7 +58,8 @@ normal_moves_as p m (Some x) =
 unfoldable pub normal_has_pattern : Setup → Move → Bool
 normal_has_pattern p m = nat_lt m.from 64 && nat_lt m.to 64 && normal_moves_as p m (man_at p.men m.from)
 
--- what the move changes on the board: which pieces leave and arrive, and on which squares
+-- what move m changes on the board, in normal chess: the mover goes from its start to its end square; in castling the
+-- rook goes too, and a pawn taken en passant leaves
 abbrev pub normal_steps_of : Setup → Move → Steps
 normal_steps_of p m = record {
   from = m.from;
@@ -70,11 +71,11 @@ normal_steps_of p m = record {
   mover = man_that_lands (man_at p.men m.from) m.promotion;
 }
 
--- the pieces on the board after the move m of position p
+-- normal chess: the pieces on the board after the move m of position p
 unfoldable pub normal_men_after : Setup → Move → Men
 normal_men_after p m = men_stepped p.men (normal_steps_of p m)
 
--- the whole position after the move m of position p
+-- normal chess: the whole position after the move m of position p
 unfoldable pub normal_after : Setup → Move → Setup
 normal_after p m = record {
   variant = Normal;

@@ -15,6 +15,7 @@ abbrev pub weight : ℕ → Option Man → ℕ
 weight s None = 0
 weight s (Some x) = if same_kind Pawn x.kind then 1 + ranks_to_go x.colour s else 1
 
--- the weights of the contents of all 64 squares, together
+-- a count of what captures and pawn moves use up: 1 for each piece, and for a pawn 1 more for each rank that it still
+-- has to go
 unfoldable pub reserve : Men → ℕ
 reserve men = sum (from_below 64 (λ s. weight s (man_at men s)))

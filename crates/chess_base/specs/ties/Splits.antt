@@ -13,30 +13,33 @@ use Rattle.chess_base.specs.Attacks.{could_capture}
 use Rattle.chess_base.specs.Castling.{are_placed_for_castling, names_castling_with, castle_from, castles}
 use Rattle.chess_base.specs.Moves.{man_moves}
 
--- that piece on a, if there is one, could capture on b
+-- the given piece (`o`), if it is one, on square a could capture on square b, whatever is on b
 abbrev pub could_capture_as : Men → Option Man → ℕ → ℕ → Bool
 could_capture_as men o a b = option_map_or (λ x. could_capture men x.colour x.kind a b) o false
 
--- king and rook of a right, given by its rook's square, are where castling begins; where there is none nothing is asked
+-- colour c's castling right on side w, given as its rook's square (`o`), has its king and its rook where castling
+-- begins; true if there is no right
 abbrev pub right_is_sound_at : Variant → Men → Colour → CastlingSide → Option ℕ → Bool
 right_is_sound_at v men c w o = option_map_or (are_placed_for_castling v men c w) o true
 
--- the right is there, and the squares of the move name castling with its rook
+-- colour c's castling right on side w, given as its rook's square (`o`), is there, and the squares of move m are those
+-- of castling with that rook
 abbrev pub names_castling : Variant → Colour → Move → CastlingSide → Option ℕ → Bool
 names_castling v c m w o = option_map_or (names_castling_with v c m w) o false
 
--- castling of colour c on that side, with the king on k and the rook on its square, if there is one
+-- the four squares of colour c's castling on side w, with the king on square k and the rook on the given square (`o`)
+-- before it; none if no square is given
 abbrev pub castle_with : Colour → CastlingSide → ℕ → Option ℕ → Option Castle
 castle_with c w k o = option_map (castle_from c w k) o
 
--- the castling rook's square before castling, if there is one
+-- the castling rook's square before the castling `o`; none if there is no castling
 abbrev pub rook_from : Option Castle → Option ℕ
 rook_from o = option_map (λ k. k.rook_from) o
 
--- the castling rook's square after it, if there is one
+-- the castling rook's square after the castling `o`; none if there is no castling
 abbrev pub rook_to : Option Castle → Option ℕ
 rook_to o = option_map (λ k. k.rook_to) o
 
--- the castling, if the move is one, is possible; else the piece goes so
+-- a piece other than a pawn can make move m: by the castling `o`, if m is one and nothing prevents it, else as it moves
 abbrev pub castles_or_moves : Setup → Move → Option Castle → Bool
 castles_or_moves p m o = option_map_or (castles p m) o (man_moves p m)

@@ -45,7 +45,7 @@ pub record IsPlainly (p : Setup) (m : Move) : Type 0 where
   pub no_castle : castle_of p m ≡ None
   pub no_passing : is_en_passant p m ≡ false
 
--- move m, of a piece of that kind, is surely neither castling nor en passant: it is a king's without castling rights, a
+-- move m, of a piece of this kind, is surely neither castling nor en passant: it is a king's without castling rights, a
 -- pawn's but not to the en passant target, or another piece's
 abbrev pub goes_plainly : Setup → Move → Kind → Bool
 goes_plainly p m King = has_no_right p.rights
@@ -65,6 +65,6 @@ abbrev pub shifted : Setup → Move → Option Man → Option Man
 shifted p m None = None
 shifted p m (Some x) = if shifts p m x.kind then Some x else None
 
--- the halfmove clock after a move of a piece of that kind to a square with the content `taken`; it was n before
+-- the halfmove clock after a move of a piece of this kind to a square with the content `taken`; it was n before
 abbrev pub clock_left : ℕ → Kind → Option Man → ℕ
 clock_left n kind taken = if same_kind Pawn kind || is_some taken then 0 else min (n + 1) COUNTER_LIMIT

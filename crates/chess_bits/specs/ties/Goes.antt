@@ -87,12 +87,12 @@ pub record IsFree (p : Setup) (a : ℕ) : Type 0 where
   pub safe : (k : ℕ) → k < 64 → is_man p.side King (man_at p.men k) ≡ true
       → is_attacked (lifted p.men a) k (other p.side) ≡ false
 
--- each square of the set w holds a piece of that kind, of the side on move, that is free: its king is safe wherever it
+-- each square of the set w holds a piece of this kind, of the side on move, that is free: its king is safe wherever it
 -- goes
 abbrev pub AreFree : Setup → Kind → ℕ → Type 0
 AreFree p kind w = (k : ℕ) → k < 64 → has w k ≡ true → (is_man p.side kind (man_at p.men k) ≡ true) × IsFree p k
 
--- o, a square's content, is a piece of colour c and that kind: a queen, rook, bishop or knight
+-- o, a square's content, is a piece of colour c and this kind: a queen, rook, bishop or knight
 pub record IsOfficer (c : Colour) (kind : Kind) (o : Option Man) : Type 0 where
   pub man : is_man c kind o ≡ true
   pub usual : (same_kind King kind || same_kind Pawn kind) ≡ false

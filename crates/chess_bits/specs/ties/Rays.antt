@@ -5,7 +5,7 @@ use Rattle.chess_bits.specs.declared.line.Line.{Line}
 use Rattle.chess_bits.specs.declared.line.Line.TheVariants.{Rank, File, Diagonal, Antidiagonal}
 use Rattle.chess_moves.specs.Sets.{has, is_past}
 
--- the number of the line of that kind on which square s is: squares of one line have the same number. The diagonal a1
+-- the number of the line of this kind on which square s is: squares of one line have the same number. The diagonal a1
 -- to h8 has 7
 abbrev pub line_number : Line → ℕ → ℕ
 line_number Rank s = rank s

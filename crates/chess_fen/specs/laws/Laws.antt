@@ -23,8 +23,9 @@ WrittenSpellsNoOther = (p q : Setup) → IsSound p → SpellsFenAs p.variant (fe
 abbrev pub WrittenIsReadBack : Type 0
 WrittenIsReadBack = (p : Setup) → IsSound p → fen_reading_as p.variant (fen p) ≡ Ok p
 
--- in Chess960, a text denotes the castling rights of a sound position exactly if it has the form of a castling field
--- and `RightIsNamed` holds for each right
+-- in Chess960, a text denotes the castling rights of a sound position exactly if it has the form of a castling field,
+-- and for each right one letter names its rook and no other letter names it, or there is no right and no letter names
+-- it
 abbrev pub RightsAreNamed : Type 0
 RightsAreNamed =
     (text : List ℕ) → (p : Setup) → p.variant ≡ Fischerandom → IsSound p

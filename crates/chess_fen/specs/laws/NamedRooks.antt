@@ -11,7 +11,7 @@ use Rattle.chess_base.specs.Castling.{king_square, is_to_side}
 use Rattle.chess_fen.specs.Texts.{first_letter}
 use Rattle.chess_fen.specs.RightNames.{side_letter, is_towards}
 
--- on square s of its first rank is colour c's outermost rook on side w: no rook of c on that rank is nearer to that
+-- on square s of its first rank is colour c's outermost rook on side w: no rook of c on this rank is nearer to that
 -- edge
 pub record IsOutermost (men : Men) (c : Colour) (w : CastlingSide) (s : ℕ) : Type 0 where
   pub rook : is_man c Rook (man_at men s) ≡ true

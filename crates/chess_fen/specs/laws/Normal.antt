@@ -25,7 +25,7 @@ use Rattle.chess_fen.specs.Writing.{placement_text, side_text, target_text, or_d
 
 -- ---- written
 
--- the letter c if the castling right is there, else nothing
+-- the letter c as text if the castling right (a rook's square, or none) is there, else nothing
 abbrev pub letter_if : Option ℕ → ℕ → List ℕ
 letter_if None c = []
 letter_if (Some corner) c = c ∷ []
@@ -35,7 +35,7 @@ abbrev pub normal_rights_text : Rights → List ℕ
 normal_rights_text r = or_dash (letter_if r.white.king_side (byte "K") ++ letter_if r.white.queen_side (byte "Q")
     ++ letter_if r.black.king_side (byte "k") ++ letter_if r.black.queen_side (byte "q"))
 
--- the FEN of a position: its six fields, with one space between them
+-- the FEN of a position of normal chess: its six fields, with one space between them
 abbrev pub normal_fen : Setup → List ℕ
 normal_fen p = join_with_byte space (placement_text p.men ∷ side_text p.side ∷ normal_rights_text p.rights ∷ target_text
     p.target ∷ decimal p.halfmove ∷ decimal p.fullmove ∷ [])
@@ -51,7 +51,8 @@ abbrev pub normal_is_castling : List ℕ → Bool
 normal_is_castling text = bytes_eq text (codes "-")
     || (nat_lt 0 (length text) && nat_le (length text) 4 && list_all (normal_names_once text) text)
 
--- the castling rights that the letters name: the rooks are on h1 (7) and a1 (0), h8 (63) and a8 (56)
+-- normal chess: the castling rights that the letters of a castling field name, as their rooks' squares: h1 (7) for K,
+-- a1 (0) for Q, h8 (63) for k, a8 (56) for q
 abbrev pub normal_rights_named : List ℕ → Rights
 normal_rights_named letters = record {
   white = record {
@@ -64,7 +65,8 @@ normal_rights_named letters = record {
   };
 }
 
--- the same, if the field of rights is one
+-- normal chess: the castling rights that a FEN's third field denotes; none if it is neither a dash nor one to four of
+-- K, Q, k and q, none twice
 abbrev pub normal_rights_of : List ℕ → Option Rights
 normal_rights_of text = if normal_is_castling text then Some (normal_rights_named text) else None
 
@@ -88,7 +90,8 @@ normal_setup_by placement side castling target halfmove fullmove = do
     fullmove = max number 1;
   })
 
--- six fields, or four, and then the counters are 0 and 1
+-- the position of normal chess that a list of a FEN's fields denotes: six fields, or four, and then the counters are 0
+-- and 1; any other number of fields is a fault
 abbrev pub normal_setup_in : List (List ℕ) → Result Setup FenFault
 normal_setup_in (a ∷ b ∷ c ∷ d ∷ []) = normal_setup_by a b c d (codes "0") (codes "1")
 normal_setup_in (a ∷ b ∷ c ∷ d ∷ e ∷ f ∷ []) = normal_setup_by a b c d e f
@@ -115,10 +118,11 @@ normal_fault p =
     ∷ (faults.Check, not (is_in_check p.men (other p.side)))
     ∷ [])
 
--- the position if it is sound, else the first condition of soundness that it fails
+-- `Ok p` if position p of normal chess is sound, else the fault of the first condition of soundness that it fails
 abbrev pub normal_sound : Setup → Result Setup FenFault
 normal_sound p = unless_fault p (normal_fault p)
 
--- the position that the text denotes as a FEN, or the text's first fault
+-- the sound position that a text denotes as a FEN of normal chess; or the fault: of the first wrong field, or of the
+-- first condition of soundness that fails
 abbrev pub normal_fen_reading : List ℕ → Result Setup FenFault
 normal_fen_reading text = normal_setup_in (fields_of text) >>= normal_sound

@@ -1,5 +1,5 @@
--- The index of a game's positions: the heads of its buckets, and the entry of each played move. Positions are numbered from 0,
--- the start, on; number k + 1 is the one that played move k reached.
+-- The index of a game's positions: the heads of its buckets, and the entry of each played move. Positions are numbered
+-- from 0, the start, on; number k + 1 is the one that played move k reached.
 use Rattle.std.specs.Prelude.{◌≡◌, ◌<◌, ◌+◌, ◌%◌, ◌==◌, ℕ, zero, suc, Bool, cond, if◌then◌else◌, List, [], ◌∷◌, length, get_or}
 use Rattle.chess_base.specs.declared.man.Move.{Move}
 use Rattle.chess_base.specs.declared.setup.Saved.{Saved}
@@ -16,12 +16,12 @@ use Rattle.chess_game.specs.declared.index.TheConstants.{BUCKETS}
 abbrev pub bucket : Hashed → ℕ
 bucket k = k.word % BUCKETS
 
--- `now` is a position that one more legal move gives, after the played moves xs from `start`
+-- `now` is a position that one more legal move gives, in the game from `start` by the played moves xs
 abbrev pub IsNext : Hashed → List PlayedMove → Hashed → Type 0
 IsNext start xs now = (m : Move) × (s : Saved) × WasMade (last start.position (moves_of xs)) m s now.position
 
--- the position with that number in the game from `start` by the played moves: 0 for the start, k + 1 for the one that
--- played move k reached; the last one for greater numbers
+-- the position number k in the game from `start` by the played moves xs: the start for 0, the one that played move k
+-- reached for k + 1; for greater numbers the last one
 unfoldable pub known_at : Hashed → List PlayedMove → ℕ → Hashed
 known_at start xs zero = start
 known_at start [] (suc k) = start
@@ -35,7 +35,7 @@ is_in start xs b k = bucket (known_at start xs k) == b
 abbrev pub is_same_at : Hashed → List PlayedMove → Setup → ℕ → Bool
 is_same_at start xs q k = same (known_at start xs k).position q
 
--- one more than the greatest number below n for which t holds, or 0 if it holds for none
+-- one more than the greatest number below n for which the test t holds, or 0 if it holds for none
 unfoldable pub latest_below : (ℕ → Bool) → ℕ → ℕ
 latest_below t zero = zero
 latest_below t (suc n) = if t n then suc n else latest_below t n
@@ -55,8 +55,9 @@ pub record IsEmpty (table : List ℕ) : Type 0 where
   pub buckets : length table ≡ BUCKETS
   pub none : (b : ℕ) → b < BUCKETS → get_or table b 0 ≡ 0
 
--- the entry of played move k, which is x: a link to the latest earlier position in the bucket of the position that it
--- reached, and the count of how many positions up to that one, itself included, are the same as it
+-- the entry of played move k, which is x, in the game from `start` by the played moves xs: a link to the latest earlier
+-- position in the bucket of the position that x reached, and how many positions up to that one, itself included, are
+-- the same as it
 pub record HasEntry (start : Hashed) (xs : List PlayedMove) (k : ℕ) (x : PlayedMove) : Type 0 where
   pub earlier : x.entry.earlier ≡ latest_below (is_in start xs (bucket x.reached)) (suc k)
   pub count : x.entry.count ≡ suc (count_below (is_same_at start xs x.reached.position) (suc k))

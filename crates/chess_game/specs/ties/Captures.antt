@@ -4,6 +4,6 @@ use Rattle.chess_base.specs.declared.setup.Setup.{Setup}
 use Rattle.chess_base.specs.Moves.{is_en_passant, is_legal}
 use Rattle.chess_base.specs.MoveList.{triple}
 
--- the move from square a to square b is a legal capture en passant
+-- the move to square b from square a is a legal capture en passant in position p (b is given first)
 abbrev pub captures_legally : Setup → ℕ → ℕ → Bool
 captures_legally p b a = is_en_passant p (triple a b None) && is_legal p (triple a b None)

@@ -4,10 +4,10 @@ use Rattle.chess_base.specs.declared.man.Kind.TheVariants.{Queen, Rook, Bishop, 
 use Rattle.chess_base.specs.declared.man.Man.{Man}
 use Rattle.chess_game.specs.Ends.{is_kind}
 
--- a pawn, a rook or a queen is there
+-- the square's content `o` is a pawn, a rook or a queen, of either colour
 abbrev pub is_pawn_rook_or_queen : Option Man → Bool
 is_pawn_rook_or_queen o = is_kind Pawn o || is_kind Rook o || is_kind Queen o
 
--- a minor piece is there: a bishop or a knight
+-- the square's content `o` is a bishop or a knight, of either colour
 abbrev pub is_minor : Option Man → Bool
 is_minor o = is_kind Bishop o || is_kind Knight o

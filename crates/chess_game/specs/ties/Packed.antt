@@ -11,7 +11,7 @@ use Rattle.chess_moves.specs.Sets.{has}
 use Rattle.chess_game.specs.Ends.{is_kind}
 use Rattle.chess_game.specs.declared.packed.PackedMen.{PackedMen}
 
--- the kind of the piece on square s by the sets; none if no set of a kind has it
+-- the kind of the piece on square s, as the packed sets p say; none if no set of a kind has s
 abbrev pub kind_in : PackedMen → ℕ → Option Kind
 kind_in p s =
     if has p.kings s then Some King
@@ -22,20 +22,21 @@ kind_in p s =
     else if has p.pawns s then Some Pawn
     else None
 
--- the colour of the piece on square s by the sets: White if White's set has it, else Black (also for an empty square)
+-- the colour of the piece on square s, as the packed sets p say: White if White's set has s, else Black (also for an
+-- empty square)
 abbrev pub colour_in : PackedMen → ℕ → Colour
 colour_in p s = if has p.white s then White else Black
 
--- a piece of that colour and kind; none if there is no kind
+-- a piece of this colour and kind; none if there is no kind
 abbrev pub man_of : Colour → Option Kind → Option Man
 man_of c None = None
 man_of c (Some kind) = Some (record { colour = c; kind = kind })
 
--- the piece on square s by the sets, or none
+-- the piece on square s, as the packed sets p say, or none
 unfoldable pub man_in : PackedMen → ℕ → Option Man
 man_in p s = man_of (colour_in p s) (kind_in p s)
 
--- the pieces on all 64 squares by the sets
+-- the pieces on all 64 squares, from a1 to h8, as the packed sets p say
 unfoldable pub men_in : PackedMen → Men
 men_in p = from_below 64 (man_in p)
 
@@ -50,6 +51,6 @@ pub record IsPackedAt (p : PackedMen) (s : ℕ) (o : Option Man) : Type 0 where
   pub knights : has p.knights s ≡ is_kind Knight o
   pub pawns : has p.pawns s ≡ is_kind Pawn o
 
--- the sets are those of these pieces, on each of the 64 squares
+-- the packed sets p are those of these pieces, on each of the 64 squares
 abbrev pub ArePacked : PackedMen → Men → Type 0
 ArePacked p men = (s : ℕ) → s < 64 → IsPackedAt p s (man_at men s)

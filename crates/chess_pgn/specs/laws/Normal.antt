@@ -27,8 +27,8 @@ normal_further_lines start termination =
 
 -- ---- read
 
--- what follows from a tag, if there were no Chess960: FEN is read as one of normal chess. `offset` is that of its
--- string
+-- what follows from a tag with this name and text in normal chess, where FEN is read as one of normal chess. `g` is the
+-- game so far, `offset` that of the tag's string
 abbrev pub normal_tag_step : SoFar → List ℕ → List ℕ → ℕ → Step
 normal_tag_step g name text offset =
     if bytes_eq name (codes "FEN") then fen_step g offset (fen_reading text)
@@ -39,8 +39,8 @@ normal_tag_step g name text offset =
       termination = termination_after g.termination name text;
     })
 
--- what follows from one token, if there were no Chess960. `limit` is the most half-moves of a game, `total` the
--- text's length, and `left` how many bytes are left from the token on
+-- what follows from one token for the game so far (`g`), if there were no Chess960. `limit` is the most half-moves of a
+-- game, `total` the text's length, and `left` how many bytes are left from the token on
 abbrev pub normal_step : ℕ → ℕ → SoFar → ℕ → Token → Step
 normal_step limit total g left (Tag name text string) =
     if g.is_begun then fails g NoResult (total - left) else normal_tag_step g name text (total - string)
@@ -51,13 +51,14 @@ normal_step limit total g left (Unclosed_comment brace) = step limit total g lef
 normal_step limit total g left Unclosed_variation = step limit total g left Unclosed_variation
 normal_step limit total g left Bad = step limit total g left Bad
 
--- reads the tokens that are left after the game so far, if there were no Chess960; `limit` and `total` as in
--- `normal_step`
+-- what is read in the end, from the game so far (`g`) and the tokens that are left, if there were no Chess960. `limit`
+-- is the most half-moves of a game, `total` the text's length
 abbrev pub normal_game_of : ℕ → ℕ → SoFar → List (ℕ × Token) → GameRead
 normal_game_of limit total g [] = at_text_end total g
 normal_game_of limit total g (t ∷ ts) = go_on (normal_step limit total g t.0 t.1) (λ h. normal_game_of limit total h ts)
 
--- the game that tokens are read as, if there were no Chess960: from the initial position of normal chess on
+-- what is read of these tokens, if there were no Chess960: a game from the initial position of normal chess on. `limit`
+-- is the most half-moves of a game, `total` the text's length
 abbrev pub normal_read : ℕ → ℕ → List (ℕ × Token) → GameRead
 normal_read limit total tokens = normal_game_of limit total
     (record { state = from_start initial_setup; is_met = false; is_begun = false; termination = None }) tokens
@@ -74,14 +75,14 @@ names_variant (Unclosed_comment left) = false
 names_variant Unclosed_variation = false
 names_variant Bad = false
 
--- whether a word is marks such as `!?`
+-- whether a word of this kind is marks alone, such as `!?`
 abbrev pub is_mark_word : WordKind → Bool
 is_mark_word Marks = true
 is_mark_word Number = false
 is_mark_word Move = false
 is_mark_word (End o) = false
 
--- whether no tag of the game may follow a token: a number, a move, an outcome, or what can't be read
+-- after this token no tag of the game may follow: it is a number, a move, an outcome, or can't be read
 abbrev pub ends_tags : Token → Bool
 ends_tags Skip = false
 ends_tags (Tag name text left) = false
@@ -91,7 +92,7 @@ ends_tags (Unclosed_comment left) = true
 ends_tags Unclosed_variation = true
 ends_tags Bad = true
 
--- whether no tag Variant comes before the first token after which no tag of the game may follow
+-- none of the game's own tags is a tag Variant: none comes before the first number, move, outcome or fault
 abbrev pub names_no_variant : List (ℕ × Token) → Bool
 names_no_variant [] = true
 names_no_variant (t ∷ ts) = if ends_tags t.1 then true else not (names_variant t.1) && names_no_variant ts

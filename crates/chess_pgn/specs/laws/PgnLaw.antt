@@ -28,8 +28,8 @@ pub record IsReadBack (s : State) (termination : Termination) (text_end : ℕ) (
   pub answer : r.answer ≡ Ok (Some (record { outcome = outcome_now s; termination = Some termination; offset = offset }))
   pub behind : offset + 2 ≡ text_end
 
--- each playable game within the limit, if it is written without a line prefix, is read back from where its text
--- begins, whatever text comes before and after it
+-- the text that is written of a playable game `s` of at most `limit` half-moves, with no line prefix, is read back as
+-- that game, whatever text comes before and after it
 abbrev pub PgnIsReadBack : Type 0
 PgnIsReadBack =
     (limit : ℕ) → (tags : Tags) → (s : State) → (before after : List ℕ) → AreTagTexts tags

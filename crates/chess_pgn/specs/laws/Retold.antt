@@ -30,14 +30,14 @@ use Rattle.chess_pgn.specs.Words.{kind_of}
 
 -- ---- kinds of tokens
 
--- whether a word is a move number or may be a move
+-- whether a word of this kind is a move number or may be a move
 abbrev pub is_number_or_move : WordKind → Bool
 is_number_or_move (End o) = false
 is_number_or_move Number = true
 is_number_or_move Marks = false
 is_number_or_move Move = true
 
--- whether a word is an outcome such as `1-0`
+-- whether a word of this kind is an outcome such as `1-0`
 abbrev pub is_outcome : WordKind → Bool
 is_outcome (End o) = true
 is_outcome Number = false
@@ -64,7 +64,7 @@ counts (Unclosed_comment left) = false
 counts Unclosed_variation = false
 counts Bad = false
 
--- whether a tag of this name gives the start
+-- whether a tag with this name gives the game's start: the name is FEN
 abbrev pub is_fen : List ℕ → Bool
 is_fen name = bytes_eq name (codes "FEN")
 
@@ -82,21 +82,22 @@ can_be_taken v begun (Unclosed_comment left) = false
 can_be_taken v begun Unclosed_variation = false
 can_be_taken v begun Bad = false
 
--- whether reading goes on after each of these tokens; `begun`: a number or move came before them
+-- whether reading goes on after each of these tokens; `v` is the variant by which a FEN is read, `begun`: a number or
+-- move came before them
 abbrev pub can_all_be_taken : Variant → Bool → List (ℕ × Token) → Bool
 can_all_be_taken v begun [] = true
 can_all_be_taken v begun (t ∷ ts) = can_be_taken v begun t.1 && can_all_be_taken v (begun || begins t.1) ts
 
 -- ---- what they say
 
--- a list of the word, if it may be a move, else the empty list
+-- the word as a list of one, if its kind says that it may be a move, else the empty list
 abbrev pub if_move : List ℕ → WordKind → List (List ℕ)
 if_move word (End o) = []
 if_move word Number = []
 if_move word Marks = []
 if_move word Move = word ∷ []
 
--- a list of the token's word, if it may be a move, else the empty list
+-- the token's word as a list of one, if it may be a move, else the empty list
 abbrev pub move_words_of : Token → List (List ℕ)
 move_words_of (Word word) = if_move word (kind_of word)
 move_words_of Skip = []
@@ -106,16 +107,18 @@ move_words_of (Unclosed_comment left) = []
 move_words_of Unclosed_variation = []
 move_words_of Bad = []
 
--- the words that may be moves, in order
+-- the words of these tokens that may be moves, in order
 abbrev pub move_words : List (ℕ × Token) → List (List ℕ)
 move_words tokens = flat_map (λ t. move_words_of t.1) tokens
 
--- the position that a FEN was read as, else `p` if it had a fault
+-- the start that a tag FEN gives, by what its text was read as: that position, or `p`, the start so far, if it has a
+-- fault
 abbrev pub if_read : Setup → Result Setup FenFault → Setup
 if_read p (Ok start) = start
 if_read p (Err fault) = p
 
--- the game's start after one more token, if it was `p`: a tag FEN sets it, read as one of the variant `v`
+-- the game's start after one more token: what a tag FEN denotes, read as one of the variant `v`; else `p`, the start so
+-- far
 abbrev pub start_by : Variant → Setup → Token → Setup
 start_by v p (Tag name text left) = if is_fen name then if_read p (fen_reading_as v text) else p
 start_by v p Skip = p
@@ -125,12 +128,13 @@ start_by v p (Unclosed_comment left) = p
 start_by v p Unclosed_variation = p
 start_by v p Bad = p
 
--- the start that the last FEN tag of these tokens gives, read as one of the variant `v`; else `p`
+-- the start that the last tag FEN of these tokens denotes, read as one of the variant `v`; `p`, if there is none that
+-- denotes a position
 abbrev pub tagged_start : Variant → Setup → List (ℕ × Token) → Setup
 tagged_start v p [] = p
 tagged_start v p (t ∷ ts) = tagged_start v (start_by v p t.1) ts
 
--- what is known of Termination after one more token, if it was `o`: a tag of that name sets it
+-- what is known of Termination after one more token: what a tag Termination names; else `o`, what was known so far
 abbrev pub termination_by_token : Option Termination → Token → Option Termination
 termination_by_token o (Tag name text left) = termination_after o name text
 termination_by_token o Skip = o
@@ -157,32 +161,34 @@ AreReadAs limit start done (w ∷ ws) (m ∷ ms) =
 
 -- ---- why a token is not taken
 
--- the fault AfterEnd if the game has a verdict, else TooLong if it has `limit` moves, else the one given
+-- why a move is not played in the game `s`: AfterEnd if it has a verdict, TooLong if it has `limit` half-moves, else
+-- `kind`, the fault of the move itself (or none)
 abbrev pub unless_closed : ℕ → State → Option PgnFaultKind → Option PgnFaultKind
 unless_closed limit s kind = if is_some (verdict_now s) then Some AfterEnd else
     (if nat_lt (length s.moves) limit then kind else Some TooLong)
 
--- why a word that denotes this is not played in the game `s`, if it isn't; `limit` is the most half-moves of a game
+-- why the move of a word that was read with this result is not played in the game `s`; none if it is played. `limit` is
+-- the most half-moves of a game
 abbrev pub move_fault : ℕ → State → Reading → Option PgnFaultKind
 move_fault limit s reads.NotAMove = Some BadToken
 move_fault limit s (reads.Move m) = unless_closed limit s None
 move_fault limit s reads.Ambiguous = unless_closed limit s (Some AmbiguousMove)
 move_fault limit s reads.NoSuch = unless_closed limit s (Some IllegalMove)
 
--- why a word of this kind can't be taken in the game `s`, if it can't; `limit` is the most half-moves of a game
+-- why a word of this kind can't be taken in the game `s`; none if it can. `limit` is the most half-moves of a game
 abbrev pub word_fault : ℕ → State → List ℕ → WordKind → Option PgnFaultKind
 word_fault limit s word (End o) = None
 word_fault limit s word Number = None
 word_fault limit s word Marks = None
 word_fault limit s word Move = move_fault limit s (reading (current s) word)
 
--- the fault of this kind at an offset, if there is one
+-- the fault of this kind (if one is given) at this offset, else none
 abbrev pub fault_at : ℕ → Option PgnFaultKind → Option PgnFault
 fault_at offset kind = option_map (λ k. record { kind = k; offset = offset }) kind
 
--- why a token can't be taken in the game `s` of the variant `v`, if it can't, with the fault's offset. `total` is the
--- text's length, `left` how many bytes are left from the token on, and `begun` says if a number or move came before
--- it
+-- why a token can't be taken in the game `s` of the variant `v`, with the fault's offset; none if it can. `limit` is
+-- the most half-moves of a game, `total` the text's length, `left` how many bytes are left from the token on; `begun`:
+-- a number or move came before it
 abbrev pub token_fault : ℕ → ℕ → Variant → Bool → State → ℕ → Token → Option PgnFault
 token_fault limit total v begun s left Skip = None
 token_fault limit total v begun s left (Tag name text string) =
@@ -196,8 +202,9 @@ token_fault limit total v begun s left Bad = fault_at (total - left) (Some BadTo
 
 -- ---- the game
 
--- why reading stopped after the tokens `taken`, before the others, in a text of `total` bytes: at the text's end with
--- no game (`Ok None`), at an outcome (`Ok (Some e)`), or at a fault. Only an outcome declares a result
+-- why reading stopped after the tokens `taken`, before the others (the next argument), in a text of `total` bytes: at
+-- the text's end with no game (`Ok None`), at an outcome (`Ok (Some e)`), or at a fault. `s` is the game then; only an
+-- outcome declares a result. `limit` is the most half-moves
 abbrev pub StopsAt : ℕ → ℕ → Variant → List (ℕ × Token) → List (ℕ × Token) → State → Result (Option PgnEnd) PgnFault
     → Type 0
 StopsAt limit total v taken [] s (Ok None) = (s.declared ≡ None) × (list_any (λ t. counts t.1) taken ≡ false)
@@ -212,8 +219,9 @@ StopsAt limit total v taken (t ∷ ts) s (Ok (Some e)) =
 StopsAt limit total v taken (t ∷ ts) s (Err f) =
     (s.declared ≡ None) × (token_fault limit total v (list_any (λ u. begins u.1) taken) s t.0 t.1 ≡ Some f)
 
--- the game read is that of a first part of the tokens, `taken`: its start is what their last FEN denotes, else the
--- initial position of the variant `v`, its moves are those of their words, and reading stopped rightly after them
+-- the game read (`r`) is that of a first part of the tokens, `taken`: its start is what their last FEN denotes, else
+-- the initial position of variant `v`, its moves are those of their words, and reading stopped rightly after them.
+-- `limit` is the most half-moves of a game, `total` the text's length
 pub record IsOfTokens (limit total : ℕ) (v : Variant) (tokens : List (ℕ × Token)) (r : GameRead) : Type 0 where
   pub taken : List (ℕ × Token)
   pub others : List (ℕ × Token)
@@ -223,7 +231,9 @@ pub record IsOfTokens (limit total : ℕ) (v : Variant) (tokens : List (ℕ × T
   pub moves : AreReadAs limit r.state.start [] (move_words taken) r.state.moves
   pub stop : StopsAt limit total v taken others r.state r.answer
 
--- each game that is read is that of its text's first tokens, as `IsOfTokens` says without a reader
+-- each game that is read is that of its text's first tokens: its start is their last FEN's, its moves their words', and
+-- the next token ends the game, or can't be taken, or there is none. `at` is the offset where reading begins, `limit`
+-- the most half-moves
 abbrev pub GamesAreOfTokens : Type 0
 GamesAreOfTokens =
     (limit : ℕ) (text : List ℕ) (at : ℕ) → let tokens =

@@ -12,29 +12,32 @@ use Rattle.chess_pgn.specs.declared.read.Step.TheVariants as does
 use Rattle.chess_pgn.specs.Tokens.{Token, Skip, Tag, Word, Bad_tag, Unclosed_comment, Unclosed_variation, Bad, tokens_from}
 use Rattle.chess_pgn.specs.GameRead.{SoFar, Step, On, Stop, game_of, tokens_read}
 
--- the fault of a move that is refused
+-- the fault to give for a move that the game refuses: it is over, full (`TooLong`), or the move is illegal
 abbrev pub refusal_kind : PlayRefusal → PgnFaultKind
 refusal_kind Over = faults.AfterEnd
 refusal_kind TooLong = faults.TooLong
 refusal_kind Illegal = faults.IllegalMove
 
--- the definitions' `SoFar` that corresponds to the game's state and the code's `Progress`
+-- what is read so far, as the definitions have it, from the code's game state `s` and its `Progress`
 abbrev pub so_far : State → Progress → SoFar
 so_far s p = record { state = s; is_met = p.is_met; is_begun = p.is_begun; termination = p.termination }
 
--- the definitions' `Step` that corresponds to what the code returned for a token, and the state that it left
+-- what the code returned for a token, as the definitions have it: reading goes on, or stops with an end or a fault; `s`
+-- is the game's state after it
 abbrev pub step_seen : State → Result code.Step PgnFault → Step
 step_seen s (Ok (does.On p)) = On (so_far s p)
 step_seen s (Ok (does.Ended end)) = Stop (record { state = s; answer = Ok (Some end) })
 step_seen s (Err fault) = Stop (record { state = s; answer = Err fault })
 
--- if a token ended the game, the offset after it is greater than `first` and at most `last`
+-- if a token ended the game (`Ended`), the game's end offset is greater than `first` and at most `last`; for any other
+-- result nothing is said
 abbrev pub EndsIn : ℕ → ℕ → Result code.Step PgnFault → Type 0
 EndsIn first last (Ok (does.On p)) = Unit {0}
 EndsIn first last (Ok (does.Ended end)) = (first < end.offset) × (end.offset ≤ last)
 EndsIn first last (Err fault) = Unit {0}
 
--- what a token says of offsets is within the text: at most `left` bytes, those from its first byte on, are left there
+-- the places that a token names are inside the token and what follows: at most `left` bytes, those from its first byte
+-- on, are left at each
 abbrev pub IsWithin : ℕ → Token → Type 0
 IsWithin left Skip = Unit {0}
 IsWithin left (Tag name text string) = string ≤ left
@@ -49,8 +52,8 @@ abbrev pub ReadsAlike : List ℕ → ℕ → ℕ → Type 0
 ReadsAlike text a b = (limit : ℕ) (g : SoFar)
     → game_of limit (length text) g (tokens_from text a) ≡ game_of limit (length text) g (tokens_from text b)
 
--- a game was begun at the offset `from` and is read up to `here`, with this progress: reading on from `here` gives
--- what reading from `from` on gives
+-- a game was begun at the offset `from` of the text and is read up to `here`; `game` and `progress` are what was read.
+-- Reading on from `here` gives what reading from `from` on gives. `limit` is the most half-moves
 pub record IsReadOn (limit : ℕ) (text : List ℕ) (from : ℕ) (game : Seen) (progress : Progress) (here : ℕ)
     : Type 0 where
   pub behind : from ≤ here

@@ -9,36 +9,39 @@ use Rattle.chess_pgn.specs.declared.token.TokenFault.TheVariants as fault
 use Rattle.chess_pgn.specs.Tokens as told
 use Rattle.chess_pgn.specs.Tokens.{tokens_from}
 
--- the definitions' token, and the text after it, that correspond to what the code's `read_tag` returned
+-- what the code's `read_tag` returned, as the definitions have it: the tag's token and the text after it, or `Bad_tag`
+-- and an empty text
 abbrev pub tag_seen : Option (Tag × Bor (List ℕ)) → told.Token × List ℕ
 tag_seen None = (told.Bad_tag, [])
 tag_seen (Some r) = (told.Tag r.0.name.now r.0.text.now r.0.left, r.1.now)
 
--- the definitions' token that corresponds to the code's
+-- the code's token as the definitions have it: with lists of bytes in place of borrows
 abbrev pub token_seen : Token → told.Token
 token_seen token.Skip = told.Skip
 token_seen (token.Tag t) = told.Tag t.name.now t.text.now t.left
 token_seen (token.Word word) = told.Word word.now
 
--- the definitions' token that corresponds to the code's fault: there what can't be read is a token too
+-- the code's fault as the definitions have it: there what can't be read is a token too
 abbrev pub fault_seen : TokenFault → told.Token
 fault_seen fault.BadTag = told.Bad_tag
 fault_seen (fault.UnclosedComment left) = told.Unclosed_comment left
 fault_seen fault.UnclosedVariation = told.Unclosed_variation
 fault_seen fault.BadByte = told.Bad
 
--- the definitions' token, and the text after it, that correspond to what the code's `after_variation` returned
+-- what the code's `after_variation` returned, as the definitions have it: `Skip` and the text after the variation, or
+-- the token of the fault and an empty text
 abbrev pub variation_seen : Result (Bor (List ℕ)) TokenFault → told.Token × List ℕ
 variation_seen (Ok rest) = (told.Skip, rest.now)
 variation_seen (Err f) = (fault_seen f, [])
 
--- the definitions' token, and the text after it, that correspond to what the code's `read_token` returned
+-- what the code's `read_token` returned, as the definitions have it: the token and the text after it, or the token of
+-- the fault and an empty text
 abbrev pub first_seen : Result (Token × Bor (List ℕ)) TokenFault → told.Token × List ℕ
 first_seen (Ok r) = (token_seen r.0, r.1.now)
 first_seen (Err f) = (fault_seen f, [])
 
--- the code's answer for the next token from `at` on is the first of the definitions' tokens, and the offset returned
--- is the one after it; nothing is read after a fault
+-- what code returned for the next token of the text from `at` on is the first of the definitions' tokens, and the
+-- offset returned is the one after it; `None`: no token is left; a fault is the last token
 abbrev pub IsNextToken : List ℕ → ℕ → Result (Option (Token × ℕ)) TokenFault → Type 0
 IsNextToken text at (Ok None) = tokens_from text at ≡ []
 IsNextToken text at (Ok (Some r)) = (tokens_from text at ≡ (length text - at, token_seen r.0) ∷ tokens_from text r.1)

@@ -12,17 +12,20 @@ use Rattle.chess_pgn.specs.Words.{outcome_of, kind_of}
 
 -- ---- the tag Result
 
--- a tag Result of a text of so many bytes; a tag with another name leaves the one before it
+-- the last tag Result read so far, when a tag with this name and text is read: that tag, if its name is Result, else
+-- `before`, the last one before it. `total` is the text's length; the tag's string begins at the byte `total - left`
 abbrev pub result_after_tag : ℕ → Option ResultTag → List ℕ → List ℕ → ℕ → Option ResultTag
 result_after_tag total before name text left =
     if bytes_eq name (codes "Result") then Some (record { outcome = outcome_of text; offset = total - left }) else before
 
--- the last tag Result after a token of such a text
+-- the last tag Result read so far, when a token is read: the token, if it is a tag Result, else `before`, the last one
+-- before it. `total` is the text's length
 abbrev pub result_after : ℕ → Option ResultTag → Token → Option ResultTag
 result_after total before (Tag name text left) = result_after_tag total before name text left
 result_after total before _ = before
 
--- the last tag Result of these tokens up to the first that no tag of the game may follow, or the one before them
+-- the last tag Result among these tokens before the first number, move, outcome or fault; `before`, the last one before
+-- these tokens, if there is none. `total` is the text's length
 abbrev pub result_from : ℕ → Option ResultTag → List (ℕ × Token) → Option ResultTag
 result_from total before [] = before
 result_from total before (t ∷ ts) =
@@ -30,24 +33,28 @@ result_from total before (t ∷ ts) =
 
 -- ---- the variant
 
--- the variant after a word, if more tags may follow it: after marks alone
+-- `Some v`, the variant so far, if after a word of this kind more tags of the game may follow: after marks such as
+-- `!?`; else `None`
 abbrev pub variant_after_word : Variant → WordKind → Option Variant
 variant_after_word v Marks = Some v
 variant_after_word v _ = None
 
--- the variant after a token, if more tags may follow it
+-- the variant after one more token: what a tag Variant names, else `v`, the variant so far; `None` if no more tags of
+-- the game may follow this token
 abbrev pub variant_after : Variant → Token → Option Variant
 variant_after v Skip = Some v
 variant_after v (Tag name text left) = Some (if bytes_eq name (codes "Variant") then variant_named text else v)
 variant_after v (Word word) = variant_after_word v (kind_of word)
 variant_after v _ = None
 
--- the variant so far where no more tags may follow, else what `later` gives
+-- what `later` gives for the variant found, if one is given (`Some`); else, as no more tags may follow, `v`, the
+-- variant so far
 abbrev pub variant_then : Variant → Option Variant → (Variant → Variant) → Variant
 variant_then v None later = v
 variant_then v (Some u) later = later u
 
--- the variant that these tokens name, or the one before them
+-- the variant that the last tag Variant of these tokens names, as far as they can be the game's tags; `v`, the variant
+-- so far, if there is none
 abbrev pub variant_from : Variant → List (ℕ × Token) → Variant
 variant_from v [] = v
 variant_from v (t ∷ ts) = variant_then v (variant_after v t.1) (λ u. variant_from u ts)

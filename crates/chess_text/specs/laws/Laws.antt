@@ -20,7 +20,7 @@ use Rattle.chess_text.specs.San.{san, shown_move}
 use Rattle.chess_base.specs.declared.man.Kind.{Kind}
 use Rattle.chess_base.specs.declared.man.Kind.TheVariants.{King, Pawn}
 
--- a letter names pieces of this kind; a pawn may become one
+-- a move's text names pieces of this kind by a letter: all kinds but the pawn
 abbrev pub HasLetter : Kind → Type 0
 HasLetter Pawn = ⊥
 HasLetter k = Unit {0}
@@ -81,7 +81,7 @@ abbrev pub SanBeginsWithLetter : Type 0
 SanBeginsWithLetter = (p : Setup) → (m : Move) → IsSound p → IsTrue (is_legal p m)
     → IsTrue (begins_with_letter (san p m))
 
--- if a text is read as a move, this move is legal
+-- if a text is read in a position as a move, this move is legal there
 abbrev pub ReadMovesAreLegal : Type 0
 ReadMovesAreLegal = (p : Setup) → (text : List ℕ) → (m : Move) → reading p text ≡ reads.Move m → IsTrue (is_legal p m)
 
@@ -120,23 +120,27 @@ PartsAreTheTexts = (text : List ℕ) → (q : Parts) → parts_at text ≡ Some 
 abbrev pub PartsAreRead : Type 0
 PartsAreRead = (q : Parts) → AreParts q → parts_at (parts_text q) ≡ Some q
 
--- a text denotes what its castling names, or what parts fit whose text it is without marks: said with no list of texts
+-- the text denotes the described move: it names its castling, or it is, but for its marks, the text of parts (letter,
+-- file, rank, `x`, end) that fit it. Said by parts, without lists of all texts
 abbrev pub IsSpelled : List ℕ → Described → Type 0
 IsSpelled text d =
     ((w : CastlingSide) × (d.castles ≡ Some w) × IsTrue (is_castling_text text w))
     ⊎ ((q : Parts) × IfSome q.letter HasLetter × (unmarked text ≡ parts_text q) × IsTrue (parts_fit q d))
 
--- what `spells_described` finds by the list of all parts is what `IsSpelled` says without it
+-- a text denotes a described move by `spells_described`, which compares it with lists of all texts of that move, if and
+-- only if it does by `IsSpelled`, which needs no lists: it names the castling, or is the text of parts that fit the
+-- move
 abbrev pub SpelledByText : Type 0
 SpelledByText = (text : List ℕ) → (d : Described) → IsTrue (spells_described text d) ↔ IsSpelled text d
 
--- the text has the shape of a move: it denotes castling, or it is, without its marks, the text of parts of a form. This
--- is said without the list of all parts
+-- the text has the shape of a move: it denotes castling, or it is, but for its marks, the text of parts (letter, file,
+-- rank, `x`, end) in one of the forms of a move's text. Said without trying all descriptions of moves
 abbrev pub IsShaped : List ℕ → Type 0
 IsShaped text =
     ((w : CastlingSide) × IsTrue (is_castling_text text w))
     ⊎ ((q : Parts) × AreParts q × (unmarked text ≡ parts_text q) × IsTrue (is_form q))
 
--- what `shape` finds by the list of all parts is what `IsShaped` says without it
+-- a text has the shape of a move by `shape`, which tries all descriptions of moves, if and only if it has by
+-- `IsShaped`, which tries none: it denotes castling, or is the text of parts in one of the forms of a move's text
 abbrev pub ShapedByText : Type 0
 ShapedByText = (text : List ℕ) → IsTrue (shape text) ↔ IsShaped text

@@ -23,7 +23,8 @@ normal_moves p = filter (λ m. normal_is_legal p m) all_triples
 
 -- ---- read
 
--- the description of a move: castling is the king's move of two squares
+-- move m of position p, as far as a text can describe it: its piece, squares and promotion, whether it captures, and
+-- the side to which it castles (the king's move of two squares); none if no piece is on its start square
 unfoldable pub normal_described : Setup → Move → Option Described
 normal_described p m =
     option_map (λ x. record {
@@ -35,7 +36,7 @@ normal_described p m =
       castles = normal_castling p m;
     }) (man_at p.men m.from)
 
--- the text denotes move m in position p
+-- the text denotes move m in position p, a position of normal chess: Nf3, Ng1f3 and g1f3 all denote the knight's move
 unfoldable pub normal_spells : Setup → List ℕ → Move → Bool
 normal_spells p text m = passes (spells_described text) (normal_described p m)
 
@@ -62,7 +63,7 @@ unfoldable pub normal_check_mark : Setup → List ℕ
 normal_check_mark p =
     when (is_in_check p.men p.side) (if length (normal_moves p) == 0 then codes "#" else codes "+")
 
--- the text of a legal move, with the mark of the position after it
+-- the SAN of legal move m in position p of normal chess, with `+` or `#` at its end if it gives check or mate
 unfoldable pub normal_san : Setup → Move → List ℕ
 normal_san p m = optional (λ d. unmarked_san (normal_rival_starts p d) d ++ normal_check_mark (normal_after p m))
     (normal_described p m)

@@ -22,84 +22,90 @@ use Rattle.chess_text.specs.ties.Reader.{parts_at}
 abbrev pub promotion_letter : Promotion → ℕ
 promotion_letter p = if p.small then white_letter p.kind + 32 else white_letter p.kind
 
--- what the pawn becomes, after `=` where that is written
+-- a promotion as text: the letter of what the pawn becomes, after `=` if it is written with that: =Q, Q or q
 abbrev pub promotion_text : Promotion → List ℕ
 promotion_text p = when p.equals (byte "=" ∷ []) ++ promotion_letter p ∷ []
 
--- the end square, and what the pawn becomes
+-- the end of a move's text: the end square, and the promotion if there is one: e8=Q
 abbrev pub end_text : End → List ℕ
 end_text e = square_text e.to ++ optional promotion_text e.promotion
 
--- all parts that are there, in this order
+-- the text of the parts that are there, in the order letter, file, rank, `x`, end square, promotion: Ng1xf3, e8=Q
 abbrev pub parts_text : Parts → List ℕ
 parts_text q = optional kind_text q.letter
     ++ (optional file_text q.file ++ (optional rank_text q.rank ++ (when q.takes (byte "x" ∷ []) ++ end_text q.end)))
 
 -- ---- the forms
 
--- if the text names a file or rank, it is this one
+-- a file or rank that the text may name (`told`) is n, or the text names none
 abbrev pub admits : Option ℕ → ℕ → Bool
 admits told n = option_map_or (λ t. t == n) told true
 
--- the text names it
+-- the text names a file or rank (`told`), and it is n
 abbrev pub names : Option ℕ → ℕ → Bool
 names told n = option_map_or (λ t. t == n) told false
 
--- the text names this kind of piece
+-- the text names a kind of piece by its letter (`told`), and it is k
 abbrev pub names_kind : Option Kind → Kind → Bool
 names_kind told k = option_map_or (λ t. same_kind t k) told false
 
--- with a promotion only moves with that promotion are denoted, without one only moves without
+-- the promotion that the text names (`told`) is the move's (`o`): both to the same kind, or both none
 abbrev pub promotes_so : Option Promotion → Option Kind → Bool
 promotes_so told o = option_eq same_kind (option_map (λ t. t.kind) told) o
 
--- the promotion is written with `=`
+-- the text names a promotion (`told`), and writes it with `=`
 abbrev pub has_equals : Option Promotion → Bool
 has_equals told = option_map_or (λ t. t.equals) told false
 
--- any piece from one square to another, castling too; a promotion is written without `=`
+-- the parts q denote move d by its two squares, as g1f3 or e7e8q, castling too (e1g1): no letter, no `x`, and the
+-- promotions agree, which the text writes without `=`
 unfoldable pub is_by_squares : Parts → Described → Bool
 is_by_squares q d =
     is_none q.letter && names q.file (file d.from) && names q.rank (rank d.from) && not q.takes && (q.end.to == d.to)
     && not (has_equals q.end.promotion) && promotes_so q.end.promotion d.promotion
 
--- a piece that is no pawn, not castling; with `x` only a capture
+-- the parts q denote move d, of a piece but a pawn and not castling, by its letter and end square, as Nf3, Ngf3 or
+-- Nxf3. A file or rank that they name is the start square's; with `x` the move is a capture
 unfoldable pub is_by_letter : Parts → Described → Bool
 is_by_letter q d =
     names_kind q.letter d.man && is_none d.castles && admits q.file (file d.from) && admits q.rank (rank d.from)
     && (not q.takes || d.captures) && (q.end.to == d.to) && is_none q.end.promotion
 
--- a pawn that goes straight to the square
+-- the parts q denote move d, a pawn's that stays on its file, by its end square alone, as e4 or e8=Q; the promotions
+-- agree
 unfoldable pub is_straight : Parts → Described → Bool
 is_straight q d =
     is_none q.letter && is_none q.file && is_none q.rank && not q.takes && same_kind Pawn d.man
     && (file d.from == file d.to)
     && (q.end.to == d.to) && promotes_so q.end.promotion d.promotion
 
--- a pawn from the file; with `x` only a capture
+-- the parts q denote move d, a pawn's, by its start file and its end square, as exd5 or exd8=Q. A start rank that they
+-- name is the pawn's, with `x` the move is a capture, and the promotions agree
 unfoldable pub is_from_file : Parts → Described → Bool
 is_from_file q d =
     is_none q.letter && names q.file (file d.from) && admits q.rank (rank d.from) && same_kind Pawn d.man
     && (not q.takes || d.captures) && (q.end.to == d.to) && promotes_so q.end.promotion d.promotion
 
--- the parts fit the move in one of these four forms
+-- the parts q of a text denote move d: by its two squares, by its piece's letter, or as a pawn's, straight to its end
+-- square or from its start file
 unfoldable pub parts_fit : Parts → Described → Bool
 parts_fit q d = is_by_squares q d || is_by_letter q d || is_straight q d || is_from_file q d
 
--- the parts are those of one of these forms: a letter and no promotion, or no letter and a file, or a square alone
+-- the parts can be those of a move's text: a letter and no promotion (Nf3); or no letter, and either a start file
+-- (exd5, e2e4) or the end square alone (e4)
 unfoldable pub is_form : Parts → Bool
 is_form q = if is_some q.letter then is_none q.end.promotion else is_some q.file || (is_none q.rank && not q.takes)
 
 -- ---- by the parts of a text
 
--- without its marks, the text is the text of parts that pass the test
+-- the text, but for the marks (+ # ! ?) at its end, is made of a move's parts, and these parts pass the test
 unfoldable pub has_parts : (Parts → Bool) → List ℕ → Bool
 has_parts test text = passes test (parts_at (unmarked text))
 
--- the text names castling, or its parts are those of a form
+-- the text denotes castling, or its parts can be those of a move's text
 unfoldable pub has_form : List ℕ → Bool
 has_form text = is_castling_text text KingSide || is_castling_text text QueenSide || has_parts is_form text
 
--- the text names the castling, or its parts fit the move that is described
+-- the text denotes the castling that the described move is, or its parts denote the described move
 unfoldable pub fits_text : List ℕ → Described → Bool
 fits_text text d = passes (is_castling_text text) d.castles || has_parts (λ q. parts_fit q d) text

@@ -29,23 +29,26 @@ use Rattle.chess_text.specs.declared.reading.Reading.TheVariants as reads
 use Rattle.chess_text.specs.Moves.{captures, castling_texts, described, passes}
 use Rattle.chess_text.specs.ties.Fitting.{admits, parts_fit, is_form, names}
 
--- the side to which a text without marks denotes castling; none if it denotes none
+-- the side to which a text, already without marks, denotes castling: O-O, 0-0, O-O-O or 0-0-0; none for any other text
 abbrev pub castling_named : List ℕ → Option CastlingSide
 castling_named text =
     if list_any (bytes_eq text) (castling_texts KingSide) then Some KingSide
     else (if list_any (bytes_eq text) (castling_texts QueenSide) then Some QueenSide else None)
 
--- what a text with these parts is read as: the parts, if they are those of a form; else nothing
+-- what a text is read as if it has these parts: the parts, if they can be those of a move's text; `None` if not, or if
+-- it has no parts
 abbrev pub form_of_parts : Option Parts → Option Form
 form_of_parts None = None
 form_of_parts (Some q) = if is_form q then Some (Piece q) else None
 
--- what a text is read as: castling to side w if it denotes that, else its parts, if they are those of a form
+-- what a text is read as: castling to side w if it denotes that (`Some w`), else its parts, if they can be those of a
+-- move's text; else `None`
 abbrev pub form_at : Option CastlingSide → List ℕ → Option Form
 form_at (Some w) text = Some (Castling w)
 form_at None text = form_of_parts (parts_at text)
 
--- what a text is read as before any position is looked at: castling, or parts of a form, or nothing
+-- what a text is read as before any position is looked at: castling, or its parts, such as letter and end square;
+-- `None` if it hasn't the shape of a move
 unfoldable pub form_of : List ℕ → Option Form
 form_of text = form_at (castling_named (unmarked text)) (unmarked text)
 
@@ -80,25 +83,28 @@ end_square (Piece q) p = q.end.to
 abbrev pub spelled_with : Form → Setup → ℕ → ℕ → List (Option Kind) → List Move
 spelled_with form p a b ks = filter (λ m. is_spelled form p m && is_legal p m) (map (triple a b) ks)
 
--- the reading of a text that denotes this move beside those found before
+-- what a text is read as after one more legal move m that it denotes, from the reading so far: m if it was `NoSuch`,
+-- `Ambiguous` if there was a move already (`NotAMove` stays)
 abbrev pub with_move : Reading → Move → Reading
 with_move reads.NoSuch m = reads.Move m
 with_move (reads.Move n) m = reads.Ambiguous
 with_move reads.Ambiguous m = reads.Ambiguous
 with_move reads.NotAMove m = reads.NotAMove
 
--- the same of these moves
+-- what a text is read as after these legal moves that it denotes, from the reading so far (`found`): a single move is
+-- the reading, several are `Ambiguous`
 abbrev pub with_moves : Reading → List Move → Reading
 with_moves found [] = found
 with_moves found (m ∷ ms) = with_moves (with_move found m) ms
 
--- the square on that file and rank, if both are given and on the board
+-- the square on this file and rank, from 0 on, if both are given and below 8; else none
 abbrev pub named_square : Option ℕ → Option ℕ → Option ℕ
 named_square None rank = None
 named_square (Some f) None = None
 named_square (Some f) (Some r) = if nat_lt f 8 && nat_lt r 8 then Some (8 * r + f) else None
 
--- the set w has the start square of each legal move that a text of this form denotes
+-- the set of squares w has at least the start square of each legal move that a text of this form denotes; it may have
+-- others too
 abbrev pub IsStart : Setup → Form → ℕ → Type 0
 IsStart p form w = (m : Move) → is_spelled form p m ≡ Bool.true → is_legal p m ≡ Bool.true → has w m.from ≡ Bool.true
 
@@ -129,16 +135,16 @@ is_spelled_by_pawn q p m =
     if is_none q.file then is_none q.rank && not q.takes && (file m.from == file m.to)
     else names q.file (file m.from) && admits q.rank (rank m.from) && (not q.takes || captures p m)
 
--- the parts q, which denote moves of pieces of kind k alone, denote m, a legal move of such a piece to their end square
--- without a promotion
+-- the parts q, in which only pieces of kind k can be meant, denote m, a legal move of a piece of kind k to their end
+-- square, without a promotion
 abbrev pub is_spelled_of : Parts → Setup → Kind → Move → Bool
 is_spelled_of q p k m = if is_some q.letter then is_spelled_by_letter q p k m else is_spelled_by_pawn q p m
 
--- the move from square a to the end square of the parts q, as a list of one, if they denote it; else the empty list. It
--- is known to be legal, of a piece of kind k, and no promotion
+-- the move from square a to the end square of the parts q, as a list of one, if q denotes it; else the empty list. It
+-- is known that this move is legal, no promotion, and of a piece of kind k
 abbrev pub spelled_start : Parts → Setup → Kind → ℕ → List Move
 spelled_start q p k a = if is_spelled_of q p k (triple a q.end.to None) then triple a q.end.to None ∷ [] else []
 
--- the described move names a promotion only if it is a pawn's
+-- if the described move names a promotion, its piece is a pawn
 abbrev pub promotes_as_a_pawn : Described → Type 0
 promotes_as_a_pawn d = IsTrue (same_kind d.man Pawn || is_none d.promotion)

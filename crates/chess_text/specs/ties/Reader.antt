@@ -9,7 +9,7 @@ use Rattle.chess_text.specs.declared.parts.End.{End}
 use Rattle.chess_text.specs.declared.parts.Promotion.{Promotion}
 use Rattle.chess_base.specs.declared.man.Kind.TheVariants.{King, Queen, Rook, Bishop, Knight}
 
--- the pieces that a letter names
+-- the kinds of piece that a move's text names by a letter: all but the pawn
 abbrev pub lettered_kinds : List Kind
 lettered_kinds = King ∷ Queen ∷ Rook ∷ Bishop ∷ Knight ∷ []
 
@@ -17,7 +17,7 @@ lettered_kinds = King ∷ Queen ∷ Rook ∷ Bishop ∷ Knight ∷ []
 abbrev pub promoted : List Kind
 promoted = Queen ∷ Rook ∷ Bishop ∷ Knight ∷ []
 
--- the one of these kinds whose capital letter is the byte c, if there is one
+-- the one of `kinds` whose capital letter is the byte c, if there is one
 abbrev pub kind_from : List Kind → ℕ → Option Kind
 kind_from kinds c = find (λ k. white_letter k == c) kinds
 
@@ -34,21 +34,22 @@ abbrev pub or_else : {A : Type 0} → Option A → Option A → Option A
 or_else (Some x) o = Some x
 or_else None o = o
 
--- the promotion with the letter c, capital or small, and with `=` before it or not; none if c names no such piece
+-- the promotion to the piece with the letter c, capital or small; `equals` says whether `=` was before it; none if a
+-- pawn can't become such a piece
 abbrev pub promotion_by : Bool → ℕ → Option Promotion
 promotion_by equals c =
     or_else (option_map (λ k. record { kind = k; equals = equals; small = false }) (kind_from promoted c))
     (option_map (λ k. record { kind = k; equals = equals; small = true }) (kind_from promoted (c - 32)))
 
--- what the text after the end square denotes: no promotion if it is empty (`Some None`), else a promotion, and nothing
--- more may follow; none if it is neither
+-- the promotion that the text after the end square denotes (Q, q, =Q or =q): `Some None` if that text is empty, `None`
+-- if it is neither empty nor just a promotion
 abbrev pub promotion_at : List ℕ → Option (Option Promotion)
 promotion_at [] = Some None
 promotion_at (c ∷ []) = option_map Some (promotion_by false c)
 promotion_at (c ∷ d ∷ []) = if c == byte "=" then option_map Some (promotion_by true d) else None
 promotion_at (c ∷ d ∷ e ∷ cs) = None
 
--- the last part of a move's text, if the text left is that: the end square and perhaps a promotion, as e8=Q
+-- the end square and promotion that a text denotes, if it has just these, as e4 or e8=Q; else none
 abbrev pub end_at : List ℕ → Option End
 end_at [] = None
 end_at (f ∷ []) = None
@@ -57,39 +58,42 @@ end_at (f ∷ r ∷ rest) =
     then option_map (λ p. record { to = 8 * (r - byte "1") + (f - byte "a"); promotion = p }) (promotion_at rest)
     else None
 
--- whether the text left begins with `x`, and the last part after it; none if no last part follows
+-- whether a text of the form [x]end, as xd5 or e8=Q, begins with `x`, and its end square and promotion; none for any
+-- other text
 abbrev pub takes_at : List ℕ → Option (Bool × End)
 takes_at [] = None
 takes_at (c ∷ rest) = if c == byte "x" then option_map (λ e. (true, e)) (end_at rest) else option_map (λ e. (false, e))
     (end_at (c ∷ rest))
 
--- the start square's rank, if the text left begins with a rank's digit, and what follows it: `x` or none, and the last
--- part
+-- the parts of a text of the form [rank][x]end, as 1xf3 or f3: the start rank if it is named, whether `x` is there, and
+-- the end square with its promotion; none for any other text
 abbrev pub rank_at : List ℕ → Option (Option ℕ × Bool × End)
 rank_at [] = None
 rank_at (c ∷ rest) =
     if is_rank_digit c then option_map (λ (x : Bool × End). (Some (c - byte "1"), x.0, x.1)) (takes_at rest)
     else option_map (λ (x : Bool × End). (None, x.0, x.1)) (takes_at (c ∷ rest))
 
--- the parts with this letter and start file, and with the rank, the `x` and the last part of x
+-- a move's parts: this letter and this start file, and from x the start rank, whether there is an `x`, and the end
+-- square with its promotion
 abbrev pub with_parts : Option Kind → Option ℕ → Option ℕ × Bool × End → Parts
 with_parts letter file x = record { letter = letter; file = file; rank = x.0; takes = x.1; end = x.2 }
 
--- the parts after a piece's letter. Their first file letter belongs to the end square if the text can be read so (e4),
--- else it is the start square's file (exd5)
+-- the parts of the text after the piece's letter, which is given. Its first file letter belongs to the end square if
+-- the text can be read so (e4), else it is the start file (exd5)
 abbrev pub file_at : Option Kind → List ℕ → Option Parts
 file_at letter [] = None
 file_at letter (c ∷ rest) =
     or_else (option_map (with_parts letter None) (rank_at (c ∷ rest)))
     (if is_file_letter c then option_map (with_parts letter (Some (c - byte "a"))) (rank_at rest) else None)
 
--- the parts of a text of first byte c and the rest: c is a piece's letter if a kind is given, else it belongs to the
--- parts after it
+-- the parts of the text `c ∷ rest`. The first argument is the kind that the letter c names: then c is the piece's
+-- letter; if it is none, c belongs to the squares
 abbrev pub at_letter : Option Kind → ℕ → List ℕ → Option Parts
 at_letter None c rest = file_at None (c ∷ rest)
 at_letter (Some k) c rest = file_at (Some k) rest
 
--- the parts of a move's text without marks; none if it has no such parts
+-- the parts (letter, start file, start rank, `x`, end square, promotion) of a move's text without marks; none if it
+-- isn't made of such parts
 abbrev pub parts_at : List ℕ → Option Parts
 parts_at [] = None
 parts_at (c ∷ rest) = at_letter (kind_from lettered_kinds c) c rest

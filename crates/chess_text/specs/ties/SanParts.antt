@@ -10,31 +10,31 @@ use Rattle.chess_text.specs.declared.parts.End.{End}
 use Rattle.chess_text.specs.declared.parts.Parts.{Parts}
 use Rattle.chess_text.specs.declared.writing.Disambiguation.{Disambiguation}
 
--- one of these squares is on the file
+-- one of these squares is on the file f, 0 for a
 abbrev pub some_on_file : ℕ → List ℕ → Bool
 some_on_file f squares = list_any (λ s. file s == f) squares
 
--- one of these squares is on the rank
+-- one of these squares is on the rank r, 0 for rank 1
 abbrev pub some_on_rank : ℕ → List ℕ → Bool
 some_on_rank r squares = list_any (λ s. rank s == r) squares
 
--- whether the file is written, and whether the rank is
+-- what SAN writes of the start square: its file if f, its rank if r
 abbrev pub distinction : Bool → Bool → Disambiguation
 distinction f r = record { file = f; rank = r }
 
--- what is written of the start square given other starts: nothing where there are none; the file where none is on it;
--- else the rank where none is on it; else both
+-- what SAN writes of the start square `from` beside rivals on other squares: nothing if there are none; its file if no
+-- rival is on it; else its rank if no rival is on it; else both
 abbrev pub disambiguate : ℕ → List ℕ → Disambiguation
 disambiguate from [] = distinction false false
 disambiguate from (other ∷ others) =
     if not (some_on_file (file from) (other ∷ others)) then distinction true false
     else (if not (some_on_rank (rank from) (other ∷ others)) then distinction false true else distinction true true)
 
--- the number, where it is written
+-- the number n if b says that it is written, else none
 abbrev pub if_written : Bool → ℕ → Option ℕ
 if_written b n = if b then Some n else None
 
--- the end square, and `=` with what the pawn becomes
+-- the end of the described move's SAN: the end square, and its promotion with `=` and a capital letter
 abbrev pub end_of : Described → End
 end_of d = record {
   to = d.to;
@@ -42,7 +42,7 @@ end_of d = record {
       d.promotion;
 }
 
--- the parts of the text of a pawn's move: for a capture its file comes first
+-- the parts of the SAN of a pawn's move: the start file and `x` only for a capture, the end square, the promotion
 abbrev pub pawn_parts : Described → Parts
 pawn_parts d = record {
   letter = None;
@@ -52,7 +52,8 @@ pawn_parts d = record {
   end = end_of d;
 }
 
--- and of another piece's, where others of its kind start from these squares and go to the same
+-- the parts of the SAN of a move of another piece than a pawn, not castling; `others` are the start squares of other
+-- pieces of its kind that could legally move to its end square
 abbrev pub lettered_parts : List ℕ → Described → Parts
 lettered_parts others d =
     let start = disambiguate d.from others in
@@ -64,6 +65,7 @@ lettered_parts others d =
       end = end_of d;
     }
 
--- the parts of the text of a move that is not castling
+-- the parts of the SAN of a move that is not castling; `others` are the start squares of other pieces of its kind that
+-- could legally move to its end square
 unfoldable pub piece_parts : List ℕ → Described → Parts
 piece_parts others d = if same_kind d.man Pawn then pawn_parts d else lettered_parts others d

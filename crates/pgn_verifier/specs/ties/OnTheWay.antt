@@ -1,4 +1,5 @@
--- What becomes of verifying on the way: of a text that is read as a whole, and of pieces before their counts are written.
+-- What becomes of verifying on the way: of a text that is read as a whole, and of pieces before their counts are
+-- written.
 use Rattle.std.specs.Prelude.{◌≡◌, ◌<◌, ℕ, true, false, List, length, Result, Ok, Err, ◌≤◌, ◌+◌, Bool}
 use Rattle.std.specs.List.{flat_map, fold}
 use Rattle.byte_devices.specs.Devices.{InputState, OutputState, Took, Sent, BreaksOff}
@@ -39,24 +40,25 @@ WritesCollection options r r' w w' (Ok tally) =
     × (tally ≡ counts_of (collection_reports options.strict true text))
 WritesCollection options r r' w w' (Err fault) = VerifiesCollection options r r' w w' (Err fault)
 
--- the fault, its offset counted from the input's first byte, where its text begins at `start`
+-- the fault with its offset counted from the input's first byte, where the game's text begins at the offset `start`
 abbrev pub moved : ℕ → GameFault → GameFault
 moved start fault = record fault { offset = start + fault.offset }
 
--- the reports on pieces
+-- the reports on the games of these pieces, in order; `strict`: results are compared
 abbrev pub reports_of : Bool → List Piece → List Report
 reports_of strict pieces = flat_map (reports_in strict) pieces
 
--- the counts with these reports
+-- the counts `t` with these reports added: games, their half-moves, and faults
 abbrev pub counted : Tally → List Report → Tally
 counted t reports = fold with_report t reports
 
--- the number of the next game, after these counts
+-- the number of the next game, where `before` counts the reports so far, with and without faults
 abbrev pub next_number : Tally → ℕ
 next_number before = before.games + before.faults + 1
 
--- between the output's states `w` and `w'` the lines of these reports were written, and the reports counted on top of
--- `before`; or a write failed, and a beginning of the lines was written
+-- between the output's states `w` and `w'` the lines of these reports were written, and `after` counts them on top of
+-- `before`, the counts so far; or a write failed, and a beginning of the lines was written. `quiet`: only faults have a
+-- line
 abbrev pub Writes : {E : Type 0} → Bool → Tally → OutputState → OutputState → Result Tally E → List Report → Type 0
 Writes quiet before w w' (Ok after) reports =
     Took w w' (lines_of quiet (next_number before) reports) × (after ≡ counted before reports)
