@@ -82,7 +82,8 @@ over reason m = record m { phase = Over reason }
 abbrev pub enter : Phase → Match → Match
 enter phase m = record m { phase = phase; count = 0 }
 
--- the match when the turn of the side `S` begins: it is sent the last move
+-- the match when the turn of the side `S` begins: the lines that open it are to be sent. They have the last move, so no
+-- move is still to be sent besides
 abbrev pub open_turn : Colour → Match → Match
 open_turn S m = record m { phase = SendTurn S; count = 0; unsent_to = None }
 
@@ -97,7 +98,7 @@ abbrev pub items_of_line : LineKind → List Item
 items_of_line (Features text) = items_of text
 items_of_line _ = []
 
--- the match after a `feature` line of the side `S` with these items
+-- the match after a `feature` line of the side `S` with these items, which are added to those known of its engine
 abbrev pub hear : Colour → List Item → Match → Match
 hear S items m = with_seat S (λ s. record s { items = s.items ++ items }) m
 
@@ -131,7 +132,7 @@ hello_line r S items m =
 
 -- ---- setup
 
--- the match `m'`; but if the board has a verdict, the match `m`, ended by it
+-- the match `m'`; but if there is a verdict of the board (`verdict`), the match `m`, ended by it
 abbrev pub unless_decided : Option Verdict → Match → Match → Match
 unless_decided verdict m m' = option_map_or (λ v. over (Decided v) m) verdict m'
 
@@ -151,15 +152,16 @@ setup_line r S _ m = ignore S m
 abbrev pub clock : Rules → Match → Colour → ℕ
 clock r m S = left r.level (length (seat m S).used) (sum (seat m S).used)
 
--- S's move is played: S's clock is charged, the other's offer lapses, and the move is still to be sent to the other
+-- the side `S` plays this move, which took `used` milliseconds: its clock is charged, the other's offer of a draw
+-- lapses, and the move is still to be sent to the other
 abbrev pub played_by : Colour → Move → ℕ → Match → Match
 played_by S move used m =
     let charged = with_seat S (λ s. record s { used = s.used ++ used ∷ [] }) m in
     let m' = with_seat (other S) (λ s. record s { offers = false }) charged in
     record m' { phase = AwaitPong S; played = m.played ++ move ∷ []; unsent_to = Some (other S) }
 
--- the match after the line `move M` of the side `S`, by the legal move that M denotes: without one `S` loses; else it
--- is played, and a verdict of the board ends the match. `moment` is when the line came
+-- the match after the line `move M` of the side `S`. The option is the legal move that M denotes: without one `S`
+-- loses; else it is played, and a verdict of the board ends the match. `moment` is when the line came
 abbrev pub move_row : Rules → Colour → Option Move → ℕ → Match → Match
 move_row r S None moment m = over (MovesIllegally S) m
 move_row r S (Some move) moment m =
@@ -173,7 +175,7 @@ offer_row S m =
     else if (seat m S).offers then ignore S m
     else with_seat S (λ s. record s { offers = true }) m
 
--- the match after the side `S` sent `1/2-1/2`: a draw, if one may be claimed, else an offer
+-- the match after the side `S` sent `1/2-1/2`: a draw, if one may be claimed (`claim`); else that is an offer of a draw
 abbrev pub draw_row : Option DrawClaim → Colour → Match → Match
 draw_row claim S m = option_map_or (λ c. over (Claimed c) m) claim (offer_row S m)
 

@@ -17,7 +17,7 @@ use Rattle.chess_match.specs.declared.reason.MatchFault.TheVariants.{Ended, Read
 use Rattle.chess_match.specs.declared.reason.Reason.{Reason}
 use Rattle.chess_match.specs.declared.reason.Reason.TheVariants.{Decided, Claimed, Agreed, Resigns, MovesIllegally, MovesOutOfTurn, ClaimsFalsely, RejectsLegalMove, Forfeits, ForfeitsToBareKing, GameTooLong, Faulted}
 
--- what is White's, and what is Black's
+-- of two values, White's and Black's, the one of the side that the last argument names
 abbrev pub by_colour : {A : Type 0} → A → A → Colour → A
 by_colour white black White = white
 by_colour white black Black = black
@@ -35,7 +35,8 @@ abbrev pub claim_comment : DrawClaim → List ℕ
 claim_comment Threefold = codes "Threefold repetition"
 claim_comment FiftyMoves = codes "50-move rule"
 
--- what a comment says of the side whose engine has this fault, after its name: `White has no ping`
+-- what the comment says of an engine with this fault, after the name of its side: ` has no ping`, as in `White has no
+-- ping`
 abbrev pub fault_words : MatchFault → List ℕ
 fault_words Ended = codes " ended its output"
 fault_words Read = codes " can not be read"
@@ -74,7 +75,8 @@ comment_of reason = (reported reason).1
 abbrev pub ended_by : Reason → HowEnded
 ended_by reason = (reported reason).2
 
--- the first fault, and whose it is: that of the end, else of the end lines, where White's come first
+-- the first fault of a match that ended for this reason, and whose it is: the one that ended it, if one did; else a
+-- write of the last lines that failed (`failed` says to which side), White's before Black's
 abbrev pub first_fault : Reason → (Colour → Bool) → Option (Colour × MatchFault)
 first_fault (Faulted c f) failed = Some (c, f)
 first_fault _ failed = if failed White then Some (White, Write) else if failed Black then Some (Black, Write) else None
