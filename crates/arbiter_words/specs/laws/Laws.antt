@@ -16,11 +16,13 @@ command_name (Verify v) = codes "verify"
 command_name (Stub words) = codes "stub"
 command_name (Match plan) = codes "match"
 
--- each plan is asked for by the subcommand of its kind
+-- each plan is asked for by the subcommand of its kind (`session`, `verify`, `stub` or `match`); `p` is the
+-- subcommand's name and its options as matched
 abbrev pub PlansAreNamed : Type 0
 PlansAreNamed = (p : Text × List Row) (plan : Plan) → IsPlanOf p plan → p.0 ≡ command_name plan
 
--- a plan to verify has the flags that were given; `p` is the subcommand's name and its options as matched
+-- whenever arguments ask for verifying, the plan has just the flags that were given; `p` is the subcommand's name and
+-- its options as matched
 abbrev pub VerifyIsAsAsked : Type 0
 VerifyIsAsAsked = (p : Text × List Row) (v : VerifyPlan) → IsPlanOf p (Verify v) → v ≡ verify_plan_of p.1
 
@@ -34,10 +36,10 @@ pub record AskFor (words : List Text) (name : Text) : Type 0 where
 abbrev pub AreRefused : List Text → Kinds → Type 0
 AreRefused words kinds = (names : Lent) → faults_in names words ≡ kinds
 
--- what `verify` does without flags
+-- the plan of `verify` without flags
 abbrev pub bare_plan : VerifyPlan
 bare_plan = record { keep_going = false; quiet = false; strict = false }
 
--- these arguments ask for what `verify` does without flags
+-- the options of these arguments make the plan of `verify` without flags
 abbrev pub VerifyAsBare : List Text → Type 0
 VerifyAsBare words = (names : Lent) → verify_plan_of (asked names words).1 ≡ bare_plan
