@@ -36,11 +36,12 @@ ignored_commands =
     ∷ codes "post" ∷ codes "nopost" ∷ codes "?" ∷ codes "computer" ∷ codes "name" ∷ codes "rating" ∷ codes "ics"
     ∷ codes "draw" ∷ codes "level" ∷ codes "st" ∷ codes "sd" ∷ codes "time" ∷ codes "otim" ∷ []
 
--- the word is the name of one of these
+-- whether a word is the name of a command that an arbiter accepts and ignores, such as `xboard` or `time`
 unfoldable pub is_ignored : List ℕ → Bool
 is_ignored word = list_any (bytes_eq word) ignored_commands
 
--- all other commands by their names, with this argument: `usermove` needs a move, `ping` and `protover` need a number
+-- all commands that are not ignored, by their names; `argument` is what follows the name: `usermove` needs a move,
+-- `ping` and `protover` need a number
 abbrev pub commands : List ℕ → List (List ℕ × Command)
 commands argument =
     (codes "new", New) ∷ (codes "setboard", SetBoard)
@@ -58,7 +59,8 @@ named_command word argument =
     if bytes_eq word [] || is_ignored word then Some Silent
     else option_map (λ c. c.1) (find (λ c. bytes_eq word c.0) (commands argument))
 
--- what a line with this text commands; where its first word is no command's name, it may have a move's shape
+-- what a line with this text commands: what its first word names; if that is no command's name, a move if the text has
+-- the shape of one, else nothing that is known
 unfoldable pub command_of : List ℕ → Command
 command_of text =
     unwrap_or (named_command (word_of text) (argument_of text)) (if shape text then BareMove else Unknown)

@@ -38,7 +38,7 @@ abbrev pub item_read : Option (Item × Bor (List ℕ)) → Option (items.Item ×
 item_read None = None
 item_read (Some p) = Some (item_seen p.0, p.1.now)
 
--- what an engine takes, by the items of its `feature` lines
+-- which features an engine has on, by all items of its `feature` lines so far
 unfoldable pub features_of : List items.Item → Taken
 features_of said = record {
   ping = takes (codes "ping") said;
