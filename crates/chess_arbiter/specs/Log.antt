@@ -50,8 +50,8 @@ ends_line at_start text = fold (λ before b. b == new_line) at_start text
 
 -- ---- notes
 
--- what is logged of a note in the state `s`: `<` marks what an engine sends, `>` what it is sent, and `!` all else, at
--- the time of the last event before it. `first` is the side of the engine of `--white`
+-- what is logged of a note; `s` has the time of the last event before it. `<` marks what an engine sends, `>` what it
+-- is sent, and `!` all else. `first` is the side of the engine of `--white`
 abbrev pub note_text : Colour → LogState → Note → List ℕ
 note_text first s (Happened (Line c (Some text) now)) = log_line now (byte "<") (same_colour c first) text
 note_text first s (Happened (Line c None now)) = log_line now (byte "!") (same_colour c first) (codes "line too long")

@@ -60,8 +60,8 @@ RanSession r r' w w' status =
 abbrev pub options_of : VerifyPlan → VerifyOptions
 options_of plan = record { quiet = plan.quiet; strict = plan.strict }
 
--- what verifying a PGN text does, by the flag `--keep-going`: with it piece by piece, each fault reported, else as one
--- text up to its first fault
+-- what verifying the input's PGN does, by the flag `--keep-going`: with it (true) piece by piece, so that a fault ends
+-- only its piece; else as one text up to its first fault
 abbrev pub VerifiesAs : Bool → VerifyOptions → InputState → InputState → OutputState → OutputState
     → Result Verified VerifyFault → Type 0
 VerifiesAs true = VerifiesCollection
@@ -72,8 +72,8 @@ abbrev pub verify_status : Result Verified VerifyFault → ℕ
 verify_status (Ok EachGame) = 0
 verify_status _ = 1
 
--- the input's games were verified as the flags of the plan ask, and the exit status `status` is 0 if no fault was found
--- or met, else 1. `r` and `w` are input and output before, `r'` and `w'` after
+-- the input's games were verified as the flags of the plan ask, and the exit status `status` is 0 if all was verified
+-- and no game has a fault, else 1. `r` and `w` are input and output before, `r'` and `w'` after
 abbrev pub RanVerify : VerifyPlan → InputState → InputState → OutputState → OutputState → ℕ → Type 0
 RanVerify plan r r' w w' status = (outcome : Result Verified VerifyFault)
     × VerifiesAs plan.keep_going (options_of plan) r r' w w' outcome × (status ≡ verify_status outcome)

@@ -60,8 +60,8 @@ abbrev pub FirstOfKnown : InputState → List LineSeen → Type 0
 FirstOfKnown r ls = IfSome r.known_bytes (λ xs. (after : List LineSeen) × (lines COMMAND_LEN xs ≡ ls ++ after))
 
 -- the run `t`, of a server that began in the state `s`, ended at `line`; the lines read `before` were answered and did
--- not end it, those `after` were left. `on_demand`: all lines that were whole before the last read, of `last_len`
--- bytes, were answered before that read
+-- not end it, those `after` were left. `on_demand`: the lines that were whole before the last read, of `last_len`
+-- bytes, are all among those `before`
 pub record EndsAt {S : Type 0} (respond : Server S) (s : S) (t : Transcript) (last_len : ℕ) (before : List LineSeen)
     (line : LineSeen) (after : List LineSeen) : Type 0 where
   pub lines : lines_read t ≡ before ++ line ∷ after

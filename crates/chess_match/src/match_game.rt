@@ -38,16 +38,16 @@ pub(crate) trait MatchGame {
     fn has_start(&self) -> bool
         ensures { (r : Rules) → plays self.now r → result ≡ is_some r.start_fen };
 
-    /// The variant.
+    /// The variant of the game: normal chess or Chess960.
     fn variant(&self) -> Variant
         ensures { (r : Rules) → plays self.now r → result ≡ r.variant };
 
-    /// Whether the game has as many half-moves as its limit allows.
+    /// Whether the game has as many half-moves as its limit allows, so that no move can be played any more.
     fn is_full(&self) -> bool
         ensures value { (r : Rules) → plays self.now r → result ≡ nat_le r.limit (length (played self.now)) }
         ensures few { result ≡ false → length (played self.now) < MOST_MOVES };
 
-    /// The one legal move that a text denotes now.
+    /// The one legal move that a text denotes in the current position; `None` if it denotes none, or more than one.
     fn reading(&self, text: &[u8]) -> Option<Move>
         ensures { (r : Rules) → plays self.now r → result ≡ r.reading (played self.now) text.now };
 

@@ -37,21 +37,21 @@ abbrev pub is_apart : List ℕ → Bool
 is_apart [] = true
 is_apart (c ∷ cs) = is_blank c
 
--- the item with this name, whose value is at the front of `rest`, and the text after it and the spaces and tabs that
--- follow; `None` if the value is malformed
+-- the item with this name, whose value is at the front of `rest`, and what follows it, without the spaces and tabs
+-- between; `None` if the value is malformed
 abbrev pub with_value : List ℕ → List ℕ → Option (Item × List ℕ)
 with_value name rest =
     option_and_then (λ (p : Value × List ℕ). if is_apart p.1 then Some
     (record { name = name; value = p.0 }, without_front_blanks p.1) else None) (value_of rest)
 
--- the item whose name is the first text and whose `=` and value are at the front of the second, and the text after it;
--- `None` if the name is empty, or `=` or the value is malformed
+-- the item whose name is the first text and whose `=` and value are at the front of the second, and what follows it,
+-- without the spaces and tabs between; `None` if the name is empty, or `=` or the value is malformed
 abbrev pub with_name : List ℕ → List ℕ → Option (Item × List ℕ)
 with_name (n ∷ ns) (c ∷ cs) = if c == byte "=" then with_value (n ∷ ns) cs else None
 with_name _ _ = None
 
--- the item at a text's front, such as `ping=1` or `myname="Sjeng"`, and the text after it and the spaces and tabs that
--- follow; `None` if it is malformed
+-- the item at a text's front, such as `ping=1` or `myname="Sjeng"`, and what follows it, without the spaces and tabs
+-- between; `None` if it is malformed
 unfoldable pub item_of : List ℕ → Option (Item × List ℕ)
 item_of text = with_name (take_while is_name_byte text) (drop (prefix_len is_name_byte text) text)
 

@@ -51,7 +51,7 @@ level_of text =
 abbrev pub two_digits : ℕ → List ℕ
 two_digits n = (byte "0" + n / 10) ∷ (byte "0" + n % 10) ∷ []
 
--- a base time of so many seconds as it is written: minutes, and seconds if there are any, such as `5` or `0:30`
+-- a base time, given in seconds, as it is written: minutes, and seconds if there are any, such as `5` or `0:30`
 abbrev pub base_text : ℕ → List ℕ
 base_text base = if base % 60 == 0 then decimal (base / 60) else decimal (base / 60)
     ++ (codes ":" ++ two_digits (base % 60))
