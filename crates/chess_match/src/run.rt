@@ -212,7 +212,8 @@ pub(crate) enum Awaited {
     Nothing(Reason),
 }
 
-// What a match in this phase waits for.
+// What a match in this phase waits for: a line of a side's engine, the moment at the end of a turn's opening, or
+// nothing.
 fn awaited_in(phase: Phase) -> Awaited
     ensures { IsAwaited phase result }
 {
@@ -382,9 +383,9 @@ fn send_in_turn<W: Output, L: Witness, G: MatchGame>(
     (false, false)
 }
 
-// Sends both sides their lines of an event: that of the event (`side`) first, but at the end White first. A write that
-// fails ends the match. `blocks.own` already has the answers to the items of the event's line; `given` says what else
-// is sent.
+// Sends both sides their lines of an event: the engine of `side`, which the event is about, first; at the end White
+// first. A write that fails ends the match. `blocks.own` already has the answers to the items of the event's line;
+// `given` says what else is sent. Returns to which sides a write failed.
 fn deliver<W: Output, L: Witness, G: MatchGame>(
     white: &mut W,
     black: &mut W,
@@ -454,14 +455,14 @@ fn deliver<W: Output, L: Witness, G: MatchGame>(
     }
 }
 
-// Whether a line counts: `\n` ended it. What comes after the last `\n` is the end of the output.
+// Whether a line is read as one: `\n` ended it. What comes after the last `\n` counts as the end of the output.
 fn is_parsed(line: &Line<ENGINE_LINE_LEN>) -> bool
     ensures { result ≡ line.now.ended }
 {
     line.is_ended()
 }
 
-// The kind of an engine's line; one that is too long is ignored.
+// What an engine says by this line, by its first words; a line that is too long is one that is ignored (`Other`).
 fn said(line: &Line<ENGINE_LINE_LEN>) -> EngineLine<'_>
     ensures said { seen result ≡ line_kind (text_read line.now) }
     ensures short { (text : List ℕ) → seen result ≡ Features text → length text ≤ ENGINE_LINE_LEN }
@@ -503,9 +504,9 @@ fn hear_line<M: Moments, L: Witness, G: MatchGame>(
     core.line(game, said(line), moment, block)
 }
 
-// Takes what reading the next line of this side's engine gave: a line, which is in `line`, if `heard` is `Ok(true)`;
-// else the end of its output, or a fault, which ends the match. Returns what is to be sent; the answers to the line's
-// items go to `block`, which must be empty.
+// Takes what reading the next line of this side's engine gave (`heard`): the line in `line`, if there was one and `\n`
+// ended it; else the end of its output or a fault, which end the match. Returns what is to be sent; the answers to the
+// line's items go to `block`, which must be empty.
 fn hear<M: Moments, L: Witness, G: MatchGame>(
     core: &mut MatchState,
     moments: &mut M,

@@ -20,7 +20,7 @@ use chess_base::{Colour, Variant};
 use engine_lines::{Features, is_known, next_item};
 
 impl MatchState {
-    // The features of this side's engine.
+    // The features that this side's engine has on.
     fn features(&self, side: Colour) -> Features
         ensures { result ≡ (player self.now side).features }
     {

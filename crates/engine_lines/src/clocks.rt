@@ -65,7 +65,7 @@ impl Clocks {
         self.level
     }
 
-    /// How many moves this side made.
+    /// How many moves this side has made.
     pub fn moves(&self, side: Colour) -> u32
         ensures value { result ≡ (spent_by self.now side).moves }
         ensures few { result ≤ MOST_MOVES }
