@@ -108,7 +108,8 @@ impl Pending {
         }
     }
 
-    // Logs a byte.
+    // Logs a byte: it waits with those of its line, and all are written and flushed when the line ends or there is no
+    // room for more.
     fn add<E: Output>(&mut self, output: &mut E, byte: u8)
         ensures { Adds (E.seen output.old) (E.seen output.new) self.old self.new (byte ∷ []) }
     {
@@ -117,7 +118,7 @@ impl Pending {
         self.end_line(output, byte);
     }
 
-    // Logs a text.
+    // Logs a text, byte by byte.
     fn add_text<E: Output>(&mut self, output: &mut E, text: &[u8])
         ensures { Adds (E.seen output.old) (E.seen output.new) self.old self.new text.now }
     {
@@ -135,7 +136,7 @@ impl Pending {
         }
     }
 
-    // Logs a number.
+    // Logs a number in decimal.
     fn add_number<E: Output>(&mut self, output: &mut E, number: u64)
         ensures { Adds (E.seen output.old) (E.seen output.new) self.old self.new (decimal number) }
     {
@@ -189,8 +190,8 @@ impl Pending {
         self.add_line(output, moment, b'<', is_first, line.text());
     }
 
-    // Logs what a line begins with, such as `312 >first : `, if the log is at the start of one; `is_first`: the engine
-    // is that of `--white`.
+    // Logs what a line of bytes sent begins with, such as `312 >first : `, if the log is at the start of a line.
+    // `is_first`: the engine is that of `--white`.
     fn add_head_if<E: Output>(&mut self, output: &mut E, state: LogState, is_first: bool)
         ensures { Adds (E.seen output.old) (E.seen output.new) self.old self.new
             (if state.at_start then head state.moment (letter ">") is_first else []) }
@@ -200,8 +201,8 @@ impl Pending {
         }
     }
 
-    // Logs a byte that an engine is sent, after what a line begins with if it begins one; `is_first`: the engine is
-    // that of `--white`.
+    // Logs a byte that an engine is sent; before it what a line begins with (`312 >first : `), if the log is at the
+    // start of one. `is_first`: the engine is that of `--white`.
     fn add_given_byte<E: Output>(
         &mut self,
         output: &mut E,
@@ -217,8 +218,8 @@ impl Pending {
         self.add(output, given_byte(byte));
     }
 
-    // Logs bytes that an engine is sent, and returns the log's state after them; `is_first`: the engine is that of
-    // `--white`.
+    // Logs bytes that an engine is sent, each line as `312 >first : e2e4`, and returns the log's state after them.
+    // `is_first`: the engine is that of `--white`.
     fn add_given<E: Output>(
         &mut self,
         output: &mut E,
@@ -246,14 +247,14 @@ impl Pending {
     }
 }
 
-// A byte that an engine is sent, as the log shows it.
+// A byte that an engine is sent as the log shows it: `\n` as it is, `?` for what else is no printable ASCII.
 fn given_byte(byte: u8) -> u8
     ensures { result ≡ (if byte == new_line then new_line else shown byte) }
 {
     if byte == b'\n' { byte } else { shown(byte) }
 }
 
-// How the log names an engine; `is_first`: it is that of `--white`.
+// How the log names an engine: `first : ` for that of `--white` (`is_first`), `second: ` for the other.
 fn engine_text(is_first: bool) -> &'static [u8]
     ensures { result.now ≡ engine_text is_first }
 {
@@ -310,7 +311,7 @@ impl<E: Output> Log<E> {
         output
     }
 
-    // Begins the log of a game in which the first engine has this side.
+    // Begins the log of a game in which the first engine, that of `--white`, has the side `first`.
     fn begin(&mut self, first: Colour)
         ensures log { IsLog first
             (log_seen (E.seen self.old.output) self.old.pending)
@@ -321,7 +322,7 @@ impl<E: Output> Log<E> {
         self.first = first;
     }
 
-    // Writes and flushes the bytes that wait.
+    // Writes and flushes the bytes that still wait, at the end of a game.
     fn finish(&mut self)
         ensures adds { Adds (E.seen self.old.output) (E.seen self.new.output) self.old.pending self.new.pending [] }
         ensures nothing { self.new.pending.bytes.items ≡ [] }
@@ -331,7 +332,8 @@ impl<E: Output> Log<E> {
         self.pending.flush_pending(&mut self.output);
     }
 
-    // Logs a line `312 !first : output ended`, at the time of the last event; `side` is the engine's.
+    // Logs a line such as `312 !first : output ended`, with this text, at the time of the last event; `side` is the
+    // engine's.
     fn note(&mut self, side: Colour, text: &[u8])
         ensures adds { Adds (E.seen self.old.output) (E.seen self.new.output) self.old.pending self.new.pending
             (log_line self.old.state.moment (letter "!") (same_colour side self.old.first) text.now) }
@@ -366,7 +368,7 @@ impl<E: Output> Witness for Log<E> {
         };
     }
 
-    // Keeps the time: the lines that opened the turn were logged before.
+    // Keeps the time for the lines that follow, and logs nothing: the lines that opened the turn were logged before.
     fn opened(&mut self, _side: Colour, moment: u64) {
         self.state.moment = moment;
     }

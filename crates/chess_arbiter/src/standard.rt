@@ -21,7 +21,7 @@ fn words_of(rt: &HostRuntime) -> io::Result<Vec<String>> {
     Ok(words)
 }
 
-// Runs the program on the standard streams, and returns its exit status.
+// Runs the program on the arguments and the standard streams of this process, and returns its exit status.
 fn status_of(rt: &HostRuntime) -> io::Result<u8> {
     let owned = words_of(rt)?;
     let mut words = Vec::new(rt.alloc());

@@ -60,7 +60,7 @@ result_line o comment = joined_line (result_text o comment) []
 abbrev pub verdict_line : Option Verdict → List ℕ
 verdict_line verdict = option_map_or (λ v. result_line (verdict_outcome v) (verdict_comment v)) verdict []
 
--- the game becomes `s`, and the board's verdict on it is answered, if there is one
+-- the game becomes `s`, and the answer is the board's verdict on it, if there is one
 abbrev pub becomes_judged : State → Response State
 becomes_judged s = says s (verdict_line (verdict_now s))
 
@@ -81,8 +81,8 @@ fen_fault_name Pawns = codes "pawns"
 fen_fault_name Men = codes "men"
 fen_fault_name Check = codes "check"
 
--- the answer to `setboard`, by how its FEN was read: the game starts anew from that position, and the board's verdict
--- on it is answered, if there is one; or the FEN's fault is, as `tellusererror Illegal position (kings)`
+-- the answer to `setboard`, by how its FEN was read: the game starts anew from that position, and the answer is the
+-- board's verdict on it, if there is one; or the FEN's fault is, as `tellusererror Illegal position (kings)`
 abbrev pub setboard_row : State → Result Setup FenFault → Response State
 setboard_row s (Ok start) = becomes_judged (from_start start)
 setboard_row s (Err fault) = refuses s (codes "tellusererror Illegal position (") (fen_fault_name fault ++ codes ")")

@@ -8,7 +8,7 @@ ghost use Rattle.chess_cecp.specs.Declaring.{result_comment, read_result, claims
 use crate::command::{argument, first_word};
 use chess_game::{Claims, Comment, Declared, Outcome};
 
-// The outcome that a word denotes.
+// The outcome that a word such as `1-0` denotes; `None` for any other word.
 fn outcome_of(word: &[u8]) -> Option<Outcome>
     ensures { result ≡ outcome_of word.now }
 {
@@ -21,7 +21,8 @@ fn outcome_of(word: &[u8]) -> Option<Outcome>
     }
 }
 
-// The comment after the outcome of `result`: the text within braces, or empty; `None` for any other text.
+// The comment after the outcome of `result`: of `{White resigns}` the text within the braces, of an empty text the
+// empty comment; `None` for any other text.
 #[tactic(auto, unfolding(crate::specs::Declaring::result_comment))]
 fn result_comment(text: &[u8]) -> Option<&[u8]>
     ensures { option_map (λ c. c.now) result ≡ result_comment text.now }
@@ -52,7 +53,7 @@ pub(crate) fn read_result(text: &[u8]) -> Option<Declared>
     }
 }
 
-// The draws that can be claimed, as `showstate` writes them.
+// Which draws can be claimed, as `showstate` writes it: `threefold+50`, `threefold`, `50` or `none`.
 pub(crate) fn claims_text(claims: Claims) -> &'static [u8]
     ensures value { result.now ≡ claims_text claims }
     ensures short { length result.now ≤ 12 }

@@ -25,12 +25,12 @@ use Rattle.chess_cecp.specs.Session.{says, refuses, becomes, verdict_line, fen_f
 use Rattle.chess_cecp.specs.laws.NormalGame.{normal_initial, normal_current, normal_rep, normal_claims, normal_verdict_now, normal_is_over}
 use Rattle.chess_cecp.specs.laws.NormalPgn.{normal_pgn}
 
--- the game becomes `s`, and the board's verdict on it is answered, if there is one; without Chess960
+-- the game becomes `s`, and the answer is the board's verdict on it, if there is one; without Chess960
 abbrev pub normal_becomes_judged : State → Response State
 normal_becomes_judged s = says s (verdict_line (normal_verdict_now s))
 
--- the answer to `setboard`, by how its FEN was read: the game starts anew from that position, and the verdict on it is
--- answered; or the FEN's fault is; without Chess960
+-- the answer to `setboard`, by how its FEN was read: the game starts anew from that position, and the answer is the
+-- verdict on it, if there is one; or the FEN's fault is; without Chess960
 abbrev pub normal_setboard_row : State → Result Setup FenFault → Response State
 normal_setboard_row s (Ok start) = normal_becomes_judged (from_start start)
 normal_setboard_row s (Err fault) =
