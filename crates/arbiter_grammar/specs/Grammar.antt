@@ -8,11 +8,11 @@ use Rattle.clap.specs.declared.parser.matches.ArgMatches.{ArgMatches}
 use Rattle.clap.specs.declared.builder.value_parser.ValueParser.TheVariants.{Names, Unsigned}
 use Rattle.clap.specs.declared.builder.action.ArgAction.TheVariants.{Append, SetTrue}
 
--- `--NAME TEXT`: an option that takes a text
+-- the option `--NAME TEXT` with this name, which takes a text
 abbrev pub option_rule : Text → Rule
 option_rule name = record (new_rule name) { long = Some name; value_names = 1 }
 
--- `--NAME`: an option that takes no text
+-- the option `--NAME` with this name, which takes no text
 abbrev pub flag_rule : Text → Rule
 flag_rule name = record (new_rule name) { long = Some name; action = Some SetTrue }
 
@@ -20,7 +20,7 @@ flag_rule name = record (new_rule name) { long = Some name; action = Some SetTru
 abbrev pub needed : Rule → Rule
 needed r = record r { required = true }
 
--- `--games N`, with N from 1 to 1,000
+-- the option `--games N`, where N is a number from 1 to 1,000
 abbrev pub games_rule : Rule
 games_rule = record (option_rule (codes "games")) { parser = Some (Unsigned 1 1000) }
 
@@ -44,7 +44,7 @@ match_app names = fold with_rule (new_app (codes "match")) (
     ∷ option_rule (codes "fen") ∷ games_rule ∷ option_rule (codes "date") ∷ variant_rule names
     ∷ flag_rule (codes "log") ∷ [])
 
--- the subcommand `verify` with its flags
+-- the subcommand `verify` with its flags `--keep-going`, `--quiet` and `--strict`
 abbrev pub verify_app : App
 verify_app = fold with_rule (new_app (codes "verify"))
     (flag_rule (codes "keep-going") ∷ flag_rule (codes "quiet") ∷ flag_rule (codes "strict") ∷ [])

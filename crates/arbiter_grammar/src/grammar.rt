@@ -163,7 +163,7 @@ fn variant_option<'a>(alloc: Global) -> Arg<'a>
     .value_parser(VARIANTS.as_slice())
 }
 
-// The subcommand `match` with its options.
+// The subcommand `match` with its options, of which `--white` and `--black` must be given.
 fn match_command<'a>(alloc: Global) -> Result<Command<'a>, AllocError>
     ensures app { IfOk result (λ c. GivesMatchApp (app_of c)) }
     ensures local { IfOk result (λ c. (fields_of c).has_globals ≡ false) }
@@ -208,7 +208,7 @@ fn match_command<'a>(alloc: Global) -> Result<Command<'a>, AllocError>
     ))
 }
 
-// The subcommand `verify` with its flags.
+// The subcommand `verify` with its flags `--keep-going`, `--quiet` and `--strict`.
 fn verify_command<'a>(alloc: Global) -> Result<Command<'a>, AllocError>
     ensures app { IfOk result (λ c. app_of c ≡ verify_app) }
     ensures local { IfOk result (λ c. (fields_of c).has_globals ≡ false) }
@@ -250,7 +250,8 @@ fn stub_command<'a>(alloc: Global) -> Result<Command<'a>, AllocError>
     .arg(words)
 }
 
-// The whole grammar: the program with its subcommands.
+// The whole grammar of the command line: the program `arbiter` with the subcommands `session`, `verify`, `stub` and
+// `match`.
 pub(crate) fn arbiter_command<'a>(alloc: Global) -> Result<Command<'a>, AllocError>
     ensures { IfOk result (λ c. GivesArbiterApp (app_of c)) }
 {

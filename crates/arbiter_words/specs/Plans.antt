@@ -23,7 +23,7 @@ use Rattle.engine_lines.specs.Levels.{LevelSeen, level_of}
 
 -- ---- what is asked for, as written
 
--- the value that an option was given, else its default. `rows` are the options, each with its values, as `clap`
+-- the value that the option `name` was given, else `default`. `rows` are the options, each with its values, as `clap`
 -- matched them
 abbrev pub text_or : Text → List Row → Text → Text
 text_or name rows default = unwrap_or (first_of name rows) default

@@ -194,7 +194,7 @@ fn run(rt: &HostRuntime) -> io::Result<ExitCode> {
     }
 }
 
-// Runs the benchmark that the arguments name.
+// Measures what the arguments ask for.
 fn main(rt: HostRuntime) -> io::Result<ExitCode> {
     run(&rt)
 }

@@ -25,7 +25,7 @@ impl Moments for Standing {
 
     ghost coming = { λ m n. None };
 
-    // Always 0, so that no time is used.
+    // Reads the clock: it is always 0, so that no move takes any time.
     fn now(&mut self) -> u64 {
         0
     }
@@ -36,8 +36,8 @@ fn next_random(number: u32) -> u32 {
     number.wrapping_mul(1_664_525).wrapping_add(1_013_904_223)
 }
 
-// Whether a move is likely to keep the game going: it captures nothing, and moves a pawn only if none was moved for
-// twenty half-moves.
+// Whether a move is likely to keep the game going: it captures nothing, and it is a pawn's if and only if the halfmove
+// clock is above 20.
 fn goes_on(setup: &Setup, m: Move) -> bool {
     let man = setup.men[m.from.index()];
     let is_pawn = man.is_some_and(|man| man.kind == Kind::Pawn);
@@ -115,7 +115,8 @@ pub fn write_script<B: Board>(
     Ok(script)
 }
 
-/// Plays a match between two engines that send these lines, in reads of 4,096 bytes, and returns its half-moves.
+/// Plays a game between two engines that send the lines of `script`, read 4,096 bytes at a time, and returns how many
+/// half-moves it has.
 pub fn relay<B: Board>(alloc: Global, script: &Script, level: Level, game: &mut Game<B>) -> usize {
     let mut white = Ends {
         reader: Counted::reading(PieceReader::new(script.white.as_slice(), 4096, 0)),

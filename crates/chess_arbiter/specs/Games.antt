@@ -35,7 +35,7 @@ first_side number = if number % 2 == 1 then White else Black
 abbrev pub command_of : MatchPlan → ℕ → Colour → List ℕ
 command_of plan number side = if same_colour side (first_side number) then plan.white.now else plan.black.now
 
--- an engine's name in the tags: the one that it gave itself (`myname`), or its command if it gave none
+-- an engine's name in the tags: the one that it gave itself by `myname` (`name`), or its command if that is empty
 abbrev pub name_of : List ℕ → List ℕ → List ℕ
 name_of name command = cut_tag (if length name == 0 then command else name)
 

@@ -69,7 +69,8 @@ after_note s (Happened (Opened c now)) = record s { moment = now }
 after_note s (Happened _) = record s { at_start = true }
 after_note s (Gives c text) = record s { at_start = ends_line s.at_start text }
 
--- what is logged of these notes, from the state `s` on; `first` is the side of the engine of `--white`
+-- what is logged of these notes, one after another, if the log's state is `s` before them; `first` is the side of the
+-- engine of `--white`
 abbrev pub log_from : Colour → LogState → List Note → List ℕ
 log_from first s [] = []
 log_from first s (n ∷ notes) = note_text first s n ++ log_from first (after_note s n) notes

@@ -34,7 +34,8 @@ says s text = record { text = text; state = s; ends = false }
 
 -- ---- a turn
 
--- what the stub sends for the argument `offer` or `claim`, which may follow a move; `None` for any other
+-- the line that the stub sends for the argument `offer` (`offer draw`) or `claim` (a claim of a draw), which may follow
+-- a move; `None` for any other argument
 abbrev pub remark : List ℕ → Option (List ℕ)
 remark word =
     if bytes_eq word (codes "offer") then Some (codes "offer draw" ++ new_line ∷ [])
@@ -67,7 +68,7 @@ turn (word ∷ words) =
 
 -- ---- a line
 
--- the reply to `protover`
+-- the line that the stub sends in reply to `protover`: its features
 abbrev pub features : List ℕ
 features = codes "feature ping=1 setboard=1 usermove=1 myname=\"stub\" done=1" ++ new_line ∷ []
 

@@ -44,7 +44,7 @@ struct TextOn<'a, W> {
 }
 
 impl<W: Output> fmt::Write for TextOn<'_, W> {
-    // Writes a text, as formatting asks for it.
+    // Writes a text to the output, as formatting asks for it.
     fn write_str(&mut self, text: &str) -> fmt::Result {
         put(self.output, text.as_bytes()).map_err(|_| fmt::Error)
     }

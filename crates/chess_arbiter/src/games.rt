@@ -79,7 +79,7 @@ fn command_of<'a>(plan: &MatchPlan<'a>, number: u32, side: Colour) -> &'a str
     }
 }
 
-// An engine's name in the tags: the one that it gave itself, or its command if it gave none.
+// An engine's name in the tags: the one that it gave itself (`name`), or its command if that is empty.
 fn name_of(name: &TagText, command: &str) -> TagText
     ensures { result ≡ name_of name.now command.now }
 {

@@ -79,7 +79,7 @@ impl Pending {
         }
     }
 
-    // Writes and flushes the bytes that wait.
+    // Writes and flushes the bytes that wait, unless a call on the log failed before; none waits after that.
     fn flush_pending<E: Output>(&mut self, output: &mut E)
         ensures adds { Adds (E.seen output.old) (E.seen output.new) self.old self.new [] }
         ensures empty { array_vec_len self.new.bytes ≡ 0 }
@@ -89,7 +89,7 @@ impl Pending {
         self.bytes.clear();
     }
 
-    // Makes room for a byte: writes and flushes the bytes that wait, if there is none.
+    // Makes room for one more byte: if there is none, writes and flushes the bytes that wait.
     fn make_room<E: Output>(&mut self, output: &mut E)
         ensures adds { Adds (E.seen output.old) (E.seen output.new) self.old self.new [] }
         ensures room { array_vec_len self.new.bytes < 256 }

@@ -72,7 +72,7 @@ fn report_served<E: Output>(
     }
 }
 
-// Runs a session on the input and the output, and returns the exit status.
+// Runs a session on the input and the output, and returns the exit status: 0, or 1 if input, output or memory failed.
 fn session<R: Input, W: Output, E: Output>(
     alloc: Global,
     input: &mut R,
@@ -91,7 +91,8 @@ fn session<R: Input, W: Output, E: Output>(
     status_of(report_served(outcome, errors))
 }
 
-// Runs a stub on the input and the output, and returns the exit status; `words` are its arguments.
+// Runs a stub with the arguments `words` on the input and the output, and returns the exit status: 0, or 1 if input or
+// output failed.
 fn stub<R: Input, W: Output, E: Output>(
     words: &[&str],
     input: &mut R,
@@ -126,7 +127,8 @@ fn options_of(plan: VerifyPlan) -> VerifyOptions
     }
 }
 
-// Verifies the input's games: with `--keep-going` piece by piece, else as one text up to its first fault.
+// Verifies the input's games: with `--keep-going` piece by piece, so that a fault ends only its piece; else as one text
+// up to its first fault.
 fn verify_as<R: Input, W: Output>(
     alloc: Global,
     plan: VerifyPlan,
@@ -174,7 +176,7 @@ fn report_help<E: Output>(
     }
 }
 
-// Writes a text of help to the output, and returns the exit status.
+// Writes the text `help` to the output, and returns the exit status: 0, or 1 if the output or memory failed.
 fn help<W: Output, E: Output, D: Display>(
     alloc: Global,
     help: &D,

@@ -16,7 +16,8 @@ use std::marker::Model;
 // The reply to `protover`.
 const FEATURES: &[u8] = b"feature ping=1 setboard=1 usermove=1 myname=\"stub\" done=1\n";
 
-// What the stub sends for the argument `offer` or `claim`, which may follow a move; `None` for any other.
+// The line that the stub sends for the argument `offer` (`offer draw`) or `claim` (a claim of a draw), which may follow
+// a move; `None` for any other argument.
 fn remark(word: &str) -> Option<&'static [u8]>
     ensures { option_map (λ t. t.now) result ≡ remark word.now }
 {
@@ -275,7 +276,8 @@ impl<'a> Stub<'a> {
 impl<'a> LineServer for Stub<'a> {
     ghost respond = { stub_response };
 
-    // Answers a line, unless it is too long, and flushes.
+    // Obeys the command of a line, unless the line is too long, flushes the writer, and returns whether the stub goes
+    // on.
     #[tactic(auto, unfolding(crate::specs::Stub::stub_response))]
     fn answer_line<W: Output>(
         &mut self,

@@ -24,12 +24,12 @@ abbrev pub short_number : ℕ → List ℕ → Option ℕ
 short_number most text = if nat_lt 0 (length text) && nat_le (length text) most
     && list_all is_digit text then Some (value_after 0 text) else None
 
--- the number that a text of 1 to 9 digits denotes, as in `ping 7`
+-- the number that a text of 1 to 9 digits denotes, as in `ping 7`; `None` for any other text
 unfoldable pub command_number : List ℕ → Option ℕ
 command_number text = short_number 9 text
 
 -- commands to an engine that plays, which an arbiter accepts and ignores: of the protocol, of how the engine is to play
--- (`?` is: at once), of its opponent, who may offer a draw, of the clocks and of the depth
+-- (`?`: it is to move at once), of its opponent, who may offer a draw, of the clocks and of the depth of search
 abbrev pub ignored_commands : List (List ℕ)
 ignored_commands =
     codes "xboard" ∷ codes "accepted" ∷ codes "rejected" ∷ codes "force" ∷ codes "random" ∷ codes "hard" ∷ codes "easy"
@@ -52,8 +52,8 @@ commands argument =
     ∷ (codes "variant", Variant) ∷ (codes "go", Go) ∷ (codes "showfen", ShowFen) ∷ (codes "showmoves", ShowMoves)
     ∷ (codes "showstate", ShowState) ∷ (codes "showpgn", ShowPgn) ∷ (codes "quit", Quit) ∷ []
 
--- the command that a line's first word names, by its argument; `None` if the word is no command's name, as in a bare
--- `e2e4`
+-- the command that a line's first word names, by its argument: `Silent` for one that is ignored and for an empty line;
+-- `None` if the word is no command's name, as in a bare `e2e4`
 unfoldable pub named_command : List ℕ → List ℕ → Option Command
 named_command word argument =
     if bytes_eq word [] || is_ignored word then Some Silent

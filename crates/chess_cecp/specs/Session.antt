@@ -52,7 +52,7 @@ refuses s front text = says s (joined_line front text)
 abbrev pub becomes : State → Response State
 becomes s = says s []
 
--- a result's line, such as `1-0 {White mates}`
+-- the line of a result with its comment, such as `1-0 {White mates}`, with `\n` at its end
 unfoldable pub result_line : Outcome → List ℕ → List ℕ
 result_line o comment = joined_line (result_text o comment) []
 
@@ -87,7 +87,7 @@ abbrev pub setboard_row : State → Result Setup FenFault → Response State
 setboard_row s (Ok start) = becomes_judged (from_start start)
 setboard_row s (Err fault) = refuses s (codes "tellusererror Illegal position (") (fen_fault_name fault ++ codes ")")
 
--- the answer to `protover 2`: the features that an arbiter has
+-- the line that answers `protover 2`: the features that an arbiter has
 unfoldable pub feature_text : List ℕ
 feature_text =
     codes "feature ping=1 setboard=1 playother=0 san=0 usermove=1 time=1 draw=1 sigint=0 sigterm=0 reuse=1 analyze=0 colors=0 debug=1 myname=\"CECP arbiter\" variants=\"normal,fischerandom\" done=1"

@@ -165,7 +165,7 @@ fn write_declared_text(answer: &mut Answer, declared: Option<&Declared>)
     }
 }
 
-// Answers `showstate`, for example with `# state ply 0 rep 1 clock 0 claims none verdict none declared none`.
+// Puts the answer to `showstate` together: `# state ply 0 rep 1 clock 0 claims none verdict none declared none`.
 #[tactic(auto, unfolding(crate::specs::Declaring::state_text))]
 pub(crate) fn write_state<B: Board>(answer: &mut Answer, game: &Game<B>)
     requires { answer.old.items ≡ [] }
@@ -187,7 +187,7 @@ pub(crate) fn write_state<B: Board>(answer: &mut Answer, game: &Game<B>)
     answer.push(b'\n');
 }
 
-// Answers `showmoves`, for example with `# moves 20 b1a3 b1c3 ..`; the moves are those of `position`.
+// Puts the answer to `showmoves` together: `# moves 20 b1a3 b1c3 ..`; the moves are those of `position`.
 #[tactic(auto, unfolding(crate::specs::Session::moves_line))]
 pub(crate) fn write_moves(answer: &mut Answer, position: &Position, moves: &[Move])
     requires few { length moves.now ≤ 896 }

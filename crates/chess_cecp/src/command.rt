@@ -177,8 +177,8 @@ fn is_ignored(word: &[u8]) -> bool
     is_engine_command(word) || is_opponent_or_clock_command(word)
 }
 
-// The command that a line's first word names, by its argument; `None` if the word is no command's name, as in a bare
-// `e2e4`.
+// The command that a line's first word names, by its argument: `Silent` for one that is ignored and for an empty line;
+// `None` if the word is no command's name, as in a bare `e2e4`.
 #[tactic(auto, unfolding(crate::specs::Commands::named_command))]
 pub(crate) fn named_command(word: &[u8], argument: &[u8]) -> Option<Command>
     ensures { result ≡ named_command word.now argument.now }

@@ -53,7 +53,8 @@ pub trait LineServer {
 impl<B: Board> LineServer for Session<B> {
     ghost respond = { session_response };
 
-    // Answers a line as `Session::answer` does.
+    // Answers a line of a session: changes the game, writes the answer, and flushes the writer. Returns whether the
+    // session goes on.
     fn answer_line<W: Output>(
         &mut self,
         line: &Line<COMMAND_LEN>,

@@ -96,7 +96,7 @@ impl<B: Board + Drop> Session<B> {
 }
 
 impl<B: Board> Session<B> {
-    /// The current position: the one that the start and the moves give.
+    /// The current position of the game.
     pub fn position(&self) -> Position
         ensures value { result ≡ current self.now.state }
         ensures playable { IsPlayable (game_held self.now) }

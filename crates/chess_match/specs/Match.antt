@@ -58,12 +58,12 @@ pub record Match : Type 0 where
 abbrev pub seat : Match → Colour → Seat
 seat m S = by_colour m.white m.black S
 
--- the match after a change of what is known of S's engine, with all else as before
+-- the match after `change` changed what is known of the engine of this side, with all else as before
 abbrev pub with_seat : Colour → (Seat → Seat) → Match → Match
 with_seat White change m = record m { white = change m.white }
 with_seat Black change m = record m { black = change m.black }
 
--- nothing is known of an engine yet
+-- what is known of an engine before its first line: nothing
 abbrev pub vacant : Seat
 vacant = record { items = []; used = []; offers = false }
 
@@ -74,11 +74,11 @@ start =
 
 -- ---- ways to go on
 
--- the match ended for this reason
+-- the match `m`, ended for this reason
 abbrev pub over : Reason → Match → Match
 over reason m = record m { phase = Over reason }
 
--- the match in its next phase, in which lines are counted from 0
+-- the match `m` after entering this phase, in which lines are counted from 0
 abbrev pub enter : Phase → Match → Match
 enter phase m = record m { phase = phase; count = 0 }
 
@@ -93,7 +93,7 @@ ignore S m = if nat_le 10000 (m.count + 1) then over (Faulted S Flood) m else re
 
 -- ---- handshake
 
--- the items of a line, if it is a `feature` line
+-- the items of a line of this kind: those of a `feature` line, none of any other
 abbrev pub items_of_line : LineKind → List Item
 items_of_line (Features text) = items_of text
 items_of_line _ = []
@@ -179,7 +179,7 @@ offer_row S m =
 abbrev pub draw_row : Option DrawClaim → Colour → Match → Match
 draw_row claim S m = option_map_or (λ c. over (Claimed c) m) claim (offer_row S m)
 
--- whether the side `S` was ever sent a move: whether the other side has made one
+-- whether the side `S` was ever sent a move, which is so if the other side has made one
 abbrev pub was_sent_move : Match → Colour → Bool
 was_sent_move m S = nat_lt 0 (length (seat m (other S)).used)
 
@@ -200,8 +200,9 @@ before_row r S (Moves text) moment m =
     if nat_le r.limit (length m.played) then over GameTooLong m else move_row r S (r.reading m.played text) moment m
 before_row r S kind moment m = either_way r S kind m
 
--- the match after a line of the side `S`, of which a move is awaited. If `S` used more time than it had left, it
--- loses, but draws against a bare king (Laws of Chess 2023, article 6.9, of whose draws only this one is judged)
+-- the match after a line of the side `S`, of which a move is awaited; `moment` is when it came. If `S` used more time
+-- than it had left, it loses, but draws against a bare king (Laws of Chess 2023, article 6.9, of whose draws only this
+-- one is judged)
 unfoldable pub before_line : Rules → Colour → LineKind → ℕ → Match → Match
 before_line r S kind moment m =
     if nat_lt (clock r m S) (moment - m.opened)
@@ -221,8 +222,8 @@ after_line r S kind m = either_way r S kind m
 
 -- ---- one event
 
--- the match after a line of this kind, by the phase that it is in; while a turn is opened, or at the end, no line is
--- read
+-- the match `m` after a line of this kind that came at `moment`, by the phase that the match is in; while a turn is
+-- opened, or at the end, no line is read
 abbrev pub after_kind : Rules → Phase → LineKind → ℕ → Match → Match
 after_kind r (Hello S) kind moment m = hello_line r S (items_of_line kind) m
 after_kind r (Setup S) kind moment m = setup_line r S kind m
@@ -230,7 +231,7 @@ after_kind r (AwaitMove S) kind moment m = before_line r S kind moment m
 after_kind r (AwaitPong S) kind moment m = after_line r S kind m
 after_kind r _ kind moment m = m
 
--- the match after an event
+-- the match after an event, by the rules `r`, if it is `m` before
 abbrev pub after : Rules → Match → Event → Match
 after r m (Line S text moment) = after_kind r m.phase (line_kind text) moment m
 after r m (Opened S moment) = record m { phase = AwaitMove S; opened = moment }

@@ -22,15 +22,15 @@ abbrev pub by_colour : {A : Type 0} → A → A → Colour → A
 by_colour white black White = white
 by_colour white black Black = black
 
--- a side's name in comments
+-- a side's name in comments, `White` or `Black`
 abbrev pub colour_name : Colour → List ℕ
 colour_name c = by_colour (codes "White") (codes "Black") c
 
--- the outcome if this side wins
+-- the outcome of a game that this side wins
 abbrev pub win_of : Colour → Outcome
 win_of c = by_colour WhiteWins BlackWins c
 
--- the comment on a draw that was claimed
+-- the comment on a draw that was claimed for this reason, such as `50-move rule`
 abbrev pub claim_comment : DrawClaim → List ℕ
 claim_comment Threefold = codes "Threefold repetition"
 claim_comment FiftyMoves = codes "50-move rule"
@@ -67,11 +67,12 @@ reported (Faulted c f) = (Unfinished, colour_name c ++ fault_words f, Normal)
 abbrev pub outcome_of : Reason → Outcome
 outcome_of reason = (reported reason).0
 
--- the comment on the end of a match, such as `Black resigns`
+-- the comment on the end of a match that ended for this reason, such as `Black resigns`
 abbrev pub comment_of : Reason → List ℕ
 comment_of reason = (reported reason).1
 
--- how the game ended, for the tag Termination (PGN standard, section 9.8.1)
+-- how a match that ended for this reason came to its end, as the value of the tag Termination (PGN standard, section
+-- 9.8.1)
 abbrev pub ended_by : Reason → HowEnded
 ended_by reason = (reported reason).2
 
@@ -81,7 +82,7 @@ abbrev pub first_fault : Reason → (Colour → Bool) → Option (Colour × Matc
 first_fault (Faulted c f) failed = Some (c, f)
 first_fault _ failed = if failed White then Some (White, Write) else if failed Black then Some (Black, Write) else None
 
--- the result that is declared in the game when the match ends: none if the board has a verdict
+-- the result that is declared in the game when the match ends for this reason; `None` if the board has a verdict
 abbrev pub declared_at : Option Verdict → Reason → Option Declared
 declared_at (Some v) reason = None
 declared_at None reason = Some (record { outcome = outcome_of reason; comment = comment_of reason })

@@ -67,7 +67,7 @@ text_of_last as_san p (m ∷ n ∷ ms) = text_of_last as_san (after p m) (n ∷ 
 abbrev pub is_king_or_other : Colour → Option Man → Bool
 is_king_or_other c man = option_map_or (λ (x : Man). not (same_colour x.colour c) || same_kind x.kind King) man true
 
--- whether the side `c` has no piece but its king
+-- whether the side `c` has no piece but its king; `men` are the 64 squares
 unfoldable pub has_bare_king : Colour → Men → Bool
 has_bare_king c men = list_all (is_king_or_other c) men
 

@@ -42,7 +42,7 @@ words_of (MoveSent prefixed text) = when prefixed (codes "usermove ") ++ text
 words_of (Time n) = codes "time " ++ decimal n
 words_of (Otim n) = codes "otim " ++ decimal n
 
--- the bytes of lines, each with `\n` at its end
+-- the bytes of these lines one after another, each with `\n` at its end
 unfoldable pub bytes_of : List SentLine → List ℕ
 bytes_of [] = []
 bytes_of (l ∷ ls) = words_of l ++ new_line ∷ bytes_of ls
@@ -61,7 +61,7 @@ start_lines start = option_map_or (λ fen. Says (codes "setboard " ++ fen) ∷ [
 abbrev pub variant_lines : Variant → List SentLine
 variant_lines v = when (is_fischerandom v) (Says (codes "variant fischerandom") ∷ [])
 
--- the line `ping N`
+-- the line `ping N` with this number
 abbrev pub ping : ℕ → SentLine
 ping n = Says (codes "ping " ++ decimal n)
 
@@ -100,8 +100,8 @@ opening_lines r m S =
 abbrev pub unsent_lines : Rules → Match → Colour → Option Colour → List SentLine
 unsent_lines r m S unsent_to = option_map_or (λ c. when (same_colour c S) (last_move r m S ∷ [])) unsent_to []
 
--- the last lines for the side `S`: the last move, if it has still to be sent that, `result 1-0 {Black resigns}`, and
--- `quit`
+-- the last lines for the side `S` in a match that ended for this reason: the last move, if it is still to be sent that,
+-- `result 1-0 {Black resigns}`, and `quit`
 unfoldable pub end_lines : Rules → Match → Colour → Reason → List SentLine
 end_lines r m S reason =
     unsent_lines r m S m.unsent_to ++ (Says (codes "result " ++ result_text (outcome_of reason) (comment_of reason))
@@ -112,7 +112,8 @@ abbrev pub is_unwritten : Reason → Colour → Bool
 is_unwritten (Faulted c Write) S = same_colour c S
 is_unwritten _ S = false
 
--- the lines that the side `S` is sent when the match enters this phase; none if writing to it failed
+-- the lines that the side `S` is sent when the match `m` enters this phase: most phases have lines for one side only;
+-- at the end both are sent some, unless writing to `S` failed
 abbrev pub entry_to : Rules → Match → Colour → Phase → List SentLine
 entry_to r m S (Hello c) = when (same_colour c S) (Says (codes "xboard") ∷ Says (codes "protover 2") ∷ [])
 entry_to r m S (Setup c) = when (same_colour c S) (setup_lines r)
@@ -121,7 +122,7 @@ entry_to r m S (AwaitMove c) = []
 entry_to r m S (AwaitPong c) = when (same_colour c S) (ping (ping_number m S) ∷ [])
 entry_to r m S (Over reason) = if is_unwritten reason S then [] else end_lines r m S reason
 
--- the lines that the side `S` is sent when the match enters the phase that it is in
+-- the lines that the side `S` is sent when the match `m` enters the phase in which it now is
 abbrev pub entry : Rules → Match → Colour → List SentLine
 entry r m S = entry_to r m S m.phase
 

@@ -109,7 +109,7 @@ line_in S _ = []
 abbrev pub lines_of : Colour → List Event → List (Option (List ℕ))
 lines_of S T = flat_map (line_in S) T
 
--- the time that was read from the clock at an event, as a list of one; empty if none was
+-- the time that was read from the clock at an event, as a list of one; the empty list if none was read
 abbrev pub moment_in : Event → List ℕ
 moment_in (Line c text moment) = moment ∷ []
 moment_in (Opened c moment) = moment ∷ []

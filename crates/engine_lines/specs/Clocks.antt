@@ -20,7 +20,7 @@ pub record ClocksSeen : Type 0 where
 abbrev pub nothing_spent : Spent
 nothing_spent = record { moves = 0; used = 0 }
 
--- the clocks before the first move
+-- the clocks of a game with this time control, before the first move
 abbrev pub new_clocks : LevelSeen → ClocksSeen
 new_clocks level = record { level = level; white = nothing_spent; black = nothing_spent }
 

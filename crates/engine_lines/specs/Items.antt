@@ -9,12 +9,12 @@ use Rattle.chess_pgn.specs.Tokens.{is_name_byte}
 
 -- ---- one item, `NAME=VALUE`
 
--- a value: digits, or the text between double quotes
+-- the value of an item: digits, or the text between double quotes
 pub data Value : Type 0 where
   Digits : List ℕ → Value
   Quoted : List ℕ → Value
 
--- an item: a feature's name, and its value
+-- an item of a `feature` line, `NAME=VALUE`: a feature's name, and its value
 pub record Item : Type 0 where
   pub name : List ℕ
   pub value : Value
@@ -78,7 +78,7 @@ first_items (suc n) text =
 unfoldable pub items_of : List ℕ → List Item
 items_of text = first_items (length text) text
 
--- whether `done=1` is among the items
+-- whether `done=1`, which ends the handshake, is among these items
 unfoldable pub has_done : List Item → Bool
 has_done items = list_any ends_hello items
 
@@ -88,8 +88,8 @@ has_done items = list_any ends_hello items
 abbrev pub last_said : {A : Type 0} → (Value → A) → A → List ℕ → List Item → A
 last_said f default name items = fold (λ before i. if bytes_eq i.name name then f i.value else before) default items
 
--- whether an engine has a feature on, by the last item of that name; without one, `time` and `draw` are on, others
--- off
+-- whether an engine has the feature `name` on: whether the last of these items with that name has the value 1. Without
+-- one, `time` and `draw` are on, others off
 unfoldable pub takes : List ℕ → List Item → Bool
 takes name items = last_said is_one (bytes_eq name (codes "time") || bytes_eq name (codes "draw")) name items
 

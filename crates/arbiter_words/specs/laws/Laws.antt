@@ -9,7 +9,7 @@ use Rattle.arbiter_words.specs.declared.plan.Plan.TheVariants.{Session, Verify, 
 use Rattle.arbiter_words.specs.declared.plan.VerifyPlan.{VerifyPlan}
 use Rattle.arbiter_words.specs.Plans.{verify_plan_of, IsPlanOf}
 
--- the subcommand that asks for this plan
+-- the name of the subcommand that asks for this plan
 abbrev pub command_name : Plan → Text
 command_name Session = codes "session"
 command_name (Verify v) = codes "verify"
@@ -32,7 +32,7 @@ pub record AskFor (words : List Text) (name : Text) : Type 0 where
   pub named : (names : Lent) → (asked names words).0 ≡ name
   pub bare : (names : Lent) → list_any (λ r. explicit_source r.source) (asked names words).1 ≡ false
 
--- `clap` refuses these arguments, with a fault of one of these kinds
+-- `clap` refuses these arguments, and `kinds` are the kinds of fault that it may report for them
 abbrev pub AreRefused : List Text → Kinds → Type 0
 AreRefused words kinds = (names : Lent) → faults_in names words ≡ kinds
 

@@ -73,7 +73,7 @@ abbrev pub normal_variant_row : State → List ℕ → List ℕ → Response Sta
 normal_variant_row s text argument =
     if bytes_eq argument (codes "normal") then says s [] else refuses s (codes "Error (unsupported variant): ") text
 
--- the answer to `protover 2`, without Chess960
+-- the line that answers `protover 2`: the features of an arbiter without Chess960
 unfoldable pub normal_feature_text : List ℕ
 normal_feature_text =
     codes "feature ping=1 setboard=1 playother=0 san=0 usermove=1 time=1 draw=1 sigint=0 sigterm=0 reuse=1 analyze=0 colors=0 debug=1 myname=\"CECP arbiter\" variants=\"normal\" done=1"

@@ -40,12 +40,12 @@ shows_pgn command = false
 unfoldable pub asks_for_pgn : LineSeen → Bool
 asks_for_pgn line = not line.too_long && shows_pgn (command_of line.text)
 
--- how the code answers a command: by the game's text, or by a text in its buffer, after which the session goes on or
--- ends
+-- how the code answers a command: `showpgn` by writing the game's PGN, any other by a text in its buffer, after which
+-- the session goes on, or ends after `quit`
 abbrev pub reply_of : Command → Reply
 reply_of command = if shows_pgn command then Pgn else Text (if is_quit_command command then Quit else On)
 
--- how the code answers a line: by the game's text, or by a text in its buffer, after which the session goes on or
--- ends
+-- how the code answers a line: `showpgn` by writing the game's PGN, any other by a text in its buffer, after which the
+-- session goes on, or ends after `quit`
 abbrev pub reply_to : LineSeen → Reply
 reply_to line = if asks_for_pgn line then Pgn else Text (if is_quit line then Quit else On)

@@ -18,7 +18,8 @@ abbrev pub fischerandom_again : Item → Bool → Bool
 fischerandom_again i before = if bytes_eq i.name (codes "variants") then has_word (codes "fischerandom")
     (value_text i.value) else before
 
--- the definitions' value, and the text after it, that correspond to what the code's `read_value` returned
+-- the value and the text after it, as the definitions have them, that the code's function `read_value` returned; `None`
+-- if it returned none
 abbrev pub value_read : Option (Value × Bor (List ℕ)) → Option (items.Value × List ℕ)
 value_read None = None
 value_read (Some p) = Some (value_seen p.0, p.1.now)
