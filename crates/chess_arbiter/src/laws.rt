@@ -36,9 +36,9 @@ pub fn refused_arguments_are_reported()
     plain_arguments_are_refused();
 }
 
-/// States a law and does nothing: the limits that definitions name by their constants are 20,000 half-moves of a game,
-/// 999,999 of a FEN's counters, 1,024 bytes of a session's line, 8,192 of an engine's, and 16,777,216 of a piece of a
-/// collection.
+/// States a law and does nothing: the limits that definitions name by constants are 20,000 half-moves of a game,
+/// 999,999 for a FEN's counters, and, in bytes, 1,024 for a session's line, 8,192 for an engine's line, and 16,777,216
+/// for a piece of a PGN collection.
 pub fn limits_are_as_stated()
     ensures moves { MOST_MOVES ≡ 20000 }
     ensures counters { COUNTER_LIMIT ≡ 999999 }

@@ -127,7 +127,7 @@ impl Pending {
         }
     }
 
-    // Logs a text, with `?` for what is no printable ASCII.
+    // Logs a text, with `?` for each byte that is no printable ASCII.
     fn add_shown<E: Output>(&mut self, output: &mut E, text: &[u8])
         ensures { Adds (E.seen output.old) (E.seen output.new) self.old self.new (map shown text.now) }
     {
@@ -285,7 +285,7 @@ pub struct Log<E> {
 }
 
 impl<E: Output> Log<E> {
-    /// A log on this output, of no game yet.
+    /// An empty log on this output, before the first game.
     pub fn new(output: E) -> Self
         ensures output { result.output ≡ output }
         ensures unbroken { result.pending.broken ≡ false }
@@ -298,7 +298,7 @@ impl<E: Output> Log<E> {
         }
     }
 
-    /// The log's output.
+    /// Ends the log, and gives its output back.
     pub fn into_output(self) -> E
         ensures { result ≡ self.output }
     {

@@ -32,7 +32,7 @@ impl<const N: usize> Model for Line<N> {
 }
 
 impl<const N: usize> Line<N> {
-    /// An empty line, to be read into.
+    /// An empty line, before one is read into it.
     pub fn new() -> Self
         ensures { result ≡ empty_line }
     {
@@ -234,7 +234,7 @@ impl<const N: usize> Model for Lines<N> {
 }
 
 impl<const N: usize> Lines<N> {
-    /// For a stream of which nothing was read.
+    /// A reader of lines for a stream of which nothing was read yet.
     pub fn new() -> Self
         ensures { result ≡ nothing_held }
     {

@@ -296,7 +296,7 @@ impl<B: Board> Session<B> {
         }
     }
 
-    // Answers `showfen`: `# fen ` and the FEN of the current position.
+    // Answers `showfen`: `# fen ` and the FEN of the current position, to `answer`.
     fn show_fen(&self, answer: &mut Answer)
         requires { answer.old.items ≡ [] }
         ensures { answer.new.items ≡ joined_line (codes "# fen ") (fen (current self.now.state)) }
@@ -305,8 +305,8 @@ impl<B: Board> Session<B> {
         write_line(answer, b"# fen ", fen.as_slice());
     }
 
-    // Answers `showmoves` with the legal moves. Their list is large, so it is kept out of the frames of other
-    // commands.
+    // Answers `showmoves` with the legal moves, to `answer`. Their list is large, so it is kept out of the stack frames
+    // of other commands.
     #[inline(never)]
     fn show_moves(&self, answer: &mut Answer)
         requires { answer.old.items ≡ [] }
@@ -409,8 +409,8 @@ impl<B: Board> Session<B> {
         writer.flush()
     }
 
-    /// Answers a line: changes the game, writes the answer (by one call, but for a game's text), and flushes the
-    /// writer.
+    /// Answers a line: changes the game, writes the answer (by one call, but for a game's text), and flushes the writer.
+    /// Returns whether the session goes on, which it does but after `quit`.
     ///
     /// # Errors
     /// If a write or the flush fails. The change is kept, and a beginning of the answer was written.

@@ -107,7 +107,7 @@ end_lines r m S reason =
     unsent_lines r m S m.unsent_to ++ (Says (codes "result " ++ result_text (outcome_of reason) (comment_of reason))
     ∷ Says (codes "quit") ∷ [])
 
--- whether the match ended because writing to the side `S` failed
+-- whether this reason, for which a match ended, is that writing to the side `S` failed
 abbrev pub is_unwritten : Reason → Colour → Bool
 is_unwritten (Faulted c Write) S = same_colour c S
 is_unwritten _ S = false

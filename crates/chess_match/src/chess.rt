@@ -80,7 +80,7 @@ fn start_text(start: &Position) -> Option<FenText>
     }
 }
 
-// The move that a text was read as, if it denotes exactly one legal move.
+// The move that a text was read as, if it denotes exactly one legal move; else `None`.
 fn move_read(reading: Reading) -> Option<Move>
     ensures { result ≡ move_read reading }
 {
@@ -119,13 +119,13 @@ impl<B: Board> MatchGame for Game<B> {
         self.start().variant()
     }
 
-    // Whether the game has as many half-moves as its limit allows.
+    // Whether the game has as many half-moves as its limit allows, so that no move can be played any more.
     #[tactic(auto, unfolding(crate::specs::Rules::rules_of))]
     fn is_full(&self) -> bool {
         Game::is_full(self)
     }
 
-    // The one legal move that a text denotes in the current position.
+    // The one legal move that a text denotes in the current position; `None` if it denotes none, or more than one.
     #[tactic(auto, unfolding(crate::specs::Rules::rules_of))]
     fn reading(&self, text: &[u8]) -> Option<Move> {
         move_read(read_move(self.board(), text))
@@ -143,6 +143,7 @@ impl<B: Board> MatchGame for Game<B> {
         claim_by(self.claims())
     }
 
+    // Whether this side has no piece but its king in the current position.
     #[tactic(auto, unfolding(crate::specs::Rules::rules_of))]
     fn has_bare_king(&self, side: Colour) -> bool {
         has_bare_king(side, &self.position().setup().men)

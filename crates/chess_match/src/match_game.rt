@@ -30,7 +30,7 @@ pub(crate) trait MatchGame {
     /// The start, and how many half-moves the game may have: neither ever changes.
     ghost origin: { Self → Setup × ℕ };
 
-    /// Which side moves first.
+    /// Which side moves first: the one on move in the game's start.
     fn first(&self) -> Colour
         ensures { (r : Rules) → plays self.now r → result ≡ r.first };
 
@@ -51,7 +51,7 @@ pub(crate) trait MatchGame {
     fn reading(&self, text: &[u8]) -> Option<Move>
         ensures { (r : Rules) → plays self.now r → result ≡ r.reading (played self.now) text.now };
 
-    /// The board's verdict, if there is one.
+    /// The board's verdict on the current position, if there is one.
     fn verdict(&self) -> Option<Verdict>
         ensures { (r : Rules) → plays self.now r → result ≡ r.verdict (played self.now) };
 
@@ -63,7 +63,8 @@ pub(crate) trait MatchGame {
     fn has_bare_king(&self, side: Colour) -> bool
         ensures { (r : Rules) → plays self.now r → result ≡ r.has_bare_king (played self.now) side };
 
-    /// Plays a move, which some text denotes, in a game that is not over and has room, and returns the move's texts.
+    /// Plays a move, which some text denotes, in a game that is not over and has room, and returns its two texts, in
+    /// SAN and by squares.
     fn play(&mut self, chosen: Move) -> MoveTexts
         requires { (r : Rules) × (text : List ℕ) × (plays self.old r) × (r.verdict (played self.old) ≡ None)
             × (nat_le r.limit (length (played self.old)) ≡ false) × (r.reading (played self.old) text ≡ Some chosen) }
@@ -72,7 +73,7 @@ pub(crate) trait MatchGame {
         ensures texts { (r : Rules) → plays self.old r → AreTexts r result (played self.new) }
         ensures origin { origin self.new ≡ origin self.old };
 
-    /// Appends the line `setboard FEN`, if the start is sent.
+    /// Appends the line `setboard FEN` to the block, unless the start is the initial position of normal chess.
     fn add_start(&self, block: &mut Block)
         requires { array_vec_len block.old + 110 ≤ BLOCK_LEN }
         ensures text { (r : Rules) → plays self.now r

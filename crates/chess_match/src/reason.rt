@@ -164,7 +164,7 @@ impl Reason {
         }
     }
 
-    /// How the game ended, for the PGN tag `Termination`.
+    /// How a game that ended for this reason came to its end, as the value of the PGN tag `Termination`.
     pub fn ended(self) -> HowEnded
         ensures { result ≡ ended_by self }
     {

@@ -102,7 +102,8 @@ fn add_variant(block: &mut Block, variant: Variant)
     }
 }
 
-// Appends the lines that set an engine up for the game, from `new` to `ping 1`.
+// Appends the lines that set an engine up for the game: `new`, the variant, `level`, `nopost`, `easy`, `force`, the
+// start, `ping 1`.
 fn add_setup<G: MatchGame>(block: &mut Block, core: &MatchState, game: &G)
     requires { array_vec_len block.old + 300 ≤ BLOCK_LEN }
     ensures text { (r : Rules) (m : Match) → G.plays game.now r → Represents r core.now (G.played game.now) m
@@ -148,7 +149,7 @@ fn add_end_lines(block: &mut Block, core: &MatchState, side: Colour, reason: Rea
     add_end(block, reason.outcome(), reason.comment());
 }
 
-// Whether the match ended because writing to this side failed.
+// Whether this reason is that writing to this side failed.
 fn is_unwritten(reason: Reason, side: Colour) -> bool
     ensures { result ≡ is_unwritten reason side }
 {

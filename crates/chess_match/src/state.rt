@@ -66,7 +66,7 @@ pub(crate) const ENTRY: Actions = Actions {
 };
 
 impl Player {
-    // An engine of which nothing is known yet.
+    // What is kept of an engine of which nothing is known yet.
     #[tactic(auto, unfolding(crate::specs::ties::Represents::name_by, engine_lines::specs::Items::told))]
     fn new() -> Self
         ensures features { result.features ≡ features_of [] }
