@@ -53,7 +53,7 @@ tags_of plan number end = record {
 
 -- ---- one game
 
--- a game that was played: its moves, how it ended, and the notes of its match, of which the log is made
+-- a game that was played: its moves, how it ended, and the notes of what happened in it, of which the log is made
 pub record GameRecord : Type 0 where
   pub game : Seen
   pub end : MatchEnd

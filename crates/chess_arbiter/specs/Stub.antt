@@ -10,12 +10,12 @@ use Rattle.chess_cecp.specs.Serving.{Response}
 use Rattle.chess_cecp.specs.declared.command.Command.{Command}
 use Rattle.chess_cecp.specs.declared.command.Command.TheVariants.{New, UserMove, Ping, Protover, Go, Quit, Silent, Unknown}
 
--- the arguments of a stub, as references to texts
+-- the arguments of a stub, an engine that plays the moves in its arguments; each is a reference to a text
 abbrev pub Words : Type 0
 Words = List (Bor (List ℕ))
 
--- the state of a stub: its arguments that are not yet used, and whether it plays (from `go` on, up to `force` or
--- `new`)
+-- the state of a stub, an engine that plays the arguments that it is given: those not yet used, and whether it plays a
+-- side (from `go` on, up to `force` or `new`)
 pub record StubState : Type 0 where
   pub words : Words
   pub plays : Bool
@@ -58,8 +58,9 @@ after_remarks words = drop (prefix_len is_remark words) words
 abbrev pub played_text : List ℕ → List ℕ
 played_text word = (if bytes_eq word (codes "resign") then [] else codes "move ") ++ (word ++ new_line ∷ [])
 
--- the stub's turn, with these arguments left: it plays the first one, and sends what the `offer` and `claim` after it
--- stand for; `end` makes it end in the middle of a line; with none left it resigns
+-- the turn of a stub (an engine that plays the arguments that it is given), with these arguments left: it plays the
+-- first one, and sends what the `offer` and `claim` after it stand for; `end` makes it end in the middle of a line;
+-- with none left it resigns
 abbrev pub turn : Words → Response StubState
 turn [] = says (playing []) (codes "resign" ++ new_line ∷ [])
 turn (word ∷ words) =
@@ -76,8 +77,8 @@ features = codes "feature ping=1 setboard=1 usermove=1 myname=\"stub\" done=1" +
 abbrev pub moved : StubState → Response StubState
 moved s = if s.plays then turn s.words else says s []
 
--- what a stub in the state `s` does at a command; `text` is the whole line. `usermove` alone counts as a move too, and
--- all commands without a row here are ignored
+-- what a stub (an engine that plays the arguments that it is given) in the state `s` does at a command; `text` is the
+-- whole line. `usermove` alone counts as a move too, and all commands without a row here are ignored
 abbrev pub row : StubState → List ℕ → Command → Response StubState
 row s text (Protover n) = says s features
 row s text (Ping n) = says s (codes "pong " ++ (decimal n ++ new_line ∷ []))
@@ -89,6 +90,7 @@ row s text Quit = record (says s []) { ends = true }
 row s text Silent = if bytes_eq (word_of text) (codes "force") then says (waiting s.words) [] else says s []
 row s text _ = says s []
 
--- what a stub in the state `s` does with a line: it obeys the line's command; a line that is too long is ignored
+-- what a stub (an engine that plays the arguments that it is given) in the state `s` does with a line: it obeys the
+-- line's command; a line that is too long is ignored
 unfoldable pub stub_response : StubState → LineSeen → Response StubState
 stub_response s line = if line.too_long then says s [] else row s line.text (command_of line.text)

@@ -91,8 +91,8 @@ fn session<R: Input, W: Output, E: Output>(
     status_of(report_served(outcome, errors))
 }
 
-// Runs a stub with the arguments `words` on the input and the output, and returns the exit status: 0, or 1 if input or
-// output failed.
+// Runs a stub, an engine that plays the arguments `words`, on the input and the output, and returns the exit status: 0,
+// or 1 if input or output failed.
 fn stub<R: Input, W: Output, E: Output>(
     words: &[&str],
     input: &mut R,

@@ -182,7 +182,7 @@ impl<'a> Model for Stub<'a> {
 }
 
 impl<'a> Stub<'a> {
-    /// A stub with these arguments, which doesn't play yet.
+    /// A stub, an engine that plays these arguments; it doesn't play a side yet.
     pub(crate) fn new(words: &'a [&'a str]) -> Self
         ensures { result ≡ waiting words.now }
     {

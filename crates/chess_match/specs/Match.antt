@@ -20,28 +20,32 @@ use Rattle.chess_match.specs.declared.reason.Reason.{Reason}
 use Rattle.chess_match.specs.declared.reason.Reason.TheVariants.{Decided, Claimed, Agreed, MovesIllegally, MovesOutOfTurn, ClaimsFalsely, RejectsLegalMove, Forfeits, ForfeitsToBareKing, GameTooLong, Faulted}
 use Rattle.chess_match.specs.declared.reason.Reason.TheVariants as over_by
 
--- what happens in a match: a line comes from an engine, a turn's lines were sent, or a device ends or fails. A moment
--- is a time of the clock in milliseconds
+-- what happens in a match, which is one game between two engines: a line comes from an engine (`None`: it was too
+-- long), the lines that open a turn were sent, or a device ends or fails. A moment is a time of the clock in
+-- milliseconds
 pub data Event : Type 0 where
-  -- that side's engine sent a line; the moment was asked for after it
+  -- that side's engine sent a line; the clock was read after it
   Line : (side : Colour) → (text : Option (List ℕ)) → (moment : ℕ) → Event
-  -- the opening of that side's turn was sent; the moment at its end
+  -- the lines that open that side's turn were sent; the clock was read after them
   Opened : (side : Colour) → (moment : ℕ) → Event
   -- that side's engine ended its output
   OutputEnds : (side : Colour) → Event
+  -- reading from that side's engine failed
   FailsToRead : (side : Colour) → Event
+  -- writing to that side's engine failed
   FailsToWrite : (side : Colour) → Event
 
--- what is known of one side's engine
+-- what is known of the engine of one side
 pub record Seat : Type 0 where
   -- the items that were read in its handshake
   pub items : List Item
   -- the milliseconds that each of its moves used
   pub used : List ℕ
-  -- its offer of a draw is open
+  -- whether its offer of a draw is open
   pub offers : Bool
 
--- the state of a match: what it waits for (`phase`), what is known of both engines, and the moves played
+-- the state of a match, which is one game between two engines: what it waits for (`phase`), what is known of both
+-- engines, and the moves played
 pub record Match : Type 0 where
   pub phase : Phase
   pub white : Seat

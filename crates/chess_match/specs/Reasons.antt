@@ -22,7 +22,7 @@ abbrev pub by_colour : {A : Type 0} → A → A → Colour → A
 by_colour white black White = white
 by_colour white black Black = black
 
--- a side's name in comments, `White` or `Black`
+-- a side's name in comments on how a game ended, `White` or `Black`
 abbrev pub colour_name : Colour → List ℕ
 colour_name c = by_colour (codes "White") (codes "Black") c
 

@@ -47,7 +47,7 @@ level_of text =
 
 -- ---- writing
 
--- a number below 100 as two digits
+-- a number below 100 as two digits, such as `05`
 abbrev pub two_digits : ℕ → List ℕ
 two_digits n = (byte "0" + n / 10) ∷ (byte "0" + n % 10) ∷ []
 
