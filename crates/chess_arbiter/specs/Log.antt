@@ -30,8 +30,8 @@ engine_text is_first = if is_first then codes "first : " else codes "second: "
 abbrev pub head : ℕ → ℕ → Bool → List ℕ
 head moment mark is_first = decimal moment ++ ((32 ∷ mark ∷ []) ++ engine_text is_first)
 
--- a whole line of the log, such as `312 <first : move e2e4`, with `?` for what can't be shown; `mark` is the byte of
--- `<` or `!`, and `is_first` says whether the engine is that of `--white`
+-- a whole line of the log with this text, such as `312 <first : move e2e4`, with `?` for what can't be shown; `mark` is
+-- the byte of `<` or `!`, and `is_first` says whether the engine is that of `--white`
 abbrev pub log_line : ℕ → ℕ → Bool → List ℕ → List ℕ
 log_line moment mark is_first text = head moment mark is_first ++ (map shown text ++ new_line ∷ [])
 

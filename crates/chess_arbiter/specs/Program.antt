@@ -41,9 +41,9 @@ abbrev pub fault_status : ProgramFault → ℕ
 fault_status WrongWords = 2
 fault_status _ = 1
 
--- a server that begins in the state `s` answered the lines of the input on the output, up to the input's end, to a line
--- that ends it, or to a fault, and `status` is then the exit status. `r` and `w` are input and output before, `r'` and
--- `w'` after
+-- the server `respond`, which began in the state `s`, answered the lines of the input on the output, up to the input's
+-- end, to a line that ends it, or to a fault, and `status` is then the exit status. `r` and `w` are input and output
+-- before, `r'` and `w'` after
 abbrev pub RanServer : {S : Type 0} → Server S → S → InputState → InputState → OutputState → OutputState → ℕ → Type 0
 RanServer {S} respond s r r' w w' status =
     (outcome : Result End Fault) × (s' : S) × (t : Transcript)
@@ -95,8 +95,9 @@ ReportsArguments (words.Words e) w w' status =
 ReportsArguments words.NoMemory w w' status = (w' ≡ w) × (status ≡ 1)
 ReportsArguments fault w w' status = (w' ≡ w) × (status ≡ 2)
 
--- the games of a match were played, written and logged, and the exit status is 1 if anything failed, else 0. What the
--- error output has is said only for status 0. `w` and `l` are output and log before, `w'` and `l'` after
+-- the games of the plan's match were played, written and logged, and the exit status `status` is 1 if anything failed,
+-- else 0. What the error output has is said only for status 0. `w` and `l` are output and log before, `w'` and `l'`
+-- after
 abbrev pub RanMatch : MatchPlan → OutputState → OutputState → LogSeen → LogSeen → ℕ → Type 0
 RanMatch plan w w' l l' status =
     (outcome : Result (Unit {0}) GamesFault) × (logged : LogSeen) × RanGames plan w w' l logged outcome

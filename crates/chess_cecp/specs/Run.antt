@@ -42,8 +42,8 @@ LeavesUnflushed w w' text = w.unflushed ≡ 0 → w'.unflushed ≡ raised 0 text
 abbrev pub lines_read : Transcript → List LineSeen
 lines_read t = stream_lines COMMAND_LEN t.end_reported t.read
 
--- a server that responds to the lines `ls` one after another, from the state `s` on, writes just this text and is then
--- in the state `s'`; `ends`: it ended with one of them
+-- the server `respond`, which responds to the lines `ls` one after another, from the state `s` on, writes just this
+-- text and is then in the state `s'`; `ends`: it ended with one of them
 abbrev pub Answered : {S : Type 0} → Server S → S → S → List ℕ → Bool → List LineSeen → Type 0
 Answered respond s s' text ends ls = responses respond s ls ≡ record { text = text; state = s'; ends = ends }
 
@@ -59,26 +59,26 @@ AnsweredAll respond r s s' t ends =
 abbrev pub FirstOfKnown : InputState → List LineSeen → Type 0
 FirstOfKnown r ls = IfSome r.known_bytes (λ xs. (after : List LineSeen) × (lines COMMAND_LEN xs ≡ ls ++ after))
 
--- the run `t`, of a server that began in the state `s`, ended at `line`; the lines read `before` were answered and did
--- not end it, those `after` were left. `on_demand`: the lines that were whole before the last read, of `last_len`
--- bytes, are all among those `before`
+-- the run `t` of the server `respond`, which began in the state `s`, ended at `line`; the lines read `before` were
+-- answered and did not end it, those `after` were left. `on_demand`: the lines that were whole before the last read, of
+-- `last_len` bytes, are all among those `before`
 pub record EndsAt {S : Type 0} (respond : Server S) (s : S) (t : Transcript) (last_len : ℕ) (before : List LineSeen)
     (line : LineSeen) (after : List LineSeen) : Type 0 where
   pub lines : lines_read t ≡ before ++ line ∷ after
   pub goes_on : (responses respond s before).ends ≡ false
   pub on_demand : length (whole COMMAND_LEN (before_piece last_len t.read)) ≤ length before
 
--- the run `t` ended because the server, which began in the state `s`, ends with one of the lines, as a session with
--- `quit`; the last read gave `last_len` bytes
+-- the run `t` ended because the server `respond`, which began in the state `s`, ends with one of the lines, as a
+-- session with `quit`; the last read gave `last_len` bytes
 abbrev pub ByLine : {S : Type 0} → Server S → S → Transcript → ℕ → Type 0
 ByLine respond s t last_len =
     (before : List LineSeen) × (line : LineSeen) × (after : List LineSeen)
     × EndsAt respond s t last_len before line after
     × ((respond (responses respond s before).state line).ends ≡ true)
 
--- the run `t` ended because a write or flush failed: a beginning of the answer to one line was written, which may be
--- unflushed, and the change that the line made is kept. `r` is the input before; `w` and `s` are output and server
--- before, `w'` and `s'` after; the last read gave `last_len` bytes
+-- the run `t` of the server `respond` ended because a write or flush failed: a beginning of the answer to one line was
+-- written, which may be unflushed, and the change that the line made is kept. `r` is the input before; `w` and `s` are
+-- output and server before, `w'` and `s'` after; the last read gave `last_len` bytes
 abbrev pub ByWrite : {S : Type 0} → Server S → InputState → OutputState → OutputState → S → S → Transcript → ℕ → Type 0
 ByWrite respond r w w' s s' t last_len =
     (before : List LineSeen) × (line : LineSeen) × (after : List LineSeen) × (start : List ℕ)
@@ -89,9 +89,9 @@ ByWrite respond r w w' s s' t last_len =
     × FirstOfKnown r (before ++ line ∷ [])
     × LeavesUnflushed w w' start
 
--- what a run `t` of a server does, by its result: it ends by a line such as `quit`, by the input's end, or by a device
--- that fails; each answer is flushed before more is read. `r`, `w` and `s` are input, output and server before, `r'`,
--- `w'` and `s'` after
+-- what a run `t` of the server `respond` does, by its result: it ends by a line such as `quit`, by the input's end, or
+-- by a device that fails; each answer is flushed before more is read. `r`, `w` and `s` are input, output and server
+-- before, `r'`, `w'` and `s'` after
 abbrev pub SessionRan : {S : Type 0} → Server S → InputState → InputState → OutputState → OutputState → S → S → Transcript
     → Result End Fault → Type 0
 SessionRan respond r r' w w' s s' t (Ok Quit) = FitsDevices r r' w w' t false false × ByLine respond s t r'.last_len

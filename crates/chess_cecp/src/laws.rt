@@ -31,7 +31,7 @@ pub fn refusals_change_nothing()
 {}
 
 /// States a law and does nothing: in a game of normal chess each command but `variant` and `protover` does what the
-/// table of commands of a session without Chess960 says.
+/// table of commands for normal chess alone says.
 pub fn normal_chess_keeps_its_rows()
     ensures { (tags : Tags) (limit : ℕ) (s : State) (text argument : List ℕ) (command : Command)
         → s.start.variant ≡ Normal → keeps_its_row command ≡ true

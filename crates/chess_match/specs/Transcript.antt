@@ -64,14 +64,13 @@ fits r T = fits_from r (entry r start) start T
 
 -- ---- what is sent
 
--- whether the side `S` is not sent its lines of an event: this event is a line of the other engine, which is written to
+-- whether the side `S` is not sent its lines of an event: the event is a line of the other engine, which is written to
 -- first, and the next event (the first of the list) is that this write failed
 abbrev pub is_dropped : Event → List Event → Colour → Bool
 is_dropped (Line c text moment) (FailsToWrite d ∷ es) S = same_colour c d && not (same_colour d S)
 is_dropped _ _ S = false
 
--- whether the event `e` is this fault of the engine of the side `S`: its output ended, or a read or a write of it
--- failed
+-- whether this event is this fault of the engine of the side `S`: its output ended, or a read or a write of it failed
 abbrev pub is_fault : MatchFault → Colour → Event → Bool
 is_fault Ended S (OutputEnds c) = same_colour c S
 is_fault Read S (FailsToRead c) = same_colour c S

@@ -32,7 +32,8 @@ pub record Adds (o o' : OutputState) (p p' : Pending) (more : List ℕ) : Type 0
       → Logs from.broken p'.broken from.output o' p'.bytes.items (text ++ more)
 
 -- since the state `from` of the log just the log of these notes was logged, in a game in which the engine of `--white`
--- has the side `first`. The log's fields are `side`, `o` (output), `p` (bytes that wait) and `state`
+-- has the side `first`. The log's fields are now `side` (which is `first`), `o` (output), `p` (bytes that wait) and
+-- `state`
 pub record IsLog (first : Colour) (from : LogSeen) (side : Colour) (o : OutputState) (p : Pending) (state : LogState)
     (notes : List Note) : Type 0 where
   pub sided : side ≡ first

@@ -26,8 +26,8 @@ by_turn Black own others = by_colour others own
 
 -- ---- what is parsed
 
--- the event that the result of reading a line of the side `S` is; `moment` is when it came. A last line without `\n`
--- counts as the end of the output
+-- the event that the result of reading a line of the side `S` stands for; `moment` is when it came. A last line without
+-- `\n` counts as the end of the output
 abbrev pub event_read : {E : Type 0} → Colour → ℕ → Result (Option LineSeen) E → Event
 event_read S moment (Ok (Some line)) = if line.ended then Line S (text_read line) moment else OutputEnds S
 event_read S moment (Ok None) = OutputEnds S
