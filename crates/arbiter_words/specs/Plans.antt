@@ -84,7 +84,8 @@ pub record IsMatchPlan (rows : List Row) (plan : MatchPlan) : Type 0 where
   pub date : plan.date.now ≡ date_asked rows
   pub log : plan.log ≡ is_set (codes "log") rows
 
--- the plan is what the arguments ask for; `p` is the subcommand's name and its options as matched
+-- the plan is what the arguments ask for: it is that of their subcommand, with the options given after it; `p` is the
+-- subcommand's name and its options as matched
 abbrev pub IsPlanOf : Text × List Row → Plan → Type 0
 IsPlanOf p Session = p.0 ≡ codes "session"
 IsPlanOf p (Verify v) = (p.0 ≡ codes "verify") × (v ≡ verify_plan_of p.1)

@@ -85,8 +85,8 @@ fn open_game<'t>(alloc: Global, tables: &'t AttackTables) -> Result<Game<Bits<'t
     Game::open(alloc, Bits::new(tables), MOST_MOVES)
 }
 
-// Reads all games of a PGN text, and prints how many games and half-moves it has, or the place of its first fault; and
-// on standard error how many half-moves were read a second.
+// Reads all games of a PGN text, and prints how many games and half-moves it has, and on standard error how many
+// half-moves were read a second; or the place of its first fault.
 fn measure_games(rt: &HostRuntime, text: &[u8]) -> io::Result<ExitCode> {
     let tables = AttackTables::open(rt.alloc())?;
     let mut game = open_game(rt.alloc(), &tables)?;
@@ -94,7 +94,7 @@ fn measure_games(rt: &HostRuntime, text: &[u8]) -> io::Result<ExitCode> {
 }
 
 // Reads all games of a PGN text into `game`, which is already allocated, and prints how many games and half-moves it
-// has, or the place of its first fault; and on standard error how many half-moves were read a second.
+// has, and on standard error how many half-moves were read a second; or the place of its first fault.
 fn time_games(rt: &HostRuntime, text: &[u8], game: &mut Game<Bits<'_>>) -> io::Result<ExitCode> {
     let begun = Instant::now(rt)?;
     match read_games(text, game) {

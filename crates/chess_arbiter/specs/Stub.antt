@@ -46,7 +46,8 @@ remark word =
 abbrev pub is_remark : Bor (List ℕ) → Bool
 is_remark word = is_some (remark word.now)
 
--- what the stub sends for the arguments `offer` and `claim` at the front of these, up to the first other one
+-- the lines that the stub sends for the arguments `offer` and `claim` (an offer and a claim of a draw) at the front of
+-- these, up to the first other one
 unfoldable pub remarks : Words → List ℕ
 remarks words = flat_map (λ word. unwrap_or (remark word.now) []) (take_while is_remark words)
 

@@ -57,7 +57,8 @@ fn shown(byte: u8) -> u8
     }
 }
 
-// Writes and flushes a text, unless a call on the log failed before (`broken`). Returns whether one has failed by now.
+// Writes and flushes a text, unless a call on the log failed before (`broken`). Returns whether one has failed, before
+// or now.
 fn send_unless_broken<E: Output>(output: &mut E, text: &[u8], broken: bool) -> bool
     ensures { Logs broken result (E.seen output.old) (E.seen output.new) [] text.now }
 {

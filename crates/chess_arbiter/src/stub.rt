@@ -74,8 +74,8 @@ fn say_pong<W: Output>(writer: &mut W, number: u32) -> Result<(), WriteFault>
     put(writer, line.as_slice())
 }
 
-// Sends the lines that the arguments `offer` and `claim` stand for, from the index `from` up to the first other
-// argument.
+// Sends the lines that the arguments `offer` and `claim` stand for (an offer and a claim of a draw), from the index
+// `from` up to the first other argument.
 fn say_remarks<W: Output>(words: &[&str], from: usize, writer: &mut W) -> Result<(), WriteFault>
     requires { from ≤ length words.now }
     ensures { Puts (W.seen writer.old) (W.seen writer.new) result (remarks (drop from words.now)) }
