@@ -36,8 +36,8 @@ pub trait LineServer {
     /// How it responds to a line.
     ghost respond: { Self → LineSeen → Response Self };
 
-    /// Answers a line: the server's state changes, the answer is written, and the writer is flushed. Returns whether the
-    /// server goes on.
+    /// Answers a line: the server's state changes, the answer is written, and the writer is flushed. Returns whether
+    /// the server goes on.
     ///
     /// # Errors
     /// If a write or the flush fails. The change is kept, and a beginning of the answer was written.

@@ -409,8 +409,8 @@ impl<B: Board> Session<B> {
         writer.flush()
     }
 
-    /// Answers a line: changes the game, writes the answer (by one call, but for a game's text), and flushes the writer.
-    /// Returns whether the session goes on, which it does but after `quit`.
+    /// Answers a line: changes the game, writes the answer (by one call, but for a game's text), and flushes the
+    /// writer. Returns whether the session goes on, which it does but after `quit`.
     ///
     /// # Errors
     /// If a write or the flush fails. The change is kept, and a beginning of the answer was written.

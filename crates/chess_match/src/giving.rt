@@ -39,8 +39,8 @@ fn add_rest<G: MatchGame>(
     add_entered(block, core, game, given, side);
 }
 
-// Gives the witness a note that `side` is sent this text, and then writes and flushes it; an empty text is neither
-// noted nor written.
+// Gives the witness, such as the log, a note that `side` is sent this text, and then writes and flushes the text; an
+// empty text is neither noted nor written.
 fn note_and_put<W: Output, L: Witness>(
     writer: &mut W,
     witness: &mut L,

@@ -76,8 +76,8 @@ after_answers r given m S = to given.draw S (Says (codes "draw") ∷ []) ++ (if 
 unfoldable pub given_block : Rules → Actions → (Colour → List Item) → Match → Colour → List SentLine
 given_block r given items m S = answers_to (items S) ++ after_answers r given m S
 
--- a step of the code from the match `m` to `m'`: `core` and the moves `played` are its state after it, and what it
--- sends to each side, by `given` and as answers to `items`, is what is due
+-- a step of the code from the match `m` to `m'`: after it the code's state is `core` with the moves `played`, and what
+-- it sends to each side, by `given` and as answers to `items`, is just what the definitions say
 pub record Goes (r : Rules) (core : MatchState) (played : List Move) (given : Actions) (items : Colour → List Item)
     (m m' : Match) : Type 0 where
   pub stands : Represents r core played m'
