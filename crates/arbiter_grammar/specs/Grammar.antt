@@ -8,19 +8,19 @@ use Rattle.clap.specs.declared.parser.matches.ArgMatches.{ArgMatches}
 use Rattle.clap.specs.declared.builder.value_parser.ValueParser.TheVariants.{Names, Unsigned}
 use Rattle.clap.specs.declared.builder.action.ArgAction.TheVariants.{Append, SetTrue}
 
--- `--NAME TEXT`: an option that takes a text
+-- the option `--NAME TEXT` with this name, which takes a text
 abbrev pub option_rule : Text → Rule
 option_rule name = record (new_rule name) { long = Some name; value_names = 1 }
 
--- `--NAME`: an option that takes no text
+-- the option `--NAME` with this name, which takes no text
 abbrev pub flag_rule : Text → Rule
 flag_rule name = record (new_rule name) { long = Some name; action = Some SetTrue }
 
--- the same option, but required
+-- the option `r` with the difference that it must be given
 abbrev pub needed : Rule → Rule
 needed r = record r { required = true }
 
--- `--games N`, with N from 1 to 1,000
+-- the option `--games N`, where N is a number from 1 to 1,000
 abbrev pub games_rule : Rule
 games_rule = record (option_rule (codes "games")) { parser = Some (Unsigned 1 1000) }
 
@@ -28,11 +28,11 @@ games_rule = record (option_rule (codes "games")) { parser = Some (Unsigned 1 10
 abbrev pub Lent : Type 0
 Lent = Bor (List (Bor Text))
 
--- the names are `normal` and `fischerandom`
+-- these names, in their order, are `normal` and `fischerandom`
 abbrev pub AreVariants : Lent → Type 0
 AreVariants names = map (λ n. n.now) names.now ≡ codes "normal" ∷ codes "fischerandom" ∷ []
 
--- `--variant NAME`, with one of these names
+-- the option `--variant NAME`, where NAME is one of these names
 abbrev pub variant_rule : Lent → Rule
 variant_rule names = record (option_rule (codes "variant")) { parser = Some (Names names) }
 
@@ -44,12 +44,12 @@ match_app names = fold with_rule (new_app (codes "match")) (
     ∷ option_rule (codes "fen") ∷ games_rule ∷ option_rule (codes "date") ∷ variant_rule names
     ∷ flag_rule (codes "log") ∷ [])
 
--- the subcommand `verify` with its flags
+-- the subcommand `verify` with its flags `--keep-going`, `--quiet` and `--strict`
 abbrev pub verify_app : App
 verify_app = fold with_rule (new_app (codes "verify"))
     (flag_rule (codes "keep-going") ∷ flag_rule (codes "quiet") ∷ flag_rule (codes "strict") ∷ [])
 
--- any number of arguments without a name
+-- the rule `words` of `stub`: any number of arguments without an option's name
 abbrev pub words_rule : Rule
 words_rule = record (new_rule (codes "words")) { action = Some Append; value_names = 1 }
 
@@ -79,30 +79,32 @@ asked names words = unwrap_or (subcommand_of (arbiter_app names) words) (codes "
 abbrev pub faults_in : Lent → List Text → Kinds
 faults_in names words = fault_of (arbiter_app names) words
 
--- the result of parsing these arguments is right: matches if they have no fault, else an error of one of the kinds
--- that they have. `names` are those that `--variant` takes
+-- the result of parsing the arguments `words` is right: their subcommand and options if they have no fault, else an
+-- error of one of the kinds of fault that they have. `names` are those that `--variant` takes
 abbrev pub IsParsedBy : Lent → List Text → Result ArgMatches Error → Type 0
 IsParsedBy names words (Ok m) = (faults_in names words ≡ [])
     × (subcommand_rows_of m ≡ subcommand_of (arbiter_app names) words)
 IsParsedBy names words (Err e) = HasKind (faults_in names words) e
 
--- the result of parsing these arguments is right by the grammar, wherever its names of variants are in memory
+-- the result of parsing the arguments `words` is right by the grammar, wherever in memory its names of variants are
 abbrev pub IsParsed : List Text → Result ArgMatches Error → Type 0
 IsParsed words result = (names : Lent) × AreVariants names × IsParsedBy names words result
 
--- this is the name of a subcommand
+-- the text is the name of a subcommand: `session`, `verify`, `stub` or `match`
 abbrev pub IsCommand : Text → Type 0
 IsCommand name = (name ≡ codes "session") ⊎ (name ≡ codes "verify") ⊎ (name ≡ codes "stub") ⊎ (name ≡ codes "match")
 
--- if the subcommand is `match`, both `--white` and `--black` were given
+-- if the subcommand is `match`, both `--white` and `--black` were given; `p` is the subcommand's name and its options
+-- as matched
 abbrev pub NamesBoth : Text × List Row → Type 0
 NamesBoth p = p.0 ≡ codes "match" → (is_some (first_of (codes "white") p.1) ≡ true)
     × (is_some (first_of (codes "black") p.1) ≡ true)
 
--- if `--games` was given, it is a number from 1 to 1,000
+-- if `--games` was given, its value is a number from 1 to 1,000; `rows` are the options as matched
 abbrev pub HasGames : List Row → Type 0
 HasGames rows = (t : Text) → first_of (codes "games") rows ≡ Some t → is_unsigned_in 1 1000 t ≡ true
 
--- what was matched has all that its subcommand needs
+-- what was matched is a subcommand with all that it needs: of `match` both engines, and a valid number of games if one
+-- is given. `p` is the subcommand's name and its options as matched
 abbrev pub IsComplete : Text × List Row → Type 0
 IsComplete p = NamesBoth p × IsCommand p.0 × HasGames p.1

@@ -99,7 +99,7 @@ fn command<'a>(alloc: Global, name: &'a str, about: &'a str, examples: &'a str) 
     Command::new(alloc, name).about(about).after_help(examples)
 }
 
-// An option `--NAME VALUE`; `value` is what its help calls the value.
+// An option `--NAME VALUE`; `value` is what its help calls the value, and `help` is its line in the help.
 fn option<'a>(alloc: Global, name: &'a str, value: &'a str, help: &'a str) -> Arg<'a>
     ensures rule { rule_of result ≡ option_rule name.entry.now }
     ensures value { result.val_names ≡ One value.entry }
@@ -112,7 +112,7 @@ fn option<'a>(alloc: Global, name: &'a str, value: &'a str, help: &'a str) -> Ar
         .help(help)
 }
 
-// An option `--NAME`, which takes no value.
+// An option `--NAME`, which takes no value; `help` is its line in the help.
 fn flag<'a>(alloc: Global, name: &'a str, help: &'a str) -> Arg<'a>
     ensures rule { rule_of result ≡ flag_rule name.entry.now }
     ensures help { result.help ≡ Some help.entry }
@@ -124,7 +124,8 @@ fn flag<'a>(alloc: Global, name: &'a str, help: &'a str) -> Arg<'a>
         .help(help)
 }
 
-// An option `--NAME VALUE` that must be given.
+// An option `--NAME VALUE` that must be given; `value` is what its help calls the value, and `help` is its line in the
+// help.
 fn needed_option<'a>(alloc: Global, name: &'a str, value: &'a str, help: &'a str) -> Arg<'a>
     ensures rule { rule_of result ≡ needed (option_rule name.entry.now) }
     ensures value { result.val_names ≡ One value.entry }
@@ -134,7 +135,7 @@ fn needed_option<'a>(alloc: Global, name: &'a str, value: &'a str, help: &'a str
     option(alloc, name, value, help).required(true)
 }
 
-// `--games N`, with N from 1 to 1,000.
+// The option `--games N`, with N from 1 to 1,000.
 fn games_option<'a>(alloc: Global) -> Arg<'a>
     ensures rule { rule_of result ≡ games_rule }
     ensures local { result.global ≡ false }
@@ -148,7 +149,7 @@ fn games_option<'a>(alloc: Global) -> Arg<'a>
     .value_parser(ValueParser::unsigned(1, 1000))
 }
 
-// `--variant NAME`, with one of the names in `VARIANTS`.
+// The option `--variant NAME`, where NAME is `normal` or `fischerandom`.
 fn variant_option<'a>(alloc: Global) -> Arg<'a>
     ensures rule { (names : _) × AreVariants names × (rule_of result ≡ variant_rule names) }
     ensures local { result.global ≡ false }
@@ -162,7 +163,7 @@ fn variant_option<'a>(alloc: Global) -> Arg<'a>
     .value_parser(VARIANTS.as_slice())
 }
 
-// The subcommand `match` with its options.
+// The subcommand `match` with its options, of which `--white` and `--black` must be given.
 fn match_command<'a>(alloc: Global) -> Result<Command<'a>, AllocError>
     ensures app { IfOk result (λ c. GivesMatchApp (app_of c)) }
     ensures local { IfOk result (λ c. (fields_of c).has_globals ≡ false) }
@@ -207,7 +208,7 @@ fn match_command<'a>(alloc: Global) -> Result<Command<'a>, AllocError>
     ))
 }
 
-// The subcommand `verify` with its flags.
+// The subcommand `verify` with its flags `--keep-going`, `--quiet` and `--strict`.
 fn verify_command<'a>(alloc: Global) -> Result<Command<'a>, AllocError>
     ensures app { IfOk result (λ c. app_of c ≡ verify_app) }
     ensures local { IfOk result (λ c. (fields_of c).has_globals ≡ false) }
@@ -249,7 +250,8 @@ fn stub_command<'a>(alloc: Global) -> Result<Command<'a>, AllocError>
     .arg(words)
 }
 
-// The whole grammar: the program with its subcommands.
+// The whole grammar of the command line: the program `arbiter` with the subcommands `session`, `verify`, `stub` and
+// `match`.
 pub(crate) fn arbiter_command<'a>(alloc: Global) -> Result<Command<'a>, AllocError>
     ensures { IfOk result (λ c. GivesArbiterApp (app_of c)) }
 {

@@ -23,21 +23,22 @@ use Rattle.engine_lines.specs.Levels.{LevelSeen, level_of}
 
 -- ---- what is asked for, as written
 
--- the value that an option was given, else its default. `rows` are the options, each with its values, as `clap`
+-- the value that the option `name` was given, else `default`. `rows` are the options, each with its values, as `clap`
 -- matched them
 abbrev pub text_or : Text → List Row → Text → Text
 text_or name rows default = unwrap_or (first_of name rows) default
 
--- the value of `--games`, 1 if it was not given; `rows` are the options as matched
+-- the value of `--games` in the options as matched (`rows`); 1 if it was not given
 abbrev pub games_in : List Row → ℕ
 games_in rows = option_map_or (λ t. digits_value 10 (without_leading_plus t)) (first_of (codes "games") rows) 1
 
--- the variant: Chess960 for `fischerandom`, normal chess for any other name or none
+-- the variant that `--variant` asks for: Chess960 for `fischerandom`, normal chess for any other name or none; `rows`
+-- are the options as matched
 abbrev pub variant_in : List Row → Variant
 variant_in rows =
     if bytes_eq (text_or (codes "variant") rows (codes "normal")) (codes "fischerandom") then Fischerandom else Normal
 
--- whether a flag, such as `--quiet`, was given
+-- whether the flag `name`, such as `--quiet`, was given; `rows` are the options as matched
 abbrev pub is_set : Text → List Row → Bool
 is_set name rows = bytes_eq (text_or name rows (codes "false")) (codes "true")
 
@@ -51,11 +52,12 @@ verify_plan_of rows = record {
 
 -- ---- what it means
 
--- the value of `--date`, `????.??.??` if it was not given
+-- the value of `--date`, `????.??.??` if it was not given; `rows` are the options as matched
 abbrev pub date_asked : List Row → Text
 date_asked rows = text_or (codes "date") rows (codes "????.??.??")
 
--- the position that a match starts in: what the FEN denotes, or else the variant's initial one
+-- the position that a match starts in: what the FEN of `--fen` denotes, or else the initial one of the variant; `rows`
+-- are the options as matched
 abbrev pub start_asked : List Row → Result Setup FenFault
 start_asked rows = let v = variant_in rows in
     option_map_or (fen_reading_as v) (first_of (codes "fen") rows) (Ok (initial_setup_of v))
@@ -64,7 +66,8 @@ start_asked rows = let v = variant_in rows in
 abbrev pub is_date : Text → Bool
 is_date text = nat_le (length text) 60 && list_all (λ b. nat_le 32 b && nat_le b 126) text
 
--- the level of a match and its start; or else the fault of the first of level, FEN and date that isn't in its form
+-- the time control of a match and its start; or else the fault of the first of level, FEN and date that is invalid.
+-- `rows` are the options as matched
 abbrev pub level_and_start : List Row → Result (LevelSeen × Setup) WordsFault
 level_and_start rows = do
   level ← ok_or (level_of (text_or (codes "level") rows (codes "40 5 0"))) BadLevel
@@ -81,7 +84,8 @@ pub record IsMatchPlan (rows : List Row) (plan : MatchPlan) : Type 0 where
   pub date : plan.date.now ≡ date_asked rows
   pub log : plan.log ≡ is_set (codes "log") rows
 
--- the plan is what the arguments ask for; `p` is the subcommand's name and its options as matched
+-- the plan is what the arguments ask for: it is that of their subcommand, with the options given after it; `p` is the
+-- subcommand's name and its options as matched
 abbrev pub IsPlanOf : Text × List Row → Plan → Type 0
 IsPlanOf p Session = p.0 ≡ codes "session"
 IsPlanOf p (Verify v) = (p.0 ≡ codes "verify") × (v ≡ verify_plan_of p.1)
@@ -89,9 +93,9 @@ IsPlanOf p (Stub words) = (p.0 ≡ codes "stub")
     × (map (λ w. w.now) words.items ≡ unwrap_or (all_of (codes "words") p.1) [])
 IsPlanOf p (Match plan) = (p.0 ≡ codes "match") × IsMatchPlan p.1 plan
 
--- a plan is returned only for arguments in which `clap` finds no fault; so is a level, FEN or date out of its form, and
--- that only of a match. For others, one of the faults that `clap` may find in them is. Out of memory may be reported for
--- any arguments
+-- the result of reading the arguments `words` is right. A plan is returned only if `clap` finds no fault in them, and
+-- so is a fault of level, FEN or date, which only a match has; else one of the faults that `clap` may find. Out of
+-- memory may be reported for any arguments. `names` are those that `--variant` takes
 abbrev pub IsReadBy : Lent → List Text → Result Plan WordsFault → Type 0
 IsReadBy names words (Ok plan) = (faults_in names words ≡ []) × IsPlanOf (asked names words) plan
 IsReadBy names words (Err (Words e)) = IsAmong (kind_of e) (faults_in names words)
@@ -99,6 +103,7 @@ IsReadBy names words (Err NoMemory) = ⊤
 IsReadBy names words (Err f) = (faults_in names words ≡ []) × ((asked names words).0 ≡ codes "match")
     × (level_and_start (asked names words).1 ≡ Err f)
 
--- the result of reading these arguments is right by the grammar, wherever its names of variants are in memory
+-- the result of reading the arguments `words` is right by the grammar of the command line, wherever in memory its names
+-- of variants are
 abbrev pub IsReading : List Text → Result Plan WordsFault → Type 0
 IsReading words result = (names : Lent) × AreVariants names × IsReadBy names words result

@@ -27,7 +27,7 @@ pub enum WordsFault {
     BadDate,
 }
 
-// The fault that is reported for an error of `clap`.
+// How an error of `clap` is reported: as out of memory if it is that, else as the error itself.
 pub(crate) fn refusal(error: Error) -> WordsFault
     ensures { Refuses error result }
 {

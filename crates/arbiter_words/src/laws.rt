@@ -4,8 +4,8 @@ ghost use Rattle.std.specs.Prelude.{[], ◌∷◌, codes};
 ghost use Rattle.clap.specs.declared.error.kind.ErrorKind.TheVariants.{DisplayHelp, DisplayVersion, MissingRequiredArgument};
 ghost use Rattle.arbiter_words.specs.laws.Laws.{AreRefused, AskFor, PlansAreNamed, VerifyAsBare, VerifyIsAsAsked};
 
-/// States a law and does nothing: no arguments, `session` alone and `verify` alone are accepted, and ask for a session
-/// or to verify, without flags.
+/// States a law and does nothing: `clap` accepts no arguments, `session` alone and `verify` alone; they ask for a
+/// session or, without flags, to verify.
 pub fn plain_arguments_are_taken()
     ensures none { AskFor [] (codes "session") }
     ensures session { AskFor (codes "session" ∷ []) (codes "session") }
@@ -13,20 +13,21 @@ pub fn plain_arguments_are_taken()
     ensures bare { VerifyAsBare (codes "verify" ∷ []) }
 {}
 
-/// States a law and does nothing: for `--help` and `--version` `clap` returns these texts as errors, and `match` alone
-/// lacks its two programs.
+/// States a law and does nothing: `clap` refuses `--help` and `--version` with the fault that asks to show a text, and
+/// `match` alone with the fault that required options lack.
 pub fn plain_arguments_are_refused()
     ensures help { AreRefused (codes "--help" ∷ []) (DisplayHelp ∷ []) }
     ensures version { AreRefused (codes "--version" ∷ []) (DisplayVersion ∷ []) }
     ensures bare_match { AreRefused (codes "match" ∷ []) (MissingRequiredArgument ∷ []) }
 {}
 
-/// States a law and does nothing: each plan is asked for by the subcommand of its kind.
+/// States a law and does nothing: each plan is asked for by the subcommand of its kind: `session`, `verify`, `stub` or
+/// `match`.
 pub fn plans_are_named()
     ensures { PlansAreNamed }
 {}
 
-/// States a law and does nothing: a plan to verify has the flags that were given after `verify`.
+/// States a law and does nothing: a plan to verify has just the flags that were given after `verify`.
 pub fn verify_is_as_asked()
     ensures { VerifyIsAsAsked }
 {}

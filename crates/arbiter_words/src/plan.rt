@@ -55,7 +55,7 @@ pub enum Plan<'a> {
     Match(MatchPlan<'a>),
 }
 
-// Whether all bytes are printable ASCII.
+// Whether all bytes are printable ASCII (32 to 126).
 fn is_plain(bytes: &[u8]) -> bool
     ensures { result ≡ list_all (λ b. nat_le 32 b && nat_le b 126) bytes.now }
 {
@@ -69,7 +69,7 @@ fn is_date(text: &str) -> bool
     text.len() <= 60 && is_plain(text.as_bytes())
 }
 
-// The position in which games start: what the FEN denotes, else the initial one of the variant.
+// The position in which games start: what the FEN denotes, or without one the initial position of the variant.
 fn start_of(variant: Variant, fen: Option<&str>) -> Result<Position, FenFault>
     ensures { result ≡ start_of variant (option_map (λ t. t.now) fen.entry) }
 {
@@ -79,7 +79,8 @@ fn start_of(variant: Variant, fen: Option<&str>) -> Result<Position, FenFault>
     }
 }
 
-// The plan of a match, if its level, FEN and date are valid; else the fault of the first that is not.
+// The plan of the match that `words` asks for, if its level, FEN and date are valid; else the fault of the first of
+// them that is not.
 fn validate<'a>(words: &MatchRequest<'a>) -> Result<MatchPlan<'a>, WordsFault>
     ensures plan { IfOk result (IsJudged words.now) }
     ensures fault { IfErr result (IsJudgedFault words.now) }
@@ -105,7 +106,8 @@ fn validate<'a>(words: &MatchRequest<'a>) -> Result<MatchPlan<'a>, WordsFault>
     })
 }
 
-// The plan of what was asked for, if the options of a match are valid.
+// The plan of what the request asks for; of a match only if level, FEN and date are valid, else the fault of the first
+// of them that is not.
 pub(crate) fn planned<'a>(spelled: Request<'a>) -> Result<Plan<'a>, WordsFault>
     ensures plan { IfOk result (IsPlanned spelled.entry) }
     ensures fault { IfErr result (IsPlanFault spelled.entry) }

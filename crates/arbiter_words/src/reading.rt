@@ -11,7 +11,7 @@ use arbiter_grammar::parse;
 use clap::ArgMatches;
 use std::alloc::{AllocError, Global};
 
-// The subcommand's name with the options given after it, if one was named.
+// The name of the subcommand among the arguments, with the options given after it; `None` without a subcommand.
 fn entered<'m, 'a>(matches: &'m ArgMatches<'a>) -> Option<(&'a str, &'m ArgMatches<'a>)>
     ensures { option_map (λ p. (p.0.now, rows_of (found_of p.1.now))) result
         ≡ subcommand_rows_of matches.now }

@@ -33,7 +33,7 @@ pub(crate) enum Request<'a> {
     Match(MatchRequest<'a>),
 }
 
-// The value that an option was given, else its default.
+// The value that the option `name` was given, else its default; `found` are the options as matched.
 fn text_or<'a>(found: &ArgMatches<'a>, name: &str, default: &'a str) -> &'a str
     ensures { result.now ≡ text_or name.now (rows_of (found_of found.now)) default.entry.now }
 {
@@ -43,14 +43,14 @@ fn text_or<'a>(found: &ArgMatches<'a>, name: &str, default: &'a str) -> &'a str
     }
 }
 
-// Whether a flag, such as `--quiet`, was given.
+// Whether the flag `name`, such as `--quiet`, was given; `found` are the options as matched.
 fn is_set(found: &ArgMatches<'_>, name: &str) -> bool
     ensures { result ≡ is_set name.now (rows_of (found_of found.now)) }
 {
     text_or(found, name, "false") == "true"
 }
 
-// What the flags of `verify` ask for.
+// What the flags of `verify` ask for; `found` are the flags as matched.
 fn verify_plan(found: &ArgMatches<'_>) -> VerifyPlan
     ensures { result ≡ verify_plan_of (rows_of (found_of found.now)) }
 {
@@ -61,7 +61,7 @@ fn verify_plan(found: &ArgMatches<'_>) -> VerifyPlan
     }
 }
 
-// The arguments after `stub`.
+// The arguments that follow `stub`, in their order; `found` are they as matched.
 fn stub_arguments<'a>(alloc: Global, found: &ArgMatches<'a>) -> Result<Vec<&'a str>, AllocError>
     ensures { IfOk result (λ v. map (λ w. w.now) v.items
         ≡ unwrap_or (all_of (codes "words") (rows_of (found_of found.now))) []) }
@@ -72,7 +72,7 @@ fn stub_arguments<'a>(alloc: Global, found: &ArgMatches<'a>) -> Result<Vec<&'a s
     }
 }
 
-// The value of `--games`, 1 if it was not given.
+// The value of `--games`, 1 if it was not given; `found` are the options as matched.
 fn games_of(found: &ArgMatches<'_>) -> u16
     requires { HasGames (rows_of (found_of found.now)) }
     ensures value { result ≡ games_in (rows_of (found_of found.now)) }
@@ -87,7 +87,7 @@ fn games_of(found: &ArgMatches<'_>) -> u16
     }
 }
 
-// The value of `--variant`, normal chess if it was not given.
+// The variant that `--variant` asks for, normal chess if it was not given; `found` are the options as matched.
 fn variant_of(found: &ArgMatches<'_>) -> Variant
     ensures { result ≡ variant_in (rows_of (found_of found.now)) }
 {
@@ -98,7 +98,8 @@ fn variant_of(found: &ArgMatches<'_>) -> Variant
     }
 }
 
-// The options of `match`; `None` if `--white` or `--black` was not given.
+// The options of `match`, each as given or by default; `None` if `--white` or `--black` was not given. `found` are the
+// options as matched.
 fn match_request<'a>(found: &ArgMatches<'a>) -> Option<MatchRequest<'a>>
     requires { HasGames (rows_of (found_of found.now)) }
     ensures given { IfSome result (IsMatchOf (rows_of (found_of found.now))) }
@@ -119,7 +120,7 @@ fn match_request<'a>(found: &ArgMatches<'a>) -> Option<MatchRequest<'a>>
     })
 }
 
-// What the subcommand `name` with these options asks for.
+// What the subcommand `name` with these options (`found`, as matched) asks for.
 pub(crate) fn request_in<'a>(
     alloc: Global,
     name: &str,

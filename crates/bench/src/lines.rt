@@ -4,8 +4,8 @@ ghost use Rattle.std.specs.Prelude.{◌≡◌};
 
 use chess_moves::Board;
 
-/// Counts the lines of `depth` legal moves from the board's position (perft). The last moves are counted and not made,
-/// and nothing is called for them that has room for a list.
+/// Counts the lines of `depth` legal moves from the board's position (perft), and leaves the board as it was. The moves
+/// at the last depth are only counted, not made.
 pub fn count_lines<B: Board>(board: &mut B, depth: u8) -> u64
     ensures { B.position board.new ≡ B.position board.old }
 {

@@ -29,7 +29,7 @@ const USAGE: &str =
 // Two short games, with a tag and a variation.
 const TWO_GAMES: &[u8] = b"1. e4 e5 1-0 [Event \"x\"] 1. f3 (1. d4) e5 2. g4 *";
 
-// The arguments as one text, with a space after each.
+// These arguments as one text, with a space after each.
 fn joined(alloc: Global, words: &[String]) -> io::Result<Vec<u8>> {
     let mut text = Vec::new(alloc);
     for word in words {
@@ -47,7 +47,8 @@ fn start_of(fen: &[u8]) -> Option<Position> {
     read_fen(fen).ok()
 }
 
-// How many `count` is per second, if it took the time `spent` (a millisecond at least).
+// How many there are a second, if there are `count` of them in the time `spent` (which counts as a millisecond at
+// least).
 fn a_second(count: u64, spent: Duration) -> u64 {
     let millis = u64::try_from(spent.as_millis()).unwrap_or(u64::MAX).max(1);
     count.saturating_mul(1000) / millis
@@ -62,7 +63,8 @@ fn words_of(rt: &HostRuntime) -> io::Result<Vec<String>> {
     Ok(words)
 }
 
-// Counts and times the lines of `depth` legal moves from the position of a FEN.
+// Counts the lines of `depth` legal moves from the position of a FEN, and prints their number, and on standard error
+// how many were counted a second.
 fn measure_lines(rt: &HostRuntime, depth: u8, fen: &[u8]) -> io::Result<ExitCode> {
     let Some(start) = start_of(fen) else {
         return misused(rt);
@@ -83,14 +85,16 @@ fn open_game<'t>(alloc: Global, tables: &'t AttackTables) -> Result<Game<Bits<'t
     Game::open(alloc, Bits::new(tables), MOST_MOVES)
 }
 
-// Reads and times the games of a PGN text.
+// Reads all games of a PGN text, and prints how many games and half-moves it has, and on standard error how many
+// half-moves were read a second; or the place of its first fault.
 fn measure_games(rt: &HostRuntime, text: &[u8]) -> io::Result<ExitCode> {
     let tables = AttackTables::open(rt.alloc())?;
     let mut game = open_game(rt.alloc(), &tables)?;
     time_games(rt, text, &mut game)
 }
 
-// The same, with a game that is already allocated.
+// Reads all games of a PGN text into `game`, which is already allocated, and prints how many games and half-moves it
+// has, and on standard error how many half-moves were read a second; or the place of its first fault.
 fn time_games(rt: &HostRuntime, text: &[u8], game: &mut Game<Bits<'_>>) -> io::Result<ExitCode> {
     let begun = Instant::now(rt)?;
     match read_games(text, game) {
@@ -110,7 +114,8 @@ fn time_games(rt: &HostRuntime, text: &[u8], game: &mut Game<Bits<'_>>) -> io::R
 // How many half-moves a match has.
 const MATCH_LEN: usize = 500;
 
-// Plays and times so many matches between two engines in memory.
+// Plays `times` games, each of at most 500 half-moves, between two engines in memory, and prints how many half-moves
+// they have, and on standard error how many were played a second.
 fn measure_matches(rt: &HostRuntime, times: u32) -> io::Result<ExitCode> {
     let tables = AttackTables::open(rt.alloc())?;
     let mut game = open_game(rt.alloc(), &tables)?;
@@ -118,7 +123,8 @@ fn measure_matches(rt: &HostRuntime, times: u32) -> io::Result<ExitCode> {
     time_matches(rt, times, &script, &mut game)
 }
 
-// The same, with a script and a game that are already allocated.
+// Plays `times` games by this script, between two engines in memory, and prints how many half-moves they have, and on
+// standard error how many were played a second. `game` is already allocated.
 fn time_matches(
     rt: &HostRuntime,
     times: u32,
@@ -136,7 +142,7 @@ fn time_matches(
     Ok(ExitCode::SUCCESS)
 }
 
-// Plays so many matches, and returns the number of their half-moves.
+// Plays `times` games by this script, between two engines in memory, and returns how many half-moves they have in all.
 fn play_matches(
     alloc: Global,
     times: u32,
@@ -152,20 +158,20 @@ fn play_matches(
     half_moves
 }
 
-// Measures a little of each: lines, games and a match.
+// Measures a little of each: lines of legal moves, games of a PGN text, and a game between two engines.
 fn measure_each(rt: &HostRuntime) -> io::Result<ExitCode> {
     measure_lines(rt, 4, KIWIPETE)?;
     measure_games(rt, TWO_GAMES)?;
     measure_matches(rt, 1)
 }
 
-// Prints how the program is called, and returns status 2.
+// Prints on standard error how the program is called, and returns status 2.
 fn misused(rt: &HostRuntime) -> io::Result<ExitCode> {
     eprintln!(rt; "{USAGE}")?;
     Ok(ExitCode::from(2))
 }
 
-// Does what the arguments ask for.
+// Measures what the arguments ask for, or prints how the program is called.
 fn run(rt: &HostRuntime) -> io::Result<ExitCode> {
     let words = words_of(rt)?;
     match words.as_slice() {
@@ -188,7 +194,7 @@ fn run(rt: &HostRuntime) -> io::Result<ExitCode> {
     }
 }
 
-// Runs the benchmark that the arguments name.
+// Measures what the arguments ask for.
 fn main(rt: HostRuntime) -> io::Result<ExitCode> {
     run(&rt)
 }

@@ -25,7 +25,7 @@ impl Moments for Standing {
 
     ghost coming = { λ m n. None };
 
-    // Always 0, so that no time is used.
+    // Reads the clock: it is always 0, so that no move takes any time.
     fn now(&mut self) -> u64 {
         0
     }
@@ -36,16 +36,16 @@ fn next_random(number: u32) -> u32 {
     number.wrapping_mul(1_664_525).wrapping_add(1_013_904_223)
 }
 
-// Whether a move is likely to keep the game going: it captures nothing, and moves a pawn only if none was moved for
-// twenty half-moves.
+// Whether a move is likely to keep the game going: it captures nothing, and it is a pawn's if and only if the halfmove
+// clock is above 20.
 fn goes_on(setup: &Setup, m: Move) -> bool {
     let man = setup.men[m.from.index()];
     let is_pawn = man.is_some_and(|man| man.kind == Kind::Pawn);
     setup.men[m.to.index()].is_none() && is_pawn == (setup.halfmove > 20)
 }
 
-// The first move that keeps the game going, of the legal moves from the index `place` on and then of those before it;
-// else the one at that index.
+// The legal move that is played next: the first that keeps the game going, of those from the index `place` on and then
+// of those before it; else the one at that index.
 fn next_move<B: Board>(board: &B, place: usize) -> Option<Move> {
     let moves = board.legal_moves();
     let (front, behind) = moves.as_slice().split_at_checked(place)?;
@@ -63,7 +63,8 @@ fn next_move<B: Board>(board: &B, place: usize) -> Option<Move> {
     behind.first().copied()
 }
 
-// Appends an engine's lines for a move: `move e2e4`, and `pong` with this number for the `ping` after it.
+// Appends an engine's lines for a move to `said`: `move e2e4`, and `pong` with this number, the answer to the `ping`
+// after it.
 fn say_move(said: &mut Vec<u8>, m: Move, number: usize) -> Result<(), AllocError> {
     let mut buffer = itoa::Buffer::new();
     said.extend_from_slice(b"move ")?;
@@ -73,14 +74,15 @@ fn say_move(said: &mut Vec<u8>, m: Move, number: usize) -> Result<(), AllocError
     said.extend_from_slice(b"\n")
 }
 
-// An engine's lines of the handshake.
+// The lines of an engine before its first move: its features, and the answer to the first `ping`.
 fn greeting(alloc: Global) -> Result<Vec<u8>, AllocError> {
     let mut said = Vec::new(alloc);
     said.extend_from_slice(b"feature ping=1 usermove=1 setboard=1 done=1\npong 1\n")?;
     Ok(said)
 }
 
-/// All lines that two engines send in a game of at most so many half-moves with few captures; the game is played here.
+/// All lines that two engines send in a game of at most `half_moves` half-moves with few captures, which is chosen and
+/// played here in `game`.
 ///
 /// # Errors
 /// If memory runs out.
@@ -113,7 +115,8 @@ pub fn write_script<B: Board>(
     Ok(script)
 }
 
-/// Plays a match between two engines that send these lines, in reads of 4,096 bytes, and returns its half-moves.
+/// Plays a game between two engines that send the lines of `script`, read 4,096 bytes at a time, and returns how many
+/// half-moves it has.
 pub fn relay<B: Board>(alloc: Global, script: &Script, level: Level, game: &mut Game<B>) -> usize {
     let mut white = Ends {
         reader: Counted::reading(PieceReader::new(script.white.as_slice(), 4096, 0)),

@@ -32,7 +32,7 @@ use Rattle.chess_arbiter.specs.Stub.{stub_response, waiting}
 use Rattle.chess_arbiter.specs.declared.fault.ProgramFault.TheVariants.{WrongWords}
 use Rattle.chess_game.specs.declared.game.TheConstants.{MOST_MOVES}
 
--- the exit status of something that may fail: 1 if it did
+-- the exit status after something that may fail: 1 if the result is an error, else 0
 abbrev pub status_of : {A E : Type 0} → Result A E → ℕ
 status_of result = if is_ok result then 0 else 1
 
@@ -41,15 +41,16 @@ abbrev pub fault_status : ProgramFault → ℕ
 fault_status WrongWords = 2
 fault_status _ = 1
 
--- the input's lines were answered on the output by a server, from its state `s` on, up to its end or a fault. `r` and
--- `w` are input and output before, `r'` and `w'` after
+-- the server `respond`, which began in the state `s`, answered the lines of the input on the output, up to the input's
+-- end, to a line that ends it, or to a fault, and `status` is then the exit status. `r` and `w` are input and output
+-- before, `r'` and `w'` after
 abbrev pub RanServer : {S : Type 0} → Server S → S → InputState → InputState → OutputState → OutputState → ℕ → Type 0
 RanServer {S} respond s r r' w w' status =
     (outcome : Result End Fault) × (s' : S) × (t : Transcript)
     × SessionRan respond r r' w w' s s' t outcome × (status ≡ status_of outcome)
 
--- a session of at most 20,000 half-moves ran; or memory ran out for it, and nothing was read or written. `r` and `w`
--- are input and output before, `r'` and `w'` after
+-- a session of at most 20,000 half-moves ran on input and output; or memory ran out for it, and nothing was read or
+-- written. `r` and `w` are input and output before, `r'` and `w'` after; `status` is the exit status
 abbrev pub RanSession : InputState → InputState → OutputState → OutputState → ℕ → Type 0
 RanSession r r' w w' status =
     RanServer session_response (opened_session default_tags MOST_MOVES) r r' w w' status
@@ -59,7 +60,8 @@ RanSession r r' w w' status =
 abbrev pub options_of : VerifyPlan → VerifyOptions
 options_of plan = record { quiet = plan.quiet; strict = plan.strict }
 
--- what verifying does: with `--keep-going` (true) piece by piece, else as one text up to its first fault
+-- what verifying the input's PGN does, by the flag `--keep-going`: with it (true) piece by piece, so that a fault ends
+-- only its piece; else as one text up to its first fault
 abbrev pub VerifiesAs : Bool → VerifyOptions → InputState → InputState → OutputState → OutputState
     → Result Verified VerifyFault → Type 0
 VerifiesAs true = VerifiesCollection
@@ -70,22 +72,22 @@ abbrev pub verify_status : Result Verified VerifyFault → ℕ
 verify_status (Ok EachGame) = 0
 verify_status _ = 1
 
--- the input's games were verified as the flags ask, and the exit status says whether there was a fault. `r` and `w`
--- are input and output before, `r'` and `w'` after
+-- the input's games were verified as the flags of the plan ask, and the exit status `status` is 0 if all was verified
+-- and no game has a fault, else 1. `r` and `w` are input and output before, `r'` and `w'` after
 abbrev pub RanVerify : VerifyPlan → InputState → InputState → OutputState → OutputState → ℕ → Type 0
 RanVerify plan r r' w w' status = (outcome : Result Verified VerifyFault)
     × VerifiesAs plan.keep_going (options_of plan) r r' w w' outcome × (status ≡ verify_status outcome)
 
 -- a text of help was written and flushed, or a beginning of it if that failed; or memory ran out for it, and nothing
--- was written. `w` is the output before, `w'` after
+-- was written. `w` and `w'` are the output before and after; `status` is the exit status
 abbrev pub RanHelp : OutputState → OutputState → ℕ → Type 0
 RanHelp w w' status =
     ((outcome : Result (Unit {0}) WriteFault) × (text : List ℕ) × Sends w w' outcome text
     × (status ≡ status_of outcome))
     ⊎ ((w' ≡ w) × (status ≡ 1))
 
--- what is done with arguments that ask for nothing: help and the version go to the output (`w` before, `w'` after),
--- all else to the error output, of which nothing is said here
+-- what is done with arguments that ask for nothing, by their fault: help and the version go to the output (`w` before,
+-- `w'` after), all else to the error output, of which nothing is said here. `status` is the exit status
 abbrev pub ReportsArguments : WordsFault → OutputState → OutputState → ℕ → Type 0
 ReportsArguments (words.Words e) w w' status =
     ((kind_of e ≢ DisplayHelp) → (kind_of e ≢ DisplayVersion) → (w' ≡ w) × (status ≡ 2))
@@ -93,15 +95,16 @@ ReportsArguments (words.Words e) w w' status =
 ReportsArguments words.NoMemory w w' status = (w' ≡ w) × (status ≡ 1)
 ReportsArguments fault w w' status = (w' ≡ w) × (status ≡ 2)
 
--- the games of a match were played, written and logged, and the exit status says whether anything failed. What the
--- error output has is said only for status 0. `w` and `l` are output and log before, `w'` and `l'` after
+-- the games of the plan's match were played, written and logged, and the exit status `status` is 1 if anything failed,
+-- else 0. What the error output has is said only for status 0. `w` and `l` are output and log before, `w'` and `l'`
+-- after
 abbrev pub RanMatch : MatchPlan → OutputState → OutputState → LogSeen → LogSeen → ℕ → Type 0
 RanMatch plan w w' l l' status =
     (outcome : Result (Unit {0}) GamesFault) × (logged : LogSeen) × RanGames plan w w' l logged outcome
     × (status ≡ status_of outcome) × (status ≡ 0 → l' ≡ logged)
 
--- the program did what its arguments ask for, or reported why they ask for nothing. `r`, `w` and `l` are input,
--- output and error output before, `r'`, `w'` and `l'` after
+-- the program did what its arguments ask for (the plan), or reported why they ask for nothing (the fault). `r`, `w` and
+-- `l` are input, output and error output before, `r'`, `w'` and `l'` after; `status` is the exit status
 abbrev pub RanPlan : Result Plan WordsFault → InputState → InputState → OutputState → OutputState → LogSeen → LogSeen → ℕ
     → Type 0
 RanPlan (Ok Session) r r' w w' l l' status = RanSession r r' w w' status
@@ -110,8 +113,8 @@ RanPlan (Ok (Stub words)) r r' w w' l l' status = RanServer stub_response (waiti
 RanPlan (Ok (Match plan)) r r' w w' l l' status = (r' ≡ r) × RanMatch plan w w' l l' status
 RanPlan (Err fault) r r' w w' l l' status = (r' ≡ r) × ReportsArguments fault w w' status
 
--- what the program does with these arguments: it reads them, and does what they ask for. `r`, `w` and `l` are input,
--- output and error output before, `r'`, `w'` and `l'` after
+-- what the program does with the arguments `words`: it reads them, and does what they ask for. `r`, `w` and `l` are
+-- input, output and error output before, `r'`, `w'` and `l'` after; `status` is the exit status
 abbrev pub RanProgram : List Text → InputState → InputState → OutputState → OutputState → LogSeen → LogSeen → ℕ
     → Type 0
 RanProgram words r r' w w' l l' status = (read : Result Plan WordsFault) × IsReading words read

@@ -10,55 +10,58 @@ use Rattle.chess_cecp.specs.Serving.{Response}
 use Rattle.chess_cecp.specs.declared.command.Command.{Command}
 use Rattle.chess_cecp.specs.declared.command.Command.TheVariants.{New, UserMove, Ping, Protover, Go, Quit, Silent, Unknown}
 
--- the arguments of a stub, as references to texts
+-- the arguments of a stub, an engine that plays the moves in its arguments; each is a reference to a text
 abbrev pub Words : Type 0
 Words = List (Bor (List ℕ))
 
--- the state of a stub: its arguments that are not yet used, and whether it plays (from `go` on, up to `force` or
--- `new`)
+-- the state of a stub, an engine that plays the arguments that it is given: those not yet used, and whether it plays a
+-- side (from `go` on, up to `force` or `new`)
 pub record StubState : Type 0 where
   pub words : Words
   pub plays : Bool
 
--- a stub that plays no side, with these arguments left
+-- the state of a stub that plays no side, with these arguments not yet used
 abbrev pub waiting : Words → StubState
 waiting words = record { words = words; plays = false }
 
--- a stub that plays a side, with these arguments left
+-- the state of a stub that plays a side, with these arguments not yet used
 abbrev pub playing : Words → StubState
 playing words = record { words = words; plays = true }
 
--- a text is said, and this is the state after it
+-- the stub sends this text, goes on, and is then in the state `s`
 abbrev pub says : StubState → List ℕ → Response StubState
 says s text = record { text = text; state = s; ends = false }
 
 -- ---- a turn
 
--- what the stub sends for the argument `offer` or `claim`, which may follow a move; `None` for any other
+-- the line that the stub sends for the argument `offer` (`offer draw`) or `claim` (a claim of a draw), which may follow
+-- a move; `None` for any other argument
 abbrev pub remark : List ℕ → Option (List ℕ)
 remark word =
     if bytes_eq word (codes "offer") then Some (codes "offer draw" ++ new_line ∷ [])
     else if bytes_eq word (codes "claim") then Some (codes "1/2-1/2 {Draw by repetition}" ++ new_line ∷ [])
     else None
 
--- the argument is a remark
+-- whether an argument is `offer` or `claim`, of which something is sent after a move
 abbrev pub is_remark : Bor (List ℕ) → Bool
 is_remark word = is_some (remark word.now)
 
--- what the stub sends for the arguments `offer` and `claim` at the front of these
+-- the lines that the stub sends for the arguments `offer` and `claim` (an offer and a claim of a draw) at the front of
+-- these, up to the first other one
 unfoldable pub remarks : Words → List ℕ
 remarks words = flat_map (λ word. unwrap_or (remark word.now) []) (take_while is_remark words)
 
--- these arguments without any `offer` and `claim` at their front
+-- these arguments without those `offer` and `claim` that come before the first other one
 unfoldable pub after_remarks : Words → Words
 after_remarks words = drop (prefix_len is_remark words) words
 
--- what is said for an argument that is played: `resign` as it is, any other as a move
+-- the line that the stub sends for an argument that is played: `resign` as it is, any other after `move`
 abbrev pub played_text : List ℕ → List ℕ
 played_text word = (if bytes_eq word (codes "resign") then [] else codes "move ") ++ (word ++ new_line ∷ [])
 
--- the stub's turn: it plays the next argument, and the `offer` and `claim` after it; `end` makes it end in the middle
--- of a line; with none left it resigns
+-- the turn of a stub (an engine that plays the arguments that it is given), with these arguments left: it plays the
+-- first one, and sends what the `offer` and `claim` after it stand for; `end` makes it end in the middle of a line;
+-- with none left it resigns
 abbrev pub turn : Words → Response StubState
 turn [] = says (playing []) (codes "resign" ++ new_line ∷ [])
 turn (word ∷ words) =
@@ -67,16 +70,16 @@ turn (word ∷ words) =
 
 -- ---- a line
 
--- the reply to `protover`
+-- the line that the stub sends in reply to `protover`: its features
 abbrev pub features : List ℕ
 features = codes "feature ping=1 setboard=1 usermove=1 myname=\"stub\" done=1" ++ new_line ∷ []
 
--- what the stub does at a move of its opponent: its turn, if it plays
+-- what the stub does when its opponent moved: if it plays, it takes its turn; else nothing
 abbrev pub moved : StubState → Response StubState
 moved s = if s.plays then turn s.words else says s []
 
--- what the stub does at a command; `text` is the line's. `usermove` alone counts as a move too; other commands are
--- ignored
+-- what a stub (an engine that plays the arguments that it is given) in the state `s` does at a command; `text` is the
+-- whole line. `usermove` alone counts as a move too, and all commands without a row here are ignored
 abbrev pub row : StubState → List ℕ → Command → Response StubState
 row s text (Protover n) = says s features
 row s text (Ping n) = says s (codes "pong " ++ (decimal n ++ new_line ∷ []))
@@ -88,6 +91,7 @@ row s text Quit = record (says s []) { ends = true }
 row s text Silent = if bytes_eq (word_of text) (codes "force") then says (waiting s.words) [] else says s []
 row s text _ = says s []
 
--- what the stub does at a line; one that is too long is ignored
+-- what a stub (an engine that plays the arguments that it is given) in the state `s` does with a line: it obeys the
+-- line's command; a line that is too long is ignored
 unfoldable pub stub_response : StubState → LineSeen → Response StubState
 stub_response s line = if line.too_long then says s [] else row s line.text (command_of line.text)

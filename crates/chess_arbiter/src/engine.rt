@@ -23,7 +23,7 @@ pub(crate) struct Engine<P: OpenProcess + Drop> {
     pub ends: Ends<Counted<P::Stdout>, Counted<P::Stdin>>,
 }
 
-// Why an engine could not be started, by the system's error.
+// Why an engine could not be started, by the system's error: no memory, or anything else.
 fn start_fault(error: &io::Error) -> StartFault {
     if error.kind() == io::ErrorKind::OutOfMemory {
         StartFault::NoMemory
@@ -32,7 +32,7 @@ fn start_fault(error: &io::Error) -> StartFault {
     }
 }
 
-// Splits a command at spaces and tabs into the program and its arguments.
+// The command of an engine to start: its text is split at spaces and tabs into the program and its arguments.
 fn command_of(alloc: Global, text: &str) -> Result<Command, StartFault> {
     let mut parts = text.split([' ', '\t']).filter(|part| !part.is_empty());
     let Some(program) = parts.next() else {
@@ -86,7 +86,8 @@ pub(crate) fn start<R: Processes>(
 // How often an engine is asked whether it has ended, at intervals of a millisecond, before its output is closed.
 const GRACE: u32 = 500;
 
-// Waits up to half a second for an engine to end whose input is closed, so that its last output meets an open pipe.
+// Waits until this engine, whose input is closed, has ended, at most half a second, so that its last output meets an
+// open pipe.
 fn give_grace<C: Clock, P: OpenProcess>(rt: &C, child: &mut Child<P>) {
     for _ in 0..GRACE {
         match child.try_wait() {

@@ -44,7 +44,7 @@ struct TextOn<'a, W> {
 }
 
 impl<W: Output> fmt::Write for TextOn<'_, W> {
-    // Writes a text, as formatting asks for it.
+    // Writes a text to the output, as formatting asks for it.
     fn write_str(&mut self, text: &str) -> fmt::Result {
         put(self.output, text.as_bytes()).map_err(|_| fmt::Error)
     }
@@ -66,7 +66,7 @@ pub(crate) fn report<E: Output, D: Display>(errors: &mut E, fault: &D) {
     }
 }
 
-// Writes a fault of the program, and returns it.
+// Writes a fault of the program to the error output as the line `arbiter: FAULT`, and returns it.
 pub(crate) fn reported_fault<E: Output>(errors: &mut E, fault: ProgramFault) -> ProgramFault
     ensures { result ≡ fault }
 {
@@ -74,7 +74,7 @@ pub(crate) fn reported_fault<E: Output>(errors: &mut E, fault: ProgramFault) -> 
     fault
 }
 
-// Writes a fault to the error output, and returns this exit status.
+// Writes a fault to the error output as the line `arbiter: FAULT`, and returns `status`.
 pub(crate) fn reported<E: Output, D: Display>(errors: &mut E, fault: &D, status: u8) -> u8
     ensures { result ≡ status }
 {

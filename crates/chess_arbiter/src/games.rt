@@ -57,7 +57,7 @@ fn fault_text(side: Colour, fault: MatchFault) -> &'static str
     }
 }
 
-// The side of the engine of `--white` in the game of this number.
+// The side that the engine of `--white` has in the game of this number: White in odd games, Black in even ones.
 fn first_side(number: u32) -> Colour
     ensures { result ≡ first_side number }
 {
@@ -68,7 +68,7 @@ fn first_side(number: u32) -> Colour
     }
 }
 
-// The command of the engine that has that side.
+// The command of the engine that has this side in the game of this number.
 fn command_of<'a>(plan: &MatchPlan<'a>, number: u32, side: Colour) -> &'a str
     ensures { result.now ≡ command_of plan.now number side }
 {
@@ -79,7 +79,7 @@ fn command_of<'a>(plan: &MatchPlan<'a>, number: u32, side: Colour) -> &'a str
     }
 }
 
-// An engine's name in the tags: the one that it gave itself, or its command if it gave none.
+// An engine's name in the tags: the one that it gave itself (`name`), or its command if that is empty.
 fn name_of(name: &TagText, command: &str) -> TagText
     ensures { result ≡ name_of name.now command.now }
 {
@@ -91,7 +91,7 @@ fn name_of(name: &TagText, command: &str) -> TagText
     }
 }
 
-// The tags of the game of this number, which ended so.
+// The PGN tags of the game of this number, which ended as `end` says.
 fn tags_of(plan: &MatchPlan<'_>, number: u32, end: &MatchEnd) -> Tags
     ensures { result ≡ tags_of plan.now number end.now }
 {
@@ -107,7 +107,7 @@ fn tags_of(plan: &MatchPlan<'_>, number: u32, end: &MatchEnd) -> Tags
     }
 }
 
-// The side of the engine of `--white` in the game of this number, if the plan asks for a log.
+// The side that the engine of `--white` has in the game of this number, if the plan asks for a log; else `None`.
 fn logged_side(plan: &MatchPlan<'_>, number: u32) -> Option<Colour>
     ensures { result ≡ logged_side plan.now number }
 {
@@ -118,7 +118,8 @@ fn logged_side(plan: &MatchPlan<'_>, number: u32) -> Option<Colour>
     }
 }
 
-// Plays one game between two engines, and logs it if `first`, the side of the engine of `--white`, is given.
+// Plays one game between two engines, whose pipes are `white` and `black`, and logs it if `first`, the side of the
+// engine of `--white`, is given.
 fn relay<'t, R: Input, W: Output, M: Moments, E: Output>(
     white: &mut Ends<R, W>,
     black: &mut Ends<R, W>,
@@ -147,7 +148,8 @@ fn relay<'t, R: Input, W: Output, M: Moments, E: Output>(
     run_match_logged(white, black, moments, setup, game, first, log)
 }
 
-// Plays one game between two running engines, and ends both; `first` as in `relay`.
+// Plays one game between two running engines, and ends both; logs it if `first`, the side of the engine of `--white`,
+// is given.
 fn play_game<'t, C: Clock, P: OpenProcess + Drop, M: Moments, E: Output>(
     rt: &C,
     white: Engine<P>,
@@ -201,7 +203,7 @@ fn play_game<'t, C: Clock, P: OpenProcess + Drop, M: Moments, E: Output>(
     end
 }
 
-// Writes a game's PGN, and flushes.
+// Writes a game's PGN to the output, and flushes; `scratch` is a board on which its moves are made again.
 fn write_game<'t, W: Output>(
     game: &Game<Bits<'t>>,
     scratch: &mut Bits<'t>,
@@ -214,14 +216,14 @@ fn write_game<'t, W: Output>(
     output.flush()
 }
 
-// Writes the line of the score, and flushes.
+// Writes the line `score first 1 second 0 ..` of the match so far to the output, and flushes.
 fn write_score<W: Output>(score: Score, output: &mut W) -> Result<(), WriteFault>
     ensures { Sends (W.seen output.old) (W.seen output.new) result (score_line score) }
 {
     send(output, score.line().as_slice())
 }
 
-// How the fault of starting the engine with this command is reported.
+// How the fault of starting the engine with this command is reported: out of memory as such, all else by the command.
 fn start_fault<'a>(fault: StartFault, command: &'a str) -> GamesFault<'a>
     ensures fails { FailsToStart command.entry.now result }
     ensures told { ReportsStart fault command.entry.now result }
@@ -255,7 +257,8 @@ fn start_both<'a, P: Processes + Clock>(
     }
 }
 
-// Plays the game of this number, and writes and flushes its PGN.
+// Plays the game of this number between the plan's two engines, which are started for it, logs it if the plan asks for
+// that, and writes and flushes its PGN. `game` and `scratch` are already allocated.
 fn play_one<'a, 't, P: Processes + Clock, M: Moments, W: Output, E: Output>(
     rt: &P,
     alloc: Global,
@@ -303,7 +306,7 @@ struct GamesPlayed {
     fault: Option<(u32, Colour, MatchFault)>,
 }
 
-// How many games are to be played.
+// How many games the plan asks for.
 fn game_count(plan: &MatchPlan<'_>) -> u32
     ensures value { result ≡ plan.now.games }
     ensures few { result ≤ 65535 }
@@ -311,7 +314,8 @@ fn game_count(plan: &MatchPlan<'_>) -> u32
     u32::from(plan.games)
 }
 
-// Plays game after game, up to the first in which an engine has a fault.
+// Plays the plan's games one after another, up to and with the first in which an engine has a fault, and writes and
+// logs each. Returns the score, and that fault. `game` and `scratch` are already allocated.
 fn play_each<'a, 't, P: Processes + Clock, M: Moments, W: Output, E: Output>(
     rt: &P,
     alloc: Global,

@@ -12,8 +12,8 @@ use arbiter_words::{
     plain_arguments_are_refused, plain_arguments_are_taken, plans_are_named, verify_is_as_asked,
 };
 
-/// States a law and does nothing: no arguments, or `session` alone, run a session, and `verify` alone verifies games.
-/// Such arguments are never refused, whatever else the grammar of the arguments has.
+/// States a law and does nothing: whenever the program runs without arguments or with `session` alone, it runs a
+/// session; with `verify` alone it verifies games. The grammar never refuses such arguments.
 pub fn plain_arguments_do_what_they_say()
     ensures none { ServesSession [] }
     ensures session { ServesSession (codes "session" ∷ []) }
@@ -25,8 +25,8 @@ pub fn plain_arguments_do_what_they_say()
     verify_is_as_asked();
 }
 
-/// States a law and does nothing: `--help` and `--version` show a text of help, and `match` without its two programs
-/// is refused.
+/// States a law and does nothing: whenever the program runs with `--help` or `--version`, it writes a text of help;
+/// with `match` alone, which lacks its two engines, it is refused with status 2, or 1 if memory ran out.
 pub fn refused_arguments_are_reported()
     ensures help { ShowsHelp (codes "--help" ∷ []) }
     ensures version { ShowsHelp (codes "--version" ∷ []) }
@@ -36,9 +36,9 @@ pub fn refused_arguments_are_reported()
     plain_arguments_are_refused();
 }
 
-/// States a law and does nothing: the limits that definitions name by their constants are 20,000 half-moves of a game,
-/// 999,999 of a FEN's counters, 1,024 bytes of a session's line, 8,192 of an engine's, and 16,777,216 of a piece of a
-/// collection.
+/// States a law and does nothing: the limits that definitions name by constants are 20,000 half-moves of a game,
+/// 999,999 for a FEN's counters, and, in bytes, 1,024 for a session's line, 8,192 for an engine's line, and 16,777,216
+/// for a piece of a PGN collection.
 pub fn limits_are_as_stated()
     ensures moves { MOST_MOVES ≡ 20000 }
     ensures counters { COUNTER_LIMIT ≡ 999999 }

@@ -57,7 +57,8 @@ fn shown(byte: u8) -> u8
     }
 }
 
-// Writes and flushes a text, unless a call on the log failed before (`broken`). Returns whether one has failed by now.
+// Writes and flushes a text, unless a call on the log failed before (`broken`). Returns whether one has failed, before
+// or now.
 fn send_unless_broken<E: Output>(output: &mut E, text: &[u8], broken: bool) -> bool
     ensures { Logs broken result (E.seen output.old) (E.seen output.new) [] text.now }
 {
@@ -79,7 +80,7 @@ impl Pending {
         }
     }
 
-    // Writes and flushes the bytes that wait.
+    // Writes and flushes the bytes that wait, unless a call on the log failed before; none waits after that.
     fn flush_pending<E: Output>(&mut self, output: &mut E)
         ensures adds { Adds (E.seen output.old) (E.seen output.new) self.old self.new [] }
         ensures empty { array_vec_len self.new.bytes ≡ 0 }
@@ -89,7 +90,7 @@ impl Pending {
         self.bytes.clear();
     }
 
-    // Makes room for a byte: writes and flushes the bytes that wait, if there is none.
+    // Makes room for one more byte: if there is none, writes and flushes the bytes that wait.
     fn make_room<E: Output>(&mut self, output: &mut E)
         ensures adds { Adds (E.seen output.old) (E.seen output.new) self.old self.new [] }
         ensures room { array_vec_len self.new.bytes < 256 }
@@ -108,7 +109,8 @@ impl Pending {
         }
     }
 
-    // Logs a byte.
+    // Logs a byte: it waits with those of its line, and all are written and flushed when the line ends or there is no
+    // room for more.
     fn add<E: Output>(&mut self, output: &mut E, byte: u8)
         ensures { Adds (E.seen output.old) (E.seen output.new) self.old self.new (byte ∷ []) }
     {
@@ -117,7 +119,7 @@ impl Pending {
         self.end_line(output, byte);
     }
 
-    // Logs a text.
+    // Logs a text, byte by byte.
     fn add_text<E: Output>(&mut self, output: &mut E, text: &[u8])
         ensures { Adds (E.seen output.old) (E.seen output.new) self.old self.new text.now }
     {
@@ -126,7 +128,7 @@ impl Pending {
         }
     }
 
-    // Logs a text, with `?` for what is no printable ASCII.
+    // Logs a text, with `?` for each byte that is no printable ASCII.
     fn add_shown<E: Output>(&mut self, output: &mut E, text: &[u8])
         ensures { Adds (E.seen output.old) (E.seen output.new) self.old self.new (map shown text.now) }
     {
@@ -135,7 +137,7 @@ impl Pending {
         }
     }
 
-    // Logs a number.
+    // Logs a number in decimal.
     fn add_number<E: Output>(&mut self, output: &mut E, number: u64)
         ensures { Adds (E.seen output.old) (E.seen output.new) self.old self.new (decimal number) }
     {
@@ -189,8 +191,8 @@ impl Pending {
         self.add_line(output, moment, b'<', is_first, line.text());
     }
 
-    // Logs what a line begins with, such as `312 >first : `, if the log is at the start of one; `is_first`: the engine
-    // is that of `--white`.
+    // Logs what a line of bytes sent begins with, such as `312 >first : `, if the log is at the start of a line.
+    // `is_first`: the engine is that of `--white`.
     fn add_head_if<E: Output>(&mut self, output: &mut E, state: LogState, is_first: bool)
         ensures { Adds (E.seen output.old) (E.seen output.new) self.old self.new
             (if state.at_start then head state.moment (letter ">") is_first else []) }
@@ -200,8 +202,8 @@ impl Pending {
         }
     }
 
-    // Logs a byte that an engine is sent, after what a line begins with if it begins one; `is_first`: the engine is
-    // that of `--white`.
+    // Logs a byte that an engine is sent; before it what a line begins with (`312 >first : `), if the log is at the
+    // start of one. `is_first`: the engine is that of `--white`.
     fn add_given_byte<E: Output>(
         &mut self,
         output: &mut E,
@@ -217,8 +219,8 @@ impl Pending {
         self.add(output, given_byte(byte));
     }
 
-    // Logs bytes that an engine is sent, and returns the log's state after them; `is_first`: the engine is that of
-    // `--white`.
+    // Logs bytes that an engine is sent, each line as `312 >first : e2e4`, and returns the log's state after them.
+    // `is_first`: the engine is that of `--white`.
     fn add_given<E: Output>(
         &mut self,
         output: &mut E,
@@ -246,14 +248,14 @@ impl Pending {
     }
 }
 
-// A byte that an engine is sent, as the log shows it.
+// A byte that an engine is sent as the log shows it: `\n` as it is, `?` for what else is no printable ASCII.
 fn given_byte(byte: u8) -> u8
     ensures { result ≡ (if byte == new_line then new_line else shown byte) }
 {
     if byte == b'\n' { byte } else { shown(byte) }
 }
 
-// How the log names an engine; `is_first`: it is that of `--white`.
+// How the log names an engine: `first : ` for that of `--white` (`is_first`), `second: ` for the other.
 fn engine_text(is_first: bool) -> &'static [u8]
     ensures { result.now ≡ engine_text is_first }
 {
@@ -284,7 +286,7 @@ pub struct Log<E> {
 }
 
 impl<E: Output> Log<E> {
-    /// A log on this output, of no game yet.
+    /// An empty log on this output, before the first game.
     pub fn new(output: E) -> Self
         ensures output { result.output ≡ output }
         ensures unbroken { result.pending.broken ≡ false }
@@ -297,7 +299,7 @@ impl<E: Output> Log<E> {
         }
     }
 
-    /// The log's output.
+    /// Ends the log, and gives its output back.
     pub fn into_output(self) -> E
         ensures { result ≡ self.output }
     {
@@ -310,7 +312,7 @@ impl<E: Output> Log<E> {
         output
     }
 
-    // Begins the log of a game in which the first engine has this side.
+    // Begins the log of a game in which the first engine, that of `--white`, has the side `first`.
     fn begin(&mut self, first: Colour)
         ensures log { IsLog first
             (log_seen (E.seen self.old.output) self.old.pending)
@@ -321,7 +323,7 @@ impl<E: Output> Log<E> {
         self.first = first;
     }
 
-    // Writes and flushes the bytes that wait.
+    // Writes and flushes the bytes that still wait, at the end of a game.
     fn finish(&mut self)
         ensures adds { Adds (E.seen self.old.output) (E.seen self.new.output) self.old.pending self.new.pending [] }
         ensures nothing { self.new.pending.bytes.items ≡ [] }
@@ -331,7 +333,8 @@ impl<E: Output> Log<E> {
         self.pending.flush_pending(&mut self.output);
     }
 
-    // Logs a line `312 !first : output ended`, at the time of the last event; `side` is the engine's.
+    // Logs a line such as `312 !first : output ended`, with this text, at the time of the last event; `side` is the
+    // engine's.
     fn note(&mut self, side: Colour, text: &[u8])
         ensures adds { Adds (E.seen self.old.output) (E.seen self.new.output) self.old.pending self.new.pending
             (log_line self.old.state.moment (letter "!") (same_colour side self.old.first) text.now) }
@@ -366,7 +369,7 @@ impl<E: Output> Witness for Log<E> {
         };
     }
 
-    // Keeps the time: the lines that opened the turn were logged before.
+    // Keeps the time for the lines that follow, and logs nothing: the lines that opened the turn were logged before.
     fn opened(&mut self, _side: Colour, moment: u64) {
         self.state.moment = moment;
     }

@@ -13,7 +13,7 @@ pub struct SinceStart<'a, R> {
 }
 
 impl<'a, R: Clock> SinceStart<'a, R> {
-    /// A clock that begins now.
+    /// A clock that shows the milliseconds from now on.
     pub fn new(rt: &'a R) -> Self {
         SinceStart {
             rt,

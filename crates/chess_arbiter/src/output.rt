@@ -4,7 +4,7 @@ ghost use Rattle.byte_devices.specs.Devices.{Sends};
 
 use byte_devices::{Output, WriteFault, put};
 
-/// Writes a text, and flushes.
+/// Writes a text to the output, and flushes it.
 pub(crate) fn send<W: Output>(output: &mut W, text: &[u8]) -> Result<(), WriteFault>
     ensures { Sends (W.seen output.old) (W.seen output.new) result text.now }
 {

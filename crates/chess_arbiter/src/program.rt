@@ -26,7 +26,7 @@ use std::fmt::Display;
 use std::process::Processes;
 use std::rt::Clock;
 
-// A session at the initial position, of at most 20,000 half-moves, on boards that use these tables.
+// A session at the initial position, of at most 20,000 half-moves, on boards that use these tables of attacks.
 fn open_session<'t>(
     alloc: Global,
     tables: &'t AttackTables,
@@ -38,7 +38,7 @@ fn open_session<'t>(
     Session::open(alloc, board, scratch, Tags::default(), MOST_MOVES)
 }
 
-// The exit status after what may fail.
+// The exit status after this outcome: 0, or 1 if it is a fault.
 fn status_of(outcome: Result<(), ProgramFault>) -> u8
     ensures { result ≡ status_of outcome }
 {
@@ -48,7 +48,7 @@ fn status_of(outcome: Result<(), ProgramFault>) -> u8
     }
 }
 
-// The fault of the program where answering lines failed.
+// The fault of the program that is reported when a read or a write failed while lines were answered.
 fn fault_of(fault: Fault) -> ProgramFault
     ensures { result ≡ fault_of fault }
 {
@@ -58,7 +58,8 @@ fn fault_of(fault: Fault) -> ProgramFault
     }
 }
 
-// Reports the fault with which answering lines ended, if there is one, and returns it.
+// Writes the fault with which answering lines ended to the error output, if there is one, and returns it as the
+// program's.
 fn report_served<E: Output>(
     outcome: Result<End, Fault>,
     errors: &mut E,
@@ -71,7 +72,7 @@ fn report_served<E: Output>(
     }
 }
 
-// Runs a session on the input and the output, and returns the exit status.
+// Runs a session on the input and the output, and returns the exit status: 0, or 1 if input, output or memory failed.
 fn session<R: Input, W: Output, E: Output>(
     alloc: Global,
     input: &mut R,
@@ -90,7 +91,8 @@ fn session<R: Input, W: Output, E: Output>(
     status_of(report_served(outcome, errors))
 }
 
-// Runs a stub on the input and the output, and returns the exit status; `words` are its arguments.
+// Runs a stub, an engine that plays the arguments `words`, on the input and the output, and returns the exit status: 0,
+// or 1 if input or output failed.
 fn stub<R: Input, W: Output, E: Output>(
     words: &[&str],
     input: &mut R,
@@ -105,7 +107,7 @@ fn stub<R: Input, W: Output, E: Output>(
     status_of(report_served(outcome, errors))
 }
 
-// The exit status after games were verified.
+// The exit status after games were verified: 0 if none has a fault, else 1.
 fn verified_status(verified: Verified) -> u8
     ensures { result ≡ verify_status (Ok verified) }
 {
@@ -125,7 +127,8 @@ fn options_of(plan: VerifyPlan) -> VerifyOptions
     }
 }
 
-// Verifies the input's games: with `--keep-going` piece by piece, else as one text up to its first fault.
+// Verifies the input's games: with `--keep-going` piece by piece, so that a fault ends only its piece; else as one text
+// up to its first fault.
 fn verify_as<R: Input, W: Output>(
     alloc: Global,
     plan: VerifyPlan,
@@ -143,7 +146,8 @@ fn verify_as<R: Input, W: Output>(
     }
 }
 
-// Verifies the input's games, and returns the exit status.
+// Verifies the input's games as the flags of the plan ask, and returns the exit status: 0, or 1 if a game has a fault
+// or something failed.
 fn verified<R: Input, W: Output, E: Output>(
     alloc: Global,
     plan: VerifyPlan,
@@ -159,7 +163,7 @@ fn verified<R: Input, W: Output, E: Output>(
     }
 }
 
-// Reports that a text of help could not be written, where that is so, and returns the fault.
+// If a text of help could not be written, writes that fault to the error output, and returns it.
 fn report_help<E: Output>(
     outcome: Result<(), WriteFault>,
     errors: &mut E,
@@ -172,7 +176,7 @@ fn report_help<E: Output>(
     }
 }
 
-// Writes a text of help to the output, and returns the exit status.
+// Writes the text `help` to the output, and returns the exit status: 0, or 1 if the output or memory failed.
 fn help<W: Output, E: Output, D: Display>(
     alloc: Global,
     help: &D,
@@ -189,8 +193,8 @@ fn help<W: Output, E: Output, D: Display>(
     status_of(report_help(outcome, errors))
 }
 
-// Reports why the arguments ask for nothing, and returns the exit status: help and the version go to the output, all
-// else to the error output.
+// Tells why the arguments ask for nothing, and returns the exit status: help and the version go to the output, all else
+// to the error output.
 fn report_arguments<W: Output, E: Output>(
     alloc: Global,
     fault: &WordsFault,
@@ -214,7 +218,8 @@ fn report_arguments<W: Output, E: Output>(
     }
 }
 
-// Plays the games of a match, and returns the exit status.
+// Plays the games of a plan: PGN and score go to `output`, the log, if asked for, to `log`. Returns the exit status: 0,
+// or 1 after a fault, which is reported where the log goes.
 fn matched<P: Processes + Clock, W: Output, E: Output>(
     rt: &P,
     alloc: Global,

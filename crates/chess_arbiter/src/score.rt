@@ -24,7 +24,7 @@ pub(crate) struct Score {
 // The score's line: its text has 40 bytes, and its four numbers at most 20 each.
 type ScoreLine = ArrayVec<u8, 140>;
 
-// Appends a text.
+// Appends a text to the line of the score.
 fn add_text(line: &mut ScoreLine, text: &[u8])
     requires { array_vec_len line.old + length text.now ≤ 140 }
     ensures text { line.new.items ≡ line.old.items ++ text.now }
@@ -33,7 +33,7 @@ fn add_text(line: &mut ScoreLine, text: &[u8])
     line.try_extend_from_slice(text).unwrap();
 }
 
-// Appends a number.
+// Appends a number in decimal to the line of the score.
 #[tactic(auto, using(crate::proofs::Decimals::few_digits))]
 fn add_number(line: &mut ScoreLine, number: u16)
     requires { array_vec_len line.old + 20 ≤ 140 }
@@ -45,7 +45,7 @@ fn add_number(line: &mut ScoreLine, number: u16)
         .unwrap();
 }
 
-// A count after a game that may add to it.
+// A count after a game: one more, if the game adds to it (`one_more`), but at most 65,535.
 fn plus(count: u16, one_more: bool) -> u16
     ensures { result ≡ plus count one_more }
 {
@@ -56,7 +56,7 @@ fn plus(count: u16, one_more: bool) -> u16
     }
 }
 
-// Whether that side won.
+// Whether this outcome is a win of this side.
 fn is_win_of(outcome: Outcome, side: Colour) -> bool
     ensures { result ≡ same_outcome outcome (win_of side) }
 {
@@ -67,7 +67,7 @@ fn is_win_of(outcome: Outcome, side: Colour) -> bool
 }
 
 impl Score {
-    /// The score before the first game.
+    /// The score before the first game: nothing is counted yet.
     pub fn new() -> Self
         ensures { result ≡ no_score }
     {
@@ -79,7 +79,8 @@ impl Score {
         }
     }
 
-    /// The score after a game with that outcome, in which the first engine had that side.
+    /// The score with one more game counted, which had this outcome and in which the first engine, that of `--white`,
+    /// had the side `first`.
     pub fn after(self, first: Colour, outcome: Outcome) -> Self
         ensures { result ≡ score_after first outcome self }
     {

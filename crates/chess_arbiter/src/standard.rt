@@ -21,7 +21,7 @@ fn words_of(rt: &HostRuntime) -> io::Result<Vec<String>> {
     Ok(words)
 }
 
-// Runs the program on the standard streams, and returns its exit status.
+// Runs the program on the arguments and the standard streams of this process, and returns its exit status.
 fn status_of(rt: &HostRuntime) -> io::Result<u8> {
     let owned = words_of(rt)?;
     let mut words = Vec::new(rt.alloc());
@@ -50,8 +50,8 @@ fn words_fault(error: &io::Error) -> ProgramFault
 }
 
 /// Runs the program on the arguments after its name and the standard streams, as `main` does, and returns its exit
-/// status, that of `run_program`; 2 where an argument is no UTF-8, and 1 where there is no memory for them. No clause
-/// says so: it is read off these lines, and the stored run shows it.
+/// status: that of `run_program`, but 2 if an argument is no UTF-8, and 1 if there is no memory for the arguments. No
+/// contract says so; these lines and the stored run show it.
 pub fn run(rt: &HostRuntime) -> ExitCode {
     match status_of(rt) {
         Ok(status) => ExitCode::from(status),

@@ -16,7 +16,8 @@ use std::marker::Model;
 // The reply to `protover`.
 const FEATURES: &[u8] = b"feature ping=1 setboard=1 usermove=1 myname=\"stub\" done=1\n";
 
-// What the stub sends for the argument `offer` or `claim`, which may follow a move; `None` for any other.
+// The line that the stub sends for the argument `offer` (`offer draw`) or `claim` (a claim of a draw), which may follow
+// a move; `None` for any other argument.
 fn remark(word: &str) -> Option<&'static [u8]>
     ensures { option_map (λ t. t.now) result ≡ remark word.now }
 {
@@ -29,7 +30,7 @@ fn remark(word: &str) -> Option<&'static [u8]>
     }
 }
 
-// What comes before an argument that is played.
+// What the stub sends before an argument that it plays: nothing before `resign`, `move ` before any other.
 fn prefix_of(word: &str) -> &'static [u8]
     ensures value { result.now ≡ (if bytes_eq word.now (codes "resign") then [] else codes "move ") }
     ensures short { length result.now ≤ 5 }
@@ -37,7 +38,7 @@ fn prefix_of(word: &str) -> &'static [u8]
     if word == "resign" { b"" } else { b"move " }
 }
 
-// Says a line of a prefix and an argument, by one write unless it is long.
+// Sends a line made of a prefix and an argument, by one write unless it is long.
 fn say_line<W: Output>(writer: &mut W, prefix: &[u8], word: &str) -> Result<(), WriteFault>
     requires { length prefix.now ≤ 5 }
     ensures { Puts (W.seen writer.old) (W.seen writer.new) result (prefix.now ++ (word.now ++ new_line ∷ [])) }
@@ -52,14 +53,14 @@ fn say_line<W: Output>(writer: &mut W, prefix: &[u8], word: &str) -> Result<(), 
     put(writer, line.as_slice())
 }
 
-// Sends the argument that is played: `resign`, or `move` and the argument.
+// Sends the line of an argument that the stub plays: `resign` as it is, any other after `move`.
 fn say_word<W: Output>(writer: &mut W, word: &str) -> Result<(), WriteFault>
     ensures { Puts (W.seen writer.old) (W.seen writer.new) result (played_text word.now) }
 {
     say_line(writer, prefix_of(word), word)
 }
 
-// Sends `pong` and the number.
+// Sends `pong` with this number, the answer to a `ping`.
 #[tactic(auto, using(crate::proofs::Decimals::few_digits))]
 fn say_pong<W: Output>(writer: &mut W, number: u32) -> Result<(), WriteFault>
     ensures { Puts (W.seen writer.old) (W.seen writer.new) result (codes "pong " ++ (decimal number ++ new_line ∷ [])) }
@@ -73,7 +74,8 @@ fn say_pong<W: Output>(writer: &mut W, number: u32) -> Result<(), WriteFault>
     put(writer, line.as_slice())
 }
 
-// Sends what the arguments `offer` and `claim` say, from the index `from` up to the first other one.
+// Sends the lines that the arguments `offer` and `claim` stand for (an offer and a claim of a draw), from the index
+// `from` up to the first other argument.
 fn say_remarks<W: Output>(words: &[&str], from: usize, writer: &mut W) -> Result<(), WriteFault>
     requires { from ≤ length words.now }
     ensures { Puts (W.seen writer.old) (W.seen writer.new) result (remarks (drop from words.now)) }
@@ -89,7 +91,8 @@ fn say_remarks<W: Output>(words: &[&str], from: usize, writer: &mut W) -> Result
     Ok(())
 }
 
-// The index of the first argument, from `from` on, that is neither `offer` nor `claim`.
+// The index of the first argument, from `from` on, that is neither `offer` nor `claim`; the number of arguments, if
+// there is none.
 fn after_remarks(words: &[&str], from: usize) -> usize
     requires { from ≤ length words.now }
     ensures in_range { result ≤ length words.now }
@@ -105,7 +108,8 @@ fn after_remarks(words: &[&str], from: usize) -> usize
     at
 }
 
-// Sends an argument that is played, and what `offer` and `claim` say from the index `from` on.
+// Sends the line of an argument that the stub plays, and then the lines that `offer` and `claim` stand for, from the
+// index `from` of `words` up to the first other argument.
 fn say_played<W: Output>(
     word: &str,
     words: &[&str],
@@ -120,7 +124,8 @@ fn say_played<W: Output>(
     say_remarks(words, from, writer)
 }
 
-// Sends what the stub plays in its turn, with the arguments from the index `at` on, and returns whether it goes on.
+// Sends what the stub plays in its turn: the argument at the index `at` and the `offer` and `claim` after it; `resign`
+// if there is none. Returns whether the stub goes on: not after `end`.
 fn say_turn<W: Output>(words: &[&str], at: usize, writer: &mut W) -> Result<Go, WriteFault>
     requires { at ≤ length words.now }
     ensures written { Puts (W.seen writer.old) (W.seen writer.new) result (turn (drop at words.now)).text }
@@ -139,7 +144,7 @@ fn say_turn<W: Output>(words: &[&str], at: usize, writer: &mut W) -> Result<Go, 
     Ok(Go::On)
 }
 
-// The index of the first argument that is left after a turn with those from the index `at` on.
+// The index of the first argument that is not yet used after a turn that began with the one at the index `at`.
 fn after_turn(words: &[&str], at: usize) -> usize
     requires { at ≤ length words.now }
     ensures in_range { result ≤ length words.now }
@@ -177,7 +182,7 @@ impl<'a> Model for Stub<'a> {
 }
 
 impl<'a> Stub<'a> {
-    /// A stub with these arguments, which doesn't play yet.
+    /// A stub, an engine that plays these arguments; it doesn't play a side yet.
     pub(crate) fn new(words: &'a [&'a str]) -> Self
         ensures { result ≡ waiting words.now }
     {
@@ -188,7 +193,7 @@ impl<'a> Stub<'a> {
         }
     }
 
-    // Takes a turn: plays the next argument.
+    // Takes the stub's turn: plays the next argument, and returns whether the stub goes on.
     #[tactic(auto, using(crate::proofs::Remarks::turn_state))]
     fn play<W: Output>(&mut self, writer: &mut W) -> Result<Go, WriteFault>
         ensures next { self.new ≡ (turn self.old.words).state }
@@ -201,7 +206,8 @@ impl<'a> Stub<'a> {
         say_turn(self.words, at, writer)
     }
 
-    // Takes a move of the opponent: if the stub plays, it is its turn.
+    // Takes a move of the opponent: if the stub plays, it is its turn, else nothing happens. Returns whether the stub
+    // goes on.
     fn moved<W: Output>(&mut self, writer: &mut W) -> Result<Go, WriteFault>
         ensures next { self.new ≡ (moved self.old).state }
         ensures written { Puts (W.seen writer.old) (W.seen writer.new) result (moved self.old).text }
@@ -214,7 +220,7 @@ impl<'a> Stub<'a> {
         }
     }
 
-    // Obeys a line, and writes the reply if there is one.
+    // Obeys the command of a line, writes the reply if there is one, and returns whether the stub goes on.
     fn obey<W: Output>(&mut self, text: &[u8], writer: &mut W) -> Result<Go, WriteFault>
         ensures next { self.new ≡ (row self.old text.now (command_of text.now)).state }
         ensures written { Puts (W.seen writer.old) (W.seen writer.new) result
@@ -270,7 +276,8 @@ impl<'a> Stub<'a> {
 impl<'a> LineServer for Stub<'a> {
     ghost respond = { stub_response };
 
-    // Answers a line, unless it is too long, and flushes.
+    // Obeys the command of a line, unless the line is too long, flushes the writer, and returns whether the stub goes
+    // on.
     #[tactic(auto, unfolding(crate::specs::Stub::stub_response))]
     fn answer_line<W: Output>(
         &mut self,

@@ -24,23 +24,24 @@ abbrev pub short_number : ℕ → List ℕ → Option ℕ
 short_number most text = if nat_lt 0 (length text) && nat_le (length text) most
     && list_all is_digit text then Some (value_after 0 text) else None
 
--- the number that a text of 1 to 9 digits denotes, as in `ping 7`
+-- the number that a text of 1 to 9 digits denotes, as in `ping 7`; `None` for any other text
 unfoldable pub command_number : List ℕ → Option ℕ
 command_number text = short_number 9 text
 
 -- commands to an engine that plays, which an arbiter accepts and ignores: of the protocol, of how the engine is to play
--- (`?` is: at once), of its opponent, who may offer a draw, of the clocks and of the depth
+-- (`?`: it is to move at once), of its opponent, who may offer a draw, of the clocks and of the depth of search
 abbrev pub ignored_commands : List (List ℕ)
 ignored_commands =
     codes "xboard" ∷ codes "accepted" ∷ codes "rejected" ∷ codes "force" ∷ codes "random" ∷ codes "hard" ∷ codes "easy"
     ∷ codes "post" ∷ codes "nopost" ∷ codes "?" ∷ codes "computer" ∷ codes "name" ∷ codes "rating" ∷ codes "ics"
     ∷ codes "draw" ∷ codes "level" ∷ codes "st" ∷ codes "sd" ∷ codes "time" ∷ codes "otim" ∷ []
 
--- the word is the name of one of these
+-- whether a word is the name of a command that an arbiter accepts and ignores, such as `xboard` or `time`
 unfoldable pub is_ignored : List ℕ → Bool
 is_ignored word = list_any (bytes_eq word) ignored_commands
 
--- all other commands by their names, with this argument: `usermove` needs a move, `ping` and `protover` need a number
+-- all commands that are not ignored, by their names; `argument` is what follows the name: `usermove` needs a move,
+-- `ping` and `protover` need a number
 abbrev pub commands : List ℕ → List (List ℕ × Command)
 commands argument =
     (codes "new", New) ∷ (codes "setboard", SetBoard)
@@ -51,14 +52,15 @@ commands argument =
     ∷ (codes "variant", Variant) ∷ (codes "go", Go) ∷ (codes "showfen", ShowFen) ∷ (codes "showmoves", ShowMoves)
     ∷ (codes "showstate", ShowState) ∷ (codes "showpgn", ShowPgn) ∷ (codes "quit", Quit) ∷ []
 
--- the command that a line's first word names, by its argument; `None` if the word is no command's name, as in a bare
--- `e2e4`
+-- the command that a line's first word names, by its argument: `Silent` for one that is ignored and for an empty line;
+-- `None` if the word is no command's name, as in a bare `e2e4`
 unfoldable pub named_command : List ℕ → List ℕ → Option Command
 named_command word argument =
     if bytes_eq word [] || is_ignored word then Some Silent
     else option_map (λ c. c.1) (find (λ c. bytes_eq word c.0) (commands argument))
 
--- what a line with this text commands; where its first word is no command's name, it may have a move's shape
+-- what a line with this text commands: what its first word names; if that is no command's name, a move if the text has
+-- the shape of one, else nothing that is known
 unfoldable pub command_of : List ℕ → Command
 command_of text =
     unwrap_or (named_command (word_of text) (argument_of text)) (if shape text then BareMove else Unknown)

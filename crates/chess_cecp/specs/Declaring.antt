@@ -23,27 +23,27 @@ result_comment text =
     && (slice_index_or text (length text - 1) 0 == byte "}") then Some (take (length text - 2) (drop 1 text))
     else None
 
--- the result that the argument of `result` declares, if it declares one: an outcome, and after it nothing or a text
--- from a brace to a last brace, of which the game keeps what a comment can hold
+-- the result that the argument of the command `result` declares: an outcome, and after it nothing or a comment in
+-- braces, which is cut to what the game can hold; `None` for any other text
 unfoldable pub read_result : List ℕ → Option Declared
 read_result argument = do
   outcome ← outcome_of (word_of argument)
   comment ← result_comment (argument_of argument)
   Some (record { outcome = outcome; comment = cut_comment comment })
 
--- a result with its comment, such as `1-0 {White mates}`
+-- a result as it is written, an outcome with its comment in braces, such as `1-0 {White mates}`
 unfoldable pub result_text : Outcome → List ℕ → List ℕ
 result_text o comment = outcome_text o ++ (codes " {" ++ (comment ++ codes "}"))
 
--- the board's verdict as `showstate` writes it, or `none`
+-- the board's verdict as `showstate` writes it, such as `1-0 {White mates}`; `none` without one
 abbrev pub verdict_text : Option Verdict → List ℕ
 verdict_text verdict = option_map_or (λ v. result_text (verdict_outcome v) (verdict_comment v)) verdict (codes "none")
 
--- the declared result as `showstate` writes it, or `none`
+-- the result that was declared as `showstate` writes it, such as `1-0 {White mates}`; `none` without one
 abbrev pub declared_text : Option Declared → List ℕ
 declared_text declared = option_map_or (λ d. result_text d.outcome d.comment) declared (codes "none")
 
--- the claims as `showstate` shows them: the threefold repetition, the 50 moves
+-- which draws can be claimed, as `showstate` writes it: `threefold+50`, `threefold`, `50` or `none`
 abbrev pub claims_text : Claims → List ℕ
 claims_text c =
     if c.threefold then (if c.fifty_moves then codes "threefold+50" else codes "threefold")

@@ -13,10 +13,10 @@ pub record SessionSeen : Type 0 where
   pub limit : ℕ
   pub state : State
 
--- what contracts see of the session's game
+-- what contracts see of the game of a session: its limit of half-moves and its state
 abbrev pub game_held : SessionSeen → game.Seen
 game_held s = record { limit = s.limit; state = s.state }
 
--- a session when it opens: at the initial position of normal chess
+-- a session when it opens, at the initial position of normal chess; `limit` is the most half-moves of its game
 abbrev pub opened_session : Tags → ℕ → SessionSeen
 opened_session tags limit = record { tags = tags; limit = limit; state = from_start initial_setup }

@@ -13,17 +13,18 @@ use Rattle.chess_cecp.specs.declared.run.Fault.{Fault}
 use Rattle.chess_cecp.specs.declared.run.Fault.TheVariants.{Read, Write}
 use Rattle.chess_cecp.specs.declared.session.TheConstants.{COMMAND_LEN}
 
--- what passed in a call: the bytes that were read, whether the reader reported its end, and the bytes that were written
+-- what passed at the devices in one run: the bytes that were read, whether the reader reported its end, and the bytes
+-- that were written
 pub record Transcript : Type 0 where
   pub read : List ℕ
   pub end_reported : Bool
   pub written : List ℕ
 
--- a device's count, one higher if the flag is true
+-- a count of a device, such as that of its failures, one higher if the flag is true
 abbrev pub risen_if : Bool → ℕ → ℕ
 risen_if rises n = if rises then risen n else n
 
--- the transcript is what the input did from its state `r` to `r'`, and the output from `w` to `w'`, as far as they
+-- the transcript `t` is what the input did from its state `r` to `r'`, and the output from `w` to `w'`, as far as they
 -- report it. The flags say whether a read or a write failed
 pub record FitsDevices (r r' : InputState) (w w' : OutputState) (t : Transcript)
     (read_failed write_failed : Bool) : Type 0 where
@@ -33,47 +34,51 @@ pub record FitsDevices (r r' : InputState) (w w' : OutputState) (t : Transcript)
   pub read_failures : r'.failure_count ≡ risen_if read_failed r.failure_count
   pub write_failures : w'.failure_count ≡ risen_if write_failed w.failure_count
 
--- if the output had nothing unflushed before (`w`), just this text is unflushed after (`w'`)
+-- just this text is unflushed in the output after (`w'`), if nothing was unflushed before (`w`)
 abbrev pub LeavesUnflushed : OutputState → OutputState → List ℕ → Type 0
 LeavesUnflushed w w' text = w.unflushed ≡ 0 → w'.unflushed ≡ raised 0 text
 
--- the lines that were read: an unended last one counts where the end was reported
+-- the lines that were read in this run; one without `\n` at the end counts if the end was reported
 abbrev pub lines_read : Transcript → List LineSeen
 lines_read t = stream_lines COMMAND_LEN t.end_reported t.read
 
--- a server that responds to these lines one after another, in the state `s` before and `s'` after them, writes this
--- text; `ends`: it ended with one of them
+-- the server `respond`, which responds to the lines `ls` one after another, from the state `s` on, writes just this
+-- text and is then in the state `s'`; `ends`: it ended with one of them
 abbrev pub Answered : {S : Type 0} → Server S → S → S → List ℕ → Bool → List LineSeen → Type 0
 Answered respond s s' text ends ls = responses respond s ls ≡ record { text = text; state = s'; ends = ends }
 
--- all lines that were read were answered; and where the bytes that were still to come were known, all their lines,
--- however they were cut
+-- all lines that were read (in `t`) were answered, which took the server from the state `s` to `s'`; and if it is known
+-- which bytes the input `r` had to give, all their lines were, however reads cut them. `ends`: the server ended with
+-- one of them
 abbrev pub AnsweredAll : {S : Type 0} → Server S → InputState → S → S → Transcript → Bool → Type 0
 AnsweredAll respond r s s' t ends =
     Answered respond s s' t.written ends (lines_read t)
     × IfSome r.known_bytes (λ xs. Answered respond s s' t.written ends (lines COMMAND_LEN xs))
 
--- if it is known which bytes the input had to give, these lines are the first of theirs
+-- if it is known which bytes the input `r` had to give, the lines `ls` are the first of the lines of those bytes
 abbrev pub FirstOfKnown : InputState → List LineSeen → Type 0
 FirstOfKnown r ls = IfSome r.known_bytes (λ xs. (after : List LineSeen) × (lines COMMAND_LEN xs ≡ ls ++ after))
 
--- the run ended at `line`, after the lines `before`, with which the server did not end. `on_demand`: no line that was
--- whole before the last read, of `last_len` bytes, was unanswered then
+-- the run `t` of the server `respond`, which began in the state `s`, ended at `line`; the lines read `before` were
+-- answered and did not end it, those `after` were left. `on_demand`: the lines that were whole before the last read, of
+-- `last_len` bytes, are all among those `before`
 pub record EndsAt {S : Type 0} (respond : Server S) (s : S) (t : Transcript) (last_len : ℕ) (before : List LineSeen)
     (line : LineSeen) (after : List LineSeen) : Type 0 where
   pub lines : lines_read t ≡ before ++ line ∷ after
   pub goes_on : (responses respond s before).ends ≡ false
   pub on_demand : length (whole COMMAND_LEN (before_piece last_len t.read)) ≤ length before
 
--- the run ended because the server ends with one of the lines, as a session with `quit`
+-- the run `t` ended because the server `respond`, which began in the state `s`, ends with one of the lines, as a
+-- session with `quit`; the last read gave `last_len` bytes
 abbrev pub ByLine : {S : Type 0} → Server S → S → Transcript → ℕ → Type 0
 ByLine respond s t last_len =
     (before : List LineSeen) × (line : LineSeen) × (after : List LineSeen)
     × EndsAt respond s t last_len before line after
     × ((respond (responses respond s before).state line).ends ≡ true)
 
--- the run ended because a write or flush failed: a beginning of the answer to one line was written, which may be
--- unflushed, and the change that the line made is kept. `w`, `s` are output and server before, `w'`, `s'` after
+-- the run `t` of the server `respond` ended because a write or flush failed: a beginning of the answer to one line was
+-- written, which may be unflushed, and the change that the line made is kept. `r` is the input before; `w` and `s` are
+-- output and server before, `w'` and `s'` after; the last read gave `last_len` bytes
 abbrev pub ByWrite : {S : Type 0} → Server S → InputState → OutputState → OutputState → S → S → Transcript → ℕ → Type 0
 ByWrite respond r w w' s s' t last_len =
     (before : List LineSeen) × (line : LineSeen) × (after : List LineSeen) × (start : List ℕ)
@@ -84,9 +89,9 @@ ByWrite respond r w w' s s' t last_len =
     × FirstOfKnown r (before ++ line ∷ [])
     × LeavesUnflushed w w' start
 
--- what a run does, by its result: it ends by a line such as `quit`, by the input's end, or by a device that fails.
--- `s`, `r` and `w` are server, input and output before it, `s'`, `r'` and `w'` after it. Each answer was flushed
--- before more was read
+-- what a run `t` of the server `respond` does, by its result: it ends by a line such as `quit`, by the input's end, or
+-- by a device that fails; each answer is flushed before more is read. `r`, `w` and `s` are input, output and server
+-- before, `r'`, `w'` and `s'` after
 abbrev pub SessionRan : {S : Type 0} → Server S → InputState → InputState → OutputState → OutputState → S → S → Transcript
     → Result End Fault → Type 0
 SessionRan respond r r' w w' s s' t (Ok Quit) = FitsDevices r r' w w' t false false × ByLine respond s t r'.last_len

@@ -12,11 +12,13 @@ pub record Response (S : Type 0) : Type 0 where
 abbrev pub Server : Type 0 → Type 0
 Server S = S → LineSeen → Response S
 
--- two responses as one, of the lines one after the other; if the server ends with the first, the second is left out
+-- the responses to one line and to the next as one: both texts, and the state after the second; if the server ends with
+-- the first, the second is left out
 abbrev pub and_then : {S : Type 0} → Response S → Response S → Response S
 and_then first next = if first.ends then first else record next { text = first.text ++ next.text }
 
--- the responses to lines one after another, from the state `s` on, as one; up to the line with which the server ends
+-- the responses to these lines one after another, from the state `s` on, as one: all their texts, and the state after
+-- them; up to and with the line with which the server ends
 abbrev pub responses : {S : Type 0} → Server S → S → List LineSeen → Response S
 responses respond s [] = record { text = []; state = s; ends = false }
 responses respond s (line ∷ rest) = and_then (respond s line) (responses respond (respond s line).state rest)

@@ -36,35 +36,35 @@ use Rattle.chess_game.specs.declared.results.Outcome.TheVariants.{Draw}
 use Rattle.chess_cecp.specs.declared.command.Command.{Command}
 use Rattle.chess_cecp.specs.declared.command.Command.TheVariants.{New, SetBoard, UserMove, BareMove, Undo, Remove, Declare, Claim, Ping, Protover, Variant, Go, ShowFen, ShowMoves, ShowState, ShowPgn, Quit, Silent, BadNumber, Unknown}
 
--- a line of two texts: `pong ` and `7` give `pong 7` with `\n` after it
+-- a line of two texts, with `\n` at its end: `pong ` and `7` give `pong 7`
 abbrev pub joined_line : List ℕ → List ℕ → List ℕ
 joined_line front text = front ++ (text ++ new_line ∷ [])
 
--- this text is answered, and the session goes on with this game
+-- this text is answered, and the session goes on; `s` is the state of its game after that
 abbrev pub says : State → List ℕ → Response State
 says s text = record { text = text; state = s; ends = false }
 
--- the line `front` and `text` is answered, such as `Illegal move: e5`, and the game does not change
+-- the line made of `front` and `text` is answered, such as `Illegal move: e5`, and the game `s` does not change
 abbrev pub refuses : State → List ℕ → List ℕ → Response State
 refuses s front text = says s (joined_line front text)
 
--- the game changes to this one, and nothing is answered
+-- the game becomes `s`, and nothing is answered
 abbrev pub becomes : State → Response State
 becomes s = says s []
 
--- a result's line, such as `1-0 {White mates}`
+-- the line of a result with its comment, such as `1-0 {White mates}`, with `\n` at its end
 unfoldable pub result_line : Outcome → List ℕ → List ℕ
 result_line o comment = joined_line (result_text o comment) []
 
--- the verdict's line, or nothing
+-- the line of the board's verdict, such as `1-0 {White mates}`; empty if there is no verdict
 abbrev pub verdict_line : Option Verdict → List ℕ
 verdict_line verdict = option_map_or (λ v. result_line (verdict_outcome v) (verdict_comment v)) verdict []
 
--- the game changes to this one, and the verdict on it is answered, if there is one
+-- the game becomes `s`, and the answer is the board's verdict on it, if there is one
 abbrev pub becomes_judged : State → Response State
 becomes_judged s = says s (verdict_line (verdict_now s))
 
--- the line that lists moves, each after a space
+-- the line that lists these moves of the position `p`, with their number first: `# moves 20 b1a3 b1c3 ..`
 unfoldable pub moves_line : Setup → List Move → List ℕ
 moves_line p ms = joined_line (codes "# moves ") (decimal (length ms) ++ flat_map (λ m. space ∷ shown_move p m) ms)
 
@@ -81,78 +81,83 @@ fen_fault_name Pawns = codes "pawns"
 fen_fault_name Men = codes "men"
 fen_fault_name Check = codes "check"
 
--- `setboard`, by how its FEN was read: the game starts anew from that position, and the verdict on it is answered; or
--- its fault is, as `tellusererror Illegal position (kings)`
+-- the answer to `setboard`, by how its FEN was read: the game starts anew from that position, and the answer is the
+-- board's verdict on it, if there is one; or the FEN's fault is, as `tellusererror Illegal position (kings)`
 abbrev pub setboard_row : State → Result Setup FenFault → Response State
 setboard_row s (Ok start) = becomes_judged (from_start start)
 setboard_row s (Err fault) = refuses s (codes "tellusererror Illegal position (") (fen_fault_name fault ++ codes ")")
 
--- the answer to `protover 2`: the features that an arbiter has
+-- the line that answers `protover 2`: the features that an arbiter has
 unfoldable pub feature_text : List ℕ
 feature_text =
     codes "feature ping=1 setboard=1 playother=0 san=0 usermove=1 time=1 draw=1 sigint=0 sigterm=0 reuse=1 analyze=0 colors=0 debug=1 myname=\"CECP arbiter\" variants=\"normal,fischerandom\" done=1"
 
--- a move's text, by what it denotes in the current position: the move is played, or refused
+-- the answer to a move's text in the game `s`, by what it denotes in the current position: the move is played, or the
+-- text refused
 abbrev pub reading_row : State → List ℕ → Reading → Response State
 reading_row s text (reads.Move m) = becomes_judged (played s m)
 reading_row s text reads.Ambiguous = refuses s (codes "Error (ambiguous move): ") text
 reading_row s text reads.NoSuch = refuses s (codes "Illegal move: ") text
 reading_row s text reads.NotAMove = refuses s (codes "Illegal move: ") text
 
--- a move's text, as `usermove e4` gives it: refused if the game is over or has `limit` half-moves, else played or
--- refused by what it denotes
+-- the answer to a move's text in the game `s`, as `usermove e4` gives it: refused if the game is over or has `limit`
+-- half-moves, else played or refused by what it denotes
 abbrev pub move_row : ℕ → State → List ℕ → Response State
 move_row limit s text =
     if is_over s then refuses s (codes "Illegal move (game over): ") text
     else if nat_le limit (length s.moves) then refuses s (codes "Error (game too long): ") text
     else reading_row s text (reading (current s) text)
 
--- `undo` or `remove`: the last `n` half-moves are taken back; refused, by the command's name, if there are fewer
+-- the answer to `undo` or `remove` in the game `s`: the last `n` half-moves are taken back; refused, by the command's
+-- `name`, if there are fewer
 abbrev pub back_row : ℕ → List ℕ → State → Response State
 back_row n name s =
     if nat_le n (length s.moves) then becomes (taken_back s n)
     else refuses s (codes "Error (command not legal now): ") name
 
--- `result`, by what its argument declares: the result is declared, unless it is none or the board has a verdict with
--- another outcome
+-- the answer to `result` (`text` is the whole line) in the game `s`, by what its argument declares: the result is
+-- declared; refused if the argument declares none, or the board has a verdict with another outcome
 abbrev pub result_row : State → List ℕ → Option Declared → Response State
 result_row s text None = refuses s (codes "Error (bad result): ") text
 result_row s text (Some d) =
     if is_other (verdict_now s) d.outcome then refuses s (codes "Error (the board says otherwise): ") text
     else becomes (with_declared s (Some d))
 
--- a draw is declared with this comment, and answered as `1/2-1/2 {50-move rule}`
+-- a draw with this comment is declared in the game `s`, and answered, as `1/2-1/2 {50-move rule}`
 abbrev pub draws : State → List ℕ → Response State
 draws s comment =
     says (with_declared s (Some (record { outcome = Draw; comment = comment }))) (result_line Draw comment)
 
--- a draw is declared, if the position has occurred three times or 50 moves were made (`c` says so), else refused
+-- the answer to a claim of a draw in the game `s`: the draw is declared if `c` says that it can be claimed by threefold
+-- repetition or 50 moves, else the claim is refused
 abbrev pub claimed : State → Claims → Response State
 claimed s c =
     if c.threefold then draws s (codes "Threefold repetition")
     else if c.fifty_moves then draws s (codes "50-move rule")
     else refuses s (codes "Error (no claim): ") (codes "claim")
 
--- `claim`: a draw by threefold repetition or 50 moves (Laws, articles 9.2 and 9.3), if the game is not over
+-- the answer to `claim` in the game `s`: a draw by threefold repetition or 50 moves (Laws, articles 9.2 and 9.3), if
+-- the game is not over and the draw can be claimed; else it is refused
 abbrev pub claim_row : State → Response State
 claim_row s = if is_over s then refuses s (codes "Error (command not legal now): ") (codes "claim") else claimed s
     (claims s.start s.moves)
 
--- `variant normal`: a game of normal chess goes on, one of Chess960 starts anew as one of normal chess
+-- the answer to `variant normal` in the game `s`, by its variant: a game of normal chess goes on, one of Chess960
+-- starts anew as one of normal chess
 abbrev pub normal_row : State → Rules → Response State
 normal_row s Normal = says s []
 normal_row s Fischerandom = becomes (from_start initial_setup)
 
--- `variant`, by its argument: the game starts anew in Chess960, or goes over to normal chess; any other name is
--- refused
+-- the answer to `variant` in the game `s`, by its argument (`text` is the whole line): `fischerandom` starts anew in
+-- Chess960, `normal` goes over to normal chess, and any other name is refused
 abbrev pub variant_row : State → List ℕ → List ℕ → Response State
 variant_row s text argument =
     if bytes_eq argument (codes "fischerandom") then becomes (from_start (initial_setup_of Fischerandom))
     else if bytes_eq argument (codes "normal") then normal_row s s.start.variant
     else refuses s (codes "Error (unsupported variant): ") text
 
--- the table of commands: what a session does with a line. `text` is the line's, `argument` what follows its first
--- word; `limit` is the most half-moves of a game
+-- the table of commands: what a session does with a line in the game `s`. `text` is the whole line, `argument` what
+-- follows its first word; `limit` is the most half-moves of a game, and `tags` are those that `showpgn` writes
 abbrev pub row : Tags → ℕ → State → List ℕ → List ℕ → Command → Response State
 row tags limit s text argument New = becomes (from_start initial_setup)
 row tags limit s text argument SetBoard = setboard_row s (fen_reading_as s.start.variant argument)
@@ -175,19 +180,21 @@ row tags limit s text argument Silent = says s []
 row tags limit s text argument BadNumber = refuses s (codes "Error (bad number): ") text
 row tags limit s text argument Unknown = refuses s (codes "Error (unknown command): ") text
 
--- what a session does with a line; one that is too long is refused with its first bytes
+-- what a session does with a line: what the table of commands says; a line that is too long is refused with its first
+-- bytes
 abbrev pub row_on : SessionSeen → LineSeen → Response State
 row_on seen line =
     if line.too_long then refuses seen.state (codes "Error (line too long): ") line.text
     else row seen.tags seen.limit seen.state line.text (argument_of line.text) (command_of line.text)
 
--- how a session responds to a line: as the table says; its tags and its limit stay
+-- how a session (`seen`) responds to a line: as the table of commands says; only its game may change, its tags and its
+-- limit stay
 unfoldable pub session_response : SessionSeen → LineSeen → Response SessionSeen
 session_response seen line =
     let r = row_on seen line in
     record { text = r.text; state = record seen { state = r.state }; ends = r.ends }
 
--- the text begins as a refusal does: `Error`, `Illegal move` or `tellusererror`
+-- the text begins as the answer of a refusal does: with `Error`, `Illegal move` or `tellusererror`
 abbrev pub IsRefusal : List ℕ → Type 0
 IsRefusal text = Begins (codes "Error") text
     ⊎ (Begins (codes "Illegal move") text ⊎ Begins (codes "tellusererror") text)

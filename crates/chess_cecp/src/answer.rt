@@ -25,7 +25,7 @@ const ANSWER_LEN: usize = 5500;
 // The text of an answer.
 pub(crate) type Answer = ArrayVec<u8, ANSWER_LEN>;
 
-// Appends a line of two texts: `pong ` and `7` give `pong 7\n`.
+// Appends a line of two texts to the answer: `pong ` and `7` give `pong 7\n`.
 pub(crate) fn write_line(answer: &mut Answer, front: &[u8], text: &[u8])
     requires { array_vec_len answer.old + length front.now + length text.now + 1 ≤ ANSWER_LEN }
     ensures { answer.new.items ≡ answer.old.items ++ joined_line front.now text.now }
@@ -35,7 +35,7 @@ pub(crate) fn write_line(answer: &mut Answer, front: &[u8], text: &[u8])
     answer.push(b'\n');
 }
 
-/// Answers a `ping`: `pong 7`.
+/// Appends the answer to `ping` with this number: `pong 7`.
 pub(crate) fn write_pong(answer: &mut Answer, number: u32)
     requires { array_vec_len answer.old ≤ 1000 }
     ensures { answer.new.items ≡ answer.old.items ++ joined_line (codes "pong ") (decimal number) }
@@ -48,7 +48,7 @@ pub(crate) fn write_pong(answer: &mut Answer, number: u32)
 const FEATURES: &[u8] =
     b"feature ping=1 setboard=1 playother=0 san=0 usermove=1 time=1 draw=1 sigint=0 sigterm=0 reuse=1 analyze=0 colors=0 debug=1 myname=\"CECP arbiter\" variants=\"normal,fischerandom\" done=1";
 
-// Answers `protover 2` with the line of features.
+// Puts the answer to `protover 2` together: the line of the features.
 #[tactic(auto, unfolding(crate::specs::Session::feature_text))]
 pub(crate) fn write_features(answer: &mut Answer)
     requires { answer.old.items ≡ [] }
@@ -76,7 +76,7 @@ pub fn fen_fault_name(fault: FenFault) -> &'static str
     }
 }
 
-// Refuses a FEN: `tellusererror Illegal position (kings)`.
+// Puts the answer together that refuses a FEN for this fault: `tellusererror Illegal position (kings)`.
 pub(crate) fn write_illegal_position(answer: &mut Answer, fault: FenFault)
     requires { answer.old.items ≡ [] }
     ensures { answer.new.items
@@ -88,7 +88,7 @@ pub(crate) fn write_illegal_position(answer: &mut Answer, fault: FenFault)
     write_line(answer, fen_fault_name(fault).as_bytes(), b")");
 }
 
-// Appends the verdict's line, such as `1-0 {White mates}`, if there is one.
+// Appends the line of the board's verdict to the answer, such as `1-0 {White mates}`; nothing without a verdict.
 pub(crate) fn write_verdict(answer: &mut Answer, verdict: Option<Verdict>)
     requires { array_vec_len answer.old ≤ 1000 }
     ensures { answer.new.items ≡ answer.old.items ++ verdict_line verdict }
@@ -98,7 +98,7 @@ pub(crate) fn write_verdict(answer: &mut Answer, verdict: Option<Verdict>)
     }
 }
 
-// Appends a text.
+// Appends a text to the answer.
 fn write_text(answer: &mut Answer, text: &[u8])
     requires { array_vec_len answer.old + length text.now ≤ ANSWER_LEN }
     ensures text { answer.new.items ≡ answer.old.items ++ text.now }
@@ -107,7 +107,7 @@ fn write_text(answer: &mut Answer, text: &[u8])
     answer.try_extend_from_slice(text).unwrap();
 }
 
-// Appends a result with its comment, such as `1-0 {White mates}`.
+// Appends a result with its comment to the answer, such as `1-0 {White mates}`, without `\n`.
 #[tactic(auto, unfolding(crate::specs::Declaring::result_text))]
 fn write_result_text(answer: &mut Answer, outcome: Outcome, comment: &[u8])
     requires { array_vec_len answer.old + length comment.now + 10 ≤ ANSWER_LEN }
@@ -120,7 +120,7 @@ fn write_result_text(answer: &mut Answer, outcome: Outcome, comment: &[u8])
     write_text(answer, b"}");
 }
 
-// Appends the line of a result.
+// Appends the line of a result to the answer, such as `1-0 {White mates}`, with `\n`.
 #[tactic(auto, unfolding(crate::specs::Session::result_line))]
 pub(crate) fn write_result(answer: &mut Answer, outcome: Outcome, comment: &[u8])
     requires { array_vec_len answer.old + length comment.now + 11 ≤ ANSWER_LEN }
@@ -130,7 +130,7 @@ pub(crate) fn write_result(answer: &mut Answer, outcome: Outcome, comment: &[u8]
     answer.push(b'\n');
 }
 
-// Appends a text and then a number.
+// Appends the text `front` and then a number in decimal to the answer.
 fn write_number(answer: &mut Answer, front: &[u8], number: u64)
     requires { array_vec_len answer.old + length front.now + 20 ≤ ANSWER_LEN }
     ensures text { answer.new.items ≡ answer.old.items ++ (front.now ++ decimal number) }
@@ -141,7 +141,7 @@ fn write_number(answer: &mut Answer, front: &[u8], number: u64)
     write_text(answer, buffer.format(number).as_bytes());
 }
 
-// Appends the verdict, or `none`.
+// Appends the board's verdict as `showstate` writes it, such as `1-0 {White mates}`; `none` without one.
 fn write_verdict_text(answer: &mut Answer, verdict: Option<Verdict>)
     requires { array_vec_len answer.old + 70 ≤ ANSWER_LEN }
     ensures text { answer.new.items ≡ answer.old.items ++ verdict_text verdict }
@@ -153,7 +153,7 @@ fn write_verdict_text(answer: &mut Answer, verdict: Option<Verdict>)
     }
 }
 
-// Appends the declared result, or `none`.
+// Appends the result that was declared as `showstate` writes it, such as `1-0 {White mates}`; `none` without one.
 fn write_declared_text(answer: &mut Answer, declared: Option<&Declared>)
     requires { array_vec_len answer.old + 70 ≤ ANSWER_LEN }
     ensures text { answer.new.items ≡ answer.old.items ++ declared_text (option_map (λ d. d.now) declared.entry) }
@@ -165,7 +165,7 @@ fn write_declared_text(answer: &mut Answer, declared: Option<&Declared>)
     }
 }
 
-// Answers `showstate`, for example with `# state ply 0 rep 1 clock 0 claims none verdict none declared none`.
+// Puts the answer to `showstate` together: `# state ply 0 rep 1 clock 0 claims none verdict none declared none`.
 #[tactic(auto, unfolding(crate::specs::Declaring::state_text))]
 pub(crate) fn write_state<B: Board>(answer: &mut Answer, game: &Game<B>)
     requires { answer.old.items ≡ [] }
@@ -187,7 +187,7 @@ pub(crate) fn write_state<B: Board>(answer: &mut Answer, game: &Game<B>)
     answer.push(b'\n');
 }
 
-// Answers `showmoves`, for example with `# moves 20 b1a3 b1c3 ..`; the moves are those of `position`.
+// Puts the answer to `showmoves` together: `# moves 20 b1a3 b1c3 ..`; the moves are those of `position`.
 #[tactic(auto, unfolding(crate::specs::Session::moves_line))]
 pub(crate) fn write_moves(answer: &mut Answer, position: &Position, moves: &[Move])
     requires few { length moves.now ≤ 896 }
@@ -203,7 +203,7 @@ pub(crate) fn write_moves(answer: &mut Answer, position: &Position, moves: &[Mov
     answer.push(b'\n');
 }
 
-// Appends each move after a space.
+// Appends each of these moves of `position` to the answer, after a space: ` b1a3 b1c3`.
 fn write_each(answer: &mut Answer, position: &Position, moves: &[Move])
     requires { array_vec_len answer.old + 6 * length moves.now ≤ ANSWER_LEN }
     ensures text { answer.new.items ≡ answer.old.items ++ flat_map (λ m. space ∷ shown_move position.now m) moves.now }

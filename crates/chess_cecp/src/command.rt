@@ -96,7 +96,7 @@ pub fn read_number(text: &[u8]) -> Option<u32>
     short_number(text, 9)
 }
 
-/// The number that a text of at least one and at most so many digits denotes.
+/// The number that a text of 1 to `most` digits denotes; `None` for any other text.
 pub fn short_number(text: &[u8], most: usize) -> Option<u32>
     requires { most ≤ 9 }
     ensures value { result ≡ short_number most text.now }
@@ -115,7 +115,7 @@ pub fn short_number(text: &[u8], most: usize) -> Option<u32>
     Some(number)
 }
 
-// The command `ping` with this argument.
+// The command of a line `ping N` with this argument: `BadNumber` if it isn't a number of 1 to 9 digits.
 fn ping(argument: &[u8]) -> Command
     ensures { result ≡ option_map_or Command.Ping (command_number argument.now) Command.BadNumber }
 {
@@ -125,7 +125,7 @@ fn ping(argument: &[u8]) -> Command
     }
 }
 
-// The command `protover` with this argument.
+// The command of a line `protover N` with this argument: `BadNumber` if it isn't a number of 1 to 9 digits.
 fn protover(argument: &[u8]) -> Command
     ensures { result ≡ option_map_or Command.Protover (command_number argument.now) Command.BadNumber }
 {
@@ -135,7 +135,7 @@ fn protover(argument: &[u8]) -> Command
     }
 }
 
-// Whether the word is an ignored command of the protocol or of how an engine is to play; `?` is: at once.
+// Whether a word is an ignored command of the protocol, or of how an engine is to play (`?`: it is to move at once).
 #[tactic(auto, unfolding(crate::specs::ties::Ignored::is_engine_command))]
 fn is_engine_command(word: &[u8]) -> bool
     ensures { result ≡ is_engine_command word.now }
@@ -152,7 +152,8 @@ fn is_engine_command(word: &[u8]) -> bool
         || word == b"?".as_slice()
 }
 
-// Whether the word is one of the other ignored commands: of the opponent, who may offer a draw, of the clocks and the depth.
+// Whether a word is an ignored command of an engine's opponent (who may offer a draw), of the clocks or of the depth of
+// search.
 #[tactic(auto, unfolding(crate::specs::ties::Ignored::is_opponent_or_clock_command))]
 fn is_opponent_or_clock_command(word: &[u8]) -> bool
     ensures { result ≡ is_opponent_or_clock_command word.now }
@@ -169,15 +170,15 @@ fn is_opponent_or_clock_command(word: &[u8]) -> bool
         || word == b"otim".as_slice()
 }
 
-// Whether the word is a command to an engine that plays, which an arbiter accepts and ignores.
+// Whether a word is the name of a command that an arbiter accepts and ignores, such as `xboard` or `time`.
 fn is_ignored(word: &[u8]) -> bool
     ensures { result ≡ is_ignored word.now }
 {
     is_engine_command(word) || is_opponent_or_clock_command(word)
 }
 
-// The command that a line's first word names, by its argument; `None` if the word is no command's name, as in a bare
-// `e2e4`.
+// The command that a line's first word names, by its argument: `Silent` for one that is ignored and for an empty line;
+// `None` if the word is no command's name, as in a bare `e2e4`.
 #[tactic(auto, unfolding(crate::specs::Commands::named_command))]
 pub(crate) fn named_command(word: &[u8], argument: &[u8]) -> Option<Command>
     ensures { result ≡ named_command word.now argument.now }

@@ -8,7 +8,8 @@ use crate::command::{argument, first_word};
 use chess_game::{Claims, Comment, Declared};
 use chess_pgn::outcome_of;
 
-// The comment after the outcome of `result`: the text within braces, or empty; `None` for any other text.
+// The comment after the outcome of `result`: of `{White resigns}` the text within the braces, of an empty text the
+// empty comment; `None` for any other text.
 #[tactic(auto, unfolding(crate::specs::Declaring::result_comment))]
 fn result_comment(text: &[u8]) -> Option<&[u8]>
     ensures { option_map (λ c. c.now) result ≡ result_comment text.now }
@@ -39,7 +40,7 @@ pub(crate) fn read_result(text: &[u8]) -> Option<Declared>
     }
 }
 
-// The draws that can be claimed, as `showstate` writes them.
+// Which draws can be claimed, as `showstate` writes it: `threefold+50`, `threefold`, `50` or `none`.
 pub(crate) fn claims_text(claims: Claims) -> &'static [u8]
     ensures value { result.now ≡ claims_text claims }
     ensures short { length result.now ≤ 12 }

@@ -12,8 +12,8 @@ ghost use Rattle.chess_cecp.specs.laws.Unended.{HasNoEnd};
 ghost use Rattle.chess_cecp.specs.laws.Normal.{normal_row_of, keeps_its_row};
 ghost use Rattle.chess_cecp.specs.Session.{row, session_response, IsRefusal};
 
-/// States a law and does nothing: the lines of a stream are what `\n` ends; what follows the last `\n` is a line
-/// too, if it isn't empty and the end of the stream was reported (`told`).
+/// States a law and does nothing: each `\n` of a stream ends a line; what follows the last `\n` is a line too, if it
+/// isn't empty and the end of the stream was reported (`told`).
 pub fn lines_are_pieces()
     ensures empty { (n : ℕ) (told : Bool) → stream_lines n told [] ≡ [] }
     ensures ended { (n : ℕ) (told : Bool) (piece rest : List ℕ) → HasNoEnd piece →
@@ -31,7 +31,7 @@ pub fn refusals_change_nothing()
 {}
 
 /// States a law and does nothing: in a game of normal chess each command but `variant` and `protover` does what the
-/// table without Chess960 says.
+/// table of commands for normal chess alone says.
 pub fn normal_chess_keeps_its_rows()
     ensures { (tags : Tags) (limit : ℕ) (s : State) (text argument : List ℕ) (command : Command)
         → s.start.variant ≡ Normal → keeps_its_row command ≡ true

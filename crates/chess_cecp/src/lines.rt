@@ -32,7 +32,7 @@ impl<const N: usize> Model for Line<N> {
 }
 
 impl<const N: usize> Line<N> {
-    /// An empty line, to be read into.
+    /// An empty line, before one is read into it.
     pub fn new() -> Self
         ensures { result ≡ empty_line }
     {
@@ -106,7 +106,7 @@ impl<const N: usize> Part<N> {
         self.bytes.is_empty()
     }
 
-    // Adds a byte to the line.
+    // Adds a byte to the line; if it has N bytes already, the byte is dropped, and the line is too long.
     fn add(&mut self, byte: u8)
         ensures { SameLines N (self.old ++ byte ∷ []) self.new }
     {
@@ -117,7 +117,8 @@ impl<const N: usize> Part<N> {
         }
     }
 
-    // Puts the bytes into `line`, in place of what it held, and begins the next one; `is_ended`: `\n` came after them.
+    // Ends the line: puts it into `line`, in place of what that held, and begins the next one. `is_ended`: `\n` came
+    // after its bytes, else the end of the stream.
     fn finish(&mut self, is_ended: bool, line: &mut Line<N>)
         ensures line { line.new ≡ line_of N is_ended self.old }
         ensures empty { self.new ≡ [] }
@@ -139,8 +140,8 @@ fn beginning(text: &[u8]) -> &[u8]
     if text.len() > 64 { &text[..64] } else { text }
 }
 
-// Puts a line's text into `text`: of a line that is too long its first 64 bytes, else all bytes without those that
-// `trim` cuts.
+// Puts the text of a line of these bytes into `text`, in place of what that held: if it is too long its first 64 bytes,
+// else all without one `\r` at the end and then without spaces and tabs at both ends.
 fn put_text<const N: usize>(bytes: &ArrayVec<u8, N>, is_too_long: bool, text: &mut ArrayVec<u8, N>)
     ensures long { is_too_long ≡ true → text.new.items ≡ take 64 bytes.now.items }
     ensures short { is_too_long ≡ false → text.new.items ≡ trimmed bytes.now.items }
@@ -190,7 +191,7 @@ impl Window {
         }
     }
 
-    // The next byte, which is removed; `None` if there is none.
+    // Removes the next byte from the window, and returns it; `None` if there is none.
     fn take_byte(&mut self) -> Option<u8>
         ensures { MatchOption result ((self.old ≡ []) × (self.new ≡ [])) (λ byte. self.old ≡ byte ∷ self.new) }
     {
@@ -202,7 +203,7 @@ impl Window {
         Some(byte)
     }
 
-    // Reads once, into the empty window, and returns how many bytes came; 0 is the input's end.
+    // Reads once, into the window, which is empty before, and returns how many bytes came; 0 is the input's end.
     fn fill<R: Input>(&mut self, reader: &mut R) -> Result<usize, ReadFault>
         ensures { Filled (R.seen reader.old) (R.seen reader.new) result self.new }
     {
@@ -233,7 +234,7 @@ impl<const N: usize> Model for Lines<N> {
 }
 
 impl<const N: usize> Lines<N> {
-    /// For a stream of which nothing was read.
+    /// A reader of lines for a stream of which nothing was read yet.
     pub fn new() -> Self
         ensures { result ≡ nothing_held }
     {
@@ -243,7 +244,8 @@ impl<const N: usize> Lines<N> {
         }
     }
 
-    // Looks for a whole line in what was read, puts it into `line`, and returns whether there was one.
+    // Looks for a whole line in the bytes that were read and not yet returned, puts it into `line`, and returns whether
+    // there was one.
     fn held_line(&mut self, line: &mut Line<N>) -> bool
         ensures held { HeldLine N self.old self.new (line_if result line.new) }
         ensures kept { result ≡ false → line.new ≡ line.old }

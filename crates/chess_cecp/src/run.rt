@@ -36,7 +36,8 @@ pub trait LineServer {
     /// How it responds to a line.
     ghost respond: { Self → LineSeen → Response Self };
 
-    /// Answers a line: the state changes, the answer is written, and the writer is flushed.
+    /// Answers a line: the server's state changes, the answer is written, and the writer is flushed. Returns whether
+    /// the server goes on.
     ///
     /// # Errors
     /// If a write or the flush fails. The change is kept, and a beginning of the answer was written.
@@ -53,7 +54,8 @@ pub trait LineServer {
 impl<B: Board> LineServer for Session<B> {
     ghost respond = { session_response };
 
-    // Answers a line as `Session::answer` does.
+    // Answers a line of a session: changes the game, writes the answer, and flushes the writer. Returns whether the
+    // session goes on.
     fn answer_line<W: Output>(
         &mut self,
         line: &Line<COMMAND_LEN>,

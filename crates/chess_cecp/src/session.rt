@@ -96,7 +96,7 @@ impl<B: Board + Drop> Session<B> {
 }
 
 impl<B: Board> Session<B> {
-    /// The current position: the one that the start and the moves give.
+    /// The current position of the game.
     pub fn position(&self) -> Position
         ensures value { result ≡ current self.now.state }
         ensures playable { IsPlayable (game_held self.now) }
@@ -104,7 +104,7 @@ impl<B: Board> Session<B> {
         self.game.position()
     }
 
-    // What a text denotes in the current position: a move, or why it is none.
+    // What a text denotes in the current position: a legal move, or why it is none.
     fn read(&self, text: &[u8]) -> Reading
         ensures value { result ≡ reading (current self.now.state) text.now }
         ensures legal { IsLegalReading (current self.now.state) result }
@@ -113,7 +113,8 @@ impl<B: Board> Session<B> {
         read_move(self.game.board(), text)
     }
 
-    // Why no move at all is played, if none is; found with the help of a legal move if one was read.
+    // Why no move can be played in the game now, if none can: it is over or has no room. `read` is what a text was read
+    // as: if that is a legal move, none has to be looked for to know whether the game is over.
     fn refusal(&self, read: &Reading) -> Option<PlayRefusal>
         requires { IsLegalReading (current self.now.state) read.now }
         ensures value { result ≡ refusal_now (game_held self.now) }
@@ -125,7 +126,8 @@ impl<B: Board> Session<B> {
         }
     }
 
-    // Plays the move that a text was read as, and answers the verdict if there is one; or refuses the text.
+    // Plays the move that `text` was read as (`read`), and answers with the board's verdict, if there is one; or
+    // refuses the text.
     fn play(&mut self, read: Reading, text: &[u8], answer: &mut Answer)
         requires read { read ≡ reading (current self.old.state) text.now }
         requires legal { IsLegalReading (current self.old.state) read }
@@ -154,7 +156,8 @@ impl<B: Board> Session<B> {
         }
     }
 
-    // Plays the move that a text denotes in the current position, or refuses the text.
+    // Plays the move that a text denotes in the current position, and answers with the board's verdict, if there is
+    // one; or refuses the text.
     fn play_text(&mut self, text: &[u8], answer: &mut Answer)
         requires short { length text.now ≤ COMMAND_LEN }
         requires empty { answer.old.items ≡ [] }
@@ -165,7 +168,8 @@ impl<B: Board> Session<B> {
         self.play(read, text, answer);
     }
 
-    // Obeys `setboard`: starts the game anew from the position of a FEN, or refuses it.
+    // Obeys `setboard`: starts the game anew from the position that a FEN denotes, and answers with the board's
+    // verdict, if there is one; or refuses the FEN.
     fn set_board(&mut self, fen: &[u8], answer: &mut Answer)
         requires { answer.old.items ≡ [] }
         ensures next { self.new
@@ -182,7 +186,8 @@ impl<B: Board> Session<B> {
         }
     }
 
-    // Obeys `variant`: the game starts anew in Chess960, or goes over to normal chess. `text` is the line's.
+    // Obeys `variant` by its argument: `fischerandom` starts the game anew in Chess960, `normal` goes over to normal
+    // chess, any other name is refused. `text` is the whole line.
     fn change_variant(&mut self, text: &[u8], argument: &[u8], answer: &mut Answer)
         requires short { length text.now ≤ COMMAND_LEN }
         requires empty { answer.old.items ≡ [] }
@@ -201,7 +206,7 @@ impl<B: Board> Session<B> {
         write_line(answer, b"Error (unsupported variant): ", text);
     }
 
-    // Obeys `variant normal`: a game of Chess960 starts anew as one of normal chess.
+    // Obeys `variant normal`: a game of Chess960 starts anew as one of normal chess, and one of normal chess goes on.
     fn leave_chess960(&mut self)
         ensures { self.new ≡ after_row self.old (normal_row self.old.state self.old.state.start.variant) }
     {
@@ -211,7 +216,7 @@ impl<B: Board> Session<B> {
         }
     }
 
-    // Obeys `undo`: takes one half-move back, or refuses it.
+    // Obeys `undo`: takes one half-move back, or refuses if there is none.
     fn undo(&mut self, answer: &mut Answer)
         requires { answer.old.items ≡ [] }
         ensures next { self.new ≡ after_row self.old (back_row 1 (codes "undo") self.old.state) }
@@ -222,7 +227,7 @@ impl<B: Board> Session<B> {
         }
     }
 
-    // Obeys `remove`: takes two half-moves back, or refuses it.
+    // Obeys `remove`: takes two half-moves back, or refuses if there are fewer.
     fn remove(&mut self, answer: &mut Answer)
         requires { answer.old.items ≡ [] }
         ensures next { self.new ≡ after_row self.old (back_row 2 (codes "remove") self.old.state) }
@@ -236,7 +241,8 @@ impl<B: Board> Session<B> {
         let _before = self.game.take_back();
     }
 
-    // Obeys `result`: declares the result that its argument denotes, or refuses the line `text`.
+    // Obeys `result`: declares the result that its argument denotes; refuses the whole line `text` if it denotes none,
+    // or the board has a verdict with another outcome.
     fn declare(&mut self, text: &[u8], argument: &[u8], answer: &mut Answer)
         requires short { length text.now ≤ COMMAND_LEN }
         requires empty { answer.old.items ≡ [] }
@@ -256,7 +262,7 @@ impl<B: Board> Session<B> {
         }
     }
 
-    // Declares a draw with this comment, and answers it as `1/2-1/2 {50-move rule}`.
+    // Declares a draw with this comment, and answers it, as `1/2-1/2 {50-move rule}`.
     fn draw(&mut self, comment: &[u8], answer: &mut Answer)
         requires open_game { is_over self.old.state ≡ false }
         requires clean { cut_comment comment.now ≡ comment.now }
@@ -269,7 +275,8 @@ impl<B: Board> Session<B> {
         write_result(answer, Outcome::Draw, comment);
     }
 
-    // Obeys `claim`: declares a draw, if one can be claimed in the current position, or refuses it.
+    // Obeys `claim`: declares a draw, if the game is not over and one can be claimed in the current position; else
+    // refuses.
     fn claim(&mut self, answer: &mut Answer)
         requires { answer.old.items ≡ [] }
         ensures next { self.new ≡ after_row self.old (claim_row self.old.state) }
@@ -289,7 +296,7 @@ impl<B: Board> Session<B> {
         }
     }
 
-    // Answers `showfen`: `# fen ` and the FEN of the current position.
+    // Answers `showfen`: `# fen ` and the FEN of the current position, to `answer`.
     fn show_fen(&self, answer: &mut Answer)
         requires { answer.old.items ≡ [] }
         ensures { answer.new.items ≡ joined_line (codes "# fen ") (fen (current self.now.state)) }
@@ -298,8 +305,8 @@ impl<B: Board> Session<B> {
         write_line(answer, b"# fen ", fen.as_slice());
     }
 
-    // Answers `showmoves` with the legal moves. Their list is large, so it is kept out of the frames of other
-    // commands.
+    // Answers `showmoves` with the legal moves, to `answer`. Their list is large, so it is kept out of the stack frames
+    // of other commands.
     #[inline(never)]
     fn show_moves(&self, answer: &mut Answer)
         requires { answer.old.items ≡ [] }
@@ -309,8 +316,8 @@ impl<B: Board> Session<B> {
         write_moves(answer, &self.game.position(), moves.as_slice());
     }
 
-    // Obeys a command: changes the game, and puts the answer together unless it is the game's text. `text` is the
-    // line's, `argument` what follows its first word.
+    // Obeys a command: changes the game, and puts the answer together; but for `showpgn`, whose answer is written
+    // later. `text` is the whole line, `argument` what follows its first word.
     fn obey(&mut self, command: Command, text: &[u8], argument: &[u8], answer: &mut Answer)
         requires short { length text.now ≤ COMMAND_LEN }
         requires short_argument { length argument.now ≤ COMMAND_LEN }
@@ -346,8 +353,8 @@ impl<B: Board> Session<B> {
         }
     }
 
-    // Obeys a line whose first word names no command: a move, or an unknown command. The text is read once, which also
-    // shows whether it has the form of a move.
+    // Obeys a line whose first word is no command's name: plays it as a move, if it has the form of one; else refuses
+    // it as an unknown command.
     fn obey_unnamed(&mut self, text: &[u8], answer: &mut Answer)
         requires short { length text.now ≤ COMMAND_LEN }
         requires empty { answer.old.items ≡ [] }
@@ -368,7 +375,8 @@ impl<B: Board> Session<B> {
         }
     }
 
-    // Obeys a line: changes the game, and puts the answer together unless it is the game's text.
+    // Obeys a line: changes the game, puts the answer together, but for `showpgn`, and returns how the line is then
+    // answered.
     #[tactic(auto, unfolding(crate::specs::Session::session_response, crate::specs::ties::Replies::is_quit, crate::specs::ties::Replies::asks_for_pgn, crate::specs::Commands::command_of))]
     fn obey_line(&mut self, line: &Line<COMMAND_LEN>, answer: &mut Answer) -> Reply
         requires { answer.old.items ≡ [] }
@@ -391,7 +399,7 @@ impl<B: Board> Session<B> {
         reply_of(command)
     }
 
-    // Answers `showpgn`: writes the game's text, each line after `# `, and flushes.
+    // Answers `showpgn`: writes the game's PGN to the writer, each line after `# `, and flushes.
     fn send_pgn<W: Output>(&mut self, writer: &mut W) -> Result<(), WriteFault>
         ensures same { self.new ≡ self.old }
         ensures written { Sends (W.seen writer.old) (W.seen writer.new) result
@@ -402,7 +410,7 @@ impl<B: Board> Session<B> {
     }
 
     /// Answers a line: changes the game, writes the answer (by one call, but for a game's text), and flushes the
-    /// writer.
+    /// writer. Returns whether the session goes on, which it does but after `quit`.
     ///
     /// # Errors
     /// If a write or the flush fails. The change is kept, and a beginning of the answer was written.
@@ -435,7 +443,8 @@ impl<B: Board> Session<B> {
     }
 }
 
-// What answers the lines of a command.
+// How a command is answered: `showpgn` by the game's PGN, all others by the text put together; and whether the session
+// goes on, which it does but after `quit`.
 fn reply_of(command: Command) -> Reply
     ensures { result ≡ reply_of command }
 {

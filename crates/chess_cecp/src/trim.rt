@@ -10,7 +10,7 @@ pub fn is_blank(byte: u8) -> bool
     byte == b' ' || byte == b'\t'
 }
 
-// A text without one `\r` at its end.
+// The text with the `\r` at its end cut off, if it ends with one; of several only the last is cut.
 fn cut_return(text: &[u8]) -> &[u8]
     ensures { result.now ≡ without_return text.now }
 {

@@ -20,28 +20,32 @@ use Rattle.chess_match.specs.declared.reason.Reason.{Reason}
 use Rattle.chess_match.specs.declared.reason.Reason.TheVariants.{Decided, Claimed, Agreed, MovesIllegally, MovesOutOfTurn, ClaimsFalsely, RejectsLegalMove, Forfeits, ForfeitsToBareKing, GameTooLong, Faulted}
 use Rattle.chess_match.specs.declared.reason.Reason.TheVariants as over_by
 
--- what happens in a match: a line comes from an engine, a turn's lines were sent, or a device ends or fails. A moment
--- is a time of the clock in milliseconds
+-- what happens in a match, which is one game between two engines: a line comes from an engine (`None`: it was too
+-- long), the lines that open a turn were sent, or a device ends or fails. A moment is a time of the clock in
+-- milliseconds
 pub data Event : Type 0 where
-  -- that side's engine sent a line; the moment was asked for after it
+  -- that side's engine sent a line; the clock was read after it
   Line : (side : Colour) → (text : Option (List ℕ)) → (moment : ℕ) → Event
-  -- the opening of that side's turn was sent; the moment at its end
+  -- the lines that open that side's turn were sent; the clock was read after them
   Opened : (side : Colour) → (moment : ℕ) → Event
   -- that side's engine ended its output
   OutputEnds : (side : Colour) → Event
+  -- reading from that side's engine failed
   FailsToRead : (side : Colour) → Event
+  -- writing to that side's engine failed
   FailsToWrite : (side : Colour) → Event
 
--- what is known of one side's engine
+-- what is known of the engine of one side
 pub record Seat : Type 0 where
   -- the items that were read in its handshake
   pub items : List Item
   -- the milliseconds that each of its moves used
   pub used : List ℕ
-  -- its offer of a draw is open
+  -- whether its offer of a draw is open
   pub offers : Bool
 
--- the state of a match: what it waits for (`phase`), what is known of both engines, and the moves played
+-- the state of a match, which is one game between two engines: what it waits for (`phase`), what is known of both
+-- engines, and the moves played
 pub record Match : Type 0 where
   pub phase : Phase
   pub white : Seat
@@ -58,12 +62,12 @@ pub record Match : Type 0 where
 abbrev pub seat : Match → Colour → Seat
 seat m S = by_colour m.white m.black S
 
--- the match after a change of what is known of S's engine, with all else as before
+-- the match after `change` changed what is known of the engine of this side, with all else as before
 abbrev pub with_seat : Colour → (Seat → Seat) → Match → Match
 with_seat White change m = record m { white = change m.white }
 with_seat Black change m = record m { black = change m.black }
 
--- nothing is known of an engine yet
+-- what is known of an engine before its first line: nothing
 abbrev pub vacant : Seat
 vacant = record { items = []; used = []; offers = false }
 
@@ -74,30 +78,31 @@ start =
 
 -- ---- ways to go on
 
--- the match ended for this reason
+-- the match `m`, ended for this reason
 abbrev pub over : Reason → Match → Match
 over reason m = record m { phase = Over reason }
 
--- the match in its next phase, in which lines are counted from 0
+-- the match `m` after entering this phase, in which lines are counted from 0
 abbrev pub enter : Phase → Match → Match
 enter phase m = record m { phase = phase; count = 0 }
 
--- the match when the turn of the side `S` begins: it is sent the last move
+-- the match when the turn of the side `S` begins: the lines that open it are to be sent. They have the last move, so no
+-- move is still to be sent besides
 abbrev pub open_turn : Colour → Match → Match
 open_turn S m = record m { phase = SendTurn S; count = 0; unsent_to = None }
 
--- the match after a line of the side `S` that is ignored; the 10,000th in one setup or turn ends it
+-- the match `m` after a line of the side `S` that is ignored; the 10,000th in one setup or turn ends it
 abbrev pub ignore : Colour → Match → Match
 ignore S m = if nat_le 10000 (m.count + 1) then over (Faulted S Flood) m else record m { count = m.count + 1 }
 
 -- ---- handshake
 
--- the items of a line, if it is a `feature` line
+-- the items of a line of this kind: those of a `feature` line, none of any other
 abbrev pub items_of_line : LineKind → List Item
 items_of_line (Features text) = items_of text
 items_of_line _ = []
 
--- the match after a `feature` line of the side `S` with these items
+-- the match `m` after a `feature` line of the side `S` with these items, which are added to those known of its engine
 abbrev pub hear : Colour → List Item → Match → Match
 hear S items m = with_seat S (λ s. record s { items = s.items ++ items }) m
 
@@ -110,19 +115,21 @@ lack r items =
     else if is_fischerandom r.variant && not (plays_fischerandom items) then Some NoVariant
     else None
 
--- the match after both handshakes, by what White's and Black's engine lack: the first that lacks something ends it
+-- the match `m` after both handshakes, by what White's engine lacks (the first option) and Black's (the second): the
+-- first of them that lacks something ends it
 abbrev pub judged : Option MatchFault → Option MatchFault → Match → Match
 judged (Some f) _ m = enter (Over (Faulted White f)) m
 judged None (Some f) m = enter (Over (Faulted Black f)) m
 judged None None m = enter (Setup White) m
 
--- the match after the handshake of the side `S`: Black's comes after White's, and then both are judged
+-- the match `m` after the handshake of the side `S` ended: Black's comes after White's, and then both engines are
+-- judged
 abbrev pub greeted : Rules → Colour → Match → Match
 greeted r White m = enter (Hello Black) m
 greeted r Black m = judged (lack r m.white.items) (lack r m.black.items) m
 
--- the match after a line of the side `S` in its handshake, with these items: `done=1` ends the handshake; without it
--- the 1,000th line ends the match
+-- the match `m` after a line of the side `S` in its handshake, which has these items: `done=1` ends the handshake;
+-- without it the 1,000th line ends the match
 unfoldable pub hello_line : Rules → Colour → List Item → Match → Match
 hello_line r S items m =
     if has_done items then greeted r S (hear S items m)
@@ -131,16 +138,17 @@ hello_line r S items m =
 
 -- ---- setup
 
--- the match `m'`; but if the board has a verdict, the match `m`, ended by it
+-- the match `m'`; but if there is a verdict of the board (`verdict`), the match `m`, ended by it
 abbrev pub unless_decided : Option Verdict → Match → Match → Match
 unless_decided verdict m m' = option_map_or (λ v. over (Decided v) m) verdict m'
 
--- the match after the side `S` answered `ping 1`: Black's setup comes after White's, and then the game begins
+-- the match `m` after the side `S` answered `ping 1`: Black's setup comes after White's, and then the game begins,
+-- which a verdict on the start ends at once
 abbrev pub ready : Rules → Colour → Match → Match
 ready r White m = enter (Setup Black) m
 ready r Black m = unless_decided (r.verdict m.played) m (open_turn r.first m)
 
--- the match after a line of the side `S` in its setup: `pong 1` ends the setup, any other line is ignored
+-- the match `m` after a line of the side `S` in its setup: `pong 1` ends the setup, any other line is ignored
 unfoldable pub setup_line : Rules → Colour → LineKind → Match → Match
 setup_line r S (Answers n) m = if n == 1 then ready r S m else ignore S m
 setup_line r S _ m = ignore S m
@@ -151,21 +159,22 @@ setup_line r S _ m = ignore S m
 abbrev pub clock : Rules → Match → Colour → ℕ
 clock r m S = left r.level (length (seat m S).used) (sum (seat m S).used)
 
--- S's move is played: S's clock is charged, the other's offer lapses, and the move is still to be sent to the other
+-- the side `S` plays this move, which took `used` milliseconds: its clock is charged, the other's offer of a draw
+-- lapses, and the move is still to be sent to the other
 abbrev pub played_by : Colour → Move → ℕ → Match → Match
 played_by S move used m =
     let charged = with_seat S (λ s. record s { used = s.used ++ used ∷ [] }) m in
     let m' = with_seat (other S) (λ s. record s { offers = false }) charged in
     record m' { phase = AwaitPong S; played = m.played ++ move ∷ []; unsent_to = Some (other S) }
 
--- the match after the line `move M` of the side `S`, by the legal move that M denotes: without one `S` loses; else it
--- is played, and a verdict of the board ends the match. `moment` is when the line came
+-- the match `m` after the line `move M` of the side `S`. The option is the legal move that M denotes: without one `S`
+-- loses; else it is played, and a verdict of the board ends the match. `moment` is when the line came
 abbrev pub move_row : Rules → Colour → Option Move → ℕ → Match → Match
 move_row r S None moment m = over (MovesIllegally S) m
 move_row r S (Some move) moment m =
     let m' = played_by S move (moment - m.opened) m in unless_decided (r.verdict m'.played) m' m'
 
--- the match after the side `S` offered a draw: agreed if the other's offer is open; ignored if its own is; else its
+-- the match `m` after the side `S` offered a draw: agreed if the other's offer is open; ignored if its own is; else its
 -- offer is open from now on
 abbrev pub offer_row : Colour → Match → Match
 offer_row S m =
@@ -173,15 +182,16 @@ offer_row S m =
     else if (seat m S).offers then ignore S m
     else with_seat S (λ s. record s { offers = true }) m
 
--- the match after the side `S` sent `1/2-1/2`: a draw, if one may be claimed, else an offer
+-- the match `m` after the side `S` sent `1/2-1/2`: a draw, if one may be claimed (`claim`); else that is an offer of a
+-- draw
 abbrev pub draw_row : Option DrawClaim → Colour → Match → Match
 draw_row claim S m = option_map_or (λ c. over (Claimed c) m) claim (offer_row S m)
 
--- whether the side `S` was ever sent a move: whether the other side has made one
+-- whether the side `S` was ever sent a move, which is so if the other side has made one
 abbrev pub was_sent_move : Match → Colour → Bool
 was_sent_move m S = nat_lt 0 (length (seat m (other S)).used)
 
--- the match after a line of the side `S` that means the same before its move and after it, such as `resign` or
+-- the match `m` after a line of the side `S` that means the same before its move and after it, such as `resign` or
 -- `offer draw`
 abbrev pub either_way : Rules → Colour → LineKind → Match → Match
 either_way r S Resigns m = over (over_by.Resigns S) m
@@ -191,15 +201,16 @@ either_way r S (ClaimsWin c) m = if same_colour c S then over (ClaimsFalsely S) 
 either_way r S Rejects m = if was_sent_move m S then over (RejectsLegalMove S) m else ignore S m
 either_way r S _ m = ignore S m
 
--- the match after a line of the side `S`, of which a move is awaited, and which has time left: a move is played, or
+-- the match `m` after a line of the side `S`, of which a move is awaited, and which has time left: a move is played, or
 -- ends the match if the game has no room for it. `moment` is when the line came
 abbrev pub before_row : Rules → Colour → LineKind → ℕ → Match → Match
 before_row r S (Moves text) moment m =
     if nat_le r.limit (length m.played) then over GameTooLong m else move_row r S (r.reading m.played text) moment m
 before_row r S kind moment m = either_way r S kind m
 
--- the match after a line of the side `S`, of which a move is awaited. If `S` used more time than it had left, it
--- loses, but draws against a bare king (Laws of Chess 2023, article 6.9, of whose draws only this one is judged)
+-- the match `m` after a line of the side `S`, of which a move is awaited; `moment` is when it came. If `S` used more
+-- time than it had left, it loses, but draws against a bare king (Laws of Chess 2023, article 6.9, of whose draws only
+-- this one is judged)
 unfoldable pub before_line : Rules → Colour → LineKind → ℕ → Match → Match
 before_line r S kind moment m =
     if nat_lt (clock r m S) (moment - m.opened)
@@ -210,7 +221,7 @@ before_line r S kind moment m =
 abbrev pub ping_number : Match → Colour → ℕ
 ping_number m S = length (seat m S).used + 1
 
--- the match after a line of the side `S`, which has moved and is to answer the `ping`: that answer gives the other
+-- the match `m` after a line of the side `S`, which has moved and is to answer the `ping`: that answer gives the other
 -- side its turn, and another move loses
 unfoldable pub after_line : Rules → Colour → LineKind → Match → Match
 after_line r S (Moves _) m = over (MovesOutOfTurn S) m
@@ -219,8 +230,8 @@ after_line r S kind m = either_way r S kind m
 
 -- ---- one event
 
--- the match after a line of this kind, by the phase that it is in; while a turn is opened, or at the end, no line is
--- read
+-- the match `m` after a line of this kind that came at `moment`, by the phase that the match is in; while a turn is
+-- opened, or at the end, no line is read
 abbrev pub after_kind : Rules → Phase → LineKind → ℕ → Match → Match
 after_kind r (Hello S) kind moment m = hello_line r S (items_of_line kind) m
 after_kind r (Setup S) kind moment m = setup_line r S kind m
@@ -228,7 +239,7 @@ after_kind r (AwaitMove S) kind moment m = before_line r S kind moment m
 after_kind r (AwaitPong S) kind moment m = after_line r S kind m
 after_kind r _ kind moment m = m
 
--- the match after an event
+-- the match after an event, by the rules `r`, if it is `m` before
 abbrev pub after : Rules → Match → Event → Match
 after r m (Line S text moment) = after_kind r m.phase (line_kind text) moment m
 after r m (Opened S moment) = record m { phase = AwaitMove S; opened = moment }

@@ -17,21 +17,22 @@ pub data Note : Type 0 where
 
 -- ---- the notes of a transcript
 
--- the note of what the side `S` is sent, as a list of one; empty if it is sent nothing
+-- the note that the side `S` is sent these bytes, as a list of one; the empty list if there are no bytes
 abbrev pub given_note : Colour → List ℕ → List Note
 given_note S [] = []
 given_note S (b ∷ bs) = Gives S (b ∷ bs) ∷ []
 
--- the notes of what both sides are sent, that of the side `S` first
+-- the notes of what both sides are sent, that of the side `S` first; `lines` are the lines for each side
 abbrev pub both_notes : Colour → (Colour → List SentLine) → List Note
 both_notes S lines = given_note S (bytes_of (lines S)) ++ given_note (other S) (bytes_of (lines (other S)))
 
--- who is sent its block first: the engine whose line the event is, and White if it is none or the match is over
+-- which side is written to first at an event, after which the match is `m`: the one whose line the event is; White if
+-- it is no line, or if the match is over
 abbrev pub first_sent : Match → Event → Colour
 first_sent m (Line S text moment) = if is_on m.phase then S else White
 first_sent m _ = White
 
--- the notes of these events, from the state `m` on: each event, and then what the engines are sent at it
+-- the notes of these events, from the match `m` on: each event, and after it what both engines are sent at it
 abbrev pub notes_from : Rules → Match → List Event → List Note
 notes_from r m [] = []
 notes_from r m (e ∷ es) =
@@ -44,10 +45,12 @@ notes_of r T = both_notes White (λ S. entry r start S) ++ notes_from r start T
 
 -- ---- a witness
 
--- what contracts see of a witness: whether, after a text that it held before, it may have been given these notes
+-- what contracts see of a witness, such as the log: a relation between a text that it held at first and the notes that
+-- it may have been given since
 abbrev pub Noted : Type 1
 Noted = List ℕ → List Note → Type 0
 
--- between two states a witness was given the notes `more`, in order, after all that it was given before
+-- from its state `old` to `new` a witness was given the notes `more`, in order: whatever notes it may have been given
+-- up to `old`, up to `new` it may have been given those and then `more`
 pub record WasNoted (old new : Noted) (more : List Note) : Type 0 where
   pub extends : (before : List ℕ) (notes : List Note) → old before notes → new before (notes ++ more)

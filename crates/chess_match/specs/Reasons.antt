@@ -17,25 +17,26 @@ use Rattle.chess_match.specs.declared.reason.MatchFault.TheVariants.{Ended, Read
 use Rattle.chess_match.specs.declared.reason.Reason.{Reason}
 use Rattle.chess_match.specs.declared.reason.Reason.TheVariants.{Decided, Claimed, Agreed, Resigns, MovesIllegally, MovesOutOfTurn, ClaimsFalsely, RejectsLegalMove, Forfeits, ForfeitsToBareKing, GameTooLong, Faulted}
 
--- what is White's, and what is Black's
+-- of two values, White's and Black's, the one of the side that the last argument names
 abbrev pub by_colour : {A : Type 0} → A → A → Colour → A
 by_colour white black White = white
 by_colour white black Black = black
 
--- a side's name in comments
+-- a side's name in comments on how a game ended, `White` or `Black`
 abbrev pub colour_name : Colour → List ℕ
 colour_name c = by_colour (codes "White") (codes "Black") c
 
--- the outcome if this side wins
+-- the outcome of a game that this side wins
 abbrev pub win_of : Colour → Outcome
 win_of c = by_colour WhiteWins BlackWins c
 
--- the comment on a draw that was claimed
+-- the comment on a draw that was claimed for this reason, such as `50-move rule`
 abbrev pub claim_comment : DrawClaim → List ℕ
 claim_comment Threefold = codes "Threefold repetition"
 claim_comment FiftyMoves = codes "50-move rule"
 
--- what a comment says of the side whose engine has this fault, after its name: `White has no ping`
+-- what the comment says of an engine with this fault, after the name of its side: ` has no ping`, as in `White has no
+-- ping`
 abbrev pub fault_words : MatchFault → List ℕ
 fault_words Ended = codes " ended its output"
 fault_words Read = codes " can not be read"
@@ -66,20 +67,22 @@ reported (Faulted c f) = (Unfinished, colour_name c ++ fault_words f, Normal)
 abbrev pub outcome_of : Reason → Outcome
 outcome_of reason = (reported reason).0
 
--- the comment on the end of a match, such as `Black resigns`
+-- the comment on the end of a match that ended for this reason, such as `Black resigns`
 abbrev pub comment_of : Reason → List ℕ
 comment_of reason = (reported reason).1
 
--- how the game ended, for the tag Termination (PGN standard, section 9.8.1)
+-- how a match that ended for this reason came to its end, as the value of the tag Termination (PGN standard, section
+-- 9.8.1)
 abbrev pub ended_by : Reason → HowEnded
 ended_by reason = (reported reason).2
 
--- the first fault, and whose it is: that of the end, else of the end lines, where White's come first
+-- the first fault of a match that ended for this reason, and whose it is: the one that ended it, if one did; else a
+-- write of the last lines that failed (`failed` says to which side), White's before Black's
 abbrev pub first_fault : Reason → (Colour → Bool) → Option (Colour × MatchFault)
 first_fault (Faulted c f) failed = Some (c, f)
 first_fault _ failed = if failed White then Some (White, Write) else if failed Black then Some (Black, Write) else None
 
--- the result that is declared in the game when the match ends: none if the board has a verdict
+-- the result that is declared in the game when the match ends for this reason; `None` if the board has a verdict
 abbrev pub declared_at : Option Verdict → Reason → Option Declared
 declared_at (Some v) reason = None
 declared_at None reason = Some (record { outcome = outcome_of reason; comment = comment_of reason })

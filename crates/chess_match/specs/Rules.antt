@@ -52,22 +52,22 @@ abbrev pub move_read : Reading → Option Move
 move_read (reads.Move m) = Some m
 move_read _ = None
 
--- the draw that may be claimed, if any; threefold repetition comes before 50 moves
+-- the draw that may be claimed, if any, by which of the two claims hold; threefold repetition comes before 50 moves
 abbrev pub claim_by : Claims → Option DrawClaim
 claim_by c = if c.threefold then Some Threefold else if c.fifty_moves then Some FiftyMoves else None
 
--- the text of the last of these moves, which are made from the position `p` on: in SAN, or by squares (`e2e4`),
--- where castling in Chess960 is `O-O` or `O-O-O`
+-- the text of the last of these moves, which are made one after another from the position `p` on: in SAN, if `as_san`;
+-- else by squares (`e2e4`), where castling in Chess960 is `O-O` or `O-O-O`. Empty if there is no move
 abbrev pub text_of_last : Bool → Setup → List Move → List ℕ
 text_of_last as_san p [] = []
 text_of_last as_san p (m ∷ []) = if as_san then san p m else shown_move p m
 text_of_last as_san p (m ∷ n ∷ ms) = text_of_last as_san (after p m) (n ∷ ms)
 
--- whether a square is empty, or has a king or a piece of the other colour than `c`
+-- whether a square (`man` is what stands on it) is empty, or has a king or a piece of the other colour than `c`
 abbrev pub is_king_or_other : Colour → Option Man → Bool
 is_king_or_other c man = option_map_or (λ (x : Man). not (same_colour x.colour c) || same_kind x.kind King) man true
 
--- whether the side `c` has no piece but its king
+-- whether the side `c` has no piece but its king; `men` are the 64 squares
 unfoldable pub has_bare_king : Colour → Men → Bool
 has_bare_king c men = list_all (is_king_or_other c) men
 

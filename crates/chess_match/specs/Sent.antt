@@ -17,13 +17,14 @@ use Rattle.chess_match.specs.declared.reason.Reason.{Reason}
 use Rattle.chess_match.specs.declared.reason.Reason.TheVariants.{Faulted}
 use Rattle.chess_base.specs.declared.man.Variant.{Variant}
 
--- the list where that is so, else nothing
+-- the list `xs` if `b` is true, else the empty list
 abbrev pub when : {A : Type 0} → Bool → List A → List A
 when b xs = if b then xs else []
 
 -- ---- lines
 
--- a line that is sent to an engine
+-- a line that is sent to an engine: a text as it is; a move (`prefixed`: with `usermove` before it); `time`, with its
+-- own clock; `otim`, with its opponent's clock
 pub data SentLine : Type 0 where
   Says : (text : List ℕ) → SentLine
   MoveSent : (prefixed : Bool) → (text : List ℕ) → SentLine
@@ -41,26 +42,26 @@ words_of (MoveSent prefixed text) = when prefixed (codes "usermove ") ++ text
 words_of (Time n) = codes "time " ++ decimal n
 words_of (Otim n) = codes "otim " ++ decimal n
 
--- the bytes of lines, each with `\n` at its end
+-- the bytes of these lines one after another, each with `\n` at its end
 unfoldable pub bytes_of : List SentLine → List ℕ
 bytes_of [] = []
 bytes_of (l ∷ ls) = words_of l ++ new_line ∷ bytes_of ls
 
 -- ---- what a phase gives
 
--- the answers to these items, in their order
+-- the lines that answer these items of `feature` lines, one for each, in their order
 abbrev pub answers_to : List Item → List SentLine
 answers_to items = map (λ i. Says (answer_words i.name)) items
 
--- the line `setboard FEN`, if the start is sent
+-- the line `setboard FEN` for the start's FEN, as a list of one; empty if none is sent (`None`)
 abbrev pub start_lines : Option (List ℕ) → List SentLine
 start_lines start = option_map_or (λ fen. Says (codes "setboard " ++ fen) ∷ []) start []
 
--- the line `variant fischerandom`, for Chess960
+-- the line `variant fischerandom` if the game is of Chess960, as a list of one; else empty
 abbrev pub variant_lines : Variant → List SentLine
 variant_lines v = when (is_fischerandom v) (Says (codes "variant fischerandom") ∷ [])
 
--- the line `ping N`
+-- the line `ping N` with this number
 abbrev pub ping : ℕ → SentLine
 ping n = Says (codes "ping " ++ decimal n)
 
@@ -71,12 +72,13 @@ setup_lines r =
     Says (codes "new") ∷ (variant_lines r.variant ++ (Says (codes "level " ++ level_text r.level)
     ∷ Says (codes "nopost") ∷ Says (codes "easy") ∷ Says (codes "force") ∷ (start_lines r.start_fen ++ ping 1 ∷ [])))
 
--- the line with the last move, in the form that the engine of the side `S` asked for by `usermove` and `san`
+-- the line with the last move played, in the form that the engine of the side `S` asked for: after `usermove` or alone,
+-- in SAN or by squares
 unfoldable pub last_move : Rules → Match → Colour → SentLine
 last_move r m S = MoveSent (takes (codes "usermove") (seat m S).items)
     (r.move_text (takes (codes "san") (seat m S).items) m.played)
 
--- the line with the last move for the side `S`, if there is a move
+-- the line with the last move for the side `S`, as a list of one; empty if no move was played yet
 abbrev pub last_move_lines : Rules → Match → Colour → List SentLine
 last_move_lines r m S = when (nat_lt 0 (length m.played)) (last_move r m S ∷ [])
 
@@ -93,23 +95,25 @@ opening_lines r m S =
     then clock_lines r m S ++ last_move_lines r m S
     else last_move_lines r m S ++ (clock_lines r m S ++ Says (codes "go") ∷ [])
 
--- the last move, if it is still to be sent to S
+-- the line with the last move, as a list of one, if `unsent_to`, the side that is still to be sent it, is `S`; else
+-- empty
 abbrev pub unsent_lines : Rules → Match → Colour → Option Colour → List SentLine
 unsent_lines r m S unsent_to = option_map_or (λ c. when (same_colour c S) (last_move r m S ∷ [])) unsent_to []
 
--- the last lines for the side `S`: the last move, if it has still to be sent that, `result 1-0 {Black resigns}`, and
--- `quit`
+-- the last lines for the side `S` in a match that ended for this reason: the last move, if it is still to be sent that,
+-- `result 1-0 {Black resigns}`, and `quit`
 unfoldable pub end_lines : Rules → Match → Colour → Reason → List SentLine
 end_lines r m S reason =
     unsent_lines r m S m.unsent_to ++ (Says (codes "result " ++ result_text (outcome_of reason) (comment_of reason))
     ∷ Says (codes "quit") ∷ [])
 
--- whether the match ended because writing to the side `S` failed
+-- whether this reason, for which a match ended, is that writing to the side `S` failed
 abbrev pub is_unwritten : Reason → Colour → Bool
 is_unwritten (Faulted c Write) S = same_colour c S
 is_unwritten _ S = false
 
--- the lines that the side `S` is sent when the match enters this phase; none if writing to it failed
+-- the lines that the side `S` is sent when the match `m` enters this phase: most phases have lines for one side only;
+-- at the end both are sent some, unless writing to `S` failed
 abbrev pub entry_to : Rules → Match → Colour → Phase → List SentLine
 entry_to r m S (Hello c) = when (same_colour c S) (Says (codes "xboard") ∷ Says (codes "protover 2") ∷ [])
 entry_to r m S (Setup c) = when (same_colour c S) (setup_lines r)
@@ -118,14 +122,14 @@ entry_to r m S (AwaitMove c) = []
 entry_to r m S (AwaitPong c) = when (same_colour c S) (ping (ping_number m S) ∷ [])
 entry_to r m S (Over reason) = if is_unwritten reason S then [] else end_lines r m S reason
 
--- the lines that the side `S` is sent when the match enters the phase that it is in
+-- the lines that the side `S` is sent when the match `m` enters the phase in which it now is
 abbrev pub entry : Rules → Match → Colour → List SentLine
 entry r m S = entry_to r m S m.phase
 
 -- ---- one event's block
 
--- whether a match that was in the first phase has not entered a new one by the second; each turn's opening is a new
--- one, and a match that is over enters no other
+-- whether going from the first phase to the second enters no new one: they are the same, or the match was over before.
+-- The opening of a turn (`SendTurn`) is always a new phase
 abbrev pub is_same_phase : Phase → Phase → Bool
 is_same_phase (Hello c) (Hello d) = same_colour c d
 is_same_phase (Setup c) (Setup d) = same_colour c d
@@ -134,8 +138,8 @@ is_same_phase (AwaitPong c) (AwaitPong d) = same_colour c d
 is_same_phase (Over c) d = true
 is_same_phase _ _ = false
 
--- the line `draw`, if the opponent's offer was opened between its states `old` and `new`; `told` is the engine that
--- is sent it, unless it has `draw=0`
+-- the line `draw` for the engine `own`, if its opponent's offer of a draw was opened between the opponent's states
+-- `old` and `new`; as a list of one, empty if there was no such offer or `own` has `draw=0`
 abbrev pub draw_line : Seat → Seat → Seat → List SentLine
 draw_line own old new = when (not old.offers && new.offers && takes (codes "draw") own.items) (Says (codes "draw") ∷ [])
 

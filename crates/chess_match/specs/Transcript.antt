@@ -18,8 +18,8 @@ use Rattle.std.specs.List.{flat_map, fold, list_any}
 abbrev pub match_of : Rules → List Event → Match
 match_of r T = fold (after r) start T
 
--- the name that the engine of the side `S` gave in its last `myname`, by the transcript `T`; cut for a PGN tag, and
--- empty if it gave none
+-- the name that the engine of the side `S` gave in its last `myname`, cut so that a PGN tag can hold it; empty if it
+-- gave none
 abbrev pub name_of : Match → Colour → List ℕ
 name_of m S = cut_tag (told (codes "myname") (seat m S).items)
 
@@ -52,7 +52,8 @@ fits_next due m (OutputEnds S) = reads m.phase S
 fits_next due m (FailsToRead S) = reads m.phase S
 fits_next due m (FailsToWrite S) = is_on m.phase && nat_lt 0 (length (due S))
 
--- whether each of these events may come next, from the state `m` on; `due` are the lines that each side is sent first
+-- whether each of these events may come when it does, from the match `m` on; `due` are the lines that each side is sent
+-- when the match is `m`
 abbrev pub fits_from : Rules → (Colour → List SentLine) → Match → List Event → Bool
 fits_from r due m [] = true
 fits_from r due m (e ∷ es) = fits_next due m e && fits_from r (block r m (after r m e)) (after r m e) es
@@ -63,25 +64,25 @@ fits r T = fits_from r (entry r start) start T
 
 -- ---- what is sent
 
--- whether the side `S` is not sent its lines of an event: the other engine is written to first, and the next event is
--- that this write failed
+-- whether the side `S` is not sent its lines of an event: the event is a line of the other engine, which is written to
+-- first, and the next event (the first of the list) is that this write failed
 abbrev pub is_dropped : Event → List Event → Colour → Bool
 is_dropped (Line c text moment) (FailsToWrite d ∷ es) S = same_colour c d && not (same_colour d S)
 is_dropped _ _ S = false
 
--- the event is that fault of S's engine: its output ended, or a read or a write of it failed
+-- whether this event is this fault of the engine of the side `S`: its output ended, or a read or a write of it failed
 abbrev pub is_fault : MatchFault → Colour → Event → Bool
 is_fault Ended S (OutputEnds c) = same_colour c S
 is_fault Read S (FailsToRead c) = same_colour c S
 is_fault Write S (FailsToWrite c) = same_colour c S
 is_fault _ S _ = false
 
--- the lines that the side `S` is sent at the event `e`, before the events `es`, as a list of one block; empty if they
--- are dropped, or if the event is that writing to `S` failed
+-- the lines that the side `S` is sent at the event `e` in the match `m`, as a list of one block; empty if they are
+-- dropped, or if the event is that writing to `S` failed. `es` are the events after it
 abbrev pub block_at : Rules → Match → Event → List Event → Colour → List (List SentLine)
 block_at r m e es S = if is_dropped e es S || is_fault Write S e then [] else block r m (after r m e) S ∷ []
 
--- the blocks of lines that the side `S` is sent at these events, from the state `m` on
+-- the blocks of lines that the side `S` is sent at these events, from the match `m` on
 abbrev pub blocks_from : Rules → Colour → Match → List Event → List (List SentLine)
 blocks_from r S m [] = []
 blocks_from r S m (e ∷ es) = block_at r m e es S ++ blocks_from r S (after r m e) es
@@ -91,13 +92,14 @@ blocks_from r S m (e ∷ es) = block_at r m e es S ++ blocks_from r S (after r m
 abbrev pub blocks : Rules → Colour → List Event → List (List SentLine)
 blocks r S T = entry r start S ∷ blocks_from r S start T
 
--- the lines of all blocks, in order
+-- the lines of all these blocks, in order, as one list
 abbrev pub joined_blocks : List (List SentLine) → List SentLine
 joined_blocks bs = flat_map (λ b. b) bs
 
 -- ---- what passed at the devices
 
--- the line that an event brings from the side `S`, as a list of one; empty for any other event
+-- the line that an event brings from the side `S`, as a list of one; empty for any other event. The line is `None` if
+-- it was too long
 abbrev pub line_in : Colour → Event → List (Option (List ℕ))
 line_in S (Line c text moment) = when (same_colour c S) (text ∷ [])
 line_in S _ = []
@@ -106,7 +108,7 @@ line_in S _ = []
 abbrev pub lines_of : Colour → List Event → List (Option (List ℕ))
 lines_of S T = flat_map (line_in S) T
 
--- the time that was read from the clock at an event, as a list of one; empty if none was
+-- the time that was read from the clock at an event, as a list of one; the empty list if none was read
 abbrev pub moment_in : Event → List ℕ
 moment_in (Line c text moment) = moment ∷ []
 moment_in (Opened c moment) = moment ∷ []
@@ -116,6 +118,7 @@ moment_in _ = []
 abbrev pub moments_of : List Event → List ℕ
 moments_of T = flat_map moment_in T
 
--- one of the events is that fault of S's engine
+-- whether one of the events of the transcript `T` is this fault of the engine of the side `S`: its output ended, or a
+-- read or a write of it failed
 abbrev pub has_fault : MatchFault → Colour → List Event → Bool
 has_fault fault S T = list_any (is_fault fault S) T

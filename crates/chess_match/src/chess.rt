@@ -24,7 +24,7 @@ use chess_text::{
     Reading, add_check_mark, move_text, read_move, read_moves_are_legal, unmarked_san,
 };
 
-// Whether a square is empty, or has a king or a piece of the other colour.
+// Whether a square (`man` is what stands on it) is empty, or has a king or a piece of the other colour than `colour`.
 fn is_king_or_other(colour: Colour, man: Option<Man>) -> bool
     ensures { result ≡ is_king_or_other colour man }
 {
@@ -42,7 +42,7 @@ fn has_bare_king(colour: Colour, men: &[Option<Man>; 64]) -> bool
     men.iter().all(|man| is_king_or_other(colour, *man))
 }
 
-// The draw that may be claimed, if any; threefold repetition comes before 50 moves.
+// The draw that may be claimed, if any, by which of the two claims hold; threefold repetition comes before 50 moves.
 fn claim_by(claims: Claims) -> Option<DrawClaim>
     ensures { result ≡ claim_by claims }
 {
@@ -55,14 +55,15 @@ fn claim_by(claims: Claims) -> Option<DrawClaim>
     }
 }
 
-// Whether a start of normal chess is the initial position.
+// Whether this start, of normal chess, is the initial position.
 fn is_initial(start: &Position) -> bool
     ensures { result ≡ is_initial start.now }
 {
     write_fen(start).as_slice() == write_fen(&Position::initial()).as_slice()
 }
 
-// The FEN that `setboard` sends for this start; `None` for the initial position of normal chess.
+// The FEN that `setboard` sends to the engines for this start; `None` for the initial position of normal chess, in
+// which `new` starts anyway.
 fn start_text(start: &Position) -> Option<FenText>
     ensures text { option_map (λ t. t.items) result ≡ fen_sent start.now }
     ensures short { IfSome result (λ t. array_vec_len t ≤ 100) }
@@ -79,7 +80,7 @@ fn start_text(start: &Position) -> Option<FenText>
     }
 }
 
-// The move that a text was read as, if it denotes exactly one legal move.
+// The move that a text was read as, if it denotes exactly one legal move; else `None`.
 fn move_read(reading: Reading) -> Option<Move>
     ensures { result ≡ move_read reading }
 {
@@ -100,13 +101,13 @@ impl<B: Board> MatchGame for Game<B> {
 
     ghost origin = { λ g. (g.state.start, g.limit) };
 
-    // Which side moves first: the side to move in the start.
+    // Which side moves first: the one on move in the game's start.
     #[tactic(auto, unfolding(crate::specs::Rules::rules_of))]
     fn first(&self) -> Colour {
         self.start().side()
     }
 
-    // Whether the start is sent by `setboard`.
+    // Whether the start is sent to the engines by `setboard`: it is not if it is the initial position of normal chess.
     #[tactic(auto, unfolding(crate::specs::Rules::rules_of))]
     fn has_start(&self) -> bool {
         start_text(&self.start()).is_some()
@@ -118,13 +119,13 @@ impl<B: Board> MatchGame for Game<B> {
         self.start().variant()
     }
 
-    // Whether the game has as many half-moves as its limit allows.
+    // Whether the game has as many half-moves as its limit allows, so that no move can be played any more.
     #[tactic(auto, unfolding(crate::specs::Rules::rules_of))]
     fn is_full(&self) -> bool {
         Game::is_full(self)
     }
 
-    // The one legal move that a text denotes in the current position.
+    // The one legal move that a text denotes in the current position; `None` if it denotes none, or more than one.
     #[tactic(auto, unfolding(crate::specs::Rules::rules_of))]
     fn reading(&self, text: &[u8]) -> Option<Move> {
         move_read(read_move(self.board(), text))
@@ -142,13 +143,14 @@ impl<B: Board> MatchGame for Game<B> {
         claim_by(self.claims())
     }
 
+    // Whether this side has no piece but its king in the current position.
     #[tactic(auto, unfolding(crate::specs::Rules::rules_of))]
     fn has_bare_king(&self, side: Colour) -> bool {
         has_bare_king(side, &self.position().setup().men)
     }
 
-    // Plays a legal move, and returns both its texts. The SAN is begun before the move is played, and its check mark
-    // added after it.
+    // Plays a legal move, and returns its two texts, in SAN and by squares. The SAN is begun before the move is played,
+    // and its check mark added after it.
     #[tactic(auto, unfolding(crate::specs::Rules::rules_of))]
     fn play(&mut self, chosen: Move) -> MoveTexts {
         // The prover wants this law: the move that a text is read as is legal.
@@ -163,7 +165,7 @@ impl<B: Board> MatchGame for Game<B> {
         MoveTexts { san, squares }
     }
 
-    // Appends the line `setboard FEN`, if the start is sent.
+    // Appends the line `setboard FEN` to the block, unless the start is the initial position of normal chess.
     #[tactic(auto, unfolding(crate::specs::Rules::rules_of, crate::specs::Sent::bytes_of))]
     fn add_start(&self, block: &mut Block) {
         match start_text(&self.start()) {

@@ -21,8 +21,8 @@ use crate::witness::Witness;
 use byte_devices::{Output, WriteFault};
 use chess_base::Colour;
 
-// Appends what this side is sent after the answers to its items: an offer of a draw, and the lines of a new phase, as
-// far as `given` says so.
+// Appends to the block what this side is sent after the answers to its items, as far as `given` says so: an offer of a
+// draw, and the lines of the phase.
 fn add_rest<G: MatchGame>(
     block: &mut Block,
     core: &MatchState,
@@ -39,7 +39,8 @@ fn add_rest<G: MatchGame>(
     add_entered(block, core, game, given, side);
 }
 
-// Gives the witness a note of a text, and then writes and flushes it; an empty text is skipped.
+// Gives the witness, such as the log, a note that `side` is sent this text, and then writes and flushes the text; an
+// empty text is neither noted nor written.
 fn note_and_put<W: Output, L: Witness>(
     writer: &mut W,
     witness: &mut L,

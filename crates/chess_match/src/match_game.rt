@@ -30,7 +30,7 @@ pub(crate) trait MatchGame {
     /// The start, and how many half-moves the game may have: neither ever changes.
     ghost origin: { Self → Setup × ℕ };
 
-    /// Which side moves first.
+    /// Which side moves first: the one on move in the game's start.
     fn first(&self) -> Colour
         ensures { (r : Rules) → plays self.now r → result ≡ r.first };
 
@@ -38,20 +38,20 @@ pub(crate) trait MatchGame {
     fn has_start(&self) -> bool
         ensures { (r : Rules) → plays self.now r → result ≡ is_some r.start_fen };
 
-    /// The variant.
+    /// The variant of the game: normal chess or Chess960.
     fn variant(&self) -> Variant
         ensures { (r : Rules) → plays self.now r → result ≡ r.variant };
 
-    /// Whether the game has as many half-moves as its limit allows.
+    /// Whether the game has as many half-moves as its limit allows, so that no move can be played any more.
     fn is_full(&self) -> bool
         ensures value { (r : Rules) → plays self.now r → result ≡ nat_le r.limit (length (played self.now)) }
         ensures few { result ≡ false → length (played self.now) < MOST_MOVES };
 
-    /// The one legal move that a text denotes now.
+    /// The one legal move that a text denotes in the current position; `None` if it denotes none, or more than one.
     fn reading(&self, text: &[u8]) -> Option<Move>
         ensures { (r : Rules) → plays self.now r → result ≡ r.reading (played self.now) text.now };
 
-    /// The board's verdict, if there is one.
+    /// The board's verdict on the current position, if there is one.
     fn verdict(&self) -> Option<Verdict>
         ensures { (r : Rules) → plays self.now r → result ≡ r.verdict (played self.now) };
 
@@ -63,7 +63,8 @@ pub(crate) trait MatchGame {
     fn has_bare_king(&self, side: Colour) -> bool
         ensures { (r : Rules) → plays self.now r → result ≡ r.has_bare_king (played self.now) side };
 
-    /// Plays a move, which some text denotes, in a game that is not over and has room, and returns the move's texts.
+    /// Plays a move, which some text denotes, in a game that is not over and has room, and returns its two texts, in
+    /// SAN and by squares.
     fn play(&mut self, chosen: Move) -> MoveTexts
         requires { (r : Rules) × (text : List ℕ) × (plays self.old r) × (r.verdict (played self.old) ≡ None)
             × (nat_le r.limit (length (played self.old)) ≡ false) × (r.reading (played self.old) text ≡ Some chosen) }
@@ -72,7 +73,7 @@ pub(crate) trait MatchGame {
         ensures texts { (r : Rules) → plays self.old r → AreTexts r result (played self.new) }
         ensures origin { origin self.new ≡ origin self.old };
 
-    /// Appends the line `setboard FEN`, if the start is sent.
+    /// Appends the line `setboard FEN` to the block, unless the start is the initial position of normal chess.
     fn add_start(&self, block: &mut Block)
         requires { array_vec_len block.old + 110 ≤ BLOCK_LEN }
         ensures text { (r : Rules) → plays self.now r

@@ -66,7 +66,7 @@ pub enum Reason {
     Faulted(Colour, MatchFault),
 }
 
-// The outcome if this side wins.
+// The outcome of a game that this side won.
 fn win_of(colour: Colour) -> Outcome
     ensures { result ≡ win_of colour }
 {
@@ -77,7 +77,7 @@ fn win_of(colour: Colour) -> Outcome
 }
 
 impl DrawClaim {
-    // The comment on the draw.
+    // The comment on a draw that was claimed for this reason, such as `50-move rule`.
     fn comment(self) -> &'static [u8]
         ensures value { result.now ≡ claim_comment self }
         ensures short { length result.now ≤ 60 }
@@ -90,7 +90,7 @@ impl DrawClaim {
 }
 
 impl MatchFault {
-    // What is said of the engine of this side.
+    // What the comment says of this fault of the engine of the side `colour`, such as `White has no ping`.
     fn comment(self, colour: Colour) -> &'static [u8]
         ensures value { result.now ≡ colour_name colour ++ fault_words self }
         ensures short { length result.now ≤ 60 }
@@ -117,7 +117,7 @@ impl MatchFault {
 }
 
 impl Reason {
-    /// The game's outcome.
+    /// The outcome of a game that ended for this reason; `Unfinished` if an engine failed or the game is too long.
     pub fn outcome(self) -> Outcome
         ensures { result ≡ outcome_of self }
     {
@@ -164,7 +164,7 @@ impl Reason {
         }
     }
 
-    /// How the game ended, for the PGN tag `Termination`.
+    /// How a game that ended for this reason came to its end, as the value of the PGN tag `Termination`.
     pub fn ended(self) -> HowEnded
         ensures { result ≡ ended_by self }
     {
@@ -185,8 +185,8 @@ impl Reason {
     }
 }
 
-// The fault that is reported: the one that ended the match, else a failed write of the last lines, to White or to
-// Black.
+// The first fault of a match that ended for this reason, and whose it is: the one that ended it, if one did; else a
+// write of the last lines that failed, to White (`white_failed`) or to Black.
 pub(crate) fn first_fault(
     reason: Reason,
     white_failed: bool,

@@ -212,7 +212,8 @@ pub(crate) enum Awaited {
     Nothing(Reason),
 }
 
-// What a match in this phase waits for.
+// What a match in this phase waits for: a line of a side's engine, the moment at the end of a turn's opening, or
+// nothing.
 fn awaited_in(phase: Phase) -> Awaited
     ensures { IsAwaited phase result }
 {
@@ -226,7 +227,7 @@ fn awaited_in(phase: Phase) -> Awaited
     }
 }
 
-// Reads the next line of this side's engine into `line`, and returns whether there was one.
+// Reads the next line of this side's engine into `line`, and returns whether there was one (false: its output ended).
 fn next_line<R: Input>(
     white: &mut R,
     black: &mut R,
@@ -256,8 +257,8 @@ pub(crate) struct Failed {
     black: bool,
 }
 
-// Sends both sides their last lines, White first, and returns to which a write failed. The blocks have the answers to
-// items; `given` says what else is sent.
+// Sends both sides their last lines, White first, and returns to which sides a write failed. The blocks already have
+// the answers to items; `given` says what else is sent.
 fn send_both<W: Output, L: Witness, G: MatchGame>(
     white: &mut W,
     black: &mut W,
@@ -309,8 +310,8 @@ fn send_both<W: Output, L: Witness, G: MatchGame>(
     }
 }
 
-// Ends the match because writing to `side` failed, and sends the other side its last lines by `others`; `waiting` is
-// its block, which is empty. Returns whether that write failed too.
+// Ends the match because writing to `side` failed, and sends the other side its last lines: `others` is its engine's
+// input, `waiting` its block, which is empty. Returns whether that write failed too.
 fn end_for_other<W: Output, L: Witness, G: MatchGame>(
     others: &mut W,
     witness: &mut L,
@@ -335,9 +336,9 @@ fn end_for_other<W: Output, L: Witness, G: MatchGame>(
     note_and_send(others, witness, core, game, given, waiting, side.other()).is_err()
 }
 
-// Sends both sides their lines of an event in a match that is not over: `own` is the input of the side that the event
-// is about, which comes first, `others` the other's. Returns whether a write to each failed; `given` says what is sent
-// beside the answers to items.
+// Sends both sides their lines of an event in a match that is not over. `own` is the input of the engine of `side`,
+// which comes first, `others` that of the other engine; `given` says what is sent beside the answers to items. Returns
+// for each of the two whether a write to it failed.
 fn send_in_turn<W: Output, L: Witness, G: MatchGame>(
     own: &mut W,
     others: &mut W,
@@ -382,9 +383,9 @@ fn send_in_turn<W: Output, L: Witness, G: MatchGame>(
     (false, false)
 }
 
-// Sends both sides their lines of an event: that of the event (`side`) first, but at the end White first. A write that
-// fails ends the match. `blocks.own` already has the answers to the items of the event's line; `given` says what else
-// is sent.
+// Sends both sides their lines of an event: the engine of `side`, which the event is about, first; at the end White
+// first. A write that fails ends the match. `blocks.own` already has the answers to the items of the event's line;
+// `given` says what else is sent. Returns to which sides a write failed.
 fn deliver<W: Output, L: Witness, G: MatchGame>(
     white: &mut W,
     black: &mut W,
@@ -454,14 +455,14 @@ fn deliver<W: Output, L: Witness, G: MatchGame>(
     }
 }
 
-// Whether a line counts: `\n` ended it. What comes after the last `\n` is the end of the output.
+// Whether a line is read as one: `\n` ended it. What comes after the last `\n` counts as the end of the output.
 fn is_parsed(line: &Line<ENGINE_LINE_LEN>) -> bool
     ensures { result ≡ line.now.ended }
 {
     line.is_ended()
 }
 
-// The kind of an engine's line; one that is too long is ignored.
+// What an engine says by this line, by its first words; a line that is too long is one that is ignored (`Other`).
 fn said(line: &Line<ENGINE_LINE_LEN>) -> EngineLine<'_>
     ensures said { seen result ≡ line_kind (text_read line.now) }
     ensures short { (text : List ℕ) → seen result ≡ Features text → length text ≤ ENGINE_LINE_LEN }
@@ -473,8 +474,8 @@ fn said(line: &Line<ENGINE_LINE_LEN>) -> EngineLine<'_>
     }
 }
 
-// Reads the clock and takes a line of this side's engine. Returns what is to be sent; the answers to the line's items
-// go to `block`, which must be empty.
+// Takes a line of this side's engine, after reading the clock: the match goes on by the line, and the witness is given
+// it. Returns what is to be sent; the answers to the line's items go to `block`, which must be empty.
 fn hear_line<M: Moments, L: Witness, G: MatchGame>(
     core: &mut MatchState,
     moments: &mut M,
@@ -503,8 +504,9 @@ fn hear_line<M: Moments, L: Witness, G: MatchGame>(
     core.line(game, said(line), moment, block)
 }
 
-// Takes what reading the next line of this side's engine gave (`heard`). Returns what is to be sent; the answers to
-// the line's items go to `block`, which must be empty.
+// Takes what reading the next line of this side's engine gave (`heard`): the line in `line`, if there was one and `\n`
+// ended it; else the end of its output or a fault, which end the match. Returns what is to be sent; the answers to the
+// line's items go to `block`, which must be empty.
 fn hear<M: Moments, L: Witness, G: MatchGame>(
     core: &mut MatchState,
     moments: &mut M,
@@ -552,7 +554,7 @@ fn hear<M: Moments, L: Witness, G: MatchGame>(
     }
 }
 
-// Declares the reason's outcome in the game, if it has no verdict.
+// Declares the outcome and the comment of the reason in the game, unless the board has a verdict.
 fn declare<B: Board>(game: &mut Game<B>, reason: Reason)
     requires { game.old.state.declared ≡ None }
     ensures { game.new ≡ at game.old (with_declared game.old.state (declared_at (verdict_now game.old.state) reason)) }
@@ -563,7 +565,8 @@ fn declare<B: Board>(game: &mut Game<B>, reason: Reason)
     game.declare_open(reason.outcome(), Comment::cut(reason.comment()));
 }
 
-// Reports the end of the match, and declares its outcome in the game, if that has no verdict.
+// Gives what is reported of a match that ended for `reason`, with both engines' names and the first fault (`failed`
+// says to whom a write failed). Also declares the outcome in the game, unless the board has a verdict.
 fn end_of<B: Board>(
     core: MatchState,
     game: &mut Game<B>,

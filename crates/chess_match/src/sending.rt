@@ -20,7 +20,7 @@ use chess_base::{Colour, Variant};
 use engine_lines::{Features, is_known, next_item};
 
 impl MatchState {
-    // The features of this side's engine.
+    // The features that this side's engine has on.
     fn features(&self, side: Colour) -> Features
         ensures { result ≡ (player self.now side).features }
     {
@@ -31,7 +31,7 @@ impl MatchState {
     }
 }
 
-// Appends the last move, if there is one, in the form that this side's engine asked for.
+// Appends the line with the last move, if there is one, in the form that this side's engine asked for.
 fn add_last(block: &mut Block, core: &MatchState, side: Colour)
     requires { array_vec_len block.old + 20 ≤ BLOCK_LEN }
     ensures text { (r : Rules) (played : List Move) (m : Match) → Represents r core.now played m
@@ -47,7 +47,7 @@ fn add_last(block: &mut Block, core: &MatchState, side: Colour)
     }
 }
 
-// Appends `time` and `otim`, unless this side's engine has `time=0`.
+// Appends the lines `time` and `otim`, this side's clock and the other's, unless this side's engine has `time=0`.
 fn add_clocks(block: &mut Block, core: &MatchState, side: Colour)
     requires { array_vec_len block.old + 60 ≤ BLOCK_LEN }
     ensures text { (r : Rules) (played : List Move) (m : Match) → Represents r core.now played m
@@ -61,7 +61,7 @@ fn add_clocks(block: &mut Block, core: &MatchState, side: Colour)
     }
 }
 
-// Appends the lines that open a turn of this side, not its first: both clocks, and then the last move.
+// Appends the lines that open a turn of the side `mover`, which is not its first: both clocks, and then the last move.
 fn add_later_opening(block: &mut Block, core: &MatchState, mover: Colour)
     requires { array_vec_len block.old + 100 ≤ BLOCK_LEN }
     ensures text { (r : Rules) (played : List Move) (m : Match) → Represents r core.now played m
@@ -72,7 +72,8 @@ fn add_later_opening(block: &mut Block, core: &MatchState, mover: Colour)
     add_last(block, core, mover);
 }
 
-// Appends the lines that open a turn of this side; its first ends with `go`.
+// Appends the lines that open a turn of this side: both clocks and the last move; in its first turn the move comes
+// first, and `go` last.
 fn add_opening(block: &mut Block, core: &MatchState, side: Colour)
     requires { array_vec_len block.old + 100 ≤ BLOCK_LEN }
     ensures text { (r : Rules) (played : List Move) (m : Match) → Represents r core.now played m
@@ -88,7 +89,7 @@ fn add_opening(block: &mut Block, core: &MatchState, side: Colour)
     }
 }
 
-// Appends `variant fischerandom`, for Chess960.
+// Appends the line `variant fischerandom`, if the variant is Chess960.
 #[tactic(auto, unfolding(crate::specs::Sent::bytes_of))]
 fn add_variant(block: &mut Block, variant: Variant)
     requires { array_vec_len block.old + 30 ≤ BLOCK_LEN }
@@ -101,7 +102,8 @@ fn add_variant(block: &mut Block, variant: Variant)
     }
 }
 
-// Appends the lines that set an engine up for the game, from `new` to `ping 1`.
+// Appends the lines that set an engine up for the game: `new`, the variant, `level`, `nopost`, `easy`, `force`, the
+// start, `ping 1`.
 fn add_setup<G: MatchGame>(block: &mut Block, core: &MatchState, game: &G)
     requires { array_vec_len block.old + 300 ≤ BLOCK_LEN }
     ensures text { (r : Rules) (m : Match) → G.plays game.now r → Represents r core.now (G.played game.now) m
@@ -116,7 +118,7 @@ fn add_setup<G: MatchGame>(block: &mut Block, core: &MatchState, game: &G)
     add_ping(block, 1);
 }
 
-// Appends the last move, if this side has still to be sent it.
+// Appends the line with the last move, if this side is still to be sent it.
 fn add_unsent(block: &mut Block, core: &MatchState, side: Colour)
     requires unsent_to { is_some core.now.unsent_to ≡ true → is_some core.now.last ≡ true }
     requires room { array_vec_len block.old + 20 ≤ BLOCK_LEN }
@@ -134,7 +136,8 @@ fn add_unsent(block: &mut Block, core: &MatchState, side: Colour)
     }
 }
 
-// Appends the last lines for this side: the last move if it has still to be sent it, `result ..` and `quit`.
+// Appends the last lines for this side: the last move, if it is still to be sent it, `result ..` by the reason, and
+// `quit`.
 fn add_end_lines(block: &mut Block, core: &MatchState, side: Colour, reason: Reason)
     requires unsent_to { is_some core.now.unsent_to ≡ true → is_some core.now.last ≡ true }
     requires room { array_vec_len block.old + 120 ≤ BLOCK_LEN }
@@ -146,7 +149,7 @@ fn add_end_lines(block: &mut Block, core: &MatchState, side: Colour, reason: Rea
     add_end(block, reason.outcome(), reason.comment());
 }
 
-// Whether the match ended because writing to this side failed.
+// Whether this reason is that writing to this side failed.
 fn is_unwritten(reason: Reason, side: Colour) -> bool
     ensures { result ≡ is_unwritten reason side }
 {
@@ -175,7 +178,7 @@ fn is_unwritten(reason: Reason, side: Colour) -> bool
     }
 }
 
-// Appends the lines that this side is sent when the match enters its phase.
+// Appends the lines that this side is sent when the match enters the phase that it is in; none if writing to it failed.
 fn add_entry<G: MatchGame>(block: &mut Block, core: &MatchState, game: &G, side: Colour)
     requires unsent_to { is_some core.now.unsent_to ≡ true → is_some core.now.last ≡ true }
     requires room { array_vec_len block.old + 300 ≤ BLOCK_LEN }
@@ -213,7 +216,7 @@ fn add_entry<G: MatchGame>(block: &mut Block, core: &MatchState, game: &G, side:
     }
 }
 
-// Appends `draw`, if `given` has an offer for this side.
+// Appends the line `draw`, if `given` says that this side is sent an offer of a draw.
 #[tactic(auto, unfolding(crate::specs::Sent::bytes_of))]
 pub(crate) fn add_offer(block: &mut Block, given: Actions, side: Colour)
     requires { array_vec_len block.old + 10 ≤ BLOCK_LEN }
@@ -230,7 +233,8 @@ pub(crate) fn add_offer(block: &mut Block, given: Actions, side: Colour)
     }
 }
 
-// Appends the lines of the phase for this side, if `given` says that it was entered.
+// Appends the lines that this side is sent when the match enters the phase that it is in, if `given` says that it was
+// just entered.
 #[tactic(auto, using(crate::proofs::Sends::same_end))]
 pub(crate) fn add_entered<G: MatchGame>(
     block: &mut Block,
@@ -249,7 +253,7 @@ pub(crate) fn add_entered<G: MatchGame>(
     }
 }
 
-/// Writes a text, and flushes.
+/// Writes a text to the output, and flushes it.
 pub(crate) fn put_and_flush<W: Output>(writer: &mut W, text: &[u8]) -> Result<(), WriteFault>
     ensures { Sends (W.seen writer.old) (W.seen writer.new) result text.now }
 {

@@ -28,8 +28,8 @@ pub(crate) struct Player {
     pub offers: bool,
 }
 
-/// What is sent at an event beside answers to items: `draw`, to this side, and the lines of the phase, if it was
-/// `entered`.
+/// What is sent at an event beside answers to items: the line `draw` to the side in `draw`, if there is one, and, if
+/// `entered`, the lines of the phase that the match has entered.
 #[derive(Clone, Copy)]
 pub(crate) struct Actions {
     pub draw: Option<Colour>,
@@ -66,7 +66,7 @@ pub(crate) const ENTRY: Actions = Actions {
 };
 
 impl Player {
-    // An engine of which nothing is known yet.
+    // What is kept of an engine of which nothing is known yet.
     #[tactic(auto, unfolding(crate::specs::ties::Represents::name_by, engine_lines::specs::Items::told))]
     fn new() -> Self
         ensures features { result.features ≡ features_of [] }
@@ -80,8 +80,8 @@ impl Player {
         }
     }
 
-    /// Takes over the items of a `feature` line, appends the answers to them to `block`, and returns whether `done=1`
-    /// is among them.
+    /// Takes over the items of a `feature` line (`text` is the line without its first word), appends the answers to
+    /// them to `block`, and returns whether `done=1` is among them.
     pub(crate) fn hear(&mut self, text: &[u8], block: &mut Block) -> bool
         requires { array_vec_len block.old + 4 * length text.now ≤ ANSWERS_LEN }
         ensures features { (items : List told.Item) → self.old.features ≡ features_of items
@@ -137,7 +137,7 @@ pub(crate) fn is_side(side: Colour, other: Colour) -> bool
     }
 }
 
-// Takes over the engine's name, if the item is `myname`.
+// If the item is `myname`, sets `name` to its value, cut so that a PGN tag can hold it; else leaves it.
 #[tactic(auto, unfolding(crate::specs::ties::Represents::name_by, engine_lines::specs::Items::told))]
 fn note_name(name: &mut TagText, item: &Item<'_>)
     ensures { (items : List told.Item) → name.old ≡ name_by items

@@ -18,28 +18,28 @@ pub trait Witness {
     /// before.
     ghost noted: { Self → List ℕ → List Note → Type 0 };
 
-    /// This side's engine sent a line; the clock then showed `moment`.
+    /// Takes note that this side's engine sent this line; the clock then showed `moment`.
     fn line(&mut self, side: Colour, line: &Line<ENGINE_LINE_LEN>, moment: u64)
         ensures { WasNoted (noted self.old) (noted self.new)
             (Happened (events.Line side (text_read line.now) moment) ∷ []) };
 
-    /// The lines that open this side's turn were sent; the clock then showed `moment`.
+    /// Takes note that the lines which open this side's turn were sent; the clock then showed `moment`.
     fn opened(&mut self, side: Colour, moment: u64)
         ensures { WasNoted (noted self.old) (noted self.new) (Happened (events.Opened side moment) ∷ []) };
 
-    /// This side's engine closed its output.
+    /// Takes note that this side's engine closed its output, which ended the match.
     fn output_ends(&mut self, side: Colour)
         ensures { WasNoted (noted self.old) (noted self.new) (Happened (events.OutputEnds side) ∷ []) };
 
-    /// Reading from this side's engine failed.
+    /// Takes note that reading from this side's engine failed, which ended the match.
     fn read_fails(&mut self, side: Colour)
         ensures { WasNoted (noted self.old) (noted self.new) (Happened (events.FailsToRead side) ∷ []) };
 
-    /// Writing to this side's engine failed, which ended the match.
+    /// Takes note that writing to this side's engine failed.
     fn write_fails(&mut self, side: Colour)
         ensures { WasNoted (noted self.old) (noted self.new) (Happened (events.FailsToWrite side) ∷ []) };
 
-    /// These lines are now written to this side's engine.
+    /// Takes note that this side's engine is now sent these bytes.
     fn gives(&mut self, side: Colour, text: &[u8])
         ensures { WasNoted (noted self.old) (noted self.new) (Gives side text.now ∷ []) };
 }
@@ -51,21 +51,21 @@ pub(crate) struct NoWitness;
 impl Witness for NoWitness {
     ghost noted = { λ w before notes. Unit {0} };
 
-    // Keeps nothing of a line.
+    // Does nothing about a line that an engine sent: this witness keeps nothing.
     fn line(&mut self, _side: Colour, _line: &Line<ENGINE_LINE_LEN>, _moment: u64) {}
 
-    // Keeps nothing of an opened turn.
+    // Does nothing about the opening of a turn: this witness keeps nothing.
     fn opened(&mut self, _side: Colour, _moment: u64) {}
 
-    // Keeps nothing of an output's end.
+    // Does nothing about the end of an engine's output: this witness keeps nothing.
     fn output_ends(&mut self, _side: Colour) {}
 
-    // Keeps nothing of a failed read.
+    // Does nothing about a read that failed: this witness keeps nothing.
     fn read_fails(&mut self, _side: Colour) {}
 
-    // Keeps nothing of a failed write.
+    // Does nothing about a write that failed: this witness keeps nothing.
     fn write_fails(&mut self, _side: Colour) {}
 
-    // Keeps nothing of lines that are sent.
+    // Does nothing about bytes that an engine is sent: this witness keeps nothing.
     fn gives(&mut self, _side: Colour, _text: &[u8]) {}
 }

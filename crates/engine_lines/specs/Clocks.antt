@@ -16,20 +16,20 @@ pub record ClocksSeen : Type 0 where
   pub white : Spent
   pub black : Spent
 
--- no moves and no time
+-- what a side used before its first move: no moves and no time
 abbrev pub nothing_spent : Spent
 nothing_spent = record { moves = 0; used = 0 }
 
--- the clocks before the first move
+-- the clocks of a game with this time control, before the first move
 abbrev pub new_clocks : LevelSeen → ClocksSeen
 new_clocks level = record { level = level; white = nothing_spent; black = nothing_spent }
 
--- what this side used so far
+-- what this side used so far: the number of its moves, and the time that they took
 abbrev pub spent_by : ClocksSeen → Colour → Spent
 spent_by clocks White = clocks.white
 spent_by clocks Black = clocks.black
 
--- the milliseconds that a side has left
+-- the milliseconds that the side `c` has left
 abbrev pub remaining : ClocksSeen → Colour → ℕ
 remaining clocks c = left clocks.level (spent_by clocks c).moves (spent_by clocks c).used
 

@@ -9,12 +9,12 @@ use Rattle.chess_pgn.specs.Tokens.{is_name_byte}
 
 -- ---- one item, `NAME=VALUE`
 
--- a value: digits, or the text between double quotes
+-- the value of an item: digits, or the text between double quotes
 pub data Value : Type 0 where
   Digits : List ℕ → Value
   Quoted : List ℕ → Value
 
--- an item: a feature's name, and its value
+-- an item of a `feature` line, `NAME=VALUE`: a feature's name, and its value
 pub record Item : Type 0 where
   pub name : List ℕ
   pub value : Value
@@ -23,7 +23,7 @@ pub record Item : Type 0 where
 abbrev pub quote_at : List ℕ → ℕ
 quote_at text = position_or_len (λ c. c == byte "\"") text
 
--- the value at the front of a text, and what follows it: a text in double quotes, or digits
+-- the value at the front of a text, and what follows it: a text in double quotes, or digits; `None` if there is neither
 abbrev pub value_of : List ℕ → Option (Value × List ℕ)
 value_of [] = None
 value_of (c ∷ cs) =
@@ -37,20 +37,21 @@ abbrev pub is_apart : List ℕ → Bool
 is_apart [] = true
 is_apart (c ∷ cs) = is_blank c
 
--- reads the value of the item with this name, and gives the text after it and its spaces and tabs too; `None` if it
--- is malformed
+-- the item with this name, whose value is at the front of `rest`, and what follows it, without the spaces and tabs
+-- between; `None` if the value is malformed
 abbrev pub with_value : List ℕ → List ℕ → Option (Item × List ℕ)
 with_value name rest =
     option_and_then (λ (p : Value × List ℕ). if is_apart p.1 then Some
     (record { name = name; value = p.0 }, without_front_blanks p.1) else None) (value_of rest)
 
--- reads `=` and a value after an item's name, which must not be empty; `None` if they are malformed
+-- the item whose name is the first text and whose `=` and value are at the front of the second, and what follows it,
+-- without the spaces and tabs between; `None` if the name is empty, or `=` or the value is malformed
 abbrev pub with_name : List ℕ → List ℕ → Option (Item × List ℕ)
 with_name (n ∷ ns) (c ∷ cs) = if c == byte "=" then with_value (n ∷ ns) cs else None
 with_name _ _ = None
 
--- reads an item at a text's front, such as `ping=1` or `myname="Sjeng"`, and gives the text after it and its spaces
--- and tabs too; `None` if it is malformed
+-- the item at a text's front, such as `ping=1` or `myname="Sjeng"`, and what follows it, without the spaces and tabs
+-- between; `None` if it is malformed
 unfoldable pub item_of : List ℕ → Option (Item × List ℕ)
 item_of text = with_name (take_while is_name_byte text) (drop (prefix_len is_name_byte text) text)
 
@@ -65,29 +66,30 @@ is_one (Quoted cs) = false
 abbrev pub ends_hello : Item → Bool
 ends_hello i = bytes_eq i.name (codes "done") && is_one i.value
 
--- the items of a text, at most as many as the number, up to a malformed one or to `done=1`
+-- the items of a text, at most as many as the number says: up to a malformed one, without it, or up to and with
+-- `done=1`
 abbrev pub first_items : ℕ → List ℕ → List Item
 first_items zero text = []
 first_items (suc n) text =
     option_map_or (λ p. if ends_hello p.0 then p.0 ∷ [] else p.0 ∷ first_items n p.1) (item_of text) []
 
--- the items of a `feature` line, up to a malformed one or to `done=1`. Each takes at least three bytes, so there are
--- no more than bytes
+-- the items of a `feature` line: up to a malformed one, without it, or up to and with `done=1`. The text's length is a
+-- bound on their number, since each takes at least three bytes
 unfoldable pub items_of : List ℕ → List Item
 items_of text = first_items (length text) text
 
--- whether `done=1` is among the items
+-- whether `done=1`, which ends the handshake, is among these items
 unfoldable pub has_done : List Item → Bool
 has_done items = list_any ends_hello items
 
 -- ---- what an engine says by its items
 
--- what `f` gives of the value of the last item with this name; `default` if there is none
+-- what `f` gives for the value of the last of these items that has this name; `default` if none has it
 abbrev pub last_said : {A : Type 0} → (Value → A) → A → List ℕ → List Item → A
 last_said f default name items = fold (λ before i. if bytes_eq i.name name then f i.value else before) default items
 
--- whether an engine has a feature on, by the last item of that name; without one, `time` and `draw` are on, others
--- off
+-- whether an engine has the feature `name` on: whether the last of these items with that name has the value 1. Without
+-- one, `time` and `draw` are on, others off
 unfoldable pub takes : List ℕ → List Item → Bool
 takes name items = last_said is_one (bytes_eq name (codes "time") || bytes_eq name (codes "draw")) name items
 
@@ -96,7 +98,8 @@ abbrev pub value_text : Value → List ℕ
 value_text (Digits ds) = ds
 value_text (Quoted cs) = cs
 
--- the text of the last value of a feature, such as `myname`; empty if there is none
+-- the text of the value of the last of these items that has this name, such as `myname`, without quotes; empty if none
+-- has it
 unfoldable pub told : List ℕ → List Item → List ℕ
 told name items = last_said value_text [] name items
 
@@ -104,7 +107,7 @@ told name items = last_said value_text [] name items
 abbrev pub is_comma_or_blank : ℕ → Bool
 is_comma_or_blank c = is_blank c || (c == byte ",")
 
--- whether a list with commas, spaces or tabs between, such as `normal,fischerandom`, has this word
+-- whether `text`, a list with commas, spaces or tabs between, such as `normal,fischerandom`, has this word
 unfoldable pub has_word : List ℕ → List ℕ → Bool
 has_word word text = list_any (λ piece. bytes_eq piece word) (slice_split is_comma_or_blank text)
 

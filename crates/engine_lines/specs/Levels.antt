@@ -20,18 +20,20 @@ pub record LevelSeen : Type 0 where
 abbrev pub colon_at : List ℕ → ℕ
 colon_at text = position_or_len (λ c. c == byte ":") text
 
--- minutes and seconds as seconds, if both were read and the seconds are below 60
+-- minutes and seconds, if both were read and the seconds are below 60, as seconds; else `None`
 abbrev pub in_seconds : Option ℕ → Option ℕ → Option ℕ
 in_seconds (Some m) (Some s) = if nat_lt s 60 then Some (60 * m + s) else None
 in_seconds _ _ = None
 
--- the base time of a text in seconds: minutes (`5`), or minutes and seconds (`0:30`)
+-- the base time that a text denotes, in seconds: minutes (`5`), or minutes and seconds (`0:30`); `None` for any other
+-- text
 unfoldable pub base_of : List ℕ → Option ℕ
 base_of text =
     if colon_at text == length text then option_map (λ m. 60 * m) (short_number 3 text)
     else in_seconds (short_number 3 (take (colon_at text) text)) (short_number 2 (drop (colon_at text + 1) text))
 
--- the level that a text denotes by three words, of moves, base and increment, with nothing after them
+-- the time control that a text of three words denotes: moves, base time and increment, as `40 5 0`; `None` for any
+-- other text
 unfoldable pub level_of : List ℕ → Option LevelSeen
 level_of text =
     let first = without_front_blanks text in
@@ -45,11 +47,11 @@ level_of text =
 
 -- ---- writing
 
--- a number below 100 as two digits
+-- a number below 100 as two digits, such as `05`
 abbrev pub two_digits : ℕ → List ℕ
 two_digits n = (byte "0" + n / 10) ∷ (byte "0" + n % 10) ∷ []
 
--- a base time as it is written: minutes, and seconds if there are any, such as `5` or `0:30`
+-- a base time, given in seconds, as it is written: minutes, and seconds if there are any, such as `5` or `0:30`
 abbrev pub base_text : ℕ → List ℕ
 base_text base = if base % 60 == 0 then decimal (base / 60) else decimal (base / 60)
     ++ (codes ":" ++ two_digits (base % 60))
@@ -61,15 +63,15 @@ level_text level =
 
 -- ---- time
 
--- how many sessions a side has begun after `k` moves
+-- how many sessions of the time control a side has begun after `k` moves; one if a session has no end
 unfoldable pub sessions : LevelSeen → ℕ → ℕ
 sessions level k = if level.moves == 0 then 1 else 1 + k / level.moves
 
--- the milliseconds that a side was given in all, after `k` moves: the base for each session begun, the increment for
--- each move
+-- the milliseconds that a side was given in all, after `k` moves: the base time for each session begun, and the
+-- increment for each move
 unfoldable pub allotted : LevelSeen → ℕ → ℕ
 allotted level k = 1000 * (level.base * sessions level k + level.increment * k)
 
--- the milliseconds that a side has left after `k` moves that took `used` in all; at least 0
+-- the milliseconds that a side has left after `k` moves that took `used` milliseconds in all; at least 0
 unfoldable pub left : LevelSeen → ℕ → ℕ → ℕ
 left level k used = allotted level k - used

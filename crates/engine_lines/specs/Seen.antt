@@ -12,7 +12,7 @@ use Rattle.engine_lines.specs.declared.features.Features.{Features as Taken}
 use Rattle.engine_lines.specs.declared.engine_line.EngineLine.{EngineLine}
 use Rattle.engine_lines.specs.declared.engine_line.EngineLine.TheVariants.{Features, Move, Resign, Offer, Draw, Win, Rejection, Pong, Other}
 
--- the definitions' kind of line that corresponds to the code's `EngineLine`
+-- the kind of line, as the definitions have it, that the code's `EngineLine` stands for
 abbrev pub seen : EngineLine → LineKind
 seen (Features text) = kinds.Features text.now
 seen (Move text) = kinds.Moves text.now
@@ -24,21 +24,22 @@ seen Rejection = kinds.Rejects
 seen (Pong n) = kinds.Answers n
 seen Other = kinds.SaysElse
 
--- the definitions' value of an item that corresponds to the code's
+-- the value of an item, as the definitions have it, that the code's value stands for
 abbrev pub value_seen : Value → items.Value
 value_seen (Digits text) = items.Digits text.now
 value_seen (Quoted text) = items.Quoted text.now
 
--- the definitions' item that corresponds to the code's
+-- the item, as the definitions have it, that the code's item stands for
 abbrev pub item_seen : Item → items.Item
 item_seen i = record { name = i.name.now; value = value_seen i.value }
 
--- the definitions' item, and the text after it, that correspond to what the code's `next_item` returned
+-- the item and the text after it, as the definitions have them, that the code's function `next_item` returned; `None`
+-- if it returned none
 abbrev pub item_read : Option (Item × Bor (List ℕ)) → Option (items.Item × List ℕ)
 item_read None = None
 item_read (Some p) = Some (item_seen p.0, p.1.now)
 
--- what an engine takes, by the items of its `feature` lines
+-- which features an engine has on, by all items of its `feature` lines so far
 unfoldable pub features_of : List items.Item → Taken
 features_of said = record {
   ping = takes (codes "ping") said;

@@ -47,7 +47,7 @@ impl Model for Clocks {
 }
 
 impl Clocks {
-    /// The clocks before the first move.
+    /// The clocks of a game with this time control, before the first move.
     pub fn new(level: Level) -> Self
         ensures { result ≡ new_clocks level }
     {
@@ -58,14 +58,14 @@ impl Clocks {
         }
     }
 
-    /// The time control.
+    /// The time control of the game.
     pub fn level(&self) -> Level
         ensures { result ≡ self.now.level }
     {
         self.level
     }
 
-    /// How many moves this side made.
+    /// How many moves this side has made.
     pub fn moves(&self, side: Colour) -> u32
         ensures value { result ≡ (spent_by self.now side).moves }
         ensures few { result ≤ MOST_MOVES }
@@ -87,7 +87,7 @@ impl Clocks {
         }
     }
 
-    /// Charges this side for a move that took `used` milliseconds.
+    /// Counts one more move of this side, which took `used` milliseconds.
     pub fn charge(&mut self, side: Colour, used: u64)
         requires in_time { used ≤ remaining self.old side }
         requires few { (spent_by self.old side).moves < MOST_MOVES }

@@ -20,7 +20,7 @@ pub struct Features {
 }
 
 impl Features {
-    /// What an engine takes before its first `feature` line.
+    /// Which features an engine has on before its first `feature` line.
     #[tactic(auto, unfolding(crate::specs::Seen::features_of, crate::specs::Items::takes, crate::specs::Items::plays_fischerandom))]
     pub fn new() -> Self
         ensures { result ≡ features_of [] }
@@ -36,7 +36,7 @@ impl Features {
         }
     }
 
-    /// What the engine takes after one more item, such as `ping=1`.
+    /// Which features the engine has on after one more item, such as `ping=1`.
     pub fn heard(self, item: &Item<'_>) -> Self
         ensures { (items : List told.Item) → self ≡ features_of items
             → result ≡ features_of (items ++ item_seen item.now ∷ []) }

@@ -33,7 +33,7 @@ fn is_name_byte(byte: u8) -> bool
     byte.is_ascii_alphanumeric() || byte == b'_'
 }
 
-// How many bytes the name at a text's front has.
+// How many bytes the name of an item (letters, digits, `_`) has at a text's front; 0 if there is none.
 fn name_len(text: &[u8]) -> usize
     ensures value { result ≡ prefix_len is_name_byte text.now }
     ensures in_range { result ≤ length text.now }
@@ -45,7 +45,7 @@ fn name_len(text: &[u8]) -> usize
     at
 }
 
-// How many digits are at a text's front.
+// How many digits there are at a text's front; 0 if there is none.
 fn digits_len(text: &[u8]) -> usize
     ensures value { result ≡ prefix_len is_digit text.now }
     ensures in_range { result ≤ length text.now }
@@ -69,7 +69,8 @@ fn quote_at(text: &[u8]) -> usize
     at
 }
 
-// Reads the value at a text's front, and returns it with the text after it; `None` if there is none.
+// Reads the value of an item at a text's front, digits or a text in double quotes, and returns it with the text after
+// it; `None` if there is neither.
 fn read_value(text: &[u8]) -> Option<(Value<'_>, &[u8])>
     ensures { value_read result ≡ value_of text.now }
 {
@@ -103,8 +104,8 @@ fn is_apart(text: &[u8]) -> bool
     }
 }
 
-/// Reads the item at a text's front, such as `ping=1` or `myname="Sjeng"`, and returns it with the text after it and
-/// its spaces and tabs; `None` if it is malformed.
+/// Reads the item at a text's front, such as `ping=1` or `myname="Sjeng"`, and returns it with what follows it, without
+/// the spaces and tabs between; `None` if it is malformed.
 #[tactic(auto, unfolding(crate::specs::Items::item_of))]
 pub fn next_item(text: &[u8]) -> Option<(Item<'_>, &[u8])>
     ensures { item_read result ≡ item_of text.now }
@@ -157,7 +158,8 @@ impl<'a> Value<'a> {
 }
 
 impl Item<'_> {
-    /// Whether the engine has the feature `name` on: as this item says if it has that name, else as `before`.
+    /// Whether the engine has the feature `name` on after this item; `before` says whether it had it on so far: the
+    /// item decides if it has that name, else that stays.
     pub(crate) fn says_or(&self, name: &[u8], before: bool) -> bool
         ensures { result ≡ said_again name.now (item_seen self.now) before }
     {
@@ -168,7 +170,8 @@ impl Item<'_> {
         }
     }
 
-    /// Whether the engine plays Chess960: as this item says if it is `variants`, else as `before`.
+    /// Whether the engine plays Chess960 after this item; `before` says whether it did so far: the item decides if it
+    /// is `variants`, else that stays.
     pub(crate) fn names_fischerandom_or(&self, before: bool) -> bool
         ensures { result ≡ fischerandom_again (item_seen self.now) before }
     {
@@ -179,7 +182,7 @@ impl Item<'_> {
         }
     }
 
-    /// Whether this is `done=1`, which ends the handshake.
+    /// Whether this item is `done=1`, which ends the handshake.
     pub fn ends_hello(&self) -> bool
         ensures { result ≡ ends_hello (item_seen self.now) }
     {
@@ -187,14 +190,14 @@ impl Item<'_> {
     }
 }
 
-// Whether a byte separates the names in the value of `variants`.
+// Whether a byte separates the names in the value of `variants`: a comma, space or tab.
 fn is_comma_or_blank(byte: u8) -> bool
     ensures { result ≡ is_comma_or_blank byte }
 {
     is_blank(byte) || byte == b','
 }
 
-// Whether a list with commas, spaces or tabs between, such as `normal,fischerandom`, has this word.
+// Whether `text`, a list with commas, spaces or tabs between, such as `normal,fischerandom`, has this word.
 #[tactic(auto, unfolding(crate::specs::Items::has_word))]
 fn has_word(text: &[u8], word: &[u8]) -> bool
     ensures { result ≡ has_word word.now text.now }

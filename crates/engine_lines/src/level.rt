@@ -45,7 +45,7 @@ fn colon_at(text: &[u8]) -> usize
     at
 }
 
-// Minutes and seconds as seconds, if both were read and the seconds are below 60.
+// Minutes and seconds, if both were read and the seconds are below 60, as seconds; else `None`.
 fn in_seconds(minutes: Option<u32>, seconds: Option<u32>) -> Option<u32>
     requires { IfSome minutes (λ n. n ≤ 999) }
     ensures value { result ≡ in_seconds minutes seconds }
@@ -64,7 +64,8 @@ fn in_seconds(minutes: Option<u32>, seconds: Option<u32>) -> Option<u32>
     }
 }
 
-// The base time that a text such as `5` or `0:30` denotes, in seconds.
+// The base time that a text denotes, in seconds: minutes (`5`), or minutes and seconds (`0:30`); `None` for any other
+// text.
 #[tactic(auto, unfolding(crate::specs::Levels::base_of))]
 fn base(text: &[u8]) -> Option<u32>
     ensures value { result ≡ base_of text.now }
@@ -132,7 +133,8 @@ impl Level {
         self.increment
     }
 
-    /// The milliseconds that a side was given in all, after so many moves.
+    /// The milliseconds that a side was given in all, after `moves` moves: the base time for each session begun, and
+    /// the increment for each move.
     #[tactic(auto, unfolding(crate::specs::Levels::allotted, crate::specs::Levels::sessions))]
     pub(crate) fn allotted(self, moves: u32) -> u64
         requires { moves ≤ MOST_MOVES }

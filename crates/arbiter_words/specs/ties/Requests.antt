@@ -20,11 +20,12 @@ use Rattle.arbiter_words.specs.Plans.{date_asked, games_in, is_date, is_set, tex
 use Rattle.clap.specs.declared.error.Error.{Error}
 use Rattle.clap.specs.declared.error.kind.ErrorKind.TheVariants.{OutOfMemory}
 
--- the position that a match starts in, by its variant and its FEN
+-- the position that a match starts in: what the FEN denotes, or without one the initial position of the variant
 abbrev pub start_of : Variant → Option Text → Result Setup FenFault
 start_of v fen = option_map_or (fen_reading_as v) fen (Ok (initial_setup_of v))
 
--- the request of a match has its options, each as given or by default, not yet read as levels or positions
+-- the request `m` has the options of `match` (`rows`, as matched), each as given or by default; level, FEN and date are
+-- still texts
 pub record IsMatchOf (rows : List Row) (m : MatchRequest) : Type 0 where
   pub white : first_of (codes "white") rows ≡ Some m.white.now
   pub black : first_of (codes "black") rows ≡ Some m.black.now
@@ -36,8 +37,8 @@ pub record IsMatchOf (rows : List Row) (m : MatchRequest) : Type 0 where
   pub variant : m.variant ≡ variant_in rows
   pub log : m.log ≡ is_set (codes "log") rows
 
--- the request is what the arguments ask for, not yet read as levels or positions; `p` is the subcommand's name and
--- its options as matched
+-- the request is what the arguments ask for, with level, FEN and date of a match still as texts; `p` is the
+-- subcommand's name and its options as matched
 abbrev pub IsRequestOf : Text × List Row → Request → Type 0
 IsRequestOf p request.Session = p.0 ≡ codes "session"
 IsRequestOf p (request.Verify v) = (p.0 ≡ codes "verify") × (v ≡ verify_plan_of p.1)
@@ -45,7 +46,8 @@ IsRequestOf p (request.Stub words) = (p.0 ≡ codes "stub")
     × (map (λ w. w.now) words.items ≡ unwrap_or (all_of (codes "words") p.1) [])
 IsRequestOf p (request.Match m) = (p.0 ≡ codes "match") × IsMatchOf p.1 m
 
--- the plan of a match is what the texts of the request denote
+-- the plan of a match is what the request `m` asks for: level and FEN as what they denote, a date that can be a tag,
+-- all else as it is
 pub record IsJudged (m : MatchRequest) (plan : MatchPlan) : Type 0 where
   pub white : plan.white ≡ m.white
   pub black : plan.black ≡ m.black
@@ -56,7 +58,7 @@ pub record IsJudged (m : MatchRequest) (plan : MatchPlan) : Type 0 where
   pub log : plan.log ≡ m.log
   pub good_date : is_date m.date.now ≡ true
 
--- the fault is right for this request of a match: that of the first of level, FEN and date that is invalid
+-- the fault is that of the first of level, FEN and date that is invalid in this request of a match
 abbrev pub IsJudgedFault : MatchRequest → WordsFault → Type 0
 IsJudgedFault m (Words e) = ⊥
 IsJudgedFault m NoMemory = ⊥
@@ -66,19 +68,20 @@ IsJudgedFault m (BadFen f) = (l : LevelSeen) × (level_of m.level.now ≡ Some l
 IsJudgedFault m BadDate = (l : LevelSeen) × (p : Setup) × (level_of m.level.now ≡ Some l)
     × (start_of m.variant (option_map (λ t. t.now) m.fen) ≡ Ok p) × (is_date m.date.now ≡ false)
 
--- the plan is that of the request: for a match with its level, FEN and date read
+-- the plan is what the request asks for; of a match, level and FEN are read, and the date is checked
 abbrev pub IsPlanned : Request → Plan → Type 0
 IsPlanned request.Session plan = plan ≡ Session
 IsPlanned (request.Verify v) plan = plan ≡ Verify v
 IsPlanned (request.Stub words) plan = plan ≡ Stub words
 IsPlanned (request.Match m) plan = (p : MatchPlan) × (plan ≡ Match p) × IsJudged m p
 
--- the fault is right for this request: only that of a match may have one
+-- the fault is right for this request: that of the first of level, FEN and date that is invalid in a match; no other
+-- request has one
 abbrev pub IsPlanFault : Request → WordsFault → Type 0
 IsPlanFault (request.Match m) f = IsJudgedFault m f
 IsPlanFault _ f = ⊥
 
--- the fault that is reported is right for this error of `clap`: out of memory, or the error itself
+-- the second fault is how this error of `clap` is reported: as out of memory if it is that, else as the error itself
 abbrev pub Refuses : Error → WordsFault → Type 0
 Refuses e (Words told) = (kind_of e ≢ OutOfMemory) × (told ≡ e)
 Refuses e NoMemory = kind_of e ≡ OutOfMemory

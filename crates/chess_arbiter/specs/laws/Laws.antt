@@ -6,25 +6,26 @@ use Rattle.byte_devices.specs.Devices.{InputState, OutputState}
 use Rattle.chess_arbiter.specs.Log.{LogSeen}
 use Rattle.chess_arbiter.specs.Program.{RanHelp, RanProgram, RanSession, RanVerify}
 
--- a program with these arguments runs a session
+-- whenever a program runs with these arguments, it runs a session on its input and output, and has its exit status
 abbrev pub ServesSession : List Text → Type 0
 ServesSession words = (r r' : InputState) (w w' : OutputState) (l l' : LogSeen) (status : ℕ)
     → RanProgram words r r' w w' l l' status
     → RanSession r r' w w' status
 
--- a program with these arguments verifies games, with no flag set
+-- whenever a program runs with these arguments, it verifies the games of its input as `verify` without flags does
 abbrev pub VerifiesGames : List Text → Type 0
 VerifiesGames words = (r r' : InputState) (w w' : OutputState) (l l' : LogSeen) (status : ℕ)
     → RanProgram words r r' w w' l l' status
     → RanVerify bare_plan r r' w w' status
 
--- a program with these arguments writes a text of help, and reads nothing
+-- whenever a program runs with these arguments, it writes a text of help to its output, and reads nothing
 abbrev pub ShowsHelp : List Text → Type 0
 ShowsHelp words = (r r' : InputState) (w w' : OutputState) (l l' : LogSeen) (status : ℕ)
     → RanProgram words r r' w w' l l' status
     → (r' ≡ r) × RanHelp w w' status
 
--- a program with these arguments reads and writes nothing, and has exit status 2, or 1 if memory ran out
+-- whenever a program runs with these arguments, it reads nothing, writes nothing to its output, and has the exit status
+-- 2, or 1 if memory ran out
 abbrev pub RefusesWords : List Text → Type 0
 RefusesWords words = (r r' : InputState) (w w' : OutputState) (l l' : LogSeen) (status : ℕ)
     → RanProgram words r r' w w' l l' status

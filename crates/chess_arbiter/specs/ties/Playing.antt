@@ -26,16 +26,17 @@ use Rattle.chess_arbiter.specs.Games.{first_side, GameRecord, IsOfPlan, game_tex
 
 -- ---- the score, as it is counted
 
--- the score before the first game
+-- the score before the first game: nothing is counted yet
 abbrev pub no_score : Score
 no_score = record { first = 0; second = 0; drawn = 0; unfinished = 0 }
 
--- a count after a game that may add to it; it stops at 65,535
+-- a count after a game: one more if the flag says that the game adds to it, but at most 65,535
 abbrev pub plus : ℕ → Bool → ℕ
 plus count true = min (count + 1) 65535
 plus count false = count
 
--- the score after a game more, in which the first engine had that side
+-- the score `s` with one more game counted, which had this outcome and in which the first engine, that of `--white`,
+-- had the side `first`
 abbrev pub score_after : Colour → Outcome → Score → Score
 score_after first outcome s = record {
   first = plus s.first (same_outcome outcome (win_of first));
@@ -46,45 +47,48 @@ score_after first outcome s = record {
 
 -- ---- a game
 
--- the side of the engine of `--white` in the game of this number, if the plan asks for a log
+-- the side that the engine of `--white` has in the game of this number, if the plan asks for a log; else `None`
 abbrev pub logged_side : MatchPlan → ℕ → Option Colour
 logged_side plan number = if plan.log then Some (first_side number) else None
 
--- between the log's states `l` and `l'` the game of these notes was logged, if a side of the engine of `--white` is
--- given; else nothing was
+-- from the log's state `l` to `l'` the game of these notes was logged, if a side of the engine of `--white` is given;
+-- without one (`None`) nothing was
 abbrev pub LogsGame : Option Colour → LogSeen → LogSeen → List Note → Type 0
 LogsGame None l l' notes = l' ≡ l
 LogsGame (Some first) l l' notes = Logged l l' (log_text first notes)
 
--- a game ran as `MatchRan` says, and was logged if a side of the engine of `--white` is given (`first`). `l`, `g`,
--- `w` and `coming` are log, game, devices and clock before, `l'`, `g'`, `w'` and `coming'` after
+-- a game from the position `start` with the time control `level` ran by a transcript to the reported `end`; it was
+-- logged if `first`, the side of the engine of `--white`, is given. `l`, `g`, `w` and `coming` are the log, the game,
+-- the engines' devices and the times that the clock is to give before, `l'`, `g'`, `w'` and `coming'` after
 abbrev pub Relayed : Option Colour → LogSeen → LogSeen → Setup → LevelSeen → Seen → Seen → MatchEnd → Ports → Ports
     → (ℕ → Option ℕ) → (ℕ → Option ℕ) → Type 0
 Relayed first l l' start level g g' end w w' coming coming' =
     (notes : List Note) × RanNoted notes start level g g' end w w' coming coming' × LogsGame first l l' notes
 
--- `end` is the end of a game between engines whose devices were `w` before; it was logged if a side of the engine of
--- `--white` is given (`log`). `l` and `g` are log and game before, `l'` and `g'` after
+-- `end` is the reported end of a game from the position `start` with the time control `level`, between engines whose
+-- devices were `w` before; it was logged if `log`, the side of the engine of `--white`, is given. `l` and `g` are the
+-- log and the game before, `l'` and `g'` after
 abbrev pub IsMatchEndOf : Option Colour → LogSeen → LogSeen → Setup → LevelSeen → Seen → Seen → MatchEnd → Ports
     → Type 0
 IsMatchEndOf log l l' start level g g' end w =
     (notes : List Note) × (w' : Ports) × (coming : ℕ → Option ℕ) × (coming' : ℕ → Option ℕ)
     × RanNoted notes start level g g' end w w' coming coming' × LogsGame log l l' notes
 
--- an engine of that command could not be started, or there was no memory
+-- the fault says that an engine of this command could not be started, or that there was no memory
 abbrev pub FailsToStart : List ℕ → GamesFault → Type 0
 FailsToStart command NoMemory = ⊤
 FailsToStart command (CanNotStart c) = c.now ≡ command
 FailsToStart command _ = ⊥
 
--- how the fault of starting an engine is reported: out of memory as such, all else by the engine's command
+-- the fault of starting the engine of this command is reported as `fault`: out of memory as such, all else by the
+-- command
 abbrev pub ReportsStart : StartFault → List ℕ → GamesFault → Type 0
 ReportsStart start.NoMemory command fault = fault ≡ NoMemory
 ReportsStart start.CanNotStart command fault = (c : Bor (List ℕ)) × (fault ≡ CanNotStart c) × (c.now ≡ command)
 
--- what playing the game of this number does: its PGN was written and flushed, and the game logged; or only a
--- beginning was written; or its engines could not be started. `w` and `l` are output and log before, `w'` and `l'`
--- after
+-- what playing the game of this number does, by its result: its PGN was written and flushed, and the game logged; or
+-- only a beginning of the PGN was written; or its engines could not be started. `w` and `l` are output and log before,
+-- `w'` and `l'` after
 abbrev pub PlayedOne : MatchPlan → ℕ → OutputState → OutputState → LogSeen → LogSeen → Result MatchEnd GamesFault
     → Type 0
 PlayedOne plan number w w' l l' (Ok end) =
@@ -96,8 +100,8 @@ PlayedOne plan number w w' l l' (Err WriteFailed) =
     × LogsGame (logged_side plan number) l l' told.notes
 PlayedOne plan number w w' l l' (Err fault) = IsStartFault plan fault × (w' ≡ w) × (l' ≡ l)
 
--- games were played, each was written and logged, and the score counts them; or the match broke off. `w` and `l` are
--- output and log before, `w'` and `l'` after
+-- what playing the games of a match does, by its result: each was written and logged, and the score counts them, up to
+-- and with one that has a fault; or the match broke off. `w` and `l` are output and log before, `w'` and `l'` after
 abbrev pub HasPlayed : MatchPlan → OutputState → OutputState → LogSeen → LogSeen → Result GamesPlayed GamesFault → Type 0
 HasPlayed plan w w' l l' (Ok played) =
     (games : List GameRecord) × EndsGames plan games played.fault × (played.score ≡ score_of games)

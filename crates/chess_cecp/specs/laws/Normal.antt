@@ -25,60 +25,66 @@ use Rattle.chess_cecp.specs.Session.{says, refuses, becomes, verdict_line, fen_f
 use Rattle.chess_cecp.specs.laws.NormalGame.{normal_initial, normal_current, normal_rep, normal_claims, normal_verdict_now, normal_is_over}
 use Rattle.chess_cecp.specs.laws.NormalPgn.{normal_pgn}
 
--- the game changes to this one, and the verdict on it is answered, if there is one; without Chess960
+-- the game becomes `s`, and the answer is the board's verdict on it, if there is one; for normal chess alone
 abbrev pub normal_becomes_judged : State → Response State
 normal_becomes_judged s = says s (verdict_line (normal_verdict_now s))
 
--- `setboard`, by how its FEN was read; without Chess960
+-- the answer to `setboard`, by how its FEN was read: the game starts anew from that position, and the answer is the
+-- verdict on it, if there is one; or the FEN's fault is; for normal chess alone
 abbrev pub normal_setboard_row : State → Result Setup FenFault → Response State
 normal_setboard_row s (Ok start) = normal_becomes_judged (from_start start)
 normal_setboard_row s (Err fault) =
     refuses s (codes "tellusererror Illegal position (") (fen_fault_name fault ++ codes ")")
 
--- a move's text, by what it denotes in the current position: the move is played, or refused; without Chess960
+-- the answer to a move's text in the game `s`, by what it denotes in the current position: the move is played, or the
+-- text refused; for normal chess alone
 abbrev pub normal_reading_row : State → List ℕ → Reading → Response State
 normal_reading_row s text (reads.Move m) = normal_becomes_judged (played s m)
 normal_reading_row s text reads.Ambiguous = refuses s (codes "Error (ambiguous move): ") text
 normal_reading_row s text reads.NoSuch = refuses s (codes "Illegal move: ") text
 normal_reading_row s text reads.NotAMove = refuses s (codes "Illegal move: ") text
 
--- a move's text: refused if the game is over or has `limit` half-moves, else played or refused by what it denotes;
--- without Chess960
+-- the answer to a move's text in the game `s`: refused if the game is over or has `limit` half-moves, else played or
+-- refused by what it denotes; for normal chess alone
 abbrev pub normal_move_row : ℕ → State → List ℕ → Response State
 normal_move_row limit s text =
     if normal_is_over s then refuses s (codes "Illegal move (game over): ") text
     else if nat_le limit (length s.moves) then refuses s (codes "Error (game too long): ") text
     else normal_reading_row s text (normal_reading (normal_current s) text)
 
--- `result`, by what its argument declares; without Chess960
+-- the answer to `result` (`text` is the whole line), by what its argument declares: the result is declared; refused if
+-- it declares none, or the board has a verdict with another outcome; for normal chess alone
 abbrev pub normal_result_row : State → List ℕ → Option Declared → Response State
 normal_result_row s text None = refuses s (codes "Error (bad result): ") text
 normal_result_row s text (Some d) =
     if is_other (normal_verdict_now s) d.outcome then refuses s (codes "Error (the board says otherwise): ") text
     else becomes (with_declared s (Some d))
 
--- `claim`: a draw by threefold repetition or 50 moves; without Chess960
+-- the answer to `claim` in the game `s`: a draw by threefold repetition or 50 moves, if the game is not over and the
+-- draw can be claimed; for normal chess alone
 abbrev pub normal_claim_row : State → Response State
 normal_claim_row s =
     if normal_is_over s then refuses s (codes "Error (command not legal now): ") (codes "claim")
     else claimed s (normal_claims s.start s.moves)
 
--- `variant`, without Chess960: only `normal` is accepted
+-- the answer to `variant` by its argument (`text` is the whole line), for normal chess alone: only `normal` is
+-- accepted, and changes nothing
 abbrev pub normal_variant_row : State → List ℕ → List ℕ → Response State
 normal_variant_row s text argument =
     if bytes_eq argument (codes "normal") then says s [] else refuses s (codes "Error (unsupported variant): ") text
 
--- the answer to `protover 2`, without Chess960
+-- the line that answers `protover 2`: the features of an arbiter of normal chess alone
 unfoldable pub normal_feature_text : List ℕ
 normal_feature_text =
     codes "feature ping=1 setboard=1 playother=0 san=0 usermove=1 time=1 draw=1 sigint=0 sigterm=0 reuse=1 analyze=0 colors=0 debug=1 myname=\"CECP arbiter\" variants=\"normal\" done=1"
 
--- the answer of `showmoves`: `# moves 20 b1a3 b1c3 ..`, castling by the king's squares; without Chess960
+-- the answer of `showmoves`: `# moves 20 b1a3 b1c3 ..`, castling by the king's squares; for normal chess alone
 abbrev pub normal_moves_line : List Move → List ℕ
 normal_moves_line ms =
     joined_line (codes "# moves ") (decimal (length ms) ++ flat_map (λ m. space ∷ coordinate m) ms)
 
--- what `showstate` writes after `# state ply `; without Chess960
+-- what `showstate` writes after `# state ply `: half-moves, `rep`, halfmove clock, claims, verdict and declared result,
+-- as in `0 rep 1 clock 0 claims none verdict none declared none`; for normal chess alone
 unfoldable pub normal_state_text : State → List ℕ
 normal_state_text s =
     decimal (length s.moves)
@@ -87,7 +93,8 @@ normal_state_text s =
     ++ (codes " verdict " ++ (verdict_text (normal_verdict_now s)
     ++ (codes " declared " ++ declared_text s.declared)))))))))
 
--- the table of commands, without Chess960; `text` is the line's, `argument` what follows its first word
+-- the table of commands for normal chess alone: what a session does with a line in the game `s`. `text` is the whole
+-- line, `argument` what follows its first word; `limit` is the most half-moves of a game
 abbrev pub normal_row_of : Tags → ℕ → State → List ℕ → List ℕ → Command → Response State
 normal_row_of tags limit s text argument New = becomes (from_start normal_initial)
 normal_row_of tags limit s text argument SetBoard = normal_setboard_row s (normal_fen_reading argument)
@@ -111,7 +118,7 @@ normal_row_of tags limit s text argument Silent = says s []
 normal_row_of tags limit s text argument BadNumber = refuses s (codes "Error (bad number): ") text
 normal_row_of tags limit s text argument Unknown = refuses s (codes "Error (unknown command): ") text
 
--- whether this command does in a game of normal chess what it would do without Chess960
+-- whether this command does in a game of normal chess what it does in the table of commands for normal chess alone
 abbrev pub keeps_its_row : Command → Bool
 keeps_its_row Variant = false
 keeps_its_row (Protover n) = false

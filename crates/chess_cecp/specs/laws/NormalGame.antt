@@ -22,7 +22,8 @@ use Rattle.chess_game.specs.Ends.{has_insufficient_material, mates, verdict_outc
 use Rattle.chess_game.specs.Game.{State}
 use Rattle.chess_game.specs.Same.{same_men, same_rights, same_square}
 
--- the initial position of normal chess; rights to castle name the rook's square (h1 is 7, a8 is 56); without Chess960
+-- the initial position of normal chess; rights to castle name the rook's square (h1 is 7, a8 is 56); for normal chess
+-- alone
 unfoldable pub normal_initial : Setup
 normal_initial = record {
   variant = Normal;
@@ -39,41 +40,42 @@ normal_initial = record {
 
 -- ---- the line
 
--- the positions of a game: its start, and the one after each move; without Chess960
+-- the positions of a game: `start`, and the one after each of the moves, in order; for normal chess alone
 abbrev pub normal_line : Setup → List Move → List Setup
 normal_line start [] = start ∷ []
 normal_line start (m ∷ ms) = start ∷ normal_line (normal_after start m) ms
 
--- the position after all moves; without Chess960
+-- the position after all these moves, made from `start` on; for normal chess alone
 abbrev pub normal_last : Setup → List Move → Setup
 normal_last start [] = start
 normal_last start (m ∷ ms) = normal_last (normal_after start m) ms
 
--- the current position of a game; without Chess960
+-- the current position of a game; for normal chess alone
 abbrev pub normal_current : State → Setup
 normal_current s = normal_last s.start s.moves
 
 -- ---- repetition
 
--- the en passant square, if some legal move captures there; without Chess960
+-- the en passant square of the position `p`, if some legal move captures there; for normal chess alone
 unfoldable pub normal_live_target : Setup → Option ℕ
 normal_live_target p = if list_any (λ m. is_en_passant p m) (normal_moves p) then p.target else None
 
--- whether two positions are the same (Laws, article 9.2.3): side to move, pieces, rights to castle, en passant
--- capture; without Chess960
+-- whether two positions are the same (Laws, article 9.2.3): side to move, pieces, rights to castle, en passant capture;
+-- for normal chess alone
 unfoldable pub normal_same : Setup → Setup → Bool
 normal_same p q =
     same_colour p.side q.side && same_men p.men q.men && same_rights p.rights q.rights
     && same_square (normal_live_target p) (normal_live_target q)
 
--- how often the current position occurred in the game, itself included; without Chess960
+-- how often the position after the moves `ms` occurred in the game from `start` on, itself included; for normal chess
+-- alone
 unfoldable pub normal_rep : Setup → List Move → ℕ
 normal_rep start ms = count_by (λ p. normal_same p (normal_last start ms)) (normal_line start ms)
 
 -- ---- ends
 
--- the board's verdict after these moves: the first of mate or stalemate, bare material, fivefold repetition, 75
--- moves; without Chess960
+-- the board's verdict after the moves `ms` from `start` on: the first of mate or stalemate, insufficient material,
+-- fivefold repetition, 75 moves; `None` if none holds; for normal chess alone
 unfoldable pub normal_verdict : Setup → List Move → Option Verdict
 normal_verdict start ms =
     let p = normal_last start ms in
@@ -84,22 +86,24 @@ normal_verdict start ms =
     else if nat_le 150 p.halfmove then Some SeventyFiveMoves
     else None
 
--- which draws can be claimed after these moves; without Chess960
+-- which draws can be claimed after the moves `ms` from `start` on: threefold repetition, 50 moves; for normal chess
+-- alone
 abbrev pub normal_claims : Setup → List Move → Claims
 normal_claims start ms = record {
   threefold = nat_le 3 (normal_rep start ms);
   fifty_moves = nat_le 100 (normal_last start ms).halfmove;
 }
 
--- the board's verdict on a game, if there is one; without Chess960
+-- the board's verdict on a game, if there is one; for normal chess alone
 abbrev pub normal_verdict_now : State → Option Verdict
 normal_verdict_now s = normal_verdict s.start s.moves
 
--- whether a game is over, by a verdict or a declared result; without Chess960
+-- whether a game is over, by a verdict or a declared result; for normal chess alone
 abbrev pub normal_is_over : State → Bool
 normal_is_over s = is_some (normal_verdict_now s) || is_some s.declared
 
--- the outcome of a game: that of the verdict, else of the declared result, else none yet; without Chess960
+-- the outcome of a game: that of the board's verdict, else of the declared result, else `Unfinished`; for normal chess
+-- alone
 abbrev pub normal_outcome_now : State → Outcome
 normal_outcome_now s =
     option_map_or verdict_outcome (normal_verdict_now s) (option_map_or (λ d. d.outcome) s.declared Unfinished)

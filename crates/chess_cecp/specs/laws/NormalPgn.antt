@@ -16,42 +16,45 @@ use Rattle.chess_pgn.specs.Terminations.{termination_text, termination_of}
 use Rattle.chess_pgn.specs.Written.{tag_line, ended, move_text_of}
 use Rattle.chess_cecp.specs.laws.NormalGame.{normal_initial, normal_outcome_now}
 
--- whether the start is the initial position; without Chess960
+-- whether `start` is the initial position of normal chess; for normal chess alone
 abbrev pub normal_is_initial : Setup → Bool
 normal_is_initial start = bytes_eq (normal_fen start) (normal_fen normal_initial)
 
--- the lines of the tags FEN and SetUp, if the start is not the initial position; without Chess960
+-- the lines of the tags FEN and SetUp, if `start` is not the initial position, else none; for normal chess alone
 abbrev pub normal_start_lines : Setup → List (List ℕ)
 normal_start_lines start =
     if normal_is_initial start then []
     else tag_line (codes "FEN") (normal_fen start) ∷ tag_line (codes "SetUp") (codes "1") ∷ []
 
--- the lines of the tags after the seven that each game has; without Chess960
+-- the lines of the tags after the seven that each game has: FEN and SetUp, if needed, and Termination; for normal chess
+-- alone
 abbrev pub normal_further_lines : Setup → Termination → List (List ℕ)
 normal_further_lines start termination =
     normal_start_lines start ++ tag_line (codes "Termination") (termination_text termination) ∷ []
 
--- the lines of all tags of a game; without Chess960
+-- the lines of all tags of the game `s`, of which `t` gives the names, date and so on; for normal chess alone
 abbrev pub normal_tag_lines : Tags → State → List (List ℕ)
 normal_tag_lines t s =
     roster_lines t (normal_outcome_now s)
     ++ normal_further_lines s.start (termination_of t.ended (normal_outcome_now s))
 
--- a move's tokens: its number, if one is due, and its SAN; without Chess960
+-- the tokens of the move `m` from the position `p`: its number, if one is due (`is_first`: it is the first move
+-- written), and its SAN; for normal chess alone
 abbrev pub normal_tokens_of_move : Bool → Setup → Move → List (List ℕ)
 normal_tokens_of_move is_first p m = number_token p.side is_first p.fullmove ++ normal_san p m ∷ []
 
--- the tokens of moves made one after another from the position `p` on; without Chess960
+-- the tokens (numbers and SAN) of moves made one after another from the position `p` on; `is_first`: the first of them
+-- is the first move written; for normal chess alone
 abbrev pub normal_move_tokens : Bool → Setup → List Move → List (List ℕ)
 normal_move_tokens is_first p [] = []
 normal_move_tokens is_first p (m ∷ ms) =
     normal_tokens_of_move is_first p m ++ normal_move_tokens false (normal_after p m) ms
 
--- the tokens of a game: numbers, moves in SAN, and the outcome last; without Chess960
+-- the tokens of a game: numbers, moves in SAN, and the outcome last; for normal chess alone
 abbrev pub normal_game_tokens : State → List (List ℕ)
 normal_game_tokens s = normal_move_tokens true s.start s.moves ++ outcome_text (normal_outcome_now s) ∷ []
 
--- a game's text: tags, an empty line, the moves, an empty line; each line after `prefix`; without Chess960
+-- a game's text: tags, an empty line, the moves, an empty line; each line after `prefix`; for normal chess alone
 unfoldable pub normal_pgn : List ℕ → Tags → State → List ℕ
 normal_pgn prefix t s =
     ended prefix (normal_tag_lines t s ++ [] ∷ []) ++ move_text_of prefix (normal_game_tokens s)

@@ -2,7 +2,7 @@
 use Rattle.std.specs.Prelude.{◌≢◌, ℕ, List, [], ◌∷◌}
 use Rattle.chess_base.specs.Letters.{new_line}
 
--- no byte is 10, so that these bytes end no line
+-- none of these bytes is `\n`, so that they end no line
 abbrev pub HasNoEnd : List ℕ → Type 0
 HasNoEnd [] = Unit {0}
 HasNoEnd (c ∷ cs) = (c ≢ new_line) × HasNoEnd cs

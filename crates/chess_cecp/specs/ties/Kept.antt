@@ -4,19 +4,19 @@ use Rattle.byte_devices.specs.Devices.{InputState, GavePiece, FailedToRead}
 use Rattle.chess_cecp.specs.Lines.{LineSeen, Held, lines_from, lines_held}
 use Rattle.chess_cecp.specs.declared.lines.TheConstants.{PIECE_LEN}
 
--- the bytes that a line has so far, as the definitions see the code's: if they are too many, one more is added for
--- all that were dropped
+-- the bytes that have come of a line, for the definitions: those that the code kept, and one more (0) for all that it
+-- dropped, if the flag says that they were too many
 abbrev pub kept_part : List ℕ → Bool → List ℕ
 kept_part bytes true = bytes ++ 0 ∷ []
 kept_part bytes false = bytes
 
--- whatever bytes follow, a line that begins with `part` gives the same as one that begins with `part'`, if lines have
--- at most `n` bytes
+-- whatever bytes follow, and whether the stream then ends or not, the lines are the same after `part` as after `part'`;
+-- a line of more than `n` bytes is too long
 abbrev pub SameLines : ℕ → List ℕ → List ℕ → Type 0
 SameLines n part part' = (told : Bool) (bytes : List ℕ) → lines_from n told part bytes ≡ lines_from n told part' bytes
 
--- what looking for a whole line in the bytes held found, which were `held` before and are `held'` after: that line,
--- the first of them; or none, and all bytes were looked at
+-- what looking for a whole line in the bytes read but not returned (`held` before, `held'` after) found: that line, the
+-- first of them; or `None`, and then all of them were looked at. Lines have at most `n` bytes
 abbrev pub HeldLine : ℕ → Held → Held → Option LineSeen → Type 0
 HeldLine n held held' (Some line) =
     (line.ended ≡ true) × (length held'.coming < length held.coming)
@@ -25,7 +25,8 @@ HeldLine n held held' None =
     (lines_held n false held [] ≡ []) × (held'.coming ≡ [])
     × ((told : Bool) (rest : List ℕ) → lines_held n told held rest ≡ lines_held n told held' rest)
 
--- a read into the empty window, from the input's state `r` to `r'`, gave these bytes, or failed
+-- a read took the input from its state `r` to `r'`, and gave the bytes `coming`, whose number is the result; or it
+-- failed, and gave none
 abbrev pub Filled : {E : Type 0} → InputState → InputState → Result ℕ E → List ℕ → Type 0
 Filled r r' (Ok n) coming = (n ≡ length coming) × (n ≤ PIECE_LEN) × GavePiece r r' coming
 Filled r r' (Err e) coming = (coming ≡ []) × FailedToRead r r'

@@ -13,20 +13,21 @@ use Rattle.chess_cecp.specs.declared.command.Command.TheVariants.{BareMove, Show
 use Rattle.chess_text.specs.Moves.{shape}
 use Rattle.chess_cecp.specs.declared.command.Command.TheVariants as commands
 
--- the session after a row: its tags and its limit stay
+-- the session `seen` after the row `r` of the table of commands: with its game, and the tags and the limit as before
 abbrev pub after_row : SessionSeen → Response State → SessionSeen
 after_row seen r = record seen { state = r.state }
 
--- the command that ends a session
+-- whether a command is `quit`, which ends a session
 abbrev pub is_quit_command : Command → Bool
 is_quit_command commands.Quit = true
 is_quit_command command = false
 
--- the line ends the session
+-- whether a line is the command `quit`, which ends a session
 unfoldable pub is_quit : LineSeen → Bool
 is_quit line = not line.too_long && is_quit_command (command_of line.text)
 
--- what a line commands whose first word is no command's name
+-- what a line commands whose first word is no command's name: a move, if its text has the shape of one, else nothing
+-- that is known
 abbrev pub unnamed_command : List ℕ → Command
 unnamed_command text = if shape text then BareMove else Unknown
 
@@ -39,12 +40,12 @@ shows_pgn command = false
 unfoldable pub asks_for_pgn : LineSeen → Bool
 asks_for_pgn line = not line.too_long && shows_pgn (command_of line.text)
 
--- how the code answers a command: by the game's text, or by a text in its buffer, after which the session goes on or
--- ends
+-- how the code answers a command: `showpgn` by writing the game's PGN, any other by a text in its buffer, after which
+-- the session goes on, or ends after `quit`
 abbrev pub reply_of : Command → Reply
 reply_of command = if shows_pgn command then Pgn else Text (if is_quit_command command then Quit else On)
 
--- how the code answers a line: by the game's text, or by a text in its buffer, after which the session goes on or
--- ends
+-- how the code answers a line: `showpgn` by writing the game's PGN, any other by a text in its buffer, after which the
+-- session goes on, or ends after `quit`
 abbrev pub reply_to : LineSeen → Reply
 reply_to line = if asks_for_pgn line then Pgn else Text (if is_quit line then Quit else On)

@@ -21,25 +21,27 @@ use Rattle.chess_match.specs.declared.state.MatchState.{MatchState}
 use Rattle.chess_match.specs.declared.texts.MoveTexts.{MoveTexts}
 use Rattle.chess_match.specs.ties.Texts.{AreOfLast}
 
--- the name that an engine with these items gave, cut for a PGN tag
+-- the name that an engine with these items gave by its last `myname`, cut so that a PGN tag can hold it; empty if it
+-- gave none
 unfoldable pub name_by : List Item → List ℕ
 name_by items = cut_tag (told (codes "myname") items)
 
--- what the code keeps of an engine is what is known of it
+-- what the code keeps of an engine (`kept`: features, name, and whether its offer of a draw is open) is what the
+-- definitions know of it (`known`)
 pub record Keeps (kept : Player) (known : Seat) : Type 0 where
   pub features : kept.features ≡ features_of known.items
   pub name : kept.name ≡ name_by known.items
   pub offers : kept.offers ≡ known.offers
 
--- what a side used so far, by the times of its moves
+-- what a side has used of its clock so far: how many moves it made, and the sum of the milliseconds that they took
 abbrev pub spent_of : Seat → Spent
 spent_of s = record { moves = length s.used; used = sum s.used }
 
--- the clocks of a match with this time control
+-- the clocks of the match `m`, with the time control `level`
 abbrev pub clocks_of : LevelSeen → Match → ClocksSeen
 clocks_of level m = record { level = level; white = spent_of m.white; black = spent_of m.black }
 
--- the code's state of the match, with the game's moves `played`, is the match `m` of the definitions
+-- the code's state `core` and the moves `played` of its game are, by the rules `r`, the match `m` of the definitions
 pub record Represents (r : Rules) (core : MatchState) (played : List Move) (m : Match) : Type 0 where
   pub phase : core.phase ≡ m.phase
   pub white : Keeps core.white m.white
@@ -51,46 +53,50 @@ pub record Represents (r : Rules) (core : MatchState) (played : List Move) (m : 
   pub count : core.count ≡ m.count
   pub opened : core.opened ≡ m.opened
 
--- the lines `text` if `S` is the side in the option, else none
+-- the lines `text` if `S` is the side that the option names, else no lines
 abbrev pub to : Option Colour → Colour → List SentLine → List SentLine
 to None S text = []
 to (Some c) S text = if same_colour c S then text else []
 
--- these items for the side `c`, none for the other side
+-- what items the side `S` is to be sent answers to: these, if `S` is the side `c`, else none
 abbrev pub items_to : Colour → List Item → Colour → List Item
 items_to c items S = if same_colour c S then items else []
 
--- no items for either side
+-- no items, for either side: the event brought none that must be answered
 abbrev pub nothing_said : Colour → List Item
 nothing_said S = []
 
--- what the side `S` is sent after the answers: an offer of a draw, and the lines of a new phase
+-- what the side `S` is sent after the answers to its items, by the code's `given`: `draw`, if the other offered one,
+-- and the lines of the phase of `m`, if it was entered
 abbrev pub after_answers : Rules → Actions → Match → Colour → List SentLine
 after_answers r given m S = to given.draw S (Says (codes "draw") ∷ []) ++ (if given.entered then entry r m S else [])
 
--- all that the side `S` is sent at an event: answers to its items, an offer of a draw, and the lines of a new phase
+-- all that the side `S` is sent at an event, after which the match is `m`: answers to its `items`, and by the code's
+-- `given` an offer of a draw and the lines of a new phase
 unfoldable pub given_block : Rules → Actions → (Colour → List Item) → Match → Colour → List SentLine
 given_block r given items m S = answers_to (items S) ++ after_answers r given m S
 
--- the code's step from the match `m` to `m'`: its state is then `m'`, and what it sends to each side is what is due
+-- a step of the code from the match `m` to `m'`: after it the code's state is `core` with the moves `played`, and what
+-- it sends to each side, by `given` and as answers to `items`, is just what the definitions say
 pub record Goes (r : Rules) (core : MatchState) (played : List Move) (given : Actions) (items : Colour → List Item)
     (m m' : Match) : Type 0 where
   pub stands : Represents r core played m'
   pub gives : (S : Colour) → given_block r given items m' S ≡ block r m m' S
 
--- what the code keeps of this side's engine
+-- what the code's state keeps of the engine of this side
 abbrev pub player : MatchState → Colour → Player
 player core White = core.white
 player core Black = core.black
 
--- the code's state once this side's draw offer is open
+-- the code's state `core` with the difference that this side's offer of a draw is open
 abbrev pub offered_core : MatchState → Colour → MatchState
 offered_core core White =
     record core { white = record { features = core.white.features; name = core.white.name; offers = true } }
 offered_core core Black =
     record core { black = record { features = core.black.features; name = core.black.name; offers = true } }
 
--- the code's state once this side played a move, which took `used` milliseconds and has these texts
+-- the code's state `core` after this side played a move, which took `used` milliseconds and has these texts: its clock
+-- is charged, the other's offer of a draw lapses, and the move is still to be sent to the other
 abbrev pub played_core : MatchState → Colour → ℕ → MoveTexts → MatchState
 played_core core White used texts = record core {
   phase = AwaitPong White;
@@ -107,7 +113,7 @@ played_core core Black used texts = record core {
   white = record { features = core.white.features; name = core.white.name; offers = false };
 }
 
--- the items of a line, which count only in a handshake
+-- the items of a line that comes in this phase; none unless the phase is a handshake, in which alone they count
 abbrev pub items_in : Phase → LineKind → List Item
 items_in (Hello c) kind = items_of_line kind
 items_in _ kind = []

@@ -4,15 +4,15 @@ use Rattle.chess_base.specs.declared.man.Move.{Move}
 use Rattle.chess_match.specs.Rules.{Rules}
 use Rattle.chess_match.specs.declared.texts.MoveTexts.{MoveTexts}
 
--- the text in SAN if the flag is true, else by squares (`e2e4`)
+-- of the two texts of a move that are kept, the one in SAN if `as_san`, else the one by squares (`e2e4`)
 abbrev pub text_in : MoveTexts → Bool → List ℕ
 text_in t as_san = if as_san then t.san.items else t.squares.items
 
--- these are the texts of the last of these moves
+-- the texts `t`, in SAN and by squares, are those of the last of the moves `played`
 abbrev pub AreTexts : Rules → MoveTexts → List Move → Type 0
 AreTexts r t played = (as_san : Bool) → text_in t as_san ≡ r.move_text as_san played
 
--- if there is a last move, its texts are kept
+-- the texts of the last of the moves `played` are kept, if there is a move; `None` if there is none
 abbrev pub AreOfLast : Rules → Option MoveTexts → List Move → Type 0
 AreOfLast r None played = played ≡ []
 AreOfLast r (Some t) played = (0 < length played) × AreTexts r t played

@@ -10,7 +10,7 @@ pub record IsLevel (level : LevelSeen) : Type 0 where
   pub base : level.base ≤ 59999
   pub increment : level.increment ≤ 999
 
--- a side used no more time than the time control gave it, and made at most 20,000 moves
+-- what a side used (`s`) is no more time than the time control gave it, and at most 20,000 moves
 pub record IsWithin (level : LevelSeen) (s : Spent) : Type 0 where
   pub moves : s.moves ≤ MOST_MOVES
   pub used : s.used ≤ allotted level s.moves
