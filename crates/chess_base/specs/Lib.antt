@@ -10,6 +10,7 @@ pub mod Initial
 pub mod MoveList
 pub mod Before
 pub mod Letters
+pub mod Options
 pub mod Coordinates
 pub mod laws
 pub mod ties

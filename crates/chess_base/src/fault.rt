@@ -13,10 +13,10 @@ pub enum FenFault {
     Side,
     /// The third field denotes no rights, or a right has not its king and its rook where they belong; in Chess960 also
     /// where a letter names no rook on that side of the king, or two letters name one side.
-    #[error("the castling rights are misspelled or do not fit the men")]
+    #[error("the castling rights are malformed or do not fit the pieces")]
     Castling,
     /// The fourth field denotes no target, or the target is not the empty square behind an enemy pawn's double advance.
-    #[error("the en passant target is misspelled or does not fit the men")]
+    #[error("the en passant target is malformed or does not fit the pieces")]
     EnPassant,
     /// A counter is no number of one to six digits; or the halfmove clock is above 999,999, or the fullmove number not
     /// from 1 to 999,999.
@@ -26,10 +26,10 @@ pub enum FenFault {
     #[error("a colour has not exactly one king")]
     Kings,
     /// A pawn is on the first or last rank.
-    #[error("a pawn stands on the first or last rank")]
+    #[error("a pawn is on the first or last rank")]
     Pawns,
     /// A colour has more than 16 pieces.
-    #[error("a colour has more than 16 men")]
+    #[error("a colour has more than 16 pieces")]
     Men,
     /// The side that is not on move is in check.
     #[error("the side that is not on move is in check")]

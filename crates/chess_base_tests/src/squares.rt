@@ -37,7 +37,7 @@ fn values_are_shown(rt: HostRuntime) -> Result<(), Fail> {
     let told = format!(in rt.alloc(); "{} {}: {}", Colour::White, Kind::Knight, FenFault::Men)?;
     assert_eq!(rt;
         told.as_bytes(),
-        b"white knight: a colour has more than 16 men".as_slice()
+        b"white knight: a colour has more than 16 pieces".as_slice()
     );
     Ok(())
 }

@@ -1,4 +1,3 @@
-pub mod Options
 pub mod Lines
 pub mod Next
 pub mod Serving

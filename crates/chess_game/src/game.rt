@@ -32,7 +32,7 @@ pub enum PlayRefusal {
     #[error("the game is over")]
     Over,
     /// As many half-moves are current as the limit allows.
-    #[error("no more moves can stand")]
+    #[error("the game has no room for another move")]
     TooLong,
     /// The move is not legal in the present position.
     #[error("the move is not legal")]
@@ -41,7 +41,7 @@ pub enum PlayRefusal {
 
 /// The error that the game has no move that could be taken back.
 #[derive(Clone, Copy, Debug, PartialEq, Eq, thiserror::Error)]
-#[error("no move stands")]
+#[error("there is no move to take back")]
 pub struct NoMove;
 
 /// The error that there is a verdict on the game with another outcome than the one to be declared.

@@ -1394,7 +1394,7 @@ fn results_are_shown(rt: HostRuntime) -> Result<(), Fail> {
     is_equal(
         &rt,
         &told.as_str(),
-        &"the move is not legal, no move stands",
+        &"the move is not legal, there is no move to take back",
     );
     Ok(())
 }

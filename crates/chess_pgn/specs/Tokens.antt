@@ -3,9 +3,10 @@
 -- read is the last. This project's own: the bytes of a word; that a `%` line is skipped also in a tag and in a
 -- variation; that a string may have tabs and more than 255 bytes; and that the bytes EF BB BF at offset 0 are skipped.
 use Rattle.std.specs.Prelude.{ℕ, zero, suc, ◌-◌, Bool, true, false, not, ◌&&◌, ◌||◌, List, [], ◌∷◌, ◌++◌, length, take, drop, slice_index, Option, Some, None, codes, ◌==◌, if◌then◌else◌}
+use Rattle.chess_base.specs.Options.{◌>>=◌}
 use Rattle.chess_base.specs.Letters.{is_digit, is_letter, byte, carriage_return, new_line, space, tab}
 use Rattle.std.specs.List.{list_any, prefix_len, position_or_len, take_while}
-use Rattle.std.specs.Option.{option_and_then, option_map, option_map_or, unwrap_or}
+use Rattle.std.specs.Option.{option_map, option_map_or, unwrap_or}
 use Rattle.std.specs.Str.{bytes_eq}
 
 -- a token of a PGN text (section 7): what is skipped, such as white space, a comment or a variation; a tag; a word,
@@ -75,12 +76,6 @@ variation_at None line_begins (suc depth) (c ∷ rest) =
     else variation_at None (c == new_line) (suc depth) rest)))
 
 -- ---- tags
-
-infixl 10 ◌>>=◌
--- goes on with f from a value that was found; none if none was found: so a chain of steps stops at the first that finds
--- nothing
-abbrev pub ◌>>=◌ : {A B : Type 0} → Option A → (A → Option B) → Option B
-o >>= f = option_and_then f o
 
 -- puts `front` before the bytes of a string that was found (its bytes, and the text after it); none if none was found
 abbrev pub onto : List ℕ → Option (List ℕ × List ℕ) → Option (List ℕ × List ℕ)

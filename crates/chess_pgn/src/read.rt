@@ -44,7 +44,7 @@ pub enum PgnFaultKind {
     #[error("a bracket begins no tag")]
     BadTag,
     /// A FEN that denotes no sound position; the offset is that of the first byte of its string.
-    #[error("the FEN spells no position")]
+    #[error("the FEN denotes no position")]
     BadFen,
     /// A byte that begins no token, or a word that is no move, number or termination.
     #[error("this is no token, move, number or termination")]
@@ -56,10 +56,10 @@ pub enum PgnFaultKind {
     #[error("several legal moves fit")]
     AmbiguousMove,
     /// A move after the game's end.
-    #[error("the move is behind the end of the game")]
+    #[error("the move comes after the end of the game")]
     AfterEnd,
     /// A move past the game's limit.
-    #[error("the game has more moves than can stand")]
+    #[error("the game has too many moves")]
     TooLong,
     /// A comment without its closing brace; the offset is that of its opening brace.
     #[error("the comment is not closed")]

@@ -5,7 +5,7 @@ use Rattle.std.specs.Option.{option_map}
 use Rattle.chess_base.specs.Letters.{byte}
 use Rattle.chess_cecp.specs.Commands.{word_of, argument_of, short_number}
 use Rattle.chess_cecp.specs.Lines.{without_front_blanks}
-use Rattle.chess_cecp.specs.Options.{◌>>=◌}
+use Rattle.chess_base.specs.Options.{◌>>=◌}
 
 -- a time control, as `level 40 5 0` sets it: `moves` per session (0: one session for the whole game), the `base` time
 -- of each session and the `increment` per move, both in seconds
