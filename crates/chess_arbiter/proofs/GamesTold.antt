@@ -25,7 +25,7 @@ use Rattle.chess_match.specs.declared.reason.Reason.TheVariants.{Faulted}
 use Rattle.chess_match.specs.declared.run.MatchEnd.{MatchEnd}
 use Rattle.chess_match.proofs.Flushes.{flushed_none, failed_behind}
 use Rattle.chess_arbiter.specs.Games.{EndsGames, GameRecord, IsOfPlan, LogsGames, RanGames, SoundGames, count_of, first_side, game_logs, game_text, game_texts, match_text, score_line, score_of}
-use Rattle.chess_arbiter.specs.ties.Playing.{HasPlayed, LogsGame, PlayedOne, Relayed, logged_side, no_score, plus, score_after}
+use Rattle.chess_arbiter.specs.ties.Playing.{HasPlayed, LogsGame, PlayedOne, RanAndLogged, logged_side, no_score, plus, score_after}
 use Rattle.chess_arbiter.specs.Log.{LogSeen, Logged, RanNoted, log_text}
 use Rattle.chess_arbiter.proofs.Logged.{logged_more, logs_none}
 use Rattle.chess_arbiter.specs.declared.games.GamesFault.{GamesFault}
@@ -54,7 +54,7 @@ limit_kept notes start level g g' end w w' coming coming' (T, are, by) = ap (λ 
 
 pub relayed : (l : LogSeen) (start : Setup) (level : LevelSeen) (g g' : Seen) (end : MatchEnd) (w w' : Ports)
     (coming coming' : ℕ → Option ℕ) → MatchRan start level g g' end w w' coming coming'
-    → Relayed None l l start level g g' end w w' coming coming'
+    → RanAndLogged None l l start level g g' end w w' coming coming'
 relayed l start level g g' end w w' coming coming' (T, by) =
     (notes_of (rules_of start level g.limit) T, (T, refl, by), refl)
 

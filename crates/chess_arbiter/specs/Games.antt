@@ -32,12 +32,12 @@ abbrev pub first_side : ℕ → Colour
 first_side number = if number % 2 == 1 then White else Black
 
 -- the command of the engine that has this side in the game of this number
-abbrev pub command_of : MatchPlan → ℕ → Colour → List ℕ
-command_of plan number side = if same_colour side (first_side number) then plan.white.now else plan.black.now
+abbrev pub engine_command : MatchPlan → ℕ → Colour → List ℕ
+engine_command plan number side = if same_colour side (first_side number) then plan.white.now else plan.black.now
 
 -- an engine's name in the tags: the one that it gave itself by `myname` (`name`), or its command if that is empty
-abbrev pub name_of : List ℕ → List ℕ → List ℕ
-name_of name command = cut_tag (if length name == 0 then command else name)
+abbrev pub player_name : List ℕ → List ℕ → List ℕ
+player_name name command = cut_tag (if length name == 0 then command else name)
 
 -- the PGN tags of the game of this number, which ended as `end` says
 abbrev pub tags_of : MatchPlan → ℕ → MatchEnd → Tags
@@ -46,8 +46,8 @@ tags_of plan number end = record {
   site = codes "?";
   date = cut_tag plan.date.now;
   round = cut_tag (decimal number);
-  white = name_of end.white_name (command_of plan number White);
-  black = name_of end.black_name (command_of plan number Black);
+  white = player_name end.white_name (engine_command plan number White);
+  black = player_name end.black_name (engine_command plan number Black);
   ended = end.ended;
 }
 
@@ -127,13 +127,13 @@ EndsGames plan games (Some (number, side, fault)) =
 
 -- the match broke off with this fault: all games before were written, and the next one could not be started, or only a
 -- beginning of its PGN was written. `w` and `l` are output and log before, `w'` and `l'` after
-abbrev pub BrokeOff : MatchPlan → OutputState → OutputState → LogSeen → LogSeen → GamesFault → Type 0
-BrokeOff plan w w' l l' WriteFailed =
+abbrev pub GamesBrokeOff : MatchPlan → OutputState → OutputState → LogSeen → LogSeen → GamesFault → Type 0
+GamesBrokeOff plan w w' l l' WriteFailed =
     (games : List GameRecord) × (next : GameRecord) × (start : List ℕ)
     × SoundGames plan games × (length games < plan.games) × IsOfPlan plan next
     × Begins start (game_text plan (length games + 1) next) × FlushedThenFailed w w' (game_texts plan games) start
     × LogsGames plan.log l l' (games ++ next ∷ [])
-BrokeOff plan w w' l l' fault =
+GamesBrokeOff plan w w' l l' fault =
     (games : List GameRecord) × SoundGames plan games × (length games < plan.games)
     × IsStartFault plan fault × Flushed w w' (game_texts plan games) × LogsGames plan.log l l' games
 
@@ -159,6 +159,6 @@ RanGames plan w w' l l' (Err (Game number text)) =
     (games : List GameRecord) × (side : Colour) × (fault : MatchFault)
     × EndsGames plan games (Some (number, side, fault)) × (text.now ≡ comment_of (Faulted side fault))
     × Flushed w w' (match_text plan games) × LogsGames plan.log l l' games
-RanGames plan w w' l l' (Err WriteFailed) = BrokeOff plan w w' l l' WriteFailed ⊎ BrokeOffAtScore plan w w' l l'
-RanGames plan w w' l l' (Err NoMemory) = ((w' ≡ w) × (l' ≡ l)) ⊎ BrokeOff plan w w' l l' NoMemory
-RanGames plan w w' l l' (Err (CanNotStart command)) = BrokeOff plan w w' l l' (CanNotStart command)
+RanGames plan w w' l l' (Err WriteFailed) = GamesBrokeOff plan w w' l l' WriteFailed ⊎ BrokeOffAtScore plan w w' l l'
+RanGames plan w w' l l' (Err NoMemory) = ((w' ≡ w) × (l' ≡ l)) ⊎ GamesBrokeOff plan w w' l l' NoMemory
+RanGames plan w w' l l' (Err (CanNotStart command)) = GamesBrokeOff plan w w' l l' (CanNotStart command)

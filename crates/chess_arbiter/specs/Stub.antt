@@ -29,8 +29,8 @@ abbrev pub playing : Words → StubState
 playing words = record { words = words; plays = true }
 
 -- the stub sends this text, goes on, and is then in the state `s`
-abbrev pub says : StubState → List ℕ → Response StubState
-says s text = record { text = text; state = s; ends = false }
+abbrev pub stub_says : StubState → List ℕ → Response StubState
+stub_says s text = record { text = text; state = s; ends = false }
 
 -- ---- a turn
 
@@ -63,10 +63,10 @@ played_text word = (if bytes_eq word (codes "resign") then [] else codes "move "
 -- first one, and sends what the `offer` and `claim` after it stand for; `end` makes it end in the middle of a line;
 -- with none left it resigns
 abbrev pub turn : Words → Response StubState
-turn [] = says (playing []) (codes "resign" ++ new_line ∷ [])
+turn [] = stub_says (playing []) (codes "resign" ++ new_line ∷ [])
 turn (word ∷ words) =
-    if bytes_eq word.now (codes "end") then record (says (playing words) (codes "mov")) { ends = true }
-    else says (playing (after_remarks words)) (played_text word.now ++ remarks words)
+    if bytes_eq word.now (codes "end") then record (stub_says (playing words) (codes "mov")) { ends = true }
+    else stub_says (playing (after_remarks words)) (played_text word.now ++ remarks words)
 
 -- ---- a line
 
@@ -75,23 +75,23 @@ abbrev pub features : List ℕ
 features = codes "feature ping=1 setboard=1 usermove=1 myname=\"stub\" done=1" ++ new_line ∷ []
 
 -- what the stub does when its opponent moved: if it plays, it takes its turn; else nothing
-abbrev pub moved : StubState → Response StubState
-moved s = if s.plays then turn s.words else says s []
+abbrev pub after_opponent_move : StubState → Response StubState
+after_opponent_move s = if s.plays then turn s.words else stub_says s []
 
 -- what a stub (an engine that plays the arguments that it is given) in the state `s` does at a command; `text` is the
 -- whole line. `usermove` alone counts as a move too, and all commands without a row here are ignored
-abbrev pub row : StubState → List ℕ → Command → Response StubState
-row s text (Protover n) = says s features
-row s text (Ping n) = says s (codes "pong " ++ (decimal n ++ new_line ∷ []))
-row s text New = says (waiting s.words) []
-row s text Go = turn s.words
-row s text UserMove = moved s
-row s text Unknown = if bytes_eq (word_of text) (codes "usermove") then moved s else says s []
-row s text Quit = record (says s []) { ends = true }
-row s text Silent = if bytes_eq (word_of text) (codes "force") then says (waiting s.words) [] else says s []
-row s text _ = says s []
+abbrev pub stub_row : StubState → List ℕ → Command → Response StubState
+stub_row s text (Protover n) = stub_says s features
+stub_row s text (Ping n) = stub_says s (codes "pong " ++ (decimal n ++ new_line ∷ []))
+stub_row s text New = stub_says (waiting s.words) []
+stub_row s text Go = turn s.words
+stub_row s text UserMove = after_opponent_move s
+stub_row s text Unknown = if bytes_eq (word_of text) (codes "usermove") then after_opponent_move s else stub_says s []
+stub_row s text Quit = record (stub_says s []) { ends = true }
+stub_row s text Silent = if bytes_eq (word_of text) (codes "force") then stub_says (waiting s.words) [] else stub_says s []
+stub_row s text _ = stub_says s []
 
 -- what a stub (an engine that plays the arguments that it is given) in the state `s` does with a line: it obeys the
 -- line's command; a line that is too long is ignored
 unfoldable pub stub_response : StubState → LineSeen → Response StubState
-stub_response s line = if line.too_long then says s [] else row s line.text (command_of line.text)
+stub_response s line = if line.too_long then stub_says s [] else stub_row s line.text (command_of line.text)

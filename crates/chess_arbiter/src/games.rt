@@ -6,8 +6,8 @@ ghost use Rattle.chess_match.specs.Reasons.{by_colour, comment_of};
 ghost use Rattle.chess_match.specs.Run.{Ports};
 ghost use Rattle.chess_match.specs.declared.reason.Reason.TheVariants.{Faulted};
 ghost use Rattle.chess_pgn.specs.GameText.{pgn};
-ghost use Rattle.chess_arbiter.specs.Games.{RanGames, command_of, first_side, name_of, score_line, tags_of};
-ghost use Rattle.chess_arbiter.specs.ties.Playing.{FailsToStart, HasPlayed, IsMatchEndOf, PlayedOne, Relayed, ReportsStart, logged_side};
+ghost use Rattle.chess_arbiter.specs.Games.{RanGames, engine_command, first_side, player_name, score_line, tags_of};
+ghost use Rattle.chess_arbiter.specs.ties.Playing.{FailsToStart, HasPlayed, IsMatchEndOf, PlayedOne, RanAndLogged, ReportsStart, logged_side};
 ghost use Rattle.chess_arbiter.specs.Log.{log_seen};
 ghost use Rattle.chess_game.specs.declared.game.TheConstants.{MOST_MOVES};
 
@@ -70,7 +70,7 @@ fn first_side(number: u32) -> Colour
 
 // The command of the engine that has this side in the game of this number.
 fn command_of<'a>(plan: &MatchPlan<'a>, number: u32, side: Colour) -> &'a str
-    ensures { result.now ≡ command_of plan.now number side }
+    ensures { result.now ≡ engine_command plan.now number side }
 {
     if is_side(side, first_side(number)) {
         plan.white
@@ -81,7 +81,7 @@ fn command_of<'a>(plan: &MatchPlan<'a>, number: u32, side: Colour) -> &'a str
 
 // An engine's name in the tags: the one that it gave itself (`name`), or its command if that is empty.
 fn name_of(name: &TagText, command: &str) -> TagText
-    ensures { result ≡ name_of name.now command.now }
+    ensures { result ≡ player_name name.now command.now }
 {
     let given = name.as_bytes();
     if given.is_empty() {
@@ -129,7 +129,7 @@ fn relay<'t, R: Input, W: Output, M: Moments, E: Output>(
     first: Option<Colour>,
     log: &mut Log<E>,
 ) -> MatchEnd
-    ensures ran { Relayed first
+    ensures ran { RanAndLogged first
         (log_seen (E.seen log.old.output) log.old.pending) (log_seen (E.seen log.new.output) log.new.pending)
         setup.now.start setup.now.level game.old game.new result
         (record {

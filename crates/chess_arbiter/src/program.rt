@@ -113,7 +113,7 @@ fn verified_status(verified: Verified) -> u8
 {
     match verified {
         Verified::EachGame => 0,
-        Verified::FaultTold => 1,
+        Verified::FaultReported => 1,
     }
 }
 

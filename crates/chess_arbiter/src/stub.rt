@@ -5,7 +5,7 @@ ghost use Rattle.std.specs.Str.{bytes_eq};
 ghost use Rattle.byte_devices.specs.Devices.{Puts};
 ghost use Rattle.chess_base.specs.Letters.{new_line};
 ghost use Rattle.chess_cecp.specs.Commands.{command_of};
-ghost use Rattle.chess_arbiter.specs.Stub.{after_remarks, moved, played_text, remark, remarks, row, stub_response, turn, waiting};
+ghost use Rattle.chess_arbiter.specs.Stub.{after_remarks, after_opponent_move, played_text, remark, remarks, stub_row, stub_response, turn, waiting};
 
 use arrayvec::ArrayVec;
 use byte_devices::{Output, WriteFault, put, put_parts};
@@ -209,9 +209,9 @@ impl<'a> Stub<'a> {
     // Takes a move of the opponent: if the stub plays, it is its turn, else nothing happens. Returns whether the stub
     // goes on.
     fn moved<W: Output>(&mut self, writer: &mut W) -> Result<Go, WriteFault>
-        ensures next { self.new ≡ (moved self.old).state }
-        ensures written { Puts (W.seen writer.old) (W.seen writer.new) result (moved self.old).text }
-        ensures go { IfOk result (λ go. go ≡ (if (moved self.old).ends then Go.Quit else Go.On)) }
+        ensures next { self.new ≡ (after_opponent_move self.old).state }
+        ensures written { Puts (W.seen writer.old) (W.seen writer.new) result (after_opponent_move self.old).text }
+        ensures go { IfOk result (λ go. go ≡ (if (after_opponent_move self.old).ends then Go.Quit else Go.On)) }
     {
         if self.plays {
             self.play(writer)
@@ -222,11 +222,11 @@ impl<'a> Stub<'a> {
 
     // Obeys the command of a line, writes the reply if there is one, and returns whether the stub goes on.
     fn obey<W: Output>(&mut self, text: &[u8], writer: &mut W) -> Result<Go, WriteFault>
-        ensures next { self.new ≡ (row self.old text.now (command_of text.now)).state }
+        ensures next { self.new ≡ (stub_row self.old text.now (command_of text.now)).state }
         ensures written { Puts (W.seen writer.old) (W.seen writer.new) result
-            (row self.old text.now (command_of text.now)).text }
+            (stub_row self.old text.now (command_of text.now)).text }
         ensures go { IfOk result
-            (λ go. go ≡ (if (row self.old text.now (command_of text.now)).ends then Go.Quit else Go.On)) }
+            (λ go. go ≡ (if (stub_row self.old text.now (command_of text.now)).ends then Go.Quit else Go.On)) }
     {
         match read_command(text) {
             Command::Protover(_) => {

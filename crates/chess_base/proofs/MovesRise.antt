@@ -9,7 +9,7 @@ use Rattle.chess_base.specs.declared.man.Kind.{Kind}
 use Rattle.chess_base.specs.declared.setup.Setup.{Setup}
 use Rattle.chess_base.specs.Squares.{from_below}
 use Rattle.chess_base.specs.Moves.{is_legal}
-use Rattle.chess_base.specs.MoveList.{promotions, triple, squares, all_triples, moves}
+use Rattle.chess_base.specs.MoveList.{promotions, move_of, squares, all_moves, moves}
 use Rattle.chess_base.specs.laws.Laws.{promotion_index, ComesBefore, ByStart, ByEnd, ByPromotion}
 
 -- ---- lists
@@ -62,34 +62,34 @@ promotions_rise = λ i j d l h.
 
 -- moves that differ by their promotion alone
 triples_rise : (a b : ℕ) (ks : List (Option Kind)) → AllPairs (λ j k. promotion_index j < promotion_index k) ks
-    → AllPairs ComesBefore (map (triple a b) ks)
+    → AllPairs ComesBefore (map (move_of a b) ks)
 triples_rise a b [] p = λ i j d l past. absurd (omega arith)
 triples_rise a b (k ∷ ks) p =
-    AllPairs-cons ComesBefore (triple a b k) (map (triple a b) ks)
-    (All-map (ComesBefore (triple a b k)) (triple a b) ks
+    AllPairs-cons ComesBefore (move_of a b k) (map (move_of a b) ks)
+    (All-map (ComesBefore (move_of a b k)) (move_of a b) ks
     (λ i e h. ByPromotion refl refl (p 0 (suc i) e (omega arith) (omega arith))))
     (triples_rise a b ks (λ i j d l h. p (suc i) (suc j) d (omega arith) (omega arith)))
 
-from_one_rise : (a : ℕ) → AllPairs ComesBefore (flat_map (λ b. map (triple a b) promotions) squares)
+from_one_rise : (a : ℕ) → AllPairs ComesBefore (flat_map (λ b. map (move_of a b) promotions) squares)
 unfolding squares
 from_one_rise a =
-    pairs-over ComesBefore (λ b m. (m.from ≡ a) × (m.to ≡ b)) (λ b. map (triple a b) promotions)
-    (λ b. All-map (λ m. (m.from ≡ a) × (m.to ≡ b)) (triple a b) promotions (λ k d h. (refl, refl)))
+    pairs-over ComesBefore (λ b m. (m.from ≡ a) × (m.to ≡ b)) (λ b. map (move_of a b) promotions)
+    (λ b. All-map (λ m. (m.from ≡ a) × (m.to ≡ b)) (move_of a b) promotions (λ k d h. (refl, refl)))
     (λ b. triples_rise a b promotions promotions_rise)
     (λ b c m n l e f. ByEnd (rw (e.0, f.0) refl) (rw (e.1, f.1) l)) 64 (λ s. s) (λ i j l. l)
 
-starts : (a : ℕ) → All (λ m. m.from ≡ a) (flat_map (λ b. map (triple a b) promotions) squares)
+starts : (a : ℕ) → All (λ m. m.from ≡ a) (flat_map (λ b. map (move_of a b) promotions) squares)
 unfolding squares
-starts a = all-over (λ m. m.from ≡ a) (λ b. map (triple a b) promotions) 64 (λ s. s)
-    (λ b. All-map (λ m. m.from ≡ a) (triple a b) promotions (λ k d h. refl))
+starts a = all-over (λ m. m.from ≡ a) (λ b. map (move_of a b) promotions) 64 (λ s. s)
+    (λ b. All-map (λ m. m.from ≡ a) (move_of a b) promotions (λ k d h. refl))
 
-all_triples_rise : AllPairs ComesBefore all_triples
-unfolding all_triples squares
+all_triples_rise : AllPairs ComesBefore all_moves
+unfolding all_moves squares
 all_triples_rise =
-    pairs-over ComesBefore (λ a m. m.from ≡ a) (λ a. flat_map (λ b. map (triple a b) promotions) squares) starts
+    pairs-over ComesBefore (λ a m. m.from ≡ a) (λ a. flat_map (λ b. map (move_of a b) promotions) squares) starts
     from_one_rise
     (λ a b m n l e f. ByStart (rw (e, f) l)) 64 (λ s. s) (λ i j l. l)
 
 pub moves_rise : (p : Setup) → AllPairs ComesBefore (moves p)
 unfolding moves
-moves_rise p = AllPairs-filter ComesBefore (λ m. is_legal p m) all_triples all_triples_rise
+moves_rise p = AllPairs-filter ComesBefore (λ m. is_legal p m) all_moves all_triples_rise

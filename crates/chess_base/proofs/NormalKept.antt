@@ -11,9 +11,9 @@ use Rattle.chess_base.specs.declared.man.Move.{Move}
 use Rattle.chess_base.specs.declared.man.Variant.TheVariants.{Normal}
 use Rattle.chess_base.specs.declared.setup.Setup.{Setup}
 use Rattle.chess_base.specs.Men.{Men, man_at, is_man, same_colour, same_kind, other}
-use Rattle.chess_base.specs.Moves.{behind, is_en_passant, man_that_lands, moves_as, is_pseudo_legal, pawn_moves, second_square_emptied, men_after, rights_after, target_after, halfmove_after, fullmove_after, is_legal, after}
+use Rattle.chess_base.specs.Moves.{one_rank_back, is_en_passant, arriving_man, moves_as, is_pseudo_legal, pawn_moves, second_square_emptied, men_after, rights_after, target_after, halfmove_after, fullmove_after, is_legal, after}
 use Rattle.chess_base.specs.ties.Splits.{castles_or_moves, names_castling, rook_from, rook_to, right_is_sound_at}
-use Rattle.chess_base.specs.Castling.{says_castling, castling, castle_by, castle_of, lands_on, castling_rook_to, castled_king_file, right_of, right_is_sound, home_square, king_home_file}
+use Rattle.chess_base.specs.Castling.{is_castling_to, castling, castle_by, castle_of, mover_end, castling_rook_to, castled_king_file, right_of, right_is_sound, home_square, king_home_file}
 use Rattle.chess_base.specs.Before.{mover_to}
 use Rattle.chess_base.specs.Steps.{men_stepped}
 use Rattle.chess_base.specs.laws.Normal.{normal_right_is_sound_at, normal_says_castling, normal_castling, normal_castle_of, normal_moves_as, normal_has_pattern, normal_men_after, normal_after, normal_is_legal, NormalIsKept}
@@ -37,8 +37,8 @@ says_by c m w king (Some rook) = in_turn king (m.from == home_square c king_home
     (m.to == home_square c (castled_king_file w))
 
 says_kept : (p : Setup) → p.variant ≡ Normal → (m : Move) (w : CastlingSide)
-    → says_castling p m w ≡ normal_says_castling p m w
-unfolding says_castling normal_says_castling
+    → is_castling_to p m w ≡ normal_says_castling p m w
+unfolding is_castling_to normal_says_castling
 says_kept p e m w = rw e (says_by p.side m w (is_man p.side King (man_at p.men m.from)) (right_of p.rights p.side w))
 
 castling_kept : (p : Setup) → p.variant ≡ Normal → (m : Move) → castling p m ≡ normal_castling p m
@@ -62,15 +62,15 @@ pattern_kept p e m = ap (λ b. nat_lt m.from 64 && nat_lt m.to 64 && b) (moves_k
 steps_by : Setup → Move → Option Castle → Steps
 steps_by p m o = record {
   from = m.from;
-  second_from = cond (is_en_passant p m) (Some (behind p.side m.to)) (rook_from o);
+  second_from = cond (is_en_passant p m) (Some (one_rank_back p.side m.to)) (rook_from o);
   second_to = rook_to o;
   second = Some (record { colour = p.side; kind = Rook });
   to = mover_to m o;
-  mover = man_that_lands (man_at p.men m.from) m.promotion;
+  mover = arriving_man (man_at p.men m.from) m.promotion;
 }
 
 men_kept : (p : Setup) → p.variant ≡ Normal → (m : Move) → men_after p m ≡ normal_men_after p m
-unfolding men_after normal_men_after lands_on castling_rook_to second_square_emptied steps_by
+unfolding men_after normal_men_after mover_end castling_rook_to second_square_emptied steps_by
 men_kept p e m = ap (λ o. men_stepped p.men (steps_by p m o)) (castle_kept p e m)
 
 after_kept : (p : Setup) → p.variant ≡ Normal → (m : Move) → after p m ≡ normal_after p m

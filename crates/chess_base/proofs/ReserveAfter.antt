@@ -16,8 +16,8 @@ use Rattle.chess_base.specs.Squares.{rank, from_below}
 use Rattle.chess_base.specs.Men.{Men, man_at, other, is_of, is_man, same_colour, same_kind, forward, pawn_rank}
 use Rattle.chess_base.specs.Attacks.{is_rank_ahead, is_in_check}
 use Rattle.chess_base.specs.Sound.{IsSound, no_pawn_on_end_ranks, pawn_is_allowed}
-use Rattle.chess_base.specs.Castling.{castle_from, lands_on, castles}
-use Rattle.chess_base.specs.Moves.{man_that_lands, man_moves, is_pseudo_legal, is_legal, men_after, halfmove_after, resets_clock, after}
+use Rattle.chess_base.specs.Castling.{castle_from, mover_end, castles}
+use Rattle.chess_base.specs.Moves.{arriving_man, man_moves, is_pseudo_legal, is_legal, men_after, halfmove_after, resets_clock, after}
 use Rattle.chess_base.specs.laws.Reserve.{ranks_to_go, weight, reserve}
 use Rattle.chess_base.proofs.OverSquares.{each_square-at}
 use Rattle.chess_base.proofs.MenAfter.{length-from_below, get_or-from_below}
@@ -100,7 +100,7 @@ weight-at_most s x = cond_both (same_kind Pawn x.kind) (1 + ranks_to_go x.colour
     (λ n. n ≤ 1 + ranks_to_go x.colour s) (λ _. omega arith) (λ _. omega arith)
 
 weight-lands : (c : Colour) (s : ℕ) (o : Option Man) (k : Option Kind) → is_of c o ≡ true
-    → weight s (man_that_lands o k) ≤ 1 + ranks_to_go c s
+    → weight s (arriving_man o k) ≤ 1 + ranks_to_go c s
 unfolding is_of
 weight-lands c s None k e = cc
 weight-lands c s (Some x) None e = rw (same_colour-true c x.colour e) (weight-at_most s x)
@@ -129,12 +129,12 @@ Spends : Setup → Move → Type 0
 Spends p m =
     reserve (men_after p m) + weight m.from (man_at p.men m.from) + taken_by (is_of (other p.side) (man_at p.men m.to))
     m.to (man_at p.men m.to)
-    ≤ reserve p.men + weight (lands_on p m) (man_that_lands (man_at p.men m.from) m.promotion)
+    ≤ reserve p.men + weight (mover_end p m) (arriving_man (man_at p.men m.from) m.promotion)
 
 spends_by : (p : Setup) (m : Move) → length p.men ≡ 64 → Change p m → Rest p m → Spends p m
 unfolding Spends
 spends_by p m l h (Alone walk al ra) =
-    let v = man_that_lands (man_at p.men m.from) m.promotion in
+    let v = arriving_man (man_at p.men m.from) m.promotion in
     let list : men_after p m ≡ written p m = men_after-written p m l in
     let list' : men_after p m ≡ set (set p.men m.from None) m.to v = rw (al, ra, walk.lands) at list in
     let l1 = length-set p.men m.from None ∙ l in
@@ -146,7 +146,7 @@ spends_by p m l h (Alone walk al ra) =
     let most = taken_at_most (is_of (other p.side) (man_at p.men m.to)) m.to (man_at p.men m.to) in
     rw (walk.lands, list') (omega (arith, one, two', most))
 spends_by p m l h (WithCapture walk e al ra pawn to_empty mover) =
-    let v = man_that_lands (man_at p.men m.from) m.promotion in
+    let v = arriving_man (man_at p.men m.from) m.promotion in
     let one_gone = set p.men m.from None in
     let list : men_after p m ≡ written p m = men_after-written p m l in
     let list' : men_after p m ≡ set (set one_gone e None) m.to v = rw (al, ra, walk.lands) at list in
@@ -159,11 +159,11 @@ spends_by p m l h (WithCapture walk e al ra pawn to_empty mover) =
     let most = taken_at_most (is_of (other p.side) (man_at p.men m.to)) m.to (man_at p.men m.to) in
     rw (walk.lands, list') (omega (arith, one, two, three, nothing, most))
 spends_by p m l h (WithRook e r al ra rook to_free r_free r_to king r_in to_in no_enemy) =
-    let v = man_that_lands (man_at p.men m.from) m.promotion in
+    let v = arriving_man (man_at p.men m.from) m.promotion in
     let one_gone = set p.men m.from None in
     let both_gone = set one_gone e None in
     let list : men_after p m ≡ written p m = men_after-written p m l in
-    let list' : men_after p m ≡ set (set both_gone r (castled_rook p.side)) (lands_on p m) v = rw (al, ra) at list in
+    let list' : men_after p m ≡ set (set both_gone r (castled_rook p.side)) (mover_end p m) v = rw (al, ra) at list in
     let l1 = length-set p.men m.from None ∙ l in
     let l2 = length-set one_gone e None ∙ l1 in
     let l3 = length-set both_gone r (castled_rook p.side) ∙ l2 in
@@ -174,7 +174,7 @@ spends_by p m l h (WithRook e r al ra rook to_free r_free r_to king r_in to_in n
     let one = reserve-set p.men m.from None l h.moves.from_in in
     let two = rw at_e at (reserve-set one_gone e None l1 e_in) in
     let three = reserve-set both_gone r (castled_rook p.side) l2 r_in in
-    let four = reserve-set (set both_gone r (castled_rook p.side)) (lands_on p m) v l3 to_in in
+    let four = reserve-set (set both_gone r (castled_rook p.side)) (mover_end p m) v l3 to_in in
     let left = weight-no_pawn p.side e (man_at p.men e) (is_of-from_is_man p.side Rook (man_at p.men e) rook)
     (is_man-kind p.side p.side Rook Pawn (man_at p.men e) refl rook) in
     let none : taken_by (is_of (other p.side) (man_at p.men m.to)) m.to (man_at p.men m.to) ≡ 0 =
@@ -230,7 +230,7 @@ goes_ahead p m sound moves man (TakesEnPassant e at) = aside_ahead p.side m.from
 -- what lands against what left
 
 Lands : Setup → Move → Type 0
-Lands p m = weight (lands_on p m) (man_that_lands (man_at p.men m.from) m.promotion) ≤ weight m.from
+Lands p m = weight (mover_end p m) (arriving_man (man_at p.men m.from) m.promotion) ≤ weight m.from
     (man_at p.men m.from)
 
 man_lands : (p : Setup) (m : Move) → Moves p m → is_man p.side Pawn (man_at p.men m.from) ≡ false
@@ -241,14 +241,14 @@ man_lands p m moves n e =
     let own' : is_of p.side (Some moves.mover) ≡ true = rw (← moves.at_from) own in
     let n' : is_man p.side Pawn (Some moves.mover) ≡ false = rw (← moves.at_from) n in
     let before = weight-no_pawn p.side m.from (Some moves.mover) own' n' in
-    let after' = weight-no_pawn p.side (lands_on p m) (Some moves.mover) own' n' in
-    let same : man_that_lands (man_at p.men m.from) m.promotion ≡ Some moves.mover =
+    let after' = weight-no_pawn p.side (mover_end p m) (Some moves.mover) own' n' in
+    let same : arriving_man (man_at p.men m.from) m.promotion ≡ Some moves.mover =
     rw (moves.at_from, is_none-None m.promotion e) refl in
     rw (same, moves.at_from) (omega (arith, before, after'))
 
 pawn_lands : (p : Setup) (m : Move) → IsSound p → Moves p m → is_man p.side Pawn (man_at p.men m.from) ≡ true
     → PawnKind p m
-    → weight (lands_on p m) (man_that_lands (man_at p.men m.from) m.promotion) < weight m.from (man_at p.men m.from)
+    → weight (mover_end p m) (arriving_man (man_at p.men m.from) m.promotion) < weight m.from (man_at p.men m.from)
 pawn_lands p m sound moves man kind =
     let before = weight-pawn p.side m.from (man_at p.men m.from) man in
     let lands = weight-lands p.side m.to (man_at p.men m.from) m.promotion (is_of-mover p m moves) in

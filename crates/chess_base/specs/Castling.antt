@@ -98,13 +98,13 @@ names_castling_with Fischerandom c m w rook = (rank m.from == rank rook) && (m.t
 
 -- move m is castling to side w: the side on move has that right, its king makes the move, and the squares are those of
 -- castling with the right's rook. Whether anything prevents it is not asked here
-unfoldable pub says_castling : Setup → Move → CastlingSide → Bool
-says_castling p m w = is_man p.side King (man_at p.men m.from)
+unfoldable pub is_castling_to : Setup → Move → CastlingSide → Bool
+is_castling_to p m w = is_man p.side King (man_at p.men m.from)
     && option_map_or (names_castling_with p.variant p.side m w) (right_of p.rights p.side w) false
 
 -- the side to which move m castles; none if it is not castling
 unfoldable pub castling : Setup → Move → Option CastlingSide
-castling p m = if says_castling p m KingSide then Some KingSide else if says_castling p m QueenSide then Some QueenSide
+castling p m = if is_castling_to p m KingSide then Some KingSide else if is_castling_to p m QueenSide then Some QueenSide
     else None
 
 -- ---- the squares of a castling
@@ -129,8 +129,8 @@ castle_of p m = castle_by p.side p.rights m (castling p m)
 
 -- the mover's square after the move: the king's after castling, else m.to. In normal chess it is always m.to, since
 -- the king's squares name castling
-unfoldable pub lands_on : Setup → Move → ℕ
-lands_on p m = option_map_or (λ k. k.king_to) (castle_of p m) m.to
+unfoldable pub mover_end : Setup → Move → ℕ
+mover_end p m = option_map_or (λ k. k.king_to) (castle_of p m) m.to
 
 -- the square on which the castling rook ends, as f1 for e1g1; none if the move is not castling
 unfoldable pub castling_rook_to : Setup → Move → Option ℕ

@@ -14,7 +14,7 @@ use Rattle.chess_base.specs.declared.steps.Steps.{Steps}
 use Rattle.chess_base.specs.Squares.{rank, is_square}
 use Rattle.chess_base.specs.Men.{Men, man_at, is_of, is_man, same_colour, same_kind, other, forward, first_rank, pawn_rank}
 use Rattle.chess_base.specs.Attacks.{attacks, is_in_check}
-use Rattle.chess_base.specs.Castling.{right_of, rights_by, castle_of, castling_rook_to, castles, lands_on}
+use Rattle.chess_base.specs.Castling.{right_of, rights_by, castle_of, castling_rook_to, castles, mover_end}
 use Rattle.chess_base.specs.Steps.{men_stepped}
 
 -- a pawn's move names a promotion to a queen, rook, bishop or knight if it ends on its last rank (`last`), and
@@ -71,20 +71,20 @@ is_pseudo_legal p m = nat_lt m.from 64 && nat_lt m.to 64 && moves_as p m (man_at
 
 -- the piece that arrives on the end square: the one that left the start square, or after a promotion one of the new
 -- kind
-abbrev pub man_that_lands : Option Man → Option Kind → Option Man
-man_that_lands None k = None
-man_that_lands (Some x) None = Some x
-man_that_lands (Some x) (Some k) = Some (record { colour = x.colour; kind = k })
+abbrev pub arriving_man : Option Man → Option Kind → Option Man
+arriving_man None k = None
+arriving_man (Some x) None = Some x
+arriving_man (Some x) (Some k) = Some (record { colour = x.colour; kind = k })
 
 -- the square one step back from s for a pawn of colour c: when a black pawn takes en passant on e3, the pawn that it
 -- takes is on e4, one step back from e3 for Black
-abbrev pub behind : Colour → ℕ → ℕ
-behind c s = forward (other c) s
+abbrev pub one_rank_back : Colour → ℕ → ℕ
+one_rank_back c s = forward (other c) s
 
 -- the square, beside its start square, that move m empties: that of the pawn taken en passant, or of the castling rook;
 -- none for any other move
 unfoldable pub second_square_emptied : Setup → Move → Option ℕ
-second_square_emptied p m = if is_en_passant p m then Some (behind p.side m.to) else option_map (λ k. k.rook_from) (castle_of p m)
+second_square_emptied p m = if is_en_passant p m then Some (one_rank_back p.side m.to) else option_map (λ k. k.rook_from) (castle_of p m)
 
 -- what the move changes on the board: the mover leaves `from` and arrives on `to`; in castling the rook does so from
 -- `second_from` to `second_to`, and a pawn taken en passant leaves `second_from`
@@ -94,8 +94,8 @@ steps_of p m = record {
   second_from = second_square_emptied p m;
   second_to = castling_rook_to p m;
   second = Some (record { colour = p.side; kind = Rook });
-  to = lands_on p m;
-  mover = man_that_lands (man_at p.men m.from) m.promotion;
+  to = mover_end p m;
+  mover = arriving_man (man_at p.men m.from) m.promotion;
 }
 
 -- the pieces on the board after the move m of position p

@@ -3,7 +3,7 @@
 ghost use Rattle.std.specs.Prelude.{◌≡◌};
 ghost use Rattle.chess_base.specs.Castling.{right_of};
 ghost use Rattle.chess_base.specs.Sound.{IsSound};
-ghost use Rattle.chess_base.specs.Moves.{man_that_lands, second_square_emptied, steps_of, men_after, right_after, rights_after, target_after, resets_clock, halfmove_after, fullmove_after};
+ghost use Rattle.chess_base.specs.Moves.{arriving_man, second_square_emptied, steps_of, men_after, right_after, rights_after, target_after, resets_clock, halfmove_after, fullmove_after};
 
 use crate::attack::{is_man, is_of};
 use crate::castling::{castle_of, mover_to, right_of, rook_from, rook_to};
@@ -16,7 +16,7 @@ use crate::steps::{Steps, take_steps};
 /// The piece that arrives on the end square, from the one that left the start square: the same piece, or after a
 /// promotion one of the new kind.
 pub fn man_that_lands(man: Option<Man>, promotion: Option<Kind>) -> Option<Man>
-    ensures { result ≡ man_that_lands man promotion }
+    ensures { result ≡ arriving_man man promotion }
 {
     let man = man?;
     match promotion {
@@ -43,7 +43,7 @@ pub fn second_square_emptied(setup: &Setup, m: &Move) -> Option<Square>
 }
 
 /// What the move changes on the board: which pieces leave which squares, and which arrive.
-#[tactic(auto, unfolding(crate::specs::Castling::lands_on, crate::specs::Castling::castling_rook_to))]
+#[tactic(auto, unfolding(crate::specs::Castling::mover_end, crate::specs::Castling::castling_rook_to))]
 pub fn steps_of(setup: &Setup, m: &Move) -> Steps
     requires { IsSound setup.now }
     ensures { result ≡ steps_of setup.now m.now }

@@ -3,9 +3,9 @@
 ghost use Rattle.std.specs.Prelude.{◌≡◌, ◌<◌, IsTrue};
 ghost use Rattle.chess_base.specs.Squares.{is_square};
 ghost use Rattle.chess_base.specs.Men.{other};
-ghost use Rattle.chess_base.specs.Moves.{behind};
+ghost use Rattle.chess_base.specs.Moves.{one_rank_back};
 ghost use Rattle.chess_base.specs.Sound.{IsSound};
-ghost use Rattle.chess_base.specs.Before.{captured_square, saved_of, captured_from, was_castling, castled, castle_made, man_that_left, second_back_to, second_back, steps_back};
+ghost use Rattle.chess_base.specs.Before.{captured_square, saved_of, captured_from, was_castling, castling_side_undone, castling_undone, leaving_man, returning_square, returning_man, steps_back};
 
 use crate::attack::{is_man, is_of};
 use crate::castling::{
@@ -58,7 +58,7 @@ pub fn saved_of(setup: &Setup, m: &Move) -> Saved
 // capture on the old en passant target was en passant, since the target is empty.
 #[tactic(auto, unfolding(crate::specs::Before::captured_from))]
 fn captured_from(colour: Colour, m: &Move, saved: &Saved) -> Option<Square>
-    requires { IsTrue (is_square saved.now.target m.now.to) → behind colour m.now.to < 64 }
+    requires { IsTrue (is_square saved.now.target m.now.to) → one_rank_back colour m.now.to < 64 }
     ensures { result ≡ captured_from colour m.now saved.now }
 {
     if saved.captured.is_none() {
@@ -97,7 +97,7 @@ fn was_castling(
 
 // The side to which move `m` of this colour castled; `None` if it was not castling. `men` are the pieces after it,
 // `saved` is what was saved of the position before it.
-#[tactic(auto, unfolding(crate::specs::Before::castled))]
+#[tactic(auto, unfolding(crate::specs::Before::castling_side_undone))]
 fn castled(
     variant: Variant,
     colour: Colour,
@@ -105,7 +105,7 @@ fn castled(
     m: &Move,
     saved: &Saved,
 ) -> Option<CastlingSide>
-    ensures { result ≡ castled variant colour men.now m.now saved.now }
+    ensures { result ≡ castling_side_undone variant colour men.now m.now saved.now }
 {
     if was_castling(variant, colour, men, m, saved, CastlingSide::KingSide) {
         Some(CastlingSide::KingSide)
@@ -118,9 +118,9 @@ fn castled(
 
 // The four squares of the castling that the move was, from the position after it (`setup`) and what was saved; none if
 // it was not castling.
-#[tactic(auto, unfolding(crate::specs::Before::castle_made))]
+#[tactic(auto, unfolding(crate::specs::Before::castling_undone))]
 fn castle_made(setup: &Setup, m: &Move, saved: &Saved) -> Option<Castle>
-    ensures { result ≡ castle_made setup.now m.now saved.now }
+    ensures { result ≡ castling_undone setup.now m.now saved.now }
 {
     let colour = setup.side.other();
     let castling = castled(setup.variant, colour, &setup.men, m, saved);
@@ -129,7 +129,7 @@ fn castle_made(setup: &Setup, m: &Move, saved: &Saved) -> Option<Castle>
 
 // The moving piece as it was before the move, from the piece as it arrived: a pawn if the move names a promotion.
 fn man_that_left(man: Option<Man>, promotion: Option<Kind>) -> Option<Man>
-    ensures { result ≡ man_that_left man promotion }
+    ensures { result ≡ leaving_man man promotion }
 {
     let man = man?;
     match promotion {
@@ -149,8 +149,8 @@ fn second_back_to(
     saved: &Saved,
     castle: &Option<Castle>,
 ) -> Option<Square>
-    requires { IsTrue (is_square saved.now.target m.now.to) → behind colour m.now.to < 64 }
-    ensures { result ≡ second_back_to colour m.now saved.now castle.now }
+    requires { IsTrue (is_square saved.now.target m.now.to) → one_rank_back colour m.now.to < 64 }
+    ensures { result ≡ returning_square colour m.now saved.now castle.now }
 {
     match castle {
         None => captured_from(colour, m, saved),
@@ -161,7 +161,7 @@ fn second_back_to(
 // The second piece that returns when a move of this colour is taken back: the castling rook, if the move was castling
 // (`castle`), or else the captured piece; `None` if nothing was captured.
 fn second_back(colour: Colour, saved: &Saved, castle: &Option<Castle>) -> Option<Man>
-    ensures { result ≡ second_back colour saved.now castle.now }
+    ensures { result ≡ returning_man colour saved.now castle.now }
 {
     match castle {
         None => saved.captured,
@@ -175,7 +175,7 @@ fn second_back(colour: Colour, saved: &Saved, castle: &Option<Castle>) -> Option
 /// What taking the move back changes on the board, from the position after it (`setup`) and what was saved.
 #[tactic(auto, unfolding(crate::specs::Before::steps_back))]
 pub fn steps_back(setup: &Setup, m: &Move, saved: &Saved) -> Steps
-    requires { IsTrue (is_square saved.now.target m.now.to) → behind (other setup.now.side) m.now.to < 64 }
+    requires { IsTrue (is_square saved.now.target m.now.to) → one_rank_back (other setup.now.side) m.now.to < 64 }
     ensures { result ≡ steps_back setup.now m.now saved.now }
 {
     let colour = setup.side.other();

@@ -1,7 +1,7 @@
 //! Castling: with which rook, between which squares, and when.
 
 ghost use Rattle.std.specs.Prelude.{◌≡◌, ◌<◌, IfSome, Option};
-ghost use Rattle.chess_base.specs.Castling.{home_square, king_home_file, rook_file, castled_king_file, castled_rook_file, right_of, king_square, is_to_side, is_beside, are_placed_for_castling, right_is_sound, says_castling, castling, castle_from, castle_by, castle_of, lands_on, castling_rook_to, is_on_way, castling_crosses, castling_way_is_empty, castling_way_is_safe, castles};
+ghost use Rattle.chess_base.specs.Castling.{home_square, king_home_file, rook_file, castled_king_file, castled_rook_file, right_of, king_square, is_to_side, is_beside, are_placed_for_castling, right_is_sound, is_castling_to, castling, castle_from, castle_by, castle_of, mover_end, castling_rook_to, is_on_way, castling_crosses, castling_way_is_empty, castling_way_is_safe, castles};
 ghost use Rattle.chess_base.specs.ties.Splits.{names_castling, rook_from, rook_to};
 ghost use Rattle.chess_base.specs.Before.{mover_to};
 
@@ -193,9 +193,9 @@ pub(crate) fn names_castling(
 
 // Whether the move is castling to this side: the side on move has the right, and its king makes that move. Whether
 // anything prevents it is asked by `castles`.
-#[tactic(auto, unfolding(crate::specs::Castling::says_castling))]
+#[tactic(auto, unfolding(crate::specs::Castling::is_castling_to))]
 fn says_castling(setup: &Setup, m: &Move, castling_side: CastlingSide) -> bool
-    ensures { result ≡ says_castling setup.now m.now castling_side }
+    ensures { result ≡ is_castling_to setup.now m.now castling_side }
 {
     is_man(setup.side, Kind::King, setup.men[m.from.index()])
         && names_castling(
@@ -290,9 +290,9 @@ pub(crate) fn rook_to(castle: &Option<Castle>) -> Option<Square>
 
 /// The square on which the moving piece ends. It is the move's end square, but for castling in Chess960, where `e1h1`
 /// takes the king to `g1`.
-#[tactic(auto, unfolding(crate::specs::Castling::lands_on))]
+#[tactic(auto, unfolding(crate::specs::Castling::mover_end))]
 pub fn lands_on(setup: &Setup, m: &Move) -> Square
-    ensures { result ≡ lands_on setup.now m.now }
+    ensures { result ≡ mover_end setup.now m.now }
 {
     mover_to(m, &castle_of(setup, m))
 }

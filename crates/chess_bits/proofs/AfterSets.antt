@@ -12,12 +12,12 @@ use Rattle.chess_base.specs.Squares.{is_square}
 use Rattle.chess_base.specs.Men.{Men, man_at, other, is_of, is_man}
 use Rattle.chess_base.specs.Attacks.{is_attacked, is_in_check}
 use Rattle.chess_base.specs.declared.setup.Setup.{Setup}
-use Rattle.chess_base.specs.Moves.{man_that_lands, men_after, second_square_emptied}
-use Rattle.chess_base.specs.Castling.{lands_on, castling_rook_to}
+use Rattle.chess_base.specs.Moves.{arriving_man, men_after, second_square_emptied}
+use Rattle.chess_base.specs.Castling.{mover_end, castling_rook_to}
 use Rattle.chess_base.proofs.MenAfter.{man_after, man_at-men_after}
 use Rattle.chess_base.proofs.MenFacts.{not_is_man}
 use Rattle.chess_base.proofs.OverSquares.{some_square-at, some_square-none}
-use Rattle.chess_moves.specs.Sets.{has}
+use Rattle.chess_moves.specs.Sets.{contains}
 use Rattle.chess_bits.specs.ties.Changes.{is_changed, is_filled}
 use Rattle.chess_bits.specs.ties.Occupancy.{IsLater}
 
@@ -30,16 +30,16 @@ filled_by false false true a k c h = and_right (not (is_none k)) false refl
 filled_by false false false a k c h = and-true (not (is_none k))
 
 -- the occupied squares after a move
-pub occupied_after : (p : Setup) (m : Move) (k : ℕ) → is_none (man_that_lands (man_at p.men m.from) m.promotion) ≡ false
+pub occupied_after : (p : Setup) (m : Move) (k : ℕ) → is_none (arriving_man (man_at p.men m.from) m.promotion) ≡ false
     → k < 64
     → (is_filled p m k || (not (is_none (man_at p.men k)) && not (is_changed p m k)))
     ≡ not (is_none (man_at (men_after p m) k))
 unfolding man_after
 occupied_after p m k h l =
     rw (man_at-men_after p m k l)
-    (filled_by (lands_on p m == k) (is_square (castling_rook_to p m) k)
+    (filled_by (mover_end p m == k) (is_square (castling_rook_to p m) k)
     (is_square (second_square_emptied p m) k || (m.from == k))
-    (man_that_lands (man_at p.men m.from) m.promotion) (man_at p.men k) p.side h)
+    (arriving_man (man_at p.men m.from) m.promotion) (man_at p.men k) p.side h)
 
 kept_by : (t r l : Bool) (a k : Option Man) (c d : Colour) (kind : Kind)
     → is_man d kind a ≡ false → is_man d kind (Some (record { colour = c; kind = Rook })) ≡ false
@@ -59,16 +59,16 @@ other_not_own Black k x = refl
 
 -- the enemy's pieces after a move: those on squares that did not change
 pub enemy_after : (p : Setup) (m : Move) (kind : Kind) (k : ℕ)
-    → is_of (other p.side) (man_that_lands (man_at p.men m.from) m.promotion) ≡ false → k < 64
+    → is_of (other p.side) (arriving_man (man_at p.men m.from) m.promotion) ≡ false → k < 64
     → (is_man (other p.side) kind (man_at p.men k) && not (is_changed p m k)) ≡ is_man (other p.side) kind
     (man_at (men_after p m) k)
 unfolding man_after
 enemy_after p m x k h l =
     rw (man_at-men_after p m k l)
-    (kept_by (lands_on p m == k) (is_square (castling_rook_to p m) k)
+    (kept_by (mover_end p m == k) (is_square (castling_rook_to p m) k)
     (is_square (second_square_emptied p m) k || (m.from == k))
-    (man_that_lands (man_at p.men m.from) m.promotion) (man_at p.men k) p.side (other p.side) x
-    (not_is_man (other p.side) x (man_that_lands (man_at p.men m.from) m.promotion) h) (other_not_own p.side Rook x))
+    (arriving_man (man_at p.men m.from) m.promotion) (man_at p.men k) p.side (other p.side) x
+    (not_is_man (other p.side) x (arriving_man (man_at p.men m.from) m.promotion) h) (other_not_own p.side Rook x))
 
 -- where the king's square is known, a check is an attack on it
 pub check_is : (men : Men) (c : Colour) (king : ℕ) → king < 64
@@ -90,10 +90,10 @@ check_is men c king l one =
 
 -- so the enemy's sets and the occupied squares after a move come from what it changes and fills
 pub later_after : (p : Setup) (m : Move) (changed filled : ℕ)
-    → is_none (man_that_lands (man_at p.men m.from) m.promotion) ≡ false
-    → is_of (other p.side) (man_that_lands (man_at p.men m.from) m.promotion) ≡ false
-    → ((k : ℕ) → k < 64 → has changed k ≡ is_changed p m k)
-    → ((k : ℕ) → k < 64 → has filled k ≡ is_filled p m k)
+    → is_none (arriving_man (man_at p.men m.from) m.promotion) ≡ false
+    → is_of (other p.side) (arriving_man (man_at p.men m.from) m.promotion) ≡ false
+    → ((k : ℕ) → k < 64 → contains changed k ≡ is_changed p m k)
+    → ((k : ℕ) → k < 64 → contains filled k ≡ is_filled p m k)
     → IsLater changed filled (other p.side) p.men (men_after p m)
 later_after p m changed filled some own c f = record {
   of_all = λ k l. rw (c k l, f k l) (occupied_after p m k some l);

@@ -5,7 +5,7 @@ use Rattle.std.proofs.lemmas.Bool.{cases_Bool, or_parts, both_ways, false_from_n
 use Rattle.chess_base.specs.MoveList.{squares}
 use Rattle.chess_base.specs.Squares.{each_square}
 use Rattle.chess_base.proofs.OverSquares.{each_square-all, each_square-at}
-use Rattle.chess_moves.specs.Sets.{has, members}
+use Rattle.chess_moves.specs.Sets.{contains, members}
 
 abbrev pub any_of : (ℕ → Bool) → List ℕ → Bool
 any_of q [] = false
@@ -56,19 +56,19 @@ told true false h e = refl
 told false u h e = cc
 
 -- each square of a set fails the test where no member passes it
-pub none_of : (w : ℕ) (q : ℕ → Bool) → each_square (λ x. not (has w x) || not (q x)) ≡ not (any_of q (members w))
+pub none_of : (w : ℕ) (q : ℕ → Bool) → each_square (λ x. not (contains w x) || not (q x)) ≡ not (any_of q (members w))
 unfolding members squares
 none_of w q =
-    elim (cases_Bool (any_of q (filter (λ k. has w k) squares))) [
+    elim (cases_Bool (any_of q (filter (λ k. contains w k) squares))) [
       | inr none ↦ each_square-all _
-          (λ x low. either (has w x) (q x) (none_in (λ k. has w k) q 64 0 none x (omega arith) (omega (arith, low))))
+          (λ x low. either (contains w x) (q x) (none_in (λ k. contains w k) q 64 0 none x (omega arith) (omega (arith, low))))
           ∙ sym (ap not none)
       | inl some ↦
           false_from_ne_true _
           (λ all.
-          both_ways (any_of q (filter (λ k. has w k) squares))
-          (each_passes (λ k. has w k) q 64 0
-          (λ k low high on. told (has w k) (q k) (each_square-at _ all k (omega (arith, high))) on))
+          both_ways (any_of q (filter (λ k. contains w k) squares))
+          (each_passes (λ k. contains w k) q 64 0
+          (λ k low high on. told (contains w k) (q k) (each_square-at _ all k (omega (arith, high))) on))
           some)
           ∙ sym (ap not some)
     ]

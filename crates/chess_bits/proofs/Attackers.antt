@@ -14,7 +14,7 @@ use Rattle.chess_base.specs.ties.Splits.{could_capture_as}
 use Rattle.chess_bits.specs.declared.line.Line.TheVariants.{Rank, File, Diagonal, Antidiagonal}
 use Rattle.chess_bits.specs.declared.table.Shape.TheVariants as shape
 use mathlib.Core.Bool.{not-not}
-use Rattle.chess_moves.specs.Sets.{has}
+use Rattle.chess_moves.specs.Sets.{contains}
 use Rattle.chess_moves.proofs.Words.{has_zero}
 use Rattle.chess_bits.specs.ties.Rays.{is_on_ray, is_open}
 use Rattle.chess_bits.specs.ties.Shapes.{in_shape}
@@ -183,15 +183,15 @@ some_square_same p q h = some_below_same 64 p q h
 
 -- a square is attacked where its set of attackers is not empty
 pub attacked_is : (w : ℕ) (men : Men) (b : ℕ) (c : Colour)
-    → ((k : ℕ) → k < 64 → has w k ≡ (is_of c (man_at men k) && attacks men k b))
-    → not (not (some_square (λ k. has w k))) ≡ is_attacked men b c
+    → ((k : ℕ) → k < 64 → contains w k ≡ (is_of c (man_at men k) && attacks men k b))
+    → not (not (some_square (λ k. contains w k))) ≡ is_attacked men b c
 unfolding is_attacked
 attacked_is w men b c h =
-    not-not (some_square (λ k. has w k))
-    ∙ some_square_same (λ k. has w k) (λ k. is_of c (man_at men k) && attacks men k b) h
+    not-not (some_square (λ k. contains w k))
+    ∙ some_square_same (λ k. contains w k) (λ k. is_of c (man_at men k) && attacks men k b) h
 
 -- where a set is empty, no piece is met
-pub none_there : (w k : ℕ) → (w == 0) ≡ true → has w k ≡ false
+pub none_there : (w k : ℕ) → (w == 0) ≡ true → contains w k ≡ false
 none_there w k e = let empty : w ≡ 0 = eqb-true w 0 e in rw empty (has_zero k)
 
 pub none_met : (a s o m : Bool) → ((a && s) && m) ≡ false → ((a && s && o) && m) ≡ false

@@ -5,7 +5,7 @@ use Rattle.std.proofs.lemmas.Bool.Decides.{nat_tests}
 use Rattle.std.proofs.lemmas.Bool.{and_parts, and_right, both_ways, cases_Bool, eq-eqb, or_right}
 use Rattle.chess_base.specs.Squares.{is_between}
 use Rattle.chess_bits.specs.declared.line.Line.{Line}
-use Rattle.chess_moves.specs.Sets.{has, is_past}
+use Rattle.chess_moves.specs.Sets.{contains, is_beyond}
 use Rattle.chess_moves.proofs.Words.{has_zero}
 use Rattle.chess_bits.specs.ties.Rays.{same_line, is_on_ray, is_open}
 use Rattle.chess_bits.proofs.Geometry.{between_on_line}
@@ -13,7 +13,7 @@ use Rattle.chess_base.proofs.OverSquares.{each_square-all, each_square-fails}
 
 -- what lies between a square and one on a ray from it lies on that ray, before that square
 between_on_ray : (l : Line) (up : Bool) (a b x : ℕ) → is_on_ray l up a b ≡ true
-    → is_between a b x ≡ (is_on_ray l up a x && is_past up x b)
+    → is_between a b x ≡ (is_on_ray l up a x && is_beyond up x b)
 between_on_ray l true a b x e =
     let same = and_parts (same_line l a b) (nat_lt a b) e in
     rw (between_on_line l a b x same.0) (grind (arith, nat_tests))
@@ -23,12 +23,12 @@ between_on_ray l false a b x e =
 
 -- a ray from a square of a ray is the rest of that ray
 ray_on : (l : Line) (up : Bool) (a f x : ℕ) → is_on_ray l up a f ≡ true
-    → is_on_ray l up f x ≡ (is_on_ray l up a x && is_past up f x)
+    → is_on_ray l up f x ≡ (is_on_ray l up a x && is_beyond up f x)
 ray_on l true a f x e = grind (arith, nat_tests)
 ray_on l false a f x e = grind (arith, nat_tests)
 
 -- what comes before b, and b not after f, comes before f
-before_first : (up : Bool) (x b f : ℕ) → is_past up x b ≡ true → is_past up f b ≡ false → is_past up x f ≡ true
+before_first : (up : Bool) (x b f : ℕ) → is_beyond up x b ≡ true → is_beyond up f b ≡ false → is_beyond up x f ≡ true
 before_first true x b f e n = grind (arith, nat_tests)
 before_first false x b f e n = grind (arith, nat_tests)
 
@@ -38,29 +38,29 @@ not_both false q h = refl
 
 -- with no blocker on the ray all of it is open
 pub open_ray : (l : Line) (up : Bool) (a b w : ℕ)
-    → ((x : ℕ) → x < 64 → (is_on_ray l up a x && has w x) ≡ false)
+    → ((x : ℕ) → x < 64 → (is_on_ray l up a x && contains w x) ≡ false)
     → is_on_ray l up a b ≡ true → is_open w a b ≡ true
 unfolding is_open
 open_ray l up a b w none e =
     each_square-all _
     (λ x h.
-    not_both (is_between a b x) (has w x)
+    not_both (is_between a b x) (contains w x)
     (λ t.
-    let on = and_parts (is_on_ray l up a x) (is_past up x b) (sym (between_on_ray l up a b x e) ∙ t) in
-    let clear : (is_on_ray l up a x && has w x) ≡ false = none x h in
+    let on = and_parts (is_on_ray l up a x) (is_beyond up x b) (sym (between_on_ray l up a b x e) ∙ t) in
+    let clear : (is_on_ray l up a x && contains w x) ≡ false = none x h in
     (rw on.0 at clear)))
 
 -- up to the first blocker, and no further
 pub open_to_first : (l : Line) (up : Bool) (a b w f : ℕ)
     → f < 64
     → is_on_ray l up a f ≡ true
-    → has w f ≡ true
-    → ((x : ℕ) → x < 64 → is_past up x f ≡ true → (is_on_ray l up a x && has w x) ≡ false)
+    → contains w f ≡ true
+    → ((x : ℕ) → x < 64 → is_beyond up x f ≡ true → (is_on_ray l up a x && contains w x) ≡ false)
     → is_on_ray l up a b ≡ true
     → is_open w a b ≡ not (is_on_ray l up f b)
 unfolding is_open
 open_to_first l up a b w f h on here nearer e =
-    elim (cases_Bool (is_past up f b)) [
+    elim (cases_Bool (is_beyond up f b)) [
       | inl past ↦
           let rest : is_on_ray l up f b ≡ true = ray_on l up a f b on ∙ rw (e, past) refl in
           let inside : is_between a b f ≡ true = between_on_ray l up a b f e ∙ rw (on, past) refl in
@@ -70,18 +70,18 @@ open_to_first l up a b w f h on here nearer e =
           rw rest
           (each_square-all _
           (λ x k.
-          not_both (is_between a b x) (has w x)
+          not_both (is_between a b x) (contains w x)
           (λ t.
-          let both = and_parts (is_on_ray l up a x) (is_past up x b) (sym (between_on_ray l up a b x e) ∙ t) in
-          let clear : (is_on_ray l up a x && has w x) ≡ false = nearer x k (before_first up x b f both.1 short) in
+          let both = and_parts (is_on_ray l up a x) (is_beyond up x b) (sym (between_on_ray l up a b x e) ∙ t) in
+          let clear : (is_on_ray l up a x && contains w x) ≡ false = nearer x k (before_first up x b f both.1 short) in
           (rw both.0 at clear))))
     ]
 
 pub swept : (l : Line) (up : Bool) (a b w f : ℕ)
     → f < 64
     → is_on_ray l up a f ≡ true
-    → has w f ≡ true
-    → ((x : ℕ) → x < 64 → is_past up x f ≡ true → (is_on_ray l up a x && has w x) ≡ false)
+    → contains w f ≡ true
+    → ((x : ℕ) → x < 64 → is_beyond up x f ≡ true → (is_on_ray l up a x && contains w x) ≡ false)
     → (is_on_ray l up a b && not (is_on_ray l up f b)) ≡ (is_on_ray l up a b && is_open w a b)
 swept l up a b w f h on here nearer =
     elim (cases_Bool (is_on_ray l up a b)) [
@@ -90,7 +90,7 @@ swept l up a b w f h on here nearer =
     ]
 
 pub swept_all : (l : Line) (up : Bool) (a b w : ℕ)
-    → ((x : ℕ) → x < 64 → (is_on_ray l up a x && has w x) ≡ false)
+    → ((x : ℕ) → x < 64 → (is_on_ray l up a x && contains w x) ≡ false)
     → is_on_ray l up a b ≡ (is_on_ray l up a b && is_open w a b)
 swept_all l up a b w none =
     elim (cases_Bool (is_on_ray l up a b)) [
@@ -100,39 +100,39 @@ swept_all l up a b w none =
 
 -- ---- where a ray without blockers ends with the board
 
-pub positive : (w s : ℕ) → has w s ≡ true → 0 < w
-positive zero s h = absurd (both_ways (has 0 s) (has_zero s) h)
+pub positive : (w s : ℕ) → contains w s ≡ true → 0 < w
+positive zero s h = absurd (both_ways (contains 0 s) (has_zero s) h)
 positive (suc w) s h = omega arith
 
 -- one square more is in the set
-pub with_end : (w u v e s : ℕ) → ((k : ℕ) → has u k ≡ (has w k || has v k)) → ((k : ℕ) → has v k ≡ (k == s)) → e ≡ s
+pub with_end : (w u v e s : ℕ) → ((k : ℕ) → contains u k ≡ (contains w k || contains v k)) → ((k : ℕ) → contains v k ≡ (k == s)) → e ≡ s
     → 0 < u
 with_end w u v e s joined one same =
-    positive u e (joined e ∙ or_right (has w e) (has v e) (one e ∙ eq-eqb e s same))
+    positive u e (joined e ∙ or_right (contains w e) (contains v e) (one e ∙ eq-eqb e s same))
 
-not_past : (up : Bool) (k f : ℕ) → is_past up k f ≡ false → is_past up f k ≡ false → k ≡ f
+not_past : (up : Bool) (k f : ℕ) → is_beyond up k f ≡ false → is_beyond up f k ≡ false → k ≡ f
 not_past true k f a b = grind (arith, nat_tests, a, b)
 not_past false k f a b = grind (arith, nat_tests, a, b)
 
 -- a ray up to its first blocker, or all of it
 pub swept_to : (l : Line) (up : Bool) (a b w v f : ℕ) → f < 64 → b < 64
-    → ((k : ℕ) → k < 64 → has v k ≡ (is_on_ray l up a k && has w k))
-    → ((k : ℕ) → is_past up k f ≡ true → has v k ≡ false)
-    → (has v f ≡ false → (k : ℕ) → k < 64 → is_past up f k ≡ false)
+    → ((k : ℕ) → k < 64 → contains v k ≡ (is_on_ray l up a k && contains w k))
+    → ((k : ℕ) → is_beyond up k f ≡ true → contains v k ≡ false)
+    → (contains v f ≡ false → (k : ℕ) → k < 64 → is_beyond up f k ≡ false)
     → (is_on_ray l up a b && not (is_on_ray l up f b)) ≡ (is_on_ray l up a b && is_open w a b)
 swept_to l up a b w v f low high blocked nearer beyond =
-    elim (cases_Bool (has v f)) [
+    elim (cases_Bool (contains v f)) [
       | inl here ↦
-          let both = and_parts (is_on_ray l up a f) (has w f) (sym (blocked f low) ∙ here) in
+          let both = and_parts (is_on_ray l up a f) (contains w f) (sym (blocked f low) ∙ here) in
           swept l up a b w f low both.0 both.1 (λ x k past. sym (blocked x k) ∙ nearer x past)
       | inr none ↦
-          let short : is_on_ray l up f b ≡ false = and_right (same_line l f b) (is_past up f b) (beyond none b high) in
+          let short : is_on_ray l up f b ≡ false = and_right (same_line l f b) (is_beyond up f b) (beyond none b high) in
           ap (λ t. is_on_ray l up a b && not t) short
           ∙ and-true (is_on_ray l up a b)
           ∙ swept_all l up a b w
           (λ x k. sym (blocked x k)
-          ∙ elim (cases_Bool (is_past up x f)) [
+          ∙ elim (cases_Bool (is_beyond up x f)) [
             | inl past ↦ nearer x past
-            | inr away ↦ ap (has v) (not_past up x f away (beyond none x k)) ∙ none
+            | inr away ↦ ap (contains v) (not_past up x f away (beyond none x k)) ∙ none
           ])
     ]

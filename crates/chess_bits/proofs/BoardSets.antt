@@ -7,7 +7,7 @@ use Rattle.chess_base.specs.declared.man.Colour.TheVariants.{White, Black}
 use Rattle.chess_base.specs.declared.man.Kind.{Kind}
 use Rattle.chess_base.specs.declared.man.Man.{Man}
 use Rattle.chess_base.specs.Men.{Men, man_at, is_of, is_man, other, kind_number}
-use Rattle.chess_moves.specs.Sets.{has}
+use Rattle.chess_moves.specs.Sets.{contains}
 use Rattle.std.proofs.lemmas.List.{set-get_or}
 use Rattle.chess_base.proofs.MenFacts.{is_man-none}
 use Rattle.chess_bits.specs.ties.KindSets.{IsKinds}
@@ -17,7 +17,7 @@ pub kinds_kept : (sets : List ℕ) (men : Men) (c : Colour) (s : ℕ) (o : Optio
     → ((y : Kind) → is_man c y (man_at men s) ≡ is_man c y o) → IsKinds sets c men → IsKinds sets c (set men s o)
 kinds_kept sets men c s o all ls same h = record { of_kind = at }
   where
-    at : (y : Kind) (k : ℕ) → k < 64 → has (get_or sets (kind_number y) 0) k ≡ is_man c y (get_or (set men s o) k None)
+    at : (y : Kind) (k : ℕ) → k < 64 → contains (get_or sets (kind_number y) 0) k ≡ is_man c y (get_or (set men s o) k None)
     at y k l =
         let in_men : s < length men = omega arith in
         elim (cases_eq k s) [
@@ -26,7 +26,7 @@ kinds_kept sets men c s o all ls same h = record { of_kind = at }
         ]
 
 abbrev pub IsAll : ℕ → Colour → Men → Type 0
-IsAll w c men = (k : ℕ) → k < 64 → has w k ≡ is_of c (man_at men k)
+IsAll w c men = (k : ℕ) → k < 64 → contains w k ≡ is_of c (man_at men k)
 
 pub all_kept : (w : ℕ) (men : Men) (c : Colour) (s : ℕ) (o : Option Man) → length men ≡ 64 → s < 64
     → is_of c (man_at men s) ≡ is_of c o → IsAll w c men → IsAll w c (set men s o)
@@ -38,22 +38,22 @@ all_kept w men c s o all ls same h = λ k l.
     ]
 
 pub all_put : (w v : ℕ) (men : Men) (c : Colour) (s : ℕ) (o : Option Man) → length men ≡ 64 → s < 64 → is_of c o ≡ true
-    → ((j : ℕ) → has v j ≡ (has w j || (j == s))) → IsAll w c men → IsAll v c (set men s o)
+    → ((j : ℕ) → contains v j ≡ (contains w j || (j == s))) → IsAll w c men → IsAll v c (set men s o)
 all_put w v men c s o all ls own made h = λ k l.
     let in_men : s < length men = omega arith in
     elim (cases_eq k s) [
-      | inl here ↦ rw (here, get_or-set_same, own, made s, eq-eqb s s refl) (or-true (has w s))
-      | inr away ↦ rw (get_or-set_other men s k o None away, made k, ne_eqb k s away, or-false (has w k)) (h k l)
+      | inl here ↦ rw (here, get_or-set_same, own, made s, eq-eqb s s refl) (or-true (contains w s))
+      | inr away ↦ rw (get_or-set_other men s k o None away, made k, ne_eqb k s away, or-false (contains w k)) (h k l)
     ]
 
 pub all_lift : (w v : ℕ) (men : Men) (c : Colour) (s : ℕ) → length men ≡ 64 → s < 64
-    → ((j : ℕ) → j < 64 → has v j ≡ (has w j && not (j == s))) → IsAll w c men → IsAll v c (set men s None)
+    → ((j : ℕ) → j < 64 → contains v j ≡ (contains w j && not (j == s))) → IsAll w c men → IsAll v c (set men s None)
 unfolding is_of
 all_lift w v men c s all ls made h = λ k l.
     let in_men : s < length men = omega arith in
     elim (cases_eq k s) [
-      | inl here ↦ rw (here, get_or-set_same, made s ls, eq-eqb s s refl) (and-false (has w s))
-      | inr away ↦ rw (get_or-set_other men s k None None away, made k l, ne_eqb k s away, and-true (has w k)) (h k l)
+      | inl here ↦ rw (here, get_or-set_same, made s ls, eq-eqb s s refl) (and-false (contains w s))
+      | inr away ↦ rw (get_or-set_other men s k None None away, made k l, ne_eqb k s away, and-true (contains w k)) (h k l)
     ]
 
 -- ---- colours

@@ -14,13 +14,13 @@ use Rattle.chess_base.specs.declared.setup.Setup.{Setup}
 use Rattle.chess_base.specs.Attacks.{could_capture, is_in_check}
 use Rattle.chess_base.specs.Castling.{castle_of}
 use Rattle.chess_base.specs.Men.{man_at, is_of, is_man, kind_number, same_colour, same_kind}
-use Rattle.chess_base.specs.MoveList.{triple}
+use Rattle.chess_base.specs.MoveList.{move_of}
 use Rattle.chess_base.specs.Moves.{is_pseudo_legal, is_legal, after, man_moves, pawn_advances, pawn_captures, promotion_fits}
 use Rattle.chess_base.specs.ties.Splits.{castles_or_moves}
 use Rattle.chess_base.specs.Squares.{is_square}
 use Rattle.chess_base.proofs.MenFacts.{is_man-kind}
 use Rattle.chess_moves.specs.Promoting.{would_promote}
-use Rattle.chess_moves.specs.Sets.{has, HasOrigins}
+use Rattle.chess_moves.specs.Sets.{contains, HasOrigins}
 use Rattle.chess_moves.proofs.Origins.{begins_below}
 use Rattle.chess_bits.specs.ties.Changes.{StepsPlainly}
 use Rattle.chess_bits.specs.ties.Goes.{goes, legal_or, IsOfficer}
@@ -32,7 +32,7 @@ use Rattle.chess_bits.proofs.TargetsOf.{man_told, no_king_says, none_castles, st
 -- a piece other than a pawn has the pattern of a move where it moves or castles
 pub man_pattern : (p : Setup) (kind : Kind) (a b : ℕ) → is_man p.side kind (man_at p.men a) ≡ true
     → same_kind Pawn kind ≡ false → a < 64 → b < 64
-    → castles_or_moves p (triple a b None) (castle_of p (triple a b None)) ≡ is_pseudo_legal p (triple a b None)
+    → castles_or_moves p (move_of a b None) (castle_of p (move_of a b None)) ≡ is_pseudo_legal p (move_of a b None)
 man_pattern p kind a b man no_pawn low high =
     let at = man_told p.side kind (man_at p.men a) man in
     sym (officer_goes p a b _ at refl no_pawn low high)
@@ -42,16 +42,16 @@ man_pattern p kind a b man no_pawn low high =
 
 -- and an officer where it attacks what is no own piece
 pub officer_pattern : (p : Setup) (kind : Kind) (a b : ℕ) → IsOfficer p.side kind (man_at p.men a) → a < 64 → b < 64
-    → (could_capture p.men p.side kind a b && not (is_of p.side (man_at p.men b))) ≡ is_pseudo_legal p (triple a b None)
+    → (could_capture p.men p.side kind a b && not (is_of p.side (man_at p.men b))) ≡ is_pseudo_legal p (move_of a b None)
 officer_pattern p kind a b h low high =
     let at = man_told p.side kind (man_at p.men a) h.man in
     let parts = or_parts (same_kind King kind) (same_kind Pawn kind) h.usual in
     let off : is_man p.side King (man_at p.men a) ≡ false =
     is_man-kind p.side p.side kind King (man_at p.men a) parts.0 h.man in
-    let none : castle_of p (triple a b None) ≡ None = none_castles p (triple a b None)
-    (no_king_says p (triple a b None) KingSide off) (no_king_says p (triple a b None) QueenSide off) in
+    let none : castle_of p (move_of a b None) ≡ None = none_castles p (move_of a b None)
+    (no_king_says p (move_of a b None) KingSide off) (no_king_says p (move_of a b None) QueenSide off) in
     sym (steps_of_man p a b _ at refl)
-    ∙ sym (ap (castles_or_moves p (triple a b None)) none)
+    ∙ sym (ap (castles_or_moves p (move_of a b None)) none)
     ∙ man_pattern p kind a b h.man parts.1 low high
 
 pub no_pattern : (p : Setup) (m : Move) → is_pseudo_legal p m ≡ false → is_legal p m ≡ false
@@ -59,7 +59,7 @@ unfolding is_legal
 no_pattern p m h = and_left (is_pseudo_legal p m) (not (is_in_check (after p m).men p.side)) h
 
 pub officer_plain : (p : Setup) (kind : Kind) (a b : ℕ) → IsOfficer p.side kind (man_at p.men a)
-    → is_pseudo_legal p (triple a b None) ≡ true → StepsPlainly p a b
+    → is_pseudo_legal p (move_of a b None) ≡ true → StepsPlainly p a b
 officer_plain p kind a b h goes_so =
     let parts = or_parts (same_kind King kind) (same_kind Pawn kind) h.usual in
     record {
@@ -84,8 +84,8 @@ promotes_not p m kind h some =
     unfit (Some k) e = fits_low k
 
 pub as_triple : (p : Setup) (m : Move) → is_some m.promotion ≡ false
-    → is_legal p (triple m.from m.to None) ≡ is_legal p m
-as_triple p m none = ap (λ k. is_legal p (triple m.from m.to k)) (sym (nothing m.promotion none))
+    → is_legal p (move_of m.from m.to None) ≡ is_legal p m
+as_triple p m none = ap (λ k. is_legal p (move_of m.from m.to k)) (sym (nothing m.promotion none))
   where
     nothing : (o : Option Kind) → is_some o ≡ false → o ≡ None
     nothing None e = refl
@@ -96,26 +96,26 @@ as_triple p m none = ap (λ k. is_legal p (triple m.from m.to k)) (sym (nothing 
 -- no officer goes to a square of an own piece
 pub own_on_end : (p : Setup) (kind : Kind) (to k : ℕ) → (same_kind King kind || same_kind Pawn kind) ≡ false
     → is_of p.side (man_at p.men to) ≡ true → to < 64 → k < 64
-    → false ≡ (is_man p.side kind (man_at p.men k) && is_legal p (triple k to None))
+    → false ≡ (is_man p.side kind (man_at p.men k) && is_legal p (move_of k to None))
 own_on_end p kind to k usual own high low =
     elim (cases_Bool (is_man p.side kind (man_at p.men k))) [
       | inl man ↦
-          sym (and_right (is_man p.side kind (man_at p.men k)) (is_legal p (triple k to None))
-          (no_pattern p (triple k to None)
+          sym (and_right (is_man p.side kind (man_at p.men k)) (is_legal p (move_of k to None))
+          (no_pattern p (move_of k to None)
           (sym (officer_pattern p kind k to (record { man = man; usual = usual }) low high)
           ∙ and_right (could_capture p.men p.side kind k to) (not (is_of p.side (man_at p.men to))) (ap not own))))
-      | inr off ↦ sym (and_left (is_man p.side kind (man_at p.men k)) (is_legal p (triple k to None)) off)
+      | inr off ↦ sym (and_left (is_man p.side kind (man_at p.men k)) (is_legal p (move_of k to None)) off)
     ]
 
 -- those on squares reached from there go there
 pub starts_plain : (p : Setup) (kind : Kind) (to u v w : ℕ) → (same_kind King kind || same_kind Pawn kind) ≡ false
     → is_of p.side (man_at p.men to) ≡ false → to < 64
-    → ((k : ℕ) → has w k ≡ (has u k && has v k))
-    → ((k : ℕ) → k < 64 → has u k ≡ is_man p.side kind (man_at p.men k))
-    → ((k : ℕ) → k < 64 → has v k ≡ could_capture p.men p.side kind to k)
-    → (k : ℕ) → k < 64 → has w k ≡ true → StepsPlainly p k to
+    → ((k : ℕ) → contains w k ≡ (contains u k && contains v k))
+    → ((k : ℕ) → k < 64 → contains u k ≡ is_man p.side kind (man_at p.men k))
+    → ((k : ℕ) → k < 64 → contains v k ≡ could_capture p.men p.side kind to k)
+    → (k : ℕ) → k < 64 → contains w k ≡ true → StepsPlainly p k to
 starts_plain p kind to u v w usual free high both men reached k low on =
-    let parts = and_parts (has u k) (has v k) (sym (both k) ∙ on) in
+    let parts = and_parts (contains u k) (contains v k) (sym (both k) ∙ on) in
     let kinds = or_parts (same_kind King kind) (same_kind Pawn kind) usual in
     let officer : IsOfficer p.side kind (man_at p.men k) = record { man = sym (men k low) ∙ parts.0; usual = usual } in
     officer_plain p kind k to officer
@@ -124,7 +124,7 @@ starts_plain p kind to u v w usual free high both men reached k low on =
     (back p.men p.side kind k to kinds.1 ∙ sym (reached k low) ∙ parts.1) (ap not free))
 
 reached_origins : (p : Setup) (kind : Kind) (to v : ℕ) → (same_kind King kind || same_kind Pawn kind) ≡ false
-    → ((k : ℕ) → k < 64 → has v k ≡ could_capture p.men p.side kind to k)
+    → ((k : ℕ) → k < 64 → contains v k ≡ could_capture p.men p.side kind to k)
     → HasOrigins p kind to v
 reached_origins p kind to v usual reached = λ m legal man there.
     let kinds = or_parts (same_kind King kind) (same_kind Pawn kind) usual in
@@ -134,14 +134,14 @@ reached_origins p kind to v usual reached = λ m legal man there.
 -- so these are the starts
 pub officer_starts_are : (p : Setup) (kind : Kind) (to u v w k : ℕ) (s : Bool)
     → (same_kind King kind || same_kind Pawn kind) ≡ false
-    → ((j : ℕ) → has w j ≡ (has u j && has v j))
-    → ((j : ℕ) → j < 64 → has u j ≡ is_man p.side kind (man_at p.men j))
-    → ((j : ℕ) → j < 64 → has v j ≡ could_capture p.men p.side kind to j)
-    → k < 64 → s ≡ (has w k && is_legal p (triple k to None))
-    → s ≡ (is_man p.side kind (man_at p.men k) && is_legal p (triple k to None))
+    → ((j : ℕ) → contains w j ≡ (contains u j && contains v j))
+    → ((j : ℕ) → j < 64 → contains u j ≡ is_man p.side kind (man_at p.men j))
+    → ((j : ℕ) → j < 64 → contains v j ≡ could_capture p.men p.side kind to j)
+    → k < 64 → s ≡ (contains w k && is_legal p (move_of k to None))
+    → s ≡ (is_man p.side kind (man_at p.men k) && is_legal p (move_of k to None))
 officer_starts_are p kind to u v w k s usual both men reached low made =
     made
-    ∙ ap (λ t. t && is_legal p (triple k to None)) (both k ∙ ap (λ t. t && has v k) (men k low))
+    ∙ ap (λ t. t && is_legal p (move_of k to None)) (both k ∙ ap (λ t. t && contains v k) (men k low))
     ∙ starts_are p kind to k v (reached_origins p kind to v usual reached)
 
 -- ---- officers
@@ -161,8 +161,8 @@ officer_told c x o at own usual =
 
 -- a pawn has the pattern of a move without a promotion where it goes, but for its last rank
 pub pawn_pattern : (p : Setup) (a b : ℕ) → is_man p.side Pawn (man_at p.men a) ≡ true → a < 64 → b < 64
-    → ((pawn_advances p (triple a b None) || pawn_captures p (triple a b None)) && not (would_promote p a b))
-    ≡ is_pseudo_legal p (triple a b None)
+    → ((pawn_advances p (move_of a b None) || pawn_captures p (move_of a b None)) && not (would_promote p a b))
+    ≡ is_pseudo_legal p (move_of a b None)
 pawn_pattern p a b pawn low high =
     ap (λ g. g && not (would_promote p a b))
     (sym (pawn_goes p a b _ (man_told p.side Pawn (man_at p.men a) pawn) refl refl low high))
@@ -174,7 +174,7 @@ pawn_pattern p a b pawn low high =
     unpromoted false = refl
 
 pub pawn_plain : (p : Setup) (a b : ℕ) → is_man p.side Pawn (man_at p.men a) ≡ true
-    → is_pseudo_legal p (triple a b None) ≡ true → is_square p.target b ≡ false → StepsPlainly p a b
+    → is_pseudo_legal p (move_of a b None) ≡ true → is_square p.target b ≡ false → StepsPlainly p a b
 pawn_plain p a b pawn goes_so off = record {
   pattern = goes_so;
   no_king = is_man-kind p.side p.side Pawn King (man_at p.men a) refl pawn;
@@ -203,38 +203,38 @@ king_from_same Pawn h = cc
 
 -- where the king has no step to a square it goes there by castling alone
 pub king_otherwise : (p : Setup) (a b : ℕ) → is_man p.side King (man_at p.men a) ≡ true → a < 64 → b < 64
-    → man_moves p (triple a b None) ≡ false
-    → legal_or p (triple a b None) (castle_of p (triple a b None)) false ≡ is_legal p (triple a b None)
-king_otherwise p a b king low high still = by (castle_of p (triple a b None)) refl
+    → man_moves p (move_of a b None) ≡ false
+    → legal_or p (move_of a b None) (castle_of p (move_of a b None)) false ≡ is_legal p (move_of a b None)
+king_otherwise p a b king low high still = by (castle_of p (move_of a b None)) refl
   where
-    by : (o : Option Castle) → castle_of p (triple a b None) ≡ o
-        → legal_or p (triple a b None) o false ≡ is_legal p (triple a b None)
+    by : (o : Option Castle) → castle_of p (move_of a b None) ≡ o
+        → legal_or p (move_of a b None) o false ≡ is_legal p (move_of a b None)
     by None e =
-        sym (no_pattern p (triple a b None)
-        (sym (man_pattern p King a b king refl low high) ∙ ap (castles_or_moves p (triple a b None)) e ∙ still))
+        sym (no_pattern p (move_of a b None)
+        (sym (man_pattern p King a b king refl low high) ∙ ap (castles_or_moves p (move_of a b None)) e ∙ still))
     by (Some castle) e = refl
 
 -- it is the only start, or none is
 pub king_start : (p : Setup) (to king k : ℕ) → is_man p.side King (man_at p.men k) ≡ (k == king)
-    → is_legal p (triple king to None) ≡ true
-    → (k == king) ≡ (is_man p.side King (man_at p.men k) && is_legal p (triple k to None))
+    → is_legal p (move_of king to None) ≡ true
+    → (k == king) ≡ (is_man p.side King (man_at p.men k) && is_legal p (move_of k to None))
 king_start p to king k one legal =
     elim (cases_Bool (k == king)) [
       | inl same ↦
-          same ∙ sym (and_from (is_man p.side King (man_at p.men k)) (is_legal p (triple k to None)) (one ∙ same)
-          (ap (λ a. is_legal p (triple a to None)) (eqb-true k king same) ∙ legal))
+          same ∙ sym (and_from (is_man p.side King (man_at p.men k)) (is_legal p (move_of k to None)) (one ∙ same)
+          (ap (λ a. is_legal p (move_of a to None)) (eqb-true k king same) ∙ legal))
       | inr apart ↦
-          apart ∙ sym (and_left (is_man p.side King (man_at p.men k)) (is_legal p (triple k to None)) (one ∙ apart))
+          apart ∙ sym (and_left (is_man p.side King (man_at p.men k)) (is_legal p (move_of k to None)) (one ∙ apart))
     ]
 
 pub no_king_start : (p : Setup) (to king k : ℕ) → is_man p.side King (man_at p.men k) ≡ (k == king)
-    → is_legal p (triple king to None) ≡ false
-    → false ≡ (is_man p.side King (man_at p.men k) && is_legal p (triple k to None))
+    → is_legal p (move_of king to None) ≡ false
+    → false ≡ (is_man p.side King (man_at p.men k) && is_legal p (move_of k to None))
 no_king_start p to king k one off =
     elim (cases_Bool (k == king)) [
       | inl same ↦
-          sym (and_right (is_man p.side King (man_at p.men k)) (is_legal p (triple k to None))
-          (ap (λ a. is_legal p (triple a to None)) (eqb-true k king same) ∙ off))
+          sym (and_right (is_man p.side King (man_at p.men k)) (is_legal p (move_of k to None))
+          (ap (λ a. is_legal p (move_of a to None)) (eqb-true k king same) ∙ off))
       | inr apart ↦
-          sym (and_left (is_man p.side King (man_at p.men k)) (is_legal p (triple k to None)) (one ∙ apart))
+          sym (and_left (is_man p.side King (man_at p.men k)) (is_legal p (move_of k to None)) (one ∙ apart))
     ]

@@ -9,10 +9,10 @@ use Rattle.chess_base.specs.declared.man.Kind.{Kind}
 use Rattle.chess_base.specs.declared.man.Kind.TheVariants.{King, Rook}
 use Rattle.chess_base.specs.declared.man.Variant.TheVariants.{Normal}
 use Rattle.chess_base.specs.declared.setup.Setup.{Setup}
-use Rattle.chess_base.specs.Castling.{home_square, king_home_file, rook_file, castled_king_file, castled_rook_file, right_of, are_placed_for_castling, right_is_sound, says_castling, castling, castle_from, castle_by, castle_of}
+use Rattle.chess_base.specs.Castling.{home_square, king_home_file, rook_file, castled_king_file, castled_rook_file, right_of, are_placed_for_castling, right_is_sound, is_castling_to, castling, castle_from, castle_by, castle_of}
 use Rattle.chess_base.specs.ties.Splits.{names_castling, castle_with}
 use Rattle.chess_base.specs.Men.{man_at, is_man}
-use Rattle.chess_base.specs.MoveList.{triple}
+use Rattle.chess_base.specs.MoveList.{move_of}
 use Rattle.chess_base.specs.Sound.{IsSound}
 use Rattle.chess_base.proofs.Castlings.{right_stands_of, right_that_stands}
 use Rattle.chess_base.specs.declared.man.Variant.{Variant}
@@ -43,17 +43,17 @@ at_home p w a rook sound normal right king low =
 
 -- the end square of one side doesn't name castling to the other
 not_both_sides : (c : Colour) (a : ℕ) (o : Option ℕ)
-    → names_castling Normal c (triple a (home_square c (castled_king_file QueenSide)) None) KingSide o ≡ false
+    → names_castling Normal c (move_of a (home_square c (castled_king_file QueenSide)) None) KingSide o ≡ false
 not_both_sides c a None = refl
 not_both_sides White a (Some r) = and_right (a == home_square White king_home_file) false refl
 not_both_sides Black a (Some r) = and_right (a == home_square Black king_home_file) false refl
 
 says : (p : Setup) (w : CastlingSide) (a rook : ℕ) → p.variant ≡ Normal → right_of p.rights p.side w ≡ Some rook
     → is_man p.side King (man_at p.men a) ≡ true → a ≡ home_square p.side king_home_file
-    → says_castling p (triple a (home_square p.side (castled_king_file w)) None) w ≡ true
-unfolding says_castling
+    → is_castling_to p (move_of a (home_square p.side (castled_king_file w)) None) w ≡ true
+unfolding is_castling_to
 says p w a rook normal right king home =
-    let m = triple a (home_square p.side (castled_king_file w)) None in
+    let m = move_of a (home_square p.side (castled_king_file w)) None in
     and_from (is_man p.side King (man_at p.men a)) (names_castling p.variant p.side m w (right_of p.rights p.side w))
     king
     (ap (λ (v : Variant). names_castling v p.side m w (right_of p.rights p.side w)) normal
@@ -64,10 +64,10 @@ says p w a rook normal right king home =
     (eq-eqb (home_square p.side (castled_king_file w)) (home_square p.side (castled_king_file w)) refl))
 
 says_other : (p : Setup) (a : ℕ) → p.variant ≡ Normal
-    → says_castling p (triple a (home_square p.side (castled_king_file QueenSide)) None) KingSide ≡ false
-unfolding says_castling
+    → is_castling_to p (move_of a (home_square p.side (castled_king_file QueenSide)) None) KingSide ≡ false
+unfolding is_castling_to
 says_other p a normal =
-    let m = triple a (home_square p.side (castled_king_file QueenSide)) None in
+    let m = move_of a (home_square p.side (castled_king_file QueenSide)) None in
     and_right (is_man p.side King (man_at p.men a))
     (names_castling p.variant p.side m KingSide (right_of p.rights p.side KingSide))
     (ap (λ (v : Variant). names_castling v p.side m KingSide (right_of p.rights p.side KingSide)) normal
@@ -75,7 +75,7 @@ says_other p a normal =
 
 castling_is : (p : Setup) (w : CastlingSide) (a rook : ℕ) → p.variant ≡ Normal → right_of p.rights p.side w ≡ Some rook
     → is_man p.side King (man_at p.men a) ≡ true → a ≡ home_square p.side king_home_file
-    → castling p (triple a (home_square p.side (castled_king_file w)) None) ≡ Some w
+    → castling p (move_of a (home_square p.side (castled_king_file w)) None) ≡ Some w
 unfolding castling
 castling_is p KingSide a rook normal right king home = rw (says p KingSide a rook normal right king home) refl
 castling_is p QueenSide a rook normal right king home =
@@ -83,10 +83,10 @@ castling_is p QueenSide a rook normal right king home =
 
 castle_at : (p : Setup) (w : CastlingSide) (a rook : ℕ) → IsSound p → p.variant ≡ Normal
     → right_of p.rights p.side w ≡ Some rook → is_man p.side King (man_at p.men a) ≡ true → a < 64
-    → castle_of p (triple a (home_square p.side (castled_king_file w)) None) ≡ Some (castle_from p.side w a rook)
+    → castle_of p (move_of a (home_square p.side (castled_king_file w)) None) ≡ Some (castle_from p.side w a rook)
 unfolding castle_of
 castle_at p w a rook sound normal right king low =
-    ap (castle_by p.side p.rights (triple a (home_square p.side (castled_king_file w)) None))
+    ap (castle_by p.side p.rights (move_of a (home_square p.side (castled_king_file w)) None))
     (castling_is p w a rook normal right king (at_home p w a rook sound normal right king low))
     ∙ ap (castle_with p.side w a) right
 
@@ -94,7 +94,7 @@ castle_at p w a rook sound normal right king low =
 pub castle_told : (p : Setup) (w : CastlingSide) (a b rook far : ℕ) (o : Option Kind) → IsSound p → p.variant ≡ Normal
     → right_of p.rights p.side w ≡ Some rook → is_man p.side King (man_at p.men a) ≡ true → a < 64
     → b ≡ castling_end p.variant p.side w rook → o ≡ None → far ≡ home_square p.side (castled_rook_file w)
-    → Some (record { king_from = a; king_to = b; rook_from = rook; rook_to = far }) ≡ castle_of p (triple a b o)
+    → Some (record { king_from = a; king_to = b; rook_from = rook; rook_to = far }) ≡ castle_of p (move_of a b o)
 castle_told p w a b rook far o sound normal right king low end none there =
     let home : b ≡ home_square p.side (castled_king_file w) = end
     ∙ ap (λ (v : Variant). castling_end v p.side w rook) normal in

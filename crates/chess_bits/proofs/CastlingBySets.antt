@@ -14,10 +14,10 @@ use Rattle.chess_base.specs.declared.man.Variant.{Variant}
 use Rattle.chess_base.specs.declared.man.Variant.TheVariants.{Normal, Fischerandom}
 use Rattle.chess_base.specs.declared.setup.Setup.{Setup}
 use Rattle.chess_base.specs.Attacks.{is_attacked}
-use Rattle.chess_base.specs.Castling.{home_square, king_home_file, rook_file, castled_king_file, castled_rook_file, right_of, king_square, is_to_side, is_beside, are_placed_for_castling, right_is_sound, names_castling_with, castling, castle_from, castle_of, castles, is_on_way, castling_crosses, castling_way_is_empty, castling_way_is_safe, castling_rook_to, lands_on}
+use Rattle.chess_base.specs.Castling.{home_square, king_home_file, rook_file, castled_king_file, castled_rook_file, right_of, king_square, is_to_side, is_beside, are_placed_for_castling, right_is_sound, names_castling_with, castling, castle_from, castle_of, castles, is_on_way, castling_crosses, castling_way_is_empty, castling_way_is_safe, castling_rook_to, mover_end}
 use Rattle.chess_base.specs.Men.{Men, man_at, other, is_man, first_rank}
-use Rattle.chess_base.specs.MoveList.{triple}
-use Rattle.chess_base.specs.Moves.{is_pseudo_legal, is_legal, promotion_fits, man_that_lands, second_square_emptied, steps_of}
+use Rattle.chess_base.specs.MoveList.{move_of}
+use Rattle.chess_base.specs.Moves.{is_pseudo_legal, is_legal, promotion_fits, arriving_man, second_square_emptied, steps_of}
 use Rattle.chess_base.specs.ties.Splits.{castles_or_moves}
 use Rattle.chess_base.specs.Sound.{IsSound}
 use Rattle.chess_base.specs.Squares.{rank, is_between, each_below, some_below, each_square, some_square}
@@ -191,25 +191,25 @@ king_goes p m k e (Some w) says = (castling_says p m w (says_from_castling p m w
 fits_none : (t : Bool) → t ≡ false → promotion_fits t None ≡ true
 fits_none t e = rw e refl
 
-castle_pattern_by : (p : Setup) (a b : ℕ) (k : Castle) → IsSound p → b < 64 → castle_of p (triple a b None) ≡ Some k
-    → is_pseudo_legal p (triple a b None) ≡ (castling_way_is_empty p.men k && castling_way_is_safe p.men p.side k)
+castle_pattern_by : (p : Setup) (a b : ℕ) (k : Castle) → IsSound p → b < 64 → castle_of p (move_of a b None) ≡ Some k
+    → is_pseudo_legal p (move_of a b None) ≡ (castling_way_is_empty p.men k && castling_way_is_safe p.men p.side k)
 unfolding castles
 castle_pattern_by p a b k sound high e =
-    let king = king_goes p (triple a b None) k e (castling p (triple a b None)) refl in
+    let king = king_goes p (move_of a b None) k e (castling p (move_of a b None)) refl in
     let at = man_told p.side King (man_at p.men a) king in
     let low = in_board p.men p.side King a sound.board king in
     pattern_by p a b None
     ∙ ap (λ f. goes p a b && f) (fits_none (would_promote p a b) (not_promoting p a b _ at refl))
     ∙ and-true (goes p a b)
     ∙ officer_goes p a b _ at refl refl low high
-    ∙ ap (castles_or_moves p (triple a b None)) e
+    ∙ ap (castles_or_moves p (move_of a b None)) e
 
 pub castle_pattern : (p : Setup) (m : Move) (k : Castle) → IsSound p → m.to < 64 → m.promotion ≡ None
     → castle_of p m ≡ Some k
     → is_pseudo_legal p m ≡ (castling_way_is_empty p.men k && castling_way_is_safe p.men p.side k)
 castle_pattern p m k sound high none e =
-    ap (λ o. is_pseudo_legal p (triple m.from m.to o)) none
-    ∙ castle_pattern_by p m.from m.to k sound high (ap (λ o. castle_of p (triple m.from m.to o)) (sym none) ∙ e)
+    ap (λ o. is_pseudo_legal p (move_of m.from m.to o)) none
+    ∙ castle_pattern_by p m.from m.to k sound high (ap (λ o. castle_of p (move_of m.from m.to o)) (sym none) ∙ e)
 
 -- and its steps
 pub castle_steps : (p : Setup) (m : Move) (k : Castle) → castle_of p m ≡ Some k → m.promotion ≡ None
@@ -222,13 +222,13 @@ pub castle_steps : (p : Setup) (m : Move) (k : Castle) → castle_of p m ≡ Som
       mover =
           Some (record { colour = p.side; kind = King });
     } ≡ steps_of p m
-unfolding second_square_emptied castling_rook_to lands_on
+unfolding second_square_emptied castling_rook_to mover_end
 castle_steps p m k e none =
     let king = king_goes p m k e (castling p m) refl in
     let still = no_en_passant p m (is_man-kind p.side p.side King Pawn (man_at p.men m.from) refl king) in
-    let mover : man_that_lands (man_at p.men m.from) m.promotion ≡ Some (record { colour = p.side; kind = King }) =
-    ap (λ o. man_that_lands (man_at p.men m.from) o) none
-    ∙ ap (λ o. man_that_lands o None) (man_told p.side King (man_at p.men m.from) king) in
+    let mover : arriving_man (man_at p.men m.from) m.promotion ≡ Some (record { colour = p.side; kind = King }) =
+    ap (λ o. arriving_man (man_at p.men m.from) o) none
+    ∙ ap (λ o. arriving_man o None) (man_told p.side King (man_at p.men m.from) king) in
     rw (still, e, mover) refl
 
 pub not_castling : (p : Setup) (m : Move) → is_pseudo_legal p m ≡ false → false ≡ is_legal p m

@@ -15,10 +15,10 @@ use Rattle.chess_base.specs.declared.man.Variant.TheVariants.{Normal}
 use Rattle.chess_base.specs.declared.setup.Setup.{Setup}
 use Rattle.chess_base.specs.Attacks.{is_clear, attacks, is_attacked}
 use Rattle.chess_base.specs.ties.Splits.{could_capture_as}
-use Rattle.chess_base.specs.Castling.{home_square, king_home_file, rook_file, castled_king_file, castled_rook_file, right_of, names_castling_with, are_placed_for_castling, right_is_sound, castling, castle_from, castle_of, is_on_way, castling_way_is_empty, castling_way_is_safe, lands_on, castling_rook_to}
+use Rattle.chess_base.specs.Castling.{home_square, king_home_file, rook_file, castled_king_file, castled_rook_file, right_of, names_castling_with, are_placed_for_castling, right_is_sound, castling, castle_from, castle_of, is_on_way, castling_way_is_empty, castling_way_is_safe, mover_end, castling_rook_to}
 use Rattle.chess_base.specs.Before.{mover_to}
 use Rattle.chess_base.specs.Men.{Men, man_at, other, is_of, is_man}
-use Rattle.chess_base.specs.Moves.{is_pseudo_legal, is_legal, man_that_lands, men_after, second_square_emptied}
+use Rattle.chess_base.specs.Moves.{is_pseudo_legal, is_legal, arriving_man, men_after, second_square_emptied}
 use Rattle.chess_base.specs.Sound.{IsSound}
 use Rattle.chess_base.specs.Squares.{is_between, is_between_on_file, is_between_on_rank, is_between_on_diagonal}
 use Rattle.chess_base.proofs.Castlings.{right_stands_of, right_that_stands}
@@ -76,10 +76,10 @@ rook_end Black QueenSide = omega arith
 
 after_castling : (p : Setup) (m : Move) (k : Castle) (s : ℕ) → castle_of p m ≡ Some k → s < 64
     → man_at (men_after p m) s
-    ≡ cond (k.king_to == s) (man_that_lands (man_at p.men m.from) m.promotion)
+    ≡ cond (k.king_to == s) (arriving_man (man_at p.men m.from) m.promotion)
     (cond (k.rook_to == s) (Some (record { colour = p.side; kind = Rook }))
     (cond ((k.rook_from == s) || (m.from == s)) None (man_at p.men s)))
-unfolding man_after lands_on castling_rook_to second_square_emptied
+unfolding man_after mover_end castling_rook_to second_square_emptied
 after_castling p m k s e l =
     let king = king_goes p m k e (castling p m) refl in
     let still = no_en_passant p m (is_man-kind p.side p.side King Pawn (man_at p.men m.from) refl king) in
@@ -212,7 +212,7 @@ safe_by p m w r sound normal says right e pattern safe =
     let t = home_square p.side (castled_king_file w) in
     let k = castle_from p.side w m.from r in
     still_safe p.men (men_after p m) (other p.side) t (home_square p.side (castled_rook_file w)) r m.from
-    (man_that_lands (man_at p.men m.from) m.promotion) (Some (record { colour = p.side; kind = Rook }))
+    (arriving_man (man_at p.men m.from) m.promotion) (Some (record { colour = p.side; kind = Rook }))
     (λ s l. after_castling p m k s e l) refl (mover_own p m pattern) (own_rook p.side) (ends_apart p.side w)
     (rook_end p.side w)
     (λ b i. past_king p.side w b (ap (λ y. is_between b t y) (sym home.0) ∙ i))
@@ -237,15 +237,15 @@ by_side p m k sound normal e pattern safe (Some w) says =
 pub castles_safely : (p : Setup) (m : Move) (k : Castle) → IsSound p → p.variant ≡ Normal → castle_of p m ≡ Some k
     → m.to < 64 → m.promotion ≡ None
     → (castling_way_is_empty p.men k && castling_way_is_safe p.men p.side k) ≡ true → true ≡ is_legal p m
-unfolding lands_on
+unfolding mover_end
 castles_safely p m k sound normal e high none free =
     let pattern : is_pseudo_legal p m ≡ true = castle_pattern p m k sound high none e ∙ free in
     let safe = (and_parts (castling_way_is_empty p.men k) (castling_way_is_safe p.men p.side k) free).1 in
     let told = by_side p m k sound normal e pattern safe (castling p m) refl in
     let king = king_goes p m k e (castling p m) refl in
-    let mover : is_man p.side King (man_that_lands (man_at p.men m.from) m.promotion) ≡ true =
-    ap (λ o. is_man p.side King (man_that_lands (man_at p.men m.from) o)) none
+    let mover : is_man p.side King (arriving_man (man_at p.men m.from) m.promotion) ≡ true =
+    ap (λ o. is_man p.side King (arriving_man (man_at p.men m.from) o)) none
     ∙ ap (λ o. is_man p.side King o) (lands_same (man_at p.men m.from)) ∙ king in
-    let lands : lands_on p m ≡ k.king_to = ap (mover_to m) e in
+    let lands : mover_end p m ≡ k.king_to = ap (mover_to m) e in
     let here = king_lands p m k.king_to (sym lands) told.1 mover in
     ap not (sym told.0 ∙ sym (check_after p m k.king_to sound pattern told.1 here)) ∙ legal_is p m pattern

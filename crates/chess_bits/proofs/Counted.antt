@@ -4,12 +4,12 @@ use Rattle.std.proofs.lemmas.Bool.{cases_Bool, lt-ltb, ltb-true}
 use Rattle.std.specs.List.{filter, flat_map}
 use Rattle.chess_base.specs.declared.man.Kind.TheVariants.{Queen, Rook, Bishop, Knight}
 use Rattle.chess_base.specs.declared.setup.Setup.{Setup}
-use Rattle.chess_base.specs.MoveList.{triple, squares, moves}
+use Rattle.chess_base.specs.MoveList.{move_of, squares, moves}
 use Rattle.chess_base.specs.Moves.{is_legal}
 use Rattle.chess_base.specs.Sound.{IsSound}
 use Rattle.chess_moves.specs.ties.Candidates.{moves_between, moves_from}
 use Rattle.chess_moves.specs.Promoting.{would_promote}
-use Rattle.chess_moves.specs.Sets.{has, members}
+use Rattle.chess_moves.specs.Sets.{contains, members}
 use Rattle.chess_moves.proofs.Parts.{moves-by_start, all_promote, none_promotes}
 use Rattle.chess_moves.proofs.Room.{moves_fit}
 
@@ -28,19 +28,19 @@ four_counted q w x y z =
 
 -- the promotions to each kind are all moves of a pawn that promotes
 pub promotions_counted : (p : Setup) (a b : ℕ) → would_promote p a b ≡ true
-    → cond (is_legal p (triple a b (Some Queen))) 1 0 + cond (is_legal p (triple a b (Some Rook))) 1 0 + cond
-    (is_legal p (triple a b (Some Bishop))) 1 0 + cond (is_legal p (triple a b (Some Knight))) 1 0
+    → cond (is_legal p (move_of a b (Some Queen))) 1 0 + cond (is_legal p (move_of a b (Some Rook))) 1 0 + cond
+    (is_legal p (move_of a b (Some Bishop))) 1 0 + cond (is_legal p (move_of a b (Some Knight))) 1 0
     ≡ length (moves_between p a b)
 promotions_counted p a b e =
-    four_counted (λ m. is_legal p m) (triple a b (Some Queen)) (triple a b (Some Rook)) (triple a b (Some Bishop))
-    (triple a b (Some Knight)) ∙ ap length (sym (all_promote p a b e))
+    four_counted (λ m. is_legal p m) (move_of a b (Some Queen)) (move_of a b (Some Rook)) (move_of a b (Some Bishop))
+    (move_of a b (Some Knight)) ∙ ap length (sym (all_promote p a b e))
 
 -- and elsewhere there is one move at most
-pub one_counted : (p : Setup) (a b : ℕ) → would_promote p a b ≡ false → cond (is_legal p (triple a b None)) 1 0
+pub one_counted : (p : Setup) (a b : ℕ) → would_promote p a b ≡ false → cond (is_legal p (move_of a b None)) 1 0
     ≡ length (moves_between p a b)
 one_counted p a b e =
-    let one : length (filter (λ m. is_legal p m) (triple a b None ∷ [])) ≡ cond (is_legal p (triple a b None)) 1 0 + 0 =
-    counted (λ m. is_legal p m) (triple a b None) [] in
+    let one : length (filter (λ m. is_legal p m) (move_of a b None ∷ [])) ≡ cond (is_legal p (move_of a b None)) 1 0 + 0 =
+    counted (λ m. is_legal p m) (move_of a b None) [] in
     let all = ap length (none_promotes p a b e) in
     omega (arith, one, all)
 
@@ -73,16 +73,16 @@ pub some_of : (p : Setup) (w : ℕ) → nat_lt 0 (length (flat_map (λ a. moves_
     → true ≡ nat_lt 0 (length (moves p))
 unfolding members
 some_of p w h =
-    let less = fewer (λ a. moves_from p a) (λ k. has w k) squares in
+    let less = fewer (λ a. moves_from p a) (λ k. contains w k) squares in
     let all = ap length (moves-by_start p) in
-    let some : 0 < length (flat_map (λ a. moves_from p a) (filter (λ k. has w k) squares)) = ltb-true _ _ h in
+    let some : 0 < length (flat_map (λ a. moves_from p a) (filter (λ k. contains w k) squares)) = ltb-true _ _ h in
     sym (lt-ltb 0 (length (moves p)) (omega (arith, less, all, some)))
 
 -- and no more than a list holds
 pub some_fit : (p : Setup) (w : ℕ) → IsSound p → length (flat_map (λ a. moves_from p a) (members w)) ≤ 896
 unfolding members
 some_fit p w sound =
-    let less = fewer (λ a. moves_from p a) (λ k. has w k) squares in
+    let less = fewer (λ a. moves_from p a) (λ k. contains w k) squares in
     let all = ap length (moves-by_start p) in
     let fits = moves_fit p sound in
     omega (arith, less, all, fits)

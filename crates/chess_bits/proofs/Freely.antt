@@ -14,7 +14,7 @@ use Rattle.chess_base.specs.Attacks.{attacks, is_clear, is_in_check, is_attacked
 use Rattle.chess_base.specs.ties.Splits.{could_capture_as}
 use Rattle.chess_base.specs.Castling.{castle_of, castling_rook_to}
 use Rattle.chess_base.specs.Men.{Men, man_at, same_kind, other, is_of, is_man, forward, first_rank, pawn_rank}
-use Rattle.chess_base.specs.MoveList.{triple}
+use Rattle.chess_base.specs.MoveList.{move_of}
 use Rattle.chess_base.specs.Moves.{is_pseudo_legal, is_legal, is_en_passant, men_after, second_square_emptied, pawn_advances, pawn_captures}
 use Rattle.chess_base.specs.Sound.{IsSound, no_pawn_on_end_ranks}
 use Rattle.chess_base.specs.Squares.{rank, some_square, is_square, share_rank_or_file, share_diagonal}
@@ -23,7 +23,7 @@ use Rattle.chess_base.proofs.OverSquares.{each_square-at, some_square-at, some_s
 use Rattle.chess_bits.proofs.Lifted.{lifted_at}
 use Rattle.chess_moves.specs.ties.Candidates.{moves_between, moves_from}
 use Rattle.chess_moves.specs.Promoting.{would_promote}
-use Rattle.chess_moves.specs.Sets.{has, members}
+use Rattle.chess_moves.specs.Sets.{contains, members}
 use Rattle.chess_bits.specs.declared.table.Shape.TheVariants as shape
 use Rattle.chess_bits.specs.ties.Shapes.{in_shape}
 use Rattle.chess_bits.specs.ties.Goes.{goes, aims_at, OpensNoLine, OpensNoDiagonal, IsFree, lifted}
@@ -42,11 +42,11 @@ use Rattle.chess_bits.proofs.TargetsOf.{man_told, no_king_says, none_castles}
 
 pub free_is_legal : (p : Setup) (a b king : ℕ) → IsSound p → IsFree p a → a < 64 → king < 64
     → ((k : ℕ) → k < 64 → is_man p.side King (man_at p.men k) ≡ (k == king))
-    → goes p a b ≡ true → would_promote p a b ≡ false → is_en_passant p (triple a b None) ≡ false
-    → is_legal p (triple a b None) ≡ true
+    → goes p a b ≡ true → would_promote p a b ≡ false → is_en_passant p (move_of a b None) ≡ false
+    → is_legal p (move_of a b None) ≡ true
 unfolding second_square_emptied castling_rook_to
 free_is_legal p a b king sound free low there one go stays no_passing =
-    let m = triple a b None in
+    let m = move_of a b None in
     let pattern : is_pseudo_legal p m ≡ true = pattern_of p a b None go (rw stays refl) in
     let here : is_man p.side King (man_at p.men king) ≡ true = one king there ∙ eq-eqb king king refl in
     let no_king : is_man p.side King (man_at p.men a) ≡ false = one a low ∙ free.apart king there here in
@@ -69,7 +69,7 @@ free_is_legal p a b king sound free low there one go stays no_passing =
 -- no move of the piece on a promotes or takes en passant
 pub record IsUsual (p : Setup) (a : ℕ) : Type 0 where
   pub stays : (b : ℕ) → b < 64 → goes p a b ≡ true → would_promote p a b ≡ false
-  pub passes : (b : ℕ) → is_en_passant p (triple a b None) ≡ false
+  pub passes : (b : ℕ) → is_en_passant p (move_of a b None) ≡ false
 
 pub no_pawn_usual : (p : Setup) (a : ℕ) → is_man p.side Pawn (man_at p.men a) ≡ false → IsUsual p a
 unfolding would_promote is_en_passant
@@ -118,11 +118,11 @@ pawn_usual p a sound low pawn no_target off = record {
   where
     last : (b : ℕ) → b < 64 → goes p a b ≡ true → rank b ≡ first_rank (other p.side) → ⊥
     last b high go =
-        let told : (pawn_advances p (triple a b None) || pawn_captures p (triple a b None)) ≡ true =
+        let told : (pawn_advances p (move_of a b None) || pawn_captures p (move_of a b None)) ≡ true =
         sym (pawn_goes p a b _ (man_told p.side Pawn (man_at p.men a) pawn) refl refl low high) ∙ go in
-        elim (or_cases (pawn_advances p (triple a b None)) (pawn_captures p (triple a b None)) told) [
+        elim (or_cases (pawn_advances p (move_of a b None)) (pawn_captures p (move_of a b None)) told) [
           | inl ahead ↦ advance_stays p.side a b (off_lowest p.men p.side a pawn (each_square-at _ sound.pawns a low))
-              low off (advance_goes p (triple a b None) ahead)
+              low off (advance_goes p (move_of a b None) ahead)
           | inr takes ↦
               capture_stays p.side a b off
               (pawn_attack p.men p.side a b pawn (and_parts (attacks p.men a b)
@@ -156,14 +156,14 @@ all_once g (x ∷ xs) h =
 
 pub free_counted : (p : Setup) (a king w : ℕ) → IsSound p → IsFree p a → IsUsual p a → a < 64 → king < 64
     → ((k : ℕ) → k < 64 → is_man p.side King (man_at p.men k) ≡ (k == king))
-    → ((k : ℕ) → k < 64 → has w k ≡ true → goes p a k ≡ true)
-    → ((m : Move) → is_legal p m ≡ true → m.from ≡ a → has w m.to ≡ true)
+    → ((k : ℕ) → k < 64 → contains w k ≡ true → goes p a k ≡ true)
+    → ((m : Move) → is_legal p m ≡ true → m.from ≡ a → contains w m.to ≡ true)
     → length (members w) ≡ length (moves_from p a)
 free_counted p a king w sound free usual low there one sets all =
     sym (all_once (λ b. moves_between p a b) (members w) (each_member w (λ b. length (moves_between p a b) ≡ 1) once))
     ∙ ap length (from_targets p a w all)
   where
-    once : (b : ℕ) → b < 64 → has w b ≡ true → length (moves_between p a b) ≡ 1
+    once : (b : ℕ) → b < 64 → contains w b ≡ true → length (moves_between p a b) ≡ 1
     once b high h =
         let go = sets b high h in
         let legal = free_is_legal p a b king sound free low there one go (usual.stays b high go) (usual.passes b) in
@@ -264,8 +264,8 @@ and_true_left false b e h = cc
 -- and that is the move that is listed
 pub free_listed : (p : Setup) (a king w : ℕ) → IsSound p → IsFree p a → IsUsual p a → a < 64 → king < 64
     → ((k : ℕ) → k < 64 → is_man p.side King (man_at p.men k) ≡ (k == king))
-    → ((k : ℕ) → k < 64 → has w k ≡ true → goes p a k ≡ true) → (b : ℕ) → b < 64 → has w b ≡ true
-    → moves_between p a b ≡ triple a b None ∷ []
+    → ((k : ℕ) → k < 64 → contains w k ≡ true → goes p a k ≡ true) → (b : ℕ) → b < 64 → contains w b ≡ true
+    → moves_between p a b ≡ move_of a b None ∷ []
 free_listed p a king w sound free usual low there one sets b high h =
     let go = sets b high h in
     let stays = usual.stays b high go in

@@ -10,7 +10,7 @@ use Rattle.chess_base.specs.declared.man.Man.{Man}
 use Rattle.chess_base.specs.Attacks.{attacks}
 use Rattle.chess_base.specs.Men.{Men, man_at, is_man, is_of, same_colour, same_kind, kind_number}
 use Rattle.chess_base.proofs.MenFacts.{same_colour-self, is_man-none}
-use Rattle.chess_moves.specs.Sets.{has}
+use Rattle.chess_moves.specs.Sets.{contains}
 use Rattle.chess_bits.specs.ties.Occupancy.{IsLater}
 use Rattle.chess_bits.specs.ties.KindSets.{AreKindsAt, IsKinds}
 use Rattle.chess_bits.proofs.BoardSets.{set_twice, still_empty}
@@ -31,8 +31,8 @@ own_man c x y = rw (same_colour-self c) refl
 put_at : (sets : List ℕ) (men : Men) (c : Colour) (x y : Kind) (s k w : ℕ)
     → length sets ≡ 6 → length men ≡ 64 → s < 64 → k < 64 → man_at men s ≡ None
     → IsKinds sets c men
-    → ((j : ℕ) → has w j ≡ (has (get_or sets (kind_number x) 0) j || (j == s)))
-    → has (get_or (set sets (kind_number x) w) (kind_number y) 0) k
+    → ((j : ℕ) → contains w j ≡ (contains (get_or sets (kind_number x) 0) j || (j == s)))
+    → contains (get_or (set sets (kind_number x) w) (kind_number y) 0) k
     ≡ is_man c y (get_or (set men s (Some (record { colour = c; kind = x }))) k None)
 put_at sets men c x y s k w six all ls lk bare h made =
     let in_sets : kind_number x < length sets = let b = kind_below x in omega arith in
@@ -60,7 +60,7 @@ put_at sets men c x y s k w six all ls lk bare h made =
               made k,
               ne_eqb k s there,
               or-false
-                  (has (get_or sets (kind_number x) 0) k),
+                  (contains (get_or sets (kind_number x) 0) k),
               ← e,
             ) (h.of_kind y k lk)
             | inr n ↦ rw (get_or-set_other sets (kind_number x) (kind_number y) w 0 n) (h.of_kind y k lk)
@@ -70,7 +70,7 @@ put_at sets men c x y s k w six all ls lk bare h made =
 pub put_kinds : (sets : List ℕ) (men : Men) (c : Colour) (x : Kind) (s w d : ℕ)
     → length sets ≡ 6 → length men ≡ 64 → s < 64 → man_at men s ≡ None
     → IsKinds sets c men
-    → ((j : ℕ) → has w j ≡ (has (get_or sets (kind_number x) d) j || (j == s)))
+    → ((j : ℕ) → contains w j ≡ (contains (get_or sets (kind_number x) d) j || (j == s)))
     → IsKinds (set sets (kind_number x) w) c (set men s (Some (record { colour = c; kind = x })))
 put_kinds sets men c x s w d six all ls bare h made =
     let in_sets : kind_number x < length sets = let b = kind_below x in omega arith in
@@ -81,8 +81,8 @@ put_kinds sets men c x s w d six all ls bare h made =
 lift_at : (sets : List ℕ) (men : Men) (c : Colour) (x y : Kind) (s k w : ℕ)
     → length sets ≡ 6 → length men ≡ 64 → s < 64 → k < 64 → man_at men s ≡ Some (record { colour = c; kind = x })
     → IsKinds sets c men
-    → ((j : ℕ) → j < 64 → has w j ≡ (has (get_or sets (kind_number x) 0) j && not (j == s)))
-    → has (get_or (set sets (kind_number x) w) (kind_number y) 0) k ≡ is_man c y (get_or (set men s None) k None)
+    → ((j : ℕ) → j < 64 → contains w j ≡ (contains (get_or sets (kind_number x) 0) j && not (j == s)))
+    → contains (get_or (set sets (kind_number x) w) (kind_number y) 0) k ≡ is_man c y (get_or (set men s None) k None)
 lift_at sets men c x y s k w six all ls lk there h made =
     let in_sets : kind_number x < length sets = let b = kind_below x in omega arith in
     let in_men : s < length men = omega arith in
@@ -104,7 +104,7 @@ lift_at sets men c x y s k w six all ls lk there h made =
               made k lk,
               ne_eqb k s away,
               and-true
-                  (has (get_or sets (kind_number x) 0) k),
+                  (contains (get_or sets (kind_number x) 0) k),
               ← e,
             ) (h.of_kind y k lk)
             | inr n ↦ rw (get_or-set_other sets (kind_number x) (kind_number y) w 0 n) (h.of_kind y k lk)
@@ -114,7 +114,7 @@ lift_at sets men c x y s k w six all ls lk there h made =
 pub lift_kinds : (sets : List ℕ) (men : Men) (c : Colour) (x : Kind) (s w d : ℕ)
     → length sets ≡ 6 → length men ≡ 64 → s < 64 → man_at men s ≡ Some (record { colour = c; kind = x })
     → IsKinds sets c men
-    → ((j : ℕ) → j < 64 → has w j ≡ (has (get_or sets (kind_number x) d) j && not (j == s)))
+    → ((j : ℕ) → j < 64 → contains w j ≡ (contains (get_or sets (kind_number x) d) j && not (j == s)))
     → IsKinds (set sets (kind_number x) w) c (set men s None)
 lift_kinds sets men c x s w d six all ls there h made =
     let in_sets : kind_number x < length sets = let b = kind_below x in omega arith in
@@ -125,8 +125,8 @@ lift_kinds sets men c x s w d six all ls there h made =
 pub shift_kinds : (sets : List ℕ) (men : Men) (c : Colour) (x : Kind) (a b v w d : ℕ)
     → length sets ≡ 6 → length men ≡ 64 → a < 64 → b < 64 → man_at men a ≡ Some (record { colour = c; kind = x })
     → man_at men b ≡ None → IsKinds sets c men
-    → ((j : ℕ) → j < 64 → has v j ≡ (has (get_or sets (kind_number x) d) j && not (j == a)))
-    → ((j : ℕ) → has w j ≡ (has v j || (j == b)))
+    → ((j : ℕ) → j < 64 → contains v j ≡ (contains (get_or sets (kind_number x) d) j && not (j == a)))
+    → ((j : ℕ) → contains w j ≡ (contains v j || (j == b)))
     → IsKinds (set sets (kind_number x) w) c (set (set men a None) b (Some (record { colour = c; kind = x })))
 shift_kinds sets men c x a b v w d six all la lb there bare h lifted put =
     let in_sets : kind_number x < length sets = let low = kind_below x in omega arith in
@@ -136,7 +136,7 @@ shift_kinds sets men c x a b v w d six all la lb there bare h lifted put =
     (set_twice sets (kind_number x) v w)
     (put_kinds (set sets (kind_number x) v) (set men a None) c x b w 0 long whole lb (still_empty men a b all la bare)
     (lift_kinds sets men c x a v d six all la there h lifted)
-    (λ j. put j ∙ ap (λ u. has u j || (j == b)) (sym (get_or-set_same sets (kind_number x) v 0 in_sets))))
+    (λ j. put j ∙ ap (λ u. contains u j || (j == b)) (sym (get_or-set_same sets (kind_number x) v 0 in_sets))))
 
 -- ---- the pieces left out on some squares
 
@@ -154,20 +154,20 @@ nobody_there c (Some x) h = other_colour (same_colour c x.colour) (same_kind x.k
 -- those who attack a square later are those who would attack it now, but for the squares that change
 pub left_out : (sets : List ℕ) (changed filled a w : ℕ) (c : Colour) (men later : Men) (square : ℕ)
     → IsKinds sets c men → IsLater changed filled c men later
-    → ((k : ℕ) → k < 64 → AreKindsAt sets c later k → has a k ≡ (is_of c (man_at later k) && attacks later k square))
-    → ((k : ℕ) → k < 64 → has w k ≡ (has a k && not (has changed k)))
-    → (k : ℕ) → k < 64 → has w k ≡ (is_of c (man_at later k) && attacks later k square)
+    → ((k : ℕ) → k < 64 → AreKindsAt sets c later k → contains a k ≡ (is_of c (man_at later k) && attacks later k square))
+    → ((k : ℕ) → k < 64 → contains w k ≡ (contains a k && not (contains changed k)))
+    → (k : ℕ) → k < 64 → contains w k ≡ (is_of c (man_at later k) && attacks later k square)
 left_out sets changed filled a w c men later square h after attackers without k low =
-    elim (cases_Bool (has changed k)) [
+    elim (cases_Bool (contains changed k)) [
       | inl gone ↦
           let none : is_of c (man_at later k) ≡ false =
           nobody_there c (man_at later k)
           (λ kind. sym (after.of_man kind k low)
-          ∙ and_right (is_man c kind (man_at men k)) (not (has changed k)) (ap not gone)) in
-          without k low ∙ and_right (has a k) (not (has changed k)) (ap not gone)
+          ∙ and_right (is_man c kind (man_at men k)) (not (contains changed k)) (ap not gone)) in
+          without k low ∙ and_right (contains a k) (not (contains changed k)) (ap not gone)
           ∙ sym (and_left (is_of c (man_at later k)) (attacks later k square) none)
       | inr stays ↦
-          without k low ∙ ap (λ t. has a k && not t) stays ∙ and-true (has a k)
+          without k low ∙ ap (λ t. contains a k && not t) stays ∙ and-true (contains a k)
           ∙ attackers k low
           (λ kind. h.of_kind kind k low ∙ sym (and-true (is_man c kind (man_at men k)))
           ∙ ap (λ t. is_man c kind (man_at men k) && not t) (sym stays)

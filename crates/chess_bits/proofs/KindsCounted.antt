@@ -11,7 +11,7 @@ use Rattle.chess_base.specs.MoveList.{squares}
 use Rattle.chess_base.specs.Sound.{IsSound}
 use Rattle.chess_base.proofs.MenFacts.{is_of-from_is_man}
 use Rattle.chess_moves.specs.ties.Candidates.{moves_from}
-use Rattle.chess_moves.specs.Sets.{has, members}
+use Rattle.chess_moves.specs.Sets.{contains, members}
 use Rattle.chess_bits.specs.ties.Goes.{man_goes, IsFree, AreFree}
 use Rattle.chess_bits.proofs.Freely.{no_pawn_usual, free_counted}
 use Rattle.chess_bits.proofs.TargetsOf.{man_told, officer_is, man_set_sound, man_set_complete}
@@ -48,22 +48,22 @@ split_range g w c u v (suc n) a fits hu hv =
           ]
     ]
 
-pub split : {A : Type 0} (g : ℕ → List A) (w c u v : ℕ) → ((k : ℕ) → has u k ≡ (has w k && has c k))
-    → ((k : ℕ) → k < 64 → has v k ≡ (has w k && not (has c k)))
+pub split : {A : Type 0} (g : ℕ → List A) (w c u v : ℕ) → ((k : ℕ) → contains u k ≡ (contains w k && contains c k))
+    → ((k : ℕ) → k < 64 → contains v k ≡ (contains w k && not (contains c k)))
     → length (flat_map g (members u)) + length (flat_map g (members v)) ≡ length (flat_map g (members w))
 unfolding members squares
-split g w c u v hu hv = split_range g (λ k. has w k) (λ k. has c k) (λ k. has u k) (λ k. has v k) 64 0 (omega arith)
+split g w c u v hu hv = split_range g (λ k. contains w k) (λ k. contains c k) (λ k. contains u k) (λ k. contains v k) 64 0 (omega arith)
     (λ k l. hu k) hv
 
 -- the pieces chosen are free, and of the kind
 pub chosen_free : (p : Setup) (kind : Kind) (sets : List ℕ) (free chosen w taken kinds : ℕ)
-    → ((k : ℕ) → k < 64 → has free k ≡ true → IsFree p k)
-    → ((k : ℕ) → k < 64 → has kinds k ≡ is_man p.side kind (man_at p.men k))
-    → ((k : ℕ) → has chosen k ≡ (has kinds k && has free k)) → ((k : ℕ) → has taken k ≡ (has w k && has chosen k))
+    → ((k : ℕ) → k < 64 → contains free k ≡ true → IsFree p k)
+    → ((k : ℕ) → k < 64 → contains kinds k ≡ is_man p.side kind (man_at p.men k))
+    → ((k : ℕ) → contains chosen k ≡ (contains kinds k && contains free k)) → ((k : ℕ) → contains taken k ≡ (contains w k && contains chosen k))
     → AreFree p kind taken
 chosen_free p kind sets free chosen w taken kinds are of_kind both some = λ k low h.
-    let two = and_parts (has kinds k) (has free k)
-    (sym (both k) ∙ (and_parts (has w k) (has chosen k) (sym (some k) ∙ h)).1) in
+    let two = and_parts (contains kinds k) (contains free k)
+    (sym (both k) ∙ (and_parts (contains w k) (contains chosen k) (sym (some k) ∙ h)).1) in
     (sym (of_kind k low) ∙ two.0, are k low two.1)
 
 -- what is left in the sum is no more than all
@@ -92,13 +92,13 @@ pub officer_counted : (p : Setup) (a king w : ℕ) (kind : Kind) → IsSound p �
     → is_man p.side kind (man_at p.men a) ≡ true → (same_kind King kind || same_kind Pawn kind) ≡ false → a < 64
     → king < 64
     → ((k : ℕ) → k < 64 → is_man p.side King (man_at p.men k) ≡ (k == king))
-    → ((k : ℕ) → k < 64 → has w k ≡ (could_capture p.men p.side kind a k && not (is_of p.side (man_at p.men k))))
+    → ((k : ℕ) → k < 64 → contains w k ≡ (could_capture p.men p.side kind a k && not (is_of p.side (man_at p.men k))))
     → length (members w) ≡ length (moves_from p a)
 officer_counted p a king w kind sound free man kinds low there one set =
     let at = man_told p.side kind (man_at p.men a) man in
     let neither = or_parts (same_kind King kind) (same_kind Pawn kind) kinds in
     let own = is_of-from_is_man p.side kind (man_at p.men a) man in
     let no_pawn = other_kind p a kind Pawn at neither.1 in
-    let goes_so : (k : ℕ) → k < 64 → has w k ≡ man_goes p a k = λ k l. set k l ∙ officer_is p a k _ at own neither.0 in
+    let goes_so : (k : ℕ) → k < 64 → contains w k ≡ man_goes p a k = λ k l. set k l ∙ officer_is p a k _ at own neither.0 in
     free_counted p a king w sound free (no_pawn_usual p a no_pawn) low there one
     (man_set_sound p a w own no_pawn low goes_so) (man_set_complete p a w own no_pawn low goes_so)

@@ -11,8 +11,8 @@ use Rattle.chess_base.specs.declared.setup.Setup.{Setup}
 use Rattle.chess_base.specs.Men.{man_at, other, is_of, is_man}
 use Rattle.chess_base.specs.Attacks.{is_attacked, is_in_check}
 use Rattle.chess_base.specs.Squares.{is_square}
-use Rattle.chess_base.specs.Castling.{lands_on, castling_rook_to}
-use Rattle.chess_base.specs.Moves.{is_pseudo_legal, is_legal, after, man_that_lands, men_after, second_square_emptied}
+use Rattle.chess_base.specs.Castling.{mover_end, castling_rook_to}
+use Rattle.chess_base.specs.Moves.{is_pseudo_legal, is_legal, after, arriving_man, men_after, second_square_emptied}
 use Rattle.chess_base.specs.Sound.{IsSound, has_one_king}
 use Rattle.chess_base.proofs.Castlings.{change_of}
 use Rattle.chess_base.proofs.CountsAfter.{one_king_after}
@@ -25,21 +25,21 @@ use Rattle.chess_bits.proofs.OneKing.{none_counted, alone, has_king}
 
 -- ---- the mover arrives
 
-lands_some : (x : Man) (o : Option Kind) → is_none (man_that_lands (Some x) o) ≡ false
+lands_some : (x : Man) (o : Option Kind) → is_none (arriving_man (Some x) o) ≡ false
 lands_some x None = refl
 lands_some x (Some k) = refl
 
-lands_own : (x : Man) (o : Option Kind) (c : Colour) → x.colour ≡ c → is_of (other c) (man_that_lands (Some x) o)
+lands_own : (x : Man) (o : Option Kind) (c : Colour) → x.colour ≡ c → is_of (other c) (arriving_man (Some x) o)
     ≡ false
 lands_own x None c e = theirs_of c x e
 lands_own x (Some k) c e = theirs_of c (record { colour = x.colour; kind = k }) e
 
 pub mover_some : (p : Setup) (m : Move) → is_pseudo_legal p m ≡ true
-    → is_none (man_that_lands (man_at p.men m.from) m.promotion) ≡ false
+    → is_none (arriving_man (man_at p.men m.from) m.promotion) ≡ false
 mover_some p m e = let moves = moves_from_pattern p m e in rw moves.at_from (lands_some moves.mover m.promotion)
 
 pub mover_own : (p : Setup) (m : Move) → is_pseudo_legal p m ≡ true
-    → is_of (other p.side) (man_that_lands (man_at p.men m.from) m.promotion) ≡ false
+    → is_of (other p.side) (arriving_man (man_at p.men m.from) m.promotion) ≡ false
 mover_own p m e = let moves = moves_from_pattern p m e in
     rw moves.at_from (lands_own moves.mover m.promotion p.side moves.own)
 
@@ -62,15 +62,15 @@ king_only false false true a o c h g = no_king_here c
 king_only false false false a o c h g = g
 
 -- no king comes to another square
-elsewhere : (p : Setup) (m : Move) (k : ℕ) → is_man p.side King (man_that_lands (man_at p.men m.from) m.promotion)
+elsewhere : (p : Setup) (m : Move) (k : ℕ) → is_man p.side King (arriving_man (man_at p.men m.from) m.promotion)
     ≡ false
     → is_man p.side King (man_at p.men k) ≡ false → k < 64 → is_man p.side King (man_at (men_after p m) k) ≡ false
 unfolding man_after
 elsewhere p m k mover none low =
     rw (man_at-men_after p m k low)
-    (king_only (lands_on p m == k) (is_square (castling_rook_to p m) k)
+    (king_only (mover_end p m == k) (is_square (castling_rook_to p m) k)
     (is_square (second_square_emptied p m) k || (m.from == k))
-    (man_that_lands (man_at p.men m.from) m.promotion) (man_at p.men k) p.side mover none)
+    (arriving_man (man_at p.men m.from) m.promotion) (man_at p.men k) p.side mover none)
 
 one_after : (p : Setup) (m : Move) → IsSound p → is_pseudo_legal p m ≡ true → has_one_king (men_after p m) p.side ≡ true
 one_after p m sound pattern = one_king_after p m p.side sound.board (change_of p m sound pattern)
@@ -79,7 +79,7 @@ one_after p m sound pattern = one_king_after p m p.side sound.board (change_of p
 -- a king that does not move stays
 pub king_stays : (p : Setup) (m : Move) (king : ℕ) → IsSound p → is_pseudo_legal p m ≡ true
     → ((k : ℕ) → k < 64 → is_man p.side King (man_at p.men k) ≡ (k == king))
-    → is_man p.side King (man_that_lands (man_at p.men m.from) m.promotion) ≡ false
+    → is_man p.side King (arriving_man (man_at p.men m.from) m.promotion) ≡ false
     → is_man p.side King (man_at (men_after p m) king) ≡ true
 unfolding has_one_king
 king_stays p m king sound pattern one mover =
@@ -103,12 +103,12 @@ king_stays p m king sound pattern one mover =
         ]
 
 -- and one that moves is where it lands
-pub king_lands : (p : Setup) (m : Move) (to : ℕ) → to ≡ lands_on p m → to < 64
-    → is_man p.side King (man_that_lands (man_at p.men m.from) m.promotion) ≡ true
+pub king_lands : (p : Setup) (m : Move) (to : ℕ) → to ≡ mover_end p m → to < 64
+    → is_man p.side King (arriving_man (man_at p.men m.from) m.promotion) ≡ true
     → is_man p.side King (man_at (men_after p m) to) ≡ true
 king_lands p m to there low mover =
     ap (λ s. is_man p.side King (man_at (men_after p m) s)) there
-    ∙ ap (is_man p.side King) (man_at-men_after p m (lands_on p m) (rw (← there) low) ∙ man_after-to p m)
+    ∙ ap (is_man p.side King) (man_at-men_after p m (mover_end p m) (rw (← there) low) ∙ man_after-to p m)
     ∙ mover
 
 -- check is an attack on that square

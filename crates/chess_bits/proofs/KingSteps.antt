@@ -17,10 +17,10 @@ use Rattle.chess_base.specs.declared.man.Variant.TheVariants.{Normal, Fischerand
 use Rattle.chess_base.specs.declared.setup.Setup.{Setup}
 use Rattle.chess_base.specs.Attacks.{is_clear, could_capture, attacks, is_attacked}
 use Rattle.chess_base.specs.ties.Splits.{could_capture_as, names_castling}
-use Rattle.chess_base.specs.Castling.{home_square, king_home_file, castled_king_file, right_of, says_castling, castle_of, lands_on, castling_rook_to}
+use Rattle.chess_base.specs.Castling.{home_square, king_home_file, castled_king_file, right_of, is_castling_to, castle_of, mover_end, castling_rook_to}
 use Rattle.chess_base.specs.Before.{mover_to}
 use Rattle.chess_base.specs.Men.{Men, man_at, other, is_of, is_man}
-use Rattle.chess_base.specs.MoveList.{triple, squares}
+use Rattle.chess_base.specs.MoveList.{move_of, squares}
 use Rattle.chess_base.specs.Moves.{is_pseudo_legal, is_legal, is_en_passant, man_moves, men_after, second_square_emptied}
 use Rattle.chess_base.specs.Sound.{IsSound}
 use Rattle.chess_base.specs.Squares.{file, rank, gap, is_between, is_between_on_file, is_between_on_rank, is_between_on_diagonal}
@@ -28,7 +28,7 @@ use Rattle.chess_base.proofs.Castlings.{right_stands_of, castling_rook_stands}
 use Rattle.chess_base.proofs.MenFacts.{is_of-from_is_man}
 use Rattle.chess_moves.specs.ties.Candidates.{moves_between, moves_from}
 use Rattle.chess_moves.specs.Promoting.{would_promote}
-use Rattle.chess_moves.specs.Sets.{has, members}
+use Rattle.chess_moves.specs.Sets.{contains, members}
 use Rattle.chess_bits.specs.ties.Goes.{goes, legal_or, lifted}
 use Rattle.chess_bits.proofs.Attackers.{each_square_same, some_square_same, eq_back}
 use Rattle.chess_bits.proofs.Counted.{one_counted}
@@ -116,7 +116,7 @@ far_from_home men Black QueenSide = refl
 named_apart : (v : Variant) (men : Men) (c : Colour) (a b : ℕ) (w : CastlingSide) (o : Option ℕ)
     → ((r : ℕ) → o ≡ Some r → is_man c Rook (man_at men r) ≡ true)
     → could_capture men c King a b ≡ true → is_of c (man_at men b) ≡ false
-    → names_castling v c (triple a b None) w o ≡ true → ⊥
+    → names_castling v c (move_of a b None) w o ≡ true → ⊥
 named_apart v men c a b w None rook step free e = absurd cc
 named_apart Normal men c a b w (Some r) rook step free e =
     let both = and_parts (a == home_square c king_home_file) (b == home_square c (castled_king_file w)) e in
@@ -133,8 +133,8 @@ named_apart Fischerandom men c a b w (Some r) rook step free e =
 
 not_said : (p : Setup) (a b : ℕ) (w : CastlingSide) → IsSound p → could_capture p.men p.side King a b ≡ true
     → is_of p.side (man_at p.men b) ≡ false
-    → says_castling p (triple a b None) w ≡ false
-unfolding says_castling
+    → is_castling_to p (move_of a b None) w ≡ false
+unfolding is_castling_to
 not_said p a b w sound step free =
     false_from_ne_true _
     (λ e.
@@ -142,10 +142,10 @@ not_said p a b w sound step free =
     (λ r at. castling_rook_stands p p.side w r (right_stands_of p sound p.side w) at)
     step free
     (and_parts (is_man p.side King (man_at p.men a))
-    (names_castling p.variant p.side (triple a b None) w (right_of p.rights p.side w)) e).1)
+    (names_castling p.variant p.side (move_of a b None) w (right_of p.rights p.side w)) e).1)
 
 -- what a king's step is
-step_parts : (p : Setup) (a b : ℕ) → is_man p.side King (man_at p.men a) ≡ true → man_moves p (triple a b None) ≡ true
+step_parts : (p : Setup) (a b : ℕ) → is_man p.side King (man_at p.men a) ≡ true → man_moves p (move_of a b None) ≡ true
     → (could_capture p.men p.side King a b ≡ true) × (is_of p.side (man_at p.men b) ≡ false)
 step_parts p a b king moves =
     let at = man_told p.side King (man_at p.men a) king in
@@ -158,10 +158,10 @@ step_parts p a b king moves =
     off false h = refl
 
 pub step_no_castling : (p : Setup) (a b : ℕ) → IsSound p → is_man p.side King (man_at p.men a) ≡ true
-    → man_moves p (triple a b None) ≡ true → castle_of p (triple a b None) ≡ None
+    → man_moves p (move_of a b None) ≡ true → castle_of p (move_of a b None) ≡ None
 step_no_castling p a b sound king moves =
     let parts = step_parts p a b king moves in
-    none_castles p (triple a b None) (not_said p a b KingSide sound parts.0 parts.1)
+    none_castles p (move_of a b None) (not_said p a b KingSide sound parts.0 parts.1)
     (not_said p a b QueenSide sound parts.0 parts.1)
 
 -- ---- a step is legal where the square isn't attacked once the king has left his own
@@ -172,18 +172,18 @@ unfolding is_man
 no_pawn_there p a x at king = rw (at, king) (and_right _ false refl)
 
 pub step_is : (p : Setup) (a b : ℕ) → IsSound p → is_man p.side King (man_at p.men a) ≡ true
-    → man_moves p (triple a b None) ≡ true → a < 64 → b < 64
-    → not (is_attacked (lifted p.men a) b (other p.side)) ≡ is_legal p (triple a b None)
-unfolding second_square_emptied castling_rook_to lands_on
+    → man_moves p (move_of a b None) ≡ true → a < 64 → b < 64
+    → not (is_attacked (lifted p.men a) b (other p.side)) ≡ is_legal p (move_of a b None)
+unfolding second_square_emptied castling_rook_to mover_end
 step_is p a b sound king moves low high =
-    let m = triple a b None in
+    let m = move_of a b None in
     let at = man_told p.side King (man_at p.men a) king in
     let none : castle_of p m ≡ None = step_no_castling p a b sound king moves in
     let go : goes p a b ≡ true = man_sound p a b _ at refl refl low high
     (ap (λ o. legal_or p m o (man_moves p m)) none ∙ moves) in
     let stays : would_promote p a b ≡ false = not_promoting p a b _ at refl in
     let pattern : is_pseudo_legal p m ≡ true = pattern_of p a b None go (rw stays refl) in
-    let lands : lands_on p m ≡ b = ap (mover_to m) none in
+    let lands : mover_end p m ≡ b = ap (mover_to m) none in
     let there : is_man p.side King (man_at (men_after p m) b) ≡ true =
     king_lands p m b (sym lands) high (ap (λ o. is_man p.side King o) (lands_same (man_at p.men a)) ∙ king) in
     let no_passing : is_en_passant p m ≡ false =
@@ -226,31 +226,31 @@ two_range g s e (suc n) a fits out apart =
     ]
 
 pub two_sets : {A : Type 0} (g : ℕ → List A) (s e : ℕ)
-    → ((k : ℕ) → k < 64 → has s k ≡ false → has e k ≡ false → g k ≡ [])
-    → ((k : ℕ) → k < 64 → has s k ≡ true → has e k ≡ false)
+    → ((k : ℕ) → k < 64 → contains s k ≡ false → contains e k ≡ false → g k ≡ [])
+    → ((k : ℕ) → k < 64 → contains s k ≡ true → contains e k ≡ false)
     → length (flat_map g (members e)) + length (flat_map g (members s)) ≡ length (flat_map g squares)
 unfolding members squares
-two_sets g s e out apart = two_range g (λ k. has s k) (λ k. has e k) 64 0 (omega arith) out apart
+two_sets g s e out apart = two_range g (λ k. contains s k) (λ k. contains e k) 64 0 (omega arith) out apart
 
 king_goes : (p : Setup) (a b : ℕ) (s e : Bool) (k : Option Kind) → is_man p.side King (man_at p.men a) ≡ true → a < 64
     → b < 64
-    → s ≡ man_moves p (triple a b None) → e ≡ legal_or p (triple a b None) (castle_of p (triple a b None)) false
-    → s ≡ false → e ≡ false → is_legal p (triple a b k) ≡ false
+    → s ≡ man_moves p (move_of a b None) → e ≡ legal_or p (move_of a b None) (castle_of p (move_of a b None)) false
+    → s ≡ false → e ≡ false → is_legal p (move_of a b k) ≡ false
 king_goes p a b s e k king low high steps ends off out =
     let at = man_told p.side King (man_at p.men a) king in
-    false_from_ne_true (is_legal p (triple a b k))
-    (λ legal. by (castle_of p (triple a b None)) refl (man_complete p (triple a b k) _ at refl refl low high legal))
+    false_from_ne_true (is_legal p (move_of a b k))
+    (λ legal. by (castle_of p (move_of a b None)) refl (man_complete p (move_of a b k) _ at refl refl low high legal))
   where
-    by : (o : Option Castle) → castle_of p (triple a b None) ≡ o
-        → legal_or p (triple a b None) o (man_moves p (triple a b None)) ≡ true → ⊥
-    by None none h = both_ways (man_moves p (triple a b None)) (sym steps ∙ off) h
+    by : (o : Option Castle) → castle_of p (move_of a b None) ≡ o
+        → legal_or p (move_of a b None) o (man_moves p (move_of a b None)) ≡ true → ⊥
+    by None none h = both_ways (man_moves p (move_of a b None)) (sym steps ∙ off) h
     by (Some castle) some h =
-        both_ways (is_legal p (triple a b None))
-        (sym (ends ∙ ap (λ o. legal_or p (triple a b None) o false) some) ∙ out) h
+        both_ways (is_legal p (move_of a b None))
+        (sym (ends ∙ ap (λ o. legal_or p (move_of a b None) o false) some) ∙ out) h
 
 pub king_counted : (p : Setup) (a s e : ℕ) → IsSound p → is_man p.side King (man_at p.men a) ≡ true → a < 64
-    → ((k : ℕ) → k < 64 → has s k ≡ man_moves p (triple a k None))
-    → ((k : ℕ) → k < 64 → has e k ≡ legal_or p (triple a k None) (castle_of p (triple a k None)) false)
+    → ((k : ℕ) → k < 64 → contains s k ≡ man_moves p (move_of a k None))
+    → ((k : ℕ) → k < 64 → contains e k ≡ legal_or p (move_of a k None) (castle_of p (move_of a k None)) false)
     → length (members e) + length (flat_map (λ b. moves_between p a b) (members s)) ≡ length (moves_from p a)
 unfolding moves_from
 king_counted p a s e sound king low steps ends =
@@ -259,28 +259,28 @@ king_counted p a s e sound king low steps ends =
     all_once (λ b. moves_between p a b) (members e) (each_member e (λ b. length (moves_between p a b) ≡ 1) once) in
     sym (ap (λ n. n + length (flat_map (λ b. moves_between p a b) (members s))) ones)
     ∙ two_sets (λ b. moves_between p a b) s e
-    (λ b high off out. none_there p a b (λ k. king_goes p a b (has s b) (has e b) k king low high (steps b high)
+    (λ b high off out. none_there p a b (λ k. king_goes p a b (contains s b) (contains e b) k king low high (steps b high)
     (ends b high) off out))
     (λ b high on.
-    ends b high ∙ ap (λ o. legal_or p (triple a b None) o false)
+    ends b high ∙ ap (λ o. legal_or p (move_of a b None) o false)
     (step_no_castling p a b sound king (sym (steps b high) ∙ on)))
   where
     castled : (m : Move) (o : Option Castle) → legal_or p m o false ≡ true → is_legal p m ≡ true
     castled m None h = cc
     castled m (Some castle) h = h
 
-    once : (b : ℕ) → b < 64 → has e b ≡ true → length (moves_between p a b) ≡ 1
+    once : (b : ℕ) → b < 64 → contains e b ≡ true → length (moves_between p a b) ≡ 1
     once b high h =
-        let legal = castled (triple a b None) (castle_of p (triple a b None)) (sym (ends b high) ∙ h) in
+        let legal = castled (move_of a b None) (castle_of p (move_of a b None)) (sym (ends b high) ∙ h) in
         let stays : would_promote p a b ≡ false =
         not_promoting p a b _ (man_told p.side King (man_at p.men a) king) refl in
         sym (rw legal at (one_counted p a b stays))
 
 -- as the code computes them
 pub steps_are : (p : Setup) (a b : ℕ) → is_man p.side King (man_at p.men a) ≡ true
-    → (could_capture p.men p.side King a b && not (is_of p.side (man_at p.men b))) ≡ man_moves p (triple a b None)
+    → (could_capture p.men p.side King a b && not (is_of p.side (man_at p.men b))) ≡ man_moves p (move_of a b None)
 steps_are p a b king = sym (steps_of_man p a b _ (man_told p.side King (man_at p.men a) king) refl)
 
 pub step_counted : (p : Setup) (a b : ℕ) → is_man p.side King (man_at p.men a) ≡ true
-    → cond (is_legal p (triple a b None)) 1 0 ≡ length (moves_between p a b)
+    → cond (is_legal p (move_of a b None)) 1 0 ≡ length (moves_between p a b)
 step_counted p a b king = one_counted p a b (not_promoting p a b _ (man_told p.side King (man_at p.men a) king) refl)

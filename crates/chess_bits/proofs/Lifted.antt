@@ -5,7 +5,7 @@ use Rattle.chess_base.specs.declared.man.Colour.{Colour}
 use Rattle.chess_base.specs.declared.man.Man.{Man}
 use Rattle.chess_base.specs.Men.{Men, man_at, is_of, is_man}
 use Rattle.chess_base.proofs.MenFacts.{not_is_man, is_man-none}
-use Rattle.chess_moves.specs.Sets.{has}
+use Rattle.chess_moves.specs.Sets.{contains}
 use Rattle.chess_bits.specs.ties.Goes.{lifted}
 use Rattle.chess_bits.specs.ties.KindSets.{IsKinds}
 use Rattle.chess_bits.specs.ties.Occupancy.{IsOccupied}
@@ -39,7 +39,7 @@ lifted_kinds sets men c a all low theirs h = record {
 
 -- its square is empty
 pub lifted_occupied : (w v : ℕ) (men : Men) (a : ℕ) → length men ≡ 64 → a < 64 → IsOccupied w men
-    → ((k : ℕ) → k < 64 → has v k ≡ (has w k && not (k == a))) → IsOccupied v (lifted men a)
+    → ((k : ℕ) → k < 64 → contains v k ≡ (contains w k && not (k == a))) → IsOccupied v (lifted men a)
 lifted_occupied w v men a all low stood h = record {
   of_men = λ k l.
       h k l ∙ ap (λ t. t && not (k == a)) (stood.of_men k l) ∙ by (k == a) (man_at men k)

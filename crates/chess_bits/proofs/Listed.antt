@@ -9,12 +9,12 @@ use Rattle.chess_base.specs.declared.man.Kind.TheVariants.{Queen, Rook, Bishop, 
 use Rattle.chess_base.specs.declared.man.Move.{Move}
 use Rattle.chess_base.specs.declared.setup.Setup.{Setup}
 use Rattle.chess_base.specs.Men.{man_at, is_of}
-use Rattle.chess_base.specs.MoveList.{triple, squares, moves}
+use Rattle.chess_base.specs.MoveList.{move_of, squares, moves}
 use Rattle.chess_base.specs.Moves.{is_pseudo_legal, is_legal, promotion_fits}
 use Rattle.chess_base.specs.Sound.{IsSound}
 use Rattle.chess_moves.specs.ties.Candidates.{moves_between, moves_from}
 use Rattle.chess_moves.specs.Promoting.{would_promote}
-use Rattle.chess_moves.specs.Sets.{has, members}
+use Rattle.chess_moves.specs.Sets.{contains, members}
 use Rattle.chess_moves.proofs.Members.{flat_map_members}
 use Rattle.chess_moves.proofs.Parts.{moves-by_start, none_from}
 use Rattle.chess_moves.proofs.Room.{moves_fit}
@@ -37,9 +37,9 @@ each_filter q P (suc n) a fits h =
       | inr off ↦ rw off (each_filter q P n (a + 1) (omega arith) h)
     ]
 
-pub each_member : (w : ℕ) (P : ℕ → Type 0) → ((k : ℕ) → k < 64 → has w k ≡ true → P k) → Each P (members w)
+pub each_member : (w : ℕ) (P : ℕ → Type 0) → ((k : ℕ) → k < 64 → contains w k ≡ true → P k) → Each P (members w)
 unfolding members squares
-each_member w P h = each_filter (λ k. has w k) P 64 0 (omega arith) h
+each_member w P h = each_filter (λ k. contains w k) P 64 0 (omega arith) h
 
 pub each_first : (P : ℕ → Type 0) (ms : List ℕ) (s : ℕ) (ns : List ℕ) → ms ≡ s ∷ ns → Each P ms → P s
 each_first P ms s ns e h = (subst (Each P) e h).0
@@ -72,8 +72,8 @@ room_for g now whole ms s ns n e h fits =
 -- ---- legal moves
 
 pub pattern_of : (p : Setup) (a b : ℕ) (k : Option Kind) → goes p a b ≡ true → promotion_fits (would_promote p a b) k
-    ≡ true → is_pseudo_legal p (triple a b k) ≡ true
-pattern_of p a b k g f = pattern_is p (triple a b k) ∙ and_from (goes p a b) (promotion_fits (would_promote p a b) k) g
+    ≡ true → is_pseudo_legal p (move_of a b k) ≡ true
+pattern_of p a b k g f = pattern_is p (move_of a b k) ∙ and_from (goes p a b) (promotion_fits (would_promote p a b) k) g
     f
 
 pub four_fit : (w : Bool) → w ≡ true → (i : ℕ) → i < 4 → (d : Option Kind)
@@ -90,23 +90,23 @@ none_fit w e zero h d = rw e refl
 none_fit w e (suc i) h d = absurd (omega (arith, h))
 
 -- where none is legal there are none
-pub none_there : (p : Setup) (a b : ℕ) → ((k : Option Kind) → is_legal p (triple a b k) ≡ false)
+pub none_there : (p : Setup) (a b : ℕ) → ((k : Option Kind) → is_legal p (move_of a b k) ≡ false)
     → moves_between p a b ≡ []
 unfolding moves_between
 none_there p a b h = rw (h None, h (Some Queen), h (Some Rook), h (Some Bishop), h (Some Knight)) refl
 
 -- the end squares outside a set of all targets give nothing
-pub from_targets : (p : Setup) (a w : ℕ) → ((m : Move) → is_legal p m ≡ true → m.from ≡ a → has w m.to ≡ true)
+pub from_targets : (p : Setup) (a w : ℕ) → ((m : Move) → is_legal p m ≡ true → m.from ≡ a → contains w m.to ≡ true)
     → flat_map (λ b. moves_between p a b) (members w) ≡ moves_from p a
 unfolding moves_from
 from_targets p a w all =
     flat_map_members (λ b. moves_between p a b) w
     (λ b low out. none_there p a b
-    (λ k. false_from_ne_true (is_legal p (triple a b k))
-    (λ e. both_ways (has w b) out (all (triple a b k) e refl))))
+    (λ k. false_from_ne_true (is_legal p (move_of a b k))
+    (λ e. both_ways (contains w b) out (all (move_of a b k) e refl))))
 
 -- nor do the squares without an own piece
-pub from_men : (p : Setup) (w : ℕ) → ((k : ℕ) → k < 64 → has w k ≡ is_of p.side (man_at p.men k))
+pub from_men : (p : Setup) (w : ℕ) → ((k : ℕ) → k < 64 → contains w k ≡ is_of p.side (man_at p.men k))
     → flat_map (λ a. moves_from p a) (members w) ≡ moves p
 from_men p w own = flat_map_members (λ a. moves_from p a) w (λ a low out. none_from p a (sym (own a low) ∙ out))
     ∙ sym (moves-by_start p)

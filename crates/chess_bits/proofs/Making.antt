@@ -20,11 +20,11 @@ use Rattle.chess_base.specs.declared.setup.Setup.{Setup}
 use Rattle.chess_base.specs.Squares.{is_square}
 use Rattle.chess_base.specs.Men.{Men, man_at, other, is_man, is_of, same_colour, same_kind}
 use Rattle.chess_base.specs.Before.{captured_square, man_on, saved_of}
-use Rattle.chess_base.specs.Castling.{castling_rook_to, home_square, is_beside, king_home_file, king_square, lands_on, right_of, right_is_sound, rook_file, says_castling, are_placed_for_castling}
+use Rattle.chess_base.specs.Castling.{castling_rook_to, home_square, is_beside, king_home_file, king_square, mover_end, right_of, right_is_sound, rook_file, is_castling_to, are_placed_for_castling}
 use Rattle.chess_base.specs.ties.Splits.{right_is_sound_at}
 use Rattle.chess_base.specs.Sound.{IsSound}
 use Rattle.chess_base.specs.Attacks.{is_in_check}
-use Rattle.chess_base.specs.Moves.{after, fullmove_after, halfmove_after, is_pseudo_legal, is_double_advance, is_legal, man_that_lands, men_after, resets_clock, right_after, rights_after, second_square_emptied, target_after}
+use Rattle.chess_base.specs.Moves.{after, fullmove_after, halfmove_after, is_pseudo_legal, is_double_advance, is_legal, arriving_man, men_after, resets_clock, right_after, rights_after, second_square_emptied, target_after}
 use Rattle.chess_base.proofs.Castlings.{change_of}
 use Rattle.chess_base.proofs.Changes.{Change, Rest, Alone, WithCapture, WithRook}
 use Rattle.chess_base.proofs.MoveKinds.{is_of-mover}
@@ -136,8 +136,8 @@ none_of r White QueenSide none = none.white_queen_side
 none_of r Black KingSide none = none.black_king_side
 none_of r Black QueenSide none = none.black_queen_side
 
-no_right_says : (p : Setup) (m : Move) (w : CastlingSide) → has_no_right p.rights ≡ true → says_castling p m w ≡ false
-unfolding says_castling
+no_right_says : (p : Setup) (m : Move) (w : CastlingSide) → has_no_right p.rights ≡ true → is_castling_to p m w ≡ false
+unfolding is_castling_to
 no_right_says p m w h = rw (none_of p.rights p.side w (no_right p.rights h)) (and-false _)
 
 -- ---- plain moves
@@ -161,12 +161,12 @@ plain_rook : (p : Setup) (m : Move) → IsPlainly p m → castling_rook_to p m �
 unfolding castling_rook_to
 plain_rook p m h = rw h.no_castle refl
 
-plain_end : (p : Setup) (m : Move) → IsPlainly p m → lands_on p m ≡ m.to
-unfolding lands_on
+plain_end : (p : Setup) (m : Move) → IsPlainly p m → mover_end p m ≡ m.to
+unfolding mover_end
 plain_end p m h = rw h.no_castle refl
 
 pub plainly_written : (p : Setup) (m : Move) → length p.men ≡ 64 → IsPlainly p m
-    → set (set p.men m.from None) m.to (man_that_lands (man_at p.men m.from) m.promotion) ≡ men_after p m
+    → set (set p.men m.from None) m.to (arriving_man (man_at p.men m.from) m.promotion) ≡ men_after p m
 plainly_written p m all h =
     sym (men_after-written p m all ∙ rw (plain_second p m h, plain_rook p m h, plain_end p m h) refl)
 
@@ -303,7 +303,7 @@ clock_is p m x sound legal h =
 men_shifted : (p : Setup) (m : Move) (x : Man) → IsSound p → Shifts p m x
     → set (set p.men m.from None) m.to (Some x) ≡ men_after p m
 men_shifted p m x sound h =
-    let lands : man_that_lands (man_at p.men m.from) m.promotion ≡ Some x = rw (h.mover, h.unpromoted) refl in
+    let lands : arriving_man (man_at p.men m.from) m.promotion ≡ Some x = rw (h.mover, h.unpromoted) refl in
     ap (λ o. set (set p.men m.from None) m.to o) (sym lands) ∙ plainly_written p m sound.board h.plainly
 
 pub after_shift : (p : Setup) (m : Move) (x : Man) (rights : Rights) (target : Option ℕ) (n : ℕ) → IsSound p

@@ -9,7 +9,7 @@ use Rattle.chess_base.specs.Men.{Men, man_at, is_man}
 use Rattle.chess_base.specs.Sound.{IsSound, has_one_king}
 use Rattle.chess_base.proofs.Kings.{one_king}
 use Rattle.chess_base.specs.declared.man.Colour.TheVariants.{White, Black}
-use Rattle.chess_moves.specs.Sets.{has}
+use Rattle.chess_moves.specs.Sets.{contains}
 use Rattle.chess_moves.proofs.Words.{has_zero}
 
 pub none_counted : {X : Type 0} (q : X → Bool) (d : X) (xs : List X)
@@ -21,7 +21,7 @@ none_counted q d (x ∷ xs) h =
 
 -- the king is in its set
 pub some_king : (men : Men) (c : Colour) (w : ℕ) → length men ≡ 64 → has_one_king men c ≡ true
-    → ((k : ℕ) → k < 64 → has w k ≡ is_man c King (man_at men k)) → 0 < w
+    → ((k : ℕ) → k < 64 → contains w k ≡ is_man c King (man_at men k)) → 0 < w
 unfolding has_one_king
 some_king men c zero all one set =
     let none : count_by (λ o. is_man c King o) men ≡ 0 = none_counted (λ o. is_man c King o) None men

@@ -12,14 +12,14 @@ use Rattle.chess_base.specs.declared.man.Move.{Move}
 use Rattle.chess_base.specs.declared.setup.Setup.{Setup}
 use Rattle.chess_base.specs.Attacks.{is_clear, could_capture}
 use Rattle.chess_base.specs.Men.{Men, man_at, other, is_of, is_man, same_kind, forward, pawn_rank}
-use Rattle.chess_base.specs.MoveList.{triple}
+use Rattle.chess_base.specs.MoveList.{move_of}
 use Rattle.chess_base.specs.Moves.{is_legal, pawn_advances, pawn_captures}
 use Rattle.chess_base.specs.Sound.{IsSound, no_pawn_on_end_ranks, pawn_is_allowed}
 use Rattle.chess_base.specs.Squares.{file, rank, is_square}
 use Rattle.chess_base.proofs.Changes.{advance_goes, pawn_from_same}
 use Rattle.chess_base.proofs.MenFacts.{is_of-from_is_man}
 use Rattle.chess_base.proofs.OverSquares.{each_square-at}
-use Rattle.chess_moves.specs.Sets.{has, HasOrigins}
+use Rattle.chess_moves.specs.Sets.{contains, HasOrigins}
 use Rattle.chess_moves.proofs.Origins.{begins_below}
 use Rattle.chess_bits.specs.declared.line.Line.TheVariants.{File}
 use Rattle.chess_bits.specs.declared.table.Shape.TheVariants as shape
@@ -60,13 +60,13 @@ officer_attacks p kind m no_pawn no_king legal man =
 
 pub officer_origins : (p : Setup) (kind : Kind) (to w u v : ℕ) → same_kind Pawn kind ≡ false
     → same_kind King kind ≡ false
-    → ((k : ℕ) → has w k ≡ (has u k && has v k))
-    → ((k : ℕ) → k < 64 → has u k ≡ is_man p.side kind (man_at p.men k))
-    → ((k : ℕ) → k < 64 → has v k ≡ could_capture p.men p.side kind to k)
+    → ((k : ℕ) → contains w k ≡ (contains u k && contains v k))
+    → ((k : ℕ) → k < 64 → contains u k ≡ is_man p.side kind (man_at p.men k))
+    → ((k : ℕ) → k < 64 → contains v k ≡ could_capture p.men p.side kind to k)
     → HasOrigins p kind to w
 officer_origins p kind to w u v no_pawn no_king all men reached = λ m legal man there.
     let low = begins_below p m legal in
-    all m.from ∙ and_from (has u m.from) (has v m.from) (men m.from low ∙ man)
+    all m.from ∙ and_from (contains u m.from) (contains v m.from) (men m.from low ∙ man)
     (reached m.from low ∙ ap (λ t. could_capture p.men p.side kind t m.from) (sym there)
     ∙ officer_attacks p kind m no_pawn no_king legal man)
 
@@ -112,7 +112,7 @@ no_some : (o : Option Man) → is_none o ≡ true → not (is_some o) ≡ true
 no_some None h = refl
 no_some (Some x) h = cc
 
-end_is_empty : (p : Setup) (a b : ℕ) → pawn_advances p (triple a b None) ≡ true → is_none (man_at p.men b) ≡ true
+end_is_empty : (p : Setup) (a b : ℕ) → pawn_advances p (move_of a b None) ≡ true → is_none (man_at p.men b) ≡ true
 unfolding pawn_advances
 end_is_empty p a b h = (and_parts (is_none (man_at p.men b)) _ h).0
 
@@ -126,17 +126,17 @@ pawn_start p m sound pawn legal =
     && (is_on_ray File true m.to m.from || is_on_ray File false m.to m.from) in
     let aside = (is_of (other p.side) (man_at p.men m.to) || is_square p.target m.to)
     && in_shape (shape.Pawn (other p.side)) m.to m.from in
-    let goes : (pawn_advances p (triple m.from m.to None) || pawn_captures p (triple m.from m.to None)) ≡ true =
+    let goes : (pawn_advances p (move_of m.from m.to None) || pawn_captures p (move_of m.from m.to None)) ≡ true =
     sym (pawn_goes p m.from m.to _ (man_told p.side Pawn (man_at p.men m.from) pawn) refl refl low high)
     ∙ (legal_goes p m legal).0 in
-    elim (or_cases (pawn_advances p (triple m.from m.to None)) (pawn_captures p (triple m.from m.to None)) goes) [
+    elim (or_cases (pawn_advances p (move_of m.from m.to None)) (pawn_captures p (move_of m.from m.to None)) goes) [
       | inl ahead ↦
           or_left straight aside
           (and_from (not (is_some (man_at p.men m.to)))
           (is_on_ray File true m.to m.from || is_on_ray File false m.to m.from)
           (no_some (man_at p.men m.to) (end_is_empty p m.from m.to ahead))
           (file_steps p.side m.from m.to (off_lowest p.men p.side m.from pawn (each_square-at _ sound.pawns m.from low))
-          (advance_goes p (triple m.from m.to None) ahead)))
+          (advance_goes p (move_of m.from m.to None) ahead)))
       | inr takes ↦
           let both = and_parts (could_capture p.men p.side Pawn m.from m.to)
           (is_of (other p.side) (man_at p.men m.to) || is_square p.target m.to)
@@ -148,13 +148,13 @@ pawn_start p m sound pawn legal =
     ]
 
 pub pawn_origins : (p : Setup) (kind : Kind) (to w u v : ℕ) → IsSound p → same_kind Pawn kind ≡ true
-    → ((k : ℕ) → has w k ≡ (has u k && has v k))
-    → ((k : ℕ) → k < 64 → has u k ≡ is_man p.side kind (man_at p.men k))
-    → ((k : ℕ) → k < 64 → has v k ≡ may_start p to k)
+    → ((k : ℕ) → contains w k ≡ (contains u k && contains v k))
+    → ((k : ℕ) → k < 64 → contains u k ≡ is_man p.side kind (man_at p.men k))
+    → ((k : ℕ) → k < 64 → contains v k ≡ may_start p to k)
     → HasOrigins p kind to w
 pawn_origins p kind to w u v sound is all men starts = λ m legal man there.
     let low = begins_below p m legal in
     let pawn : is_man p.side Pawn (man_at p.men m.from) ≡ true = ap (λ k. is_man p.side k (man_at p.men m.from))
     (sym (pawn_from_same kind is)) ∙ man in
-    all m.from ∙ and_from (has u m.from) (has v m.from) (men m.from low ∙ man)
+    all m.from ∙ and_from (contains u m.from) (contains v m.from) (men m.from low ∙ man)
     (starts m.from low ∙ ap (λ t. may_start p t m.from) (sym there) ∙ pawn_start p m sound pawn legal)

@@ -12,13 +12,13 @@ use Rattle.chess_base.specs.declared.setup.Setup.{Setup}
 use Rattle.chess_base.specs.Attacks.{is_in_check}
 use Rattle.chess_base.specs.Castling.{castle_of, castles}
 use Rattle.chess_base.specs.Men.{man_at, other, same_colour, same_kind, is_man, is_of, first_rank}
-use Rattle.chess_base.specs.MoveList.{triple}
+use Rattle.chess_base.specs.MoveList.{move_of}
 use Rattle.chess_base.specs.Moves.{is_pseudo_legal, is_legal, after, moves_as, man_moves, pawn_moves, pawn_advances, pawn_captures, is_double_advance, promotion_fits}
 use Rattle.chess_base.specs.ties.Splits.{castles_or_moves}
 use Rattle.chess_base.specs.Squares.{rank}
 use Rattle.chess_base.proofs.MenFacts.{same_colour-self}
 use Rattle.chess_moves.specs.Promoting.{would_promote}
-use Rattle.chess_moves.specs.Sets.{has}
+use Rattle.chess_moves.specs.Sets.{contains}
 use Rattle.chess_bits.specs.ties.Goes.{usual_promotion, goes, legal_or, man_goes}
 
 pub fits_low : (kind : Kind) → promotion_fits false (Some kind) ≡ false
@@ -29,20 +29,20 @@ fits_low Bishop = refl
 fits_low Knight = refl
 fits_low Pawn = refl
 
-none_promoted : (p : Setup) (a b : ℕ) (kind : Kind) (o : Option Castle) → castles_or_moves p (triple a b (Some kind)) o
+none_promoted : (p : Setup) (a b : ℕ) (kind : Kind) (o : Option Castle) → castles_or_moves p (move_of a b (Some kind)) o
     ≡ false
 unfolding man_moves castles
 none_promoted p a b kind None = refl
 none_promoted p a b kind (Some castle) = refl
 
 -- officers, and castling
-officers : (p : Setup) (a b : ℕ) (k : Option Kind) → castles_or_moves p (triple a b k) (castle_of p (triple a b k))
-    ≡ (castles_or_moves p (triple a b None) (castle_of p (triple a b None)) && promotion_fits false k)
-officers p a b None = sym (and-true (castles_or_moves p (triple a b None) (castle_of p (triple a b None))))
+officers : (p : Setup) (a b : ℕ) (k : Option Kind) → castles_or_moves p (move_of a b k) (castle_of p (move_of a b k))
+    ≡ (castles_or_moves p (move_of a b None) (castle_of p (move_of a b None)) && promotion_fits false k)
+officers p a b None = sym (and-true (castles_or_moves p (move_of a b None) (castle_of p (move_of a b None))))
 officers p a b (Some kind) =
-    none_promoted p a b kind (castle_of p (triple a b (Some kind)))
-    ∙ sym (ap (λ f. castles_or_moves p (triple a b None) (castle_of p (triple a b None)) && f) (fits_low kind)
-    ∙ and-false (castles_or_moves p (triple a b None) (castle_of p (triple a b None))))
+    none_promoted p a b kind (castle_of p (move_of a b (Some kind)))
+    ∙ sym (ap (λ f. castles_or_moves p (move_of a b None) (castle_of p (move_of a b None)) && f) (fits_low kind)
+    ∙ and-false (castles_or_moves p (move_of a b None) (castle_of p (move_of a b None))))
 
 -- pawns
 turned : (last : Bool) (k : Option Kind) (x : Bool)
@@ -51,20 +51,20 @@ turned : (last : Bool) (k : Option Kind) (x : Bool)
 turned true k x = and_comm (promotion_fits true k) x
 turned false k x = and_comm (promotion_fits false k) x
 
-pawns : (p : Setup) (a b : ℕ) (k : Option Kind) → pawn_moves p (triple a b k)
-    ≡ (pawn_moves p (triple a b (if rank b == first_rank (other p.side) then Some Queen else None))
+pawns : (p : Setup) (a b : ℕ) (k : Option Kind) → pawn_moves p (move_of a b k)
+    ≡ (pawn_moves p (move_of a b (if rank b == first_rank (other p.side) then Some Queen else None))
     && promotion_fits (rank b == first_rank (other p.side)) k)
 unfolding pawn_moves pawn_advances pawn_captures is_double_advance
 pawns p a b k = turned (rank b == first_rank (other p.side)) k
-    (pawn_advances p (triple a b None) || pawn_captures p (triple a b None))
+    (pawn_advances p (move_of a b None) || pawn_captures p (move_of a b None))
 
 by_kind : (p : Setup) (a b : ℕ) (k : Option Kind) (own pawn : Bool)
-    → (own && cond pawn (pawn_moves p (triple a b k)) (castles_or_moves p (triple a b k) (castle_of p (triple a b k))))
+    → (own && cond pawn (pawn_moves p (move_of a b k)) (castles_or_moves p (move_of a b k) (castle_of p (move_of a b k))))
     ≡ ((own && cond pawn (pawn_moves p
-    (triple a b (if (own && pawn) && (rank b == first_rank (other p.side)) then Some Queen else None)))
-    (castles_or_moves p (triple a b
+    (move_of a b (if (own && pawn) && (rank b == first_rank (other p.side)) then Some Queen else None)))
+    (castles_or_moves p (move_of a b
     (if (own && pawn) && (rank b == first_rank (other p.side)) then Some Queen else None))
-    (castle_of p (triple a b
+    (castle_of p (move_of a b
     (if (own && pawn) && (rank b == first_rank (other p.side)) then Some Queen else None)))))
     && promotion_fits ((own && pawn) && (rank b == first_rank (other p.side))) k)
 by_kind p a b k false pawn = refl
@@ -72,8 +72,8 @@ by_kind p a b k true true = pawns p a b k
 by_kind p a b k true false = officers p a b k
 
 by_man : (p : Setup) (a b : ℕ) (k : Option Kind) (o : Option Man) → man_at p.men a ≡ o
-    → moves_as p (triple a b k) o
-    ≡ (moves_as p (triple a b (usual_promotion p a b)) o && promotion_fits (would_promote p a b) k)
+    → moves_as p (move_of a b k) o
+    ≡ (moves_as p (move_of a b (usual_promotion p a b)) o && promotion_fits (would_promote p a b) k)
 unfolding would_promote is_man
 by_man p a b k None at = refl
 by_man p a b k (Some x) at = rw at (by_kind p a b k (same_colour p.side x.colour) (same_kind Pawn x.kind))
@@ -83,11 +83,11 @@ and_joined true y z = refl
 and_joined false y z = refl
 
 pub pattern_by : (p : Setup) (a b : ℕ) (k : Option Kind)
-    → is_pseudo_legal p (triple a b k) ≡ (goes p a b && promotion_fits (would_promote p a b) k)
+    → is_pseudo_legal p (move_of a b k) ≡ (goes p a b && promotion_fits (would_promote p a b) k)
 unfolding is_pseudo_legal goes
 pattern_by p a b k =
     ap (λ v. (nat_lt a 64 && nat_lt b 64) && v) (by_man p a b k (man_at p.men a) refl)
-    ∙ and_joined (nat_lt a 64 && nat_lt b 64) (moves_as p (triple a b (usual_promotion p a b)) (man_at p.men a))
+    ∙ and_joined (nat_lt a 64 && nat_lt b 64) (moves_as p (move_of a b (usual_promotion p a b)) (man_at p.men a))
     (promotion_fits (would_promote p a b) k)
 
 -- a move has a pattern where its piece goes so and its promotion fits
@@ -98,7 +98,7 @@ pattern_is p m = pattern_by p m.from m.to m.promotion
 -- ---- by the piece
 
 goes_as : (p : Setup) (a b : ℕ) (o : Option Man) → man_at p.men a ≡ o → a < 64 → b < 64
-    → goes p a b ≡ moves_as p (triple a b (usual_promotion p a b)) o
+    → goes p a b ≡ moves_as p (move_of a b (usual_promotion p a b)) o
 unfolding goes is_pseudo_legal
 goes_as p a b o at low high = rw (lt-ltb a 64 low, lt-ltb b 64 high, at) refl
 
@@ -108,7 +108,7 @@ unfolding goes is_pseudo_legal is_of
 no_man_goes p a b h =
     ap (λ v. (nat_lt a 64 && nat_lt b 64) && v) (by (man_at p.men a) h) ∙ and-false (nat_lt a 64 && nat_lt b 64)
   where
-    by : (o : Option Man) → is_of p.side o ≡ false → moves_as p (triple a b (usual_promotion p a b)) o ≡ false
+    by : (o : Option Man) → is_of p.side o ≡ false → moves_as p (move_of a b (usual_promotion p a b)) o ≡ false
     by None e = refl
     by (Some x) e = rw e refl
 
@@ -122,11 +122,11 @@ usual_fits true x = refl
 usual_fits false x = refl
 
 usual_pawn : (p : Setup) (a b : ℕ)
-    → pawn_moves p (triple a b (if rank b == first_rank (other p.side) then Some Queen else None))
-    ≡ (pawn_advances p (triple a b None) || pawn_captures p (triple a b None))
+    → pawn_moves p (move_of a b (if rank b == first_rank (other p.side) then Some Queen else None))
+    ≡ (pawn_advances p (move_of a b None) || pawn_captures p (move_of a b None))
 unfolding pawn_moves pawn_advances pawn_captures is_double_advance
 usual_pawn p a b = usual_fits (rank b == first_rank (other p.side))
-    (pawn_advances p (triple a b None) || pawn_captures p (triple a b None))
+    (pawn_advances p (move_of a b None) || pawn_captures p (move_of a b None))
 
 promotes_is : (p : Setup) (a b : ℕ) (x : Man) → man_at p.men a ≡ Some x → x.colour ≡ p.side
     → same_kind Pawn x.kind ≡ true → would_promote p a b ≡ (rank b == first_rank (other p.side))
@@ -137,11 +137,11 @@ promotes_is p a b x at own pawn = let own' : same_colour p.side x.colour ≡ tru
 -- a pawn advances or captures
 pub pawn_goes : (p : Setup) (a b : ℕ) (x : Man) → man_at p.men a ≡ Some x → x.colour ≡ p.side
     → same_kind Pawn x.kind ≡ true → a < 64 → b < 64
-    → goes p a b ≡ (pawn_advances p (triple a b None) || pawn_captures p (triple a b None))
+    → goes p a b ≡ (pawn_advances p (move_of a b None) || pawn_captures p (move_of a b None))
 pawn_goes p a b x at own pawn low high =
     goes_as p a b (Some x) at low high
-    ∙ moves_pawn p (triple a b (usual_promotion p a b)) x own pawn
-    ∙ ap (λ w. pawn_moves p (triple a b (if w then Some Queen else None))) (promotes_is p a b x at own pawn)
+    ∙ moves_pawn p (move_of a b (usual_promotion p a b)) x own pawn
+    ∙ ap (λ w. pawn_moves p (move_of a b (if w then Some Queen else None))) (promotes_is p a b x at own pawn)
     ∙ usual_pawn p a b
 
 pub not_promoting : (p : Setup) (a b : ℕ) (x : Man) → man_at p.men a ≡ Some x → same_kind Pawn x.kind ≡ false
@@ -162,12 +162,12 @@ moves_officer p m x own no_pawn = let own' : same_colour p.side x.colour ≡ tru
 -- another piece goes as it attacks, or castles
 pub officer_goes : (p : Setup) (a b : ℕ) (x : Man) → man_at p.men a ≡ Some x → x.colour ≡ p.side
     → same_kind Pawn x.kind ≡ false → a < 64 → b < 64
-    → goes p a b ≡ castles_or_moves p (triple a b None) (castle_of p (triple a b None))
+    → goes p a b ≡ castles_or_moves p (move_of a b None) (castle_of p (move_of a b None))
 officer_goes p a b x at own no_pawn low high =
     goes_as p a b (Some x) at low high
-    ∙ moves_officer p (triple a b (usual_promotion p a b)) x own no_pawn
-    ∙ ap (λ w. castles_or_moves p (triple a b (if w then Some Queen else None))
-    (castle_of p (triple a b (if w then Some Queen else None)))) (not_promoting p a b x at no_pawn)
+    ∙ moves_officer p (move_of a b (usual_promotion p a b)) x own no_pawn
+    ∙ ap (λ w. castles_or_moves p (move_of a b (if w then Some Queen else None))
+    (castle_of p (move_of a b (if w then Some Queen else None)))) (not_promoting p a b x at no_pawn)
 
 -- ---- legal moves
 
@@ -180,17 +180,17 @@ legal_goes p m h =
     (sym (pattern_is p m) ∙ pattern)
 
 -- what castles legally goes so
-castling_goes : (p : Setup) (a b : ℕ) → is_legal p (triple a b None) ≡ true → goes p a b ≡ true
-castling_goes p a b h = (legal_goes p (triple a b None) h).0
+castling_goes : (p : Setup) (a b : ℕ) → is_legal p (move_of a b None) ≡ true → goes p a b ≡ true
+castling_goes p a b h = (legal_goes p (move_of a b None) h).0
 
 pub man_sound : (p : Setup) (a b : ℕ) (x : Man) → man_at p.men a ≡ Some x → x.colour ≡ p.side
     → same_kind Pawn x.kind ≡ false → a < 64 → b < 64
     → man_goes p a b ≡ true → goes p a b ≡ true
-man_sound p a b x at own no_pawn low high h = by (castle_of p (triple a b None)) refl h
+man_sound p a b x at own no_pawn low high h = by (castle_of p (move_of a b None)) refl h
   where
-    by : (o : Option Castle) → castle_of p (triple a b None) ≡ o
-        → legal_or p (triple a b None) o (man_moves p (triple a b None)) ≡ true → goes p a b ≡ true
-    by None e g = officer_goes p a b x at own no_pawn low high ∙ ap (castles_or_moves p (triple a b None)) e ∙ g
+    by : (o : Option Castle) → castle_of p (move_of a b None) ≡ o
+        → legal_or p (move_of a b None) o (man_moves p (move_of a b None)) ≡ true → goes p a b ≡ true
+    by None e g = officer_goes p a b x at own no_pawn low high ∙ ap (castles_or_moves p (move_of a b None)) e ∙ g
     by (Some castle) e g = castling_goes p a b g
 
 none_fits : (k : Option Kind) → promotion_fits false k ≡ true → k ≡ None
@@ -200,24 +200,24 @@ none_fits (Some kind) h = absurd (both_ways _ (fits_low kind) h)
 pub man_complete : (p : Setup) (m : Move) (x : Man) → man_at p.men m.from ≡ Some x → x.colour ≡ p.side
     → same_kind Pawn x.kind ≡ false → m.from < 64 → m.to < 64
     → is_legal p m ≡ true → man_goes p m.from m.to ≡ true
-man_complete p m x at own no_pawn low high h = by (castle_of p (triple m.from m.to None)) refl
+man_complete p m x at own no_pawn low high h = by (castle_of p (move_of m.from m.to None)) refl
   where
     stays : m.promotion ≡ None
     stays = none_fits m.promotion
         (ap (λ w. promotion_fits w m.promotion) (sym (not_promoting p m.from m.to x at no_pawn)) ∙ (legal_goes p m h).1)
 
-    by : (o : Option Castle) → castle_of p (triple m.from m.to None) ≡ o
-        → legal_or p (triple m.from m.to None) o (man_moves p (triple m.from m.to None)) ≡ true
+    by : (o : Option Castle) → castle_of p (move_of m.from m.to None) ≡ o
+        → legal_or p (move_of m.from m.to None) o (man_moves p (move_of m.from m.to None)) ≡ true
     by None e = sym (officer_goes p m.from m.to x at own no_pawn low high
-        ∙ ap (castles_or_moves p (triple m.from m.to None)) e) ∙ (legal_goes p m h).0
-    by (Some castle) e = ap (λ k. is_legal p (triple m.from m.to k)) (sym stays) ∙ h
+        ∙ ap (castles_or_moves p (move_of m.from m.to None)) e) ∙ (legal_goes p m h).0
+    by (Some castle) e = ap (λ k. is_legal p (move_of m.from m.to k)) (sym stays) ∙ h
 
 -- ---- whether a move is legal
 
 pub not_target : (p : Setup) (m : Move) (w : ℕ)
-    → ((n : Move) → is_legal p n ≡ true → n.from ≡ m.from → has w n.to ≡ true) → has w m.to ≡ false
+    → ((n : Move) → is_legal p n ≡ true → n.from ≡ m.from → contains w n.to ≡ true) → contains w m.to ≡ false
     → false ≡ is_legal p m
-not_target p m w all out = sym (false_from_ne_true (is_legal p m) (λ e. both_ways (has w m.to) out (all m e refl)))
+not_target p m w all out = sym (false_from_ne_true (is_legal p m) (λ e. both_ways (contains w m.to) out (all m e refl)))
 
 pub not_fitting : (p : Setup) (m : Move) → promotion_fits (would_promote p m.from m.to) m.promotion ≡ false
     → false ≡ is_legal p m

@@ -10,13 +10,13 @@ use Rattle.chess_base.specs.declared.man.Kind.TheVariants.{King, Pawn}
 use Rattle.chess_base.specs.declared.setup.Setup.{Setup}
 use Rattle.chess_base.specs.Attacks.{could_capture, is_rank_ahead}
 use Rattle.chess_base.specs.Men.{Men, man_at, is_of, is_man, other, forward, pawn_rank}
-use Rattle.chess_base.specs.MoveList.{triple, squares}
+use Rattle.chess_base.specs.MoveList.{move_of, squares}
 use Rattle.chess_base.specs.Moves.{is_legal, pawn_advances, pawn_captures}
 use Rattle.chess_base.specs.Sound.{IsSound, no_pawn_on_end_ranks, pawn_is_allowed}
 use Rattle.chess_base.specs.Squares.{file, rank, gap, is_square}
 use Rattle.chess_base.proofs.OverSquares.{each_square-at}
 use Rattle.chess_moves.specs.ties.Candidates.{moves_between, moves_from}
-use Rattle.chess_moves.specs.Sets.{has, members}
+use Rattle.chess_moves.specs.Sets.{contains, members}
 use Rattle.chess_moves.proofs.Members.{filter_none, filter_first, by_range}
 use Rattle.chess_bits.specs.declared.table.Shape.TheVariants as shape
 use Rattle.chess_bits.specs.ties.Goes.{goes, aims_at, goes_unusually, IsFree, AreFree}
@@ -97,7 +97,7 @@ few_kept q (suc n) a =
 -- a set has 64 squares at most
 pub members_fit : (w : ℕ) → length (members w) ≤ 64
 unfolding members squares
-members_fit w = few_kept (λ k. has w k) 64 0
+members_fit w = few_kept (λ k. contains w k) 64 0
 
 -- ---- the squares to which a usual pawn may go
 
@@ -274,7 +274,7 @@ on_each f g false false e l r h k = grind arith
 
 captures_so : (p : Setup) (a b : ℕ) → is_man p.side Pawn (man_at p.men a) ≡ true → aims_at p.target p.side a ≡ false
     → Inside p.side a
-    → pawn_captures p (triple a b None)
+    → pawn_captures p (move_of a b None)
     ≡ (((not (file a == 0) && is_of (other p.side) (man_at p.men (forward p.side a - 1))) && (b == forward p.side a - 1))
     || ((not (file a == 7) && is_of (other p.side) (man_at p.men (forward p.side a + 1)))
     && (b == forward p.side a + 1)))
@@ -292,7 +292,7 @@ and_joined : (s r t x : Bool) → ((s && r) && (t && x)) ≡ (((s && r) && t) &&
 and_joined s r t x = grind arith
 
 advances_so : (p : Setup) (a b : ℕ) → is_man p.side Pawn (man_at p.men a) ≡ true
-    → pawn_advances p (triple a b None)
+    → pawn_advances p (move_of a b None)
     ≡ ((is_none (man_at p.men (forward p.side a)) && (b == forward p.side a))
     || (((is_none (man_at p.men (forward p.side a)) && (rank a == pawn_rank p.side))
     && is_none (man_at p.men (forward p.side (forward p.side a)))) && (b == forward p.side (forward p.side a))))
@@ -338,17 +338,17 @@ four_alone q r s t n m l k are =
 between_counted : (p : Setup) (a b king : ℕ) → IsSound p → IsFree p a → is_man p.side Pawn (man_at p.men a) ≡ true
     → IsUsual p a → a < 64 → b < 64 → king < 64
     → ((k : ℕ) → k < 64 → is_man p.side King (man_at p.men k) ≡ (k == king))
-    → length (moves_between p a b) ≡ once (pawn_advances p (triple a b None) || pawn_captures p (triple a b None))
+    → length (moves_between p a b) ≡ once (pawn_advances p (move_of a b None) || pawn_captures p (move_of a b None))
 between_counted p a b king sound free pawn usual low high there one =
-    by (pawn_advances p (triple a b None) || pawn_captures p (triple a b None))
+    by (pawn_advances p (move_of a b None) || pawn_captures p (move_of a b None))
     (pawn_goes p a b _ (man_told p.side Pawn (man_at p.men a) pawn) refl refl low high)
   where
     by : (t : Bool) → goes p a b ≡ t → length (moves_between p a b) ≡ once t
     by true go =
         let legal = free_is_legal p a b king sound free low there one go (usual.stays b high go) (usual.passes b) in
         sym (rw legal at (one_counted p a b (usual.stays b high go)))
-    by false off = ap length (none_there p a b (λ k. false_from_ne_true (is_legal p (triple a b k))
-        (λ e. both_ways (goes p a b) off (legal_goes p (triple a b k) e).0)))
+    by false off = ap length (none_there p a b (λ k. false_from_ne_true (is_legal p (move_of a b k))
+        (λ e. both_ways (goes p a b) off (legal_goes p (move_of a b k) e).0)))
 
 -- the ways open to a pawn: one square ahead, two, and a capture to the left and to the right
 abbrev pub one_ahead : Setup → ℕ → Bool
@@ -403,24 +403,24 @@ pawn_counted p a king sound free pawn low there one usual =
 
 -- of these pawns, those to which each way is open
 pub record AreWays (p : Setup) (w q r s t : ℕ) : Type 0 where
-  pub ahead : (k : ℕ) → k < 64 → has w k ≡ true → has q k ≡ one_ahead p k
-  pub double : (k : ℕ) → k < 64 → has w k ≡ true → has r k ≡ two_ahead p k
-  pub left : (k : ℕ) → k < 64 → has w k ≡ true → has s k ≡ takes_left p k
-  pub right : (k : ℕ) → k < 64 → has w k ≡ true → has t k ≡ takes_right p k
-  pub none : (k : ℕ) → k < 64 → has w k ≡ false
-      → (has q k ≡ false) × (has r k ≡ false) × (has s k ≡ false) × (has t k ≡ false)
+  pub ahead : (k : ℕ) → k < 64 → contains w k ≡ true → contains q k ≡ one_ahead p k
+  pub double : (k : ℕ) → k < 64 → contains w k ≡ true → contains r k ≡ two_ahead p k
+  pub left : (k : ℕ) → k < 64 → contains w k ≡ true → contains s k ≡ takes_left p k
+  pub right : (k : ℕ) → k < 64 → contains w k ≡ true → contains t k ≡ takes_right p k
+  pub none : (k : ℕ) → k < 64 → contains w k ≡ false
+      → (contains q k ≡ false) × (contains r k ≡ false) × (contains s k ≡ false) × (contains t k ≡ false)
 
 pub pawns_counted : (p : Setup) (king w q r s t : ℕ) → IsSound p → king < 64
     → ((k : ℕ) → k < 64 → is_man p.side King (man_at p.men k) ≡ (k == king))
-    → AreFree p Pawn w → ((k : ℕ) → k < 64 → has w k ≡ true → goes_unusually p k ≡ false) → AreWays p w q r s t
+    → AreFree p Pawn w → ((k : ℕ) → k < 64 → contains w k ≡ true → goes_unusually p k ≡ false) → AreWays p w q r s t
     → length (members q) + length (members r) + length (members s) + length (members t)
     ≡ length (flat_map (λ a. moves_from p a) (members w))
 unfolding members squares
-pawns_counted p king w q r s t sound there one free usual ways = sym (by_tests (λ a. moves_from p a) (λ k. has w k)
-    (λ k. has q k) (λ k. has r k) (λ k. has s k) (λ k. has t k) 64 0 (omega arith) each ways.none)
+pawns_counted p king w q r s t sound there one free usual ways = sym (by_tests (λ a. moves_from p a) (λ k. contains w k)
+    (λ k. contains q k) (λ k. contains r k) (λ k. contains s k) (λ k. contains t k) 64 0 (omega arith) each ways.none)
   where
-    each : (k : ℕ) → k < 64 → has w k ≡ true
-        → length (moves_from p k) ≡ once (has q k) + once (has r k) + once (has s k) + once (has t k)
+    each : (k : ℕ) → k < 64 → contains w k ≡ true
+        → length (moves_from p k) ≡ once (contains q k) + once (contains r k) + once (contains s k) + once (contains t k)
     each k low on =
         let man = free k low on in
         pawn_counted p k king sound man.1 man.0 low there one (usual k low on)
@@ -432,23 +432,23 @@ at_least Black a i = (omega (arith, i.0), omega (arith, i.0))
 
 -- what the code computes of these pawns
 pub record AreSets (p : Setup) (w full blockers farther homes enemies lefts rights q again r s t : ℕ) : Type 0 where
-  pub all : (k : ℕ) → k < 64 → has full k ≡ not (is_none (man_at p.men k))
-  pub blocked : (k : ℕ) → k < 64 → 8 ≤ k → has blockers k ≡ has full (forward p.side k)
-  pub further : (k : ℕ) → k < 64 → 8 ≤ k → has farther k ≡ has blockers (forward p.side k)
-  pub home : (k : ℕ) → k < 64 → has homes k ≡ (rank k == pawn_rank p.side)
-  pub theirs : (k : ℕ) → k < 64 → has enemies k ≡ is_of (other p.side) (man_at p.men k)
+  pub all : (k : ℕ) → k < 64 → contains full k ≡ not (is_none (man_at p.men k))
+  pub blocked : (k : ℕ) → k < 64 → 8 ≤ k → contains blockers k ≡ contains full (forward p.side k)
+  pub further : (k : ℕ) → k < 64 → 8 ≤ k → contains farther k ≡ contains blockers (forward p.side k)
+  pub home : (k : ℕ) → k < 64 → contains homes k ≡ (rank k == pawn_rank p.side)
+  pub theirs : (k : ℕ) → k < 64 → contains enemies k ≡ is_of (other p.side) (man_at p.men k)
   pub from_left : (k : ℕ) → k < 64 → 8 ≤ k → forward p.side k < 64
-      → has lefts k ≡ (not (file k == 0) && has enemies (forward p.side k - 1))
+      → contains lefts k ≡ (not (file k == 0) && contains enemies (forward p.side k - 1))
   pub from_right : (k : ℕ) → k < 64 → 8 ≤ k
-      → has rights k ≡ (not (file k == 7) && has enemies (forward p.side k + 1))
-  pub once : (k : ℕ) → k < 64 → has q k ≡ (has w k && not (has blockers k))
-  pub both : (k : ℕ) → has again k ≡ (has q k && has homes k)
-  pub twice : (k : ℕ) → k < 64 → has r k ≡ (has again k && not (has farther k))
-  pub left : (k : ℕ) → has s k ≡ (has w k && has lefts k)
-  pub right : (k : ℕ) → has t k ≡ (has w k && has rights k)
+      → contains rights k ≡ (not (file k == 7) && contains enemies (forward p.side k + 1))
+  pub once : (k : ℕ) → k < 64 → contains q k ≡ (contains w k && not (contains blockers k))
+  pub both : (k : ℕ) → contains again k ≡ (contains q k && contains homes k)
+  pub twice : (k : ℕ) → k < 64 → contains r k ≡ (contains again k && not (contains farther k))
+  pub left : (k : ℕ) → contains s k ≡ (contains w k && contains lefts k)
+  pub right : (k : ℕ) → contains t k ≡ (contains w k && contains rights k)
 
 pub ways_are : (p : Setup) (w full blockers farther homes enemies lefts rights q again r s t : ℕ) → IsSound p
-    → AreFree p Pawn w → ((k : ℕ) → k < 64 → has w k ≡ true → goes_unusually p k ≡ false)
+    → AreFree p Pawn w → ((k : ℕ) → k < 64 → contains w k ≡ true → goes_unusually p k ≡ false)
     → AreSets p w full blockers farther homes enemies lefts rights q again r s t → AreWays p w q r s t
 ways_are p w full blockers farther homes enemies lefts rights q again r s t sound free usual are = record {
   ahead = ahead;
@@ -485,19 +485,19 @@ ways_are p w full blockers farther homes enemies lefts rights q again r s t soun
         are.theirs (forward p.side k + 1) on_board.low_r,
       ) refl;
   none = λ k low off.
-      let q0 : has q k ≡ false = are.once k low ∙ ap (λ x. x && not (has blockers k)) off in
-      let both0 : has again k ≡ false = are.both k ∙ ap (λ x. x && has homes k) q0 in (
+      let q0 : contains q k ≡ false = are.once k low ∙ ap (λ x. x && not (contains blockers k)) off in
+      let both0 : contains again k ≡ false = are.both k ∙ ap (λ x. x && contains homes k) q0 in (
         q0,
-        are.twice k low ∙ ap (λ x. x && not (has farther k)) both0,
-        are.left k ∙ ap (λ x. x && has lefts k) off,
-        are.right k ∙ ap (λ x. x && has rights k) off,
+        are.twice k low ∙ ap (λ x. x && not (contains farther k)) both0,
+        are.left k ∙ ap (λ x. x && contains lefts k) off,
+        are.right k ∙ ap (λ x. x && contains rights k) off,
       );
 }
   where
-    stands : (k : ℕ) → k < 64 → has w k ≡ true → Inside p.side k
+    stands : (k : ℕ) → k < 64 → contains w k ≡ true → Inside p.side k
     stands k low on = stands_inside p k sound (free k low on).0 low (usual k low on)
 
-    ahead : (k : ℕ) → k < 64 → has w k ≡ true → has q k ≡ one_ahead p k
+    ahead : (k : ℕ) → k < 64 → contains w k ≡ true → contains q k ≡ one_ahead p k
     ahead k low on =
         let i = stands k low on in
         let on_board = apart p.side k i in

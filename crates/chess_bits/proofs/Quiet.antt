@@ -13,12 +13,12 @@ use Rattle.chess_base.specs.Men.{Men, man_at, other, is_man, is_of}
 use Rattle.chess_base.specs.Attacks.{is_clear, could_capture, attacks, is_attacked}
 use Rattle.chess_base.specs.ties.Splits.{could_capture_as}
 use Rattle.chess_base.specs.declared.setup.Setup.{Setup}
-use Rattle.chess_base.specs.Moves.{is_en_passant, man_that_lands, men_after, second_square_emptied, steps_of}
-use Rattle.chess_base.specs.Castling.{castle_of, lands_on, castling_rook_to}
+use Rattle.chess_base.specs.Moves.{is_en_passant, arriving_man, men_after, second_square_emptied, steps_of}
+use Rattle.chess_base.specs.Castling.{castle_of, mover_end, castling_rook_to}
 use Rattle.chess_base.proofs.MenAfter.{man_after, man_at-men_after}
 use Rattle.chess_base.proofs.OverSquares.{some_square-at, some_square-none, each_square-all, each_square-at}
 use Rattle.chess_base.specs.declared.steps.Steps.{Steps}
-use Rattle.chess_base.specs.MoveList.{triple}
+use Rattle.chess_base.specs.MoveList.{move_of}
 use Rattle.chess_bits.specs.ties.Changes.{StepsPlainly, is_changed, is_filled}
 use Rattle.chess_bits.specs.ties.Goes.{lifted}
 use Rattle.chess_bits.proofs.Attackers.{eq_back}
@@ -53,11 +53,11 @@ could_capture_as_clear men later (Some x) a b h e = could_capture_clear men late
 pub record IsPlain (p : Setup) (m : Move) : Type 0 where
   pub also : second_square_emptied p m ≡ None
   pub rook : castling_rook_to p m ≡ None
-  pub mover : is_none (man_that_lands (man_at p.men m.from) m.promotion) ≡ false
-  pub own : is_of (other p.side) (man_that_lands (man_at p.men m.from) m.promotion) ≡ false
+  pub mover : is_none (arriving_man (man_at p.men m.from) m.promotion) ≡ false
+  pub own : is_of (other p.side) (arriving_man (man_at p.men m.from) m.promotion) ≡ false
 
 pub plain_after : (p : Setup) (m : Move) (k : ℕ) → IsPlain p m → k < 64
-    → man_at (men_after p m) k ≡ cond (lands_on p m == k) (man_that_lands (man_at p.men m.from) m.promotion)
+    → man_at (men_after p m) k ≡ cond (mover_end p m == k) (arriving_man (man_at p.men m.from) m.promotion)
     (cond (m.from == k) None (man_at p.men k))
 unfolding man_after
 plain_after p m k h l = man_at-men_after p m k l ∙ rw (h.also, h.rook) refl
@@ -77,11 +77,11 @@ empty_before true arr o g e = absurd (both_ways _ g e)
 empty_before false arr o g e = e
 
 lands_over : (p : Setup) (m : Move) (k : ℕ) → length p.men ≡ 64 → m.from < 64 → IsPlain p m → k < 64
-    → man_at (men_after p m) k ≡ cond (lands_on p m == k) (man_that_lands (man_at p.men m.from) m.promotion)
+    → man_at (men_after p m) k ≡ cond (mover_end p m == k) (arriving_man (man_at p.men m.from) m.promotion)
     (man_at (lifted p.men m.from) k)
 lands_over p m k all low plain l =
     plain_after p m k plain l
-    ∙ ap (λ o. cond (lands_on p m == k) (man_that_lands (man_at p.men m.from) m.promotion) o)
+    ∙ ap (λ o. cond (mover_end p m == k) (arriving_man (man_at p.men m.from) m.promotion) o)
     (ap (λ t. cond t None (man_at p.men k)) (eq_back m.from k) ∙ sym (lifted_at p.men m.from k all low))
 
 clear_before : (p : Setup) (m : Move) (a b : ℕ) → length p.men ≡ 64 → m.from < 64 → IsPlain p m
@@ -95,7 +95,7 @@ clear_before p m a b all low h e =
       | inl inside ↦
           let now = rw inside at (each_square-at _ e x l) in
           rw inside
-          (empty_before (lands_on p m == x) (man_that_lands (man_at p.men m.from) m.promotion)
+          (empty_before (mover_end p m == x) (arriving_man (man_at p.men m.from) m.promotion)
           (man_at (lifted p.men m.from) x) h.mover
           (rw (lands_over p m x all low h l) at now))
     ])
@@ -113,7 +113,7 @@ stays_safe p m king all low h before =
     (could_capture_as (men_after p m) (man_at (men_after p m) a) a king) e in
     let stood : man_at (men_after p m) a ≡ man_at (lifted p.men m.from) a =
     lands_over p m a all low h k
-    ∙ enemy_before (lands_on p m == a) (man_that_lands (man_at p.men m.from) m.promotion)
+    ∙ enemy_before (mover_end p m == a) (arriving_man (man_at p.men m.from) m.promotion)
     (man_at (lifted p.men m.from) a) (other p.side) h.own
     (rw (lands_over p m a all low h k) at both.0) in
     let was : is_of (other p.side) (man_at (lifted p.men m.from) a) ≡ true = rw (← stood) both.0 in
@@ -144,30 +144,30 @@ pub plain_steps : (p : Setup) (m : Move) → is_man p.side King (man_at p.men m.
       second = Some (record { colour = p.side; kind = Rook });
       to = m.to;
       mover =
-          man_that_lands (man_at p.men m.from) m.promotion;
+          arriving_man (man_at p.men m.from) m.promotion;
     } ≡ steps_of p m
-unfolding second_square_emptied castling_rook_to lands_on
+unfolding second_square_emptied castling_rook_to mover_end
 plain_steps p m no_king no_passing =
     let still = not_passing p m no_passing in
     let no_castle : castle_of p m ≡ None = none_castles p m (no_king_says p m KingSide no_king)
     (no_king_says p m QueenSide no_king) in
     rw (still, no_castle) refl
 
-pub lands_same : (o : Option Man) → man_that_lands o None ≡ o
+pub lands_same : (o : Option Man) → arriving_man o None ≡ o
 lands_same None = refl
 lands_same (Some x) = refl
 
 -- such a move fills its end square, and changes that and its start
-pub plain_filled : (p : Setup) (a b k : ℕ) → StepsPlainly p a b → (k == b) ≡ is_filled p (triple a b None) k
+pub plain_filled : (p : Setup) (a b k : ℕ) → StepsPlainly p a b → (k == b) ≡ is_filled p (move_of a b None) k
 plain_filled p a b k h =
     eq_back k b ∙ sym (or-false (b == k))
-    ∙ ap (λ (t : Steps). (t.to == k) || is_square t.second_to k) (plain_steps p (triple a b None) h.no_king h.no_passing)
+    ∙ ap (λ (t : Steps). (t.to == k) || is_square t.second_to k) (plain_steps p (move_of a b None) h.no_king h.no_passing)
 
 pub plain_changed : (p : Setup) (a b k : ℕ) → StepsPlainly p a b
-    → ((k == b) || (k == a)) ≡ is_changed p (triple a b None) k
+    → ((k == b) || (k == a)) ≡ is_changed p (move_of a b None) k
 plain_changed p a b k h =
     ap (λ f. f || (k == a)) (plain_filled p a b k h)
-    ∙ ap (λ e. is_filled p (triple a b None) k || e)
+    ∙ ap (λ e. is_filled p (move_of a b None) k || e)
     (eq_back k a
     ∙ ap (λ (t : Steps). is_square t.second_from k || (t.from == k))
-    (plain_steps p (triple a b None) h.no_king h.no_passing))
+    (plain_steps p (move_of a b None) h.no_king h.no_passing))

@@ -7,7 +7,7 @@ use Rattle.chess_base.specs.Attacks.{is_clear}
 use Rattle.chess_base.specs.Men.{Men, man_at}
 use Rattle.chess_base.specs.Squares.{share_rank_or_file, share_diagonal, lies_inside, is_between}
 use Rattle.chess_base.proofs.OverSquares.{each_square-all, each_square-at}
-use Rattle.chess_moves.specs.Sets.{has}
+use Rattle.chess_moves.specs.Sets.{contains}
 use Rattle.chess_bits.specs.declared.line.Line.{Line}
 use Rattle.chess_bits.specs.declared.line.Line.TheVariants.{Rank, File, Diagonal, Antidiagonal}
 use Rattle.chess_bits.specs.ties.Goes.{lifted}
@@ -53,7 +53,7 @@ inner l b k a y same h g =
 
 -- what is clear with it taken off is empty, but for its square
 empty_there : (men : Men) (w a b k y : ℕ) → IsOccupied w men → length men ≡ 64 → a < 64 → y < 64
-    → is_clear (lifted men a) b k ≡ true → is_between b k y ≡ true → (y == a) ≡ false → has w y ≡ false
+    → is_clear (lifted men a) b k ≡ true → is_between b k y ≡ true → (y == a) ≡ false → contains w y ≡ false
 unfolding is_clear
 empty_there men w a b k y stood all low l clear inside apart =
     let now = rw inside at (each_square-at _ clear y l) in
@@ -68,7 +68,7 @@ unfolding is_open
 seen_from l men w a b k stood all low same clear inside =
     each_square-all _
     (λ y low'.
-    not_both (is_between k a y) (has w y)
+    not_both (is_between k a y) (contains w y)
     (λ g.
     empty_there men w a b k y stood all low low' clear (inner l b k a y same inside g)
     (false_from_ne_true (y == a)
@@ -91,21 +91,21 @@ is_near l men w a b k near s own stood all low same shared mine told clear insid
 
 -- where these are taken off too, the line is as open
 pub opened_too : (men : Men) (w v a b k : ℕ) (near : ℕ → Bool) → IsOccupied w men → length men ≡ 64 → a < 64
-    → ((x : ℕ) → x < 64 → has v x ≡ (has w x && not (near x)))
+    → ((x : ℕ) → x < 64 → contains v x ≡ (contains w x && not (near x)))
     → (is_clear (lifted men a) b k ≡ true → is_between b k a ≡ true → near a ≡ true)
     → is_clear (lifted men a) b k ≡ true → is_open v k b ≡ true
 unfolding is_open
 opened_too men w v a b k near stood all low left told clear =
     each_square-all _
     (λ x l.
-    not_both (is_between k b x) (has v x)
+    not_both (is_between k b x) (contains v x)
     (λ g.
     let inside : is_between b k x ≡ true = between_back b k x ∙ g in
     left x l
     ∙ elim (cases_Bool (x == a)) [
       | inl here ↦
           let at = eqb-true x a here in
-          and_right (has w x) (not (near x))
+          and_right (contains w x) (not (near x))
           (ap (λ s. not (near s)) at ∙ ap not (told clear (ap (λ s. is_between b k s) (sym at) ∙ inside)))
       | inr away ↦ ap (λ t. t && not (near x)) (empty_there men w a b k x stood all low l clear inside away)
     ]))
@@ -135,7 +135,7 @@ pub nothing_hidden : (l : Line) (men : Men) (w v a b k : ℕ) (near : ℕ → Bo
     → IsOccupied w men → length men ≡ 64 → a < 64 → same_line l b k ≡ true → (same_line l a k ≡ true → sh a k ≡ true)
     → own ≡ true
     → near a ≡ ((not (a == k) && sh a k && is_open w k a) && own)
-    → ((x : ℕ) → x < 64 → has v x ≡ (has w x && not (near x)))
+    → ((x : ℕ) → x < 64 → contains v x ≡ (contains w x && not (near x)))
     → aimed ≡ true → (not (b == k) && sh b k) ≡ true → hidden ≡ (aimed && (not (b == k) && sh b k && is_open v k b))
     → hidden ≡ false
     → is_clear (lifted men a) b k ≡ true → ⊥

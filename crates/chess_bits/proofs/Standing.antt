@@ -8,7 +8,7 @@ use Rattle.chess_base.specs.declared.man.Man.{Man}
 use Rattle.std.specs.Prelude.{slice_index}
 use Rattle.chess_base.specs.Men.{Men, man_at, is_of, is_man, kind_number}
 use Rattle.chess_moves.specs.PositionWord.{square_keys, xor_of}
-use Rattle.chess_moves.specs.Sets.{has}
+use Rattle.chess_moves.specs.Sets.{contains}
 use Rattle.chess_moves.proofs.Xored.{no_men_keys, same_men_keys}
 use Rattle.chess_bits.specs.ties.Occupancy.{IsOccupied}
 use Rattle.chess_bits.specs.declared.sets.Sets.{Sets}
@@ -47,16 +47,16 @@ six e Bishop = refl
 six e Knight = refl
 six e Pawn = refl
 
-pub no_kinds : (e : ℕ) (c : Colour) (men : Men) → ((k : ℕ) → has e k ≡ false) → ((k : ℕ) → k < 64 → man_at men k ≡ None)
+pub no_kinds : (e : ℕ) (c : Colour) (men : Men) → ((k : ℕ) → contains e k ≡ false) → ((k : ℕ) → k < 64 → man_at men k ≡ None)
     → IsKinds (e ∷ e ∷ e ∷ e ∷ e ∷ e ∷ []) c men
 no_kinds e c men empty none = record {
-  of_kind = λ kind k low. ap (λ w. has w k) (six e kind) ∙ empty k
+  of_kind = λ kind k low. ap (λ w. contains w k) (six e kind) ∙ empty k
       ∙ sym (no_man c kind (man_at men k) (none k low));
 }
 
 pub no_sets : (s : Sets) (men : Men) → ((k : ℕ) → k < 64 → man_at men k ≡ None) → IsKinds s.white.sets White men
     → IsKinds s.black.sets Black men
-    → ((k : ℕ) → has s.all_white k ≡ false) → ((k : ℕ) → has s.all_black k ≡ false) → s.men_word ≡ 0 → IsSets s men
+    → ((k : ℕ) → contains s.all_white k ≡ false) → ((k : ℕ) → contains s.all_black k ≡ false) → s.men_word ≡ 0 → IsSets s men
 no_sets s men none white black all_white all_black word = record {
   of_white = white;
   of_black = black;
@@ -78,7 +78,7 @@ some_of (Some x) = by_colour x.colour
     by_colour Black = refl
 
 pub occupied_by : (s : Sets) (men : Men) (w : ℕ) → IsSets s men
-    → ((k : ℕ) → has w k ≡ (has s.all_white k || has s.all_black k)) → IsOccupied w men
+    → ((k : ℕ) → contains w k ≡ (contains s.all_white k || contains s.all_black k)) → IsOccupied w men
 occupied_by s men w h union = record {
   of_men = λ k low. union k ∙ rw (h.all_white k low, h.all_black k low) (some_of (man_at men k));
 }

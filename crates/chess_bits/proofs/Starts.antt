@@ -5,9 +5,9 @@ use Rattle.std.proofs.lemmas.Bool.{cases_Bool, cases_lt, eq-eqb, ne_eqb, eqb-tru
 use Rattle.chess_base.specs.declared.man.Kind.{Kind}
 use Rattle.chess_base.specs.declared.setup.Setup.{Setup}
 use Rattle.chess_base.specs.Men.{man_at, is_man}
-use Rattle.chess_base.specs.MoveList.{squares, triple}
+use Rattle.chess_base.specs.MoveList.{squares, move_of}
 use Rattle.chess_base.specs.Moves.{is_legal}
-use Rattle.chess_moves.specs.Sets.{has, members, HasOrigins}
+use Rattle.chess_moves.specs.Sets.{contains, members, HasOrigins}
 use Rattle.chess_bits.proofs.AnyMember.{any_of}
 
 -- k is in the list and passes
@@ -47,9 +47,9 @@ within p q k (suc n) a low high =
     last true = refl
     last false = refl
 
-pub passes_is : (w : ℕ) (q : ℕ → Bool) (k : ℕ) → k < 64 → passes q k (members w) ≡ (has w k && q k)
+pub passes_is : (w : ℕ) (q : ℕ → Bool) (k : ℕ) → k < 64 → passes q k (members w) ≡ (contains w k && q k)
 unfolding members squares
-passes_is w q k low = within (λ x. has w x) q k 64 0 (omega arith) (omega (arith, low))
+passes_is w q k low = within (λ x. contains w x) q k 64 0 (omega arith) (omega (arith, low))
 
 clash : (b : Bool) → b ≡ false → b ≡ true → ⊥
 clash true h g = cc
@@ -90,11 +90,11 @@ passed_over q k ms s ns now t e off h =
 
 -- squares outside a set of origins have no legal move to the square
 pub starts_are : (p : Setup) (kind : Kind) (to k u : ℕ) → HasOrigins p kind to u
-    → ((is_man p.side kind (man_at p.men k) && has u k) && is_legal p (triple k to None))
-    ≡ (is_man p.side kind (man_at p.men k) && is_legal p (triple k to None))
+    → ((is_man p.side kind (man_at p.men k) && contains u k) && is_legal p (move_of k to None))
+    ≡ (is_man p.side kind (man_at p.men k) && is_legal p (move_of k to None))
 starts_are p kind to k u all =
-    both (is_man p.side kind (man_at p.men k)) (has u k) (is_legal p (triple k to None))
-    (λ man legal. all (triple k to None) legal man refl)
+    both (is_man p.side kind (man_at p.men k)) (contains u k) (is_legal p (move_of k to None))
+    (λ man legal. all (move_of k to None) legal man refl)
   where
     both : (x y z : Bool) → (x ≡ true → z ≡ true → y ≡ true) → ((x && y) && z) ≡ (x && z)
     both true y true h = rw (h refl refl) refl

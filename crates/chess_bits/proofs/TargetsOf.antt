@@ -19,14 +19,14 @@ use Rattle.chess_base.specs.declared.man.Variant.TheVariants.{Normal, Fischerand
 use Rattle.chess_base.specs.declared.setup.Setup.{Setup}
 use Rattle.chess_base.specs.Attacks.{attacks, could_capture}
 use Rattle.chess_base.specs.ties.Splits.{could_capture_as, names_castling}
-use Rattle.chess_base.specs.Castling.{home_square, king_home_file, castled_king_file, right_of, says_castling, castling, castle_of}
+use Rattle.chess_base.specs.Castling.{home_square, king_home_file, castled_king_file, right_of, is_castling_to, castling, castle_of}
 use Rattle.chess_base.specs.Men.{man_at, other, is_of, is_man, same_kind, same_colour, kind_number, forward, pawn_rank}
-use Rattle.chess_base.specs.MoveList.{triple}
+use Rattle.chess_base.specs.MoveList.{move_of}
 use Rattle.chess_base.specs.Moves.{is_legal, is_pseudo_legal, man_moves, pawn_advances, pawn_captures, is_double_advance}
 use Rattle.chess_base.specs.Squares.{rank, is_square}
 use Rattle.chess_base.proofs.Landing.{no_castle}
 use Rattle.chess_base.proofs.MenFacts.{same_colour-self, same_colour-true}
-use Rattle.chess_moves.specs.Sets.{has}
+use Rattle.chess_moves.specs.Sets.{contains}
 use Rattle.chess_moves.proofs.Reach.{own_man_moves}
 use Rattle.chess_bits.specs.ties.Goes.{goes, names_end, castling_end, legal_or, castling_or, man_goes}
 use Rattle.chess_bits.proofs.Patterns.{pawn_goes, legal_goes, man_sound, man_complete}
@@ -39,23 +39,23 @@ own_colour c x o at own = let own' : same_colour c x.colour ≡ true = rw at at 
     sym (same_colour-true c x.colour own')
 
 pub steps_of_man : (p : Setup) (a b : ℕ) (x : Man) → man_at p.men a ≡ Some x → x.colour ≡ p.side
-    → man_moves p (triple a b None) ≡ (could_capture p.men p.side x.kind a b && not (is_of p.side (man_at p.men b)))
+    → man_moves p (move_of a b None) ≡ (could_capture p.men p.side x.kind a b && not (is_of p.side (man_at p.men b)))
 unfolding man_moves attacks
 steps_of_man p a b x at own =
     ap (λ o. could_capture_as p.men o a b && not (is_of p.side (man_at p.men b))) at ∙ ap (λ c.
     could_capture p.men c x.kind a b && not (is_of p.side (man_at p.men b))) own
 
 pub no_king_says : (p : Setup) (m : Move) (w : CastlingSide) → is_man p.side King (man_at p.men m.from) ≡ false
-    → says_castling p m w ≡ false
-unfolding says_castling
+    → is_castling_to p m w ≡ false
+unfolding is_castling_to
 no_king_says p m w h = rw h refl
 
-neither : (p : Setup) (m : Move) → says_castling p m KingSide ≡ false → says_castling p m QueenSide ≡ false
+neither : (p : Setup) (m : Move) → is_castling_to p m KingSide ≡ false → is_castling_to p m QueenSide ≡ false
     → castling p m ≡ None
 unfolding castling
 neither p m k q = rw (k, q) refl
 
-pub none_castles : (p : Setup) (m : Move) → says_castling p m KingSide ≡ false → says_castling p m QueenSide ≡ false
+pub none_castles : (p : Setup) (m : Move) → is_castling_to p m KingSide ≡ false → is_castling_to p m QueenSide ≡ false
     → castle_of p m ≡ None
 none_castles p m k q = no_castle p m (neither p m k q)
 
@@ -69,26 +69,26 @@ pub officer_is : (p : Setup) (a b : ℕ) (x : Man) → man_at p.men a ≡ Some x
     → (could_capture p.men p.side x.kind a b && not (is_of p.side (man_at p.men b))) ≡ man_goes p a b
 officer_is p a b x at own no_king =
     let off = no_king_kind p a x at no_king in
-    let none = none_castles p (triple a b None) (no_king_says p (triple a b None) KingSide off)
-    (no_king_says p (triple a b None) QueenSide off) in
-    sym (ap (λ o. legal_or p (triple a b None) o (man_moves p (triple a b None))) none
+    let none = none_castles p (move_of a b None) (no_king_says p (move_of a b None) KingSide off)
+    (no_king_says p (move_of a b None) QueenSide off) in
+    sym (ap (λ o. legal_or p (move_of a b None) o (man_moves p (move_of a b None))) none
     ∙ steps_of_man p a b x at (own_colour p.side x (man_at p.men a) at own))
 
 -- ---- the king
 
 not_named : (v : Variant) (c : Colour) (a b : ℕ) (w : CastlingSide) (o : Option ℕ) → names_end v c w o b ≡ false
-    → names_castling v c (triple a b None) w o ≡ false
+    → names_castling v c (move_of a b None) w o ≡ false
 not_named v c a b w None h = refl
 not_named Normal c a b w (Some r) h = and_right (a == home_square c king_home_file)
     (b == home_square c (castled_king_file w)) h
 not_named Fischerandom c a b w (Some r) h = and_right (rank a == rank r) (b == r) h
 
 not_said : (p : Setup) (a b : ℕ) (w : CastlingSide) → names_end p.variant p.side w (right_of p.rights p.side w) b
-    ≡ false → says_castling p (triple a b None) w ≡ false
-unfolding says_castling
+    ≡ false → is_castling_to p (move_of a b None) w ≡ false
+unfolding is_castling_to
 not_said p a b w h =
     and_right (is_man p.side King (man_at p.men a))
-    (names_castling p.variant p.side (triple a b None) w (right_of p.rights p.side w))
+    (names_castling p.variant p.side (move_of a b None) w (right_of p.rights p.side w))
     (not_named p.variant p.side a b w (right_of p.rights p.side w) h)
 
 told : (p : Setup) (m : Move) (o : Option Castle) (k q s : Bool) → (k ≡ false → q ≡ false → o ≡ None)
@@ -110,21 +110,21 @@ king_is p a b x s f t at own steps far near =
     near ∙ ap (castling_or p KingSide a b)
     (far ∙ ap (castling_or p QueenSide a b)
     (steps ∙ sym (steps_of_man p a b x at (own_colour p.side x (man_at p.men a) at own))))
-    ∙ told p (triple a b None) (castle_of p (triple a b None))
+    ∙ told p (move_of a b None) (castle_of p (move_of a b None))
     (names_end p.variant p.side KingSide (right_of p.rights p.side KingSide) b)
-    (names_end p.variant p.side QueenSide (right_of p.rights p.side QueenSide) b) (man_moves p (triple a b None))
-    (λ k q. none_castles p (triple a b None) (not_said p a b KingSide k) (not_said p a b QueenSide q))
+    (names_end p.variant p.side QueenSide (right_of p.rights p.side QueenSide) b) (man_moves p (move_of a b None))
+    (λ k q. none_castles p (move_of a b None) (not_said p a b KingSide k) (not_said p a b QueenSide q))
 
 -- castling alone
 pub ends_are : (p : Setup) (a b : ℕ) (z f t : Bool) → z ≡ false → f ≡ castling_or p QueenSide a b z
     → t ≡ castling_or p KingSide a b f
-    → t ≡ legal_or p (triple a b None) (castle_of p (triple a b None)) false
+    → t ≡ legal_or p (move_of a b None) (castle_of p (move_of a b None)) false
 ends_are p a b z f t none far near =
     near ∙ ap (castling_or p KingSide a b) (far ∙ ap (castling_or p QueenSide a b) none)
-    ∙ told p (triple a b None) (castle_of p (triple a b None))
+    ∙ told p (move_of a b None) (castle_of p (move_of a b None))
     (names_end p.variant p.side KingSide (right_of p.rights p.side KingSide) b)
     (names_end p.variant p.side QueenSide (right_of p.rights p.side QueenSide) b) false
-    (λ k q. none_castles p (triple a b None) (not_said p a b KingSide k) (not_said p a b QueenSide q))
+    (λ k q. none_castles p (move_of a b None) (not_said p a b KingSide k) (not_said p a b QueenSide q))
 
 -- what `with_castling` answers
 pub no_right : (p : Setup) (w : CastlingSide) (a b : ℕ) (s : Bool) → right_of p.rights p.side w ≡ None
@@ -138,14 +138,14 @@ named Fischerandom c w rook b = refl
 
 by_end : (p : Setup) (w : CastlingSide) (a b rook to : ℕ) (s : Bool) → right_of p.rights p.side w ≡ Some rook
     → to ≡ castling_end p.variant p.side w rook
-    → castling_or p w a b s ≡ (if b == to then legal_or p (triple a b None) (castle_of p (triple a b None)) s else s)
+    → castling_or p w a b s ≡ (if b == to then legal_or p (move_of a b None) (castle_of p (move_of a b None)) s else s)
 by_end p w a b rook to s right end =
-    ap (λ t. if t then legal_or p (triple a b None) (castle_of p (triple a b None)) s else s)
+    ap (λ t. if t then legal_or p (move_of a b None) (castle_of p (move_of a b None)) s else s)
     (ap (λ o. names_end p.variant p.side w o b) right ∙ named p.variant p.side w rook b ∙ ap (λ e. b == e) (sym end))
 
 pub no_castle_named : (p : Setup) (w : CastlingSide) (a b rook to : ℕ) (s : Bool)
     → right_of p.rights p.side w ≡ Some rook → to ≡ castling_end p.variant p.side w rook
-    → is_none (castle_of p (triple a to None)) ≡ true → s ≡ castling_or p w a b s
+    → is_none (castle_of p (move_of a to None)) ≡ true → s ≡ castling_or p w a b s
 no_castle_named p w a b rook to s right end none =
     sym (by_end p w a b rook to s right end ∙ by (b == to) refl)
   where
@@ -153,15 +153,15 @@ no_castle_named p w a b rook to s right end none =
     empty None e = refl
     empty (Some x) e = cc
 
-    by : (t : Bool) → (b == to) ≡ t → (if t then legal_or p (triple a b None) (castle_of p (triple a b None)) s else s)
+    by : (t : Bool) → (b == to) ≡ t → (if t then legal_or p (move_of a b None) (castle_of p (move_of a b None)) s else s)
         ≡ s
     by false e = refl
-    by true e = ap (λ o. legal_or p (triple a b None) o s)
-        (ap (λ n. castle_of p (triple a n None)) (eqb-true b to e) ∙ empty (castle_of p (triple a to None)) none)
+    by true e = ap (λ o. legal_or p (move_of a b None) o s)
+        (ap (λ n. castle_of p (move_of a n None)) (eqb-true b to e) ∙ empty (castle_of p (move_of a to None)) none)
 
 pub castle_named : (p : Setup) (w : CastlingSide) (a b rook to : ℕ) (s l : Bool)
     → right_of p.rights p.side w ≡ Some rook → to ≡ castling_end p.variant p.side w rook
-    → is_none (castle_of p (triple a to None)) ≡ false → l ≡ is_legal p (triple a to None)
+    → is_none (castle_of p (move_of a to None)) ≡ false → l ≡ is_legal p (move_of a to None)
     → (if b == to then l else s) ≡ castling_or p w a b s
 castle_named p w a b rook to s l right end some legal =
     sym (by_end p w a b rook to s right end ∙ by (b == to) refl)
@@ -170,12 +170,12 @@ castle_named p w a b rook to s l right end some legal =
     there None m e = cc
     there (Some x) m e = refl
 
-    by : (t : Bool) → (b == to) ≡ t → (if t then legal_or p (triple a b None) (castle_of p (triple a b None)) s else s)
+    by : (t : Bool) → (b == to) ≡ t → (if t then legal_or p (move_of a b None) (castle_of p (move_of a b None)) s else s)
         ≡ (if t then l else s)
     by false e = refl
     by true e =
-        ap (λ n. legal_or p (triple a n None) (castle_of p (triple a n None)) s) (eqb-true b to e)
-        ∙ there (castle_of p (triple a to None)) (triple a to None) some ∙ sym legal
+        ap (λ n. legal_or p (move_of a n None) (castle_of p (move_of a n None)) s) (eqb-true b to e)
+        ∙ there (castle_of p (move_of a to None)) (move_of a to None) some ∙ sym legal
 
 -- ---- pawns
 
@@ -211,7 +211,7 @@ man_told c k (Some x) h =
 
 pub captures_is : (p : Setup) (a b : ℕ) → is_man p.side Pawn (man_at p.men a) ≡ true
     → (could_capture p.men p.side Pawn a b && (is_of (other p.side) (man_at p.men b) || is_square p.target b))
-    ≡ pawn_captures p (triple a b None)
+    ≡ pawn_captures p (move_of a b None)
 unfolding pawn_captures attacks
 captures_is p a b pawn = let at = man_told p.side Pawn (man_at p.men a) pawn in rw at refl
 
@@ -247,7 +247,7 @@ advanced false false r i en et h g = turn i r en et
 -- by what is one and two squares ahead
 pub advances_is : (p : Setup) (a b n t : ℕ) → is_man p.side Pawn (man_at p.men a) ≡ true → n ≡ forward p.side a
     → t ≡ forward p.side n
-    → pawn_advances p (triple a b None)
+    → pawn_advances p (move_of a b None)
     ≡ ((is_none (man_at p.men n) && (b == n))
     || ((is_none (man_at p.men n) && (rank a == pawn_rank p.side)) && (is_none (man_at p.men t) && (b == t))))
 unfolding pawn_advances is_double_advance
@@ -261,7 +261,7 @@ advances_is p a b n t pawn one two =
 -- ---- sets of targets
 
 pub none_begin : (p : Setup) (a w : ℕ) → is_of p.side (man_at p.men a) ≡ false → (m : Move) → is_legal p m ≡ true
-    → m.from ≡ a → has w m.to ≡ true
+    → m.from ≡ a → contains w m.to ≡ true
 none_begin p a w off m legal e =
     absurd (both_ways (is_of p.side (man_at p.men a)) off
     (ap (λ s. is_of p.side (man_at p.men s)) (sym e) ∙ own_man_moves p m legal))
@@ -271,14 +271,14 @@ unfolding is_legal is_pseudo_legal
 ends_below p m h = grind (arith, nat_tests, h)
 
 pub pawn_sound : (p : Setup) (a w : ℕ) → is_man p.side Pawn (man_at p.men a) ≡ true → a < 64
-    → ((k : ℕ) → k < 64 → has w k ≡ (pawn_advances p (triple a k None) || pawn_captures p (triple a k None)))
-    → (k : ℕ) → k < 64 → has w k ≡ true → goes p a k ≡ true
+    → ((k : ℕ) → k < 64 → contains w k ≡ (pawn_advances p (move_of a k None) || pawn_captures p (move_of a k None)))
+    → (k : ℕ) → k < 64 → contains w k ≡ true → goes p a k ≡ true
 pawn_sound p a w pawn low set k high h =
     pawn_goes p a k _ (man_told p.side Pawn (man_at p.men a) pawn) refl refl low high ∙ sym (set k high) ∙ h
 
 pub pawn_complete : (p : Setup) (a w : ℕ) → is_man p.side Pawn (man_at p.men a) ≡ true → a < 64
-    → ((k : ℕ) → k < 64 → has w k ≡ (pawn_advances p (triple a k None) || pawn_captures p (triple a k None)))
-    → (m : Move) → is_legal p m ≡ true → m.from ≡ a → has w m.to ≡ true
+    → ((k : ℕ) → k < 64 → contains w k ≡ (pawn_advances p (move_of a k None) || pawn_captures p (move_of a k None)))
+    → (m : Move) → is_legal p m ≡ true → m.from ≡ a → contains w m.to ≡ true
 pawn_complete p a w pawn low set m legal e =
     let high = ends_below p m legal in
     let told : goes p a m.to ≡ true = ap (λ s. goes p s m.to) (sym e) ∙ (legal_goes p m legal).0 in
@@ -299,7 +299,7 @@ some_man c (Some x) h = (x, refl)
 
 pub man_set_sound : (p : Setup) (a w : ℕ) → is_of p.side (man_at p.men a) ≡ true
     → is_man p.side Pawn (man_at p.men a) ≡ false → a < 64
-    → ((k : ℕ) → k < 64 → has w k ≡ man_goes p a k) → (k : ℕ) → k < 64 → has w k ≡ true → goes p a k ≡ true
+    → ((k : ℕ) → k < 64 → contains w k ≡ man_goes p a k) → (k : ℕ) → k < 64 → contains w k ≡ true → goes p a k ≡ true
 man_set_sound p a w own other low set k high h =
     let man = some_man p.side (man_at p.men a) own in
     let mine = own_colour p.side man.0 (man_at p.men a) man.1 own in
@@ -308,7 +308,7 @@ man_set_sound p a w own other low set k high h =
 
 pub man_set_complete : (p : Setup) (a w : ℕ) → is_of p.side (man_at p.men a) ≡ true
     → is_man p.side Pawn (man_at p.men a) ≡ false → a < 64
-    → ((k : ℕ) → k < 64 → has w k ≡ man_goes p a k) → (m : Move) → is_legal p m ≡ true → m.from ≡ a → has w m.to ≡ true
+    → ((k : ℕ) → k < 64 → contains w k ≡ man_goes p a k) → (m : Move) → is_legal p m ≡ true → m.from ≡ a → contains w m.to ≡ true
 man_set_complete p a w own other low set m legal e =
     let high = ends_below p m legal in
     let man = some_man p.side (man_at p.men a) own in
@@ -337,7 +337,7 @@ neither_square false true false = refl
 neither_square false false z = refl
 
 pub off_board : (p : Setup) (a k : ℕ) → is_man p.side Pawn (man_at p.men a) ≡ true → a < 64 → 64 ≤ forward p.side a
-    → k < 64 → false ≡ pawn_advances p (triple a k None)
+    → k < 64 → false ≡ pawn_advances p (move_of a k None)
 off_board p a k pawn low past high =
     let further = past_too p.side a low past in
     sym (advances_is p a k (forward p.side a) (forward p.side (forward p.side a)) pawn refl refl
@@ -351,13 +351,13 @@ off_board p a k pawn low past high =
     (is_none (man_at p.men (forward p.side (forward p.side a))))))
 
 pub blocked : (p : Setup) (a n k : ℕ) → is_man p.side Pawn (man_at p.men a) ≡ true → n ≡ forward p.side a
-    → is_some (man_at p.men n) ≡ true → false ≡ pawn_advances p (triple a k None)
+    → is_some (man_at p.men n) ≡ true → false ≡ pawn_advances p (move_of a k None)
 blocked p a n k pawn one some =
     sym (advances_is p a k n (forward p.side n) pawn one refl ∙ rw (some_is_not_none (man_at p.men n) true some) refl)
 
 pub one_only : (p : Setup) (a n k : ℕ) → is_man p.side Pawn (man_at p.men a) ≡ true → n ≡ forward p.side a
     → is_some (man_at p.men n) ≡ false → (rank a ≡ pawn_rank p.side → ⊥)
-    → (k == n) ≡ pawn_advances p (triple a k None)
+    → (k == n) ≡ pawn_advances p (move_of a k None)
 one_only p a n k pawn one free away =
     sym (advances_is p a k n (forward p.side n) pawn one refl
     ∙ rw (some_is_not_none (man_at p.men n) false free, ne_eqb (rank a) (pawn_rank p.side) away)
@@ -369,7 +369,7 @@ second false x y = or-false x
 
 pub second_blocked : (p : Setup) (a n t k : ℕ) → is_man p.side Pawn (man_at p.men a) ≡ true → n ≡ forward p.side a
     → t ≡ forward p.side n → is_some (man_at p.men n) ≡ false → is_some (man_at p.men t) ≡ true
-    → (k == n) ≡ pawn_advances p (triple a k None)
+    → (k == n) ≡ pawn_advances p (move_of a k None)
 second_blocked p a n t k pawn one two free taken =
     sym (advances_is p a k n t pawn one two
     ∙ rw (some_is_not_none (man_at p.men n) false free, some_is_not_none (man_at p.men t) true taken)
@@ -377,7 +377,7 @@ second_blocked p a n t k pawn one two free taken =
 
 pub both_squares : (p : Setup) (a n t k : ℕ) → is_man p.side Pawn (man_at p.men a) ≡ true → n ≡ forward p.side a
     → t ≡ forward p.side n → is_some (man_at p.men n) ≡ false → is_some (man_at p.men t) ≡ false
-    → rank a ≡ pawn_rank p.side → ((k == n) || (k == t)) ≡ pawn_advances p (triple a k None)
+    → rank a ≡ pawn_rank p.side → ((k == n) || (k == t)) ≡ pawn_advances p (move_of a k None)
 both_squares p a n t k pawn one two free free' home =
     sym (advances_is p a k n t pawn one two
     ∙ rw (

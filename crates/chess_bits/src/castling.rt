@@ -8,7 +8,7 @@ ghost use Rattle.chess_base.specs.Moves.{is_pseudo_legal, is_legal};
 ghost use Rattle.chess_base.specs.Squares.{rank, is_between, each_square};
 ghost use Rattle.chess_bits.specs.ties.Rays.{is_on_ray};
 ghost use Rattle.chess_bits.specs.declared.line.Line.TheVariants.{Rank};
-ghost use Rattle.chess_moves.specs.Sets.{has};
+ghost use Rattle.chess_moves.specs.Sets.{contains};
 
 use crate::bits::Bits;
 use crate::line::Line;
@@ -21,7 +21,7 @@ impl Bits<'_> {
     // The squares strictly between two squares of one rank, where `low` is the one nearer to the a-file.
     #[tactic(auto, unfolding(crate::specs::ties::Shapes::in_shape))]
     fn above_and_below(&self, low: Square, high: Square) -> SquareSet
-        ensures { (k : ℕ) → k < 64 → has result k ≡ (is_on_ray Rank true low k && is_on_ray Rank false high k) }
+        ensures { (k : ℕ) → k < 64 → contains result k ≡ (is_on_ray Rank true low k && is_on_ray Rank false high k) }
     {
         let above = self.tables.at(Shape::Ray(Line::Rank, true), low);
         above.intersection(self.tables.at(Shape::Ray(Line::Rank, false), high))
@@ -31,7 +31,7 @@ impl Bits<'_> {
     #[tactic(auto, using(crate::proofs::CastlingBySets::between_up, crate::proofs::CastlingBySets::between_down))]
     fn between(&self, a: Square, b: Square) -> SquareSet
         requires { rank a ≡ rank b }
-        ensures { (k : ℕ) → k < 64 → has result k ≡ is_between a b k }
+        ensures { (k : ℕ) → k < 64 → contains result k ≡ is_between a b k }
     {
         if a.number() < b.number() {
             return self.above_and_below(a, b);
@@ -42,7 +42,7 @@ impl Bits<'_> {
     // The squares of a rank from one square to another, both included.
     fn way(&self, a: Square, b: Square) -> SquareSet
         requires { rank a ≡ rank b }
-        ensures { (k : ℕ) → k < 64 → has result k ≡ is_on_way a b k }
+        ensures { (k : ℕ) → k < 64 → contains result k ≡ is_on_way a b k }
     {
         let ends = SquareSet::single(a).union(SquareSet::single(b));
         ends.union(self.between(a, b))
@@ -51,7 +51,7 @@ impl Bits<'_> {
     // Whether the side that is not on move attacks no square of the set `way`.
     fn is_safe_way(&self, way: SquareSet) -> bool
         ensures { result ≡ each_square
-            (λ x. not (has way x) || not (is_attacked (self.now).men x (other (self.now).side))) }
+            (λ x. not (contains way x) || not (is_attacked (self.now).men x (other (self.now).side))) }
     {
         let by = self.setup.side.other();
         let mut rest = way;

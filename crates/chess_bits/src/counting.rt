@@ -3,13 +3,13 @@
 ghost use Rattle.std.specs.Prelude.{◌≡◌, ◌+◌, ◌≤◌, ◌<◌, ◌||◌, ℕ, length, nat_lt, cond, true, false, IsTrue, Some, None};
 ghost use Rattle.std.specs.List.{flat_map};
 ghost use Rattle.chess_base.specs.Men.{man_at, is_man, same_kind};
-ghost use Rattle.chess_base.specs.MoveList.{moves, triple};
+ghost use Rattle.chess_base.specs.MoveList.{moves, move_of};
 ghost use Rattle.chess_base.specs.Moves.{is_pseudo_legal, is_legal, man_moves, promotion_fits};
 ghost use Rattle.chess_base.specs.declared.man.Kind.TheVariants.{King, Knight, Pawn};
 ghost use Rattle.chess_bits.specs.ties.Goes.{goes, IsFree, AreFree};
 ghost use Rattle.chess_moves.specs.ties.Candidates.{moves_between, moves_from};
 ghost use Rattle.chess_moves.specs.Promoting.{would_promote};
-ghost use Rattle.chess_moves.specs.Sets.{has, members};
+ghost use Rattle.chess_moves.specs.Sets.{contains, members};
 
 use crate::bits::Bits;
 use crate::targets::is_pawn;
@@ -31,7 +31,7 @@ impl Bits<'_> {
     fn times_promoted(&self, from: Square, to: Square, kind: Kind) -> usize
         requires goes { goes self.now from to ≡ true }
         requires fits { promotion_fits (would_promote self.now from to) (Some kind) ≡ true }
-        ensures value { result ≡ cond (is_legal self.now (triple from to (Some kind))) 1 0 }
+        ensures value { result ≡ cond (is_legal self.now (move_of from to (Some kind))) 1 0 }
         ensures few { result ≤ 1 }
     {
         self.times_legal(&Move {
@@ -76,7 +76,7 @@ impl Bits<'_> {
     // 1 if the king's ordinary move (not castling) from `king` to `to` is legal, else 0.
     fn times_stepped(&self, king: Square, to: Square) -> usize
         requires king { is_man (self.now).side King (man_at (self.now).men king) ≡ true }
-        requires step { man_moves self.now (triple king to None) ≡ true }
+        requires step { man_moves self.now (move_of king to None) ≡ true }
         ensures { result ≡ length (moves_between self.now king to) }
     {
         if self.is_safe_step(king, to) { 1 } else { 0 }
@@ -149,7 +149,7 @@ impl Bits<'_> {
     #[inline(always)]
     fn count_kind(&self, kind: Kind, free: SquareSet, men: &mut SquareSet) -> usize
         requires kind { same_kind King kind ≡ false }
-        requires free { (k : ℕ) → k < 64 → has free k ≡ true → IsFree self.now k }
+        requires free { (k : ℕ) → k < 64 → contains free k ≡ true → IsFree self.now k }
         requires few { length (flat_map (λ a. moves_from self.now a) (members men.old)) ≤ 896 }
         ensures { result + length (flat_map (λ a. moves_from self.now a) (members men.new))
             ≡ length (flat_map (λ a. moves_from self.now a) (members men.old)) }
@@ -250,7 +250,7 @@ impl Bits<'_> {
 
     // Whether a king on one of these squares, of the side on move, has a legal move.
     fn has_king_move(&self, men: SquareSet) -> bool
-        requires kings { (k : ℕ) → k < 64 → has men k ≡ true
+        requires kings { (k : ℕ) → k < 64 → contains men k ≡ true
             → is_man (self.now).side King (man_at (self.now).men k) ≡ true }
         requires few { length (flat_map (λ a. moves_from self.now a) (members men)) ≤ 896 }
         ensures { result ≡ nat_lt 0 (length (flat_map (λ a. moves_from self.now a) (members men))) }

@@ -5,7 +5,7 @@ ghost use Rattle.chess_base.specs.declared.man.Colour.{Colour as Side};
 ghost use Rattle.chess_base.specs.Squares.{share_rank_or_file, share_diagonal};
 ghost use Rattle.chess_base.specs.Men.{Men, man_at, is_of, other, kind_number};
 ghost use Rattle.chess_base.specs.Attacks.{attacks, is_attacked};
-ghost use Rattle.chess_moves.specs.Sets.{has};
+ghost use Rattle.chess_moves.specs.Sets.{contains};
 ghost use Rattle.chess_bits.specs.ties.Rays.{is_open};
 ghost use Rattle.chess_bits.specs.ties.Occupancy.{IsOccupied, IsLater};
 ghost use Rattle.chess_bits.specs.ties.KindSets.{AreKindsAt, IsKinds};
@@ -90,7 +90,7 @@ impl Kinds {
 #[tactic(auto, using(crate::proofs::Attackers::on_lines))]
 pub(crate) fn along_lines(tables: &AttackTables, square: Square, occupied: SquareSet) -> SquareSet
     ensures { (k : ℕ) → k < 64
-        → has result k ≡ (not (k == square) && share_rank_or_file k square && is_open occupied square k) }
+        → contains result k ≡ (not (k == square) && share_rank_or_file k square && is_open occupied square k) }
 {
     let up = tables.sweep(Line::Rank, true, square, occupied);
     let down = tables.sweep(Line::Rank, false, square, occupied);
@@ -108,7 +108,7 @@ pub(crate) fn along_diagonals(
     occupied: SquareSet,
 ) -> SquareSet
     ensures { (k : ℕ) → k < 64
-        → has result k ≡ (not (k == square) && share_diagonal k square && is_open occupied square k) }
+        → contains result k ≡ (not (k == square) && share_diagonal k square && is_open occupied square k) }
 {
     let up = tables.sweep(Line::Diagonal, true, square, occupied);
     let down = tables.sweep(Line::Diagonal, false, square, occupied);
@@ -127,8 +127,8 @@ fn met_on_lines(
     men: SquareSet,
 ) -> SquareSet
     ensures { (k : ℕ) → k < 64
-        → has result k ≡ ((not (k == square) && share_rank_or_file k square && is_open occupied square k)
-        && has men k) }
+        → contains result k ≡ ((not (k == square) && share_rank_or_file k square && is_open occupied square k)
+        && contains men k) }
 {
     let near = tables.at(Shape::Lines, square).intersection(men);
     if near.is_empty() {
@@ -147,7 +147,7 @@ fn met_on_diagonals(
     men: SquareSet,
 ) -> SquareSet
     ensures { (k : ℕ) → k < 64
-        → has result k ≡ ((not (k == square) && share_diagonal k square && is_open occupied square k) && has men k) }
+        → contains result k ≡ ((not (k == square) && share_diagonal k square && is_open occupied square k) && contains men k) }
 {
     let near = tables.at(Shape::Diagonals, square).intersection(men);
     if near.is_empty() {
@@ -175,7 +175,7 @@ impl Kinds {
         occupied: SquareSet,
     ) -> SquareSet
         ensures { (men : Men) → IsOccupied occupied men → (k : ℕ) → k < 64 → AreKindsAt self.now.sets colour men k
-            → has result k ≡ (is_of colour (man_at men k) && attacks men k square) }
+            → contains result k ≡ (is_of colour (man_at men k) && attacks men k square) }
     {
         let queens = self.of(Kind::Queen);
         let straight = self.of(Kind::Rook).union(queens);

@@ -2,12 +2,12 @@
 
 ghost use Rattle.std.specs.Prelude.{◌≡◌, ◌==◌, ◌||◌, ◌<◌, ℕ, true, None, IsTrue};
 ghost use Rattle.chess_base.specs.Men.{man_at, is_man};
-ghost use Rattle.chess_base.specs.MoveList.{triple};
+ghost use Rattle.chess_base.specs.MoveList.{move_of};
 ghost use Rattle.chess_base.specs.Moves.{is_pseudo_legal, is_legal, man_moves, men_after, steps_of};
 ghost use Rattle.chess_base.specs.Squares.{is_square};
 ghost use Rattle.chess_base.specs.declared.man.Kind.TheVariants.{King};
 ghost use Rattle.chess_bits.specs.ties.Changes.{StepsPlainly, is_changed, is_filled};
-ghost use Rattle.chess_moves.specs.Sets.{has};
+ghost use Rattle.chess_moves.specs.Sets.{contains};
 
 use crate::bits::Bits;
 use crate::placing::fast_steps_of;
@@ -17,7 +17,7 @@ use chess_moves::SquareSet;
 
 // The set of the given square alone; the empty set if none is given.
 pub(crate) fn set_of(square: Option<Square>) -> SquareSet
-    ensures { (k : ℕ) → has result k ≡ is_square square k }
+    ensures { (k : ℕ) → contains result k ≡ is_square square k }
 {
     match square {
         None => SquareSet::empty(),
@@ -28,7 +28,7 @@ pub(crate) fn set_of(square: Option<Square>) -> SquareSet
 // The squares on which pieces arrive by these steps: the mover's, and the castling rook's.
 #[inline(always)]
 fn filled_by(steps: &Steps) -> SquareSet
-    ensures { (k : ℕ) → has result k ≡ ((steps.now.to == k) || is_square steps.now.second_to k) }
+    ensures { (k : ℕ) → contains result k ≡ ((steps.now.to == k) || is_square steps.now.second_to k) }
 {
     let to = set_of(Some(steps.to));
     to.union(set_of(steps.second_to))
@@ -38,7 +38,7 @@ fn filled_by(steps: &Steps) -> SquareSet
 // passant.
 #[inline(always)]
 fn emptied_by(steps: &Steps) -> SquareSet
-    ensures { (k : ℕ) → has result k ≡ (is_square steps.now.second_from k || (steps.now.from == k)) }
+    ensures { (k : ℕ) → contains result k ≡ (is_square steps.now.second_from k || (steps.now.from == k)) }
 {
     let second = set_of(steps.second_from);
     second.union(set_of(Some(steps.from)))
@@ -68,8 +68,8 @@ impl Bits<'_> {
     fn is_safe_at(&self, king: Square, filled: SquareSet, changed: SquareSet) -> bool
         ensures { (m : Move) → is_pseudo_legal self.now m ≡ true → king < 64
             → is_man (self.now).side King (man_at (men_after self.now m) king) ≡ true
-            → ((k : ℕ) → k < 64 → has filled k ≡ is_filled self.now m k)
-            → ((k : ℕ) → k < 64 → has changed k ≡ is_changed self.now m k)
+            → ((k : ℕ) → k < 64 → contains filled k ≡ is_filled self.now m k)
+            → ((k : ℕ) → k < 64 → contains changed k ≡ is_changed self.now m k)
             → result ≡ is_legal self.now m }
     {
         let kept = self.sets.occupied().without(changed);
@@ -83,8 +83,8 @@ impl Bits<'_> {
     // its square.
     pub(crate) fn is_safe_step(&self, king: Square, to: Square) -> bool
         requires king { is_man (self.now).side King (man_at (self.now).men king) ≡ true }
-        requires step { man_moves self.now (triple king to None) ≡ true }
-        ensures { result ≡ is_legal self.now (triple king to None) }
+        requires step { man_moves self.now (move_of king to None) ≡ true }
+        ensures { result ≡ is_legal self.now (move_of king to None) }
     {
         // The prover wants these facts: the numbers of both squares are below 64.
         let _start = king.number();
@@ -120,7 +120,7 @@ impl Bits<'_> {
     #[inline(always)]
     pub(crate) fn is_safe_usual(&self, from: Square, to: Square) -> bool
         requires { StepsPlainly self.now from to }
-        ensures { result ≡ is_legal self.now (triple from to None) }
+        ensures { result ≡ is_legal self.now (move_of from to None) }
     {
         // The prover wants this fact: the start's number is below 64.
         let _start = from.number();

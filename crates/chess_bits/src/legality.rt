@@ -2,12 +2,12 @@
 
 ghost use Rattle.std.specs.Prelude.{◌≡◌, ℕ, ◌<◌, ◌&&◌, ◌||◌, not, true, false, None, MatchOption};
 ghost use Rattle.chess_base.specs.Men.{man_at, is_man, same_kind};
-ghost use Rattle.chess_base.specs.MoveList.{triple};
+ghost use Rattle.chess_base.specs.MoveList.{move_of};
 ghost use Rattle.chess_base.specs.Moves.{is_pseudo_legal, is_legal};
 ghost use Rattle.chess_base.specs.declared.man.Kind.TheVariants.{King, Pawn};
 ghost use Rattle.chess_bits.specs.ties.Changes.{StepsPlainly};
 ghost use Rattle.chess_bits.specs.ties.Goes.{IsOfficer};
-ghost use Rattle.chess_moves.specs.Sets.{has, HasLegalStarts};
+ghost use Rattle.chess_moves.specs.Sets.{contains, HasLegalStarts};
 
 use crate::bits::Bits;
 use crate::placing::is_target;
@@ -48,7 +48,7 @@ impl Bits<'_> {
     #[inline(always)]
     fn goes_legally(&self, kind: Kind, from: Square, to: Square) -> bool
         requires { IsOfficer (self.now).side kind (man_at (self.now).men from) }
-        ensures { result ≡ is_legal self.now (triple from to None) }
+        ensures { result ≡ is_legal self.now (move_of from to None) }
     {
         // The prover wants these facts: the numbers of both squares are below 64.
         let _start = from.number();
@@ -103,7 +103,7 @@ impl Bits<'_> {
     #[inline(always)]
     fn pawn_steps(&self, from: Square, to: Square) -> bool
         requires { is_man (self.now).side Pawn (man_at (self.now).men from) ≡ true }
-        ensures { result ≡ is_pseudo_legal self.now (triple from to None) }
+        ensures { result ≡ is_pseudo_legal self.now (move_of from to None) }
     {
         // The prover wants these facts: the numbers of both squares are below 64.
         let _start = from.number();
@@ -115,7 +115,7 @@ impl Bits<'_> {
     #[inline(always)]
     fn pawn_goes_legally(&self, from: Square, to: Square) -> bool
         requires { is_man (self.now).side Pawn (man_at (self.now).men from) ≡ true }
-        ensures { result ≡ is_legal self.now (triple from to None) }
+        ensures { result ≡ is_legal self.now (move_of from to None) }
     {
         if !self.pawn_steps(from, to) {
             return false;
@@ -135,8 +135,8 @@ impl Bits<'_> {
     // without a promotion.
     #[inline(always)]
     fn pawn_starts_among(&self, men: SquareSet, to: Square) -> SquareSet
-        requires { (k : ℕ) → k < 64 → has men k ≡ true → is_man (self.now).side Pawn (man_at (self.now).men k) ≡ true }
-        ensures { (k : ℕ) → k < 64 → has result k ≡ (has men k && is_legal self.now (triple k to None)) }
+        requires { (k : ℕ) → k < 64 → contains men k ≡ true → is_man (self.now).side Pawn (man_at (self.now).men k) ≡ true }
+        ensures { (k : ℕ) → k < 64 → contains result k ≡ (contains men k && is_legal self.now (move_of k to None)) }
     {
         let mut starts = SquareSet::empty();
         let mut rest = men;
@@ -152,8 +152,8 @@ impl Bits<'_> {
     // pseudo-legal, not the king's, no promotion and not en passant.
     #[inline(always)]
     fn safe_starts(&self, men: SquareSet, to: Square) -> SquareSet
-        requires { (k : ℕ) → k < 64 → has men k ≡ true → StepsPlainly self.now k to }
-        ensures { (k : ℕ) → k < 64 → has result k ≡ (has men k && is_legal self.now (triple k to None)) }
+        requires { (k : ℕ) → k < 64 → contains men k ≡ true → StepsPlainly self.now k to }
+        ensures { (k : ℕ) → k < 64 → contains result k ≡ (contains men k && is_legal self.now (move_of k to None)) }
     {
         let mut starts = SquareSet::empty();
         let mut rest = men;
@@ -185,7 +185,7 @@ impl Bits<'_> {
     // Whether the king on `king` may legally go to `to`: by an ordinary move, or by castling.
     fn king_goes_legally(&self, king: Square, to: Square) -> bool
         requires { is_man (self.now).side King (man_at (self.now).men king) ≡ true }
-        ensures { result ≡ is_legal self.now (triple king to None) }
+        ensures { result ≡ is_legal self.now (move_of king to None) }
     {
         // The prover wants these facts: the numbers of both squares are below 64.
         let _start = king.number();

@@ -10,7 +10,7 @@ ghost use Rattle.chess_base.specs.declared.man.Kind.TheVariants.{Pawn};
 ghost use Rattle.chess_bits.specs.ties.Goes.{goes, goes_unusually, IsFree};
 ghost use Rattle.chess_moves.specs.ties.Candidates.{moves_with, moves_between, moves_from};
 ghost use Rattle.chess_moves.specs.Promoting.{would_promote};
-ghost use Rattle.chess_moves.specs.Sets.{has};
+ghost use Rattle.chess_moves.specs.Sets.{contains};
 
 use crate::bits::Bits;
 use chess_base::{Kind, Move, Square};
@@ -118,7 +118,7 @@ impl Bits<'_> {
     // Appends to `list` the legal moves of the piece on `from`. The pieces on squares of the set `free` are free: their
     // king is safe wherever they go.
     fn add_moves_of(&self, from: Square, free: SquareSet, list: &mut MoveList)
-        requires free { (k : ℕ) → k < 64 → has free k ≡ true → IsFree self.now k }
+        requires free { (k : ℕ) → k < 64 → contains free k ≡ true → IsFree self.now k }
         requires room { array_vec_len list.old + length (moves_from self.now from) ≤ 896 }
         ensures { list.new.items ≡ list.old.items ++ moves_from self.now from }
     {

@@ -7,7 +7,7 @@ ghost use Rattle.chess_base.specs.Squares.{file};
 ghost use Rattle.chess_base.specs.declared.man.Kind.TheVariants.{Pawn};
 ghost use Rattle.chess_bits.specs.ties.Goes.{AreFree, goes_unusually};
 ghost use Rattle.chess_moves.specs.ties.Candidates.{moves_from};
-ghost use Rattle.chess_moves.specs.Sets.{has, members};
+ghost use Rattle.chess_moves.specs.Sets.{contains, members};
 
 use crate::bits::Bits;
 use crate::table::Shape;
@@ -19,7 +19,7 @@ use chess_moves::{Board, SquareSet};
 // moved one rank down, for Black one rank up.
 #[inline(always)]
 fn behind(colour: Colour, squares: SquareSet) -> SquareSet
-    ensures { (k : ℕ) → k < 64 → 8 ≤ k → has result k ≡ has squares (forward colour k) }
+    ensures { (k : ℕ) → k < 64 → 8 ≤ k → contains result k ≡ contains squares (forward colour k) }
 {
     match colour {
         Colour::White => squares.lowered(8),
@@ -31,7 +31,7 @@ fn behind(colour: Colour, squares: SquareSet) -> SquareSet
 #[inline(always)]
 fn attacking_left(colour: Colour, squares: SquareSet) -> SquareSet
     ensures { (k : ℕ) → k < 64 → 8 ≤ k → forward colour k < 64
-        → has result k ≡ (not (file k == 0) && has squares (forward colour k - 1)) }
+        → contains result k ≡ (not (file k == 0) && contains squares (forward colour k - 1)) }
 {
     let starts = behind(colour, squares.raised(1));
     starts.without(SquareSet::of_file(0))
@@ -41,7 +41,7 @@ fn attacking_left(colour: Colour, squares: SquareSet) -> SquareSet
 #[inline(always)]
 fn attacking_right(colour: Colour, squares: SquareSet) -> SquareSet
     ensures { (k : ℕ) → k < 64 → 8 ≤ k
-        → has result k ≡ (not (file k == 7) && has squares (forward colour k + 1)) }
+        → contains result k ≡ (not (file k == 7) && contains squares (forward colour k + 1)) }
 {
     let starts = behind(colour, squares.lowered(1));
     starts.without(SquareSet::of_file(7))
@@ -52,7 +52,7 @@ impl Bits<'_> {
     // last one, and those from which it attacks the en passant target.
     #[tactic(auto, using(crate::proofs::PawnsCounted::aims_back))]
     pub(crate) fn unusual_squares(&self) -> SquareSet
-        ensures { (k : ℕ) → k < 64 → has result k ≡ goes_unusually self.now k }
+        ensures { (k : ℕ) → k < 64 → contains result k ≡ goes_unusually self.now k }
     {
         let theirs = self.setup.side.other();
         let last = SquareSet::of_rank(pawn_rank(theirs));
@@ -77,7 +77,7 @@ impl Bits<'_> {
     // right.
     pub(crate) fn count_usual_pawns(&self, pawns: SquareSet) -> usize
         requires free { AreFree self.now Pawn pawns }
-        requires usual { (k : ℕ) → k < 64 → has pawns k ≡ true → goes_unusually self.now k ≡ false }
+        requires usual { (k : ℕ) → k < 64 → contains pawns k ≡ true → goes_unusually self.now k ≡ false }
         ensures { result ≡ length (flat_map (λ a. moves_from self.now a) (members pawns)) }
     {
         // The prover wants these facts: the position is sound, and the king is on one square alone.

@@ -4,7 +4,7 @@ ghost use Rattle.std.specs.Prelude.{◌≡◌, ℕ, ◌<◌};
 ghost use Rattle.chess_base.specs.Attacks.{could_capture};
 ghost use Rattle.chess_base.specs.Men.{Men};
 ghost use Rattle.chess_bits.specs.ties.Occupancy.{IsOccupied};
-ghost use Rattle.chess_moves.specs.Sets.{has};
+ghost use Rattle.chess_moves.specs.Sets.{contains};
 
 use crate::kinds::{along_diagonals, along_lines};
 use crate::table::Shape;
@@ -24,7 +24,7 @@ pub fn reached_from(
     from: Square,
 ) -> SquareSet
     ensures { (men : Men) → IsOccupied occupied men → (k : ℕ) → k < 64
-        → has result k ≡ could_capture men colour kind from k }
+        → contains result k ≡ could_capture men colour kind from k }
 {
     match kind {
         Kind::King => tables.at(Shape::King, from),

@@ -6,7 +6,7 @@ ghost use Rattle.chess_base.specs.declared.man.Colour.{Colour as Side};
 ghost use Rattle.chess_bits.specs.ties.BoardSets.{IsSets};
 ghost use Rattle.chess_bits.specs.ties.KindSets.{IsKinds};
 ghost use Rattle.chess_bits.specs.ties.Occupancy.{IsOccupied};
-ghost use Rattle.chess_moves.specs.Sets.{has};
+ghost use Rattle.chess_moves.specs.Sets.{contains};
 
 use crate::keys::KeyTable;
 use crate::kinds::Kinds;
@@ -51,7 +51,7 @@ impl Sets {
 
     /// The squares of all pieces of this colour.
     pub fn all(&self, colour: Colour) -> SquareSet
-        ensures { (men : Men) → IsSets self.now men → (k : ℕ) → k < 64 → has result k ≡ is_of colour (man_at men k) }
+        ensures { (men : Men) → IsSets self.now men → (k : ℕ) → k < 64 → contains result k ≡ is_of colour (man_at men k) }
     {
         match colour {
             Colour::White => self.all_white,

@@ -3,7 +3,7 @@
 ghost use Rattle.std.specs.Prelude.{◌≡◌, ◌<◌, ℕ, true, false};
 ghost use Rattle.chess_base.specs.Men.{man_at, is_of};
 ghost use Rattle.chess_bits.specs.ties.Goes.{OpensNoLine, OpensNoDiagonal, IsFree};
-ghost use Rattle.chess_moves.specs.Sets.{has};
+ghost use Rattle.chess_moves.specs.Sets.{contains};
 
 use crate::bits::Bits;
 use crate::kinds::{along_diagonals, along_lines};
@@ -17,7 +17,7 @@ impl Bits<'_> {
     // no rank or file to the king.
     #[tactic(auto, unfolding(crate::specs::ties::Shapes::in_shape))]
     fn line_shields(&self, king: Square) -> SquareSet
-        ensures { (a : ℕ) → a < 64 → is_of (self.now).side (man_at (self.now).men a) ≡ true → has result a ≡ false
+        ensures { (a : ℕ) → a < 64 → is_of (self.now).side (man_at (self.now).men a) ≡ true → contains result a ≡ false
             → OpensNoLine self.now a king }
     {
         let _king = king.number();
@@ -44,7 +44,7 @@ impl Bits<'_> {
     // diagonal to the king.
     #[tactic(auto, unfolding(crate::specs::ties::Shapes::in_shape))]
     fn diagonal_shields(&self, king: Square) -> SquareSet
-        ensures { (a : ℕ) → a < 64 → is_of (self.now).side (man_at (self.now).men a) ≡ true → has result a ≡ false
+        ensures { (a : ℕ) → a < 64 → is_of (self.now).side (man_at (self.now).men a) ≡ true → contains result a ≡ false
             → OpensNoDiagonal self.now a king }
     {
         // The prover wants this fact: the number of the king's square is below 64.
@@ -70,7 +70,7 @@ impl Bits<'_> {
     // Pieces of the side on move, without the king, whose king is safe wherever they go: those that surely are not
     // pinned. The set may lack some, and is empty if the king is in check.
     pub(crate) fn free_men(&self) -> SquareSet
-        ensures { (k : ℕ) → k < 64 → has result k ≡ true → IsFree self.now k }
+        ensures { (k : ℕ) → k < 64 → contains result k ≡ true → IsFree self.now k }
     {
         if self.in_check() {
             return SquareSet::empty();
@@ -86,7 +86,7 @@ impl Bits<'_> {
     // they go; none if it is in check. They are found sooner than all that `free_men` gives.
     #[tactic(auto, unfolding(crate::specs::ties::Shapes::in_shape))]
     pub(crate) fn men_off_lines(&self) -> SquareSet
-        ensures { (k : ℕ) → k < 64 → has result k ≡ true → IsFree self.now k }
+        ensures { (k : ℕ) → k < 64 → contains result k ≡ true → IsFree self.now k }
     {
         if self.in_check() {
             return SquareSet::empty();

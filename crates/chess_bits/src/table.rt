@@ -2,7 +2,7 @@
 //! there.
 
 ghost use Rattle.std.specs.Prelude.{◌≡◌, ℕ, ◌<◌};
-ghost use Rattle.chess_moves.specs.Sets.{has};
+ghost use Rattle.chess_moves.specs.Sets.{contains};
 ghost use Rattle.chess_bits.specs.ties.Shapes.{in_shape};
 
 use crate::line::{Line, is_on_ray};
@@ -46,7 +46,7 @@ fn in_shape(shape: Shape, a: Square, b: Square) -> bool
 
 // The squares that belong to the shape from square a: for `Knight`, those that a knight on a attacks.
 fn squares_of(shape: Shape, a: Square) -> SquareSet
-    ensures { (k : ℕ) → k < 64 → has result k ≡ in_shape shape a k }
+    ensures { (k : ℕ) → k < 64 → contains result k ≡ in_shape shape a k }
 {
     let mut set = SquareSet::empty();
     for number in 0..64 {
@@ -71,12 +71,12 @@ impl Model for Table {
 
     ghost Value = { Shape };
 
-    ghost use Rattle.chess_moves.specs.Sets.{has};
+    ghost use Rattle.chess_moves.specs.Sets.{contains};
     ghost use Rattle.chess_bits.specs.ties.Shapes.{in_shape};
 
     ghost view = { λ t. t.shape };
 
-    ghost invariant = { λ t. (a k : ℕ) → a < 64 → k < 64 → has (slice_index t.sets a) k ≡ in_shape t.shape a k };
+    ghost invariant = { λ t. (a k : ℕ) → a < 64 → k < 64 → contains (slice_index t.sets a) k ≡ in_shape t.shape a k };
 }
 
 impl Table {
@@ -94,7 +94,7 @@ impl Table {
 
     /// The squares that belong to the table's shape from `square`: for `Knight`, those that a knight there attacks.
     pub fn at(&self, square: Square) -> SquareSet
-        ensures { (k : ℕ) → k < 64 → has result k ≡ in_shape self.now square k }
+        ensures { (k : ℕ) → k < 64 → contains result k ≡ in_shape self.now square k }
     {
         self.sets[square.index()]
     }

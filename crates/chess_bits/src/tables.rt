@@ -1,7 +1,7 @@
 //! All tables together, and sweeps: the squares of a ray up to and with the first one of a set.
 
 ghost use Rattle.std.specs.Prelude.{◌≡◌, ℕ, ◌<◌, ◌&&◌, ◌||◌, true, false};
-ghost use Rattle.chess_moves.specs.Sets.{has, is_past};
+ghost use Rattle.chess_moves.specs.Sets.{contains, is_beyond};
 ghost use Rattle.chess_bits.specs.ties.Shapes.{in_shape};
 ghost use Rattle.chess_bits.specs.ties.Rays.{is_on_ray, is_open};
 ghost use Rattle.chess_bits.specs.declared.table.Shape.TheVariants.{King, Knight, Pawn, Lines, Diagonals, Ray};
@@ -61,8 +61,8 @@ pub struct AttackTables {
 #[inline(always)]
 fn nearest(squares: SquareSet, up: bool) -> Square
     ensures in_range { result < 64 }
-    ensures nearer { (k : ℕ) → is_past up k result ≡ true → has squares k ≡ false }
-    ensures beyond { has squares result ≡ false → (k : ℕ) → k < 64 → is_past up result k ≡ false }
+    ensures nearer { (k : ℕ) → is_beyond up k result ≡ true → contains squares k ≡ false }
+    ensures beyond { contains squares result ≡ false → (k : ℕ) → k < 64 → is_beyond up result k ≡ false }
 {
     if up {
         squares.union(SquareSet::single(Square::new(63))).first()
@@ -130,7 +130,7 @@ impl AttackTables {
 
     // The squares that belong to this shape from `square`, looked up: for `Knight`, those that a knight there attacks.
     pub(crate) fn at(&self, shape: Shape, square: Square) -> SquareSet
-        ensures { (k : ℕ) → k < 64 → has result k ≡ in_shape shape square k }
+        ensures { (k : ℕ) → k < 64 → contains result k ≡ in_shape shape square k }
     {
         self.table(shape).at(square)
     }
@@ -141,7 +141,7 @@ impl AttackTables {
     #[inline(always)]
     #[tactic(auto, unfolding(crate::specs::ties::Shapes::in_shape))]
     pub(crate) fn sweep(&self, line: Line, up: bool, from: Square, occupied: SquareSet) -> SquareSet
-        ensures { (k : ℕ) → k < 64 → has result k ≡ (is_on_ray line up from k && is_open occupied from k) }
+        ensures { (k : ℕ) → k < 64 → contains result k ≡ (is_on_ray line up from k && is_open occupied from k) }
     {
         let ray = self.table(Shape::Ray(line, up));
         let all = ray.at(from);

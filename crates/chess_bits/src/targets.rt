@@ -5,7 +5,7 @@ ghost use Rattle.std.specs.Option.{is_some};
 ghost use Rattle.chess_base.specs.Attacks.{could_capture};
 ghost use Rattle.chess_base.specs.Squares.{is_square};
 ghost use Rattle.chess_base.specs.Men.{man_at, other, is_of, is_man, same_kind, forward, pawn_rank};
-ghost use Rattle.chess_base.specs.MoveList.{triple};
+ghost use Rattle.chess_base.specs.MoveList.{move_of};
 ghost use Rattle.chess_base.specs.Moves.{is_legal, pawn_advances, pawn_captures};
 ghost use Rattle.chess_base.specs.declared.man.Kind.TheVariants.{King, Pawn};
 ghost use Rattle.chess_base.specs.Castling.{right_of, castled_rook_file, castle_of};
@@ -14,7 +14,7 @@ ghost use Rattle.chess_bits.specs.declared.line.Line.TheVariants.{File};
 ghost use Rattle.chess_bits.specs.declared.table.Shape.TheVariants.{Pawn as PawnAttack};
 ghost use Rattle.chess_bits.specs.ties.Rays.{is_on_ray};
 ghost use Rattle.chess_bits.specs.ties.Shapes.{in_shape};
-ghost use Rattle.chess_moves.specs.Sets.{has};
+ghost use Rattle.chess_moves.specs.Sets.{contains};
 
 use crate::bits::Bits;
 use crate::king::set_of;
@@ -59,7 +59,7 @@ impl Bits<'_> {
     #[inline(always)]
     pub(crate) fn steps(&self, kind: Kind, from: Square) -> SquareSet
         ensures { (k : ℕ) → k < 64
-            → has result k ≡ (could_capture (self.now).men (self.now).side kind from k
+            → contains result k ≡ (could_capture (self.now).men (self.now).side kind from k
             && not (is_of (self.now).side (man_at (self.now).men k))) }
     {
         let side = self.setup.side;
@@ -101,7 +101,7 @@ impl Bits<'_> {
         from: Square,
         castling_side: CastlingSide,
     ) -> SquareSet
-        ensures { (k : ℕ) → k < 64 → has result k ≡ castling_or self.now castling_side from k (has targets k) }
+        ensures { (k : ℕ) → k < 64 → contains result k ≡ castling_or self.now castling_side from k (contains targets k) }
     {
         let side = self.setup.side;
         let Some(rook) = right_of(self.setup.rights, side, castling_side) else {
@@ -131,7 +131,7 @@ impl Bits<'_> {
     // the square of his rook (h1).
     pub(crate) fn castling_ends(&self, king: Square) -> SquareSet
         ensures { (k : ℕ) → k < 64
-            → has result k ≡ legal_or self.now (triple king k None) (castle_of self.now (triple king k None)) false }
+            → contains result k ≡ legal_or self.now (move_of king k None) (castle_of self.now (move_of king k None)) false }
     {
         let none = SquareSet::empty();
         let far = self.with_castling(none, king, CastlingSide::QueenSide);
@@ -142,7 +142,7 @@ impl Bits<'_> {
     // moves, but of castling only if it is legal.
     fn man_targets(&self, from: Square) -> SquareSet
         requires { is_of (self.now).side (man_at (self.now).men from) ≡ true }
-        ensures { (k : ℕ) → k < 64 → has result k ≡ man_goes self.now from k }
+        ensures { (k : ℕ) → k < 64 → contains result k ≡ man_goes self.now from k }
     {
         let Some(man) = self.setup.men[from.index()] else {
             return SquareSet::empty();
@@ -159,7 +159,7 @@ impl Bits<'_> {
     // The squares, one or two, to which the pawn on `from` may go straight ahead.
     fn advances(&self, from: Square) -> SquareSet
         requires { is_man (self.now).side Pawn (man_at (self.now).men from) ≡ true }
-        ensures { (k : ℕ) → k < 64 → has result k ≡ pawn_advances self.now (triple from k None) }
+        ensures { (k : ℕ) → k < 64 → contains result k ≡ pawn_advances self.now (move_of from k None) }
     {
         // The prover wants this fact: the start's number is below 64.
         let _start = from.number();
@@ -187,7 +187,7 @@ impl Bits<'_> {
     // The squares on which the pawn on `from` may capture, the en passant target included.
     fn captures(&self, from: Square) -> SquareSet
         requires { is_man (self.now).side Pawn (man_at (self.now).men from) ≡ true }
-        ensures { (k : ℕ) → k < 64 → has result k ≡ pawn_captures self.now (triple from k None) }
+        ensures { (k : ℕ) → k < 64 → contains result k ≡ pawn_captures self.now (move_of from k None) }
     {
         let side = self.setup.side;
         let reached = self.tables.at(Shape::Pawn(side), from);
@@ -202,7 +202,7 @@ impl Bits<'_> {
     #[tactic(auto, unfolding(crate::specs::ties::Shapes::in_shape))]
     fn straight_starts(&self, to: Square) -> SquareSet
         ensures { (k : ℕ) → k < 64
-            → has result k ≡ (not (is_some (man_at (self.now).men to))
+            → contains result k ≡ (not (is_some (man_at (self.now).men to))
             && (is_on_ray File true to k || is_on_ray File false to k)) }
     {
         if self.setup.men[to.index()].is_some() {
@@ -218,7 +218,7 @@ impl Bits<'_> {
     #[inline(always)]
     fn capture_starts(&self, to: Square) -> SquareSet
         ensures { (k : ℕ) → k < 64
-            → has result k ≡ ((is_of (other (self.now).side) (man_at (self.now).men to)
+            → contains result k ≡ ((is_of (other (self.now).side) (man_at (self.now).men to)
             || is_square (self.now).target to) && in_shape (PawnAttack (other (self.now).side)) to k) }
     {
         // The prover wants this fact: the number of the end is below 64.
@@ -235,7 +235,7 @@ impl Bits<'_> {
     // by a capture.
     pub(crate) fn pawn_starts(&self, to: Square) -> SquareSet
         ensures { (k : ℕ) → k < 64
-            → has result k ≡ ((not (is_some (man_at (self.now).men to))
+            → contains result k ≡ ((not (is_some (man_at (self.now).men to))
             && (is_on_ray File true to k || is_on_ray File false to k))
             || ((is_of (other (self.now).side) (man_at (self.now).men to) || is_square (self.now).target to)
             && in_shape (PawnAttack (other (self.now).side)) to k)) }
@@ -249,8 +249,8 @@ impl Bits<'_> {
     pub(crate) fn pawn_targets(&self, from: Square) -> SquareSet
         requires { is_man (self.now).side Pawn (man_at (self.now).men from) ≡ true }
         ensures { (k : ℕ) → k < 64
-            → has result k ≡ (pawn_advances self.now (triple from k None)
-            || pawn_captures self.now (triple from k None)) }
+            → contains result k ≡ (pawn_advances self.now (move_of from k None)
+            || pawn_captures self.now (move_of from k None)) }
     {
         let advances = self.advances(from);
         let captures = self.captures(from);
@@ -260,8 +260,8 @@ impl Bits<'_> {
     // The end squares of the piece on `from`, if it is of the side on move (else none): those of its legal moves are
     // among them, and each is that of a pseudo-legal move.
     pub(crate) fn targets(&self, from: Square) -> SquareSet
-        ensures sound { (k : ℕ) → k < 64 → has result k ≡ true → goes self.now from k ≡ true }
-        ensures complete { (m : Move) → is_legal self.now m ≡ true → m.from ≡ from → has result m.to ≡ true }
+        ensures sound { (k : ℕ) → k < 64 → contains result k ≡ true → goes self.now from k ≡ true }
+        ensures complete { (m : Move) → is_legal self.now m ≡ true → m.from ≡ from → contains result m.to ≡ true }
     {
         // The prover wants this fact: the start's number is below 64.
         let _start = from.number();

@@ -12,7 +12,7 @@ use Rattle.chess_text.specs.Moves.{reading}
 use Rattle.chess_text.specs.declared.reading.Reading.{Reading}
 use Rattle.chess_text.specs.declared.reading.Reading.TheVariants as reads
 use Rattle.chess_game.specs.Ends.{claims}
-use Rattle.chess_game.specs.Game.{State, from_start, taken_back, with_declared, current, verdict_now, is_over, is_other}
+use Rattle.chess_game.specs.Game.{State, from_start, taken_back, with_declared, current, verdict_now, is_over, contradicts_verdict}
 use Rattle.chess_game.specs.declared.ends.Claims.{Claims}
 use Rattle.chess_game.specs.declared.results.Declared.{Declared}
 use Rattle.chess_pgn.specs.declared.tags.Tags.{Tags}
@@ -58,7 +58,7 @@ setboard_on s (Err fault) = refl
 result_on : (s : State) (text : List ℕ) (d : Option Declared) → GoesOn (result_row s text d)
 result_on s text None = refl
 result_on s text (Some d) =
-    by_test (is_other (verdict_now s) d.outcome) (refuses s (codes "Error (the board says otherwise): ") text)
+    by_test (contradicts_verdict (verdict_now s) d.outcome) (refuses s (codes "Error (the board says otherwise): ") text)
     (becomes (with_declared s (Some d))) refl refl
 
 claimed_on : (s : State) (c : Claims) → GoesOn (claimed s c)

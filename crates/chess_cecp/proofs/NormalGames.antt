@@ -26,9 +26,9 @@ use Rattle.chess_game.specs.declared.results.Declared.{Declared}
 use Rattle.chess_game.specs.declared.results.Outcome.TheVariants.{Unfinished}
 use Rattle.chess_game.specs.Ends.{has_insufficient_material, mates, verdict, verdict_outcome, claims}
 use Rattle.chess_game.specs.Game.{State, is_over, outcome_now}
-use Rattle.chess_game.specs.Line.{line, last}
+use Rattle.chess_game.specs.Line.{positions_of, position_after}
 use Rattle.chess_game.specs.Results.{outcome_text}
-use Rattle.chess_game.specs.Same.{live_target, same, same_men, same_rights, same_square, rep}
+use Rattle.chess_game.specs.Same.{live_target, is_same_position, same_men, same_rights, same_square, repetition_count}
 use Rattle.chess_pgn.specs.declared.tags.Tags.{Tags}
 use Rattle.chess_pgn.specs.declared.termination.Termination.{Termination}
 use Rattle.chess_pgn.specs.GameText.{is_initial, start_lines_in, last_lines, further_lines, roster_lines, tag_lines, number_token, move_tokens, game_tokens, pgn}
@@ -48,11 +48,11 @@ stays : (p : Setup) (m : Move) → (after p m).variant ≡ p.variant
 unfolding after
 stays p m = refl
 
-pub last_stays : (p : Setup) (ms : List Move) → (last p ms).variant ≡ p.variant
+pub last_stays : (p : Setup) (ms : List Move) → (position_after p ms).variant ≡ p.variant
 last_stays p [] = refl
 last_stays p (m ∷ ms) = last_stays (after p m) ms ∙ stays p m
 
-pub last_kept : (p : Setup) → p.variant ≡ Normal → (ms : List Move) → last p ms ≡ normal_last p ms
+pub last_kept : (p : Setup) → p.variant ≡ Normal → (ms : List Move) → position_after p ms ≡ normal_last p ms
 last_kept p e [] = refl
 last_kept p e (m ∷ ms) = last_kept (after p m) (stays p m ∙ e) ms
     ∙ ap (λ q. normal_last q ms) ((rules_kept p e).after m)
@@ -63,8 +63,8 @@ target_kept : (p : Setup) → p.variant ≡ Normal → live_target p ≡ normal_
 unfolding live_target normal_live_target
 target_kept p e = ap (λ ms. if list_any (λ m. is_en_passant p m) ms then p.target else None) (texts_kept p e).moves
 
-same_kept : (p q : Setup) → p.variant ≡ Normal → q.variant ≡ Normal → same p q ≡ normal_same p q
-unfolding same normal_same
+same_kept : (p q : Setup) → p.variant ≡ Normal → q.variant ≡ Normal → is_same_position p q ≡ normal_same p q
+unfolding is_same_position normal_same
 same_kept p q e h =
     ap (λ t. same_colour p.side q.side && same_men p.men q.men && same_rights p.rights q.rights
     && same_square t (live_target q)) (target_kept p e)
@@ -81,19 +81,19 @@ counted_one f g p ps qs e h =
     ∙ sym (sum_by-cons (λ x. cond (g x) 1 0) p qs)
 
 counted : (q : Setup) → q.variant ≡ Normal → (p : Setup) → p.variant ≡ Normal → (ms : List Move)
-    → count_by (λ x. same x q) (line p ms) ≡ count_by (λ x. normal_same x q) (normal_line p ms)
+    → count_by (λ x. is_same_position x q) (positions_of p ms) ≡ count_by (λ x. normal_same x q) (normal_line p ms)
 counted q h p e [] =
-    counted_one (λ x. same x q) (λ x. normal_same x q) p [] [] (same_kept p q e h) refl
+    counted_one (λ x. is_same_position x q) (λ x. normal_same x q) p [] [] (same_kept p q e h) refl
 counted q h p e (m ∷ ms) =
-    counted_one (λ x. same x q) (λ x. normal_same x q) p (line (after p m) ms) (normal_line (normal_after p m) ms)
+    counted_one (λ x. is_same_position x q) (λ x. normal_same x q) p (positions_of (after p m) ms) (normal_line (normal_after p m) ms)
     (same_kept p q e h)
     (counted q h (after p m) (stays p m ∙ e) ms
     ∙ ap (λ r. count_by (λ x. normal_same x q) (normal_line r ms)) ((rules_kept p e).after m))
 
-pub rep_kept : (p : Setup) → p.variant ≡ Normal → (ms : List Move) → rep p ms ≡ normal_rep p ms
-unfolding rep normal_rep
+pub rep_kept : (p : Setup) → p.variant ≡ Normal → (ms : List Move) → repetition_count p ms ≡ normal_rep p ms
+unfolding repetition_count normal_rep
 rep_kept p e ms =
-    counted (last p ms) (last_stays p ms ∙ e) p e ms
+    counted (position_after p ms) (last_stays p ms ∙ e) p e ms
     ∙ ap (λ q. count_by (λ x. normal_same x q) (normal_line p ms)) (last_kept p e ms)
 
 -- ---- ends
@@ -110,13 +110,13 @@ judged p ms n =
 pub verdict_kept : (p : Setup) → p.variant ≡ Normal → (ms : List Move) → verdict p ms ≡ normal_verdict p ms
 unfolding verdict normal_verdict judged
 verdict_kept p e ms =
-    ap (λ all. judged (last p ms) all (rep p ms)) (texts_kept (last p ms) (last_stays p ms ∙ e)).moves
-    ∙ ap (λ q. judged q (normal_moves q) (rep p ms)) (last_kept p e ms)
+    ap (λ all. judged (position_after p ms) all (repetition_count p ms)) (texts_kept (position_after p ms) (last_stays p ms ∙ e)).moves
+    ∙ ap (λ q. judged q (normal_moves q) (repetition_count p ms)) (last_kept p e ms)
     ∙ ap (judged (normal_last p ms) (normal_moves (normal_last p ms))) (rep_kept p e ms)
 
 pub claims_kept : (p : Setup) → p.variant ≡ Normal → (ms : List Move) → claims p ms ≡ normal_claims p ms
 claims_kept p e ms =
-    ap (λ (n : ℕ). record { threefold = nat_le 3 n; fifty_moves = nat_le 100 (last p ms).halfmove }) (rep_kept p e ms)
+    ap (λ (n : ℕ). record { threefold = nat_le 3 n; fifty_moves = nat_le 100 (position_after p ms).halfmove }) (rep_kept p e ms)
     ∙ ap (λ (q : Setup). record { threefold = nat_le 3 (normal_rep p ms); fifty_moves = nat_le 100 q.halfmove })
     (last_kept p e ms)
 

@@ -23,7 +23,7 @@ use Rattle.chess_game.specs.declared.ends.Claims.{Claims}
 use Rattle.chess_game.specs.declared.ends.Verdict.{Verdict}
 use Rattle.chess_game.specs.declared.results.Declared.{Declared}
 use Rattle.chess_game.specs.Ends.{claims}
-use Rattle.chess_game.specs.Game.{State, from_start, played, with_declared, current, verdict_now, is_other}
+use Rattle.chess_game.specs.Game.{State, from_start, played, with_declared, current, verdict_now, contradicts_verdict}
 use Rattle.chess_pgn.specs.declared.tags.Tags.{Tags}
 use Rattle.chess_cecp.specs.declared.command.Command.{Command}
 use Rattle.chess_cecp.specs.declared.command.Command.TheVariants.{New, SetBoard, UserMove, BareMove, Undo, Remove, Declare, Claim, Ping, Protover, Variant, Go, ShowFen, ShowMoves, ShowState, ShowPgn, Quit, Silent, BadNumber, Unknown}
@@ -82,7 +82,7 @@ result_kept : (s : State) → s.start.variant ≡ Normal → (text : List ℕ) (
     → result_row s text d ≡ normal_result_row s text d
 result_kept s e text None = refl
 result_kept s e text (Some d) =
-    ap (λ v. if is_other v d.outcome then refuses s (codes "Error (the board says otherwise): ") text
+    ap (λ v. if contradicts_verdict v d.outcome then refuses s (codes "Error (the board says otherwise): ") text
     else becomes (with_declared s (Some d))) (verdict_kept s.start e s.moves)
 
 claim_kept : (s : State) → s.start.variant ≡ Normal → claim_row s ≡ normal_claim_row s

@@ -16,7 +16,7 @@ use Rattle.chess_text.specs.declared.reading.Reading.{Reading}
 use Rattle.chess_text.specs.declared.reading.Reading.TheVariants as reads
 use Rattle.chess_cecp.specs.Commands.{command_of, argument_of}
 use Rattle.chess_game.specs.Ends.{verdict_outcome, verdict_comment, claims}
-use Rattle.chess_game.specs.Game.{State, from_start, played, taken_back, with_declared, current, verdict_now, is_over, is_other}
+use Rattle.chess_game.specs.Game.{State, from_start, played, taken_back, with_declared, current, verdict_now, is_over, contradicts_verdict}
 use Rattle.chess_game.specs.declared.ends.Verdict.{Verdict}
 use Rattle.chess_game.specs.declared.results.Declared.{Declared}
 use Rattle.chess_game.specs.declared.results.Outcome.{Outcome}
@@ -88,7 +88,7 @@ setboard_keeps s (Err fault) = λ h. refl
 result_keeps : (s : State) (text : List ℕ) (d : Option Declared) → KeepsRefused s (result_row s text d)
 result_keeps s text None = λ h. refl
 result_keeps s text (Some d) =
-    by_test (is_other (verdict_now s) d.outcome) s (refuses s (codes "Error (the board says otherwise): ") text)
+    by_test (contradicts_verdict (verdict_now s) d.outcome) s (refuses s (codes "Error (the board says otherwise): ") text)
     (becomes (with_declared s (Some d)))
     (λ h. refl)
     (accepted s (becomes (with_declared s (Some d))) refl)

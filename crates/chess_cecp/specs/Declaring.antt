@@ -5,7 +5,7 @@ use Rattle.chess_base.specs.Letters.{byte}
 use Rattle.chess_game.specs.Ends.{verdict_outcome, verdict_comment, claims}
 use Rattle.chess_game.specs.Game.{State, current, verdict_now}
 use Rattle.chess_game.specs.Results.{outcome_text, cut_comment}
-use Rattle.chess_game.specs.Same.{rep}
+use Rattle.chess_game.specs.Same.{repetition_count}
 use Rattle.chess_game.specs.declared.ends.Claims.{Claims}
 use Rattle.chess_game.specs.declared.ends.Verdict.{Verdict}
 use Rattle.chess_game.specs.declared.results.Declared.{Declared}
@@ -54,6 +54,6 @@ claims_text c =
 unfoldable pub state_text : State → List ℕ
 state_text s =
     decimal (length s.moves)
-    ++ (codes " rep " ++ (decimal (rep s.start s.moves) ++ (codes " clock " ++ (decimal (current s).halfmove
+    ++ (codes " repetition_count " ++ (decimal (repetition_count s.start s.moves) ++ (codes " clock " ++ (decimal (current s).halfmove
     ++ (codes " claims " ++ (claims_text (claims s.start s.moves) ++ (codes " verdict " ++ (verdict_text (verdict_now s)
     ++ (codes " declared " ++ declared_text s.declared)))))))))

@@ -28,7 +28,7 @@ use Rattle.chess_text.specs.declared.reading.Reading.TheVariants as reads
 use Rattle.chess_cecp.specs.Commands.{command_of, argument_of}
 use Rattle.chess_cecp.specs.Declaring.{read_result, result_text, state_text}
 use Rattle.chess_game.specs.Ends.{verdict_outcome, verdict_comment, claims}
-use Rattle.chess_game.specs.Game.{State, from_start, played, taken_back, with_declared, current, verdict_now, is_over, is_other}
+use Rattle.chess_game.specs.Game.{State, from_start, played, taken_back, with_declared, current, verdict_now, is_over, contradicts_verdict}
 use Rattle.chess_game.specs.declared.ends.Claims.{Claims}
 use Rattle.chess_game.specs.declared.ends.Verdict.{Verdict}
 use Rattle.chess_game.specs.declared.results.Declared.{Declared}
@@ -120,7 +120,7 @@ back_row n name s =
 abbrev pub result_row : State → List ℕ → Option Declared → Response State
 result_row s text None = refuses s (codes "Error (bad result): ") text
 result_row s text (Some d) =
-    if is_other (verdict_now s) d.outcome then refuses s (codes "Error (the board says otherwise): ") text
+    if contradicts_verdict (verdict_now s) d.outcome then refuses s (codes "Error (the board says otherwise): ") text
     else becomes (with_declared s (Some d))
 
 -- a draw with this comment is declared in the game `s`, and answered, as `1/2-1/2 {50-move rule}`

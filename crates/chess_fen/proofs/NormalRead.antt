@@ -12,7 +12,7 @@ use Rattle.chess_base.specs.declared.setup.Setup.{Setup}
 use Rattle.chess_base.specs.Attacks.{is_in_check}
 use Rattle.chess_base.specs.Faults.{counters_fit, rights_are_sound, first_failing, setup_fault}
 use Rattle.chess_base.specs.Men.{Men, other}
-use Rattle.chess_base.specs.Sound.{has_one_king, no_pawn_on_end_ranks, has_at_most_16, target_is_behind_double_advance}
+use Rattle.chess_base.specs.Sound.{has_one_king, no_pawn_on_end_ranks, has_at_most_16, target_is_sound}
 use Rattle.chess_base.proofs.NormalKept.{normal_kept}
 use Rattle.chess_fen.specs.Reading.{◌>>=◌, side_of, rights_of, unless_fault, setup_by, setup_in, fen_reading_as}
 use Rattle.chess_fen.specs.Texts.{may_name_right, placement_of, target_of, number_of, fields_of, is_castling}
@@ -45,7 +45,7 @@ fault_kept p e =
     ∷ (faults.Pawns, no_pawn_on_end_ranks p.men)
     ∷ (faults.Men, has_at_most_16 p.men White && has_at_most_16 p.men Black)
     ∷ (faults.Castling, stand)
-    ∷ (faults.EnPassant, target_is_behind_double_advance p)
+    ∷ (faults.EnPassant, target_is_sound p)
     ∷ (faults.Check, not (is_in_check p.men (other p.side)))
     ∷ []))
     (stand_kept p e)

@@ -5,7 +5,7 @@ use Rattle.std.specs.List.{slice_split}
 use Rattle.std.proofs.lemmas.Bool.Decides.{nat_tests}
 use Rattle.std.proofs.lemmas.List.Splits.{length-slice_split}
 use Rattle.chess_base.specs.declared.man.Man.{Man}
-use Rattle.chess_fen.specs.Texts.{stacked, placement_of}
+use Rattle.chess_fen.specs.Texts.{squares_by_ranks, placement_of}
 use Rattle.chess_fen.specs.ties.Fields.{parts_of}
 
 abbrev ranks_of : List ℕ → List (List ℕ)
@@ -13,7 +13,7 @@ ranks_of text = slice_split (λ c. eqb c 47) text
 
 -- What is left gives all the pieces, on top of the ranks so far. So many ranks are left
 pub record Stacking (text : List ℕ) (men : List (Option Man)) (rest : Option (Bor (List ℕ))) (left : ℕ) : Type 0 where
-  pub stack : stacked (drop (8 * left) men) (parts_of 47 rest) ≡ stacked [] (slice_split (λ c. eqb c 47) text)
+  pub stack : squares_by_ranks (drop (8 * left) men) (parts_of 47 rest) ≡ squares_by_ranks [] (slice_split (λ c. eqb c 47) text)
   pub count : length (parts_of 47 rest) + 8 ≡ length (slice_split (λ c. eqb c 47) text) + left
 
 not_eight : (text : List ℕ) → length (ranks_of text) ≢ 8 → None ≡ placement_of text

@@ -21,13 +21,13 @@ use Rattle.chess_fen.proofs.SpelledRights.{castling-spelled}
 use Rattle.chess_base.specs.declared.setup.Setup.{Setup}
 use Rattle.chess_fen.specs.ManLetters.{letter, letter_by}
 use Rattle.chess_base.specs.Letters.{white_letter, byte, is_digit, value_after}
-use Rattle.chess_fen.specs.Texts.{number_of, rank_after, rank_of, stacked, placement_of, occurs, may_name_right, is_castling, target_of, fields_of}
+use Rattle.chess_fen.specs.Texts.{number_of, rank_after, rank_of, squares_by_ranks, placement_of, occurs, may_name_right, is_castling, target_of, fields_of}
 use Rattle.chess_fen.specs.Writing.{run_text, row_text, fen_rank, ranks_down, placement_text, side_text, right_text, or_dash, rights_text, target_text, fen}
 use Rattle.chess_fen.specs.ties.Loops.{ranks_text}
 use Rattle.chess_base.specs.declared.man.CastlingSide.{CastlingSide}
 use Rattle.chess_base.specs.declared.man.CastlingSide.TheVariants.{KingSide, QueenSide}
 use Rattle.chess_base.specs.Men.{Men, man_at, is_man, other, forward, crossed_rank}
-use Rattle.chess_base.specs.Sound.{IsSound, target_is_behind_double_advance_at, target_is_behind_double_advance}
+use Rattle.chess_base.specs.Sound.{IsSound, target_is_behind_double_advance_at, target_is_sound}
 use Rattle.chess_base.specs.Castling.{home_square, rook_file, right_of, right_is_sound}
 use Rattle.chess_base.specs.ties.Splits.{right_is_sound_at}
 use Rattle.std.proofs.lemmas.Bool.{and_parts, eqb-true}
@@ -205,7 +205,7 @@ target_rank men c (Some t) e = by_colour c
     by_colour Black h = inl (eqb-true (t / 8) 2 h)
 
 pub target_fits : (p : Setup) → IsSound p → IfSome p.target (λ square. (square / 8 ≡ 2) ⊎ (square / 8 ≡ 5))
-unfolding target_is_behind_double_advance
+unfolding target_is_sound
 target_fits p h = target_rank p.men p.side p.target h.target
 
 pub side-text : (colour : Colour) → side_of (side_text colour) ≡ Some colour
@@ -296,13 +296,13 @@ rows_from zero men = tt
 rows_from (suc n) men = (row_from (take 8 (drop (8 * n) men)) 0, rows_from n men)
 
 ranks_read : (n : ℕ) (men above : List (Option Man)) → 8 * n ≤ length men
-    → stacked above (map fen_rank (ranks_down n men)) ≡ Some (take (8 * n) men ++ above)
+    → squares_by_ranks above (map fen_rank (ranks_down n men)) ≡ Some (take (8 * n) men ++ above)
 ranks_read zero men above h = refl
 ranks_read (suc n) men above h =
     let squares : List (Option Man) = take 8 (drop (8 * n) men) in
     let eight : length squares ≡ 8 = omega (arith, length-take 8 (drop (8 * n) men), length-drop (8 * n) men) in
     let at : 8 * suc n ≡ 8 * n + 8 = omega arith in
-    ap (option_and_then (λ r. stacked (r ++ above) (map fen_rank (ranks_down n men)))) (rank-text squares eight)
+    ap (option_and_then (λ r. squares_by_ranks (r ++ above) (map fen_rank (ranks_down n men)))) (rank-text squares eight)
     ∙ ranks_read n men (squares ++ above) (omega arith)
     ∙ ap Some (sym (append_assoc (take (8 * n) men) squares above)
     ∙ ap (λ r. r ++ above) (sym (ap (λ k. take k men) at ∙ take-add (8 * n) 8 men)))
@@ -312,7 +312,7 @@ unfolding placement_text
 placement-text men all =
     let parts : slice_split (λ c. eqb c 47) (ranks_text 8 men) ≡ map fen_rank (ranks_down 8 men) =
     slice_split-join 47 (fen_rank (take 8 (drop 56 men))) (map fen_rank (ranks_down 7 men)) (rows_from 8 men) in
-    ap (λ ranks. cond (eqb (length ranks) 8) (stacked [] ranks) None) parts ∙ ranks_read 8 men [] (omega arith)
+    ap (λ ranks. cond (eqb (length ranks) 8) (squares_by_ranks [] ranks) None) parts ∙ ranks_read 8 men [] (omega arith)
     ∙ ap Some (append-nil (take 64 men) ∙ take_all 64 men (omega arith))
 
 placement_from : (men : List (Option Man)) → From 33 (placement_text men)

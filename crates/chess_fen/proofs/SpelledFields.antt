@@ -9,7 +9,7 @@ use Rattle.chess_base.specs.declared.man.Man.{Man}
 use Rattle.chess_base.specs.declared.man.Colour.{Colour}
 use Rattle.chess_base.specs.declared.man.Colour.TheVariants.{White, Black}
 use Rattle.chess_base.specs.Letters.{is_digit, value_after}
-use Rattle.chess_fen.specs.Texts.{number_of, rank_of, stacked, placement_of, target_of}
+use Rattle.chess_fen.specs.Texts.{number_of, rank_of, squares_by_ranks, placement_of, target_of}
 use Rattle.chess_fen.specs.Writing.{side_text}
 use Rattle.chess_fen.specs.Reading.{side_of}
 use Rattle.chess_fen.specs.Spelling.{SpellsRank, from_top, SpellsPlacement, SpellsTarget, SpellsNumber}
@@ -25,15 +25,15 @@ record ReadOnTop (texts : List (List ℕ)) (above whole : List (Option Man)) : T
   parts : whole ≡ from_top rows ++ above
   count : length rows ≡ length texts
 
-read_on_top : (texts : List (List ℕ)) (above whole : List (Option Man)) → stacked above texts ≡ Some whole
+read_on_top : (texts : List (List ℕ)) (above whole : List (Option Man)) → squares_by_ranks above texts ≡ Some whole
     → ReadOnTop texts above whole
 read_on_top [] above whole e = record { rows = []; each = tt; parts = (cc); count = refl }
 read_on_top (text ∷ texts) above whole e =
     by_rank (λ row h. read_on_top texts (row ++ above) whole h) (rank_of text) refl e
   where
-    by_rank : ((row : List (Option Man)) → stacked (row ++ above) texts ≡ Some whole
+    by_rank : ((row : List (Option Man)) → squares_by_ranks (row ++ above) texts ≡ Some whole
         → ReadOnTop texts (row ++ above) whole) → (o : Option (List (Option Man))) → rank_of text ≡ o
-        → option_and_then (λ row. stacked (row ++ above) texts) o ≡ Some whole → ReadOnTop (text ∷ texts) above whole
+        → option_and_then (λ row. squares_by_ranks (row ++ above) texts) o ≡ Some whole → ReadOnTop (text ∷ texts) above whole
     by_rank later None is e = absurd cc
     by_rank later (Some row) is e =
         let r = later row e in
@@ -48,20 +48,20 @@ pub spelled-placement : (text : List ℕ) (men : List (Option Man)) → placemen
     → SpellsPlacement text men
 spelled-placement text men e =
     let ranks : List (List ℕ) = slice_split (λ c. eqb c 47) text in
-    let h = chosen (eqb (length ranks) 8) (stacked [] ranks) men e in
+    let h = chosen (eqb (length ranks) 8) (squares_by_ranks [] ranks) men e in
     let eight : length ranks ≡ 8 = grind (arith, nat_tests, h.0) in
     let r = read_on_top ranks [] men h.1 in
     (r.rows, r.count ∙ eight, r.each, r.parts ∙ append-nil (from_top r.rows))
 
 stack_spelled : (texts : List (List ℕ)) (rows : List (List (Option Man))) (above : List (Option Man))
-    → AllZip SpellsRank texts rows → (stacked above texts ≡ Some (from_top rows ++ above))
+    → AllZip SpellsRank texts rows → (squares_by_ranks above texts ≡ Some (from_top rows ++ above))
     × (length texts ≡ length rows)
 stack_spelled [] [] above p = (refl, refl)
 stack_spelled [] (row ∷ rows) above p = absurd p
 stack_spelled (text ∷ texts) [] above p = absurd p
 stack_spelled (text ∷ texts) (row ∷ rows) above p =
     let more = stack_spelled texts rows (row ++ above) p.1 in (
-      ap (option_and_then (λ r. stacked (r ++ above) texts)) (rank-of_spelled text row p.0) ∙ more.0
+      ap (option_and_then (λ r. squares_by_ranks (r ++ above) texts)) (rank-of_spelled text row p.0) ∙ more.0
           ∙ ap Some (sym (append_assoc (from_top rows) row above)),
       ap suc more.1,
     )

@@ -42,14 +42,14 @@ rank_of text = rank_after [] text
 
 -- squares from a1 on, by the texts of ranks, the highest first: each rank's squares are put in front of `above`, those
 -- of the higher ranks read so far; none if a text is not that of a rank
-abbrev pub stacked : List (Option Man) → List (List ℕ) → Option (List (Option Man))
-stacked above [] = Some above
-stacked above (text ∷ texts) = option_and_then (λ row. stacked (row ++ above) texts) (rank_of text)
+abbrev pub squares_by_ranks : List (Option Man) → List (List ℕ) → Option (List (Option Man))
+squares_by_ranks above [] = Some above
+squares_by_ranks above (text ∷ texts) = option_and_then (λ row. squares_by_ranks (row ++ above) texts) (rank_of text)
 
 -- the pieces that a FEN's first field denotes: eight ranks, rank 8 first, with a slash between them; none for any other
 -- text
 abbrev pub placement_of : List ℕ → Option (List (Option Man))
-placement_of text = let ranks = slice_split (λ c. c == stroke) text in if length ranks == 8 then stacked [] ranks else
+placement_of text = let ranks = slice_split (λ c. c == stroke) text in if length ranks == 8 then squares_by_ranks [] ranks else
     None
 
 -- ---- castling

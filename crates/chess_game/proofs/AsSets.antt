@@ -10,7 +10,7 @@ use Rattle.chess_base.specs.declared.man.Man.{Man}
 use Rattle.chess_base.specs.Men.{Men, man_at, is_of, is_man, same_colour, same_kind}
 use Rattle.chess_base.specs.Squares.{some_below, each_below, some_square, each_square, from_below}
 use Rattle.chess_base.proofs.MenAfter.{length-from_below, get_or-from_below}
-use Rattle.chess_moves.specs.Sets.{has}
+use Rattle.chess_moves.specs.Sets.{contains}
 use Rattle.chess_game.specs.Ends.{is_kind}
 use Rattle.chess_game.specs.Same.{same_man, same_men}
 use Rattle.chess_game.specs.ties.Packed.{man_of, man_in, men_in, IsPackedAt, ArePacked}
@@ -145,12 +145,12 @@ alike false false e = refl
 -- some of the seven sets differ on s
 abbrev pub some_differ : PackedMen → PackedMen → ℕ → Bool
 some_differ p q s =
-    differ (has p.white s) (has q.white s) || differ (has p.kings s) (has q.kings s)
-    || differ (has p.queens s) (has q.queens s)
-    || differ (has p.rooks s) (has q.rooks s)
-    || differ (has p.bishops s) (has q.bishops s)
-    || differ (has p.knights s) (has q.knights s)
-    || differ (has p.pawns s) (has q.pawns s)
+    differ (contains p.white s) (contains q.white s) || differ (contains p.kings s) (contains q.kings s)
+    || differ (contains p.queens s) (contains q.queens s)
+    || differ (contains p.rooks s) (contains q.rooks s)
+    || differ (contains p.bishops s) (contains q.bishops s)
+    || differ (contains p.knights s) (contains q.knights s)
+    || differ (contains p.pawns s) (contains q.pawns s)
 
 none_differs : (p q : PackedMen) (s : ℕ) (o : Option Man) → IsPackedAt p s o → IsPackedAt q s o
     → some_differ p q s ≡ false
@@ -175,13 +175,13 @@ same_man_in p q s e =
     let three = or_parts _ _ four.0 in
     let two = or_parts _ _ three.0 in
     let one = or_parts _ _ two.0 in
-    let white = alike (has p.white s) (has q.white s) one.0 in
-    let kings = alike (has p.kings s) (has q.kings s) one.1 in
-    let queens = alike (has p.queens s) (has q.queens s) two.1 in
-    let rooks = alike (has p.rooks s) (has q.rooks s) three.1 in
-    let bishops = alike (has p.bishops s) (has q.bishops s) four.1 in
-    let knights = alike (has p.knights s) (has q.knights s) five.1 in
-    let pawns = alike (has p.pawns s) (has q.pawns s) six.1 in
+    let white = alike (contains p.white s) (contains q.white s) one.0 in
+    let kings = alike (contains p.kings s) (contains q.kings s) one.1 in
+    let queens = alike (contains p.queens s) (contains q.queens s) two.1 in
+    let rooks = alike (contains p.rooks s) (contains q.rooks s) three.1 in
+    let bishops = alike (contains p.bishops s) (contains q.bishops s) four.1 in
+    let knights = alike (contains p.knights s) (contains q.knights s) five.1 in
+    let pawns = alike (contains p.pawns s) (contains q.pawns s) six.1 in
     (λ i. reported (white i) (kings i) (queens i) (rooks i) (bishops i) (knights i) (pawns i))
 
 -- the pieces on s differ where one of the sets does
@@ -214,8 +214,8 @@ not_some (suc n) f g h =
 
 -- where they differ on no square they are the same
 pub same_where_none : (w : ℕ) (men others : Men)
-    → ((k : ℕ) → k < 64 → has w k ≡ not (same_man (man_at men k) (man_at others k)))
-    → not (some_square (λ k. has w k)) ≡ same_men men others
+    → ((k : ℕ) → k < 64 → contains w k ≡ not (same_man (man_at men k) (man_at others k)))
+    → not (some_square (λ k. contains w k)) ≡ same_men men others
 unfolding some_square same_men each_square
 same_where_none w men others h =
-    not_some 64 (λ k. has w k) (λ s. same_man (man_at men s) (man_at others s)) h
+    not_some 64 (λ k. contains w k) (λ s. same_man (man_at men s) (man_at others s)) h

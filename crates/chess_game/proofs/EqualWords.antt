@@ -12,7 +12,7 @@ use Rattle.chess_base.specs.Men.{Men, man_at, same_colour, same_kind, kind_numbe
 use Rattle.chess_base.specs.Sound.{IsSound}
 use Rattle.chess_base.proofs.MenFacts.{same_colour-true}
 use Rattle.chess_base.proofs.OverSquares.{each_square-at}
-use Rattle.chess_game.specs.Same.{same, same_man, same_men, same_square, same_colour_rights, same_rights, live_target}
+use Rattle.chess_game.specs.Same.{is_same_position, same_man, same_men, same_square, same_colour_rights, same_rights, live_target}
 use Rattle.chess_game.specs.ties.PlayedMoves.{Hashing, HasHash}
 use Rattle.chess_game.specs.declared.repetition.Hashed.{Hashed}
 
@@ -77,9 +77,9 @@ rights_equal r q e =
 
 -- ---- hashes
 
-pub equal_words : (f : Hashing) (p q : Setup) → IsSound p → IsSound q → same p q ≡ true
+pub equal_words : (f : Hashing) (p q : Setup) → IsSound p → IsSound q → is_same_position p q ≡ true
     → f p.men p.side p.rights ≡ f q.men q.side q.rights
-unfolding same
+unfolding is_same_position
 equal_words f p q this that e =
     let sides = same_colour p.side q.side in
     let men = same_men p.men q.men in
@@ -93,8 +93,8 @@ equal_words f p q this that e =
     (λ i. f (a i) (b i) (c i))
 
 -- what is the same as one of two positions that are the same is the same as the other
-pub same_alike : (p q r : Setup) → IsSound q → IsSound r → same q r ≡ true → same p q ≡ same p r
-unfolding same
+pub same_alike : (p q r : Setup) → IsSound q → IsSound r → is_same_position q r ≡ true → is_same_position p q ≡ is_same_position p r
+unfolding is_same_position
 same_alike p q r this that e =
     let sides = same_colour q.side r.side in
     let men = same_men q.men r.men in
@@ -111,9 +111,9 @@ same_alike p q r this that e =
 
 -- so hashes that differ tell positions apart
 pub told_apart : (f : Hashing) (x y : Hashed) → IsSound x.position → IsSound y.position → HasHash f x → HasHash f y
-    → not (x.word == y.word) ≡ true → same x.position y.position ≡ false
+    → not (x.word == y.word) ≡ true → is_same_position x.position y.position ≡ false
 told_apart f x y this that has_word other_has differ =
-    false_from_ne_true (same x.position y.position)
+    false_from_ne_true (is_same_position x.position y.position)
     (λ e. let one : x.word ≡ y.word = has_word ∙ equal_words f x.position y.position this that e ∙ sym other_has in
     let met : (x.word == y.word) ≡ true = eq-eqb x.word y.word one in
     true≢false (sym differ ∙ ap not met))

@@ -18,8 +18,8 @@ use Rattle.chess_base.specs.laws.Laws.{ReserveNeverGrows, ReserveFallsForGood}
 use Rattle.chess_base.proofs.OverSquares.{each_below-at}
 use Rattle.chess_base.proofs.MenFacts.{same_colour-true}
 use Rattle.chess_moves.specs.Made.{WasMade}
-use Rattle.chess_game.specs.Line.{last}
-use Rattle.chess_game.specs.Same.{same, same_man, same_men, same_rights, same_square, live_target}
+use Rattle.chess_game.specs.Line.{position_after}
+use Rattle.chess_game.specs.Same.{is_same_position, same_man, same_men, same_rights, same_square, live_target}
 use Rattle.chess_game.specs.ties.PlayedMoves.{moves_of, IsKnown, Follows}
 use Rattle.chess_game.specs.ties.Buckets.{known_at, is_same_at}
 use Rattle.chess_game.specs.declared.game.PlayedMove.{PlayedMove}
@@ -61,10 +61,10 @@ second true true true false e = refl
 second false b c d e = cc
 
 -- a position whose pieces have more in reserve is another
-pub other_by_reserve : (p q : Setup) → reserve q.men < reserve p.men → same p q ≡ false
-unfolding same
+pub other_by_reserve : (p q : Setup) → reserve q.men < reserve p.men → is_same_position p q ≡ false
+unfolding is_same_position
 other_by_reserve p q h =
-    elim (cases_Bool (same p q)) [
+    elim (cases_Bool (is_same_position p q)) [
       | inr fails ↦ fails
       | inl passes ↦
           let alike = same_reserve p.men q.men
@@ -77,40 +77,40 @@ other_by_reserve p q h =
 
 -- the reserve at the end is no more than at the start
 pub never_grows : ReserveNeverGrows → (p : Setup) (xs : List PlayedMove) → Follows p xs
-    → reserve (last p (moves_of xs)).men ≤ reserve p.men
+    → reserve (position_after p (moves_of xs)).men ≤ reserve p.men
 never_grows law p [] f = omega arith
 never_grows law p (x ∷ xs) f =
     let one : reserve (after p x.made).men ≤ reserve p.men = law p x.made f.0.sound f.0.legal in
-    let behind : reserve (last (after p x.made) (moves_of xs)).men ≤ reserve (after p x.made).men =
-    subst (λ v. reserve (last v (moves_of xs)).men ≤ reserve v.men) f.0.left
+    let behind : reserve (position_after (after p x.made) (moves_of xs)).men ≤ reserve (after p x.made).men =
+    subst (λ v. reserve (position_after v (moves_of xs)).men ≤ reserve v.men) f.0.left
     (never_grows law x.reached.position xs f.2) in
     omega arith
 
 -- where the played move k was reached by a capture or a pawn move, each position before it has more in reserve than the last
 fallen : ReserveNeverGrows → ReserveFallsForGood → (start : Hashed) (xs : List PlayedMove) (k j : ℕ) (d : PlayedMove)
     → Follows start.position xs → k < length xs → (get_or xs k d).reached.position.halfmove ≡ 0 → j ≤ k
-    → reserve (last start.position (moves_of xs)).men < reserve (known_at start xs j).position.men
+    → reserve (position_after start.position (moves_of xs)).men < reserve (known_at start xs j).position.men
 unfolding known_at
 fallen grows falls start [] k j d f h zeroed before = absurd (omega (arith, h))
 fallen grows falls start (y ∷ ys) zero zero d f h zeroed before =
     let p = start.position in
     let lower : reserve (after p y.made).men < reserve p.men =
     falls p y.made f.0.sound f.0.legal (subst (λ v. v.halfmove ≡ 0) f.0.left zeroed) in
-    let behind : reserve (last (after p y.made) (moves_of ys)).men ≤ reserve (after p y.made).men =
-    subst (λ v. reserve (last v (moves_of ys)).men ≤ reserve v.men) f.0.left
+    let behind : reserve (position_after (after p y.made) (moves_of ys)).men ≤ reserve (after p y.made).men =
+    subst (λ v. reserve (position_after v (moves_of ys)).men ≤ reserve v.men) f.0.left
     (never_grows grows y.reached.position ys f.2) in
     omega (arith, lower, behind)
 fallen grows falls start (y ∷ ys) (suc k) zero d f h zeroed before =
     let p = start.position in
     let one : reserve y.reached.position.men ≤ reserve p.men = subst (λ v. reserve v.men ≤ reserve p.men) (sym f.0.left)
     (grows p y.made f.0.sound f.0.legal) in
-    let rest : reserve (last (after p y.made) (moves_of ys)).men < reserve y.reached.position.men =
-    subst (λ v. reserve (last v (moves_of ys)).men < reserve y.reached.position.men) f.0.left
+    let rest : reserve (position_after (after p y.made) (moves_of ys)).men < reserve y.reached.position.men =
+    subst (λ v. reserve (position_after v (moves_of ys)).men < reserve y.reached.position.men) f.0.left
     (fallen grows falls y.reached ys k 0 d f.2 (omega (arith, h)) zeroed (omega arith)) in
     omega (arith, one, rest)
 fallen grows falls start (y ∷ ys) zero (suc j) d f h zeroed before = absurd (omega (arith, before))
 fallen grows falls start (y ∷ ys) (suc k) (suc j) d f h zeroed before =
-    subst (λ v. reserve (last v (moves_of ys)).men < reserve (known_at y.reached ys j).position.men) f.0.left
+    subst (λ v. reserve (position_after v (moves_of ys)).men < reserve (known_at y.reached ys j).position.men) f.0.left
     (fallen grows falls y.reached ys k j d f.2 (omega (arith, h)) zeroed (omega (arith, before)))
 
 -- ---- a position that a move after those of a game reached
@@ -121,7 +121,7 @@ place_of m s now = record { made = m; saved = s; reached = now; entry = record {
 
 none_before : ReserveNeverGrows → ReserveFallsForGood → (start : Hashed) (xs : List PlayedMove) (now : Hashed)
     (m : Move) (s : Saved) → IsKnown now → Follows start.position xs
-    → WasMade (last start.position (moves_of xs)) m s now.position
+    → WasMade (position_after start.position (moves_of xs)) m s now.position
     → (k : ℕ) (d : PlayedMove) → k < suc (length xs)
     → (get_or (xs ++ place_of m s now ∷ []) k d).reached.position.halfmove ≡ 0 → (j : ℕ) → j ≤ k
     → is_same_at start xs now.position j ≡ false
@@ -129,20 +129,20 @@ unfolding place_of
 none_before grows falls start xs now m s known follows made k d h zeroed j before =
     let x = place_of m s now in
     let len = length-append xs (x ∷ []) in
-    let low : reserve (last start.position (moves_of (xs ++ x ∷ []))).men
+    let low : reserve (position_after start.position (moves_of (xs ++ x ∷ []))).men
     < reserve (known_at start (xs ++ x ∷ []) j).position.men =
     fallen grows falls start (xs ++ x ∷ []) k j d (follows_more start.position xs x follows made known)
     (omega (arith, len, h)) zeroed before in
     let end : reserve now.position.men < reserve (known_at start (xs ++ x ∷ []) j).position.men =
     subst (λ v. reserve v.men < reserve (known_at start (xs ++ x ∷ []) j).position.men)
     (sym (last-more start.position xs x made)) low in
-    ap (λ v. same v.position now.position) (sym (known_before start xs x j (omega (arith, h, before))))
+    ap (λ v. is_same_position v.position now.position) (sym (known_before start xs x j (omega (arith, h, before))))
     ∙ other_by_reserve (known_at start (xs ++ x ∷ []) j).position now.position end
 
 -- where that was a capture or a pawn move, it is the same as none of theirs
 pub none_is_same : ReserveNeverGrows → ReserveFallsForGood → (start : Hashed) (xs : List PlayedMove) (now : Hashed)
     (m : Move) (s : Saved) → IsKnown now → Follows start.position xs
-    → WasMade (last start.position (moves_of xs)) m s now.position
+    → WasMade (position_after start.position (moves_of xs)) m s now.position
     → now.position.halfmove ≡ 0 → (j : ℕ) → j < length xs + 1 → is_same_at start xs now.position j ≡ false
 unfolding place_of
 none_is_same grows falls start xs now m s known follows made zeroed j h =
@@ -153,7 +153,7 @@ none_is_same grows falls start xs now m s known follows made zeroed j h =
 -- where the played move k was reached by one, it is the same as none before that
 pub none_is_same_before : ReserveNeverGrows → ReserveFallsForGood → (start : Hashed) (xs : List PlayedMove) (now : Hashed)
     (m : Move) (s : Saved) → IsKnown now → Follows start.position xs
-    → WasMade (last start.position (moves_of xs)) m s now.position
+    → WasMade (position_after start.position (moves_of xs)) m s now.position
     → (k : ℕ) (d : PlayedMove) → k < length xs → (get_or xs k d).reached.position.halfmove ≡ 0
     → (j : ℕ) → j < k + 1 → is_same_at start xs now.position j ≡ false
 none_is_same_before grows falls start xs now m s known follows made k d low zeroed j h =

@@ -4,7 +4,7 @@ use Rattle.std.proofs.Math.Seq.{get_or-append_seam}
 use Rattle.std.proofs.lemmas.Bool.{eqb-true, eq-eqb}
 use Rattle.std.proofs.lemmas.List.{get_or-set_same, get_or-set_other, length-set, length-append, get_or_append_left}
 use Rattle.chess_base.specs.declared.setup.Setup.{Setup}
-use Rattle.chess_game.specs.Same.{same}
+use Rattle.chess_game.specs.Same.{is_same_position}
 use Rattle.chess_game.specs.ties.Buckets.{bucket, known_at, is_in, is_same_at, latest_below, count_below, HaveHeads, IsEmpty, HasEntry, HaveEntries, IsIndexed}
 use Rattle.chess_game.specs.declared.game.PlayedMove.{PlayedMove}
 use Rattle.chess_game.specs.declared.index.TheConstants.{BUCKETS}
@@ -67,7 +67,7 @@ count_before : (start : Hashed) (xs : List PlayedMove) (y : PlayedMove) (q : Set
     → count_below (is_same_at start (xs ++ y ∷ []) q) n ≡ count_below (is_same_at start xs q) n
 count_before start xs y q n h =
     count_alike (is_same_at start (xs ++ y ∷ []) q) (is_same_at start xs q) n
-    (λ k l. ap (λ v. same v.position q) (known_before start xs y k (omega (arith, l, h))))
+    (λ k l. ap (λ v. is_same_position v.position q) (known_before start xs y k (omega (arith, l, h))))
 
 entry_behind : (start : Hashed) (xs : List PlayedMove) (y : PlayedMove) (k : ℕ) (x : PlayedMove) → k ≤ length xs
     → HasEntry start xs k x → HasEntry start (xs ++ y ∷ []) k x

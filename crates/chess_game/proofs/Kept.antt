@@ -9,7 +9,7 @@ use Rattle.chess_base.specs.declared.setup.Saved.{Saved}
 use Rattle.chess_base.specs.declared.setup.Setup.{Setup}
 use Rattle.chess_base.specs.Moves.{after}
 use Rattle.chess_moves.specs.Made.{WasMade}
-use Rattle.chess_game.specs.Line.{last, IsLine}
+use Rattle.chess_game.specs.Line.{position_after, IsLine}
 use Rattle.chess_game.specs.ties.PlayedMoves.{moves_of, IsKnown, Hashing, HasHash, HaveHashes, Follows}
 use Rattle.chess_game.specs.Game.{Seen, is_full}
 use Rattle.chess_game.specs.declared.game.PlayedMove.{PlayedMove}
@@ -19,7 +19,7 @@ use Rattle.chess_game.specs.declared.results.Declared.{Declared}
 -- a played move reached the position after the moves up to it
 pub record IsAt (p : Setup) (xs : List PlayedMove) (k : ℕ) (x : PlayedMove) : Type 0 where
   pub known : IsKnown x.reached
-  pub reached : x.reached.position ≡ last p (take (k + 1) (moves_of xs))
+  pub reached : x.reached.position ≡ position_after p (take (k + 1) (moves_of xs))
 
 pub at_place : (p : Setup) (xs : List PlayedMove) (k : ℕ) (d : PlayedMove) → Follows p xs → k < length xs
     → IsAt p xs k (get_or xs k d)
@@ -30,22 +30,22 @@ at_place p (y ∷ ys) (suc k) d f h =
     let one_more : suc k + 1 ≡ suc (k + 1) = omega arith in
     record {
       known = behind.known;
-      reached = behind.reached ∙ ap (λ v. last v (take (k + 1) (moves_of ys))) f.0.left
-          ∙ ap (λ n. last p (take n (moves_of (y ∷ ys)))) (sym one_more);
+      reached = behind.reached ∙ ap (λ v. position_after v (take (k + 1) (moves_of ys))) f.0.left
+          ∙ ap (λ n. position_after p (take n (moves_of (y ∷ ys)))) (sym one_more);
     }
 
 -- after some half-moves
 pub reached_by : (p : Setup) (xs : List PlayedMove) (ply : ℕ) (d : PlayedMove) → Follows p xs → 0 < ply
-    → ply ≤ length (moves_of xs) → (get_or xs (ply - 1) d).reached.position ≡ last p (take ply (moves_of xs))
+    → ply ≤ length (moves_of xs) → (get_or xs (ply - 1) d).reached.position ≡ position_after p (take ply (moves_of xs))
 reached_by p xs ply d f some h =
     let len = length-map xs (λ (x : PlayedMove). x.made) in
     let again : ply - 1 + 1 ≡ ply = omega arith in
-    (at_place p xs (ply - 1) d f (omega (arith, len))).reached ∙ ap (λ n. last p (take n (moves_of xs))) again
+    (at_place p xs (ply - 1) d f (omega (arith, len))).reached ∙ ap (λ n. position_after p (take n (moves_of xs))) again
 
 -- the last played move is at the end of the line
 pub record IsAtEnd (p : Setup) (xs : List PlayedMove) (x : PlayedMove) : Type 0 where
   pub known : IsKnown x.reached
-  pub reached : x.reached.position ≡ last p (moves_of xs)
+  pub reached : x.reached.position ≡ position_after p (moves_of xs)
 
 pub at_end : (p : Setup) (xs : List PlayedMove) (d : PlayedMove) → Follows p xs → 0 < length xs
     → IsAtEnd p xs (get_or xs (length xs - 1) d)
@@ -55,8 +55,8 @@ at_end p xs d f h =
     length-map xs (λ (x : PlayedMove). x.made) in omega (arith, e) in
     record {
       known = at.known;
-      reached = at.reached ∙ ap (λ n. last p (take n (moves_of xs))) all
-          ∙ ap (last p) (take-length (moves_of xs));
+      reached = at.reached ∙ ap (λ n. position_after p (take n (moves_of xs))) all
+          ∙ ap (position_after p) (take-length (moves_of xs));
     }
 
 -- the moves that are kept are a line
@@ -66,11 +66,11 @@ kept_line p (x ∷ xs) f = (f.0.legal, subst (λ v. IsLine v (moves_of xs)) f.0.
 
 -- one more move
 pub follows_more : (p : Setup) (xs : List PlayedMove) (x : PlayedMove) → Follows p xs
-    → WasMade (last p (moves_of xs)) x.made x.saved x.reached.position → IsKnown x.reached → Follows p (xs ++ x ∷ [])
+    → WasMade (position_after p (moves_of xs)) x.made x.saved x.reached.position → IsKnown x.reached → Follows p (xs ++ x ∷ [])
 follows_more p [] x f made known = (made, known, tt)
 follows_more p (y ∷ ys) x f made known =
-    let at : last (after p y.made) (moves_of ys) ≡ last y.reached.position (moves_of ys) =
-    ap (λ v. last v (moves_of ys)) (sym f.0.left) in (
+    let at : position_after (after p y.made) (moves_of ys) ≡ position_after y.reached.position (moves_of ys) =
+    ap (λ v. position_after v (moves_of ys)) (sym f.0.left) in (
       f.0,
       f.1,
       follows_more y.reached.position ys x f.2
@@ -78,31 +78,31 @@ follows_more p (y ∷ ys) x f made known =
     )
 
 pub last-more : (p : Setup) (xs : List PlayedMove) (x : PlayedMove)
-    → WasMade (last p (moves_of xs)) x.made x.saved x.reached.position
-    → x.reached.position ≡ last p (moves_of (xs ++ x ∷ []))
+    → WasMade (position_after p (moves_of xs)) x.made x.saved x.reached.position
+    → x.reached.position ≡ position_after p (moves_of (xs ++ x ∷ []))
 last-more p [] x made = made.left
 last-more p (y ∷ ys) x made = last-more (after p y.made) ys x made
 
 -- a move that was made and added
 pub record Added (p : Setup) (xs : List PlayedMove) (x : PlayedMove) (board : Setup) : Type 0 where
   pub follows : Follows p (xs ++ x ∷ [])
-  pub at_end : board ≡ last p (moves_of (xs ++ x ∷ []))
+  pub at_end : board ≡ position_after p (moves_of (xs ++ x ∷ []))
 
 pub added : (p : Setup) (xs : List PlayedMove) (x : PlayedMove) (before after : Setup) → Follows p xs
-    → before ≡ last p (moves_of xs) → WasMade before x.made x.saved after → x.reached.position ≡ after
+    → before ≡ position_after p (moves_of xs) → WasMade before x.made x.saved after → x.reached.position ≡ after
     → IsKnown x.reached
     → Added p xs x after
 added p xs x before after f at made reached known =
-    let here : WasMade (last p (moves_of xs)) x.made x.saved x.reached.position =
+    let here : WasMade (position_after p (moves_of xs)) x.made x.saved x.reached.position =
     subst (λ v. WasMade v x.made x.saved x.reached.position) at
     (subst (WasMade before x.made x.saved) (sym reached) made) in
     record { follows = follows_more p xs x f here known; at_end = sym reached ∙ last-more p xs x here }
 
 -- the position of a move that was made at the end of the line
 pub made_at_end : (p : Setup) (xs ys : List PlayedMove) (m : Move) (s : Saved) (before after q : Setup) → ys ≡ xs
-    → before ≡ last p (moves_of xs) → WasMade before m s after → q ≡ after → WasMade (last p (moves_of ys)) m s q
+    → before ≡ position_after p (moves_of xs) → WasMade before m s after → q ≡ after → WasMade (position_after p (moves_of ys)) m s q
 made_at_end p xs ys m s before after q list at made reached =
-    subst (λ (zs : List PlayedMove). WasMade (last p (moves_of zs)) m s q) (sym list)
+    subst (λ (zs : List PlayedMove). WasMade (position_after p (moves_of zs)) m s q) (sym list)
     (subst (λ v. WasMade v m s q) at (subst (WasMade before m s) (sym reached) made))
 
 -- one fewer
@@ -111,16 +111,16 @@ follows_fewer p [] x f = tt
 follows_fewer p (y ∷ ys) x f = (f.0, f.1, follows_fewer y.reached.position ys x f.2)
 
 made-last : (p : Setup) (xs : List PlayedMove) (x : PlayedMove) → Follows p (xs ++ x ∷ [])
-    → WasMade (last p (moves_of xs)) x.made x.saved (last p (moves_of (xs ++ x ∷ [])))
+    → WasMade (position_after p (moves_of xs)) x.made x.saved (position_after p (moves_of (xs ++ x ∷ [])))
 made-last p [] x f = subst (WasMade p x.made x.saved) f.0.left f.0
-made-last p (y ∷ ys) x f = subst (λ v. WasMade (last v (moves_of ys)) x.made x.saved (last v (moves_of (ys ++ x ∷ []))))
+made-last p (y ∷ ys) x f = subst (λ v. WasMade (position_after v (moves_of ys)) x.made x.saved (position_after v (moves_of (ys ++ x ∷ []))))
     f.0.left (made-last y.reached.position ys x f.2)
 
 -- the last played move holds the position that was left
 pub taken : (p : Setup) (xs ys : List PlayedMove) (x : PlayedMove) (q : Setup) → Follows p xs → xs ≡ ys ++ x ∷ []
-    → q ≡ last p (moves_of xs) → WasMade (last p (moves_of ys)) x.made x.saved q
+    → q ≡ position_after p (moves_of xs) → WasMade (position_after p (moves_of ys)) x.made x.saved q
 taken p xs ys x q f is at =
-    subst (WasMade (last p (moves_of ys)) x.made x.saved) (ap (λ v. last p (moves_of v)) (sym is) ∙ sym at)
+    subst (WasMade (position_after p (moves_of ys)) x.made x.saved) (ap (λ v. position_after p (moves_of v)) (sym is) ∙ sym at)
     (made-last p ys x (subst (Follows p) is f))
 
 pub fewer : (p : Setup) (xs ys : List PlayedMove) (x : PlayedMove) → Follows p xs → xs ≡ ys ++ x ∷ [] → Follows p ys

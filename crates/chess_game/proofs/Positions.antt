@@ -1,7 +1,7 @@
 -- The positions of a game by their numbers, and what is known of each.
 use Rattle.std.proofs.Common.{◌≡◌, ℕ, zero, suc, ◌<◌, List, [], ◌∷◌, ◌++◌, length, get_or, refl, sym, subst, arith}
 use Rattle.chess_base.specs.Sound.{IsSound}
-use Rattle.chess_game.specs.Line.{last}
+use Rattle.chess_game.specs.Line.{position_after}
 use Rattle.chess_game.specs.ties.PlayedMoves.{moves_of, IsKnown, Hashing, HasHash, HaveHashes, Follows}
 use Rattle.chess_game.specs.ties.Buckets.{known_at}
 use Rattle.chess_game.specs.declared.game.PlayedMove.{PlayedMove}
@@ -51,10 +51,10 @@ word_of_known f start xs k words = word_is f start xs k words.start words.behind
 
 -- all are sound, where the last one is
 pub sound_is : (start : Hashed) (xs : List PlayedMove) (k : ℕ) → Follows start.position xs
-    → IsSound (last start.position (moves_of xs)) → k < suc (length xs) → IsSound (known_at start xs k).position
+    → IsSound (position_after start.position (moves_of xs)) → k < suc (length xs) → IsSound (known_at start xs k).position
 unfolding known_at
 sound_is start [] zero f sound h = sound
 sound_is start [] (suc k) f sound h = absurd (omega arith)
 sound_is start (x ∷ xs) zero f sound h = f.0.sound
 sound_is start (x ∷ xs) (suc k) f sound h =
-    sound_is x.reached xs k f.2 (subst (λ v. IsSound (last v (moves_of xs))) (sym f.0.left) sound) (omega arith)
+    sound_is x.reached xs k f.2 (subst (λ v. IsSound (position_after v (moves_of xs))) (sym f.0.left) sound) (omega arith)

@@ -12,7 +12,7 @@ use Rattle.chess_base.specs.declared.setup.Setup.{Setup}
 use Rattle.chess_base.specs.Men.{Men, man_at, is_man, same_colour, same_kind}
 use Rattle.chess_base.specs.Sound.{IsSound}
 use Rattle.chess_base.specs.Squares.{some_below, some_square}
-use Rattle.chess_moves.specs.Sets.{has}
+use Rattle.chess_moves.specs.Sets.{contains}
 use Rattle.chess_game.specs.Ends.{is_kind}
 use Rattle.chess_game.specs.ties.Material.{is_pawn_rook_or_queen}
 
@@ -66,13 +66,13 @@ not_none false = refl
 
 -- a piece of the kind is there where the squares of the kind's pieces are some
 pub some_of_kind : (p : Setup) (kind : Kind) (w : ℕ) → IsSound p
-    → ((k : ℕ) → k < 64 → has w k ≡ is_kind kind (man_at p.men k))
-    → not (not (some_square (λ k. has w k))) ≡ list_any (is_kind kind) p.men
+    → ((k : ℕ) → k < 64 → contains w k ≡ is_kind kind (man_at p.men k))
+    → not (not (some_square (λ k. contains w k))) ≡ list_any (is_kind kind) p.men
 unfolding some_square
 some_of_kind p kind w sound is =
-    not_none (some_square (λ k. has w k))
+    not_none (some_square (λ k. contains w k))
     ∙ sym (any_square (is_kind kind) p.men sound.board
-    ∙ same_below 64 (λ k. is_kind kind (man_at p.men k)) (λ k. has w k) (λ k l. sym (is k l)))
+    ∙ same_below 64 (λ k. is_kind kind (man_at p.men k)) (λ k. contains w k) (λ k l. sym (is k l)))
 
 -- the three kinds together
 pub by_kinds : (men : Men) → list_any is_pawn_rook_or_queen men

@@ -5,8 +5,8 @@ use Rattle.std.proofs.lemmas.List.{nil_from_length}
 use Rattle.std.proofs.lemmas.List.Sums.{sum_by-cons}
 use Rattle.chess_base.specs.declared.setup.Setup.{Setup}
 use Rattle.chess_base.specs.Sound.{IsSound}
-use Rattle.chess_game.specs.Line.{last}
-use Rattle.chess_game.specs.Same.{same, rep}
+use Rattle.chess_game.specs.Line.{position_after}
+use Rattle.chess_game.specs.Same.{is_same_position, repetition_count}
 use Rattle.chess_game.specs.ties.PlayedMoves.{moves_of, Hashing, HasHash, HaveHashes, Follows}
 use Rattle.chess_game.specs.ties.Buckets.{bucket, known_at, is_in, is_same_at, latest_below, count_below, HasEntry, HaveEntries}
 use Rattle.chess_game.specs.declared.game.PlayedMove.{PlayedMove}
@@ -23,7 +23,7 @@ use Rattle.chess_game.proofs.SameSelf.{same_self}
 pub record IsSought (start : Hashed) (xs : List PlayedMove) (now : Hashed) : Type 0 where
   pub follows : Follows start.position xs
   pub words : (f : Hashing) × HaveHashes f start xs × HasHash f now
-  pub sound : IsSound (last start.position (moves_of xs))
+  pub sound : IsSound (position_after start.position (moves_of xs))
   pub sound_now : IsSound now.position
 
 -- what is the same is in the same bucket
@@ -84,7 +84,7 @@ is_place start xs now at x entries a some is =
 
 pub walk_goes_on : (start : Hashed) (xs : List PlayedMove) (now : Hashed) (at : ℕ) (x : PlayedMove) → IsSought start xs now
     → HaveEntries start xs → IsAlong start xs now at → 1 < at → x ≡ get_or xs (at - 2) x
-    → same x.reached.position now.position ≡ false
+    → is_same_position x.reached.position now.position ≡ false
     → IsAlong start xs now x.entry.earlier
 walk_goes_on start xs now at x s entries a some is other =
     let p = is_place start xs now at x entries a some is in
@@ -92,7 +92,7 @@ walk_goes_on start xs now at x s entries a some is other =
     eqb-true (bucket (known_at start xs (suc (at - 2)))) (bucket now) (a.there (suc (at - 2)) p.next) in
     let link : x.entry.earlier ≡ latest_below (is_in start xs (bucket now)) (suc (at - 2)) = p.entry.earlier
     ∙ ap (λ v. latest_below (is_in start xs v) (suc (at - 2))) (sym (ap bucket p.known) ∙ there) in
-    let off : is_same_at start xs now.position (suc (at - 2)) ≡ false = ap (λ v. same v.position now.position) p.known
+    let off : is_same_at start xs now.position (suc (at - 2)) ≡ false = ap (λ v. is_same_position v.position now.position) p.known
     ∙ other in
     let low = p.low in
     along start xs now x.entry.earlier (suc (at - 2)) s (omega (arith, low)) link
@@ -109,14 +109,14 @@ walk_smaller start xs now at x entries a some is =
 
 pub walk_found : (start : Hashed) (xs : List PlayedMove) (now : Hashed) (at : ℕ) (x : PlayedMove) → IsSought start xs now
     → HaveEntries start xs → IsAlong start xs now at → 1 < at → x ≡ get_or xs (at - 2) x
-    → same x.reached.position now.position ≡ true
+    → is_same_position x.reached.position now.position ≡ true
     → x.entry.count + 1 ≡ suc (count_below (is_same_at start xs now.position) (suc (length xs)))
 walk_found start xs now at x s entries a some is met =
     let p = is_place start xs now at x entries a some is in
     let low = p.low in
     let sound : IsSound x.reached.position = subst (λ v. IsSound v.position) p.known
     (sound_is start xs (suc (at - 2)) s.follows s.sound (omega (arith, low))) in
-    let here : is_same_at start xs now.position (suc (at - 2)) ≡ true = ap (λ v. same v.position now.position) p.known
+    let here : is_same_at start xs now.position (suc (at - 2)) ≡ true = ap (λ v. is_same_position v.position now.position) p.known
     ∙ met in
     let all : count_below (is_same_at start xs now.position) (suc (length xs))
     ≡ suc (count_below (is_same_at start xs now.position) (suc (at - 2))) = a.rest
@@ -145,7 +145,7 @@ unfolding count_below
 walk_ends start xs now at a none = ap suc (sym (a.rest ∙ ap (count_below (is_same_at start xs now.position)) none))
 
 pub walk_ends_at_start : (start : Hashed) (xs : List PlayedMove) (now : Hashed) (at : ℕ) → IsAlong start xs now at → at ≡ 1
-    → 1 + cond (same start.position now.position) 1 0
+    → 1 + cond (is_same_position start.position now.position) 1 0
     ≡ suc (count_below (is_same_at start xs now.position) (suc (length xs)))
 unfolding count_below known_at
 walk_ends_at_start start xs now at a one =
@@ -168,42 +168,42 @@ unfolding count_below known_at
 seen-count_below start [] q = omega arith
 seen-count_below start (x ∷ xs) q =
     let behind = seen-count_below x.reached xs q in
-    let cons : count_by (λ z. same z.reached.position q) (x ∷ xs) ≡ seen x.reached.position xs q =
-    sum_by-cons (λ z. one_if (same z.reached.position q)) x xs in
+    let cons : count_by (λ z. is_same_position z.reached.position q) (x ∷ xs) ≡ seen x.reached.position xs q =
+    sum_by-cons (λ z. one_if (is_same_position z.reached.position q)) x xs in
     let first : count_below (is_same_at start (x ∷ xs) q) (suc (suc (length xs)))
-    ≡ one_if (same start.position q) + count_below (is_same_at x.reached xs q) (suc (length xs)) =
+    ≡ one_if (is_same_position start.position q) + count_below (is_same_at x.reached xs q) (suc (length xs)) =
     count_first (is_same_at start (x ∷ xs) q) (suc (length xs)) in
     omega (arith, behind, cons, first)
 
 rep_is : (start : Hashed) (xs : List PlayedMove) → Follows start.position xs
-    → count_below (is_same_at start xs (last start.position (moves_of xs))) (suc (length xs)) ≡ rep start.position (moves_of xs)
+    → count_below (is_same_at start xs (position_after start.position (moves_of xs))) (suc (length xs)) ≡ repetition_count start.position (moves_of xs)
 rep_is start xs f =
-    sym (seen-count_below start xs (last start.position (moves_of xs)))
-    ∙ counted start.position xs (last start.position (moves_of xs)) f refl
+    sym (seen-count_below start xs (position_after start.position (moves_of xs)))
+    ∙ counted start.position xs (position_after start.position (moves_of xs)) f refl
 
 pub rep_alone : (start : Hashed) (xs : List PlayedMove) → Follows start.position xs → length xs ≡ 0
-    → 1 ≡ rep start.position (moves_of xs)
+    → 1 ≡ repetition_count start.position (moves_of xs)
 unfolding count_below known_at
 rep_alone start xs f none =
     let nil = nil_from_length xs none in
-    subst (λ ys. 1 ≡ rep start.position (moves_of ys)) (sym nil)
+    subst (λ ys. 1 ≡ repetition_count start.position (moves_of ys)) (sym nil)
     (let one : count_below (is_same_at start [] start.position) 1 ≡ 1 =
     count_here (is_same_at start [] start.position) 0 (same_self start.position) in
     sym one ∙ rep_is start [] tt)
 
 pub rep_kept : (start : Hashed) (xs : List PlayedMove) (d : PlayedMove) → Follows start.position xs → HaveEntries start xs
     → 0 < length xs
-    → (get_or xs (length xs - 1) d).entry.count ≡ rep start.position (moves_of xs)
+    → (get_or xs (length xs - 1) d).entry.count ≡ repetition_count start.position (moves_of xs)
 rep_kept start xs d f entries some =
     let x = get_or xs (length xs - 1) d in
-    let end = last start.position (moves_of xs) in
+    let end = position_after start.position (moves_of xs) in
     let at : x.reached.position ≡ end = (at_end start.position xs d f some).reached in
     let low : length xs - 1 < length xs = omega (arith, some) in
     let next : suc (length xs - 1) ≡ length xs = omega (arith, some) in
     let kept : x.entry.count ≡ suc (count_below (is_same_at start xs end) (suc (length xs - 1))) =
     (entries (length xs - 1) d low).count
     ∙ ap (λ v. suc (count_below (is_same_at start xs v) (suc (length xs - 1)))) at in
-    let here : is_same_at start xs end (suc (length xs - 1)) ≡ true = ap (λ v. same v.position end)
-    (known_place start xs (length xs - 1) d low) ∙ ap (λ v. same v end) at ∙ same_self end in
+    let here : is_same_at start xs end (suc (length xs - 1)) ≡ true = ap (λ v. is_same_position v.position end)
+    (known_place start xs (length xs - 1) d low) ∙ ap (λ v. is_same_position v end) at ∙ same_self end in
     kept ∙ sym (count_here (is_same_at start xs end) (suc (length xs - 1)) here)
     ∙ ap (λ n. count_below (is_same_at start xs end) (suc n)) next ∙ rep_is start xs f

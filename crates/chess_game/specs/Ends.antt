@@ -14,8 +14,8 @@ use Rattle.chess_base.specs.Attacks.{is_in_check}
 use Rattle.chess_base.specs.Men.{Men, man_at, other, same_colour, same_kind}
 use Rattle.chess_base.specs.MoveList.{moves}
 use Rattle.chess_base.specs.Squares.{file, rank, some_square}
-use Rattle.chess_game.specs.Line.{last}
-use Rattle.chess_game.specs.Same.{rep}
+use Rattle.chess_game.specs.Line.{position_after}
+use Rattle.chess_game.specs.Same.{repetition_count}
 use Rattle.chess_game.specs.declared.results.Outcome.{Outcome}
 use Rattle.chess_game.specs.declared.results.Outcome.TheVariants.{WhiteWins, BlackWins, Draw}
 use Rattle.chess_game.specs.declared.ends.Verdict.{Verdict}
@@ -52,10 +52,10 @@ mates Black = BlackMates
 -- pawn move or capture
 unfoldable pub verdict : Setup → List Move → Option Verdict
 verdict start ms =
-    let p = last start ms in
+    let p = position_after start ms in
     if length (moves p) == 0 then (if is_in_check p.men p.side then Some (mates (other p.side)) else Some Stalemate)
     else if has_insufficient_material p.men then Some InsufficientMaterial
-    else if nat_le 5 (rep start ms) then Some FivefoldRepetition
+    else if nat_le 5 (repetition_count start ms) then Some FivefoldRepetition
     else if nat_le 150 p.halfmove then Some SeventyFiveMoves
     else None
 
@@ -77,4 +77,4 @@ verdict_comment SeventyFiveMoves = codes "75-move rule"
 -- what the player on move may claim a draw by, after the moves ms from `start`: the position is there for the third
 -- time (9.2); there were 50 moves of each side, 100 half-moves, without a pawn move or capture (9.3)
 abbrev pub claims : Setup → List Move → Claims
-claims start ms = record { threefold = nat_le 3 (rep start ms); fifty_moves = nat_le 100 (last start ms).halfmove }
+claims start ms = record { threefold = nat_le 3 (repetition_count start ms); fifty_moves = nat_le 100 (position_after start ms).halfmove }

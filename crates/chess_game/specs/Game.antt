@@ -6,7 +6,7 @@ use Rattle.chess_base.specs.declared.setup.Setup.{Setup}
 use Rattle.chess_base.specs.Moves.{is_legal}
 use Rattle.chess_base.specs.Sound.{IsSound}
 use Rattle.chess_base.specs.Initial.{initial_setup}
-use Rattle.chess_game.specs.Line.{last, IsLine}
+use Rattle.chess_game.specs.Line.{position_after, IsLine}
 use Rattle.chess_game.specs.Results.{same_outcome}
 use Rattle.chess_game.specs.Ends.{verdict, verdict_outcome}
 use Rattle.chess_game.specs.declared.ends.Verdict.{Verdict}
@@ -32,7 +32,7 @@ pub record Seen : Type 0 where
 
 -- the present position of the game: the one after all its current moves
 abbrev pub current : State → Setup
-current s = last s.start s.moves
+current s = position_after s.start s.moves
 
 -- why the game is over by its position and its moves (mate, stalemate, bare material, fivefold repetition, 75 moves),
 -- if it is
@@ -64,8 +64,8 @@ abbrev pub with_declared : State → Option Declared → State
 with_declared s d = record s { declared = d }
 
 -- the game with its state replaced by s; its limit stays
-abbrev pub at : Seen → State → Seen
-at g s = record g { state = s }
+abbrev pub with_state : Seen → State → Seen
+with_state g s = record g { state = s }
 
 -- a game as it opens, for at most `limit` half-moves: the initial position, no moves, nothing declared
 abbrev pub opened : ℕ → Seen
@@ -94,7 +94,7 @@ unless_refused (Some e) = Err e
 -- the game g after it was asked to play move m: with the move if there is no reason to refuse it (the last argument),
 -- else unchanged
 abbrev pub after_play : Seen → Move → Option PlayRefusal → Seen
-after_play g m None = at g (played g.state m)
+after_play g m None = with_state g (played g.state m)
 after_play g m (Some e) = g
 
 -- the last of the moves, or the error `NoMove` if there are none
@@ -107,19 +107,19 @@ last_move ms = by_end (slice_get ms (length ms - 1))
 
 -- the game without its last move and its declared result; unchanged if it has no move
 abbrev pub after_take_back : Seen → Seen
-after_take_back g = if nat_le 1 (length g.state.moves) then at g (taken_back g.state 1) else g
+after_take_back g = if nat_le 1 (length g.state.moves) then with_state g (taken_back g.state 1) else g
 
 -- there is a verdict on the game, such as mate, and its outcome is not o
-abbrev pub is_other : Option Verdict → Outcome → Bool
-is_other verdict o = option_map_or (λ v. not (same_outcome (verdict_outcome v) o)) verdict false
+abbrev pub contradicts_verdict : Option Verdict → Outcome → Bool
+contradicts_verdict verdict o = option_map_or (λ v. not (same_outcome (verdict_outcome v) o)) verdict false
 
 -- the game once the result d was to be declared: with d declared, or unchanged if a verdict has another outcome
 abbrev pub after_declare : Seen → Declared → Seen
-after_declare g d = if is_other (verdict_now g.state) d.outcome then g else at g (with_declared g.state (Some d))
+after_declare g d = if contradicts_verdict (verdict_now g.state) d.outcome then g else with_state g (with_declared g.state (Some d))
 
 -- the error for declaring a result with outcome o, if a verdict has another outcome; else none
 abbrev pub declare_refusal : Seen → Outcome → Option BoardSaysOtherwise
-declare_refusal g o = if is_other (verdict_now g.state) o then Some (record {}) else None
+declare_refusal g o = if contradicts_verdict (verdict_now g.state) o then Some (record {}) else None
 
 -- what holds of every game: its start is sound, each move was legal where it was made, there are no more moves than the
 -- limit, and no verdict came before the last move

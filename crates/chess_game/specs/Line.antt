@@ -5,14 +5,14 @@ use Rattle.chess_base.specs.declared.setup.Setup.{Setup}
 use Rattle.chess_base.specs.Moves.{is_legal, after}
 
 -- the positions of a game: its start, and the one after each of its moves
-abbrev pub line : Setup → List Move → List Setup
-line start [] = start ∷ []
-line start (m ∷ ms) = start ∷ line (after start m) ms
+abbrev pub positions_of : Setup → List Move → List Setup
+positions_of start [] = start ∷ []
+positions_of start (m ∷ ms) = start ∷ positions_of (after start m) ms
 
 -- the position after all moves of a game from this start
-abbrev pub last : Setup → List Move → Setup
-last start [] = start
-last start (m ∷ ms) = last (after start m) ms
+abbrev pub position_after : Setup → List Move → Setup
+position_after start [] = start
+position_after start (m ∷ ms) = position_after (after start m) ms
 
 -- each of the moves is legal in the position in which it is made, from this start on
 abbrev pub IsLine : Setup → List Move → Type 0

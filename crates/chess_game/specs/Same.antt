@@ -11,7 +11,7 @@ use Rattle.chess_base.specs.Men.{Men, man_at, same_colour, same_kind}
 use Rattle.chess_base.specs.Squares.{each_square}
 use Rattle.chess_base.specs.Moves.{is_en_passant}
 use Rattle.chess_base.specs.MoveList.{moves}
-use Rattle.chess_game.specs.Line.{line, last}
+use Rattle.chess_game.specs.Line.{positions_of, position_after}
 
 -- two squares have the same content: a piece of the same kind and colour, or none
 abbrev pub same_man : Option Man → Option Man → Bool
@@ -40,11 +40,11 @@ live_target p = if list_any (λ m. is_en_passant p m) (moves p) then p.target el
 
 -- two positions are the same: the same side on move, the same pieces on the same squares, the same castling rights, and
 -- the same pawn that may be captured en passant; clock and move number make no difference
-unfoldable pub same : Setup → Setup → Bool
-same p q = same_colour p.side q.side && same_men p.men q.men && same_rights p.rights q.rights
+unfoldable pub is_same_position : Setup → Setup → Bool
+is_same_position p q = same_colour p.side q.side && same_men p.men q.men && same_rights p.rights q.rights
     && same_square (live_target p) (live_target q)
 
 -- how many positions of the game that went from `start` by the moves ms, from the start to the present one, are the
 -- same as the present one: 1 at its first occurrence
-unfoldable pub rep : Setup → List Move → ℕ
-rep start ms = count_by (λ p. same p (last start ms)) (line start ms)
+unfoldable pub repetition_count : Setup → List Move → ℕ
+repetition_count start ms = count_by (λ p. is_same_position p (position_after start ms)) (positions_of start ms)

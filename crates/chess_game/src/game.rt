@@ -5,10 +5,10 @@ ghost use Rattle.chess_base.specs.MoveList.{moves};
 ghost use Rattle.chess_base.specs.Moves.{is_legal};
 ghost use Rattle.chess_game.specs.declared.game.TheConstants.{MOST_MOVES};
 ghost use Rattle.std.specs.Option.{option_map};
-ghost use Rattle.chess_game.specs.Line.{last};
-ghost use Rattle.chess_game.specs.Same.{rep};
+ghost use Rattle.chess_game.specs.Line.{position_after};
+ghost use Rattle.chess_game.specs.Same.{repetition_count};
 ghost use Rattle.chess_game.specs.Ends.{verdict, claims};
-ghost use Rattle.chess_game.specs.Game.{at, from_start, with_declared, current, verdict_now, outcome_now, opened, is_over, is_full, refusal_now, play_refusal, unless_refused, after_play, last_move, after_take_back, declare_refusal, after_declare, IsPlayable};
+ghost use Rattle.chess_game.specs.Game.{with_state, from_start, with_declared, current, verdict_now, outcome_now, opened, is_over, is_full, refusal_now, play_refusal, unless_refused, after_play, last_move, after_take_back, declare_refusal, after_declare, IsPlayable};
 ghost use Rattle.chess_game.specs.ties.PlayedMoves.{moves_of, Follows, IsKept};
 ghost use Rattle.chess_game.specs.ties.Buckets.{HaveEntries};
 ghost use Rattle.chess_game.specs.declared.repetition.Hashed.{Hashed};
@@ -95,7 +95,7 @@ impl<B: Board> Model for Game<B> {
 // are its moves, and the last of them has that count.
 fn repetitions(played_moves: &[PlayedMove]) -> u32
     ensures { (start : Hashed) → Follows start.position played_moves.now → HaveEntries start played_moves.now
-        → result ≡ rep start.position (moves_of played_moves.now) }
+        → result ≡ repetition_count start.position (moves_of played_moves.now) }
 {
     if played_moves.is_empty() {
         1
@@ -169,7 +169,7 @@ impl<B: Board + Drop> Game<B> {
 impl<B: Board> Game<B> {
     /// Begins a new game from the position `start`: no moves, nothing declared; the limit stays.
     pub fn restart(&mut self, start: &Position)
-        ensures { self.new ≡ at self.old (from_start start.now) }
+        ensures { self.new ≡ with_state self.old (from_start start.now) }
     {
         self.board.set(start);
         self.index.clear(&self.start, self.played_moves.as_slice());
@@ -251,7 +251,7 @@ impl<B: Board> Game<B> {
         // The same in single facts.
         ensures refused { OnErr result (self.new ≡ self.old) }
         ensures none { IsErr result ↔ (self.old.state.moves ≡ []) }
-        ensures last { IfOk result (λ m. self.old.state.moves ≡ self.new.state.moves ++ m ∷ []) }
+        ensures position_after { IfOk result (λ m. self.old.state.moves ≡ self.new.state.moves ++ m ∷ []) }
         ensures undeclared { OnOk result (IsNone self.new.state.declared) }
         ensures kept { (self.new.limit ≡ self.old.limit) × (self.new.state.start ≡ self.old.state.start) }
     {
@@ -297,7 +297,7 @@ impl<B: Board> Game<B> {
     pub fn declare_open(&mut self, outcome: Outcome, comment: Comment)
         requires { verdict_now self.old.state ≡ None }
         ensures { self.new
-            ≡ at self.old (with_declared self.old.state (Some (record { outcome = outcome; comment = comment }))) }
+            ≡ with_state self.old (with_declared self.old.state (Some (record { outcome = outcome; comment = comment }))) }
     {
         let declared = Declared { outcome, comment };
         self.declared = Some(declared);
@@ -305,7 +305,7 @@ impl<B: Board> Game<B> {
 
     /// Clears the declared result.
     pub fn clear_declared(&mut self)
-        ensures { self.new ≡ at self.old (with_declared self.old.state None) }
+        ensures { self.new ≡ with_state self.old (with_declared self.old.state None) }
     {
         self.declared = None;
     }
@@ -330,7 +330,7 @@ impl<B: Board> Game<B> {
     /// The position after the first `ply` half-moves; at 0 the start.
     pub fn position_at(&self, ply: usize) -> Position
         requires { ply ≤ length self.now.state.moves }
-        ensures { result ≡ last self.now.state.start (take ply self.now.state.moves) }
+        ensures { result ≡ position_after self.now.state.start (take ply self.now.state.moves) }
     {
         if ply == 0 {
             self.start.position.unpacked()
@@ -364,7 +364,7 @@ impl<B: Board> Game<B> {
     /// How many positions from the start on are the same as the present one, itself among them (Laws of Chess 2023,
     /// article 9.2.3).
     pub fn repetitions(&self) -> u32
-        ensures { result ≡ rep self.now.state.start self.now.state.moves }
+        ensures { result ≡ repetition_count self.now.state.start self.now.state.moves }
     {
         repetitions(self.played_moves.as_slice())
     }

@@ -4,7 +4,7 @@ ghost use Rattle.std.specs.Prelude.{◌≡◌, ℕ, ◌<◌, ◌&&◌, ◌||◌,
 ghost use Rattle.chess_base.specs.Men.{is_of, man_at};
 ghost use Rattle.chess_base.specs.Sound.{IsSound};
 ghost use Rattle.chess_base.specs.declared.man.Colour.TheVariants.{White};
-ghost use Rattle.chess_moves.specs.Sets.{has};
+ghost use Rattle.chess_moves.specs.Sets.{contains};
 ghost use Rattle.chess_game.specs.Ends.{is_kind};
 ghost use Rattle.chess_game.specs.Same.{same_man, same_men};
 ghost use Rattle.chess_game.specs.ties.Packed.{ArePacked, colour_in, kind_in, man_in, men_in};
@@ -29,7 +29,7 @@ pub(crate) struct PackedMen {
 #[tactic(auto, using(crate::proofs::SomeKind::of_colours))]
 #[inline(always)]
 pub(crate) fn squares_of<B: Board>(board: &B, kind: Kind) -> SquareSet
-    ensures { (k : ℕ) → k < 64 → has result k ≡ is_kind kind (man_at (B.position board.now).men k) }
+    ensures { (k : ℕ) → k < 64 → contains result k ≡ is_kind kind (man_at (B.position board.now).men k) }
 {
     let white = board.men_of(Colour::White, kind);
     let black = board.men_of(Colour::Black, kind);
@@ -40,7 +40,7 @@ pub(crate) fn squares_of<B: Board>(board: &B, kind: Kind) -> SquareSet
 #[tactic(auto, using(crate::proofs::AsSets::white_kinds))]
 #[inline(always)]
 fn white_squares<B: Board>(board: &B) -> SquareSet
-    ensures { (k : ℕ) → k < 64 → has result k ≡ is_of White (man_at (B.position board.now).men k) }
+    ensures { (k : ℕ) → k < 64 → contains result k ≡ is_of White (man_at (B.position board.now).men k) }
 {
     let kings = board.men_of(Colour::White, Kind::King);
     let queens = board.men_of(Colour::White, Kind::Queen);
@@ -59,7 +59,7 @@ fn white_squares<B: Board>(board: &B) -> SquareSet
 // The squares that are in exactly one of the two sets.
 fn difference(these: SquareSet, those: SquareSet) -> SquareSet
     ensures { (k : ℕ) → k < 64
-        → has result k ≡ ((has these k && not (has those k)) || (has those k && not (has these k))) }
+        → contains result k ≡ ((contains these k && not (contains those k)) || (contains those k && not (contains these k))) }
 {
     these.without(those).union(those.without(these))
 }
@@ -141,7 +141,7 @@ impl PackedMen {
         requires this { ArePacked self.now (men_in self.now) }
         requires other { ArePacked other.now (men_in other.now) }
         ensures { (k : ℕ) → k < 64
-            → has result k ≡ not (same_man (man_at (men_in self.now) k) (man_at (men_in other.now) k)) }
+            → contains result k ≡ not (same_man (man_at (men_in self.now) k) (man_at (men_in other.now) k)) }
     {
         let white = difference(self.white, other.white);
         let kings = difference(self.kings, other.kings);

@@ -4,7 +4,7 @@ ghost use Rattle.std.specs.Prelude.{◌≡◌, cond, true, false, Some};
 ghost use Rattle.std.specs.List.{list_any};
 ghost use Rattle.chess_base.specs.MoveList.{moves};
 ghost use Rattle.chess_base.specs.Moves.{is_en_passant};
-ghost use Rattle.chess_game.specs.Same.{same_square, same_colour_rights, same_rights, live_target, same};
+ghost use Rattle.chess_game.specs.Same.{same_square, same_colour_rights, same_rights, live_target, is_same_position};
 ghost use Rattle.chess_game.specs.ties.Captures.{captures_legally};
 ghost use Rattle.chess_game.specs.ties.PlayedMoves.{IsKnown, HasHash, ShareHashing};
 
@@ -42,7 +42,7 @@ impl Hashed {
     // Whether the hashes of the two positions differ; if they do, the positions are not the same.
     fn hash_differs(&self, other: &Hashed) -> bool
         requires { ShareHashing self.now other.now }
-        ensures { result ≡ true → same self.now.position other.now.position ≡ false }
+        ensures { result ≡ true → is_same_position self.now.position other.now.position ≡ false }
     {
         // The prover wants this fact of both: a position is sound, so it has an element for each of the 64 squares.
         let _this = self.position.halfmove();
@@ -51,12 +51,12 @@ impl Hashed {
     }
 
     // Whether the two positions are the same (Laws of Chess 2023, article 9.2.3).
-    #[tactic(auto, unfolding(crate::specs::Same::same))]
+    #[tactic(auto, unfolding(crate::specs::Same::is_same_position))]
     pub(crate) fn is_same(&self, other: &Hashed) -> bool
         requires this { IsKnown self.now }
         requires other { IsKnown other.now }
         requires words { ShareHashing self.now other.now }
-        ensures { result ≡ same self.now.position other.now.position }
+        ensures { result ≡ is_same_position self.now.position other.now.position }
     {
         // Most positions differ in their hashes, so pieces and rights are seldom looked at.
         if self.hash_differs(other) {
@@ -74,7 +74,7 @@ impl Hashed {
         requires this { IsKnown self.now }
         requires other { IsKnown other.now }
         requires words { ShareHashing self.now other.now }
-        ensures { result ≡ cond (same self.now.position other.now.position) 1 0 }
+        ensures { result ≡ cond (is_same_position self.now.position other.now.position) 1 0 }
     {
         if self.is_same(other) { 1 } else { 0 }
     }
@@ -105,7 +105,7 @@ fn is_captured_on<B: Board>(board: &B, target: Square) -> bool
     let _sound = board.setup();
     let mut rest = board.origins(Kind::Pawn, target);
     while let Some(from) = rest.take_first() {
-        if captures_from(board, from, target) {
+        if is_en_passant_from(board, from, target) {
             return true;
         }
     }
@@ -113,7 +113,7 @@ fn is_captured_on<B: Board>(board: &B, target: Square) -> bool
 }
 
 // Whether the move from `from` to `to` is a legal capture en passant in the board's position.
-fn captures_from<B: Board>(board: &B, from: Square, to: Square) -> bool
+fn is_en_passant_from<B: Board>(board: &B, from: Square, to: Square) -> bool
     ensures { result ≡ captures_legally (B.position board.now) to from }
 {
     let m = Move {

@@ -7,10 +7,10 @@ use Rattle.chess_base.specs.declared.man.Move.{Move}
 use Rattle.engine_lines.specs.EngineLines.{LineKind, line_kind}
 use Rattle.engine_lines.specs.Items.{Item}
 use Rattle.chess_match.specs.laws.Laws.{ClocksDoNotUnderflow}
-use Rattle.engine_lines.specs.Levels.{LevelSeen, allotted, left}
-use Rattle.chess_match.specs.Match.{Match, Event, hear, start, clock, played_by, after}
+use Rattle.engine_lines.specs.Levels.{LevelSeen, allotted, time_left}
+use Rattle.chess_match.specs.Match.{Match, Event, take_items, start, clock, played_by, match_after}
 use Rattle.chess_match.specs.Rules.{Rules}
-use Rattle.chess_match.specs.Sent.{SentLine, entry}
+use Rattle.chess_match.specs.Sent.{SentLine, lines_on_entering}
 use Rattle.chess_match.specs.Transcript.{fits_next, fits, match_of}
 use Rattle.engine_lines.proofs.Allotment.{allotted_grows}
 use Rattle.chess_match.proofs.Outcomes.{InTurn, event_outcome, kept_by}
@@ -22,15 +22,15 @@ IsInTime level m = (sum m.white.used ≤ allotted level (length m.white.used))
     × (sum m.black.used ≤ allotted level (length m.black.used))
 
 used_more : (level : LevelSeen) (xs : List ℕ) (x : ℕ) → sum xs ≤ allotted level (length xs)
-    → x ≤ left level (length xs) (sum xs)
+    → x ≤ time_left level (length xs) (sum xs)
     → sum (xs ++ x ∷ []) ≤ allotted level (length (xs ++ x ∷ []))
-unfolding left
+unfolding time_left
 used_more level xs x w timely =
     let grows : allotted level (length xs) ≤ allotted level (length xs + 1) = allotted_grows level (length xs) in
     rw (sum-snoc xs x, length-append xs (x ∷ [])) (omega (arith, grows, w, timely))
 
 heard : (level : LevelSeen) (S : Colour) (items : List Item) (m : Match) → IsInTime level m
-    → IsInTime level (hear S items m)
+    → IsInTime level (take_items S items m)
 heard level White items m w = w
 heard level Black items m w = w
 
@@ -53,7 +53,7 @@ in_turn r S kind m w = record {
 }
 
 step : (r : Rules) (due : Colour → List SentLine) (m : Match) (e : Event) → fits_next due m e ≡ true
-    → IsInTime r.level m → IsInTime r.level (after r m e)
+    → IsInTime r.level m → IsInTime r.level (match_after r m e)
 step r due m e f w =
     let P : Match → Type 0 = λ m'. IsInTime r.level m' in
     event_outcome r due m e P f (record {
@@ -79,13 +79,13 @@ step r due m e f w =
     })
 
 in_time : (r : Rules) (T : List Event) → fits r T ≡ true → IsInTime r.level (match_of r T)
-in_time r T f = kept_by r (λ m. IsInTime r.level m) (step r) (entry r start) start T f (omega arith, omega arith)
+in_time r T f = kept_by r (λ m. IsInTime r.level m) (step r) (lines_on_entering r start) start T f (omega arith, omega arith)
 
 sums : (given used : ℕ) → used ≤ given → given - used + used ≡ given
 sums given used h = omega (arith, h)
 
 pub clocks_do_not_underflow : ClocksDoNotUnderflow
-unfolding left
+unfolding time_left
 clocks_do_not_underflow r T White f = sums (allotted r.level (length (match_of r T).white.used))
     (sum (match_of r T).white.used) (in_time r T f).0
 clocks_do_not_underflow r T Black f = sums (allotted r.level (length (match_of r T).black.used))

@@ -10,14 +10,14 @@ use Rattle.engine_lines.specs.Clocks.{ClocksSeen, spent_by}
 use Rattle.chess_cecp.specs.Lines.{LineSeen}
 use Rattle.chess_match.specs.ties.Delivering.{Delivered, broken_notes, by_turn, event_read, first_in}
 use Rattle.engine_lines.specs.Items.{Item}
-use Rattle.chess_match.specs.Match.{Match, Event, Line, OutputEnds, FailsToRead, FailsToWrite, after}
+use Rattle.chess_match.specs.Match.{Match, Event, Line, OutputEnds, FailsToRead, FailsToWrite, match_after}
 use Rattle.chess_match.specs.Notes.{Noted, WasNoted, Happened, both_notes}
 use Rattle.chess_match.specs.Rules.{Rules}
 use Rattle.chess_match.specs.Sent.{SentLine, answers_to, block, bytes_of}
 use Rattle.chess_match.specs.ties.Represents.{Represents, Goes, clocks_of, items_to, nothing_said}
 use Rattle.chess_match.specs.ties.Steps.{IsSane, in_turn}
 use Rattle.chess_match.specs.ties.Reported.{SendsIf}
-use Rattle.chess_match.specs.Run.{Asked, text_read}
+use Rattle.chess_match.specs.Run.{ReadsClock, text_read}
 use Rattle.chess_match.specs.Transcript.{is_on, reads, moment_in}
 use Rattle.chess_match.specs.declared.state.MatchState.{MatchState}
 use Rattle.chess_match.specs.declared.state.Actions.{Actions}
@@ -56,9 +56,9 @@ sends_if o o' b b' text text' e t p = subst (λ (x : List ℕ). SendsIf b' o o' 
 pub first_failed : (r : Rules) (core : MatchState) (played : List Move) (m : Match) (due : Colour → List SentLine)
     (S : Colour) (o o' x x' : OutputState) (f : Bool) (notes notes' : Noted) → is_on m.phase ≡ true
     → 0 < length (due S)
-    → Represents r core played (after r m (FailsToWrite S))
+    → Represents r core played (match_after r m (FailsToWrite S))
     → SendsIf true o o' (bytes_of (due S))
-    → SendsIf f x x' (bytes_of (block r m (after r m (FailsToWrite S)) (other S)))
+    → SendsIf f x x' (bytes_of (block r m (match_after r m (FailsToWrite S)) (other S)))
     → WasNoted notes notes' (broken_notes r m due S S)
     → Delivered r core played m due S (by_turn S o x) (by_turn S o' x') (by_turn S true f) notes notes'
 unfolding bytes_of
@@ -90,9 +90,9 @@ first_failed r core played m due Black o o' x x' f notes notes' on some s b p t 
 pub second_failed : (r : Rules) (core : MatchState) (played : List Move) (m : Match) (due : Colour → List SentLine)
     (S : Colour) (o v o' x x' : OutputState) (f : Bool) (notes notes' : Noted) → is_on m.phase ≡ true
     → 0 < length (due (other S))
-    → Represents r core played (after r m (FailsToWrite (other S)))
+    → Represents r core played (match_after r m (FailsToWrite (other S)))
     → SendsIf false o v (bytes_of (due S)) → SendsIf true x x' (bytes_of (due (other S)))
-    → SendsIf f v o' (bytes_of (block r m (after r m (FailsToWrite (other S))) (other (other S))))
+    → SendsIf f v o' (bytes_of (block r m (match_after r m (FailsToWrite (other S))) (other (other S))))
     → WasNoted notes notes' (broken_notes r m due S (other S))
     → Delivered r core played m due S (by_turn S o x) (by_turn S o' x') (by_turn S f true) notes notes'
 second_failed r core played m due White o v o' x x' f notes notes' on some s t b p told = inr (
@@ -215,26 +215,26 @@ undecided r core played m s sane h = ap (λ (ms : List Move). r.verdict ms) s.mo
 abbrev pub IsNoted : (Rules → Type 0) → MatchState → List Move → MatchState → List Move → Actions → List ℕ → Colour → (ℕ → Option ℕ)
     → (ℕ → Option ℕ) → Noted → Noted → Event → Type 0
 IsNoted plays core played core' played' given text S coming coming' notes notes' e =
-    (items : List Item) × Asked coming coming' (moment_in e)
+    (items : List Item) × ReadsClock coming coming' (moment_in e)
     × WasNoted notes notes' (Happened e ∷ [])
     × (text ≡ bytes_of (answers_to items))
     × ((r : Rules) (m : Match) → plays r → reads m.phase S ≡ true → Represents r core played m
-    → Goes r core' played' given (items_to S items) m (after r m e))
+    → Goes r core' played' given (items_to S items) m (match_after r m e))
 
 -- an event at which no items are said
 pub noted_bare : (plays : Rules → Type 0) (core : MatchState) (played : List Move) (core' : MatchState) (played' : List Move)
     (given : Actions) (text : List ℕ) (S : Colour) (coming : ℕ → Option ℕ) (notes notes' : Noted) (e : Event)
     → moment_in e ≡ [] → text ≡ [] → WasNoted notes notes' (Happened e ∷ [])
     → ((r : Rules) (m : Match) → plays r → reads m.phase S ≡ true → Represents r core played m
-    → Goes r core' played' given nothing_said m (after r m e))
+    → Goes r core' played' given nothing_said m (match_after r m e))
     → IsNoted plays core played core' played' given text S coming coming notes notes' e
 unfolding bytes_of
 noted_bare plays core played core' played' given text S coming notes notes' e none empty noted goes = (
   [],
-  subst (λ (ms : List ℕ). Asked coming coming ms) (sym none) (asked_none coming),
+  subst (λ (ms : List ℕ). ReadsClock coming coming ms) (sym none) (asked_none coming),
   noted,
   empty,
-  λ r m p h s. goes_with r core' played' given nothing_said (items_to S []) m (after r m e) (nothing_to S)
+  λ r m p h s. goes_with r core' played' given nothing_said (items_to S []) m (match_after r m e) (nothing_to S)
       (goes r m p h s),
 )
 

@@ -17,13 +17,13 @@ use Rattle.chess_game.specs.declared.results.Outcome.TheVariants.{Unfinished}
 use Rattle.chess_pgn.specs.declared.tags.HowEnded.{HowEnded}
 use Rattle.engine_lines.specs.Levels.{LevelSeen}
 use Rattle.chess_match.specs.Match.{Match, Event, seat}
-use Rattle.chess_match.specs.Reasons.{by_colour, reported, declared_at, outcome_of, comment_of, ended_by}
+use Rattle.chess_match.specs.Reasons.{by_colour, reported, declared_at, outcome_by_reason, comment_of, ended_by}
 use Rattle.chess_match.specs.Notes.{Noted}
 use Rattle.chess_match.specs.Rules.{Rules, rules_of}
 use Rattle.chess_match.specs.Run.{RanBefore}
 use Rattle.chess_match.specs.ties.Represents.{name_by}
 use Rattle.chess_match.specs.ties.Reported.{IsReported}
-use Rattle.chess_match.specs.Transcript.{match_of, name_of}
+use Rattle.chess_match.specs.Transcript.{match_of, engine_name}
 use Rattle.chess_match.proofs.UnderWay.{IsUnderWay}
 use Rattle.chess_match.specs.declared.phase.Phase.TheVariants.{Over}
 use Rattle.chess_match.specs.declared.reason.Reason.{Reason}
@@ -32,12 +32,12 @@ use Rattle.chess_match.specs.declared.run.MatchEnd.{MatchEnd}
 use Rattle.chess_match.specs.declared.state.MatchState.{MatchState}
 use Rattle.chess_match.proofs.Delivers.{both_sides}
 
-name_kept : (m : Match) (S : Colour) (name : List ℕ) → name ≡ name_by (seat m S).items → name ≡ name_of m S
+name_kept : (m : Match) (S : Colour) (name : List ℕ) → name ≡ name_by (seat m S).items → name ≡ engine_name m S
 unfolding name_by
 name_kept m S name e = e
 
 -- outcome, comment and kind of an end are those of its reason
-one_report : (reason : Reason) (outcome : Outcome) (comment : List ℕ) (ended : HowEnded) → outcome ≡ outcome_of reason
+one_report : (reason : Reason) (outcome : Outcome) (comment : List ℕ) (ended : HowEnded) → outcome ≡ outcome_by_reason reason
     → comment ≡ comment_of reason → ended ≡ ended_by reason → reported reason ≡ (outcome, comment, ended)
 one_report reason outcome comment ended o c e = rw (o, c, e) refl
 
@@ -53,12 +53,12 @@ ended limit start moves reason = record {
 abbrev game_after : game.Seen → Setup → Rules → List Event → Reason → game.Seen
 game_after g start r T reason =
     let m = match_of r T in
-    game.at g (record { start = start; moves = m.played; declared = declared_at (r.verdict m.played) reason })
+    game.with_state g (record { start = start; moves = m.played; declared = declared_at (r.verdict m.played) reason })
 
 -- the game at the end: its start and its limit, the moves of the match, and what was declared
 game_kept : (g h h' : game.Seen) (start : Setup) (level : LevelSeen) (T : List Event) (reason : Reason)
     → h.state.start ≡ start → h.limit ≡ g.limit → h.state.moves ≡ (match_of (rules_of start level g.limit) T).played
-    → h' ≡ game.at h (with_declared h.state (declared_at (verdict_now h.state) reason))
+    → h' ≡ game.with_state h (with_declared h.state (declared_at (verdict_now h.state) reason))
     → h' ≡ game_after g start (rules_of start level g.limit) T reason
 unfolding rules_of
 game_kept g h h' start level T reason s l m e =
@@ -73,7 +73,7 @@ outcome_by v d = option_map_or verdict_outcome v (option_map_or (λ (x : Declare
 
 -- where the game has no verdict, its outcome is the one that is reported
 pub told_outcome : (h h' : game.Seen) (reason : Reason) (outcome : Outcome)
-    → h' ≡ game.at h (with_declared h.state (declared_at (verdict_now h.state) reason)) → outcome ≡ outcome_of reason
+    → h' ≡ game.with_state h (with_declared h.state (declared_at (verdict_now h.state) reason)) → outcome ≡ outcome_by_reason reason
     → verdict_now h'.state ≡ None → outcome_now h'.state ≡ outcome
 told_outcome h h' reason outcome e o none =
     subst (λ (x : game.Seen). verdict_now x.state ≡ None → outcome_now x.state ≡ outcome) (sym e)
@@ -91,7 +91,7 @@ pub ran : (g h h' : game.Seen) (start : Setup) (level : LevelSeen) (T : List Eve
     → core.phase ≡ Over reason → IsReported reason failed end → end.white_name ≡ core.white.name
     → end.black_name ≡ core.black.name
     → h.state.start ≡ start → h.limit ≡ g.limit
-    → h' ≡ game.at h (with_declared h.state (declared_at (verdict_now h.state) reason))
+    → h' ≡ game.with_state h (with_declared h.state (declared_at (verdict_now h.state) reason))
     → RanBefore notes notes' start level g h' end (record { reader = by_colour nw nb; writer = by_colour ow ob })
     (record { reader = by_colour nw' nb'; writer = by_colour ow' ob' }) coming coming'
 ran g h h' start level T core reason failed end nw nb nw' nb' held ow ob ow' ob' coming coming' notes notes' u over
@@ -113,7 +113,7 @@ ran g h h' start level T core reason failed end nw nb nw' nb' held ow ob ow' ob'
         },
         record {
           report = one_report reason end.outcome end.comment end.ended told.outcome told.comment told.ended;
-          name = both_sides (λ S. by_colour end.white_name end.black_name S ≡ name_of m S)
+          name = both_sides (λ S. by_colour end.white_name end.black_name S ≡ engine_name m S)
               (name_kept m White end.white_name (wn ∙ u.stands.white.name))
               (name_kept m Black end.black_name (bn ∙ u.stands.black.name));
           fault = told.fault;

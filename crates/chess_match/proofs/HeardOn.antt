@@ -9,7 +9,7 @@ use Rattle.chess_cecp.specs.Run.{risen_if}
 use Rattle.chess_match.proofs.Hearing.{Hearing, HeardAll, is_heard_of, Tells, HearsAt}
 use Rattle.chess_match.specs.Match.{Event, Line, Opened, OutputEnds, FailsToRead, FailsToWrite}
 use Rattle.chess_match.specs.Run.{text_read, engine_lines, ReadFrom}
-use Rattle.chess_match.specs.Transcript.{line_in, lines_of, is_fault, has_fault}
+use Rattle.chess_match.specs.Transcript.{line_in, lines_of_engine, is_fault, has_fault}
 use Rattle.chess_match.proofs.UnderWay.{IsHearing, HeardSoFar}
 use Rattle.chess_match.proofs.Hears.{hearing_more, heard_last, heard_none, heard_fault}
 use Rattle.chess_match.proofs.Runs.{IsTail, lines_more, end_more, failure_more}
@@ -39,7 +39,7 @@ pub heard_still : (S : Colour) (T : List Event) (r r' : InputState) (h : Held) (
     → IsHearing S T r r' h given → ReadFrom S T r r' given
 heard_still S T r r' h given s = record {
   bytes = s.hearing.bytes;
-  lines = (map text_read (lines_held ENGINE_LINE_LEN false h []), first_lines r r' h given (lines_of S T) s.hearing);
+  lines = (map text_read (lines_held ENGINE_LINE_LEN false h []), first_lines r r' h given (lines_of_engine S T) s.hearing);
   ends = s.hearing.ends ∙ ap (λ b. risen_if b r.end_count) (sym s.unended);
   failures = s.hearing.failures ∙ ap (λ b. risen_if b r.failure_count) (sym s.unfailed);
   at_end = λ e. not_both (has_fault Ended S T) s.unended e;
@@ -53,12 +53,12 @@ all_lines r r' given texts s = ap (λ ls. map text_read ls) s.lines.2 ∙ s.line
 heard_to_end : (S : Colour) (T : List Event) (r r' : InputState) (given : List ℕ) (texts : List (Option (List ℕ)))
     → HeardAll r r' given texts × (r'.end_count ≡ risen r.end_count) × (r'.failure_count ≡ r.failure_count)
     × IsAtEnd r'.known_bytes
-    → lines_of S T ≡ texts → has_fault Ended S T ≡ true → has_fault Read S T ≡ false → ReadFrom S T r r' given
+    → lines_of_engine S T ≡ texts → has_fault Ended S T ≡ true → has_fault Read S T ≡ false → ReadFrom S T r r' given
 heard_to_end S T r r' given texts (s, ends, failures, at_end) l e f =
-    let all : engine_lines given ≡ lines_of S T = all_lines r r' given texts s ∙ sym l in
+    let all : engine_lines given ≡ lines_of_engine S T = all_lines r r' given texts s ∙ sym l in
     record {
       bytes = s.bytes;
-      lines = ([], all ∙ sym (append-nil (lines_of S T)));
+      lines = ([], all ∙ sym (append-nil (lines_of_engine S T)));
       ends = ends ∙ ap (λ b. risen_if b r.end_count) (sym e);
       failures = failures ∙ ap (λ b. risen_if b r.failure_count) (sym f);
       at_end = λ h. (all, at_end);
@@ -67,12 +67,12 @@ heard_to_end S T r r' given texts (s, ends, failures, at_end) l e f =
 
 heard_to_fault : (S : Colour) (T : List Event) (r r' : InputState) (given : List ℕ) (texts : List (Option (List ℕ)))
     → HeardAll r r' given texts × (r'.end_count ≡ r.end_count) × (r'.failure_count ≡ risen r.failure_count)
-    → lines_of S T ≡ texts → has_fault Ended S T ≡ false → has_fault Read S T ≡ true → ReadFrom S T r r' given
+    → lines_of_engine S T ≡ texts → has_fault Ended S T ≡ false → has_fault Read S T ≡ true → ReadFrom S T r r' given
 heard_to_fault S T r r' given texts (s, ends, failures) l e f =
-    let all : engine_lines given ≡ lines_of S T = all_lines r r' given texts s ∙ sym l in
+    let all : engine_lines given ≡ lines_of_engine S T = all_lines r r' given texts s ∙ sym l in
     record {
       bytes = s.bytes;
-      lines = ([], all ∙ sym (append-nil (lines_of S T)));
+      lines = ([], all ∙ sym (append-nil (lines_of_engine S T)));
       ends = ends ∙ ap (λ b. risen_if b r.end_count) (sym e);
       failures = failures ∙ ap (λ b. risen_if b r.failure_count) (sym f);
       at_end = λ h. not_both (has_fault Ended S T) e h;
@@ -111,8 +111,8 @@ others_hear : (S : Colour) (T : List Event) (e : Event) (U : List Event) (r r' r
     → IsHearing S T r r' h given → IsHearing S (T ++ e ∷ U) r r'' h' given
 others_hear S T e U r r' r'' h h' given t f (same, kept) s = record {
   hearing = rw (same, kept)
-      (hearing_texts r r' h given (lines_of S T) (lines_of S (T ++ e ∷ U))
-      (sym (lines_more S T e U t ∙ ap (λ ls. lines_of S T ++ ls) (no_line S e f) ∙ append-nil (lines_of S T)))
+      (hearing_texts r r' h given (lines_of_engine S T) (lines_of_engine S (T ++ e ∷ U))
+      (sym (lines_more S T e U t ∙ ap (λ ls. lines_of_engine S T ++ ls) (no_line S e f) ∙ append-nil (lines_of_engine S T)))
       s.hearing);
   unended = end_more S T e U t s.unended ∙ no_end S e f;
   unfailed = failure_more S T e U t s.unfailed ∙ no_failure S e f;
@@ -137,36 +137,36 @@ own_heard : (S : Colour) (T : List Event) (e : Event) (U : List Event) (on : Boo
     → Consumes r'.known_bytes r''.known_bytes more → Tells e r' r'' h h' more → IsHearing S T r r' h given
     → HeardSoFar S (T ++ e ∷ U) on r r'' h'
 own_heard S T (Line c text n) U on r r' r'' h h' given more t is stop b (line, got, same) s =
-    let texts : lines_of S T ++ text_read line ∷ [] ≡ lines_of S (T ++ Line c text n ∷ U) =
-    sym (lines_more S T (Line c text n) U t ∙ ap (λ (ls : List (Option (List ℕ))). lines_of S T ++ ls)
+    let texts : lines_of_engine S T ++ text_read line ∷ [] ≡ lines_of_engine S (T ++ Line c text n ∷ U) =
+    sym (lines_more S T (Line c text n) U t ∙ ap (λ (ls : List (Option (List ℕ))). lines_of_engine S T ++ ls)
     (ap (λ (b : Bool). if b then text ∷ [] else []) is ∙ ap (λ (x : Option (List ℕ)). x ∷ []) same)) in
     still S (T ++ Line c text n ∷ U) on r r'' h' (given ++ more) (record {
       hearing = hearing_texts r r'' h' (given ++ more) _ _ texts
-          (hearing_more r r' r'' h h' given more (lines_of S T) line s.hearing b got);
+          (hearing_more r r' r'' h h' given more (lines_of_engine S T) line s.hearing b got);
       unended = end_more S T (Line c text n) U t s.unended;
       unfailed = failure_more S T (Line c text n) U t s.unfailed;
     })
 own_heard S T (OutputEnds c) U on r r' r'' h h' given more t is stop b (inl (line, got)) s = (
   given ++ more,
-  heard_to_end S (T ++ OutputEnds c ∷ U) r r'' (given ++ more) (lines_of S T)
-      (heard_last r r' r'' h h' given more (lines_of S T) line s.hearing b got)
-      (lines_more S T (OutputEnds c) U t ∙ append-nil (lines_of S T)) (end_more S T (OutputEnds c) U t s.unended ∙ is)
+  heard_to_end S (T ++ OutputEnds c ∷ U) r r'' (given ++ more) (lines_of_engine S T)
+      (heard_last r r' r'' h h' given more (lines_of_engine S T) line s.hearing b got)
+      (lines_more S T (OutputEnds c) U t ∙ append-nil (lines_of_engine S T)) (end_more S T (OutputEnds c) U t s.unended ∙ is)
       (failure_more S T (OutputEnds c) U t s.unfailed),
   λ e. not_both on (stop refl) e,
 )
 own_heard S T (OutputEnds c) U on r r' r'' h h' given more t is stop b (inr got) s = (
   given ++ more,
-  heard_to_end S (T ++ OutputEnds c ∷ U) r r'' (given ++ more) (lines_of S T)
-      (heard_none r r' r'' h h' given more (lines_of S T) s.hearing b got)
-      (lines_more S T (OutputEnds c) U t ∙ append-nil (lines_of S T)) (end_more S T (OutputEnds c) U t s.unended ∙ is)
+  heard_to_end S (T ++ OutputEnds c ∷ U) r r'' (given ++ more) (lines_of_engine S T)
+      (heard_none r r' r'' h h' given more (lines_of_engine S T) s.hearing b got)
+      (lines_more S T (OutputEnds c) U t ∙ append-nil (lines_of_engine S T)) (end_more S T (OutputEnds c) U t s.unended ∙ is)
       (failure_more S T (OutputEnds c) U t s.unfailed),
   λ e. not_both on (stop refl) e,
 )
 own_heard S T (FailsToRead c) U on r r' r'' h h' given more t is stop b got s = (
   given ++ more,
-  heard_to_fault S (T ++ FailsToRead c ∷ U) r r'' (given ++ more) (lines_of S T)
-      (heard_fault r r' r'' h h' given more (lines_of S T) s.hearing b got)
-      (lines_more S T (FailsToRead c) U t ∙ append-nil (lines_of S T)) (end_more S T (FailsToRead c) U t s.unended)
+  heard_to_fault S (T ++ FailsToRead c ∷ U) r r'' (given ++ more) (lines_of_engine S T)
+      (heard_fault r r' r'' h h' given more (lines_of_engine S T) s.hearing b got)
+      (lines_more S T (FailsToRead c) U t ∙ append-nil (lines_of_engine S T)) (end_more S T (FailsToRead c) U t s.unended)
       (failure_more S T (FailsToRead c) U t s.unfailed ∙ is),
   λ e. not_both on (stop refl) e,
 )

@@ -3,29 +3,29 @@ use Rattle.std.proofs.Common.{◌≡◌, ℕ, Bool, List, [], ◌∷◌, ◌++�
 use Rattle.chess_base.specs.declared.man.Move.{Move}
 use Rattle.chess_base.specs.declared.setup.Setup.{Setup}
 use Rattle.chess_base.specs.Moves.{after}
-use Rattle.chess_game.specs.Line.{last}
+use Rattle.chess_game.specs.Line.{position_after}
 use Rattle.chess_text.specs.San.{check_mark, san, shown_move}
 use Rattle.chess_match.specs.Rules.{text_of_last}
 use Rattle.std.specs.Prelude.{if◌then◌else◌}
 
 pub text_at_last : (as_san : Bool) (start : Setup) (ms : List Move) (m : Move)
     → text_of_last as_san start (ms ++ m ∷ [])
-    ≡ (let p = last start ms in if as_san then san p m else shown_move p m)
+    ≡ (let p = position_after start ms in if as_san then san p m else shown_move p m)
 text_at_last as_san start [] m = refl
 text_at_last as_san start (x ∷ []) m = refl
 text_at_last as_san start (x ∷ y ∷ ms) m = text_at_last as_san (after start x) (y ∷ ms) m
 
-pub after_last : (start : Setup) (ms : List Move) (m : Move) → last start (ms ++ m ∷ []) ≡ after (last start ms) m
+pub after_last : (start : Setup) (ms : List Move) (m : Move) → position_after start (ms ++ m ∷ []) ≡ after (position_after start ms) m
 after_last start [] m = refl
 after_last start (x ∷ ms) m = after_last (after start x) ms m
 
 -- a move's texts, of which the one by squares and the one in SAN but for its mark are made before it is played, and the
 -- mark after that
 pub texts_of_last : (start : Setup) (ms : List Move) (m : Move) (unmarked written squares : List ℕ) (next : Setup)
-    → next ≡ last start (ms ++ m ∷ []) → unmarked ++ check_mark (after (last start ms) m) ≡ san (last start ms) m
-    → written ≡ unmarked ++ check_mark next → squares ≡ shown_move (last start ms) m
+    → next ≡ position_after start (ms ++ m ∷ []) → unmarked ++ check_mark (after (position_after start ms) m) ≡ san (position_after start ms) m
+    → written ≡ unmarked ++ check_mark next → squares ≡ shown_move (position_after start ms) m
     → (as_san : Bool) → (if as_san then written else squares) ≡ text_of_last as_san start (ms ++ m ∷ [])
 texts_of_last start ms m unmarked written squares next at before marked shown as_san =
-    let in_san : written ≡ san (last start ms) m =
+    let in_san : written ≡ san (position_after start ms) m =
     marked ∙ ap (λ (q : Setup). unmarked ++ check_mark q) (at ∙ after_last start ms m) ∙ before in
     rw (in_san, shown) (sym (text_at_last as_san start ms m))

@@ -7,9 +7,9 @@ use Rattle.chess_base.specs.Men.{other}
 use Rattle.engine_lines.specs.EngineLines.{LineKind, line_kind}
 use Rattle.engine_lines.specs.Items.{Item}
 use Rattle.chess_match.specs.laws.Laws.{LinesAreFew, line_count}
-use Rattle.chess_match.specs.Match.{Match, Event, items_of_line, Line, Opened, OutputEnds, FailsToRead, FailsToWrite, seat, hear, start, over, enter, open_turn, played_by, after}
+use Rattle.chess_match.specs.Match.{Match, Event, items_of_line, Line, Opened, OutputEnds, FailsToRead, FailsToWrite, seat, take_items, start, over, enter, open_turn, played_by, match_after}
 use Rattle.chess_match.specs.Rules.{Rules}
-use Rattle.chess_match.specs.Sent.{SentLine, entry, block}
+use Rattle.chess_match.specs.Sent.{SentLine, lines_on_entering, block}
 use Rattle.chess_match.specs.Transcript.{reads, opens, fits_next, fits_from}
 use Rattle.chess_match.specs.declared.phase.Phase.{Phase}
 use Rattle.chess_match.specs.declared.phase.Phase.TheVariants.{Hello, Setup, SendTurn, AwaitMove, AwaitPong, Over}
@@ -55,30 +55,30 @@ at_most_one false = omega arith
 -- one line more
 
 heard_ends : (r : Rules) (k : ℕ) (S : Colour) (items : List Item) (reason : Reason) (m : Match) → FewIn r k (Hello S) m
-    → Few r (k + 1) (over reason (hear S items m))
+    → Few r (k + 1) (over reason (take_items S items m))
 heard_ends r k White items reason m w = omega (arith, w.0, w.1)
 heard_ends r k Black items reason m w = omega (arith, w.0, w.1)
 
 heard_counts : (r : Rules) (k : ℕ) (S : Colour) (items : List Item) (m : Match) → m.phase ≡ Hello S
     → FewIn r k (Hello S) m → m.count + 1 < 1000
-    → (let m' = hear S items m in Few r (k + 1) (record m' { count = m.count + 1 }))
+    → (let m' = take_items S items m in Few r (k + 1) (record m' { count = m.count + 1 }))
 heard_counts r k White items m e w few = from_phase r (k + 1)
-    (let m' = hear White items m in record m' { count = m.count + 1 }) (Hello White) e (omega (arith, w.0), few, w.2)
+    (let m' = take_items White items m in record m' { count = m.count + 1 }) (Hello White) e (omega (arith, w.0), few, w.2)
 heard_counts r k Black items m e w few = from_phase r (k + 1)
-    (let m' = hear Black items m in record m' { count = m.count + 1 }) (Hello Black) e (omega (arith, w.0), few, w.2)
+    (let m' = take_items Black items m in record m' { count = m.count + 1 }) (Hello Black) e (omega (arith, w.0), few, w.2)
 
 heard_next : (r : Rules) (k : ℕ) (S : Colour) (items : List Item) (m : Match) → S ≡ White → FewIn r k (Hello White) m
-    → Few r (k + 1) (enter (Hello Black) (hear S items m))
+    → Few r (k + 1) (enter (Hello Black) (take_items S items m))
 heard_next r k White items m s w = (omega (arith, w.0, w.1), omega arith, w.2)
 heard_next r k Black items m s w = cc
 
 heard_done : (r : Rules) (k : ℕ) (S : Colour) (items : List Item) (m : Match) → S ≡ Black → FewIn r k (Hello Black) m
-    → Few r (k + 1) (enter (Setup White) (hear S items m))
+    → Few r (k + 1) (enter (Setup White) (take_items S items m))
 heard_done r k Black items m s w = (omega (arith, w.0, w.1), omega arith, w.2)
 heard_done r k White items m s w = cc
 
 heard_judged : (r : Rules) (k : ℕ) (S : Colour) (items : List Item) (reason : Reason) (m : Match) → S ≡ Black
-    → FewIn r k (Hello Black) m → Few r (k + 1) (enter (Over reason) (hear S items m))
+    → FewIn r k (Hello Black) m → Few r (k + 1) (enter (Over reason) (take_items S items m))
 heard_judged r k Black items reason m s w = omega (arith, w.0, w.1)
 heard_judged r k White items reason m s w = cc
 
@@ -219,23 +219,23 @@ few : (r : Rules) (due : Colour → List SentLine) (m : Match) (T : List Event) 
 few r due m [] k f w = let h : k ≤ 22000 + 10002 * (r.limit + 1) = few_over r k Agreed m w in omega (arith, h)
 few r due m (Line S t n ∷ T) k f w =
     let here : reads m.phase S ≡ true = and_first (reads m.phase S) _ f in
-    let next : Few r (k + 1) (after r m (Line S t n)) =
+    let next : Few r (k + 1) (match_after r m (Line S t n)) =
     line_outcome r S (line_kind t) n m (λ m'. Few r (k + 1) m') here (lines r k S (line_kind t) n m w) in
     let h : k + 1 + line_count T ≤ 22000 + 10002 * (r.limit + 1) =
-    few r (block r m (after r m (Line S t n))) (after r m (Line S t n)) T (k + 1)
+    few r (block r m (match_after r m (Line S t n))) (match_after r m (Line S t n)) T (k + 1)
     (and_second (reads m.phase S) _ f) next in
     omega (arith, h)
 few r due m (Opened S n ∷ T) k f w =
-    few r (block r m (after r m (Opened S n))) (after r m (Opened S n)) T k (and_second (opens m.phase S) _ f)
+    few r (block r m (match_after r m (Opened S n))) (match_after r m (Opened S n)) T k (and_second (opens m.phase S) _ f)
     (few_opened r k S n m (and_first (opens m.phase S) _ f) w)
-few r due m (OutputEnds S ∷ T) k f w = few r (block r m (after r m (OutputEnds S))) (after r m (OutputEnds S)) T k
+few r due m (OutputEnds S ∷ T) k f w = few r (block r m (match_after r m (OutputEnds S))) (match_after r m (OutputEnds S)) T k
     (and_second (fits_next due m (OutputEnds S)) _ f) (few_over r k Agreed m w)
-few r due m (FailsToRead S ∷ T) k f w = few r (block r m (after r m (FailsToRead S))) (after r m (FailsToRead S)) T k
+few r due m (FailsToRead S ∷ T) k f w = few r (block r m (match_after r m (FailsToRead S))) (match_after r m (FailsToRead S)) T k
     (and_second (fits_next due m (FailsToRead S)) _ f) (few_over r k Agreed m w)
-few r due m (FailsToWrite S ∷ T) k f w = few r (block r m (after r m (FailsToWrite S))) (after r m (FailsToWrite S)) T k
+few r due m (FailsToWrite S ∷ T) k f w = few r (block r m (match_after r m (FailsToWrite S))) (match_after r m (FailsToWrite S)) T k
     (and_second (fits_next due m (FailsToWrite S)) _ f) (few_over r k Agreed m w)
 
 pub lines_are_few : LinesAreFew
 lines_are_few r T f =
     let h : 0 + line_count T ≤ 22000 + 10002 * (r.limit + 1) =
-    few r (entry r start) start T 0 f (omega arith, omega arith, refl) in omega (arith, h)
+    few r (lines_on_entering r start) start T 0 f (omega arith, omega arith, refl) in omega (arith, h)

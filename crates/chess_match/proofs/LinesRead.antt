@@ -13,7 +13,7 @@ use Rattle.chess_cecp.specs.Lines.{LineSeen, Held}
 use Rattle.chess_cecp.specs.Next.{NextLine, GotLine, GotLast, work}
 use Rattle.chess_match.specs.ties.Delivering.{event_read, Delivered}
 use Rattle.chess_match.proofs.Hearing.{is_heard_of, Tells, HearsAt}
-use Rattle.chess_match.specs.Match.{Match, Event, Line, OutputEnds, FailsToRead, after}
+use Rattle.chess_match.specs.Match.{Match, Event, Line, OutputEnds, FailsToRead, match_after}
 use Rattle.chess_match.specs.Notes.{Noted}
 use Rattle.chess_match.specs.Rules.{Rules}
 use Rattle.chess_match.specs.Run.{text_read}
@@ -65,8 +65,8 @@ pub heard_fits : {E : Type 0} (m : Match) (S : Colour) (moment : ℕ) (result : 
 heard_fits m S moment result h = heard_is (λ e. fits_next nothing_due m e ≡ true) S moment result (λ text. h) h h
 
 pub heard_sane : {E : Type 0} (r : Rules) (m : Match) (S : Colour) (moment : ℕ) (result : Result (Option LineSeen) E)
-    → IsSane r m → IsSane r (after r m (event_read S moment result))
-heard_sane r m S moment result s = heard_is (λ e. IsSane r (after r m e)) S moment result
+    → IsSane r m → IsSane r (match_after r m (event_read S moment result))
+heard_sane r m S moment result s = heard_is (λ e. IsSane r (match_after r m e)) S moment result
     (λ text. sane_line r m S text moment s) (sane_over r m _ s) (sane_over r m _ s)
 
 -- ---- what reported it
@@ -161,7 +161,7 @@ pub heard_less : {E : Type 0} (r : Rules) (p : Phase) (core : MatchState) (playe
     (notes notes' : Noted)
     → reads p S ≡ true → NextLine ENGINE_LINE_LEN (n S) (n' S) (h S) (h' S) result → n' (other S) ≡ n (other S)
     → h' (other S) ≡ h (other S)
-    → Delivered r core played (after r m (event_read S moment result)) due S w w' failed
+    → Delivered r core played (match_after r m (event_read S moment result)) due S w w' failed
     notes notes'
     → steps_left core.phase (work (n' White) (h' White) + work (n' Black) (h' Black)) < steps_left p
     (work (n White) (h White) + work (n Black) (h Black))
@@ -184,5 +184,5 @@ heard_less r p core played m S moment (Ok (Some line)) due n n' h h' w w' failed
         over_less p core.phase S _ _ reading
         (over_after r core played _ due S w w' failed notes notes' refl
         (subst (λ (v : Bool).
-        Delivered r core played (after r m (if v then Line S (text_read line) moment else OutputEnds S)) due S w w'
+        Delivered r core played (match_after r m (if v then Line S (text_read line) moment else OutputEnds S)) due S w w'
         failed notes notes') e d))

@@ -13,9 +13,9 @@ use Rattle.chess_game.specs.declared.ends.Verdict.{Verdict}
 use Rattle.engine_lines.specs.EngineLines.{LineKind, line_kind}
 use Rattle.engine_lines.specs.Items.{Item, takes}
 use Rattle.chess_match.specs.laws.Laws.{move_sent, moves_sent, texts_from, move_texts, owed_to, MovesAreSent, AllMovesAreSent, sent, ending_in}
-use Rattle.chess_match.specs.Match.{Match, Event, Line, Opened, OutputEnds, FailsToRead, FailsToWrite, items_of_line, seat, hear, start, over, enter, open_turn, played_by, after, clock, ping_number}
+use Rattle.chess_match.specs.Match.{Match, Event, Line, Opened, OutputEnds, FailsToRead, FailsToWrite, items_of_line, seat, take_items, start, over, enter, open_turn, played_by, match_after, clock, ping_number}
 use Rattle.chess_match.specs.Rules.{Rules}
-use Rattle.chess_match.specs.Sent.{SentLine, Says, Time, Otim, block, entry, entry_to, is_same_phase, is_unwritten, setup_lines, variant_lines, start_lines, opening_lines, last_move, last_move_lines, clock_lines, end_lines, unsent_lines, ping}
+use Rattle.chess_match.specs.Sent.{SentLine, Says, Time, Otim, block, lines_on_entering, entry_to, is_same_phase, is_unwritten, setup_lines, variant_command, start_lines, opening_lines, last_move_sent, last_move_lines, clock_lines, end_lines, unsent_lines, ping}
 use Rattle.chess_match.specs.Transcript.{is_on, reads, match_of, fits, fits_next, fits_from, is_dropped, is_fault, blocks_from, joined_blocks, has_fault}
 use Rattle.chess_base.specs.declared.man.Variant.{Variant}
 use Rattle.chess_base.specs.declared.man.Variant.TheVariants.{Normal, Fischerandom}
@@ -102,7 +102,7 @@ unfolding setup_lines
 setup_moves r = at r.variant r.start_fen
   where
     at : (v : Variant) (fen : Option (List ℕ))
-        → flat_map move_sent (variant_lines v ++ (Says (codes "level "
+        → flat_map move_sent (variant_command v ++ (Says (codes "level "
         ++ level_text r.level) ∷ Says (codes "nopost") ∷ Says (codes "easy") ∷ Says (codes "force")
         ∷ (start_lines fen ++ ping 1 ∷ []))) ≡ []
     at Normal None = refl
@@ -121,10 +121,10 @@ clock_moves r m O = at (takes (codes "time") (seat m O).items)
 
 last_moves : (r : Rules) (m : Match) (O : Colour) → moves_sent (last_move_lines r m O)
     ≡ (if nat_lt 0 (length m.played) then last_text r m O else [])
-unfolding last_move
+unfolding last_move_sent
 last_moves r m O = at (nat_lt 0 (length m.played))
   where
-    at : (b : Bool) → flat_map move_sent (if b then last_move r m O ∷ [] else []) ≡ (if b then last_text r m O else [])
+    at : (b : Bool) → flat_map move_sent (if b then last_move_sent r m O ∷ [] else []) ≡ (if b then last_text r m O else [])
     at true = refl
     at false = refl
 
@@ -147,11 +147,11 @@ opening_moves r m O = at (nat_lt 0 (length (seat m O).used))
 
 untold_moves : (r : Rules) (m : Match) (O : Colour) (unsent_to : Option Colour) → moves_sent (unsent_lines r m O unsent_to)
     ≡ untold_text r m O unsent_to
-unfolding last_move
+unfolding last_move_sent
 untold_moves r m O None = refl
 untold_moves r m O (Some c) = at (same_colour c O)
   where
-    at : (b : Bool) → flat_map move_sent (if b then last_move r m O ∷ [] else []) ≡ (if b then last_text r m O else [])
+    at : (b : Bool) → flat_map move_sent (if b then last_move_sent r m O ∷ [] else []) ≡ (if b then last_text r m O else [])
     at true = refl
     at false = refl
 
@@ -410,43 +410,43 @@ passes_goes r X S O m p o h =
 
 hello_over : (r : Rules) (X : List (List ℕ)) (S O : Colour) (items : List Item) (reason : Reason) (m : Match)
     → is_on m.phase ≡ true → is_unwritten reason O ≡ false
-    → (m.played ≡ []) × (m.unsent_to ≡ None) → Sofar r X O m → Goes r X O m (over reason (hear S items m))
+    → (m.played ≡ []) × (m.unsent_to ≡ None) → Sofar r X O m → Goes r X O m (over reason (take_items S items m))
 hello_over r X S O items reason m on n k h = (
-  over_told r X O false m.phase reason (hear S items m) (leaves m.phase reason on) n
-      (fresh r X O m (over reason (hear S items m)) k.0 k.1 (hear_played S items m ∙ k.0) (hear_untold S items m ∙ k.1)
+  over_told r X O false m.phase reason (take_items S items m) (leaves m.phase reason on) n
+      (fresh r X O m (over reason (take_items S items m)) k.0 k.1 (hear_played S items m ∙ k.0) (hear_untold S items m ∙ k.1)
       h),
   tt,
 )
 
 hello_counts : (r : Rules) (X : List (List ℕ)) (S O : Colour) (items : List Item) (m : Match) → reads m.phase S ≡ true
     → (m.played ≡ []) × (m.unsent_to ≡ None) → Orderly r m → Sofar r X O m
-    → (let m' = hear S items m in Goes r X O m (record m' { count = m.count + 1 }))
+    → (let m' = take_items S items m in Goes r X O m (record m' { count = m.count + 1 }))
 hello_counts r X White O items m here k o h = (
-  stays_told r X O m.phase (let m' = hear White items m in record m' { count = m.count + 1 })
+  stays_told r X O m.phase (let m' = take_items White items m in record m' { count = m.count + 1 })
       (reads_stays m.phase White here) (reads_on m.phase White here)
-      (fresh r X O m (let m' = hear White items m in record m' { count = m.count + 1 }) k.0 k.1 k.0 k.1 h),
+      (fresh r X O m (let m' = take_items White items m in record m' { count = m.count + 1 }) k.0 k.1 k.0 k.1 h),
   o,
 )
 hello_counts r X Black O items m here k o h = (
-  stays_told r X O m.phase (let m' = hear Black items m in record m' { count = m.count + 1 })
+  stays_told r X O m.phase (let m' = take_items Black items m in record m' { count = m.count + 1 })
       (reads_stays m.phase Black here) (reads_on m.phase Black here)
-      (fresh r X O m (let m' = hear Black items m in record m' { count = m.count + 1 }) k.0 k.1 k.0 k.1 h),
+      (fresh r X O m (let m' = take_items Black items m in record m' { count = m.count + 1 }) k.0 k.1 k.0 k.1 h),
   o,
 )
 
 hello_enters : (r : Rules) (X : List (List ℕ)) (S O : Colour) (items : List Item) (m : Match) → (m.played ≡ [])
     × (m.unsent_to ≡ None) → Sofar r X O m
-    → (Goes r X O m (enter (Hello Black) (hear S items m))) × (Goes r X O m (enter (Setup White) (hear S items m)))
+    → (Goes r X O m (enter (Hello Black) (take_items S items m))) × (Goes r X O m (enter (Setup White) (take_items S items m)))
 hello_enters r X S O items m k h = (
   (
-    quiet_told r X O m.phase (enter (Hello Black) (hear S items m)) refl refl
-        (fresh r X O m (enter (Hello Black) (hear S items m)) k.0 k.1 (hear_played S items m ∙ k.0)
+    quiet_told r X O m.phase (enter (Hello Black) (take_items S items m)) refl refl
+        (fresh r X O m (enter (Hello Black) (take_items S items m)) k.0 k.1 (hear_played S items m ∙ k.0)
         (hear_untold S items m ∙ k.1) h),
     (hear_played S items m ∙ k.0, hear_untold S items m ∙ k.1),
   ),
   (
-    quiet_told r X O m.phase (enter (Setup White) (hear S items m)) refl refl
-        (fresh r X O m (enter (Setup White) (hear S items m)) k.0 k.1 (hear_played S items m ∙ k.0)
+    quiet_told r X O m.phase (enter (Setup White) (take_items S items m)) refl refl
+        (fresh r X O m (enter (Setup White) (take_items S items m)) k.0 k.1 (hear_played S items m ∙ k.0)
         (hear_untold S items m ∙ k.1) h),
     (hear_played S items m ∙ k.0, hear_untold S items m ∙ k.1),
   ),
@@ -517,17 +517,17 @@ lines_go r X S O kind moment m here o h =
     }
 
     hello_judged : (c : Colour) (f : MatchFault) → (m.played ≡ []) × (m.unsent_to ≡ None)
-        → Goes r X O m (enter (Over (Faulted c f)) (hear S (items_of_line kind) m))
+        → Goes r X O m (enter (Over (Faulted c f)) (take_items S (items_of_line kind) m))
     hello_judged c f k = (
-      judged_told r X O c f m.phase (hear S (items_of_line kind) m) (hear_untold S (items_of_line kind) m ∙ k.1)
-          (fresh r X O m (enter (Over (Faulted c f)) (hear S (items_of_line kind) m)) k.0 k.1
+      judged_told r X O c f m.phase (take_items S (items_of_line kind) m) (hear_untold S (items_of_line kind) m ∙ k.1)
+          (fresh r X O m (enter (Over (Faulted c f)) (take_items S (items_of_line kind) m)) k.0 k.1
           (hear_played S (items_of_line kind) m ∙ k.0) (hear_untold S (items_of_line kind) m ∙ k.1) h),
       tt,
     )
 
 step_goes : (r : Rules) (X : List (List ℕ)) (O : Colour) (due : Colour → List SentLine) (m : Match) (e : Event)
     → fits_next due m e ≡ true → Orderly r m → Sofar r X O m
-    → Told r X O (is_fault Write O e) m.phase (after r m e) × Orderly r (after r m e)
+    → Told r X O (is_fault Write O e) m.phase (match_after r m e) × Orderly r (match_after r m e)
 step_goes r X O due m (Line S t n) f o h =
     line_outcome r S (line_kind t) n m (λ m'. Goes r X O m m') f (lines_go r X S O (line_kind t) n m f o h)
 step_goes r X O due m (Opened S n) f o h = (
@@ -593,7 +593,7 @@ lines_none : (r : Rules) (S O : Colour) (kind : LineKind) (moment : ℕ) (m : Ma
 lines_none r S O kind moment m here o = record {
   hello_ends = λ p d on some. not_on on;
   hello_counts = λ p d few. same_tells_none r S O m
-      (let m' = hear S (items_of_line kind) m in record m' { count = m.count + 1 }) (hear_phase S (items_of_line kind) m)
+      (let m' = take_items S (items_of_line kind) m in record m' { count = m.count + 1 }) (hear_phase S (items_of_line kind) m)
       here;
   hello_next = λ p s d on some. if_nil (is_same_phase m.phase (Hello Black)) [] refl;
   hello_judged = λ p s d c f on some. not_on on;
@@ -624,13 +624,13 @@ lines_none r S O kind moment m here o = record {
 
 dropped_line : (r : Rules) (O S d : Colour) (t : Option (List ℕ)) (n : ℕ) (due : Colour → List SentLine) (m : Match)
     (T : List Event) → fits_next due m (Line S t n) ≡ true
-    → fits_next (block r m (after r m (Line S t n))) (after r m (Line S t n)) (FailsToWrite d) ≡ true → Orderly r m
-    → same_colour S d ≡ true → told_now r m (after r m (Line S t n)) O ≡ []
+    → fits_next (block r m (match_after r m (Line S t n))) (match_after r m (Line S t n)) (FailsToWrite d) ≡ true → Orderly r m
+    → same_colour S d ≡ true → told_now r m (match_after r m (Line S t n)) O ≡ []
 dropped_line r O S d t n due m T f g o e =
     line_outcome r S (line_kind t) n m (λ m'. TellsNone r S O m m') f (lines_none r S O (line_kind t) n m f o)
-    (and_first (is_on (after r m (Line S t n)).phase) _ g)
-    (rw (same_colour-true S d e) (ltb-true 0 (length (block r m (after r m (Line S t n)) d))
-    (and_second (is_on (after r m (Line S t n)).phase) _ g)))
+    (and_first (is_on (match_after r m (Line S t n)).phase) _ g)
+    (rw (same_colour-true S d e) (ltb-true 0 (length (block r m (match_after r m (Line S t n)) d))
+    (and_second (is_on (match_after r m (Line S t n)).phase) _ g)))
 
 failed_none : (r : Rules) (O S : Colour) (m : Match) → same_colour S O ≡ true
     → told_now r m (over (Faulted S Write) m) O ≡ []
@@ -643,7 +643,7 @@ or_assoc false b c = refl
 -- a block that isn't sent has no move
 unsent_none : (r : Rules) (O : Colour) (due : Colour → List SentLine) (m : Match) (e : Event) (T : List Event)
     → fits_from r due m (e ∷ T) ≡ true → Orderly r m
-    → is_dropped e T O || is_fault Write O e ≡ true → told_now r m (after r m e) O ≡ []
+    → is_dropped e T O || is_fault Write O e ≡ true → told_now r m (match_after r m e) O ≡ []
 unsent_none r O due m (FailsToWrite S) T f o h = failed_none r O S m h
 unsent_none r O due m (Line S t n) (FailsToWrite d ∷ T) f o h =
     dropped_line r O S d t n due m T (and_first (reads m.phase S) _ f)
@@ -661,20 +661,20 @@ unsent_none r O due m (FailsToRead S) T f o h = cc
 -- what the block of an event holds, if it is sent
 told_at : (r : Rules) (O : Colour) (due : Colour → List SentLine) (m : Match) (e : Event) (T : List Event)
     → fits_from r due m (e ∷ T) ≡ true → Orderly r m
-    → moves_sent (joined_blocks (blocks_from r O m (e ∷ T))) ≡ told_now r m (after r m e) O
-    ++ moves_sent (joined_blocks (blocks_from r O (after r m e) T))
+    → moves_sent (joined_blocks (blocks_from r O m (e ∷ T))) ≡ told_now r m (match_after r m e) O
+    ++ moves_sent (joined_blocks (blocks_from r O (match_after r m e) T))
 told_at r O due m e T f o =
     ap (λ (ls : List SentLine). moves_sent ls)
-    (joined_at (is_dropped e T O || is_fault Write O e) (block r m (after r m e) O) (blocks_from r O (after r m e) T))
-    ∙ flat_map-append move_sent (if is_dropped e T O || is_fault Write O e then [] else block r m (after r m e) O)
-    (joined_blocks (blocks_from r O (after r m e) T))
-    ∙ ap (λ (l : List (List ℕ)). l ++ moves_sent (joined_blocks (blocks_from r O (after r m e) T)))
+    (joined_at (is_dropped e T O || is_fault Write O e) (block r m (match_after r m e) O) (blocks_from r O (match_after r m e) T))
+    ∙ flat_map-append move_sent (if is_dropped e T O || is_fault Write O e then [] else block r m (match_after r m e) O)
+    (joined_blocks (blocks_from r O (match_after r m e) T))
+    ∙ ap (λ (l : List (List ℕ)). l ++ moves_sent (joined_blocks (blocks_from r O (match_after r m e) T)))
     (at (is_dropped e T O || is_fault Write O e) refl)
   where
-    at : (b : Bool) → is_dropped e T O || is_fault Write O e ≡ b → moves_sent (if b then [] else block r m (after r m e) O)
-        ≡ told_now r m (after r m e) O
+    at : (b : Bool) → is_dropped e T O || is_fault Write O e ≡ b → moves_sent (if b then [] else block r m (match_after r m e) O)
+        ≡ told_now r m (match_after r m e) O
     at true h = sym (unsent_none r O due m e T f o h)
-    at false h = told_block r m (after r m e) O
+    at false h = told_block r m (match_after r m e) O
 
 -- ---- the transcript
 
@@ -685,7 +685,7 @@ fits_on due m (OutputEnds S) f = reads_on m.phase S f
 fits_on due m (FailsToRead S) f = reads_on m.phase S f
 fits_on due m (FailsToWrite S) f = and_first (is_on m.phase) _ f
 
-calm : (r : Rules) (m : Match) (e : Event) (O : Colour) → is_on (after r m e).phase ≡ true → is_fault Write O e ≡ false
+calm : (r : Rules) (m : Match) (e : Event) (O : Colour) → is_on (match_after r m e).phase ≡ true → is_fault Write O e ≡ false
 calm r m (Line S t n) O on = refl
 calm r m (Opened S n) O on = refl
 calm r m (OutputEnds S) O on = refl
@@ -706,15 +706,15 @@ told_from r O due m [] X failed f o quiet h = (rw (or-false failed) h, o)
 told_from r O due m (e ∷ T) X failed f o quiet h =
     let here : fits_next due m e ≡ true = and_first (fits_next due m e) _ f in
     let on : is_on m.phase ≡ true = fits_on due m e here in
-    let s : Told r X O (is_fault Write O e) m.phase (after r m e) × Orderly r (after r m e) =
+    let s : Told r X O (is_fault Write O e) m.phase (match_after r m e) × Orderly r (match_after r m e) =
     step_goes r X O due m e here o (rw (owed_on r m O m.unsent_to failed on) at h) in
-    let rest = told_from r O (block r m (after r m e)) (after r m e) T (X ++ told_now r m (after r m e) O)
+    let rest = told_from r O (block r m (match_after r m e)) (match_after r m e) T (X ++ told_now r m (match_after r m e) O)
     (is_fault Write O e) (and_second (fits_next due m e) _ f) s.1 (calm r m e O) s.0 in (
-      rw (quiet on) (joined_more X (told_now r m (after r m e) O)
+      rw (quiet on) (joined_more X (told_now r m (match_after r m e) O)
           (moves_sent (joined_blocks (blocks_from r O m (e ∷ T))))
-          (moves_sent (joined_blocks (blocks_from r O (after r m e) T)))
-          (owed_to r (match_from r (after r m e) T) O (match_from r (after r m e) T).unsent_to
-          (is_fault Write O e || has_fault Write O T)) (all_texts r (match_from r (after r m e) T) O)
+          (moves_sent (joined_blocks (blocks_from r O (match_after r m e) T)))
+          (owed_to r (match_from r (match_after r m e) T) O (match_from r (match_after r m e) T).unsent_to
+          (is_fault Write O e || has_fault Write O T)) (all_texts r (match_from r (match_after r m e) T) O)
           (told_at r O due m e T f o) rest.0),
       rest.1,
     )
@@ -722,16 +722,16 @@ told_from r O due m (e ∷ T) X failed f o quiet h =
 pub moves_are_told : MovesAreSent
 moves_are_told r T O f =
     ap (λ (l : List (List ℕ)). l ++ owed_to r (match_of r T) O (match_of r T).unsent_to (has_fault Write O T)) first
-    ∙ (told_from r O (entry r start) start T [] false f (refl, refl) (λ on. refl) refl).0
+    ∙ (told_from r O (lines_on_entering r start) start T [] false f (refl, refl) (λ on. refl) refl).0
   where
     first : moves_sent (sent r O T) ≡ moves_sent (joined_blocks (blocks_from r O start T))
-    first = flat_map-append move_sent (entry r start O) (joined_blocks (blocks_from r O start T))
+    first = flat_map-append move_sent (lines_on_entering r start O) (joined_blocks (blocks_from r O start T))
         ∙ ap (λ (l : List (List ℕ)). l ++ moves_sent (joined_blocks (blocks_from r O start T)))
         (entry_told r start O (Hello White))
 
 -- every match is orderly
 pub orderly : (r : Rules) (T : List Event) → fits r T ≡ true → Orderly r (match_of r T)
-orderly r T f = (told_from r White (entry r start) start T [] false f (refl, refl) (λ on. refl) refl).1
+orderly r T f = (told_from r White (lines_on_entering r start) start T [] false f (refl, refl) (λ on. refl) refl).1
 
 pub nothing_owed : (r : Rules) (m : Match) (O : Colour) (unsent_to : Option Colour) → is_some (ending_in m.phase) ≡ true
     → owed_to r m O unsent_to false ≡ []

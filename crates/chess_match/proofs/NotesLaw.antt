@@ -4,11 +4,11 @@ use Rattle.std.specs.Prelude.{if◌then◌else◌}
 use Rattle.chess_base.specs.declared.man.Colour.{Colour}
 use Rattle.chess_base.specs.declared.man.Colour.TheVariants.{White, Black}
 use Rattle.chess_base.specs.Men.{other, same_colour}
-use Rattle.chess_match.specs.Match.{Match, Event, start, after}
+use Rattle.chess_match.specs.Match.{Match, Event, start, match_after}
 use Rattle.chess_match.specs.Notes.{Note, Happened, Gives, given_note, both_notes, first_sent, notes_from, notes_of}
 use Rattle.chess_match.specs.laws.Laws.{events_in, given_in, sent}
 use Rattle.chess_match.specs.Rules.{Rules}
-use Rattle.chess_match.specs.Sent.{SentLine, block, entry, bytes_of}
+use Rattle.chess_match.specs.Sent.{SentLine, block, lines_on_entering, bytes_of}
 use Rattle.chess_match.specs.Transcript.{is_dropped, is_fault, blocks_from, joined_blocks}
 use Rattle.chess_match.proofs.Blocks.{lines_at}
 use Rattle.chess_match.proofs.Sends.{bytes_of-append}
@@ -41,11 +41,11 @@ after_both S lines notes =
 events_from : (r : Rules) (m : Match) (T : List Event) → events_in (notes_from r m T) ≡ T
 events_from r m [] = refl
 events_from r m (e ∷ es) = ap (λ (l : List Event). e ∷ l)
-    (after_both (first_sent (after r m e) e) (lines_at r m e es) (notes_from r (after r m e) es)
-    ∙ events_from r (after r m e) es)
+    (after_both (first_sent (match_after r m e) e) (lines_at r m e es) (notes_from r (match_after r m e) es)
+    ∙ events_from r (match_after r m e) es)
 
 pub all_events : (r : Rules) (T : List Event) → events_in (notes_of r T) ≡ T
-all_events r T = after_both White (λ S. entry r start S) (notes_from r start T) ∙ events_from r start T
+all_events r T = after_both White (λ S. lines_on_entering r start S) (notes_from r start T) ∙ events_from r start T
 
 -- ---- lines
 
@@ -106,11 +106,11 @@ given_from : (r : Rules) (S : Colour) (m : Match) (T : List Event)
 unfolding bytes_of
 given_from r S m [] = refl
 given_from r S m (e ∷ es) =
-    given_more (first_sent (after r m e) e) S (lines_at r m e es) (notes_from r (after r m e) es)
-    (joined_blocks (blocks_from r S (after r m e) es)) (given_from r S (after r m e) es)
+    given_more (first_sent (match_after r m e) e) S (lines_at r m e es) (notes_from r (match_after r m e) es)
+    (joined_blocks (blocks_from r S (match_after r m e) es)) (given_from r S (match_after r m e) es)
     ∙ ap (λ (l : List SentLine). bytes_of l)
-    (joined_one (is_dropped e es S || is_fault Write S e) (block r m (after r m e) S) (blocks_from r S (after r m e) es))
+    (joined_one (is_dropped e es S || is_fault Write S e) (block r m (match_after r m e) S) (blocks_from r S (match_after r m e) es))
 
 pub all_lines : (r : Rules) (T : List Event) (S : Colour) → given_in S (notes_of r T) ≡ bytes_of (sent r S T)
-all_lines r T S = given_more White S (λ X. entry r start X) (notes_from r start T)
+all_lines r T S = given_more White S (λ X. lines_on_entering r start X) (notes_from r start T)
     (joined_blocks (blocks_from r S start T)) (given_from r S start T)

@@ -8,10 +8,10 @@ use Rattle.chess_base.specs.declared.man.Colour.TheVariants.{White, Black}
 use Rattle.chess_base.specs.Men.{same_colour}
 use Rattle.chess_base.proofs.MenFacts.{same_colour-true, same_colour-self}
 use Rattle.chess_match.specs.laws.Laws.{Streams, IsOf, OnlyOne, ending_in}
-use Rattle.chess_match.specs.Match.{Match, Event, Line, Opened, OutputEnds, FailsToRead, FailsToWrite, start, after}
+use Rattle.chess_match.specs.Match.{Match, Event, Line, Opened, OutputEnds, FailsToRead, FailsToWrite, start, match_after}
 use Rattle.chess_match.specs.Rules.{Rules}
-use Rattle.chess_match.specs.Sent.{SentLine, block, entry}
-use Rattle.chess_match.specs.Transcript.{reads, opens, is_on, fits_next, fits_from, lines_of, line_in, moments_of, has_fault, is_fault}
+use Rattle.chess_match.specs.Sent.{SentLine, block, lines_on_entering}
+use Rattle.chess_match.specs.Transcript.{reads, opens, is_on, fits_next, fits_from, lines_of_engine, line_in, moments_of, has_fault, is_fault}
 use Rattle.chess_match.specs.declared.phase.Phase.{Phase}
 use Rattle.chess_match.specs.declared.phase.Phase.TheVariants.{Hello, Setup, SendTurn, AwaitMove, AwaitPong, Over}
 use Rattle.chess_match.proofs.MoveLaw.{fits_on, not_on}
@@ -86,14 +86,14 @@ next_moments (FailsToWrite c) T moments i n h = i n h
 
 is_of_behind : (s : Streams) (e : Event) (T : List Event) → IsOf s (e ∷ T) → IsOf (behind e s) T
 is_of_behind s e T i = record {
-  lines = λ S. ((i.lines S).0, drop_front (line_in S e) (lines_of S T) (i.lines S).0 (s.lines S) (i.lines S).1);
+  lines = λ S. ((i.lines S).0, drop_front (line_in S e) (lines_of_engine S T) (i.lines S).0 (s.lines S) (i.lines S).1);
   ends = λ S h. (
-    drop_exact (line_in S e) (lines_of S T) (s.lines S)
+    drop_exact (line_in S e) (lines_of_engine S T) (s.lines S)
         (i.ends S (or_right (is_fault Ended S e) (has_fault Ended S T) h)).0,
     (i.ends S (or_right (is_fault Ended S e) (has_fault Ended S T) h)).1,
   );
   failures = λ S h. (
-    drop_exact (line_in S e) (lines_of S T) (s.lines S)
+    drop_exact (line_in S e) (lines_of_engine S T) (s.lines S)
         (i.failures S (or_right (is_fault Read S e) (has_fault Read S T) h)).0,
     (i.failures S (or_right (is_fault Read S e) (has_fault Read S T) h)).1,
   );
@@ -105,8 +105,8 @@ is_of_behind s e T i = record {
 
 first_line : (s : Streams) (c : Colour) (t : Option (List ℕ)) (n : ℕ) (T : List Event) → IsOf s (Line c t n ∷ T)
     → (rest : List (Option (List ℕ))) × (s.lines c ≡ t ∷ rest)
-first_line s White t n T i = (lines_of White T ++ (i.lines White).0, (i.lines White).1)
-first_line s Black t n T i = (lines_of Black T ++ (i.lines Black).0, (i.lines Black).1)
+first_line s White t n T i = (lines_of_engine White T ++ (i.lines White).0, (i.lines White).1)
+first_line s Black t n T i = (lines_of_engine Black T ++ (i.lines Black).0, (i.lines Black).1)
 
 pub over_stops : (r : Rules) (due : Colour → List SentLine) (m : Match) (T : List Event) → is_on m.phase ≡ false
     → fits_from r due m T ≡ true → T ≡ []
@@ -116,26 +116,26 @@ over_stops r due m (e ∷ T) off f = not_on (sym off ∙ fits_on due m e (and_fi
 -- an engine whose end was reported, or of which a read failed, has no line left
 no_line : (r : Rules) (due : Colour → List SentLine) (m : Match) (S : Colour) (T : List Event)
     (lines : List (Option (List ℕ))) → is_on m.phase ≡ false → fits_from r due m T ≡ true
-    → lines ≡ lines_of S T → lines ≡ []
-no_line r due m S T lines off f e = e ∙ ap (λ (U : List Event). lines_of S U) (over_stops r due m T off f)
+    → lines ≡ lines_of_engine S T → lines ≡ []
+no_line r due m S T lines off f e = e ∙ ap (λ (U : List Event). lines_of_engine S U) (over_stops r due m T off f)
 
 cons_not_nil : {A B : Type 0} (x : A) (xs ys : List A) → ys ≡ x ∷ xs → ys ≡ [] → B
 cons_not_nil x xs ys e n = cc
 
 ended_none : (r : Rules) (s : Streams) (m : Match) (c : Colour) (T : List Event)
-    → fits_from r (block r m (after r m (OutputEnds c))) (after r m (OutputEnds c)) T ≡ true → IsOf s (OutputEnds c ∷ T)
+    → fits_from r (block r m (match_after r m (OutputEnds c))) (match_after r m (OutputEnds c)) T ≡ true → IsOf s (OutputEnds c ∷ T)
     → (s.lines c ≡ []) × (s.fails c ≡ false)
 ended_none r s m c T f i =
     let k = i.ends c (or_left (same_colour c c) (has_fault Ended c T) (same_colour-self c)) in
-    (no_line r (block r m (after r m (OutputEnds c))) (after r m (OutputEnds c)) c T (s.lines c) refl f k.0, k.1)
+    (no_line r (block r m (match_after r m (OutputEnds c))) (match_after r m (OutputEnds c)) c T (s.lines c) refl f k.0, k.1)
 
 failed_none : (r : Rules) (s : Streams) (m : Match) (c : Colour) (T : List Event)
-    → fits_from r (block r m (after r m (FailsToRead c))) (after r m (FailsToRead c)) T ≡ true
+    → fits_from r (block r m (match_after r m (FailsToRead c))) (match_after r m (FailsToRead c)) T ≡ true
     → IsOf s (FailsToRead c ∷ T)
     → (s.lines c ≡ []) × (s.fails c ≡ true)
 failed_none r s m c T f i =
     let k = i.failures c (or_left (same_colour c c) (has_fault Read c T) (same_colour-self c)) in
-    (no_line r (block r m (after r m (FailsToRead c))) (after r m (FailsToRead c)) c T (s.lines c) refl f k.0, k.1)
+    (no_line r (block r m (match_after r m (FailsToRead c))) (match_after r m (FailsToRead c)) c T (s.lines c) refl f k.0, k.1)
 
 no_write : {A : Type 0} (s : Streams) (c : Colour) (T : List Event) → IsOf s (FailsToWrite c ∷ T) → A
 no_write s c T i = not_on (sym (or_first (same_colour c c) (has_fault Write c T) (i.writes c)) ∙ same_colour-self c)
@@ -163,7 +163,7 @@ same_opened : (c d : Colour) (n k m : ℕ) → c ≡ d → Some n ≡ Some m →
 same_opened c d n k m e x y = cc
 
 abbrev Goes : Rules → Match → Event → List Event → Type 0
-Goes r m e T = fits_from r (block r m (after r m e)) (after r m e) T ≡ true
+Goes r m e T = fits_from r (block r m (match_after r m e)) (match_after r m e) T ≡ true
 
 same_event : (r : Rules) (s : Streams) (due due' : Colour → List SentLine) (m : Match) (e f : Event) (T U : List Event)
     → fits_next due m e ≡ true → fits_next due' m f ≡ true
@@ -225,9 +225,9 @@ one_from r s due due' m (e ∷ T) (d ∷ U) f g x y i j =
     let goes_too : Goes r m d U = and_second (fits_next due' m d) _ g in
     let same : e ≡ d = same_event r s due due' m e d T U (and_first (fits_next due m e) _ f)
     (and_first (fits_next due' m d) _ g) goes_on goes_too i j in
-    joined same (one_from r (behind e s) (block r m (after r m e)) (block r m (after r m e)) (after r m e) T U goes_on
+    joined same (one_from r (behind e s) (block r m (match_after r m e)) (block r m (match_after r m e)) (match_after r m e) T U goes_on
     (subst (λ (v : Event). Goes r m v U) (sym same) goes_too) x
-    (subst (λ (v : Event). is_some (ending_in (match_from r (after r m v) U).phase) ≡ true) (sym same) y)
+    (subst (λ (v : Event). is_some (ending_in (match_from r (match_after r m v) U).phase) ≡ true) (sym same) y)
     (is_of_behind s e T i)
     (is_of_behind s e U (subst (λ (v : Event). IsOf s (v ∷ U)) (sym same) j)))
   where
@@ -235,4 +235,4 @@ one_from r s due due' m (e ∷ T) (d ∷ U) f g x y i j =
     joined a b = rw (a, b) refl
 
 pub only_one : OnlyOne
-only_one r s T U f g x y i j = one_from r s (entry r start) (entry r start) start T U f g x y i j
+only_one r s T U f g x y i j = one_from r s (lines_on_entering r start) (lines_on_entering r start) start T U f g x y i j

@@ -8,9 +8,9 @@ use Rattle.chess_base.specs.Men.{other, same_colour}
 use Rattle.engine_lines.specs.EngineLines.{LineKind, line_kind}
 use Rattle.engine_lines.specs.Items.{Item, takes}
 use Rattle.chess_match.specs.laws.Laws.{moves_sent, move_texts, texts_from, owed_to, MovesSentAreKnown, sent}
-use Rattle.chess_match.specs.Match.{Match, Event, Line, Opened, OutputEnds, FailsToRead, FailsToWrite, items_of_line, seat, hear, start, over, enter, open_turn, played_by, after}
+use Rattle.chess_match.specs.Match.{Match, Event, Line, Opened, OutputEnds, FailsToRead, FailsToWrite, items_of_line, seat, take_items, start, over, enter, open_turn, played_by, match_after}
 use Rattle.chess_match.specs.Rules.{Rules}
-use Rattle.chess_match.specs.Sent.{SentLine, entry}
+use Rattle.chess_match.specs.Sent.{SentLine, lines_on_entering}
 use Rattle.chess_match.specs.Transcript.{reads, match_of, fits, fits_next, has_fault}
 use Rattle.chess_match.specs.declared.phase.Phase.{Phase}
 use Rattle.chess_match.specs.declared.phase.Phase.TheVariants.{Hello, Setup, SendTurn, AwaitMove, AwaitPong, Over}
@@ -95,14 +95,14 @@ plays_kept r Black move used m p k =
       used_more r Black Black m.played move m.black.used used e refl k.2,
     )
 
-heard_kept : (r : Rules) (S : Colour) (items : List Item) (m m' : Match) → m'.white.used ≡ (hear S items m).white.used
-    → m'.black.used ≡ (hear S items m).black.used
-    → m'.played ≡ (hear S items m).played → Orderly r m' → Kept r m → Kept r m'
+heard_kept : (r : Rules) (S : Colour) (items : List Item) (m m' : Match) → m'.white.used ≡ (take_items S items m).white.used
+    → m'.black.used ≡ (take_items S items m).black.used
+    → m'.played ≡ (take_items S items m).played → Orderly r m' → Kept r m → Kept r m'
 heard_kept r White items m m' w b p o k = kept_over r m m' w b p o k
 heard_kept r Black items m m' w b p o k = kept_over r m m' w b p o k
 
 none_yet : (r : Rules) (S d : Colour) (items : List Item) (m : Match) → m.phase ≡ Hello d → Kept r m
-    → ((hear S items m).played ≡ []) × ((hear S items m).unsent_to ≡ None)
+    → ((take_items S items m).played ≡ []) × ((take_items S items m).unsent_to ≡ None)
 none_yet r S d items m p k = let o = orderly_in r m (Hello d) p k.0 in (
   hear_played S items m
       ∙ o.0,
@@ -110,7 +110,7 @@ none_yet r S d items m p k = let o = orderly_in r m (Hello d) p k.0 in (
 )
 
 hello_kept : (r : Rules) (S : Colour) (items : List Item) (n : ℕ) (m : Match) → Kept r m
-    → (let m' = hear S items m in Kept r (record m' { count = n }))
+    → (let m' = take_items S items m in Kept r (record m' { count = n }))
 hello_kept r White items n m k = k
 hello_kept r Black items n m k = k
 
@@ -121,14 +121,14 @@ offers_kept r Black m k = k
 lines_kept : (r : Rules) (S : Colour) (kind : LineKind) (moment : ℕ) (m : Match) → Kept r m
     → Lines r S kind moment m (λ m'. Kept r m')
 lines_kept r S kind moment m k = record {
-  hello_ends = λ p d. heard_kept r S (items_of_line kind) m (over (Faulted S NoDone) (hear S (items_of_line kind) m)) refl
+  hello_ends = λ p d. heard_kept r S (items_of_line kind) m (over (Faulted S NoDone) (take_items S (items_of_line kind) m)) refl
       refl refl tt k;
   hello_counts = λ p d few. hello_kept r S (items_of_line kind) (m.count + 1) m k;
-  hello_next = λ p s d. heard_kept r S (items_of_line kind) m (enter (Hello Black) (hear S (items_of_line kind) m)) refl
+  hello_next = λ p s d. heard_kept r S (items_of_line kind) m (enter (Hello Black) (take_items S (items_of_line kind) m)) refl
       refl refl (none_yet r S White (items_of_line kind) m p k) k;
   hello_judged = λ p s d c f. heard_kept r S (items_of_line kind) m
-      (enter (Over (Faulted c f)) (hear S (items_of_line kind) m)) refl refl refl tt k;
-  hello_done = λ p s d. heard_kept r S (items_of_line kind) m (enter (Setup White) (hear S (items_of_line kind) m)) refl
+      (enter (Over (Faulted c f)) (take_items S (items_of_line kind) m)) refl refl refl tt k;
+  hello_done = λ p s d. heard_kept r S (items_of_line kind) m (enter (Setup White) (take_items S (items_of_line kind) m)) refl
       refl refl (none_yet r S Black (items_of_line kind) m p k) k;
   setup_ends = λ p reason n. (tt, k.1, k.2);
   setup_counts = λ p pong few. k;
@@ -155,7 +155,7 @@ lines_kept r S kind moment m k = record {
     first_turn e = (rw e refl, refl)
 
 pub step : (r : Rules) (due : Colour → List SentLine) (m : Match) (e : Event) → fits_next due m e ≡ true → Kept r m
-    → Kept r (after r m e)
+    → Kept r (match_after r m e)
 step r due m (Line S t n) f k = line_outcome r S (line_kind t) n m (λ m'. Kept r m') f
     (lines_kept r S (line_kind t) n m k)
 step r due m (Opened S n) f k = (orderly_in r m (SendTurn S) (opens_at m.phase S f) k.0, k.1, k.2)
@@ -164,7 +164,7 @@ step r due m (FailsToRead S) f k = (tt, k.1, k.2)
 step r due m (FailsToWrite S) f k = (tt, k.1, k.2)
 
 pub kept : (r : Rules) (T : List Event) → fits r T ≡ true → Kept r (match_of r T)
-kept r T f = kept_by r (λ m. Kept r m) (step r) (entry r start) start T f ((refl, refl), refl, refl)
+kept r T f = kept_by r (λ m. Kept r m) (step r) (lines_on_entering r start) start T f ((refl, refl), refl, refl)
 
 -- ---- a move was ever sent
 

@@ -10,7 +10,7 @@ use Rattle.chess_game.specs.declared.ends.Verdict.{Verdict}
 use Rattle.engine_lines.specs.EngineLines.{line_kind, LineKind, Features, Moves, Resigns, OffersDraw, ClaimsDraw, ClaimsWin, Rejects, Answers, SaysElse}
 use Rattle.engine_lines.specs.Items.{Item, has_done}
 use Rattle.chess_match.specs.laws.Laws.{move_said, is_pong}
-use Rattle.chess_match.specs.Match.{Match, Event, Line, Opened, OutputEnds, FailsToRead, FailsToWrite, after, after_kind, items_of_line, seat, clock, over, ignore, enter, open_turn, hear, greeted, hello_line, judged, lack, ready, unless_decided, setup_line, played_by, move_row, offer_row, draw_row, was_sent_move, either_way, before_row, before_line, after_line, ping_number}
+use Rattle.chess_match.specs.Match.{Match, Event, Line, Opened, OutputEnds, FailsToRead, FailsToWrite, match_after, after_kind, items_of_line, seat, clock, over, ignore, enter, open_turn, take_items, greeted, hello_line, after_handshakes, lack, ready, unless_decided, setup_line, played_by, played_row, offer_row, draw_row, was_sent_move, turn_line, before_row, before_line, after_line, ping_number}
 use Rattle.chess_match.specs.Rules.{Rules}
 use Rattle.chess_match.specs.Sent.{SentLine, block, is_unwritten}
 use Rattle.chess_match.specs.Transcript.{reads, opens, is_on, is_fault, fits_next, fits_from}
@@ -67,7 +67,7 @@ draw_outcome r S kind m P (Some c) none i = i.ends (Claimed c) (λ O. refl)
 draw_outcome r S kind m P None none i = offer_outcome r S kind m P none i
 
 either_outcome : (r : Rules) (S : Colour) (kind : LineKind) (m : Match) (P : Match → Type 0) → move_said kind ≡ []
-    → InTurn r S kind m P → P (either_way r S kind m)
+    → InTurn r S kind m P → P (turn_line r S kind m)
 either_outcome r S Resigns m P none i = i.ends (ResignsBy S) (λ O. refl)
 either_outcome r S OffersDraw m P none i = offer_outcome r S OffersDraw m P none i
 either_outcome r S ClaimsDraw m P none i = draw_outcome r S ClaimsDraw m P (r.claim m.played) none i
@@ -83,7 +83,7 @@ either_outcome r S SaysElse m P none i = ignore_outcome S m P i.ends (i.counts n
 move_outcome : (r : Rules) (S : Colour) (text : List ℕ) (moment : ℕ) (m : Match) (P : Match → Type 0)
     (reading : Option Move) → r.reading m.played text ≡ reading
     → length m.played < r.limit → moment - m.opened ≤ clock r m S → BeforeMove r S (Moves text) moment m P
-    → P (move_row r S reading moment m)
+    → P (played_row r S reading moment m)
 move_outcome r S text moment m P None e room timely b = b.row.ends (MovesIllegally S) (λ O. refl)
 move_outcome r S text moment m P (Some move) e room timely b = judge (r.verdict (m.played ++ move ∷ []))
   where
@@ -146,9 +146,9 @@ setup_outcome r S kind m P ends counts pong =
 
 -- in its handshake
 pub hello_outcome : (r : Rules) (S : Colour) (items : List Item) (m : Match) (P : Match → Type 0)
-    → (has_done items ≡ false → P (over (Faulted S NoDone) (hear S items m)))
-    → (has_done items ≡ false → m.count + 1 < 1000 → (let m' = hear S items m in P (record m' { count = m.count + 1 })))
-    → (has_done items ≡ true → P (greeted r S (hear S items m))) → P (hello_line r S items m)
+    → (has_done items ≡ false → P (over (Faulted S NoDone) (take_items S items m)))
+    → (has_done items ≡ false → m.count + 1 < 1000 → (let m' = take_items S items m in P (record m' { count = m.count + 1 })))
+    → (has_done items ≡ true → P (greeted r S (take_items S items m))) → P (hello_line r S items m)
 unfolding hello_line
 hello_outcome r White items m P ends counts done =
     by_test P (has_done items) done (λ more. by_test P (nat_le 1000 (m.count + 1)) (λ h. ends more)
@@ -160,10 +160,10 @@ hello_outcome r Black items m P ends counts done =
 -- both handshakes are judged
 pub judged_outcome : (r : Rules) (m : Match) (P : Match → Type 0)
     → ((S : Colour) (f : MatchFault) → P (enter (Over (Faulted S f)) m)) → P (enter (Setup White) m)
-    → P (judged (lack r m.white.items) (lack r m.black.items) m)
+    → P (after_handshakes (lack r m.white.items) (lack r m.black.items) m)
 judged_outcome r m P ends on = at (lack r m.white.items) (lack r m.black.items)
   where
-    at : (w b : Option MatchFault) → P (judged w b m)
+    at : (w b : Option MatchFault) → P (after_handshakes w b m)
     at (Some f) b = ends White f
     at None (Some f) = ends Black f
     at None None = on
@@ -180,15 +180,15 @@ begun_outcome r m P ends on = at (r.verdict m.played)
 -- whatever a line of S says, in each phase that reads it
 pub record Lines (r : Rules) (S : Colour) (kind : LineKind) (moment : ℕ) (m : Match) (P : Match → Type 0) : Type 0 where
   pub hello_ends : m.phase ≡ Hello S → has_done (items_of_line kind) ≡ false
-      → P (over (Faulted S NoDone) (hear S (items_of_line kind) m))
+      → P (over (Faulted S NoDone) (take_items S (items_of_line kind) m))
   pub hello_counts : m.phase ≡ Hello S → has_done (items_of_line kind) ≡ false → m.count + 1 < 1000
-      → (let m' = hear S (items_of_line kind) m in P (record m' { count = m.count + 1 }))
+      → (let m' = take_items S (items_of_line kind) m in P (record m' { count = m.count + 1 }))
   pub hello_next : m.phase ≡ Hello White → S ≡ White → has_done (items_of_line kind) ≡ true
-      → P (enter (Hello Black) (hear S (items_of_line kind) m))
+      → P (enter (Hello Black) (take_items S (items_of_line kind) m))
   pub hello_judged : m.phase ≡ Hello Black → S ≡ Black → has_done (items_of_line kind) ≡ true
-      → (c : Colour) (f : MatchFault) → P (enter (Over (Faulted c f)) (hear S (items_of_line kind) m))
+      → (c : Colour) (f : MatchFault) → P (enter (Over (Faulted c f)) (take_items S (items_of_line kind) m))
   pub hello_done : m.phase ≡ Hello Black → S ≡ Black → has_done (items_of_line kind) ≡ true
-      → P (enter (Setup White) (hear S (items_of_line kind) m))
+      → P (enter (Setup White) (take_items S (items_of_line kind) m))
   pub setup_ends : m.phase ≡ Setup S → (reason : Reason) → IsNoWrite reason → P (over reason m)
   pub setup_counts : m.phase ≡ Setup S → is_pong 1 kind ≡ false → m.count + 1 < 10000
       → P (record m { count = m.count + 1 })
@@ -207,7 +207,7 @@ line_outcome r S kind moment m P h l = at m.phase S refl h l
     at (Hello White) White e h l = hello_outcome r White (items_of_line kind) m P (l.hello_ends e) (l.hello_counts e)
         (l.hello_next e refl)
     at (Hello Black) Black e h l = hello_outcome r Black (items_of_line kind) m P (l.hello_ends e) (l.hello_counts e)
-        (λ done. judged_outcome r (hear Black (items_of_line kind) m) P (l.hello_judged e refl done)
+        (λ done. judged_outcome r (take_items Black (items_of_line kind) m) P (l.hello_judged e refl done)
         (l.hello_done e refl done))
     at (Hello White) Black e h l = cc
     at (Hello Black) White e h l = cc
@@ -261,7 +261,7 @@ not_other White = refl
 not_other Black = refl
 
 pub event_outcome : (r : Rules) (due : Colour → List SentLine) (m : Match) (e : Event) (P : Match → Type 0)
-    → fits_next due m e ≡ true → Events r m e P → P (after r m e)
+    → fits_next due m e ≡ true → Events r m e P → P (match_after r m e)
 event_outcome r due m (Line S text moment) P h v =
     line_outcome r S (line_kind text) moment m P h (v.line S text moment refl h)
 event_outcome r due m (Opened S moment) P h v = v.opened S moment refl (opens_at m.phase S h)
@@ -271,10 +271,10 @@ event_outcome r due m (FailsToWrite S) P h v = v.faulted S Write (and_first (is_
 
 -- what each event that fits keeps is so at the end
 pub kept_by : (r : Rules) (P : Match → Type 0)
-    → ((due : Colour → List SentLine) (m : Match) (e : Event) → fits_next due m e ≡ true → P m → P (after r m e))
+    → ((due : Colour → List SentLine) (m : Match) (e : Event) → fits_next due m e ≡ true → P m → P (match_after r m e))
     → (due : Colour → List SentLine) (m : Match) (T : List Event) → fits_from r due m T ≡ true → P m
     → P (match_from r m T)
 kept_by r P step due m [] f p = p
 kept_by r P step due m (e ∷ T) f p =
-    kept_by r P step (block r m (after r m e)) (after r m e) T (and_second (fits_next due m e) _ f)
+    kept_by r P step (block r m (match_after r m e)) (match_after r m e) T (and_second (fits_next due m e) _ f)
     (step due m e (and_first (fits_next due m e) _ f) p)

@@ -9,10 +9,10 @@ use Rattle.chess_game.specs.declared.ends.Verdict.{Verdict}
 use Rattle.engine_lines.specs.EngineLines.{LineKind, line_kind, Features, Moves, Resigns, OffersDraw, ClaimsDraw, ClaimsWin, Rejects, Answers, SaysElse}
 use Rattle.engine_lines.specs.Items.{Item, has_done}
 use Rattle.chess_match.specs.laws.Laws.{move_said, moves_said, lines_after_hello, lines_after_pong, moves_of, AreRead, MovesAreRead, is_pong}
-use Rattle.chess_match.specs.Match.{Match, Event, Line, Opened, OutputEnds, FailsToRead, FailsToWrite, items_of_line, hear, start, over, enter, open_turn, played_by, after}
+use Rattle.chess_match.specs.Match.{Match, Event, Line, Opened, OutputEnds, FailsToRead, FailsToWrite, items_of_line, take_items, start, over, enter, open_turn, played_by, match_after}
 use Rattle.chess_match.specs.Rules.{Rules}
-use Rattle.chess_match.specs.Sent.{SentLine, block, entry}
-use Rattle.chess_match.specs.Transcript.{is_on, reads, opens, match_of, fits_next, fits_from, lines_of, line_in}
+use Rattle.chess_match.specs.Sent.{SentLine, block, lines_on_entering}
+use Rattle.chess_match.specs.Transcript.{is_on, reads, opens, match_of, fits_next, fits_from, lines_of_engine, line_in}
 use Rattle.chess_match.specs.declared.phase.Phase.{Phase}
 use Rattle.chess_match.specs.declared.phase.Phase.TheVariants.{Hello, Setup, SendTurn, AwaitMove, AwaitPong, Over}
 use Rattle.chess_match.specs.declared.reason.MatchFault.TheVariants.{NoDone}
@@ -270,10 +270,10 @@ turn_same Black t lines Black h = rw h refl
 
 hello_counts : (r : Rules) (d : Colour) (t : Option (List ℕ)) (items : List Item) (n : ℕ) (m : Match) → m.phase
     ≡ Hello d → has_done (items_of_line (line_kind t)) ≡ false
-    → (let m' = hear d items m in Steps r d t m (record m' { count = n }))
-hello_counts r White t items n m p h = let m' = hear White items m in on_steps r White t m (record m' { count = n })
+    → (let m' = take_items d items m in Steps r d t m (record m' { count = n }))
+hello_counts r White t items n m p h = let m' = take_items White items m in on_steps r White t m (record m' { count = n })
     (rw p refl) refl (λ lines S. rw p (hello_same White t lines S h))
-hello_counts r Black t items n m p h = let m' = hear Black items m in on_steps r Black t m (record m' { count = n })
+hello_counts r Black t items n m p h = let m' = take_items Black items m in on_steps r Black t m (record m' { count = n })
     (rw p refl) refl (λ lines S. rw p (hello_same Black t lines S h))
 
 before_same : (r : Rules) (d : Colour) (t : Option (List ℕ)) (m m' : Match) → m.phase ≡ AwaitMove d → m'.phase ≡ m.phase
@@ -296,13 +296,13 @@ played_phase Black move used m = (refl, refl)
 lines_step : (r : Rules) (d : Colour) (t : Option (List ℕ)) (n : ℕ) (m : Match) → Orderly r m
     → Lines r d (line_kind t) n m (λ m'. Steps r d t m m')
 lines_step r d t n m o = record {
-  hello_ends = λ p h. over_steps r d t m (over (Faulted d NoDone) (hear d items m)) refl (hear_played d items m);
+  hello_ends = λ p h. over_steps r d t m (over (Faulted d NoDone) (take_items d items m)) refl (hear_played d items m);
   hello_counts = λ p h few. hello_counts r d t items (m.count + 1) m p h;
-  hello_next = λ p s h. on_steps r d t m (enter (Hello Black) (hear d items m)) refl (hear_played d items m)
+  hello_next = λ p s h. on_steps r d t m (enter (Hello Black) (take_items d items m)) refl (hear_played d items m)
       (λ lines S. rw p (hello_next d t lines S s h));
-  hello_judged = λ p s h b f. over_steps r d t m (enter (Over (Faulted b f)) (hear d items m)) refl
+  hello_judged = λ p s h b f. over_steps r d t m (enter (Over (Faulted b f)) (take_items d items m)) refl
       (hear_played d items m);
-  hello_done = λ p s h. on_steps r d t m (enter (Setup White) (hear d items m)) refl (hear_played d items m)
+  hello_done = λ p s h. on_steps r d t m (enter (Setup White) (take_items d items m)) refl (hear_played d items m)
       (λ lines S. rw p (hello_done d t lines S s h));
   setup_ends = λ p reason w. over_steps r d t m (over reason m) refl refl;
   setup_counts = λ p h few. on_steps r d t m (record m { count = m.count + 1 }) (rw p refl) refl
@@ -356,7 +356,7 @@ lines_step r d t n m o = record {
 -- ---- the transcript
 
 abbrev pub lines_by : List Event → Colour → List (Option (List ℕ))
-lines_by T S = lines_of S T
+lines_by T S = lines_of_engine S T
 
 -- a line's moment is no part of it
 line_goes_on : (r : Rules) (m m' : Match) (d : Colour) (t : Option (List ℕ)) (n : ℕ) (due : Colour → List SentLine)
@@ -382,34 +382,34 @@ reads_from : (r : Rules) (due : Colour → List SentLine) (m : Match) (T : List 
     → Kept r m → Reads r m (match_from r m T) (lines_by T)
 reads_from r due m [] f k = λ c e. ([], sym (append-nil m.played), nothing_left m.phase c)
 reads_from r due m (Line d t n ∷ T) f k =
-    line_goes_on r m (after r m (Line d t n)) d t n (block r m (after r m (Line d t n))) T
+    line_goes_on r m (match_after r m (Line d t n)) d t n (block r m (match_after r m (Line d t n))) T
     (and_second (reads m.phase d) _ f)
     (line_outcome r d (line_kind t) n m (λ m'. Steps r d t m m') (and_first (reads m.phase d) _ f)
     (lines_step r d t n m k.0))
-    (reads_from r (block r m (after r m (Line d t n))) (after r m (Line d t n)) T (and_second (reads m.phase d) _ f)
+    (reads_from r (block r m (match_after r m (Line d t n))) (match_after r m (Line d t n)) T (and_second (reads m.phase d) _ f)
     (step r due m (Line d t n) (and_first (reads m.phase d) _ f) k))
 reads_from r due m (Opened d n ∷ T) f k =
-    opened_on r m d n (match_from r (after r m (Opened d n)) T) (lines_by T)
+    opened_on r m d n (match_from r (match_after r m (Opened d n)) T) (lines_by T)
     (opens_at m.phase d (and_first (opens m.phase d) _ f))
-    (reads_from r (block r m (after r m (Opened d n))) (after r m (Opened d n)) T (and_second (opens m.phase d) _ f)
+    (reads_from r (block r m (match_after r m (Opened d n))) (match_after r m (Opened d n)) T (and_second (opens m.phase d) _ f)
     (step r due m (Opened d n) (and_first (opens m.phase d) _ f) k))
 reads_from r due m (OutputEnds d ∷ T) f k =
-    stopped r m (after r m (OutputEnds d)) (block r m (after r m (OutputEnds d))) T refl refl
+    stopped r m (match_after r m (OutputEnds d)) (block r m (match_after r m (OutputEnds d))) T refl refl
     (and_second (fits_next due m (OutputEnds d)) _ f)
 reads_from r due m (FailsToRead d ∷ T) f k =
-    stopped r m (after r m (FailsToRead d)) (block r m (after r m (FailsToRead d))) T refl refl
+    stopped r m (match_after r m (FailsToRead d)) (block r m (match_after r m (FailsToRead d))) T refl refl
     (and_second (fits_next due m (FailsToRead d)) _ f)
 reads_from r due m (FailsToWrite d ∷ T) f k =
-    stopped r m (after r m (FailsToWrite d)) (block r m (after r m (FailsToWrite d))) T refl refl
+    stopped r m (match_after r m (FailsToWrite d)) (block r m (match_after r m (FailsToWrite d))) T refl refl
     (and_second (fits_next due m (FailsToWrite d)) _ f)
 
 pub moves_are_read : MovesAreRead
 moves_are_read r T f =
     let all : Reads r start (match_of r T) (lines_by T) =
-    reads_from r (entry r start) start T f ((refl, refl), refl, refl) in
+    reads_from r (lines_on_entering r start) start T f ((refl, refl), refl, refl) in
     read (all r.first refl)
   where
     read : (more : List Move) × ((match_of r T).played ≡ more)
-        × AreRead r [] more (moves_of (lines_of r.first T)) (moves_of (lines_of (other r.first) T))
-        → AreRead r [] (match_of r T).played (moves_of (lines_of r.first T)) (moves_of (lines_of (other r.first) T))
+        × AreRead r [] more (moves_of (lines_of_engine r.first T)) (moves_of (lines_of_engine (other r.first) T))
+        → AreRead r [] (match_of r T).played (moves_of (lines_of_engine r.first T)) (moves_of (lines_of_engine (other r.first) T))
     read h = rw h.1 h.2

@@ -8,12 +8,12 @@ use Rattle.chess_base.specs.declared.man.Colour.{Colour}
 use Rattle.byte_devices.specs.Devices.{InputState, OutputState, risen}
 use Rattle.chess_cecp.specs.Run.{risen_if}
 use Rattle.chess_match.specs.laws.Laws.{ending_in, Streams, IsOf, ShowsAll, OnlyOneOfARun}
-use Rattle.chess_match.specs.Match.{Match, Event, Line, Opened, OutputEnds, FailsToRead, FailsToWrite, start, after}
+use Rattle.chess_match.specs.Match.{Match, Event, Line, Opened, OutputEnds, FailsToRead, FailsToWrite, start, match_after}
 use Rattle.chess_match.specs.declared.phase.Phase.{Phase}
 use Rattle.chess_match.specs.declared.phase.Phase.TheVariants.{Over}
 use Rattle.chess_match.specs.Rules.{Rules}
 use Rattle.chess_match.specs.Run.{Ports, engine_lines, ReadFrom, Written, IsTranscript}
-use Rattle.chess_match.specs.Sent.{SentLine, block, entry}
+use Rattle.chess_match.specs.Sent.{SentLine, block, lines_on_entering}
 use Rattle.chess_match.specs.Transcript.{fits_next, fits_from, blocks, moments_of, has_fault}
 use Rattle.chess_match.specs.declared.reason.Reason.{Reason}
 use Rattle.chess_match.proofs.OneLaw.{over_stops, only_one}
@@ -53,23 +53,23 @@ no_failure : (r : Rules) (S : Colour) (due : Colour → List SentLine) (m : Matc
     ≡ true → has_fault Ended S T ≡ true → has_fault Read S T ≡ false
 no_failure r S due m [] f h = refl
 no_failure r S due m (Line c t n ∷ T) f h =
-    no_failure r S (block r m (after r m (Line c t n))) (after r m (Line c t n)) T
+    no_failure r S (block r m (match_after r m (Line c t n))) (match_after r m (Line c t n)) T
     (and_second (fits_next due m (Line c t n)) _ f) h
 no_failure r S due m (Opened c n ∷ T) f h =
-    no_failure r S (block r m (after r m (Opened c n))) (after r m (Opened c n)) T
+    no_failure r S (block r m (match_after r m (Opened c n))) (match_after r m (Opened c n)) T
     (and_second (fits_next due m (Opened c n)) _ f) h
 no_failure r S due m (OutputEnds c ∷ T) f h =
     ap (λ (U : List Event). has_fault Read S U)
-    (over_stops r (block r m (after r m (OutputEnds c))) (after r m (OutputEnds c)) T refl
+    (over_stops r (block r m (match_after r m (OutputEnds c))) (match_after r m (OutputEnds c)) T refl
     (and_second (fits_next due m (OutputEnds c)) _ f))
 no_failure r S due m (FailsToRead c ∷ T) f h =
-    stopped (over_stops r (block r m (after r m (FailsToRead c))) (after r m (FailsToRead c)) T refl
+    stopped (over_stops r (block r m (match_after r m (FailsToRead c))) (match_after r m (FailsToRead c)) T refl
     (and_second (fits_next due m (FailsToRead c)) _ f)) h
   where
     stopped : {A : Type 0} → T ≡ [] → has_fault Ended S T ≡ true → A
     stopped e h = cc
 no_failure r S due m (FailsToWrite c ∷ T) f h =
-    no_failure r S (block r m (after r m (FailsToWrite c))) (after r m (FailsToWrite c)) T
+    no_failure r S (block r m (match_after r m (FailsToWrite c))) (match_after r m (FailsToWrite c)) T
     (and_second (fits_next due m (FailsToWrite c)) _ f) h
 
 abbrev moment_or : Option ℕ → ℕ
@@ -97,7 +97,7 @@ is_of : (r : Rules) (T U : List Event) (reason : Reason) (failed : Colour → Bo
     → ((S : Colour) → has_fault Read S T ≡ has_fault Read S U) → IsOf (given_by T given coming) U
 is_of r T U reason failed w w' coming coming' given i t heard same = record {
   lines = λ S. (heard S).lines;
-  ends = λ S h. (((heard S).at_end h).0, same S ∙ no_failure r S (entry r start) start U i.fitting h);
+  ends = λ S h. (((heard S).at_end h).0, same S ∙ no_failure r S (lines_on_entering r start) start U i.fitting h);
   failures = λ S h. ((heard S).at_failure h, same S ∙ h);
   moments = λ n h. told_moment (coming n) (slice_get (moments_of U) n) (t.moments n) (i.moments.known n h);
   writes = λ S. none_written (failed S) (has_fault Write S U)

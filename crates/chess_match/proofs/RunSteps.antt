@@ -14,11 +14,11 @@ use Rattle.chess_match.specs.ties.Chess.{Plays}
 use Rattle.chess_match.specs.ties.Delivering.{Delivered, event_read}
 use Rattle.chess_match.proofs.Hearing.{HearsAt}
 use Rattle.engine_lines.specs.Levels.{LevelSeen}
-use Rattle.chess_match.specs.Match.{Match, Event, start, after}
+use Rattle.chess_match.specs.Match.{Match, Event, start, match_after}
 use Rattle.chess_match.specs.Notes.{Noted, WasNoted, Happened}
 use Rattle.chess_match.specs.Rules.{Rules, rules_of}
-use Rattle.chess_match.specs.Run.{Asked}
-use Rattle.chess_match.specs.Sent.{block, entry}
+use Rattle.chess_match.specs.Run.{ReadsClock}
+use Rattle.chess_match.specs.Sent.{block, lines_on_entering}
 use Rattle.chess_match.specs.ties.Represents.{given_block, nothing_said}
 use Rattle.chess_match.specs.Transcript.{match_of, reads, opens, moment_in}
 use Rattle.chess_match.proofs.UnderWay.{IsUnderWay, steps_left}
@@ -36,7 +36,7 @@ pub rules_level : (begin : Setup) (level : LevelSeen) (limit : ℕ) → (rules_o
 unfolding rules_of
 rules_level begin level limit = refl
 
-pub plays_anew : (g h : game.Seen) (begin : Setup) (level : LevelSeen) → h ≡ game.at g (from_start begin)
+pub plays_anew : (g h : game.Seen) (begin : Setup) (level : LevelSeen) → h ≡ game.with_state g (from_start begin)
     → Plays h (rules_of begin level g.limit)
 plays_anew g h begin level e = subst (λ (x : game.Seen). Plays x (rules_of begin level g.limit)) (sym e)
     (level, refl, refl)
@@ -51,7 +51,7 @@ plays_on g h begin level s l d = (
 )
 
 entry_given : (r : Rules) (S : Colour)
-    → given_block r (record { draw = None; entered = true }) nothing_said start S ≡ entry r start S
+    → given_block r (record { draw = None; entered = true }) nothing_said start S ≡ lines_on_entering r start S
 unfolding given_block
 entry_given r S = refl
 
@@ -64,7 +64,7 @@ pub begun : (r : Rules) (core : MatchState) (played : List Move) (failed : Colou
 begun r core played failed n held w w' coming notes notes' none d =
     started r core played failed n held w w' coming notes notes' none
     (delivered_by r core played start
-    (given_block r (record { draw = None; entered = true }) nothing_said start) (λ S. entry r start S)
+    (given_block r (record { draw = None; entered = true }) nothing_said start) (λ S. lines_on_entering r start S)
     White w w' failed notes notes' (entry_given r) d)
 
 -- ---- a line, an end, or a read that failed
@@ -77,10 +77,10 @@ pub heard_on : {E : Type 0} (r : Rules) (T : List Event) (S : Colour) (moment : 
     → IsUnderWay r T core played failed n n' held w w' coming coming' notes notes' → reads core.phase S ≡ true
     → NextLine ENGINE_LINE_LEN (n' S) (n'' S) (held S) (held' S) result → n'' (other S) ≡ n' (other S)
     → held' (other S) ≡ held (other S)
-    → Asked coming' coming'' (moment_in (event_read S moment result))
+    → ReadsClock coming' coming'' (moment_in (event_read S moment result))
     → WasNoted notes' between (Happened (event_read S moment result) ∷ [])
-    → Delivered r core' played' (after r (match_of r T) (event_read S moment result))
-    (block r (match_of r T) (after r (match_of r T) (event_read S moment result))) S w' w'' failed'
+    → Delivered r core' played' (match_after r (match_of r T) (event_read S moment result))
+    (block r (match_of r T) (match_after r (match_of r T) (event_read S moment result))) S w' w'' failed'
     between notes''
     → (T' : List Event) × IsUnderWay r T' core' played' failed' n n'' held' w w'' coming coming'' notes notes''
 heard_on r T S moment result core core' played played' failed failed' n n' n'' held held' w w' w'' coming coming'

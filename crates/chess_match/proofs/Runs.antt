@@ -5,12 +5,12 @@ use Rattle.std.specs.Prelude.{if◌then◌else◌, slice_get}
 use Rattle.std.specs.Option.{IfSome}
 use Rattle.chess_base.specs.declared.man.Colour.{Colour}
 use Rattle.byte_devices.specs.Devices.{OutputState}
-use Rattle.chess_match.specs.Match.{Match, Event, Line, Opened, OutputEnds, FailsToRead, FailsToWrite, start, after}
+use Rattle.chess_match.specs.Match.{Match, Event, Line, Opened, OutputEnds, FailsToRead, FailsToWrite, start, match_after}
 use Rattle.chess_match.specs.Rules.{Rules}
-use Rattle.chess_match.specs.Run.{Flushed, Written, Asked}
-use Rattle.chess_match.specs.Sent.{SentLine, block, entry, bytes_of}
+use Rattle.chess_match.specs.Run.{Flushed, Written, ReadsClock}
+use Rattle.chess_match.specs.Sent.{SentLine, block, lines_on_entering, bytes_of}
 use Rattle.chess_match.specs.ties.Reported.{SendsIf}
-use Rattle.chess_match.specs.Transcript.{match_of, fits_from, fits_next, fits, is_dropped, is_fault, block_at, blocks_from, blocks, joined_blocks, line_in, lines_of, moment_in, moments_of, has_fault}
+use Rattle.chess_match.specs.Transcript.{match_of, fits_from, fits_next, fits, is_dropped, is_fault, block_at, blocks_from, blocks, joined_blocks, line_in, lines_of_engine, moment_in, moments_of, has_fault}
 use Rattle.chess_match.proofs.Flushes.{flushed_more, failed_behind}
 use Rattle.chess_match.proofs.Sends.{bytes_of-append}
 use Rattle.chess_match.specs.ties.Steps.{match_from}
@@ -28,17 +28,17 @@ is_sound (FailsToWrite c) = false
 pub match_from-append : (r : Rules) (m : Match) (T U : List Event)
     → match_from r m (T ++ U) ≡ match_from r (match_from r m T) U
 match_from-append r m [] U = refl
-match_from-append r m (x ∷ T) U = match_from-append r (after r m x) T U
+match_from-append r m (x ∷ T) U = match_from-append r (match_after r m x) T U
 
 pub match_of-append : (r : Rules) (T U : List Event) → match_of r (T ++ U) ≡ match_from r (match_of r T) U
 match_of-append r T U = match_from-append r start T U
 
 -- ---- what passed
 
-lines_of-append : (S : Colour) (T U : List Event) → lines_of S (T ++ U) ≡ lines_of S T ++ lines_of S U
+lines_of-append : (S : Colour) (T U : List Event) → lines_of_engine S (T ++ U) ≡ lines_of_engine S T ++ lines_of_engine S U
 lines_of-append S [] U = refl
 lines_of-append S (x ∷ T) U = ap (λ ls. line_in S x ++ ls) (lines_of-append S T U)
-    ∙ sym (append_assoc (line_in S x) (lines_of S T) (lines_of S U))
+    ∙ sym (append_assoc (line_in S x) (lines_of_engine S T) (lines_of_engine S U))
 
 moments_of-append : (T U : List Event) → moments_of (T ++ U) ≡ moments_of T ++ moments_of U
 moments_of-append [] U = refl
@@ -57,7 +57,7 @@ has_fault-append f S (x ∷ T) U = ap (λ b. is_fault f S x || b) (has_fault-app
 
 -- nothing was read in what follows
 pub record IsTail (U : List Event) : Type 0 where
-  pub lines : (S : Colour) → lines_of S U ≡ []
+  pub lines : (S : Colour) → lines_of_engine S U ≡ []
   pub moments : moments_of U ≡ []
   pub ends : (S : Colour) → has_fault Ended S U ≡ false
   pub failures : (S : Colour) → has_fault Read S U ≡ false
@@ -69,9 +69,9 @@ pub failed_tail : (c : Colour) → IsTail (FailsToWrite c ∷ [])
 failed_tail c = record { lines = λ S. refl; moments = refl; ends = λ S. refl; failures = λ S. refl }
 
 pub lines_more : (S : Colour) (T : List Event) (e : Event) (U : List Event) → IsTail U
-    → lines_of S (T ++ e ∷ U) ≡ lines_of S T ++ line_in S e
+    → lines_of_engine S (T ++ e ∷ U) ≡ lines_of_engine S T ++ line_in S e
 lines_more S T e U t = lines_of-append S T (e ∷ U)
-    ∙ ap (λ ls. lines_of S T ++ ls) (ap (λ ls. line_in S e ++ ls) (t.lines S) ∙ append-nil (line_in S e))
+    ∙ ap (λ ls. lines_of_engine S T ++ ls) (ap (λ ls. line_in S e ++ ls) (t.lines S) ∙ append-nil (line_in S e))
 
 pub moments_more : (T : List Event) (e : Event) (U : List Event) → IsTail U → moments_of (T ++ e ∷ U) ≡ moments_of T
     ++ moment_in e
@@ -112,13 +112,13 @@ fits_from-append : (r : Rules) (due : Colour → List SentLine) (m : Match) (T :
     → fits_from r due m (T ++ e ∷ U) ≡ true
 fits_from-append r due m [] e U h f n = rw (due_alike due nothing_due m e h) n
 fits_from-append r due m (x ∷ T) e U h f n =
-    let parts : (fits_next due m x ≡ true) × (fits_from r (block r m (after r m x)) (after r m x) T ≡ true) =
+    let parts : (fits_next due m x ≡ true) × (fits_from r (block r m (match_after r m x)) (match_after r m x) T ≡ true) =
     both (fits_next due m x) _ f in
-    rw (parts.0) (fits_from-append r (block r m (after r m x)) (after r m x) T e U h parts.1 n)
+    rw (parts.0) (fits_from-append r (block r m (match_after r m x)) (match_after r m x) T e U h parts.1 n)
 
 pub fits-append : (r : Rules) (T : List Event) (e : Event) (U : List Event) → is_sound e ≡ true → fits r T ≡ true
     → fits_from r nothing_due (match_of r T) (e ∷ U) ≡ true → fits r (T ++ e ∷ U) ≡ true
-fits-append r T e U h f n = fits_from-append r (entry r start) start T e U h f n
+fits-append r T e U h f n = fits_from-append r (lines_on_entering r start) start T e U h f n
 
 -- ---- blocks
 
@@ -161,24 +161,24 @@ blocks_from-append : (r : Rules) (S : Colour) (m : Match) (T : List Event) (e : 
     → blocks_from r S m (T ++ e ∷ U) ≡ blocks_from r S m T ++ blocks_from r S (match_from r m T) (e ∷ U)
 blocks_from-append r S m [] e U h = refl
 blocks_from-append r S m (x ∷ []) e U h =
-    ap (λ (b : List (List SentLine)). b ++ blocks_from r S (after r m x) (e ∷ U))
+    ap (λ (b : List (List SentLine)). b ++ blocks_from r S (match_after r m x) (e ∷ U))
     (same_at r m x e U S h ∙ sym (append-nil (block_at r m x [] S)))
 blocks_from-append r S m (x ∷ y ∷ T) e U h =
-    ap (λ (b : Bool). (if b || is_fault Write S x then [] else block r m (after r m x) S ∷ []) ++ blocks_from r S
-    (after r m x) (y ∷ T ++ e ∷ U)) (dropped-longer x y T (e ∷ U) S)
+    ap (λ (b : Bool). (if b || is_fault Write S x then [] else block r m (match_after r m x) S ∷ []) ++ blocks_from r S
+    (match_after r m x) (y ∷ T ++ e ∷ U)) (dropped-longer x y T (e ∷ U) S)
     ∙ ap (λ (bs : List (List SentLine)). block_at r m x (y ∷ T) S ++ bs)
-    (blocks_from-append r S (after r m x) (y ∷ T) e U h)
-    ∙ sym (append_assoc (block_at r m x (y ∷ T) S) (blocks_from r S (after r m x) (y ∷ T))
-    (blocks_from r S (match_from r (after r m x) (y ∷ T)) (e ∷ U)))
+    (blocks_from-append r S (match_after r m x) (y ∷ T) e U h)
+    ∙ sym (append_assoc (block_at r m x (y ∷ T) S) (blocks_from r S (match_after r m x) (y ∷ T))
+    (blocks_from r S (match_from r (match_after r m x) (y ∷ T)) (e ∷ U)))
 
 pub blocks-append : (r : Rules) (S : Colour) (T : List Event) (e : Event) (U : List Event) → is_sound e ≡ true
     → blocks r S (T ++ e ∷ U) ≡ blocks r S T ++ blocks_from r S (match_of r T) (e ∷ U)
-blocks-append r S T e U h = ap (λ (bs : List (List SentLine)). entry r start S ∷ bs)
+blocks-append r S T e U h = ap (λ (bs : List (List SentLine)). lines_on_entering r start S ∷ bs)
     (blocks_from-append r S start T e U h)
 
 -- the block of a last event at which no write fails
 pub block_alone : (r : Rules) (S : Colour) (m : Match) (e : Event) → is_sound e ≡ true
-    → blocks_from r S m (e ∷ []) ≡ block r m (after r m e) S ∷ []
+    → blocks_from r S m (e ∷ []) ≡ block r m (match_after r m e) S ∷ []
 block_alone r S m (Line c t n) h = refl
 block_alone r S m (Opened c n) h = refl
 block_alone r S m (OutputEnds c) h = refl
@@ -216,7 +216,7 @@ some_of : {P Q : ℕ → Type 0} (o : Option ℕ) → ((t : ℕ) → P t → Q t
 some_of None f h = h
 some_of (Some t) f h = f t h
 
-pub asked_none : (coming : ℕ → Option ℕ) → Asked coming coming []
+pub asked_none : (coming : ℕ → Option ℕ) → ReadsClock coming coming []
 asked_none coming = record { known = λ n h. absurd (omega (arith, h)); rest = λ n. ap coming (sym (zero-add n)) }
 
 first_told : (coming : ℕ → Option ℕ) (moment n : ℕ) → IfSome (coming 0) (λ t. moment ≡ t) → n < 1
@@ -225,7 +225,7 @@ first_told coming moment zero h few = some_of (coming 0) (λ t e. ap Some e) h
 first_told coming moment (suc n) h few = absurd (omega (arith, few))
 
 pub asked_one : (coming coming' : ℕ → Option ℕ) (moment : ℕ) → IfSome (coming 0) (λ t. moment ≡ t)
-    → ((n : ℕ) → coming' n ≡ coming (n + 1)) → Asked coming coming' (moment ∷ [])
+    → ((n : ℕ) → coming' n ≡ coming (n + 1)) → ReadsClock coming coming' (moment ∷ [])
 asked_one coming coming' moment h rest = record {
   known = λ n few. first_told coming moment n h few;
   rest = λ n. let e : n + 1 ≡ 1 + n = omega arith in rest n ∙ ap coming e;
@@ -242,7 +242,7 @@ told_at (x ∷ xs) ys c c' (suc n) a b e h =
     told_at xs ys (λ k. c (suc k)) c' n (λ k f. a (suc k) (omega (arith, f))) b
     (λ k. let s : length (x ∷ xs) + k ≡ suc (length xs + k) = omega arith in e k ∙ ap c s) (omega (arith, h))
 
-pub asked_more : (c c' c'' : ℕ → Option ℕ) (xs ys : List ℕ) → Asked c c' xs → Asked c' c'' ys → Asked c c'' (xs ++ ys)
+pub asked_more : (c c' c'' : ℕ → Option ℕ) (xs ys : List ℕ) → ReadsClock c c' xs → ReadsClock c' c'' ys → ReadsClock c c'' (xs ++ ys)
 asked_more c c' c'' xs ys a b = record {
   known = λ n h. told_at xs ys c c' n a.known b.known a.rest h;
   rest = λ n. let s : length xs + (length ys + n) ≡ length (xs ++ ys) + n = omega (arith, length-append xs ys) in

@@ -3,7 +3,7 @@ use Rattle.std.proofs.Common.{◌≡◌, List, refl}
 use Rattle.chess_base.specs.declared.man.Colour.{Colour}
 use Rattle.chess_base.specs.declared.man.Colour.TheVariants.{White, Black}
 use Rattle.engine_lines.specs.Items.{Item}
-use Rattle.chess_match.specs.Match.{Match, seat, hear}
+use Rattle.chess_match.specs.Match.{Match, seat, take_items}
 
 pub items_same : (m m' : Match) → m'.white.items ≡ m.white.items → m'.black.items ≡ m.black.items → (S : Colour)
     → (seat m' S).items ≡ (seat m S).items
@@ -17,14 +17,14 @@ used_same m m' w b Black = b
 
 -- what a line of a handshake leaves as it was
 pub hear_used : (S : Colour) (items : List Item) (m : Match)
-    → ((hear S items m).white.used ≡ m.white.used) × ((hear S items m).black.used ≡ m.black.used)
+    → ((take_items S items m).white.used ≡ m.white.used) × ((take_items S items m).black.used ≡ m.black.used)
 hear_used White items m = (refl, refl)
 hear_used Black items m = (refl, refl)
 
-pub hear_played : (S : Colour) (items : List Item) (m : Match) → (hear S items m).played ≡ m.played
+pub hear_played : (S : Colour) (items : List Item) (m : Match) → (take_items S items m).played ≡ m.played
 hear_played White items m = refl
 hear_played Black items m = refl
 
-pub hear_untold : (S : Colour) (items : List Item) (m : Match) → (hear S items m).unsent_to ≡ m.unsent_to
+pub hear_untold : (S : Colour) (items : List Item) (m : Match) → (take_items S items m).unsent_to ≡ m.unsent_to
 hear_untold White items m = refl
 hear_untold Black items m = refl

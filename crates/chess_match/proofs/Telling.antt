@@ -11,9 +11,9 @@ use Rattle.chess_base.specs.declared.man.Move.{Move}
 use Rattle.chess_base.specs.Men.{other, same_colour}
 use Rattle.chess_base.proofs.MenFacts.{same_colour-true}
 use Rattle.engine_lines.specs.EngineLines.{LineKind, line_kind}
-use Rattle.chess_match.specs.Match.{Match, Event, Line, Opened, OutputEnds, FailsToRead, FailsToWrite, items_of_line, hear, over, open_turn, played_by, after}
+use Rattle.chess_match.specs.Match.{Match, Event, Line, Opened, OutputEnds, FailsToRead, FailsToWrite, items_of_line, take_items, over, open_turn, played_by, match_after}
 use Rattle.chess_match.specs.Rules.{Rules}
-use Rattle.chess_match.specs.Sent.{SentLine, Says, block, entry, entry_to, is_same_phase}
+use Rattle.chess_match.specs.Sent.{SentLine, Says, block, lines_on_entering, entry_to, is_same_phase}
 use Rattle.chess_match.specs.Transcript.{is_on, reads, fits_next, fits_from, is_dropped, is_fault, blocks_from, joined_blocks}
 use Rattle.chess_match.specs.declared.phase.Phase.{Phase}
 use Rattle.chess_match.specs.declared.phase.Phase.TheVariants.{SendTurn, Over}
@@ -27,7 +27,7 @@ use Rattle.chess_match.specs.ties.Steps.{match_from}
 
 -- what S is sent of a kind where a match goes from m to m'
 abbrev pub now : {A : Type 0} → (SentLine → List A) → Rules → Colour → Match → Match → List A
-now f r S m m' = if is_same_phase m.phase m'.phase then [] else flat_map f (entry r m' S)
+now f r S m m' = if is_same_phase m.phase m'.phase then [] else flat_map f (lines_on_entering r m' S)
 
 joined_more : {A : Type 0} (X t R : List A) (Q : List A → Type 0) {M : List A} → M ≡ t ++ R → Q ((X ++ t) ++ R)
     → Q (X ++ M)
@@ -37,34 +37,34 @@ joined_more X t R Q e q = rw (e, ← append_assoc X t R) q
 pub gathered : {A : Type 0} (f : SentLine → List A) → ((text : List ℕ) → f (Says text) ≡ [])
     → (r : Rules) (S : Colour) (Q : List A → Match → Type 0)
     → ((due : Colour → List SentLine) (m : Match) (e : Event) (X : List A) → fits_next due m e ≡ true → Q X m
-    → Q (X ++ now f r S m (after r m e)) (after r m e))
+    → Q (X ++ now f r S m (match_after r m e)) (match_after r m e))
     → ((due : Colour → List SentLine) (m : Match) (e : Event) (T : List Event) → fits_from r due m (e ∷ T) ≡ true
-    → is_dropped e T S || is_fault Write S e ≡ true → now f r S m (after r m e) ≡ [])
+    → is_dropped e T S || is_fault Write S e ≡ true → now f r S m (match_after r m e) ≡ [])
     → (due : Colour → List SentLine) (m : Match) (T : List Event) (X : List A) → fits_from r due m T ≡ true → Q X m
     → Q (X ++ flat_map f (joined_blocks (blocks_from r S m T))) (match_from r m T)
 gathered f a r S Q step unsent due m [] X fits q = rw (append-nil X) q
 gathered {A} f a r S Q step unsent due m (e ∷ T) X fits q =
-    joined_more X (now f r S m (after r m e)) (flat_map f (joined_blocks (blocks_from r S (after r m e) T)))
-    (λ (l : List A). Q l (match_from r (after r m e) T)) (told (is_dropped e T S || is_fault Write S e) refl)
-    (gathered f a r S Q step unsent (block r m (after r m e)) (after r m e) T (X ++ now f r S m (after r m e))
+    joined_more X (now f r S m (match_after r m e)) (flat_map f (joined_blocks (blocks_from r S (match_after r m e) T)))
+    (λ (l : List A). Q l (match_from r (match_after r m e) T)) (told (is_dropped e T S || is_fault Write S e) refl)
+    (gathered f a r S Q step unsent (block r m (match_after r m e)) (match_after r m e) T (X ++ now f r S m (match_after r m e))
     (and_second (fits_next due m e) _ fits)
     (step due m e X (and_first (fits_next due m e) _ fits) q))
   where
-    at : (b : Bool) → is_dropped e T S || is_fault Write S e ≡ b → flat_map f (if b then [] else block r m (after r m e) S)
-        ≡ now f r S m (after r m e)
+    at : (b : Bool) → is_dropped e T S || is_fault Write S e ≡ b → flat_map f (if b then [] else block r m (match_after r m e) S)
+        ≡ now f r S m (match_after r m e)
     at true h = sym (unsent due m e T fits h)
-    at false h = of_block f a r m (after r m e) S
+    at false h = of_block f a r m (match_after r m e) S
 
     told : (b : Bool) → is_dropped e T S || is_fault Write S e ≡ b
-        → flat_map f (joined_blocks ((if b then [] else block r m (after r m e) S ∷ [])
-        ++ blocks_from r S (after r m e) T))
-        ≡ now f r S m (after r m e) ++ flat_map f (joined_blocks (blocks_from r S (after r m e) T))
+        → flat_map f (joined_blocks ((if b then [] else block r m (match_after r m e) S ∷ [])
+        ++ blocks_from r S (match_after r m e) T))
+        ≡ now f r S m (match_after r m e) ++ flat_map f (joined_blocks (blocks_from r S (match_after r m e) T))
     told b h =
         ap (λ (ls : List SentLine). flat_map f ls)
-        (joined_at b (block r m (after r m e) S) (blocks_from r S (after r m e) T))
-        ∙ flat_map-append f (if b then [] else block r m (after r m e) S)
-        (joined_blocks (blocks_from r S (after r m e) T))
-        ∙ ap (λ (l : List A). l ++ flat_map f (joined_blocks (blocks_from r S (after r m e) T))) (at b h)
+        (joined_at b (block r m (match_after r m e) S) (blocks_from r S (match_after r m e) T))
+        ∙ flat_map-append f (if b then [] else block r m (match_after r m e) S)
+        (joined_blocks (blocks_from r S (match_after r m e) T))
+        ∙ ap (λ (l : List A). l ++ flat_map f (joined_blocks (blocks_from r S (match_after r m e) T))) (at b h)
 
 -- ---- lines that openings alone hold
 
@@ -83,7 +83,7 @@ same_tells_none f r S m m' e here on some = rw (e, reads_stays m.phase S here) r
 quiet_tells_none : {A : Type 0} (f : SentLine → List A) (r : Rules) (S : Colour) (m m' : Match) → InOpenings f
     → is_opening m'.phase ≡ false → TellsNone f r S m m'
 quiet_tells_none f r S m m' i e on some =
-    if_nil (is_same_phase m.phase m'.phase) (flat_map f (entry r m' (other S))) (i r m' (other S) m'.phase e)
+    if_nil (is_same_phase m.phase m'.phase) (flat_map f (lines_on_entering r m' (other S))) (i r m' (other S) m'.phase e)
 
 opening_apart : (r : Rules) (S c : Colour) (m : Match) → same_colour c S ≡ false → is_same_phase m.phase (SendTurn c)
     ≡ false → block r m (open_turn c m) S ≡ []
@@ -119,7 +119,7 @@ lines_none : {A : Type 0} (f : SentLine → List A) (r : Rules) (S : Colour) (ki
 lines_none f r S kind moment m i here = record {
   hello_ends = λ p d on some. not_on on;
   hello_counts = λ p d few. same_tells_none f r S m
-      (let m' = hear S (items_of_line kind) m in record m' { count = m.count + 1 }) (hear_phase S (items_of_line kind) m)
+      (let m' = take_items S (items_of_line kind) m in record m' { count = m.count + 1 }) (hear_phase S (items_of_line kind) m)
       here;
   hello_next = λ p s d. quiet_tells_none f r S m _ i refl;
   hello_judged = λ p s d c x on some. not_on on;
@@ -152,26 +152,26 @@ other_is Black Black h = cc
 -- a block that isn't sent holds none of these
 pub unsent : {A : Type 0} (f : SentLine → List A) (r : Rules) (S : Colour) → InOpenings f
     → (due : Colour → List SentLine) (m : Match) (e : Event) (T : List Event) → fits_from r due m (e ∷ T) ≡ true
-    → is_dropped e T S || is_fault Write S e ≡ true → now f r S m (after r m e) ≡ []
+    → is_dropped e T S || is_fault Write S e ≡ true → now f r S m (match_after r m e) ≡ []
 unsent f r S i due m (FailsToWrite c) T fits h =
-    if_nil (is_same_phase m.phase (Over (Faulted c Write))) (flat_map f (entry r (over (Faulted c Write) m) S))
+    if_nil (is_same_phase m.phase (Over (Faulted c Write))) (flat_map f (lines_on_entering r (over (Faulted c Write) m) S))
     (i r (over (Faulted c Write) m) S (Over (Faulted c Write)) refl)
 unsent f r S i due m (Line c t n) (FailsToWrite d ∷ T) fits h =
     dropped (and_first (reads m.phase c) _ fits) (and_first _ _ (and_second (reads m.phase c) _ fits))
     (sym (or-false (same_colour c d && not (same_colour d S))) ∙ h)
   where
-    dropped : reads m.phase c ≡ true → fits_next (block r m (after r m (Line c t n))) (after r m (Line c t n))
+    dropped : reads m.phase c ≡ true → fits_next (block r m (match_after r m (Line c t n))) (match_after r m (Line c t n))
         (FailsToWrite d) ≡ true → same_colour c d && not (same_colour d S) ≡ true
-        → now f r S m (after r m (Line c t n)) ≡ []
+        → now f r S m (match_after r m (Line c t n)) ≡ []
     dropped here g h =
         let same : c ≡ d = same_colour-true c d (and_first (same_colour c d) _ h) in
         let apart : S ≡ other d = other_is d S (not-true (same_colour d S) (and_second (same_colour c d) _ h)) in
         let is : S ≡ other c = apart ∙ ap other (sym same) in
         rw is (line_outcome r c (line_kind t) n m (λ m''. TellsNone f r c m m'') here
         (lines_none f r c (line_kind t) n m i here)
-        (and_first (is_on (after r m (Line c t n)).phase) _ g)
-        (rw same (ltb-true 0 (length (block r m (after r m (Line c t n)) d))
-        (and_second (is_on (after r m (Line c t n)).phase) _ g))))
+        (and_first (is_on (match_after r m (Line c t n)).phase) _ g)
+        (rw same (ltb-true 0 (length (block r m (match_after r m (Line c t n)) d))
+        (and_second (is_on (match_after r m (Line c t n)).phase) _ g))))
 unsent f r S i due m (Line c t n) [] fits h = cc
 unsent f r S i due m (Line c t n) (Line d u k ∷ T) fits h = cc
 unsent f r S i due m (Line c t n) (Opened d k ∷ T) fits h = cc

@@ -14,10 +14,10 @@ use Rattle.chess_game.specs.declared.ends.Verdict.{Verdict}
 use Rattle.engine_lines.specs.EngineLines.{LineKind, line_kind}
 use Rattle.engine_lines.specs.Items.{Item, takes}
 use Rattle.chess_match.specs.laws.Laws.{centiseconds, time_sent, otim_sent, TimesAreClocks, OtherTimesAreClocks, sent}
-use Rattle.engine_lines.specs.Levels.{LevelSeen, left, level_text}
-use Rattle.chess_match.specs.Match.{Match, Event, Line, Opened, OutputEnds, FailsToRead, FailsToWrite, items_of_line, seat, hear, start, over, enter, open_turn, played_by, after, clock, ping_number}
+use Rattle.engine_lines.specs.Levels.{LevelSeen, time_left, level_text}
+use Rattle.chess_match.specs.Match.{Match, Event, Line, Opened, OutputEnds, FailsToRead, FailsToWrite, items_of_line, seat, take_items, start, over, enter, open_turn, played_by, match_after, clock, ping_number}
 use Rattle.chess_match.specs.Rules.{Rules}
-use Rattle.chess_match.specs.Sent.{SentLine, Says, Time, Otim, entry, entry_to, is_same_phase, is_unwritten, setup_lines, variant_lines, start_lines, opening_lines, last_move, last_move_lines, clock_lines, end_lines, unsent_lines, ping}
+use Rattle.chess_match.specs.Sent.{SentLine, Says, Time, Otim, lines_on_entering, entry_to, is_same_phase, is_unwritten, setup_lines, variant_command, start_lines, opening_lines, last_move_sent, last_move_lines, clock_lines, end_lines, unsent_lines, ping}
 use Rattle.chess_match.specs.Transcript.{reads, match_of, fits, fits_next, blocks_from, joined_blocks}
 use Rattle.chess_match.specs.declared.phase.Phase.{Phase}
 use Rattle.chess_match.specs.declared.phase.Phase.TheVariants.{Hello, Setup, SendTurn, AwaitMove, AwaitPong, Over}
@@ -52,7 +52,7 @@ unfolding setup_lines
 setup_times own r = at own r.variant r.start_fen
   where
     at : (own : Bool) (v : Variant) (fen : Option (List ℕ))
-        → flat_map (numbers own) (Says (codes "new") ∷ (variant_lines v
+        → flat_map (numbers own) (Says (codes "new") ∷ (variant_command v
         ++ (Says (codes "level " ++ level_text r.level) ∷ Says (codes "nopost") ∷ Says (codes "easy")
         ∷ Says (codes "force") ∷ (start_lines fen ++ ping 1 ∷ [])))) ≡ []
     at true Normal None = refl
@@ -65,10 +65,10 @@ setup_times own r = at own r.variant r.start_fen
     at false Fischerandom (Some fen) = refl
 
 last_times : (own : Bool) (r : Rules) (m : Match) (S : Colour) → flat_map (numbers own) (last_move_lines r m S) ≡ []
-unfolding last_move
+unfolding last_move_sent
 last_times own r m S = at own (nat_lt 0 (length m.played))
   where
-    at : (own b : Bool) → flat_map (numbers own) (if b then last_move r m S ∷ [] else []) ≡ []
+    at : (own b : Bool) → flat_map (numbers own) (if b then last_move_sent r m S ∷ [] else []) ≡ []
     at true true = refl
     at false true = refl
     at true false = refl
@@ -76,12 +76,12 @@ last_times own r m S = at own (nat_lt 0 (length m.played))
 
 untold_times : (own : Bool) (r : Rules) (m : Match) (S : Colour) (unsent_to : Option Colour)
     → flat_map (numbers own) (unsent_lines r m S unsent_to) ≡ []
-unfolding last_move
+unfolding last_move_sent
 untold_times true r m S None = refl
 untold_times false r m S None = refl
 untold_times own r m S (Some c) = at own (same_colour c S)
   where
-    at : (own b : Bool) → flat_map (numbers own) (if b then last_move r m S ∷ [] else []) ≡ []
+    at : (own b : Bool) → flat_map (numbers own) (if b then last_move_sent r m S ∷ [] else []) ≡ []
     at true true = refl
     at false true = refl
     at true false = refl
@@ -177,14 +177,14 @@ opening_told own r m S c = at (same_colour c S)
 
 centiseconds-snoc : (level : LevelSeen) (k spent : ℕ) (us : List ℕ) (u n t : ℕ) → n ≡ k + length us + 1 → t
     ≡ spent + sum us + u
-    → centiseconds level k spent (us ++ u ∷ []) ≡ centiseconds level k spent us ++ left level n t / 10 ∷ []
+    → centiseconds level k spent (us ++ u ∷ []) ≡ centiseconds level k spent us ++ time_left level n t / 10 ∷ []
 centiseconds-snoc level k spent [] u n t e f =
     let a : n ≡ k + 1 = omega (arith, e) in
     let b : t ≡ spent + u = omega (arith, f) in
     rw (a, b) refl
 centiseconds-snoc level k spent (x ∷ us) u n t e f =
     let s : sum (x ∷ us) ≡ x + sum us = sum_by-cons (λ (y : ℕ). y) x us in
-    ap (λ (l : List ℕ). left level k spent / 10 ∷ l)
+    ap (λ (l : List ℕ). time_left level k spent / 10 ∷ l)
     (centiseconds-snoc level (k + 1) (spent + x) us u n t (omega (arith, e)) (omega (arith, f, s)))
 
 -- all of a list, or all but its first
@@ -196,7 +196,7 @@ abbrev all_told : Bool → Rules → Bool → List ℕ → List ℕ
 all_told whole r takes used = if takes then from whole (centiseconds r.level 0 0 used) else []
 
 abbrev last_told : Rules → Bool → List ℕ → List ℕ
-last_told r takes used = if takes then left r.level (length used) (sum used) / 10 ∷ [] else []
+last_told r takes used = if takes then time_left r.level (length used) (sum used) / 10 ∷ [] else []
 
 -- what is still to be sent in this phase: the last, where S's turn wasn't opened since the clock changed
 abbrev pending : Bool → Phase → Colour → List ℕ → List ℕ
@@ -338,7 +338,7 @@ all_more whole r true used u =
     let s : sum (used ++ u ∷ []) ≡ sum used + u = sum-snoc used u in
     ap (λ (xs : List ℕ). from whole xs) (centiseconds-snoc r.level 0 0 used u (length (used ++ u ∷ []))
     (sum (used ++ u ∷ [])) (omega (arith, l)) (omega (arith, s)))
-    ∙ from-append whole r.level used (left r.level (length (used ++ u ∷ [])) (sum (used ++ u ∷ [])) / 10 ∷ [])
+    ∙ from-append whole r.level used (time_left r.level (length (used ++ u ∷ [])) (sum (used ++ u ∷ [])) / 10 ∷ [])
 
 -- the side whose clock it is has moved
 charged_times : (own : Bool) (r : Rules) (S : Colour) (X : List ℕ) (takes : Bool) (used : List ℕ) (u : ℕ)
@@ -370,7 +370,7 @@ Goes own r S X m m' = Times own r S (X ++ now (numbers own) r S m m') m'
 
 quiet_now : (own : Bool) (r : Rules) (S : Colour) (m m' : Match) → is_opening m'.phase ≡ false
     → now (numbers own) r S m m' ≡ []
-quiet_now own r S m m' e = if_nil (is_same_phase m.phase m'.phase) (flat_map (numbers own) (entry r m' S))
+quiet_now own r S m m' e = if_nil (is_same_phase m.phase m'.phase) (flat_map (numbers own) (lines_on_entering r m' S))
     (in_openings own r m' S m'.phase e)
 
 quiet_goes : (own : Bool) (r : Rules) (S : Colour) (X : List ℕ) (m m' : Match) → is_opening m'.phase ≡ false
@@ -460,24 +460,24 @@ turn_goes own r S c X m out h =
 -- in a handshake nothing was sent, and no move made
 hello_goes : (own : Bool) (r : Rules) (S c d : Colour) (X : List ℕ) (items : List Item) (n : ℕ) (p : Phase) (m : Match)
     → TimesOf own r S (Hello d) X m → (reason : Reason)
-    → (Times own r S X (enter (Hello Black) (hear c items m)))
-    × (Times own r S X (enter (Setup White) (hear c items m)))
-    × (Times own r S X (enter (Over reason) (hear c items m))) × (Times own r S X (over reason (hear c items m)))
+    → (Times own r S X (enter (Hello Black) (take_items c items m)))
+    × (Times own r S X (enter (Setup White) (take_items c items m)))
+    × (Times own r S X (enter (Over reason) (take_items c items m))) × (Times own r S X (over reason (take_items c items m)))
 hello_goes own r S c d X items n p m h reason =
     let u = hear_used c items m in
     let used : (m' : Match) → m'.white.used ≡ m.white.used → m'.black.used ≡ m.black.used
     → (seat m' (told_of own S)).used ≡ [] = λ m' w b. used_same m m' w b (told_of own S) ∙ h.1 in (
-      (h.0, used (enter (Hello Black) (hear c items m)) u.0 u.1),
-      (h.0, used (enter (Setup White) (hear c items m)) u.0 u.1),
-      empty_over own r S X _ _ h.0 (used (enter (Over reason) (hear c items m)) u.0 u.1),
-      empty_over own r S X _ _ h.0 (used (over reason (hear c items m)) u.0 u.1),
+      (h.0, used (enter (Hello Black) (take_items c items m)) u.0 u.1),
+      (h.0, used (enter (Setup White) (take_items c items m)) u.0 u.1),
+      empty_over own r S X _ _ h.0 (used (enter (Over reason) (take_items c items m)) u.0 u.1),
+      empty_over own r S X _ _ h.0 (used (over reason (take_items c items m)) u.0 u.1),
     )
 
 hello_counts : (own : Bool) (r : Rules) (S c : Colour) (X : List ℕ) (items : List Item) (n : ℕ) (m : Match) → m.phase
     ≡ Hello c → TimesOf own r S (Hello c) X m
-    → (let m' = hear c items m in Goes own r S X m (record m' { count = n }))
+    → (let m' = take_items c items m in Goes own r S X m (record m' { count = n }))
 hello_counts own r S White X items n m p h =
-    let m' = hear White items m in
+    let m' = take_items White items m in
     let m'' : Match = record m' { count = n } in
     counted m'' p (used_same m m'' refl refl (told_of own S) ∙ h.1) h.0
   where
@@ -485,7 +485,7 @@ hello_counts own r S White X items n m p h =
         → Goes own r S X m m''
     counted m'' p u x = quiet_goes own r S X m m'' (rw p refl) (rw p (x, u))
 hello_counts own r S Black X items n m p h =
-    let m' = hear Black items m in
+    let m' = take_items Black items m in
     let m'' : Match = record m' { count = n } in
     counted m'' p (used_same m m'' refl refl (told_of own S) ∙ h.1) h.0
   where
@@ -502,14 +502,14 @@ lines_go : (own : Bool) (r : Rules) (S c : Colour) (X : List ℕ) (kind : LineKi
     → reads m.phase c ≡ true → Times own r S X m
     → Lines r c kind moment m (λ m'. Goes own r S X m m')
 lines_go own r S c X kind moment m here h = record {
-  hello_ends = λ p d. quiet_goes own r S X m (over (Faulted c NoDone) (hear c (items_of_line kind) m)) refl
+  hello_ends = λ p d. quiet_goes own r S X m (over (Faulted c NoDone) (take_items c (items_of_line kind) m)) refl
       (hello p (Faulted c NoDone)).3;
   hello_counts = λ p d few. hello_counts own r S c X (items_of_line kind) (m.count + 1) m p
       (times_in own r S X m (Hello c) p h);
-  hello_next = λ p s d. quiet_goes own r S X m (enter (Hello Black) (hear c (items_of_line kind) m)) refl (hello_at p).0;
-  hello_judged = λ p s d b f. quiet_goes own r S X m (enter (Over (Faulted b f)) (hear c (items_of_line kind) m)) refl
+  hello_next = λ p s d. quiet_goes own r S X m (enter (Hello Black) (take_items c (items_of_line kind) m)) refl (hello_at p).0;
+  hello_judged = λ p s d b f. quiet_goes own r S X m (enter (Over (Faulted b f)) (take_items c (items_of_line kind) m)) refl
       (hello_judged p (Faulted b f)).2;
-  hello_done = λ p s d. quiet_goes own r S X m (enter (Setup White) (hear c (items_of_line kind) m)) refl
+  hello_done = λ p s d. quiet_goes own r S X m (enter (Setup White) (take_items c (items_of_line kind) m)) refl
       (hello_judged p (Faulted c NoDone)).1;
   setup_ends = λ p reason n. over_goes own r S X reason m h;
   setup_counts = λ p pong few. counts_goes own r S c X (m.count + 1) m here h;
@@ -541,29 +541,29 @@ lines_go own r S c X kind moment m here h = record {
     }
 
     hello : m.phase ≡ Hello c → (reason : Reason)
-        → (Times own r S X (enter (Hello Black) (hear c (items_of_line kind) m)))
-        × (Times own r S X (enter (Setup White) (hear c (items_of_line kind) m)))
-        × (Times own r S X (enter (Over reason) (hear c (items_of_line kind) m)))
-        × (Times own r S X (over reason (hear c (items_of_line kind) m)))
+        → (Times own r S X (enter (Hello Black) (take_items c (items_of_line kind) m)))
+        × (Times own r S X (enter (Setup White) (take_items c (items_of_line kind) m)))
+        × (Times own r S X (enter (Over reason) (take_items c (items_of_line kind) m)))
+        × (Times own r S X (over reason (take_items c (items_of_line kind) m)))
     hello p reason = hello_goes own r S c c X (items_of_line kind) 0 m.phase m (times_in own r S X m (Hello c) p h) reason
 
-    hello_at : m.phase ≡ Hello White → (Times own r S X (enter (Hello Black) (hear c (items_of_line kind) m)))
-        × (Times own r S X (enter (Setup White) (hear c (items_of_line kind) m)))
-        × (Times own r S X (enter (Over (Faulted c NoDone)) (hear c (items_of_line kind) m)))
-        × (Times own r S X (over (Faulted c NoDone) (hear c (items_of_line kind) m)))
+    hello_at : m.phase ≡ Hello White → (Times own r S X (enter (Hello Black) (take_items c (items_of_line kind) m)))
+        × (Times own r S X (enter (Setup White) (take_items c (items_of_line kind) m)))
+        × (Times own r S X (enter (Over (Faulted c NoDone)) (take_items c (items_of_line kind) m)))
+        × (Times own r S X (over (Faulted c NoDone) (take_items c (items_of_line kind) m)))
     hello_at p = hello_goes own r S c White X (items_of_line kind) 0 m.phase m (times_in own r S X m (Hello White) p h)
         (Faulted c NoDone)
 
     hello_judged : m.phase ≡ Hello Black → (reason : Reason)
-        → (Times own r S X (enter (Hello Black) (hear c (items_of_line kind) m)))
-        × (Times own r S X (enter (Setup White) (hear c (items_of_line kind) m)))
-        × (Times own r S X (enter (Over reason) (hear c (items_of_line kind) m)))
-        × (Times own r S X (over reason (hear c (items_of_line kind) m)))
+        → (Times own r S X (enter (Hello Black) (take_items c (items_of_line kind) m)))
+        × (Times own r S X (enter (Setup White) (take_items c (items_of_line kind) m)))
+        × (Times own r S X (enter (Over reason) (take_items c (items_of_line kind) m)))
+        × (Times own r S X (over reason (take_items c (items_of_line kind) m)))
     hello_judged p reason = hello_goes own r S c Black X (items_of_line kind) 0 m.phase m
         (times_in own r S X m (Hello Black) p h) reason
 
 step : (own : Bool) (r : Rules) (S : Colour) (due : Colour → List SentLine) (m : Match) (e : Event) (X : List ℕ)
-    → fits_next due m e ≡ true → Times own r S X m → Goes own r S X m (after r m e)
+    → fits_next due m e ≡ true → Times own r S X m → Goes own r S X m (match_after r m e)
 step own r S due m (Line c t n) X f h = line_outcome r c (line_kind t) n m (λ m'. Goes own r S X m m') f
     (lines_go own r S c X (line_kind t) n m f h)
 step own r S due m (Opened c n) X f h =
@@ -584,12 +584,12 @@ times_so : (own : Bool) (r : Rules) (S : Colour) (T : List Event) → fits r T �
     → Times own r S (flat_map (numbers own) (sent r S T)) (match_of r T)
 times_so own r S T f =
     rw (
-      flat_map-append (numbers own) (entry r start S) (joined_blocks (blocks_from r S start T)),
+      flat_map-append (numbers own) (lines_on_entering r start S) (joined_blocks (blocks_from r S start T)),
       in_openings own r
           start S (Hello White) refl,
     )
     (gathered (numbers own) (no_text own) r S (λ X m. Times own r S X m) (step own r S)
-    (unsent (numbers own) r S (in_openings own)) (entry r start) start T [] f (refl, none S own))
+    (unsent (numbers own) r S (in_openings own)) (lines_on_entering r start) start T [] f (refl, none S own))
   where
     none : (S : Colour) (own : Bool) → (seat start (told_of own S)).used ≡ []
     none White true = refl

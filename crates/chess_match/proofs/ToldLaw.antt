@@ -8,11 +8,11 @@ use Rattle.chess_base.specs.Men.{other, same_colour}
 use Rattle.chess_game.specs.declared.ends.Verdict.{Verdict}
 use Rattle.engine_lines.specs.EngineLines.{line_kind}
 use Rattle.engine_lines.specs.Items.{Item, has_done, takes}
-use Rattle.chess_match.specs.laws.Laws.{moves_sent, owed_to, texts_from, items_said, ItemsAreSaid, EachIsSentTheOthers, sent, ending}
-use Rattle.chess_match.specs.Match.{Match, Event, Line, Opened, OutputEnds, FailsToRead, FailsToWrite, items_of_line, seat, hear, start, over, enter, open_turn, played_by, after}
+use Rattle.chess_match.specs.laws.Laws.{moves_sent, owed_to, texts_from, items_said, ItemsAreSaid, EachIsSentOthersMoves, sent, ending}
+use Rattle.chess_match.specs.Match.{Match, Event, Line, Opened, OutputEnds, FailsToRead, FailsToWrite, items_of_line, seat, take_items, start, over, enter, open_turn, played_by, match_after}
 use Rattle.chess_match.specs.Rules.{Rules}
-use Rattle.chess_match.specs.Sent.{SentLine, block, entry}
-use Rattle.chess_match.specs.Transcript.{is_on, reads, opens, match_of, fits_next, fits_from, lines_of, has_fault}
+use Rattle.chess_match.specs.Sent.{SentLine, block, lines_on_entering}
+use Rattle.chess_match.specs.Transcript.{is_on, reads, opens, match_of, fits_next, fits_from, lines_of_engine, has_fault}
 use Rattle.chess_match.specs.declared.phase.Phase.{Phase}
 use Rattle.chess_match.specs.declared.phase.Phase.TheVariants.{Hello, Setup, SendTurn, AwaitMove, AwaitPong, Over}
 use Rattle.chess_match.specs.declared.reason.MatchFault.TheVariants.{NoDone, Write}
@@ -91,12 +91,12 @@ joined_items xs is ys = sym (append_assoc xs is ys)
 -- a line of a handshake that isn't ended by it
 hello_on : (d : Colour) (t : Option (List ℕ)) (n : ℕ) (m : Match) → m.phase ≡ Hello d
     → has_done (items_of_line (line_kind t)) ≡ false
-    → (let m' = hear d (items_of_line (line_kind t)) m in Says d t m (record m' { count = n }))
+    → (let m' = take_items d (items_of_line (line_kind t)) m in Says d t m (record m' { count = n }))
 hello_on White t n m p h = ((λ on lines S. at lines S), (λ off. not_on (sym off ∙ rw p refl)))
   where
     at : (lines : Colour → List (Option (List ℕ))) (S : Colour) → (seat m S).items
         ++ said_ahead m.phase S (with_line White t lines S)
-        ≡ (let m' = hear White (items_of_line (line_kind t)) m in (seat (record m' { count = n }) S).items
+        ≡ (let m' = take_items White (items_of_line (line_kind t)) m in (seat (record m' { count = n }) S).items
         ++ said_ahead m.phase S (lines S))
     at lines White = rw (p, h) (joined_items m.white.items (items_of_line (line_kind t)) (items_said (lines White)))
     at lines Black = refl
@@ -104,18 +104,18 @@ hello_on Black t n m p h = ((λ on lines S. at lines S), (λ off. not_on (sym of
   where
     at : (lines : Colour → List (Option (List ℕ))) (S : Colour) → (seat m S).items
         ++ said_ahead m.phase S (with_line Black t lines S)
-        ≡ (let m' = hear Black (items_of_line (line_kind t)) m in (seat (record m' { count = n }) S).items
+        ≡ (let m' = take_items Black (items_of_line (line_kind t)) m in (seat (record m' { count = n }) S).items
         ++ said_ahead m.phase S (lines S))
     at lines Black = rw (p, h) (joined_items m.black.items (items_of_line (line_kind t)) (items_said (lines Black)))
     at lines White = rw p refl
 
 -- one that ends the match
 hello_over : (d : Colour) (t : Option (List ℕ)) (m m' : Match) → m.phase ≡ Hello d → is_on m'.phase ≡ false
-    → m'.white.items ≡ (hear d (items_of_line (line_kind t)) m).white.items → m'.black.items
-    ≡ (hear d (items_of_line (line_kind t)) m).black.items → Says d t m m'
+    → m'.white.items ≡ (take_items d (items_of_line (line_kind t)) m).white.items → m'.black.items
+    ≡ (take_items d (items_of_line (line_kind t)) m).black.items → Says d t m m'
 hello_over d t m m' p off w b = (
   (λ on. not_on (sym off ∙ on)),
-  (λ off' S. at d p S ∙ sym (items_same (hear d (items_of_line (line_kind t)) m) m' w b S)),
+  (λ off' S. at d p S ∙ sym (items_same (take_items d (items_of_line (line_kind t)) m) m' w b S)),
 )
   where
     last : (b : Bool) → items_of_line (line_kind t) ++ (if b then [] else []) ≡ items_of_line (line_kind t)
@@ -123,7 +123,7 @@ hello_over d t m m' p off w b = (
     last false = append-nil (items_of_line (line_kind t))
 
     at : (d : Colour) → m.phase ≡ Hello d → (S : Colour) → (seat m S).items
-        ++ said_ahead m.phase S (with_line d t no_lines S) ≡ (seat (hear d (items_of_line (line_kind t)) m) S).items
+        ++ said_ahead m.phase S (with_line d t no_lines S) ≡ (seat (take_items d (items_of_line (line_kind t)) m) S).items
     at White p White = rw p (ap (λ (is : List Item). m.white.items ++ is)
         (last (has_done (items_of_line (line_kind t)))))
     at White p Black = rw p (append-nil m.black.items)
@@ -133,12 +133,12 @@ hello_over d t m m' p off w b = (
 
 hello_next : (d : Colour) (t : Option (List ℕ)) (m : Match) → m.phase ≡ Hello White → d ≡ White
     → has_done (items_of_line (line_kind t)) ≡ true
-    → Says d t m (enter (Hello Black) (hear d (items_of_line (line_kind t)) m))
+    → Says d t m (enter (Hello Black) (take_items d (items_of_line (line_kind t)) m))
 hello_next White t m p s h = ((λ on lines S. at lines S), (λ off. not_on (sym off)))
   where
     at : (lines : Colour → List (Option (List ℕ))) (S : Colour) → (seat m S).items
         ++ said_ahead m.phase S (with_line White t lines S)
-        ≡ (seat (enter (Hello Black) (hear White (items_of_line (line_kind t)) m)) S).items
+        ≡ (seat (enter (Hello Black) (take_items White (items_of_line (line_kind t)) m)) S).items
         ++ said_ahead (Hello Black) S (lines S)
     at lines White = rw (p, h) (joined_items m.white.items (items_of_line (line_kind t)) [])
     at lines Black = rw p refl
@@ -146,12 +146,12 @@ hello_next Black t m p s h = cc
 
 hello_done : (d : Colour) (t : Option (List ℕ)) (m : Match) → m.phase ≡ Hello Black → d ≡ Black
     → has_done (items_of_line (line_kind t)) ≡ true
-    → Says d t m (enter (Setup White) (hear d (items_of_line (line_kind t)) m))
+    → Says d t m (enter (Setup White) (take_items d (items_of_line (line_kind t)) m))
 hello_done Black t m p s h = ((λ on lines S. at lines S), (λ off. not_on (sym off)))
   where
     at : (lines : Colour → List (Option (List ℕ))) (S : Colour) → (seat m S).items
         ++ said_ahead m.phase S (with_line Black t lines S)
-        ≡ (seat (enter (Setup White) (hear Black (items_of_line (line_kind t)) m)) S).items ++ []
+        ≡ (seat (enter (Setup White) (take_items Black (items_of_line (line_kind t)) m)) S).items ++ []
     at lines Black = rw (p, h) (joined_items m.black.items (items_of_line (line_kind t)) [])
     at lines White = rw p refl
 hello_done White t m p s h = cc
@@ -159,11 +159,11 @@ hello_done White t m p s h = cc
 lines_say : (r : Rules) (d : Colour) (t : Option (List ℕ)) (n : ℕ) (m : Match)
     → Lines r d (line_kind t) n m (λ m'. Says d t m m')
 lines_say r d t n m = record {
-  hello_ends = λ p h. hello_over d t m (over (Faulted d NoDone) (hear d (items_of_line (line_kind t)) m)) p refl refl
+  hello_ends = λ p h. hello_over d t m (over (Faulted d NoDone) (take_items d (items_of_line (line_kind t)) m)) p refl refl
       refl;
   hello_counts = λ p h few. hello_on d t (m.count + 1) m p h;
   hello_next = λ p s h. hello_next d t m p s h;
-  hello_judged = λ p s h b f. hello_over d t m (enter (Over (Faulted b f)) (hear d (items_of_line (line_kind t)) m))
+  hello_judged = λ p s h b f. hello_over d t m (enter (Over (Faulted b f)) (take_items d (items_of_line (line_kind t)) m))
       (p ∙ ap Hello (sym s)) refl refl refl;
   hello_done = λ p s h. hello_done d t m p s h;
   setup_ends = λ p reason w. greeted_says d t m (over reason m) (rw p refl) refl refl refl;
@@ -205,7 +205,7 @@ lines_say r d t n m = record {
 -- ---- the transcript
 
 abbrev Said : Rules → Match → List Event → Match → Type 0
-Said r m T final = (S : Colour) → (seat m S).items ++ said_ahead m.phase S (lines_of S T) ≡ (seat final S).items
+Said r m T final = (S : Colour) → (seat m S).items ++ said_ahead m.phase S (lines_of_engine S T) ≡ (seat final S).items
 
 line_goes_on : (r : Rules) (m m' : Match) (d : Colour) (t : Option (List ℕ)) (n : ℕ) (due : Colour → List SentLine)
     (T : List Event) → fits_from r due m' T ≡ true → Says d t m m'
@@ -235,25 +235,25 @@ said_from : (r : Rules) (due : Colour → List SentLine) (m : Match) (T : List E
 said_from r due m [] f = λ S. ap (λ (is : List Item). (seat m S).items ++ is) (ahead_nil m.phase S)
     ∙ append-nil (seat m S).items
 said_from r due m (Line d t n ∷ T) f =
-    line_goes_on r m (after r m (Line d t n)) d t n (block r m (after r m (Line d t n))) T
+    line_goes_on r m (match_after r m (Line d t n)) d t n (block r m (match_after r m (Line d t n))) T
     (and_second (reads m.phase d) _ f)
     (line_outcome r d (line_kind t) n m (λ m'. Says d t m m') (and_first (reads m.phase d) _ f) (lines_say r d t n m))
-    (said_from r (block r m (after r m (Line d t n))) (after r m (Line d t n)) T (and_second (reads m.phase d) _ f))
+    (said_from r (block r m (match_after r m (Line d t n))) (match_after r m (Line d t n)) T (and_second (reads m.phase d) _ f))
 said_from r due m (Opened d n ∷ T) f =
-    opened_on r m d n T (match_from r (after r m (Opened d n)) T) (opens_at m.phase d (and_first (opens m.phase d) _ f))
-    (said_from r (block r m (after r m (Opened d n))) (after r m (Opened d n)) T (and_second (opens m.phase d) _ f))
-said_from r due m (OutputEnds d ∷ T) f = stopped r m (after r m (OutputEnds d)) (block r m (after r m (OutputEnds d))) T
+    opened_on r m d n T (match_from r (match_after r m (Opened d n)) T) (opens_at m.phase d (and_first (opens m.phase d) _ f))
+    (said_from r (block r m (match_after r m (Opened d n))) (match_after r m (Opened d n)) T (and_second (opens m.phase d) _ f))
+said_from r due m (OutputEnds d ∷ T) f = stopped r m (match_after r m (OutputEnds d)) (block r m (match_after r m (OutputEnds d))) T
     refl refl refl (and_second (fits_next due m (OutputEnds d)) _ f)
 said_from r due m (FailsToRead d ∷ T) f =
-    stopped r m (after r m (FailsToRead d)) (block r m (after r m (FailsToRead d))) T refl refl refl
+    stopped r m (match_after r m (FailsToRead d)) (block r m (match_after r m (FailsToRead d))) T refl refl refl
     (and_second (fits_next due m (FailsToRead d)) _ f)
 said_from r due m (FailsToWrite d ∷ T) f =
-    stopped r m (after r m (FailsToWrite d)) (block r m (after r m (FailsToWrite d))) T refl refl refl
+    stopped r m (match_after r m (FailsToWrite d)) (block r m (match_after r m (FailsToWrite d))) T refl refl refl
     (and_second (fits_next due m (FailsToWrite d)) _ f)
 
 pub items_are_said : ItemsAreSaid
-items_are_said r T White f = sym (said_from r (entry r start) start T f White)
-items_are_said r T Black f = sym (said_from r (entry r start) start T f Black)
+items_are_said r T White f = sym (said_from r (lines_on_entering r start) start T f White)
+items_are_said r T Black f = sym (said_from r (lines_on_entering r start) start T f Black)
 
 owed_short : (r : Rules) (m : Match) (O : Colour) (unsent_to : Option Colour) (failed : Bool)
     → length (owed_to r m O unsent_to failed) ≤ 1
@@ -264,7 +264,7 @@ owed_short r m O (Some c) failed = at (same_colour c O && (is_on m.phase || fail
     at true = omega arith
     at false = omega arith
 
-pub each_is_sent_the_others : EachIsSentTheOthers
+pub each_is_sent_the_others : EachIsSentOthersMoves
 each_is_sent_the_others r T f = ((match_of r T).played, moves_are_read r T f, told)
   where
     all_told : (O : Colour) → is_some (ending r T) ≡ true → has_fault Write O T ≡ false
@@ -274,7 +274,7 @@ each_is_sent_the_others r T f = ((match_of r T).played, moves_are_read r T f, to
     told : (O : Colour) → (rest : List (List ℕ)) × (length rest ≤ 1)
         × (is_some (ending r T) ≡ true → has_fault Write O T ≡ false → rest ≡ [])
         × (moves_sent (sent r O T) ++ rest
-        ≡ texts_from r (takes (codes "san") (items_said (lines_of O T))) (other O) r.first [] (match_of r T).played)
+        ≡ texts_from r (takes (codes "san") (items_said (lines_of_engine O T))) (other O) r.first [] (match_of r T).played)
     told O = (
       owed_to r (match_of r T) O (match_of r T).unsent_to (has_fault Write O T),
       owed_short r (match_of r T) O (match_of r T).unsent_to (has_fault Write O T),

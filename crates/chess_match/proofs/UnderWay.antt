@@ -8,10 +8,10 @@ use Rattle.chess_match.proofs.Hearing.{Hearing}
 use Rattle.chess_match.specs.Match.{Event}
 use Rattle.chess_match.specs.Notes.{Noted, WasNoted, notes_of}
 use Rattle.chess_match.specs.Rules.{Rules}
-use Rattle.chess_match.specs.Run.{ReadFrom, Written, Asked}
+use Rattle.chess_match.specs.Run.{ReadFrom, Written, ReadsClock}
 use Rattle.chess_match.specs.ties.Represents.{Represents}
 use Rattle.chess_match.specs.ties.Steps.{IsSane}
-use Rattle.chess_match.specs.Transcript.{match_of, fits, blocks, lines_of, moments_of, has_fault, is_on}
+use Rattle.chess_match.specs.Transcript.{match_of, fits, blocks, lines_of_engine, moments_of, has_fault, is_on}
 use Rattle.chess_match.specs.declared.phase.Phase.{Phase}
 use Rattle.chess_match.specs.declared.phase.Phase.TheVariants.{Hello, Setup, SendTurn, AwaitMove, AwaitPong, Over}
 use Rattle.chess_match.specs.declared.state.MatchState.{MatchState}
@@ -19,7 +19,7 @@ use Rattle.chess_match.specs.declared.reason.MatchFault.TheVariants.{Ended, Read
 
 -- S's engine is still read
 pub record IsHearing (S : Colour) (T : List Event) (r r' : InputState) (held : Held) (given : List ℕ) : Type 0 where
-  pub hearing : Hearing r r' held given (lines_of S T)
+  pub hearing : Hearing r r' held given (lines_of_engine S T)
   pub unended : has_fault Ended S T ≡ false
   pub unfailed : has_fault Read S T ≡ false
 
@@ -38,7 +38,7 @@ pub record IsUnderWay (r : Rules) (T : List Event) (core : MatchState) (played :
   pub written : (S : Colour) → Written (failed S) (w S) (w' S) (blocks r S T)
   pub fine : is_on (match_of r T).phase ≡ true → (S : Colour) → failed S ≡ false
   pub failing : (S : Colour) → has_fault Write S T ≡ true → failed S ≡ true
-  pub moments : Asked coming coming' (moments_of T)
+  pub moments : ReadsClock coming coming' (moments_of T)
   pub noted : WasNoted notes notes' (notes_of r T)
 
 -- what is left to do, where so much can still be read

@@ -10,15 +10,15 @@ use Rattle.chess_base.proofs.MenFacts.{same_colour-true}
 use Rattle.chess_cecp.specs.Lines.{Held, nothing_held}
 use Rattle.chess_match.specs.ties.Delivering.{AllSent, OneFailed, Delivered, first_in}
 use Rattle.chess_match.proofs.Hearing.{Hearing, HearsAt, is_heard_of}
-use Rattle.chess_match.specs.Match.{Match, Event, Line, Opened, OutputEnds, FailsToRead, FailsToWrite, start, after}
+use Rattle.chess_match.specs.Match.{Match, Event, Line, Opened, OutputEnds, FailsToRead, FailsToWrite, start, match_after}
 use Rattle.chess_match.specs.Notes.{Noted, WasNoted, Happened, both_notes, first_sent, notes_of}
 use Rattle.chess_match.specs.Rules.{Rules}
-use Rattle.chess_match.specs.Run.{Flushed, Written, Asked}
-use Rattle.chess_match.specs.Sent.{SentLine, block, entry, bytes_of}
+use Rattle.chess_match.specs.Run.{Flushed, Written, ReadsClock}
+use Rattle.chess_match.specs.Sent.{SentLine, block, lines_on_entering, bytes_of}
 use Rattle.chess_match.specs.ties.Represents.{Represents, Goes, given_block, nothing_said}
 use Rattle.chess_match.specs.ties.Steps.{IsSane}
 use Rattle.chess_match.specs.ties.Reported.{SendsIf}
-use Rattle.chess_match.specs.Transcript.{match_of, fits_next, is_on, opens, blocks, blocks_from, joined_blocks, lines_of, moments_of, moment_in, has_fault, is_fault}
+use Rattle.chess_match.specs.Transcript.{match_of, fits_next, is_on, opens, blocks, blocks_from, joined_blocks, lines_of_engine, moments_of, moment_in, has_fault, is_fault}
 use Rattle.chess_match.proofs.UnderWay.{IsHearing, HeardSoFar, IsUnderWay}
 use Rattle.chess_match.specs.declared.phase.Phase.{Phase}
 use Rattle.chess_match.specs.declared.phase.Phase.TheVariants.{Hello, Setup, SendTurn, AwaitMove, AwaitPong, Over}
@@ -32,7 +32,7 @@ use Rattle.chess_match.proofs.Sane.{sane_start, sane_over, sane_opened}
 use Rattle.chess_match.specs.declared.reason.MatchFault.TheVariants.{Ended, Read, Write}
 
 -- the match is over after what stops it
-stopped : (r : Rules) (m : Match) (e : Event) → is_stop e ≡ true → is_on (after r m e).phase ≡ false
+stopped : (r : Rules) (m : Match) (e : Event) → is_stop e ≡ true → is_on (match_after r m e).phase ≡ false
 stopped r m (OutputEnds c) h = refl
 stopped r m (FailsToRead c) h = refl
 stopped r m (Line c t n) h = absurd cc
@@ -69,37 +69,37 @@ pub all_step : (r : Rules) (T : List Event) (e : Event) (core core' : MatchState
     (failed failed' : Colour → Bool) (n n' n'' : Colour → InputState) (held held' : Colour → Held)
     (w w' w'' : Colour → OutputState) (coming coming' coming'' : ℕ → Option ℕ)
     (notes notes' between notes'' : Noted) (first : Colour)
-    → first_in (after r (match_of r T) e) first ≡ first_sent (after r (match_of r T) e) e
+    → first_in (match_after r (match_of r T) e) first ≡ first_sent (match_after r (match_of r T) e) e
     → IsUnderWay r T core played failed n n' held w w' coming coming' notes notes'
     → WasNoted notes' between (Happened e ∷ [])
     → is_on (match_of r T).phase ≡ true → is_sound e ≡ true → fits_next nothing_due (match_of r T) e ≡ true
-    → IsSane r (after r (match_of r T) e)
-    → ((S : Colour) → HearsAt S e (n' S) (n'' S) (held S) (held' S)) → Asked coming' coming'' (moment_in e)
-    → AllSent r core' played' (after r (match_of r T) e) (λ S. block r (match_of r T) (after r (match_of r T) e) S)
+    → IsSane r (match_after r (match_of r T) e)
+    → ((S : Colour) → HearsAt S e (n' S) (n'' S) (held S) (held' S)) → ReadsClock coming' coming'' (moment_in e)
+    → AllSent r core' played' (match_after r (match_of r T) e) (λ S. block r (match_of r T) (match_after r (match_of r T) e) S)
     first w' w'' failed' between notes''
     → IsUnderWay r (T ++ e ∷ []) core' played' failed' n n'' held' w w'' coming coming'' notes notes''
 all_step r T e core core' played played' failed failed' n n' n'' held held' w w' w'' coming coming' coming'' notes
     notes' between notes'' first turn u line on sound fit sane hears asked all =
-    let due : Colour → List SentLine = λ S. block r (match_of r T) (after r (match_of r T) e) S in
-    let now : match_of r (T ++ e ∷ []) ≡ after r (match_of r T) e = match_of-append r T (e ∷ []) in
+    let due : Colour → List SentLine = λ S. block r (match_of r T) (match_after r (match_of r T) e) S in
+    let now : match_of r (T ++ e ∷ []) ≡ match_after r (match_of r T) e = match_of-append r T (e ∷ []) in
     record {
       fitting = fits-append r T e [] sound u.fitting (ap (λ b. b && true) fit);
       stands = subst (λ (x : Match). Represents r core' played' x) (sym now) all.stands;
       sane = subst (λ (x : Match). IsSane r x) (sym now) sane;
       heard = λ S. subst (λ (x : Match). HeardSoFar S (T ++ e ∷ []) (is_on x.phase) (n S) (n'' S) (held' S)) (sym now)
-          (so_far_on S T e [] (is_on (match_of r T).phase) (is_on (after r (match_of r T) e).phase) (n S) (n' S) (n'' S)
+          (so_far_on S T e [] (is_on (match_of r T).phase) (is_on (match_after r (match_of r T) e).phase) (n S) (n' S) (n'' S)
           (held S) (held' S) no_tail on (stopped r (match_of r T) e) (hears S) (u.heard S));
       written = λ S. subst (λ (bs : List (List SentLine)). Written (failed' S) (w S) (w'' S) bs)
           (sym (blocks-append r S T e [] sound ∙ ap (λ (bs : List (List SentLine)). blocks r S T ++ bs)
           (block_alone r S (match_of r T) e sound)))
           (written_more (failed' S) (w S) (w' S) (w'' S) (blocks r S T)
-          (block r (match_of r T) (after r (match_of r T) e) S)
+          (block r (match_of r T) (match_after r (match_of r T) e) S)
           (all_sent (failed S) (w S) (w' S) (blocks r S T) (u.fine on S) (u.written S)) (all.puts S));
       fine = λ h. all.fine (subst (λ (x : Match). is_on x.phase ≡ true) now h);
       failing = λ S. no_failure_yet S T (e ∷ []) (failed S) (failed' S) (u.fine on S) (u.failing S)
           (λ h. let no : is_fault Write S e || false ≡ false = ap (λ b. b || false) (sound_write S e sound) in not_both _ no
           h);
-      moments = subst (λ (ms : List ℕ). Asked coming coming'' ms) (sym (moments_more T e [] no_tail))
+      moments = subst (λ (ms : List ℕ). ReadsClock coming coming'' ms) (sym (moments_more T e [] no_tail))
           (asked_more coming coming' coming'' (moments_of T) (moment_in e) u.moments asked);
       noted = noted_as notes notes'' _ (notes_of r (T ++ e ∷ [])) (noted_on r T e sound)
           (noted_more notes notes' notes'' (notes_of r T) _ u.noted
@@ -120,9 +120,9 @@ flushed_both w w' v bs t n = subst (λ (text : List ℕ). Flushed w v text) (app
 two_blocks : (r : Rules) (m : Match) (d c : Colour) (text : Option (List ℕ)) (k : ℕ) (first : Colour) → d ≡ first
     → (f : Bool) (w w' w'' : OutputState) (bs : List (List SentLine)) → Flushed w w' (bytes_of (joined_blocks bs))
     → ((v : OutputState)
-    × Flushed w' v (bytes_of (if same_colour c first then [] else block r m (after r m (Line d text k)) (other c)))
+    × Flushed w' v (bytes_of (if same_colour c first then [] else block r m (match_after r m (Line d text k)) (other c)))
     × SendsIf f v w''
-    (bytes_of (block r (after r m (Line d text k)) (after r (after r m (Line d text k)) (FailsToWrite c))
+    (bytes_of (block r (match_after r m (Line d text k)) (match_after r (match_after r m (Line d text k)) (FailsToWrite c))
     (other c))))
     → Written f w w'' (bs ++ blocks_from r (other c) m (Line d text k ∷ FailsToWrite c ∷ []))
 unfolding bytes_of
@@ -132,15 +132,15 @@ two_blocks r m Black Black text k Black e f w w' w'' bs t (v, took, puts) =
     written_more f w v w'' bs _ (flushed_both w w' v bs t took) puts
 two_blocks r m White Black text k White e f w w' w'' bs t (v, took, puts) =
     subst (λ (all : List (List SentLine)). Written f w w'' all)
-    (append_assoc bs (block r m (after r m (Line White text k)) White ∷ [])
-    (block r (after r m (Line White text k)) (after r (after r m (Line White text k)) (FailsToWrite Black))
-    White ∷ [])) (written_more f w v w'' (bs ++ block r m (after r m (Line White text k)) White ∷ []) _
+    (append_assoc bs (block r m (match_after r m (Line White text k)) White ∷ [])
+    (block r (match_after r m (Line White text k)) (match_after r (match_after r m (Line White text k)) (FailsToWrite Black))
+    White ∷ [])) (written_more f w v w'' (bs ++ block r m (match_after r m (Line White text k)) White ∷ []) _
     (sent_more w w' v bs _ t took) puts)
 two_blocks r m Black White text k Black e f w w' w'' bs t (v, took, puts) =
     subst (λ (all : List (List SentLine)). Written f w w'' all)
-    (append_assoc bs (block r m (after r m (Line Black text k)) Black ∷ [])
-    (block r (after r m (Line Black text k)) (after r (after r m (Line Black text k)) (FailsToWrite White))
-    Black ∷ [])) (written_more f w v w'' (bs ++ block r m (after r m (Line Black text k)) Black ∷ []) _
+    (append_assoc bs (block r m (match_after r m (Line Black text k)) Black ∷ [])
+    (block r (match_after r m (Line Black text k)) (match_after r (match_after r m (Line Black text k)) (FailsToWrite White))
+    Black ∷ [])) (written_more f w v w'' (bs ++ block r m (match_after r m (Line Black text k)) Black ∷ []) _
     (sent_more w w' v bs _ t took) puts)
 two_blocks r m White White text k Black e f w w' w'' bs t p = absurd cc
 two_blocks r m White Black text k Black e f w w' w'' bs t p = absurd cc
@@ -150,7 +150,7 @@ two_blocks r m Black Black text k White e f w w' w'' bs t p = absurd cc
 -- the block that broke off is the last
 broken_block : (r : Rules) (m : Match) (d c : Colour) (text : Option (List ℕ)) (k : ℕ) (f : Bool)
     (w w' w'' : OutputState) (bs : List (List SentLine)) → f ≡ true → Flushed w w' (bytes_of (joined_blocks bs))
-    → BreaksOff w' w'' (bytes_of (block r m (after r m (Line d text k)) c))
+    → BreaksOff w' w'' (bytes_of (block r m (match_after r m (Line d text k)) c))
     → Written f w w'' (bs ++ blocks_from r c m (Line d text k ∷ FailsToWrite c ∷ []))
 broken_block r m White White text k true w w' w'' bs e t b = written_more true w w' w'' bs _ t b
 broken_block r m White Black text k true w w' w'' bs e t b = written_more true w w' w'' bs _ t b
@@ -184,10 +184,10 @@ pub failed_step : (r : Rules) (T : List Event) (d : Colour) (text : Option (List
     → IsUnderWay r T core played failed n n' held w w' coming coming' notes notes'
     → WasNoted notes' between (Happened (Line d text k) ∷ [])
     → is_on (match_of r T).phase ≡ true → fits_next nothing_due (match_of r T) (Line d text k) ≡ true
-    → IsSane r (after r (match_of r T) (Line d text k))
-    → ((S : Colour) → HearsAt S (Line d text k) (n' S) (n'' S) (held S) (held' S)) → Asked coming' coming'' (k ∷ [])
-    → OneFailed r core' played' (after r (match_of r T) (Line d text k))
-    (λ S. block r (match_of r T) (after r (match_of r T) (Line d text k)) S) d w' w'' failed' between notes'' c
+    → IsSane r (match_after r (match_of r T) (Line d text k))
+    → ((S : Colour) → HearsAt S (Line d text k) (n' S) (n'' S) (held S) (held' S)) → ReadsClock coming' coming'' (k ∷ [])
+    → OneFailed r core' played' (match_after r (match_of r T) (Line d text k))
+    (λ S. block r (match_of r T) (match_after r (match_of r T) (Line d text k)) S) d w' w'' failed' between notes'' c
     → IsUnderWay r (T ++ Line d text k ∷ FailsToWrite c ∷ []) core' played' failed' n n'' held' w w'' coming coming''
     notes notes''
 failed_step r T d text k core core' played played' failed failed' n n' n'' held held' w w' w'' coming coming' coming''
@@ -195,14 +195,14 @@ failed_step r T d text k core core' played played' failed failed' n n' n'' held 
     let e : Event = Line d text k in
     let m : Match = match_of r T in
     let U : List Event = FailsToWrite c ∷ [] in
-    let now : match_of r (T ++ e ∷ U) ≡ after r (after r m e) (FailsToWrite c) = match_of-append r T (e ∷ U) in
+    let now : match_of r (T ++ e ∷ U) ≡ match_after r (match_after r m e) (FailsToWrite c) = match_of-append r T (e ∷ U) in
     record {
       fitting = fits-append r T e U refl u.fitting (
-          ap (λ b. b && ((is_on (after r m e).phase && nat_lt 0 (length (block r m (after r m e) c))) && true)) fit
-          ∙ ap (λ b. (b && nat_lt 0 (length (block r m (after r m e) c))) && true) one.on
-          ∙ ap (λ b. b && true) (lt-ltb 0 (length (block r m (after r m e) c)) one.some));
+          ap (λ b. b && ((is_on (match_after r m e).phase && nat_lt 0 (length (block r m (match_after r m e) c))) && true)) fit
+          ∙ ap (λ b. (b && nat_lt 0 (length (block r m (match_after r m e) c))) && true) one.on
+          ∙ ap (λ b. b && true) (lt-ltb 0 (length (block r m (match_after r m e) c)) one.some));
       stands = subst (λ (x : Match). Represents r core' played' x) (sym now) one.stands;
-      sane = subst (λ (x : Match). IsSane r x) (sym now) (sane_over r (after r m e) _ sane);
+      sane = subst (λ (x : Match). IsSane r x) (sym now) (sane_over r (match_after r m e) _ sane);
       heard = λ S. subst (λ (x : Match). HeardSoFar S (T ++ e ∷ U) (is_on x.phase) (n S) (n'' S) (held' S)) (sym now)
           (so_far_on S T e U (is_on m.phase) false (n S) (n' S) (n'' S) (held S) (held' S) (failed_tail c) on
           (λ h. refl) (hears S) (u.heard S));
@@ -218,7 +218,7 @@ failed_step r T d text k core core' played played' failed failed' n n' n'' held 
       fine = λ h. let no : false ≡ true = subst (λ (x : Match). is_on x.phase ≡ true) now h in absurd cc;
       failing = λ S. no_failure_yet S T (e ∷ U) (failed S) (failed' S) (u.fine on S) (u.failing S)
           (own_fails c failed' one.fails S);
-      moments = subst (λ (ms : List ℕ). Asked coming coming'' ms) (sym (moments_more T e U (failed_tail c)))
+      moments = subst (λ (ms : List ℕ). ReadsClock coming coming'' ms) (sym (moments_more T e U (failed_tail c)))
           (asked_more coming coming' coming'' (moments_of T) (k ∷ []) u.moments asked);
       noted = noted_as notes notes'' _ (notes_of r (T ++ e ∷ U)) (noted_broken r T d c text k one.on)
           (noted_more notes notes' notes'' (notes_of r T) _ u.noted
@@ -271,7 +271,7 @@ delivered_by r core played m due due' first w w' failed notes notes' e (inr (c, 
 -- ---- the start
 
 just_heard : (S : Colour) (T : List Event) (on : Bool) (r : InputState) (h : Held) → h ≡ nothing_held
-    → lines_of S T ≡ [] → has_fault Ended S T ≡ false → has_fault Read S T ≡ false → HeardSoFar S T on r r h
+    → lines_of_engine S T ≡ [] → has_fault Ended S T ≡ false → has_fault Read S T ≡ false → HeardSoFar S T on r r h
 just_heard S T on r h none l e f =
     let s : IsHearing S T r r nothing_held [] =
     record {
@@ -290,14 +290,14 @@ first_block f w w' b p = written_more f w w w' [] b (flushed_none w) p
 all_started : (r : Rules) (core : MatchState) (played : List Move) (failed : Colour → Bool) (n : Colour → InputState)
     (held : Colour → Held) (w w' : Colour → OutputState) (coming : ℕ → Option ℕ) (notes notes' : Noted)
     → ((S : Colour) → held S ≡ nothing_held)
-    → AllSent r core played start (λ S. entry r start S) White w w' failed notes notes'
+    → AllSent r core played start (λ S. lines_on_entering r start S) White w w' failed notes notes'
     → IsUnderWay r [] core played failed n n held w w' coming coming notes notes'
 all_started r core played failed n held w w' coming notes notes' none s = record {
   fitting = refl;
   stands = s.stands;
   sane = sane_start r;
   heard = λ S. just_heard S [] true (n S) (held S) (none S) refl refl refl;
-  written = λ S. first_block (failed S) (w S) (w' S) (entry r start S) (s.puts S);
+  written = λ S. first_block (failed S) (w S) (w' S) (lines_on_entering r start S) (s.puts S);
   fine = s.fine;
   failing = λ S h. absurd cc;
   moments = asked_none coming;
@@ -316,16 +316,16 @@ other_start r f w w' b (v, t, p) = written_more f w v w' ([] ∷ []) b t p
 one_started : (r : Rules) (core : MatchState) (played : List Move) (failed : Colour → Bool) (n : Colour → InputState)
     (held : Colour → Held) (w w' : Colour → OutputState) (coming : ℕ → Option ℕ) (notes notes' : Noted)
     (c : Colour) → ((S : Colour) → held S ≡ nothing_held)
-    → OneFailed r core played start (λ S. entry r start S) White w w' failed notes notes' c
+    → OneFailed r core played start (λ S. lines_on_entering r start S) White w w' failed notes notes' c
     → IsUnderWay r (FailsToWrite c ∷ []) core played failed n n held w w' coming coming notes notes'
 one_started r core played failed n held w w' coming notes notes' Black none s = let no : 0 < 0 = s.some in absurd (omega (arith, no))
 one_started r core played failed n held w w' coming notes notes' White none s = record {
-  fitting = ap (λ b. b && true) (lt-ltb 0 (length (entry r start White)) s.some);
+  fitting = ap (λ b. b && true) (lt-ltb 0 (length (lines_on_entering r start White)) s.some);
   stands = s.stands;
   sane = sane_over r start _ (sane_start r);
   heard = λ S. just_heard S (FailsToWrite White ∷ []) false (n S) (held S) (none S) refl refl refl;
   written = λ S. by_either (λ X. Written (failed X) (w X) (w' X) (blocks r X (FailsToWrite White ∷ []))) White
-      (broken_start (failed White) (w White) (w' White) (entry r start White) s.fails s.broke)
+      (broken_start (failed White) (w White) (w' White) (lines_on_entering r start White) s.fails s.broke)
       (other_start r (failed Black) (w Black) (w' Black) _ s.others) S;
   fine = λ h. absurd cc;
   failing = λ S. own_fails White failed s.fails S;
@@ -337,7 +337,7 @@ one_started r core played failed n held w w' coming notes notes' White none s = 
 pub started : (r : Rules) (core : MatchState) (played : List Move) (failed : Colour → Bool) (n : Colour → InputState)
     (held : Colour → Held) (w w' : Colour → OutputState) (coming : ℕ → Option ℕ) (notes notes' : Noted)
     → ((S : Colour) → held S ≡ nothing_held)
-    → Delivered r core played start (λ S. entry r start S) White w w' failed notes notes'
+    → Delivered r core played start (λ S. lines_on_entering r start S) White w w' failed notes notes'
     → (T : List Event) × IsUnderWay r T core played failed n n held w w' coming coming notes notes'
 started r core played failed n held w w' coming notes notes' none (inl s) =
     ([], all_started r core played failed n held w w' coming notes notes' none s)
@@ -359,9 +359,9 @@ pub event_step : (r : Rules) (T : List Event) (e : Event) (d : Colour) (core cor
     → IsUnderWay r T core played failed n n' held w w' coming coming' notes notes'
     → WasNoted notes' between (Happened e ∷ [])
     → is_heard_of d e ≡ true → is_on (match_of r T).phase ≡ true → fits_next nothing_due (match_of r T) e ≡ true
-    → IsSane r (after r (match_of r T) e)
-    → ((S : Colour) → HearsAt S e (n' S) (n'' S) (held S) (held' S)) → Asked coming' coming'' (moment_in e)
-    → Delivered r core' played' (after r (match_of r T) e) (λ S. block r (match_of r T) (after r (match_of r T) e) S) d
+    → IsSane r (match_after r (match_of r T) e)
+    → ((S : Colour) → HearsAt S e (n' S) (n'' S) (held S) (held' S)) → ReadsClock coming' coming'' (moment_in e)
+    → Delivered r core' played' (match_after r (match_of r T) e) (λ S. block r (match_of r T) (match_after r (match_of r T) e) S) d
     w' w'' failed' between notes''
     → (T' : List Event) × IsUnderWay r T' core' played' failed' n n'' held' w w'' coming coming'' notes notes''
 event_step r T (Line c text k) d core core' played played' failed failed' n n' n'' held held' w w' w'' coming coming'
@@ -390,8 +390,8 @@ event_step r T (Line c text k) d core core' played played' failed failed' n n' n
       T ++ Line c text k ∷ FailsToWrite x ∷ [],
       failed_step r T c text k core core' played played' failed failed' n n' n'' held held' w w' w''
           coming coming' coming'' notes notes' between notes'' x u line on fit sane hears asked
-          (subst (λ (y : Colour). OneFailed r core' played' (after r (match_of r T) (Line c text k))
-          (λ S. block r (match_of r T) (after r (match_of r T) (Line c text k)) S) y w' w'' failed' between notes'' x)
+          (subst (λ (y : Colour). OneFailed r core' played' (match_after r (match_of r T) (Line c text k))
+          (λ S. block r (match_of r T) (match_after r (match_of r T) (Line c text k)) S) y w' w'' failed' between notes'' x)
           (sym (same_colour-true c d is)) s),
     )
 event_step r T (OutputEnds c) d core core' played played' failed failed' n n' n'' held held' w w' w'' coming coming'
@@ -433,9 +433,9 @@ pub opened_step : (r : Rules) (T : List Event) (d : Colour) (k : ℕ) (core core
     (coming coming' coming'' : ℕ → Option ℕ) (notes notes' notes'' : Noted)
     → IsUnderWay r T core played failed n n' held w w' coming coming' notes notes'
     → WasNoted notes' notes'' (Happened (Opened d k) ∷ []) → opens (match_of r T).phase d ≡ true
-    → Asked coming' coming'' (k ∷ [])
+    → ReadsClock coming' coming'' (k ∷ [])
     → Goes r core' played (record { draw = None; entered = false }) nothing_said (match_of r T)
-    (after r (match_of r T) (Opened d k))
+    (match_after r (match_of r T) (Opened d k))
     → IsUnderWay r (T ++ Opened d k ∷ []) core' played failed n n' held w w' coming coming'' notes notes''
 opened_step r T d k core core' played failed n n' held w w' coming coming' coming'' notes notes' notes'' u line opening
     asked goes =
@@ -445,9 +445,9 @@ opened_step r T d k core core' played failed n n' held w w' coming coming' comin
     (record {
       stands = goes.stands;
       puts = λ S. nothing_put (failed S) (w' S) _ (u.fine on S)
-          (none_given r (after r (match_of r T) (Opened d k)) S ∙ goes.gives S);
+          (none_given r (match_after r (match_of r T) (Opened d k)) S ∙ goes.gives S);
       fine = λ h S. u.fine on S;
       noted = noted_as notes'' notes'' [] _
-          (nothing_noted _ _ (λ S. none_given r (after r (match_of r T) (Opened d k)) S ∙ goes.gives S))
+          (nothing_noted _ _ (λ S. none_given r (match_after r (match_of r T) (Opened d k)) S ∙ goes.gives S))
           (noted_none notes'');
     })

@@ -8,9 +8,9 @@ use Rattle.chess_base.specs.Men.{other, same_colour}
 use Rattle.engine_lines.specs.EngineLines.{LineKind, line_kind, Features, Moves, Resigns, OffersDraw, ClaimsDraw, ClaimsWin, Rejects, Answers, SaysElse}
 use Rattle.engine_lines.specs.Items.{Item}
 use Rattle.chess_match.specs.laws.Laws.{is_move, move_said, turn_times, UsedTimesAreDifferences}
-use Rattle.chess_match.specs.Match.{Match, Event, Line, Opened, OutputEnds, FailsToRead, FailsToWrite, items_of_line, seat, hear, start, over, enter, open_turn, played_by, after}
+use Rattle.chess_match.specs.Match.{Match, Event, Line, Opened, OutputEnds, FailsToRead, FailsToWrite, items_of_line, seat, take_items, start, over, enter, open_turn, played_by, match_after}
 use Rattle.chess_match.specs.Rules.{Rules}
-use Rattle.chess_match.specs.Sent.{SentLine, block, entry}
+use Rattle.chess_match.specs.Sent.{SentLine, block, lines_on_entering}
 use Rattle.chess_match.specs.Transcript.{is_on, reads, opens, fits_next, fits_from}
 use Rattle.chess_match.specs.declared.phase.Phase.{Phase}
 use Rattle.chess_match.specs.declared.phase.Phase.TheVariants.{Hello, Setup, SendTurn, AwaitMove, AwaitPong, Over}
@@ -128,12 +128,12 @@ decides_grow White Black text move n m reason p = rw p ([], omega arith, refl, �
 decides_grow Black White text move n m reason p = rw p ([], omega arith, refl, λ on. not_on on)
 
 hello_counts : (S c : Colour) (items : List Item) (k : ℕ) (kind : LineKind) (n : ℕ) (m : Match) → m.phase ≡ Hello c
-    → (let m' = hear c items m in Grows S kind n m (record m' { count = k }))
+    → (let m' = take_items c items m in Grows S kind n m (record m' { count = k }))
 hello_counts S White items k kind n m p =
-    let m' = hear White items m in apart_grow S kind n m (record m' { count = k }) (Hello White) p refl refl refl
+    let m' = take_items White items m in apart_grow S kind n m (record m' { count = k }) (Hello White) p refl refl refl
     (rw p refl)
 hello_counts S Black items k kind n m p =
-    let m' = hear Black items m in apart_grow S kind n m (record m' { count = k }) (Hello Black) p refl refl refl
+    let m' = take_items Black items m in apart_grow S kind n m (record m' { count = k }) (Hello Black) p refl refl refl
     (rw p refl)
 
 offers_grow : (S c : Colour) (kind : LineKind) (n : ℕ) (m : Match) → is_move kind ≡ false
@@ -144,14 +144,14 @@ offers_grow S Black kind n m none = stays_grow S kind n m (offered Black m) refl
 lines_grow : (r : Rules) (S c : Colour) (kind : LineKind) (n : ℕ) (m : Match)
     → Lines r c kind n m (λ m'. Grows S kind n m m')
 lines_grow r S c kind n m = record {
-  hello_ends = λ p d. ends_grow S kind n m (over (Faulted c NoDone) (hear c (items_of_line kind) m))
+  hello_ends = λ p d. ends_grow S kind n m (over (Faulted c NoDone) (take_items c (items_of_line kind) m))
       (hear_used c (items_of_line kind) m).0 (hear_used c (items_of_line kind) m).1 refl;
   hello_counts = λ p d few. hello_counts S c (items_of_line kind) (m.count + 1) kind n m p;
-  hello_next = λ p s d. apart_grow S kind n m (enter (Hello Black) (hear c (items_of_line kind) m)) (Hello White) p refl
+  hello_next = λ p s d. apart_grow S kind n m (enter (Hello Black) (take_items c (items_of_line kind) m)) (Hello White) p refl
       (hear_used c (items_of_line kind) m).0 (hear_used c (items_of_line kind) m).1 refl;
-  hello_judged = λ p s d b f. ends_grow S kind n m (enter (Over (Faulted b f)) (hear c (items_of_line kind) m))
+  hello_judged = λ p s d b f. ends_grow S kind n m (enter (Over (Faulted b f)) (take_items c (items_of_line kind) m))
       (hear_used c (items_of_line kind) m).0 (hear_used c (items_of_line kind) m).1 refl;
-  hello_done = λ p s d. apart_grow S kind n m (enter (Setup White) (hear c (items_of_line kind) m)) (Hello Black) p refl
+  hello_done = λ p s d. apart_grow S kind n m (enter (Setup White) (take_items c (items_of_line kind) m)) (Hello Black) p refl
       (hear_used c (items_of_line kind) m).0 (hear_used c (items_of_line kind) m).1 refl;
   setup_ends = λ p reason n'. ends_grow S kind n m (over reason m) refl refl refl;
   setup_counts = λ p pong few. apart_grow S kind n m (record m { count = m.count + 1 }) (Setup c) p refl refl refl
@@ -272,24 +272,24 @@ used_from : (r : Rules) (S : Colour) (due : Colour → List SentLine) (m : Match
     ≡ true → Ends r S m T (seat m S).used
 used_from r S due m [] f = ([], omega arith, refl, λ on. refl)
 used_from r S due m (Line c t n ∷ T) f =
-    line_goes_on r S c t n (block r m (after r m (Line c t n))) m (after r m (Line c t n)) T
+    line_goes_on r S c t n (block r m (match_after r m (Line c t n))) m (match_after r m (Line c t n)) T
     (and_first (reads m.phase c) _ f) (and_second (reads m.phase c) _ f)
     (line_outcome r c (line_kind t) n m (λ m'. Grows S (line_kind t) n m m') (and_first (reads m.phase c) _ f)
     (lines_grow r S c (line_kind t) n m))
-    (used_from r S (block r m (after r m (Line c t n))) (after r m (Line c t n)) T (and_second (reads m.phase c) _ f))
+    (used_from r S (block r m (match_after r m (Line c t n))) (match_after r m (Line c t n)) T (and_second (reads m.phase c) _ f))
 used_from r S due m (Opened c n ∷ T) f =
     opened_goes_on r S c n m T (opens_at m.phase c (and_first (opens m.phase c) _ f))
-    (used_from r S (block r m (after r m (Opened c n))) (after r m (Opened c n)) T (and_second (opens m.phase c) _ f))
+    (used_from r S (block r m (match_after r m (Opened c n))) (match_after r m (Opened c n)) T (and_second (opens m.phase c) _ f))
 used_from r S due m (OutputEnds c ∷ T) f =
-    stopped r S (block r m (after r m (OutputEnds c))) (awaited S m.phase m.opened) m (after r m (OutputEnds c)) T refl
+    stopped r S (block r m (match_after r m (OutputEnds c))) (awaited S m.phase m.opened) m (match_after r m (OutputEnds c)) T refl
     refl refl (and_second (fits_next due m (OutputEnds c)) _ f)
 used_from r S due m (FailsToRead c ∷ T) f =
-    stopped r S (block r m (after r m (FailsToRead c))) (awaited S m.phase m.opened) m (after r m (FailsToRead c)) T
+    stopped r S (block r m (match_after r m (FailsToRead c))) (awaited S m.phase m.opened) m (match_after r m (FailsToRead c)) T
     refl refl refl (and_second (fits_next due m (FailsToRead c)) _ f)
 used_from r S due m (FailsToWrite c ∷ T) f =
-    stopped r S (block r m (after r m (FailsToWrite c))) (awaited S m.phase m.opened) m (after r m (FailsToWrite c)) T
+    stopped r S (block r m (match_after r m (FailsToWrite c))) (awaited S m.phase m.opened) m (match_after r m (FailsToWrite c)) T
     refl refl refl (and_second (fits_next due m (FailsToWrite c)) _ f)
 
 pub used_times_are_differences : UsedTimesAreDifferences
-used_times_are_differences r T White f = used_from r White (entry r start) start T f
-used_times_are_differences r T Black f = used_from r Black (entry r start) start T f
+used_times_are_differences r T White f = used_from r White (lines_on_entering r start) start T f
+used_times_are_differences r T Black f = used_from r Black (lines_on_entering r start) start T f

@@ -8,7 +8,7 @@ use Rattle.chess_base.specs.Men.{other, same_colour}
 use Rattle.chess_game.specs.declared.ends.Verdict.{Verdict}
 use Rattle.engine_lines.specs.EngineLines.{LineKind, Features, Moves, Resigns, OffersDraw, ClaimsDraw, ClaimsWin, Rejects, Answers, line_kind}
 use Rattle.engine_lines.specs.Items.{Item, items_of, has_done, takes, plays_fischerandom}
-use Rattle.engine_lines.specs.Levels.{left}
+use Rattle.engine_lines.specs.Levels.{time_left}
 use Rattle.chess_match.specs.Reasons.{by_colour}
 use Rattle.chess_match.specs.Rules.{Rules, is_fischerandom}
 use Rattle.chess_match.specs.declared.phase.Phase.{Phase}
@@ -103,8 +103,8 @@ items_of_line (Features text) = items_of text
 items_of_line _ = []
 
 -- the match `m` after a `feature` line of the side `S` with these items, which are added to those known of its engine
-abbrev pub hear : Colour → List Item → Match → Match
-hear S items m = with_seat S (λ s. record s { items = s.items ++ items }) m
+abbrev pub take_items : Colour → List Item → Match → Match
+take_items S items m = with_seat S (λ s. record s { items = s.items ++ items }) m
 
 -- what an engine with these items lacks for the match, if anything: `ping=1`; `setboard=1`, if a start is sent;
 -- `fischerandom` among its variants, for Chess960
@@ -117,24 +117,24 @@ lack r items =
 
 -- the match `m` after both handshakes, by what White's engine lacks (the first option) and Black's (the second): the
 -- first of them that lacks something ends it
-abbrev pub judged : Option MatchFault → Option MatchFault → Match → Match
-judged (Some f) _ m = enter (Over (Faulted White f)) m
-judged None (Some f) m = enter (Over (Faulted Black f)) m
-judged None None m = enter (Setup White) m
+abbrev pub after_handshakes : Option MatchFault → Option MatchFault → Match → Match
+after_handshakes (Some f) _ m = enter (Over (Faulted White f)) m
+after_handshakes None (Some f) m = enter (Over (Faulted Black f)) m
+after_handshakes None None m = enter (Setup White) m
 
 -- the match `m` after the handshake of the side `S` ended: Black's comes after White's, and then both engines are
 -- judged
 abbrev pub greeted : Rules → Colour → Match → Match
 greeted r White m = enter (Hello Black) m
-greeted r Black m = judged (lack r m.white.items) (lack r m.black.items) m
+greeted r Black m = after_handshakes (lack r m.white.items) (lack r m.black.items) m
 
 -- the match `m` after a line of the side `S` in its handshake, which has these items: `done=1` ends the handshake;
 -- without it the 1,000th line ends the match
 unfoldable pub hello_line : Rules → Colour → List Item → Match → Match
 hello_line r S items m =
-    if has_done items then greeted r S (hear S items m)
-    else if nat_le 1000 (m.count + 1) then over (Faulted S NoDone) (hear S items m)
-    else let m' = hear S items m in record m' { count = m.count + 1 }
+    if has_done items then greeted r S (take_items S items m)
+    else if nat_le 1000 (m.count + 1) then over (Faulted S NoDone) (take_items S items m)
+    else let m' = take_items S items m in record m' { count = m.count + 1 }
 
 -- ---- setup
 
@@ -157,7 +157,7 @@ setup_line r S _ m = ignore S m
 
 -- the milliseconds that the side `S` has left
 abbrev pub clock : Rules → Match → Colour → ℕ
-clock r m S = left r.level (length (seat m S).used) (sum (seat m S).used)
+clock r m S = time_left r.level (length (seat m S).used) (sum (seat m S).used)
 
 -- the side `S` plays this move, which took `used` milliseconds: its clock is charged, the other's offer of a draw
 -- lapses, and the move is still to be sent to the other
@@ -169,9 +169,9 @@ played_by S move used m =
 
 -- the match `m` after the line `move M` of the side `S`. The option is the legal move that M denotes: without one `S`
 -- loses; else it is played, and a verdict of the board ends the match. `moment` is when the line came
-abbrev pub move_row : Rules → Colour → Option Move → ℕ → Match → Match
-move_row r S None moment m = over (MovesIllegally S) m
-move_row r S (Some move) moment m =
+abbrev pub played_row : Rules → Colour → Option Move → ℕ → Match → Match
+played_row r S None moment m = over (MovesIllegally S) m
+played_row r S (Some move) moment m =
     let m' = played_by S move (moment - m.opened) m in unless_decided (r.verdict m'.played) m' m'
 
 -- the match `m` after the side `S` offered a draw: agreed if the other's offer is open; ignored if its own is; else its
@@ -193,20 +193,20 @@ was_sent_move m S = nat_lt 0 (length (seat m (other S)).used)
 
 -- the match `m` after a line of the side `S` that means the same before its move and after it, such as `resign` or
 -- `offer draw`
-abbrev pub either_way : Rules → Colour → LineKind → Match → Match
-either_way r S Resigns m = over (over_by.Resigns S) m
-either_way r S OffersDraw m = offer_row S m
-either_way r S ClaimsDraw m = draw_row (r.claim m.played) S m
-either_way r S (ClaimsWin c) m = if same_colour c S then over (ClaimsFalsely S) m else over (over_by.Resigns S) m
-either_way r S Rejects m = if was_sent_move m S then over (RejectsLegalMove S) m else ignore S m
-either_way r S _ m = ignore S m
+abbrev pub turn_line : Rules → Colour → LineKind → Match → Match
+turn_line r S Resigns m = over (over_by.Resigns S) m
+turn_line r S OffersDraw m = offer_row S m
+turn_line r S ClaimsDraw m = draw_row (r.claim m.played) S m
+turn_line r S (ClaimsWin c) m = if same_colour c S then over (ClaimsFalsely S) m else over (over_by.Resigns S) m
+turn_line r S Rejects m = if was_sent_move m S then over (RejectsLegalMove S) m else ignore S m
+turn_line r S _ m = ignore S m
 
 -- the match `m` after a line of the side `S`, of which a move is awaited, and which has time left: a move is played, or
 -- ends the match if the game has no room for it. `moment` is when the line came
 abbrev pub before_row : Rules → Colour → LineKind → ℕ → Match → Match
 before_row r S (Moves text) moment m =
-    if nat_le r.limit (length m.played) then over GameTooLong m else move_row r S (r.reading m.played text) moment m
-before_row r S kind moment m = either_way r S kind m
+    if nat_le r.limit (length m.played) then over GameTooLong m else played_row r S (r.reading m.played text) moment m
+before_row r S kind moment m = turn_line r S kind m
 
 -- the match `m` after a line of the side `S`, of which a move is awaited; `moment` is when it came. If `S` used more
 -- time than it had left, it loses, but draws against a bare king (Laws of Chess 2023, article 6.9, of whose draws only
@@ -226,7 +226,7 @@ ping_number m S = length (seat m S).used + 1
 unfoldable pub after_line : Rules → Colour → LineKind → Match → Match
 after_line r S (Moves _) m = over (MovesOutOfTurn S) m
 after_line r S (Answers n) m = if n == ping_number m S then open_turn (other S) m else ignore S m
-after_line r S kind m = either_way r S kind m
+after_line r S kind m = turn_line r S kind m
 
 -- ---- one event
 
@@ -240,9 +240,9 @@ after_kind r (AwaitPong S) kind moment m = after_line r S kind m
 after_kind r _ kind moment m = m
 
 -- the match after an event, by the rules `r`, if it is `m` before
-abbrev pub after : Rules → Match → Event → Match
-after r m (Line S text moment) = after_kind r m.phase (line_kind text) moment m
-after r m (Opened S moment) = record m { phase = AwaitMove S; opened = moment }
-after r m (OutputEnds S) = over (Faulted S Ended) m
-after r m (FailsToRead S) = over (Faulted S Read) m
-after r m (FailsToWrite S) = over (Faulted S Write) m
+abbrev pub match_after : Rules → Match → Event → Match
+match_after r m (Line S text moment) = after_kind r m.phase (line_kind text) moment m
+match_after r m (Opened S moment) = record m { phase = AwaitMove S; opened = moment }
+match_after r m (OutputEnds S) = over (Faulted S Ended) m
+match_after r m (FailsToRead S) = over (Faulted S Read) m
+match_after r m (FailsToWrite S) = over (Faulted S Write) m

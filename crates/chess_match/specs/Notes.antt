@@ -3,9 +3,9 @@ use Rattle.std.specs.Prelude.{ℕ, if◌then◌else◌, List, [], ◌∷◌, ◌
 use Rattle.chess_base.specs.declared.man.Colour.{Colour}
 use Rattle.chess_base.specs.declared.man.Colour.TheVariants.{White}
 use Rattle.chess_base.specs.Men.{other}
-use Rattle.chess_match.specs.Match.{Match, Event, Line, start, after}
+use Rattle.chess_match.specs.Match.{Match, Event, Line, start, match_after}
 use Rattle.chess_match.specs.Rules.{Rules}
-use Rattle.chess_match.specs.Sent.{SentLine, entry, bytes_of}
+use Rattle.chess_match.specs.Sent.{SentLine, lines_on_entering, bytes_of}
 use Rattle.chess_match.specs.Transcript.{is_on, block_at, joined_blocks}
 
 -- what a witness (such as the log) is given: an event, or the bytes that an engine is sent
@@ -36,12 +36,12 @@ first_sent m _ = White
 abbrev pub notes_from : Rules → Match → List Event → List Note
 notes_from r m [] = []
 notes_from r m (e ∷ es) =
-    Happened e ∷ (both_notes (first_sent (after r m e) e) (λ S. joined_blocks (block_at r m e es S))
-    ++ notes_from r (after r m e) es)
+    Happened e ∷ (both_notes (first_sent (match_after r m e) e) (λ S. joined_blocks (block_at r m e es S))
+    ++ notes_from r (match_after r m e) es)
 
 -- the notes of the match of the transcript `T`: what White is sent first, and then those of each event
 abbrev pub notes_of : Rules → List Event → List Note
-notes_of r T = both_notes White (λ S. entry r start S) ++ notes_from r start T
+notes_of r T = both_notes White (λ S. lines_on_entering r start S) ++ notes_from r start T
 
 -- ---- a witness
 

@@ -64,8 +64,8 @@ reported GameTooLong = (Unfinished, codes "Game too long", Normal)
 reported (Faulted c f) = (Unfinished, colour_name c ++ fault_words f, Normal)
 
 -- the outcome of a match that ended for this reason
-abbrev pub outcome_of : Reason → Outcome
-outcome_of reason = (reported reason).0
+abbrev pub outcome_by_reason : Reason → Outcome
+outcome_by_reason reason = (reported reason).0
 
 -- the comment on the end of a match that ended for this reason, such as `Black resigns`
 abbrev pub comment_of : Reason → List ℕ
@@ -85,4 +85,4 @@ first_fault _ failed = if failed White then Some (White, Write) else if failed B
 -- the result that is declared in the game when the match ends for this reason; `None` if the board has a verdict
 abbrev pub declared_at : Option Verdict → Reason → Option Declared
 declared_at (Some v) reason = None
-declared_at None reason = Some (record { outcome = outcome_of reason; comment = comment_of reason })
+declared_at None reason = Some (record { outcome = outcome_by_reason reason; comment = comment_of reason })

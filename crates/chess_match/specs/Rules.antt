@@ -11,7 +11,7 @@ use Rattle.chess_base.specs.Men.{Men, same_colour, same_kind}
 use Rattle.chess_base.specs.Moves.{after}
 use Rattle.chess_fen.specs.Writing.{fen}
 use Rattle.chess_game.specs.Ends.{verdict, claims}
-use Rattle.chess_game.specs.Line.{last}
+use Rattle.chess_game.specs.Line.{position_after}
 use Rattle.chess_game.specs.declared.ends.Claims.{Claims}
 use Rattle.chess_game.specs.declared.ends.Verdict.{Verdict}
 use Rattle.chess_pgn.specs.GameText.{is_initial}
@@ -89,9 +89,9 @@ rules_of start level limit = record {
   first = start.side;
   level = level;
   limit = limit;
-  reading = λ played text. move_read (reading (last start played) text);
+  reading = λ played text. move_read (reading (position_after start played) text);
   verdict = λ played. verdict start played;
   claim = λ played. claim_by (claims start played);
   move_text = λ as_san played. text_of_last as_san start played;
-  has_bare_king = λ played c. has_bare_king c (last start played).men;
+  has_bare_king = λ played c. has_bare_king c (position_after start played).men;
 }

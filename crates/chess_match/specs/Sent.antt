@@ -8,7 +8,7 @@ use Rattle.chess_cecp.specs.Declaring.{result_text}
 use Rattle.engine_lines.specs.Items.{Item, takes, is_known}
 use Rattle.engine_lines.specs.Levels.{level_text}
 use Rattle.chess_match.specs.Match.{Match, Seat, seat, clock, ping_number}
-use Rattle.chess_match.specs.Reasons.{outcome_of, comment_of}
+use Rattle.chess_match.specs.Reasons.{outcome_by_reason, comment_of}
 use Rattle.chess_match.specs.Rules.{Rules, is_fischerandom}
 use Rattle.chess_match.specs.declared.phase.Phase.{Phase}
 use Rattle.chess_match.specs.declared.phase.Phase.TheVariants.{Hello, Setup, SendTurn, AwaitMove, AwaitPong, Over}
@@ -18,8 +18,8 @@ use Rattle.chess_match.specs.declared.reason.Reason.TheVariants.{Faulted}
 use Rattle.chess_base.specs.declared.man.Variant.{Variant}
 
 -- the list `xs` if `b` is true, else the empty list
-abbrev pub when : {A : Type 0} → Bool → List A → List A
-when b xs = if b then xs else []
+abbrev pub list_if : {A : Type 0} → Bool → List A → List A
+list_if b xs = if b then xs else []
 
 -- ---- lines
 
@@ -38,7 +38,7 @@ answer_words name = (if is_known name then codes "accepted " else codes "rejecte
 -- the text of a line without `\n`: `usermove e2e4`, `time 30000`
 abbrev pub words_of : SentLine → List ℕ
 words_of (Says text) = text
-words_of (MoveSent prefixed text) = when prefixed (codes "usermove ") ++ text
+words_of (MoveSent prefixed text) = list_if prefixed (codes "usermove ") ++ text
 words_of (Time n) = codes "time " ++ decimal n
 words_of (Otim n) = codes "otim " ++ decimal n
 
@@ -58,8 +58,8 @@ abbrev pub start_lines : Option (List ℕ) → List SentLine
 start_lines start = option_map_or (λ fen. Says (codes "setboard " ++ fen) ∷ []) start []
 
 -- the line `variant fischerandom` if the game is of Chess960, as a list of one; else empty
-abbrev pub variant_lines : Variant → List SentLine
-variant_lines v = when (is_fischerandom v) (Says (codes "variant fischerandom") ∷ [])
+abbrev pub variant_command : Variant → List SentLine
+variant_command v = list_if (is_fischerandom v) (Says (codes "variant fischerandom") ∷ [])
 
 -- the line `ping N` with this number
 abbrev pub ping : ℕ → SentLine
@@ -69,23 +69,23 @@ ping n = Says (codes "ping " ++ decimal n)
 -- `ping 1`
 unfoldable pub setup_lines : Rules → List SentLine
 setup_lines r =
-    Says (codes "new") ∷ (variant_lines r.variant ++ (Says (codes "level " ++ level_text r.level)
+    Says (codes "new") ∷ (variant_command r.variant ++ (Says (codes "level " ++ level_text r.level)
     ∷ Says (codes "nopost") ∷ Says (codes "easy") ∷ Says (codes "force") ∷ (start_lines r.start_fen ++ ping 1 ∷ [])))
 
 -- the line with the last move played, in the form that the engine of the side `S` asked for: after `usermove` or alone,
 -- in SAN or by squares
-unfoldable pub last_move : Rules → Match → Colour → SentLine
-last_move r m S = MoveSent (takes (codes "usermove") (seat m S).items)
+unfoldable pub last_move_sent : Rules → Match → Colour → SentLine
+last_move_sent r m S = MoveSent (takes (codes "usermove") (seat m S).items)
     (r.move_text (takes (codes "san") (seat m S).items) m.played)
 
 -- the line with the last move for the side `S`, as a list of one; empty if no move was played yet
 abbrev pub last_move_lines : Rules → Match → Colour → List SentLine
-last_move_lines r m S = when (nat_lt 0 (length m.played)) (last_move r m S ∷ [])
+last_move_lines r m S = list_if (nat_lt 0 (length m.played)) (last_move_sent r m S ∷ [])
 
 -- the lines `time` and `otim` for the side `S`, in centiseconds rounded down; none if its engine has `time=0`
 unfoldable pub clock_lines : Rules → Match → Colour → List SentLine
 clock_lines r m S =
-    when (takes (codes "time") (seat m S).items) (Time (clock r m S / 10) ∷ Otim (clock r m (other S) / 10) ∷ [])
+    list_if (takes (codes "time") (seat m S).items) (Time (clock r m S / 10) ∷ Otim (clock r m (other S) / 10) ∷ [])
 
 -- the lines that open a turn of the side `S`: both clocks and the last move; in its first turn the move comes first,
 -- and `go` last
@@ -98,13 +98,13 @@ opening_lines r m S =
 -- the line with the last move, as a list of one, if `unsent_to`, the side that is still to be sent it, is `S`; else
 -- empty
 abbrev pub unsent_lines : Rules → Match → Colour → Option Colour → List SentLine
-unsent_lines r m S unsent_to = option_map_or (λ c. when (same_colour c S) (last_move r m S ∷ [])) unsent_to []
+unsent_lines r m S unsent_to = option_map_or (λ c. list_if (same_colour c S) (last_move_sent r m S ∷ [])) unsent_to []
 
 -- the last lines for the side `S` in a match that ended for this reason: the last move, if it is still to be sent that,
 -- `result 1-0 {Black resigns}`, and `quit`
 unfoldable pub end_lines : Rules → Match → Colour → Reason → List SentLine
 end_lines r m S reason =
-    unsent_lines r m S m.unsent_to ++ (Says (codes "result " ++ result_text (outcome_of reason) (comment_of reason))
+    unsent_lines r m S m.unsent_to ++ (Says (codes "result " ++ result_text (outcome_by_reason reason) (comment_of reason))
     ∷ Says (codes "quit") ∷ [])
 
 -- whether this reason, for which a match ended, is that writing to the side `S` failed
@@ -115,16 +115,16 @@ is_unwritten _ S = false
 -- the lines that the side `S` is sent when the match `m` enters this phase: most phases have lines for one side only;
 -- at the end both are sent some, unless writing to `S` failed
 abbrev pub entry_to : Rules → Match → Colour → Phase → List SentLine
-entry_to r m S (Hello c) = when (same_colour c S) (Says (codes "xboard") ∷ Says (codes "protover 2") ∷ [])
-entry_to r m S (Setup c) = when (same_colour c S) (setup_lines r)
-entry_to r m S (SendTurn c) = when (same_colour c S) (opening_lines r m S)
+entry_to r m S (Hello c) = list_if (same_colour c S) (Says (codes "xboard") ∷ Says (codes "protover 2") ∷ [])
+entry_to r m S (Setup c) = list_if (same_colour c S) (setup_lines r)
+entry_to r m S (SendTurn c) = list_if (same_colour c S) (opening_lines r m S)
 entry_to r m S (AwaitMove c) = []
-entry_to r m S (AwaitPong c) = when (same_colour c S) (ping (ping_number m S) ∷ [])
+entry_to r m S (AwaitPong c) = list_if (same_colour c S) (ping (ping_number m S) ∷ [])
 entry_to r m S (Over reason) = if is_unwritten reason S then [] else end_lines r m S reason
 
 -- the lines that the side `S` is sent when the match `m` enters the phase in which it now is
-abbrev pub entry : Rules → Match → Colour → List SentLine
-entry r m S = entry_to r m S m.phase
+abbrev pub lines_on_entering : Rules → Match → Colour → List SentLine
+lines_on_entering r m S = entry_to r m S m.phase
 
 -- ---- one event's block
 
@@ -141,7 +141,7 @@ is_same_phase _ _ = false
 -- the line `draw` for the engine `own`, if its opponent's offer of a draw was opened between the opponent's states
 -- `old` and `new`; as a list of one, empty if there was no such offer or `own` has `draw=0`
 abbrev pub draw_line : Seat → Seat → Seat → List SentLine
-draw_line own old new = when (not old.offers && new.offers && takes (codes "draw") own.items) (Says (codes "draw") ∷ [])
+draw_line own old new = list_if (not old.offers && new.offers && takes (codes "draw") own.items) (Says (codes "draw") ∷ [])
 
 -- the lines that the side `S` is sent when an event takes the match from `m` to `m'`: answers to its items, the
 -- other's draw offer, and those of a new phase
@@ -149,4 +149,4 @@ unfoldable pub block : Rules → Match → Match → Colour → List SentLine
 block r m m' S =
     answers_to (drop (length (seat m S).items) (seat m' S).items)
     ++ (draw_line (seat m' S) (seat m (other S)) (seat m' (other S))
-    ++ (if is_same_phase m.phase m'.phase then [] else entry r m' S))
+    ++ (if is_same_phase m.phase m'.phase then [] else lines_on_entering r m' S))

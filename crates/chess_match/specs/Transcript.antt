@@ -4,10 +4,10 @@ use Rattle.std.specs.Prelude.{ℕ, ◌&&◌, ◌||◌, nat_lt, Bool, true, false
 use Rattle.chess_base.specs.declared.man.Colour.{Colour}
 use Rattle.chess_base.specs.Men.{same_colour}
 use Rattle.chess_pgn.specs.Written.{cut_tag}
-use Rattle.engine_lines.specs.Items.{told}
-use Rattle.chess_match.specs.Match.{Match, Event, Line, Opened, OutputEnds, FailsToRead, FailsToWrite, seat, start, after}
+use Rattle.engine_lines.specs.Items.{last_value}
+use Rattle.chess_match.specs.Match.{Match, Event, Line, Opened, OutputEnds, FailsToRead, FailsToWrite, seat, start, match_after}
 use Rattle.chess_match.specs.Rules.{Rules}
-use Rattle.chess_match.specs.Sent.{SentLine, block, entry, when}
+use Rattle.chess_match.specs.Sent.{SentLine, block, lines_on_entering, list_if}
 use Rattle.chess_match.specs.declared.phase.Phase.{Phase}
 use Rattle.chess_match.specs.declared.phase.Phase.TheVariants.{Hello, Setup, SendTurn, AwaitMove, AwaitPong, Over}
 use Rattle.chess_match.specs.declared.reason.MatchFault.{MatchFault}
@@ -16,12 +16,12 @@ use Rattle.std.specs.List.{flat_map, fold, list_any}
 
 -- the match after all events of the transcript `T`
 abbrev pub match_of : Rules → List Event → Match
-match_of r T = fold (after r) start T
+match_of r T = fold (match_after r) start T
 
 -- the name that the engine of the side `S` gave in its last `myname`, cut so that a PGN tag can hold it; empty if it
 -- gave none
-abbrev pub name_of : Match → Colour → List ℕ
-name_of m S = cut_tag (told (codes "myname") (seat m S).items)
+abbrev pub engine_name : Match → Colour → List ℕ
+engine_name m S = cut_tag (last_value (codes "myname") (seat m S).items)
 
 -- ---- what fits
 
@@ -56,11 +56,11 @@ fits_next due m (FailsToWrite S) = is_on m.phase && nat_lt 0 (length (due S))
 -- when the match is `m`
 abbrev pub fits_from : Rules → (Colour → List SentLine) → Match → List Event → Bool
 fits_from r due m [] = true
-fits_from r due m (e ∷ es) = fits_next due m e && fits_from r (block r m (after r m e)) (after r m e) es
+fits_from r due m (e ∷ es) = fits_next due m e && fits_from r (block r m (match_after r m e)) (match_after r m e) es
 
 -- whether each event of the transcript `T` may come when it does, from the start of the match on
 abbrev pub fits : Rules → List Event → Bool
-fits r T = fits_from r (entry r start) start T
+fits r T = fits_from r (lines_on_entering r start) start T
 
 -- ---- what is sent
 
@@ -80,17 +80,17 @@ is_fault _ S _ = false
 -- the lines that the side `S` is sent at the event `e` in the match `m`, as a list of one block; empty if they are
 -- dropped, or if the event is that writing to `S` failed. `es` are the events after it
 abbrev pub block_at : Rules → Match → Event → List Event → Colour → List (List SentLine)
-block_at r m e es S = if is_dropped e es S || is_fault Write S e then [] else block r m (after r m e) S ∷ []
+block_at r m e es S = if is_dropped e es S || is_fault Write S e then [] else block r m (match_after r m e) S ∷ []
 
 -- the blocks of lines that the side `S` is sent at these events, from the match `m` on
 abbrev pub blocks_from : Rules → Colour → Match → List Event → List (List SentLine)
 blocks_from r S m [] = []
-blocks_from r S m (e ∷ es) = block_at r m e es S ++ blocks_from r S (after r m e) es
+blocks_from r S m (e ∷ es) = block_at r m e es S ++ blocks_from r S (match_after r m e) es
 
 -- the blocks of lines that the side `S` is sent in the match of the transcript `T`: one before all events, and one at
 -- each event (many have no lines)
 abbrev pub blocks : Rules → Colour → List Event → List (List SentLine)
-blocks r S T = entry r start S ∷ blocks_from r S start T
+blocks r S T = lines_on_entering r start S ∷ blocks_from r S start T
 
 -- the lines of all these blocks, in order, as one list
 abbrev pub joined_blocks : List (List SentLine) → List SentLine
@@ -101,12 +101,12 @@ joined_blocks bs = flat_map (λ b. b) bs
 -- the line that an event brings from the side `S`, as a list of one; empty for any other event. The line is `None` if
 -- it was too long
 abbrev pub line_in : Colour → Event → List (Option (List ℕ))
-line_in S (Line c text moment) = when (same_colour c S) (text ∷ [])
+line_in S (Line c text moment) = list_if (same_colour c S) (text ∷ [])
 line_in S _ = []
 
 -- the lines that came from the side `S` in the transcript `T`; `None` stands for one that was too long
-abbrev pub lines_of : Colour → List Event → List (Option (List ℕ))
-lines_of S T = flat_map (line_in S) T
+abbrev pub lines_of_engine : Colour → List Event → List (Option (List ℕ))
+lines_of_engine S T = flat_map (line_in S) T
 
 -- the time that was read from the clock at an event, as a list of one; the empty list if none was read
 abbrev pub moment_in : Event → List ℕ

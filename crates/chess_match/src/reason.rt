@@ -1,7 +1,7 @@
 //! Why a match is over, and how that is reported.
 
 ghost use Rattle.std.specs.Prelude.{◌≡◌, ◌≤◌, ◌++◌, length};
-ghost use Rattle.chess_match.specs.Reasons.{by_colour, win_of, outcome_of, comment_of, claim_comment, colour_name, fault_words, ended_by, first_fault};
+ghost use Rattle.chess_match.specs.Reasons.{by_colour, win_of, outcome_by_reason, comment_of, claim_comment, colour_name, fault_words, ended_by, first_fault};
 
 use chess_base::Colour;
 use chess_game::{Outcome, Verdict};
@@ -119,7 +119,7 @@ impl MatchFault {
 impl Reason {
     /// The outcome of a game that ended for this reason; `Unfinished` if an engine failed or the game is too long.
     pub fn outcome(self) -> Outcome
-        ensures { result ≡ outcome_of self }
+        ensures { result ≡ outcome_by_reason self }
     {
         match self {
             Reason::Decided(verdict) => verdict.outcome(),

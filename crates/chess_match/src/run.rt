@@ -5,16 +5,16 @@ ghost use Rattle.arrayvec.specs.ArrayVec.{array_vec_len};
 ghost use Rattle.chess_base.specs.Men.{other};
 ghost use Rattle.chess_base.specs.declared.man.Colour.{Colour};
 ghost use Rattle.chess_cecp.specs.Next.{NextLine, line_read};
-ghost use Rattle.chess_game.specs.Game.{at, outcome_now, with_declared, verdict_now};
+ghost use Rattle.chess_game.specs.Game.{with_state, outcome_now, with_declared, verdict_now};
 ghost use Rattle.chess_match.specs.ties.Awaits.{IsAwaited};
 ghost use Rattle.chess_match.specs.ties.Delivering.{by_turn, event_read, line_event, Delivered, HasLast};
 ghost use Rattle.engine_lines.specs.EngineLines.{line_kind, Features};
 ghost use Rattle.engine_lines.specs.Items.{Item};
-ghost use Rattle.chess_match.specs.Match.{Match, FailsToWrite, after};
+ghost use Rattle.chess_match.specs.Match.{Match, FailsToWrite, match_after};
 ghost use Rattle.chess_match.specs.Notes.{WasNoted, Happened, given_note, both_notes};
 ghost use Rattle.chess_match.specs.Reasons.{declared_at, by_colour};
 ghost use Rattle.chess_match.specs.Rules.{Rules};
-ghost use Rattle.chess_match.specs.Run.{Ports, MatchRan, RanBefore, Asked, text_read};
+ghost use Rattle.chess_match.specs.Run.{Ports, MatchRan, RanBefore, ReadsClock, text_read};
 ghost use Rattle.engine_lines.specs.Seen.{seen};
 ghost use Rattle.chess_match.specs.Sent.{block, bytes_of, answers_to};
 ghost use Rattle.chess_match.specs.ties.Represents.{Represents, Goes, given_block, items_to};
@@ -324,11 +324,11 @@ fn end_for_other<W: Output, L: Witness, G: MatchGame>(
     requires on { is_on core.old.phase ≡ true }
     requires empty { waiting.old.items ≡ [] }
     ensures ended { (r : Rules) (m : Match) → G.plays game.now r → Represents r core.old (G.played game.now) m
-        → Represents r core.new (G.played game.now) (after r m (FailsToWrite side))
+        → Represents r core.new (G.played game.now) (match_after r m (FailsToWrite side))
         × SendsIf result (W.seen others.old) (W.seen others.new)
-        (bytes_of (block r m (after r m (FailsToWrite side)) (other side)))
+        (bytes_of (block r m (match_after r m (FailsToWrite side)) (other side)))
         × WasNoted (L.noted witness.old) (L.noted witness.new) (Happened (FailsToWrite side)
-        ∷ given_note (other side) (bytes_of (block r m (after r m (FailsToWrite side)) (other side)))) }
+        ∷ given_note (other side) (bytes_of (block r m (match_after r m (FailsToWrite side)) (other side)))) }
     ensures empty { waiting.new.items ≡ [] }
 {
     witness.write_fails(side);
@@ -491,12 +491,12 @@ fn hear_line<M: Moments, L: Witness, G: MatchGame>(
     ensures rules { (r : Rules) → G.plays game.old r → G.plays game.new r }
     ensures origin { G.origin game.new ≡ G.origin game.old }
     ensures heard { (moment : ℕ) × (items : List Item)
-        × Asked (M.coming moments.old) (M.coming moments.new) (moment_in (line_event side line.now moment))
+        × ReadsClock (M.coming moments.old) (M.coming moments.new) (moment_in (line_event side line.now moment))
         × WasNoted (L.noted witness.old) (L.noted witness.new) (Happened (line_event side line.now moment) ∷ [])
         × (block.new.items ≡ bytes_of (answers_to items))
         × ((r : Rules) (m : Match) → G.plays game.old r → reads m.phase side ≡ true
         → Represents r core.old (G.played game.old) m
-        → Goes r core.new (G.played game.new) result (items_to side items) m (after r m (line_event side line.now moment))) }
+        → Goes r core.new (G.played game.new) result (items_to side items) m (match_after r m (line_event side line.now moment))) }
     ensures room { array_vec_len block.new ≤ ANSWERS_LEN }
 {
     let moment = moments.now();
@@ -523,7 +523,7 @@ fn hear<M: Moments, L: Witness, G: MatchGame>(
     ensures rules { (r : Rules) → G.plays game.old r → G.plays game.new r }
     ensures origin { G.origin game.new ≡ G.origin game.old }
     ensures heard { (moment : ℕ) × (items : List Item)
-        × Asked (M.coming moments.old) (M.coming moments.new)
+        × ReadsClock (M.coming moments.old) (M.coming moments.new)
         (moment_in (event_read side moment (line_read heard line.now)))
         × WasNoted (L.noted witness.old) (L.noted witness.new)
         (Happened (event_read side moment (line_read heard line.now)) ∷ [])
@@ -531,7 +531,7 @@ fn hear<M: Moments, L: Witness, G: MatchGame>(
         × ((r : Rules) (m : Match) → G.plays game.old r → reads m.phase side ≡ true
         → Represents r core.old (G.played game.old) m
         → Goes r core.new (G.played game.new) result (items_to side items) m
-        (after r m (event_read side moment (line_read heard line.now)))) }
+        (match_after r m (event_read side moment (line_read heard line.now)))) }
     ensures room { array_vec_len block.new ≤ ANSWERS_LEN }
 {
     match heard {
@@ -557,7 +557,7 @@ fn hear<M: Moments, L: Witness, G: MatchGame>(
 // Declares the outcome and the comment of the reason in the game, unless the board has a verdict.
 fn declare<B: Board>(game: &mut Game<B>, reason: Reason)
     requires { game.old.state.declared ≡ None }
-    ensures { game.new ≡ at game.old (with_declared game.old.state (declared_at (verdict_now game.old.state) reason)) }
+    ensures { game.new ≡ with_state game.old (with_declared game.old.state (declared_at (verdict_now game.old.state) reason)) }
 {
     if game.verdict().is_some() {
         return;
@@ -578,7 +578,7 @@ fn end_of<B: Board>(
     ensures white_name { result.white_name ≡ core.white.name }
     ensures black_name { result.black_name ≡ core.black.name }
     ensures game { game.new
-        ≡ at game.old (with_declared game.old.state (declared_at (verdict_now game.old.state) reason)) }
+        ≡ with_state game.old (with_declared game.old.state (declared_at (verdict_now game.old.state) reason)) }
 {
     declare(game, reason);
     MatchEnd {

@@ -7,8 +7,8 @@ ghost use Rattle.byte_devices.specs.Devices.{Sends};
 ghost use Rattle.chess_match.specs.Match.{Match};
 ghost use Rattle.chess_match.specs.Rules.{Rules};
 ghost use Rattle.chess_base.specs.declared.man.Move.{Move};
-ghost use Rattle.chess_match.specs.Sent.{Says, bytes_of, last_move_lines, clock_lines, opening_lines, setup_lines, end_lines, entry, unsent_lines, variant_lines, is_unwritten};
-ghost use Rattle.chess_match.specs.ties.Represents.{Represents, player, to};
+ghost use Rattle.chess_match.specs.Sent.{Says, bytes_of, last_move_lines, clock_lines, opening_lines, setup_lines, end_lines, lines_on_entering, unsent_lines, variant_command, is_unwritten};
+ghost use Rattle.chess_match.specs.ties.Represents.{Represents, player, lines_if_to};
 
 use crate::block::{Block, add, add_end, add_level, add_move, add_ping, add_times};
 use crate::match_game::MatchGame;
@@ -93,7 +93,7 @@ fn add_opening(block: &mut Block, core: &MatchState, side: Colour)
 #[tactic(auto, unfolding(crate::specs::Sent::bytes_of))]
 fn add_variant(block: &mut Block, variant: Variant)
     requires { array_vec_len block.old + 30 ≤ BLOCK_LEN }
-    ensures text { block.new.items ≡ block.old.items ++ bytes_of (variant_lines variant) }
+    ensures text { block.new.items ≡ block.old.items ++ bytes_of (variant_command variant) }
     ensures len { array_vec_len block.new ≤ array_vec_len block.old + 30 }
 {
     match variant {
@@ -183,7 +183,7 @@ fn add_entry<G: MatchGame>(block: &mut Block, core: &MatchState, game: &G, side:
     requires unsent_to { is_some core.now.unsent_to ≡ true → is_some core.now.last ≡ true }
     requires room { array_vec_len block.old + 300 ≤ BLOCK_LEN }
     ensures { (r : Rules) (m : Match) → G.plays game.now r → Represents r core.now (G.played game.now) m
-        → block.new.items ≡ block.old.items ++ bytes_of (entry r m side) }
+        → block.new.items ≡ block.old.items ++ bytes_of (lines_on_entering r m side) }
 {
     match core.phase {
         Phase::Hello(on) => {
@@ -220,7 +220,7 @@ fn add_entry<G: MatchGame>(block: &mut Block, core: &MatchState, game: &G, side:
 #[tactic(auto, unfolding(crate::specs::Sent::bytes_of))]
 pub(crate) fn add_offer(block: &mut Block, given: Actions, side: Colour)
     requires { array_vec_len block.old + 10 ≤ BLOCK_LEN }
-    ensures text { block.new.items ≡ block.old.items ++ bytes_of (to given.draw side (Says (codes "draw") ∷ [])) }
+    ensures text { block.new.items ≡ block.old.items ++ bytes_of (lines_if_to given.draw side (Says (codes "draw") ∷ [])) }
     ensures len { array_vec_len block.new ≤ array_vec_len block.old + 10 }
 {
     match given.draw {
@@ -246,7 +246,7 @@ pub(crate) fn add_entered<G: MatchGame>(
     requires unsent_to { is_some core.now.unsent_to ≡ true → is_some core.now.last ≡ true }
     requires room { array_vec_len block.old + 300 ≤ BLOCK_LEN }
     ensures { (r : Rules) (m : Match) → G.plays game.now r → Represents r core.now (G.played game.now) m
-        → block.new.items ≡ block.old.items ++ bytes_of (if given.entered then entry r m side else []) }
+        → block.new.items ≡ block.old.items ++ bytes_of (if given.entered then lines_on_entering r m side else []) }
 {
     if given.entered {
         add_entry(block, core, game, side);

@@ -67,7 +67,7 @@ pub(crate) const ENTRY: Actions = Actions {
 
 impl Player {
     // What is kept of an engine of which nothing is known yet.
-    #[tactic(auto, unfolding(crate::specs::ties::Represents::name_by, engine_lines::specs::Items::told))]
+    #[tactic(auto, unfolding(crate::specs::ties::Represents::name_by, engine_lines::specs::Items::last_value))]
     fn new() -> Self
         ensures features { result.features ≡ features_of [] }
         ensures name { result.name ≡ name_by [] }
@@ -138,7 +138,7 @@ pub(crate) fn is_side(side: Colour, other: Colour) -> bool
 }
 
 // If the item is `myname`, sets `name` to its value, cut so that a PGN tag can hold it; else leaves it.
-#[tactic(auto, unfolding(crate::specs::ties::Represents::name_by, engine_lines::specs::Items::told))]
+#[tactic(auto, unfolding(crate::specs::ties::Represents::name_by, engine_lines::specs::Items::last_value))]
 fn note_name(name: &mut TagText, item: &Item<'_>)
     ensures { (items : List told.Item) → name.old ≡ name_by items
         → name.new ≡ name_by (items ++ item_seen item.now ∷ []) }

@@ -6,20 +6,20 @@ use Rattle.std.specs.Int.RustNames.{count_ones}
 use Rattle.std.specs.List.{range_with_len, filter}
 use Rattle.std.proofs.Math.Nat.{div-div-eq-div-mul, pow-suc}
 use lib.Count.{ones_step}
-use Rattle.chess_moves.specs.Sets.{has, members}
+use Rattle.chess_moves.specs.Sets.{contains, members}
 use Rattle.chess_moves.proofs.Members.{of_range}
 use Rattle.chess_moves.proofs.Words.{bit_cases}
 
 one_more : (q : ℕ → Bool) (a : ℕ) (xs : List ℕ) → length (filter q (a ∷ xs)) ≡ cond (q a) 1 0 + length (filter q xs)
 one_more q a xs = elim (cases_Bool (q a)) [ inl kept ↦ rw kept (omega arith) | inr left ↦ rw left (omega arith) ]
 
-bit_counted : (w k : ℕ) → cond (has w k) 1 0 ≡ bit_at w k
-unfolding has
+bit_counted : (w k : ℕ) → cond (contains w k) 1 0 ≡ bit_at w k
+unfolding contains
 bit_counted w k = elim (bit_cases w k) [ inl none ↦ rw none refl | inr one ↦ rw one refl ]
 
 -- the bits from a on, of which there are n
 counted_from : (w n a : ℕ) → w / 2 ^ a < 2 ^ n
-    → count_ones (w / 2 ^ a) ≡ length (filter (λ k. has w k) (range_with_len a n))
+    → count_ones (w / 2 ^ a) ≡ length (filter (λ k. contains w k) (range_with_len a n))
 unfolding count_ones
 counted_from w zero a h = let none : w / 2 ^ a ≡ 0 = omega (arith, h) in rw none refl
 counted_from w (suc n) a h =
@@ -30,8 +30,8 @@ counted_from w (suc n) a h =
     rw half at (let below : w / 2 ^ a / 2 < 2 ^ n = omega (arith, twice) in below) in
     let rest = counted_from w n (a + 1) small in
     let step : count_ones (w / 2 ^ a) ≡ w / 2 ^ a % 2 + count_ones (w / 2 ^ a / 2) = ones_step (w / 2 ^ a) in
-    let bit : cond (has w a) 1 0 ≡ w / 2 ^ a % 2 = bit_counted w a in
-    let more = one_more (λ k. has w k) a (range_with_len (a + 1) n) in
+    let bit : cond (contains w a) 1 0 ≡ w / 2 ^ a % 2 = bit_counted w a in
+    let more = one_more (λ k. contains w k) a (range_with_len (a + 1) n) in
     step ∙ rw (half, rest, ← bit) (sym more)
 
 pub members_counted : (w : ℕ) → w < 2 ^ 64 → count_ones w ≡ length (members w)

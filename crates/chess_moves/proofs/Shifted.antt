@@ -6,10 +6,10 @@ use Rattle.std.proofs.lemmas.Nat.{div-add-mod'}
 use Rattle.std.proofs.lemmas.Nat.Bits.{bit_at-zero, bit_at_cat_low, bit_at_cat_high}
 use Rattle.std.specs.Int.{bit_at}
 use Rattle.chess_base.specs.Squares.{file, rank}
-use Rattle.chess_moves.specs.Sets.{has}
+use Rattle.chess_moves.specs.Sets.{contains}
 
-pub has_lowered : (w d k : ℕ) → has (w / 2 ^ d) k ≡ has w (k + d)
-unfolding has
+pub has_lowered : (w d k : ℕ) → contains (w / 2 ^ d) k ≡ contains w (k + d)
+unfolding contains
 has_lowered w d k =
     let e : d + k ≡ k + d = omega arith in
     ap (λ x. (x % 2) == 1) (shr-shr w d k ∙ ap (λ n. w / 2 ^ n) e)
@@ -29,8 +29,8 @@ moved_high w d k l =
     let e : w * 2 ^ d ≡ w * 2 ^ d + 0 = omega arith in
     ap (λ x. bit_at x k) e ∙ bit_at_cat_high w d 0 k (pow_pos d) l
 
-pub has_raised : (w d k : ℕ) → k < 64 → has (w * 2 ^ d % 2 ^ 64) k ≡ (nat_le d k && has w (k - d))
-unfolding has
+pub has_raised : (w d k : ℕ) → k < 64 → contains (w * 2 ^ d % 2 ^ 64) k ≡ (nat_le d k && contains w (k - d))
+unfolding contains
 has_raised w d k l =
     elim (cases_lt k d) [
       | inl low ↦ rw (lt-leb d k low, kept (w * 2 ^ d) k l, moved_low w d k low) refl
@@ -39,15 +39,15 @@ has_raised w d k l =
 
 -- ---- files and ranks
 
-on_first_file : (k : ℕ) → k < 64 → has 72340172838076673 k ≡ (k % 8 == 0)
-unfolding has
-on_first_file k l = agree_below_at (λ j. has 72340172838076673 j) (λ j. j % 8 == 0) 64 k refl l
+on_first_file : (k : ℕ) → k < 64 → contains 72340172838076673 k ≡ (k % 8 == 0)
+unfolding contains
+on_first_file k l = agree_below_at (λ j. contains 72340172838076673 j) (λ j. j % 8 == 0) 64 k refl l
 
-on_first_rank : (k : ℕ) → k < 64 → has 255 k ≡ (k / 8 == 0)
-unfolding has
-on_first_rank k l = agree_below_at (λ j. has 255 j) (λ j. j / 8 == 0) 64 k refl l
+on_first_rank : (k : ℕ) → k < 64 → contains 255 k ≡ (k / 8 == 0)
+unfolding contains
+on_first_rank k l = agree_below_at (λ j. contains 255 j) (λ j. j / 8 == 0) 64 k refl l
 
-pub on_file : (n k : ℕ) → n < 8 → k < 64 → (nat_le n k && has 72340172838076673 (k - n)) ≡ (file k == n)
+pub on_file : (n k : ℕ) → n < 8 → k < 64 → (nat_le n k && contains 72340172838076673 (k - n)) ≡ (file k == n)
 on_file n k low high =
     elim (cases_lt k n) [
       | inl below ↦ rw (lt-leb n k below) (sym (ne_eqb (k % 8) n (λ e. omega (arith, e, below, low))))
@@ -62,7 +62,7 @@ on_file n k low high =
           ])
     ]
 
-pub on_rank : (n k : ℕ) → n < 8 → k < 64 → (nat_le (8 * n) k && has 255 (k - 8 * n)) ≡ (rank k == n)
+pub on_rank : (n k : ℕ) → n < 8 → k < 64 → (nat_le (8 * n) k && contains 255 (k - 8 * n)) ≡ (rank k == n)
 on_rank n k low high =
     elim (cases_lt k (8 * n)) [
       | inl below ↦ rw (lt-leb (8 * n) k below) (sym (ne_eqb (k / 8) n (λ e. omega (arith, e, below))))

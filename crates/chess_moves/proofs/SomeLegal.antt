@@ -9,7 +9,7 @@ use Rattle.chess_base.specs.declared.man.Move.{Move}
 use Rattle.chess_base.specs.declared.setup.Setup.{Setup}
 use Rattle.chess_base.specs.Castling.{castle_from}
 use Rattle.chess_base.specs.Men.{other, first_rank}
-use Rattle.chess_base.specs.MoveList.{promotions, triple, squares, all_triples, moves}
+use Rattle.chess_base.specs.MoveList.{promotions, move_of, squares, all_moves, moves}
 use Rattle.chess_base.specs.Moves.{is_legal, promotion_fits}
 use Rattle.chess_base.specs.Squares.{rank}
 use Rattle.chess_base.proofs.MoveKinds.{MoveKind, ManMoves, Castles, PawnMoves}
@@ -36,27 +36,27 @@ fits_by_kind p m (ManMoves n c e) =
 fits_by_kind p m (Castles w r c right e) =
     unpromoted m.promotion (castles_unpromoted p m (castle_from p.side w m.from r) e)
 
-any-promotion : (t : Move → Bool) (a b : ℕ) (o : Option Kind) → Fits o → t (triple a b o) ≡ true
-    → list_any t (map (triple a b) promotions) ≡ true
-any-promotion t a b None h e = list_any_at t (map (triple a b) promotions) 0 (triple a b None) (omega arith) e
-any-promotion t a b (Some Queen) h e = list_any_at t (map (triple a b) promotions) 1 (triple a b None) (omega arith) e
-any-promotion t a b (Some Rook) h e = list_any_at t (map (triple a b) promotions) 2 (triple a b None) (omega arith) e
-any-promotion t a b (Some Bishop) h e = list_any_at t (map (triple a b) promotions) 3 (triple a b None) (omega arith) e
-any-promotion t a b (Some Knight) h e = list_any_at t (map (triple a b) promotions) 4 (triple a b None) (omega arith) e
+any-promotion : (t : Move → Bool) (a b : ℕ) (o : Option Kind) → Fits o → t (move_of a b o) ≡ true
+    → list_any t (map (move_of a b) promotions) ≡ true
+any-promotion t a b None h e = list_any_at t (map (move_of a b) promotions) 0 (move_of a b None) (omega arith) e
+any-promotion t a b (Some Queen) h e = list_any_at t (map (move_of a b) promotions) 1 (move_of a b None) (omega arith) e
+any-promotion t a b (Some Rook) h e = list_any_at t (map (move_of a b) promotions) 2 (move_of a b None) (omega arith) e
+any-promotion t a b (Some Bishop) h e = list_any_at t (map (move_of a b) promotions) 3 (move_of a b None) (omega arith) e
+any-promotion t a b (Some Knight) h e = list_any_at t (map (move_of a b) promotions) 4 (move_of a b None) (omega arith) e
 any-promotion t a b (Some King) h e = let never = h.1 in cc
 any-promotion t a b (Some Pawn) h e = let never = h.1 in cc
 
 any-triple : (t : Move → Bool) (m : Move) → m.from < 64 → m.to < 64 → Fits m.promotion → t m ≡ true
-    → list_any t all_triples ≡ true
-unfolding all_triples
+    → list_any t all_moves ≡ true
+unfolding all_moves
 any-triple t m f b k e =
-    let here : list_any t (map (triple m.from m.to) promotions) ≡ true =
+    let here : list_any t (map (move_of m.from m.to) promotions) ≡ true =
     any-promotion t m.from m.to m.promotion k e in
-    let from : list_any t (flat_map (λ b. map (triple m.from b) promotions) squares) ≡ true =
-    any-flat_map t (λ b. map (triple m.from b) promotions) squares
-    ∙ any-square (λ b. list_any t (map (triple m.from b) promotions)) m.to b here in
-    any-flat_map t (λ a. flat_map (λ b. map (triple a b) promotions) squares) squares
-    ∙ any-square (λ a. list_any t (flat_map (λ b. map (triple a b) promotions) squares)) m.from f from
+    let from : list_any t (flat_map (λ b. map (move_of m.from b) promotions) squares) ≡ true =
+    any-flat_map t (λ b. map (move_of m.from b) promotions) squares
+    ∙ any-square (λ b. list_any t (map (move_of m.from b) promotions)) m.to b here in
+    any-flat_map t (λ a. flat_map (λ b. map (move_of a b) promotions) squares) squares
+    ∙ any-square (λ a. list_any t (flat_map (λ b. map (move_of a b) promotions) squares)) m.from f from
 
 some_kept : {A : Type 0} (q : A → Bool) (xs : List A) → list_any q xs ≡ true → nat_lt 0 (length (filter q xs)) ≡ true
 some_kept q [] h = cc
@@ -70,5 +70,5 @@ pub some_legal : (p : Setup) (m : Move) → is_legal p m ≡ true → nat_lt 0 (
 unfolding moves
 some_legal p m legal =
     let h = moves_of p m legal in
-    some_kept (λ x. is_legal p x) all_triples
+    some_kept (λ x. is_legal p x) all_moves
     (any-triple (λ x. is_legal p x) m h.from_in h.to_in (fits_by_kind p m h.kind) legal)

@@ -9,8 +9,8 @@ use Rattle.chess_base.specs.declared.man.Move.{Move}
 use Rattle.chess_base.specs.declared.setup.Setup.{Setup}
 use Rattle.chess_base.specs.Moves.{is_legal}
 use Rattle.chess_base.specs.Squares.{from_below}
-use Rattle.chess_base.specs.MoveList.{promotions, triple, squares, all_triples, moves}
-use Rattle.chess_moves.specs.Sets.{has, members}
+use Rattle.chess_base.specs.MoveList.{promotions, move_of, squares, all_moves, moves}
+use Rattle.chess_moves.specs.Sets.{contains, members}
 
 -- ---- over lists
 
@@ -70,16 +70,16 @@ any-alone f b low away =
     ]
 
 -- the squares outside a set need not be looked at where none of them passes
-pub any_members : (t : ℕ → Bool) (w : ℕ) → ((k : ℕ) → has w k ≡ false → t k ≡ false)
+pub any_members : (t : ℕ → Bool) (w : ℕ) → ((k : ℕ) → contains w k ≡ false → t k ≡ false)
     → list_any t (members w) ≡ list_any t squares
 unfolding members
-any_members t w h = any-kept (λ k. has w k) t squares h
+any_members t w h = any-kept (λ k. contains w k) t squares h
 
 -- ---- over the legal moves
 
 -- the moves that a test finds begin on squares of the set, end on one square and promote nothing
 pub record AllFound (p : Setup) (t : Move → Bool) (to w : ℕ) : Type 0 where
-  pub begins : (m : Move) → is_legal p m ≡ true → t m ≡ true → has w m.from ≡ true
+  pub begins : (m : Move) → is_legal p m ≡ true → t m ≡ true → contains w m.from ≡ true
   pub ends : (m : Move) → is_legal p m ≡ true → t m ≡ true → m.to ≡ to
   pub stays : (m : Move) → is_legal p m ≡ true → t m ≡ true → m.promotion ≡ None
 
@@ -91,16 +91,16 @@ not_found p t m h = false_from_ne_true (found p t m)
     (λ e. let both = and_parts (is_legal p m) (t m) e in h both.0 both.1)
 
 elsewhere : (p : Setup) (t : Move → Bool) (to w a b : ℕ) → AllFound p t to w → b ≢ to → (k : Option Kind)
-    → found p t (triple a b k) ≡ false
-elsewhere p t to w a b all away k = not_found p t (triple a b k) (λ e f. away (all.ends (triple a b k) e f))
+    → found p t (move_of a b k) ≡ false
+elsewhere p t to w a b all away k = not_found p t (move_of a b k) (λ e f. away (all.ends (move_of a b k) e f))
 
 promoted : (p : Setup) (t : Move → Bool) (to w a : ℕ) → AllFound p t to w → (k : Kind)
-    → found p t (triple a to (Some k)) ≡ false
+    → found p t (move_of a to (Some k)) ≡ false
 promoted p t to w a all k =
-    not_found p t (triple a to (Some k)) (λ e f. let none = all.stays (triple a to (Some k)) e f in cc)
+    not_found p t (move_of a to (Some k)) (λ e f. let none = all.stays (move_of a to (Some k)) e f in cc)
 
 between : (p : Setup) (t : Move → Bool) (to w a : ℕ) → AllFound p t to w
-    → list_any (found p t) (map (triple a to) promotions) ≡ (t (triple a to None) && is_legal p (triple a to None))
+    → list_any (found p t) (map (move_of a to) promotions) ≡ (t (move_of a to None) && is_legal p (move_of a to None))
 between p t to w a all =
     rw (
       promoted p t to w a all Queen,
@@ -109,7 +109,7 @@ between p t to w a all =
       promoted p t to w a
           all Knight,
     )
-    (by_one (is_legal p (triple a to None)) (t (triple a to None)))
+    (by_one (is_legal p (move_of a to None)) (t (move_of a to None)))
   where
     by_one : (x y : Bool) → ((x && y) || false) ≡ (y && x)
     by_one true true = refl
@@ -118,7 +118,7 @@ between p t to w a all =
     by_one false false = refl
 
 none_elsewhere : (p : Setup) (t : Move → Bool) (to w a b : ℕ) → AllFound p t to w → b ≢ to
-    → list_any (found p t) (map (triple a b) promotions) ≡ false
+    → list_any (found p t) (map (move_of a b) promotions) ≡ false
 none_elsewhere p t to w a b all away =
     rw (
       elsewhere p t to w a b all away None,
@@ -130,20 +130,20 @@ none_elsewhere p t to w a b all away =
 
 -- such a test need look at the squares of the set alone
 pub any_from_members : (p : Setup) (t : Move → Bool) (to w : ℕ) → to < 64 → AllFound p t to w
-    → list_any (λ a. t (triple a to None) && is_legal p (triple a to None)) (members w) ≡ list_any t (moves p)
-unfolding moves all_triples
+    → list_any (λ a. t (move_of a to None) && is_legal p (move_of a to None)) (members w) ≡ list_any t (moves p)
+unfolding moves all_moves
 any_from_members p t to w low all =
-    any_members (λ a. t (triple a to None) && is_legal p (triple a to None)) w (λ a out. outside a out)
+    any_members (λ a. t (move_of a to None) && is_legal p (move_of a to None)) w (λ a out. outside a out)
     ∙ sym (any-filter (λ m. is_legal p m) t
-    (flat_map (λ a. flat_map (λ b. map (triple a b) promotions) squares) squares)
-    ∙ any-flat_map (found p t) (λ a. flat_map (λ b. map (triple a b) promotions) squares) squares
-    ∙ any-same _ _ squares (λ a. any-flat_map (found p t) (λ b. map (triple a b) promotions) squares
-    ∙ any-alone (λ b. list_any (found p t) (map (triple a b) promotions)) to low
+    (flat_map (λ a. flat_map (λ b. map (move_of a b) promotions) squares) squares)
+    ∙ any-flat_map (found p t) (λ a. flat_map (λ b. map (move_of a b) promotions) squares) squares
+    ∙ any-same _ _ squares (λ a. any-flat_map (found p t) (λ b. map (move_of a b) promotions) squares
+    ∙ any-alone (λ b. list_any (found p t) (map (move_of a b) promotions)) to low
     (λ b away. none_elsewhere p t to w a b all away)
     ∙ between p t to w a all))
   where
-    outside : (a : ℕ) → has w a ≡ false → (t (triple a to None) && is_legal p (triple a to None)) ≡ false
-    outside a out = false_from_ne_true (t (triple a to None) && is_legal p (triple a to None))
-        (λ e. let both = and_parts (t (triple a to None)) (is_legal p (triple a to None)) e in
-        let there = all.begins (triple a to None) both.1 both.0 in
+    outside : (a : ℕ) → contains w a ≡ false → (t (move_of a to None) && is_legal p (move_of a to None)) ≡ false
+    outside a out = false_from_ne_true (t (move_of a to None) && is_legal p (move_of a to None))
+        (λ e. let both = and_parts (t (move_of a to None)) (is_legal p (move_of a to None)) e in
+        let there = all.begins (move_of a to None) both.1 both.0 in
         cc)

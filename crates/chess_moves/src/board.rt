@@ -9,7 +9,7 @@ ghost use Rattle.chess_base.specs.Men.{is_man, man_at};
 ghost use Rattle.chess_base.specs.Moves.{after, is_legal};
 ghost use Rattle.chess_base.specs.Sound.{IsSound};
 ghost use Rattle.chess_moves.specs.Made.{WasMade, IsMade};
-ghost use Rattle.chess_moves.specs.Sets.{HasLegalStarts, HasOrigins, has};
+ghost use Rattle.chess_moves.specs.Sets.{HasLegalStarts, HasOrigins, contains};
 
 use crate::set::SquareSet;
 use arrayvec::ArrayVec;
@@ -75,7 +75,7 @@ pub trait Board {
 
     /// The squares of this colour's pieces of this kind.
     fn men_of(&self, colour: Colour, kind: Kind) -> SquareSet
-        ensures { (k : ℕ) → k < 64 → has result k ≡ is_man colour kind (man_at (position self.now).men k) };
+        ensures { (k : ℕ) → k < 64 → contains result k ≡ is_man colour kind (man_at (position self.now).men k) };
 
     /// The squares from which a piece of this kind, of the side on move, may legally move to `to` without a promotion.
     fn legal_starts(&self, kind: Kind, to: Square) -> SquareSet

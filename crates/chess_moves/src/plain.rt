@@ -3,10 +3,10 @@
 ghost use Rattle.std.specs.Prelude.{◌≡◌, ℕ, ◌<◌, ◌&&◌, None};
 ghost use Rattle.chess_base.specs.Initial.{initial_setup};
 ghost use Rattle.chess_base.specs.Men.{man_at, is_man};
-ghost use Rattle.chess_base.specs.MoveList.{triple};
+ghost use Rattle.chess_base.specs.MoveList.{move_of};
 ghost use Rattle.chess_base.specs.Moves.{is_legal};
 ghost use Rattle.chess_base.specs.Sound.{IsSound};
-ghost use Rattle.chess_moves.specs.Sets.{HasLegalStarts, has};
+ghost use Rattle.chess_moves.specs.Sets.{HasLegalStarts, contains};
 
 use crate::board::{Board, MoveList};
 use crate::listing::{has_legal_move, legal_moves};
@@ -40,7 +40,7 @@ impl Model for Plain {
 
 // The squares of this colour's pieces of this kind.
 fn men_of(men: &[Option<Man>; 64], colour: Colour, kind: Kind) -> SquareSet
-    ensures { (k : ℕ) → k < 64 → has result k ≡ is_man colour kind (man_at men.now k) }
+    ensures { (k : ℕ) → k < 64 → contains result k ≡ is_man colour kind (man_at men.now k) }
 {
     let mut set = SquareSet::empty();
     for number in 0..64 {
@@ -56,7 +56,7 @@ fn men_of(men: &[Option<Man>; 64], colour: Colour, kind: Kind) -> SquareSet
 fn is_legal_start(setup: &Setup, kind: Kind, from: Square, to: Square) -> bool
     requires { IsSound setup.now }
     ensures { result ≡ (is_man setup.now.side kind (man_at setup.now.men from)
-        && is_legal setup.now (triple from to None)) }
+        && is_legal setup.now (move_of from to None)) }
 {
     let m = Move {
         from,

@@ -2,7 +2,7 @@
 
 ghost use Rattle.std.specs.Prelude.{◌≡◌, ℕ, ◌<◌, ◌+◌, ◌-◌, ◌&&◌, ◌||◌, not, ◌==◌, nat_le, true, false, MatchOption, [], ◌∷◌, length};
 ghost use Rattle.chess_base.specs.Squares.{file, rank, some_square};
-ghost use Rattle.chess_moves.specs.Sets.{has, IsNearest, members};
+ghost use Rattle.chess_moves.specs.Sets.{contains, IsNearest, members};
 
 use chess_base::Square;
 use std::marker::Model;
@@ -34,7 +34,7 @@ impl SquareSet {
     /// The set without any square.
     #[tactic(auto, using(crate::proofs::Words::has_zero))]
     pub const fn empty() -> Self
-        ensures { (k : ℕ) → has result k ≡ false }
+        ensures { (k : ℕ) → contains result k ≡ false }
     {
         SquareSet { word: 0 }
     }
@@ -42,7 +42,7 @@ impl SquareSet {
     /// The set that has this square alone.
     #[tactic(auto, using(crate::proofs::Words::has_single))]
     pub fn single(square: Square) -> Self
-        ensures value { (k : ℕ) → has result k ≡ (k == square) }
+        ensures value { (k : ℕ) → contains result k ≡ (k == square) }
         ensures in_range { square < 64 }
     {
         SquareSet {
@@ -54,7 +54,7 @@ impl SquareSet {
     #[tactic(auto, using(crate::proofs::Shifted::on_file))]
     pub fn of_file(number: u8) -> Self
         requires { number < 8 }
-        ensures { (k : ℕ) → k < 64 → has result k ≡ (file k == number) }
+        ensures { (k : ℕ) → k < 64 → contains result k ≡ (file k == number) }
     {
         SquareSet { word: FILE_A }.raised(number)
     }
@@ -63,7 +63,7 @@ impl SquareSet {
     #[tactic(auto, using(crate::proofs::Shifted::on_rank))]
     pub fn of_rank(number: u8) -> Self
         requires { number < 8 }
-        ensures { (k : ℕ) → k < 64 → has result k ≡ (rank k == number) }
+        ensures { (k : ℕ) → k < 64 → contains result k ≡ (rank k == number) }
     {
         SquareSet { word: RANK_1 }.raised(8 * number)
     }
@@ -71,7 +71,7 @@ impl SquareSet {
     /// Whether the square is in the set.
     #[tactic(auto, using(crate::proofs::Words::has_shr))]
     pub fn contains(self, square: Square) -> bool
-        ensures { result ≡ has self square }
+        ensures { result ≡ contains self square }
     {
         (self.word >> square.number()) & 1 == 1
     }
@@ -80,7 +80,7 @@ impl SquareSet {
     #[tactic(auto, using(crate::proofs::Words::empty_is))]
     pub fn is_empty(self) -> bool
         ensures zero { result ≡ (self == 0) }
-        ensures none { result ≡ not (some_square (λ k. has self k)) }
+        ensures none { result ≡ not (some_square (λ k. contains self k)) }
     {
         self.word == 0
     }
@@ -96,7 +96,7 @@ impl SquareSet {
     /// The squares that are in either set.
     #[tactic(auto, using(crate::proofs::Words::has_or))]
     pub fn union(self, other: Self) -> Self
-        ensures { (k : ℕ) → has result k ≡ (has self k || has other k) }
+        ensures { (k : ℕ) → contains result k ≡ (contains self k || contains other k) }
     {
         SquareSet {
             word: self.word | other.word,
@@ -106,7 +106,7 @@ impl SquareSet {
     /// The squares that are in both sets.
     #[tactic(auto, using(crate::proofs::Words::has_and))]
     pub fn intersection(self, other: Self) -> Self
-        ensures { (k : ℕ) → has result k ≡ (has self k && has other k) }
+        ensures { (k : ℕ) → contains result k ≡ (contains self k && contains other k) }
     {
         SquareSet {
             word: self.word & other.word,
@@ -116,7 +116,7 @@ impl SquareSet {
     /// The squares of this set that are not in the other.
     #[tactic(auto, using(crate::proofs::Words::has_minus))]
     pub fn without(self, other: Self) -> Self
-        ensures { (k : ℕ) → k < 64 → has result k ≡ (has self k && not (has other k)) }
+        ensures { (k : ℕ) → k < 64 → contains result k ≡ (contains self k && not (contains other k)) }
     {
         SquareSet {
             word: self.word & !other.word,
@@ -128,7 +128,7 @@ impl SquareSet {
     #[tactic(auto, using(crate::proofs::Shifted::has_lowered))]
     pub fn lowered(self, by: u8) -> Self
         requires { by < 64 }
-        ensures { (k : ℕ) → has result k ≡ has self (k + by) }
+        ensures { (k : ℕ) → contains result k ≡ contains self (k + by) }
     {
         SquareSet {
             word: self.word >> by,
@@ -140,7 +140,7 @@ impl SquareSet {
     #[tactic(auto, using(crate::proofs::Shifted::has_raised))]
     pub fn raised(self, by: u8) -> Self
         requires { by < 64 }
-        ensures { (k : ℕ) → k < 64 → has result k ≡ (nat_le by k && has self (k - by)) }
+        ensures { (k : ℕ) → k < 64 → contains result k ≡ (nat_le by k && contains self (k - by)) }
     {
         SquareSet {
             word: self.word << by,

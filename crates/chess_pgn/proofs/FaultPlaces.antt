@@ -21,7 +21,7 @@ use Rattle.chess_pgn.specs.GameRead.{SoFar, GameRead, Step, On, Stop, unless_ful
 use Rattle.chess_pgn.specs.ties.GameSteps.{IsWithin}
 use Rattle.chess_pgn.specs.laws.Offsets.{FaultsHaveOffsets}
 use Rattle.chess_pgn.specs.Tokens.{Token, Skip, Tag, Word, Bad_tag, Unclosed_comment, Unclosed_variation, Bad, token_at, tokens_of, after_byte_order_mark, begins_line, tokens_from}
-use Rattle.chess_pgn.specs.Words.{kind_of}
+use Rattle.chess_pgn.specs.Words.{word_kind}
 use Rattle.chess_pgn.proofs.Cuts.{pick}
 use Rattle.chess_pgn.proofs.TokenPlaces.{within}
 use Rattle.chess_pgn.proofs.Walk.{shorter}
@@ -78,7 +78,7 @@ step_in limit total g left Skip h = tt
 step_in limit total g left (Tag name text string) h =
     pick (StopIn (total - left) total) g.is_begun _ _ (λ _. (omega arith, omega arith))
     (λ _. tag_in limit (total - left) total g name text (total - string) (omega (arith, h)) (omega arith))
-step_in limit total g left (Word word) h = word_in limit (total - left) total g (total - left) word (kind_of word)
+step_in limit total g left (Word word) h = word_in limit (total - left) total g (total - left) word (word_kind word)
     (omega arith) (omega arith)
 step_in limit total g left Bad_tag h = (omega arith, omega arith)
 step_in limit total g left (Unclosed_comment brace) h = (omega (arith, h), omega arith)

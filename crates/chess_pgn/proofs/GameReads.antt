@@ -12,7 +12,7 @@ use Rattle.chess_base.specs.declared.setup.Setup.{Setup}
 use Rattle.chess_base.specs.Initial.{initial_setup, initial_setup_of}
 use Rattle.chess_fen.specs.Reading.{fen_reading_as}
 use Rattle.chess_game.specs.Game.{State, Seen, from_start, current, verdict_now}
-use Rattle.chess_game.specs.Game.{at as left_at}
+use Rattle.chess_game.specs.Game.{with_state as left_at}
 use Rattle.chess_game.specs.declared.results.Outcome.{Outcome}
 use Rattle.chess_pgn.specs.declared.read.PgnEnd.{PgnEnd}
 use Rattle.chess_pgn.specs.declared.read.PgnFault.{PgnFault}
@@ -22,7 +22,7 @@ use Rattle.chess_pgn.specs.declared.word.WordKind.TheVariants.{End, Number, Mark
 use Rattle.chess_text.specs.declared.reading.Reading.{Reading}
 use Rattle.chess_text.specs.declared.reading.Reading.TheVariants as reads
 use Rattle.chess_text.specs.Moves.{reading}
-use Rattle.chess_pgn.specs.Words.{kind_of}
+use Rattle.chess_pgn.specs.Words.{word_kind}
 use Rattle.chess_pgn.specs.Tokens.{Token, Skip, Tag, Word, Bad_tag, Unclosed_comment, Unclosed_variation, Bad, after_byte_order_mark, is_white_space, after_brace, token_at, begins_line, tokens_from}
 use Rattle.chess_pgn.specs.GameRead.{SoFar, Step, On, Stop, unless_full, move_step, word_step, fen_step, tag_step, step, go_on, game_of, nothing_read, tagged_variant, tokens_read, pgn_read}
 use Rattle.chess_pgn.specs.ties.TagSteps.{variant_after, variant_then, variant_from}
@@ -72,7 +72,7 @@ keeps : (limit total : ℕ) (g : SoFar) (left : ℕ) (t : Token) → g.state.dec
 keeps limit total g left Skip h = h
 keeps limit total g left (Tag name text string) h =
     pick Undeclared g.is_begun _ _ (λ _. h) (λ _. tag_keeps g name text (total - string) h)
-keeps limit total g left (Word word) h = word_keeps limit g (total - left) word (kind_of word) h
+keeps limit total g left (Word word) h = word_keeps limit g (total - left) word (word_kind word) h
 keeps limit total g left Bad_tag h = h
 keeps limit total g left (Unclosed_comment brace) h = h
 keeps limit total g left Unclosed_variation h = h
@@ -92,7 +92,7 @@ bare_at_fault limit total g left t s fault r h is =
 
 -- ---- a termination has bytes
 
-pub termination_has_bytes : (word : List ℕ) (o : Outcome) → End o ≡ kind_of word → 0 < length word
+pub termination_has_bytes : (word : List ℕ) (o : Outcome) → End o ≡ word_kind word → 0 < length word
 termination_has_bytes [] o h = cc
 termination_has_bytes (c ∷ word) o h = search rules
 

@@ -13,7 +13,7 @@ use Rattle.chess_base.specs.Moves.{is_legal, after}
 use Rattle.chess_game.specs.Game.{State, outcome_now}
 use Rattle.chess_game.specs.Results.{outcome_text}
 use Rattle.chess_game.specs.declared.results.Outcome.{Outcome}
-use Rattle.chess_game.specs.Line.{last, IsLine}
+use Rattle.chess_game.specs.Line.{position_after, IsLine}
 use Rattle.chess_pgn.specs.declared.tags.Tags.{Tags}
 use Rattle.chess_pgn.specs.declared.termination.Termination.{Termination}
 use Rattle.chess_pgn.specs.Terminations.{termination_of}
@@ -215,14 +215,14 @@ move_put a b c w x y prefix before text column col f p q m same pre is said h k 
 
 -- each move of a line is legal in the position after those before it
 pub legal_next : (start : Setup) (ms : List Move) (i : ℕ) (m : Move) → IsLine start ms → slice_get ms i ≡ Some m
-    → IsTrue (is_legal (last start (take i ms)) m)
+    → IsTrue (is_legal (position_after start (take i ms)) m)
 legal_next start [] zero m h e = cc
 legal_next start [] (suc i) m h e = cc
 legal_next start (x ∷ ms) zero m h e = let same : x ≡ m = cc in subst (λ v. IsTrue (is_legal start v)) same h.0
 legal_next start (x ∷ ms) (suc i) m h e = legal_next (after start x) ms i m h.1 e
 
 last_more : (start : Setup) (ms : List Move) (i : ℕ) (m : Move) → slice_get ms i ≡ Some m
-    → last start (take (suc i) ms) ≡ after (last start (take i ms)) m
+    → position_after start (take (suc i) ms) ≡ after (position_after start (take i ms)) m
 last_more start [] zero m e = cc
 last_more start [] (suc i) m e = cc
 last_more start (x ∷ ms) zero m e = let same : x ≡ m = cc in ap (after start) same
@@ -230,7 +230,7 @@ last_more start (x ∷ ms) (suc i) m e = last_more (after start x) ms i m e
 
 more_behind : (p : Setup) (ms : List Move) (i : ℕ) (m : Move) → slice_get ms i ≡ Some m
     → move_tokens false p (take (suc i) ms) ≡ move_tokens false p (take i ms)
-    ++ tokens_of_move false (last p (take i ms)) m
+    ++ tokens_of_move false (position_after p (take i ms)) m
 more_behind p [] zero m e = cc
 more_behind p [] (suc i) m e = cc
 more_behind p (x ∷ ms) zero m e = let same : x ≡ m =
@@ -238,11 +238,11 @@ more_behind p (x ∷ ms) zero m e = let same : x ≡ m =
 more_behind p (x ∷ ms) (suc i) m e =
     ap (λ v. tokens_of_move false p x ++ v) (more_behind (after p x) ms i m e)
     ∙ sym (append_assoc (tokens_of_move false p x) (move_tokens false (after p x) (take i ms))
-    (tokens_of_move false (last (after p x) (take i ms)) m))
+    (tokens_of_move false (position_after (after p x) (take i ms)) m))
 
 moves_more : (p : Setup) (ms : List Move) (i : ℕ) (m : Move) → slice_get ms i ≡ Some m
     → move_tokens true p (take (suc i) ms) ≡ move_tokens true p (take i ms)
-    ++ tokens_of_move (eqb i 0) (last p (take i ms)) m
+    ++ tokens_of_move (eqb i 0) (position_after p (take i ms)) m
 moves_more p [] zero m e = cc
 moves_more p [] (suc i) m e = cc
 moves_more p (x ∷ ms) zero m e = let same : x ≡ m =
@@ -252,7 +252,7 @@ moves_more p (x ∷ ms) (suc i) m e =
     rw later (
     ap (λ v. tokens_of_move true p x ++ v) (more_behind (after p x) ms i m e)
     ∙ sym (append_assoc (tokens_of_move true p x) (move_tokens false (after p x) (take i ms))
-    (tokens_of_move false (last (after p x) (take i ms)) m)))
+    (tokens_of_move false (position_after (after p x) (take i ms)) m)))
 
 -- where the moves go on after some of them
 moves_split : (f : Bool) (p : Setup) (ms : List Move) (n : ℕ)
@@ -276,7 +276,7 @@ pub record IsNext (prefix : List ℕ) (column : ℕ) (p : Setup) (ms : List Move
   pub prefix_is : before ≡ prefix
   pub column_is : col ≡ column_after_all column (move_tokens true p (take i ms))
   pub first : f ≡ eqb i 0
-  pub position : q ≡ last p (take i ms)
+  pub position : q ≡ position_after p (take i ms)
   pub move : slice_get ms i ≡ Some m
 
 next_text : (prefix before : List ℕ) (column col : ℕ) (p q : Setup) (ms : List Move) (i : ℕ) (f : Bool) (m : Move)
@@ -285,7 +285,7 @@ next_text : (prefix before : List ℕ) (column col : ℕ) (p q : Setup) (ms : Li
     ≡ placed_all prefix column (move_tokens true p (take i ms)) ++ placed_all before col (tokens_of_move f q m)
 next_text prefix before column col p q ms i f m n =
     let so_far : List (List ℕ) = move_tokens true p (take i ms) in
-    let next : List (List ℕ) = tokens_of_move (eqb i 0) (last p (take i ms)) m in
+    let next : List (List ℕ) = tokens_of_move (eqb i 0) (position_after p (take i ms)) m in
     ap (placed_all prefix column) (moves_more p ms i m n.move)
     ∙ placed_all-append prefix column so_far next
     ∙ ap (λ v. placed_all prefix column so_far ++ v) (rw (n.prefix_is, n.column_is, n.first, n.position) refl)
@@ -330,7 +330,7 @@ pub columns_more : (prefix before : List ℕ) (column col new : ℕ) (p q : Setu
     → new ≡ column_after_all column (move_tokens true p (take (i + 1) ms))
 columns_more prefix before column col new p q ms i f m n is =
     let so_far : List (List ℕ) = move_tokens true p (take i ms) in
-    let next : List (List ℕ) = tokens_of_move (eqb i 0) (last p (take i ms)) m in
+    let next : List (List ℕ) = tokens_of_move (eqb i 0) (position_after p (take i ms)) m in
     let here : column_after_all col (tokens_of_move f q m) ≡ column_after_all (column_after_all column so_far) next =
     rw (n.column_is, n.first, n.position) refl in
     let whole : column_after_all column (move_tokens true p (take (i + 1) ms))
@@ -339,7 +339,7 @@ columns_more prefix before column col new p q ms i f m n is =
     ∙ ap (column_after_all column) (moves_more p ms i m n.move) ∙ column_after_all-append column so_far next in
     is ∙ here ∙ sym whole
 
-pub positions_more : (p q new : Setup) (ms : List Move) (i : ℕ) (m : Move) → q ≡ last p (take i ms)
-    → slice_get ms i ≡ Some m → new ≡ after q m → new ≡ last p (take (i + 1) ms)
+pub positions_more : (p q new : Setup) (ms : List Move) (i : ℕ) (m : Move) → q ≡ position_after p (take i ms)
+    → slice_get ms i ≡ Some m → new ≡ after q m → new ≡ position_after p (take (i + 1) ms)
 positions_more p q new ms i m same e is = is ∙ ap (λ v. after v m) same ∙ sym (last_more p ms i m e)
-    ∙ ap (λ k. last p (take k ms)) (sym (add-one i))
+    ∙ ap (λ k. position_after p (take k ms)) (sym (add-one i))

@@ -18,7 +18,7 @@ use Rattle.chess_pgn.specs.declared.word.WordKind.TheVariants.{End, Number, Mark
 use Rattle.chess_pgn.specs.GameRead.{SoFar, GameRead, Step, On, Stop, unless_full, move_step, word_step, fen_step, tag_step, step, go_on, game_of, at_text_end, nothing_read, tagged_variant, pgn_read}
 use Rattle.chess_pgn.specs.laws.Offsets.{HalfMovesHaveBytes}
 use Rattle.chess_pgn.specs.Tokens.{Token, Skip, Tag, Word, Bad_tag, Unclosed_comment, Unclosed_variation, Bad, token_at, tokens_of, after_byte_order_mark, begins_line, tokens_from}
-use Rattle.chess_pgn.specs.Words.{kind_of}
+use Rattle.chess_pgn.specs.Words.{word_kind}
 use Rattle.chess_pgn.proofs.Cuts.{pick}
 use Rattle.chess_pgn.proofs.FaultPlaces.{behind}
 use Rattle.chess_pgn.proofs.Walk.{shorter}
@@ -69,7 +69,7 @@ step_fits : (limit total : ℕ) (g : SoFar) (left : ℕ) (t : Token)
 step_fits limit total g left Skip = omega arith
 step_fits limit total g left (Tag name text string) = pick (StepFits (total - left) (length g.state.moves)) g.is_begun _
     _ (λ _. tt) (λ _. tag_fits limit (total - left) g name text (total - string))
-step_fits limit total g left (Word word) = word_fits limit (total - left) g (total - left) word (kind_of word)
+step_fits limit total g left (Word word) = word_fits limit (total - left) g (total - left) word (word_kind word)
     (omega arith)
 step_fits limit total g left Bad_tag = tt
 step_fits limit total g left (Unclosed_comment brace) = tt

@@ -19,7 +19,7 @@ use Rattle.chess_pgn.specs.GameText.{start_lines_in, last_lines}
 use Rattle.chess_pgn.specs.ties.TagSteps.{variant_after_word, variant_then, variant_from}
 use Rattle.chess_pgn.specs.laws.Normal.{normal_tag_step, normal_step, normal_game_of, normal_read, is_mark_word, names_no_variant, NormalIsKept}
 use Rattle.chess_pgn.specs.Tokens.{Token, Skip, Tag, Word, Bad_tag, Unclosed_comment, Unclosed_variation, Bad, after_byte_order_mark, tokens_from}
-use Rattle.chess_pgn.specs.Words.{kind_of}
+use Rattle.chess_pgn.specs.Words.{word_kind}
 use Rattle.chess_pgn.proofs.Cuts.{pick}
 use Rattle.chess_pgn.proofs.TagScans.{variants_are}
 use Rattle.chess_pgn.proofs.FenVariants.{read_variant, initial_variant}
@@ -36,7 +36,7 @@ normal_told ((left, Skip) ∷ ts) h = normal_told ts h
 normal_told ((left, Tag name text string) ∷ ts) h =
     let none = both (bytes_eq name (codes "Variant")) (names_no_variant ts) h in
     rw none.0 (normal_told ts none.1)
-normal_told ((left, Word word) ∷ ts) h = by_kind (λ e. normal_told ts e) (kind_of word) h
+normal_told ((left, Word word) ∷ ts) h = by_kind (λ e. normal_told ts e) (word_kind word) h
   where
     by_kind : (names_no_variant ts ≡ true → variant_from Normal ts ≡ Normal) → (k : WordKind)
         → cond (not (is_mark_word k)) true (not false && names_no_variant ts) ≡ true
@@ -86,7 +86,7 @@ module _ (limit total : ℕ) (g : SoFar) (normal : g.state.start.variant ≡ Nor
   keeps : (left : ℕ) (t : Token) → IsNormal (normal_step limit total g left t)
   keeps left Skip = normal
   keeps left (Tag name text string) = pick IsNormal g.is_begun _ _ (λ _. tt) (λ _. tag_keeps name text (total - string))
-  keeps left (Word word) = word_keeps (total - left) word (kind_of word)
+  keeps left (Word word) = word_keeps (total - left) word (word_kind word)
   keeps left Bad_tag = tt
   keeps left (Unclosed_comment brace) = tt
   keeps left Unclosed_variation = tt

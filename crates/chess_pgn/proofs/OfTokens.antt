@@ -17,7 +17,7 @@ use Rattle.chess_fen.specs.Reading.{fen_reading_as}
 use Rattle.chess_game.specs.declared.ends.Verdict.{Verdict}
 use Rattle.chess_game.specs.Ends.{verdict}
 use Rattle.chess_game.specs.Game.{current, verdict_now}
-use Rattle.chess_game.specs.Line.{last}
+use Rattle.chess_game.specs.Line.{position_after}
 use Rattle.chess_text.specs.declared.reading.Reading.{Reading}
 use Rattle.chess_text.specs.declared.reading.Reading.TheVariants as reads
 use Rattle.chess_text.specs.Moves.{reading}
@@ -29,7 +29,7 @@ use Rattle.chess_pgn.specs.declared.word.WordKind.TheVariants.{End, Number, Mark
 use Rattle.chess_pgn.specs.GameRead.{SoFar, GameRead, Step, On, Stop, game_of, go_on, step, nothing_read, tagged_variant, pgn_read, move_step, word_step, tag_step, fen_step, fails, unless_full, termination_after}
 use Rattle.chess_pgn.specs.laws.Retold.{begins, counts, is_fen, can_be_taken, can_all_be_taken, if_move, move_words_of, move_words, start_by, tagged_start, termination_by_token, tagged_termination, AreReadAs, unless_closed, move_fault, word_fault, fault_at, token_fault, StopsAt, IsOfTokens, is_number_or_move, is_outcome}
 use Rattle.chess_pgn.specs.Tokens.{Token, Skip, Tag, Word, Bad_tag, Unclosed_comment, Unclosed_variation, Bad, after_byte_order_mark, tokens_from}
-use Rattle.chess_pgn.specs.Words.{kind_of}
+use Rattle.chess_pgn.specs.Words.{word_kind}
 use Rattle.chess_pgn.proofs.FenVariants.{read_variant, initial_variant}
 
 -- ---- tests
@@ -46,13 +46,13 @@ any_more p ts t = list_any-append p ts (t ∷ []) ∙ ap (λ b. list_any p ts ||
 
 read_more : (limit : ℕ) (start : Setup) (done : List Played) (ws : List (List ℕ)) (ms : List Played) (w : List ℕ)
     (m : Played) → AreReadAs limit start done ws ms → verdict start (done ++ ms) ≡ None → length (done ++ ms) < limit
-    → reading (last start (done ++ ms)) w ≡ reads.Move m
+    → reading (position_after start (done ++ ms)) w ≡ reads.Move m
     → AreReadAs limit start done (ws ++ w ∷ []) (ms ++ m ∷ [])
 read_more limit start done [] [] w m h none few k =
     let same = append-nil done in (
       ap (verdict start) (sym same) ∙ none,
       subst (λ ds. length ds < limit) same few,
-      ap (λ ds. reading (last start ds) w) (sym same) ∙ k,
+      ap (λ ds. reading (position_after start ds) w) (sym same) ∙ k,
       tt,
     )
 read_more limit start done [] (n ∷ ms) w m h none few k = absurd h
@@ -63,7 +63,7 @@ read_more limit start done (v ∷ ws) (n ∷ ms) w m h none few k =
       h.1,
       h.2,
       read_more limit start (done ++ n ∷ []) ws ms w m h.3 (ap (verdict start) same ∙ none)
-          (subst (λ ds. length ds < limit) (sym same) few) (ap (λ ds. reading (last start ds) w) same ∙ k),
+          (subst (λ ds. length ds < limit) (sym same) few) (ap (λ ds. reading (position_after start ds) w) same ∙ k),
     )
 
 start_more : (v : Variant) (p : Setup) (ts : List (ℕ × Token)) (t : ℕ × Token)
@@ -183,7 +183,7 @@ module _ (limit total : ℕ) (v : Variant) where
 
   -- ---- moves
 
-  module _ (done : List (ℕ × Token)) (left : ℕ) (word : List ℕ) (g : SoFar) (kind : kind_of word ≡ Move)
+  module _ (done : List (ℕ × Token)) (left : ℕ) (word : List ℕ) (g : SoFar) (kind : word_kind word ≡ Move)
       (s : IsSoFar done g) where
     move_fails : (r : Reading) → reading (current g.state) word ≡ r → (k : PgnFaultKind)
         → move_fault limit g.state r ≡ Some k → Leaves done (left, Word word) (fails g k (total - left))
@@ -260,7 +260,7 @@ module _ (limit total : ℕ) (v : Variant) where
         open_leaves (reads.Move m) is None refl _
         (λ none few. more done left (Word word) g _ s (played_next m is none few))
 
-  word_leaves : (done : List (ℕ × Token)) (left : ℕ) (word : List ℕ) (g : SoFar) (k : WordKind) → kind_of word ≡ k
+  word_leaves : (done : List (ℕ × Token)) (left : ℕ) (word : List ℕ) (g : SoFar) (k : WordKind) → word_kind word ≡ k
       → IsSoFar done g → Leaves done (left, Word word) (word_step limit g (total - left) word k)
   word_leaves done left word g (End o) kind s = record {
     can_be = s.can_be;
@@ -333,7 +333,7 @@ module _ (limit total : ℕ) (v : Variant) where
           (cond b (fails g NoResult (total - left)) (tag_step g name text (total - string)))
       by_begun true e = fault_leaves done left (Tag name text string) g NoResult (total - left) s (rw e refl)
       by_begun false e = tag_leaves done left string name text g e s (is_fen name) refl
-  step_leaves done left (Word word) g s = word_leaves done left word g (kind_of word) refl s
+  step_leaves done left (Word word) g s = word_leaves done left word g (word_kind word) refl s
   step_leaves done left Bad_tag g s = fault_leaves done left Bad_tag g _ (total - left) s refl
   step_leaves done left (Unclosed_comment brace) g s =
       fault_leaves done left (Unclosed_comment brace) g UnclosedComment (total - brace) s refl

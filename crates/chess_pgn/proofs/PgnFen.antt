@@ -19,7 +19,7 @@ use Rattle.chess_fen.specs.RightNames.{right_letter}
 use Rattle.chess_base.specs.declared.setup.Setup.{Setup}
 use Rattle.chess_fen.specs.ManLetters.{letter_by}
 use Rattle.chess_base.specs.Men.{Men, other, crossed_rank}
-use Rattle.chess_base.specs.Sound.{IsSound, target_is_behind_double_advance, target_is_behind_double_advance_at}
+use Rattle.chess_base.specs.Sound.{IsSound, target_is_sound, target_is_behind_double_advance_at}
 use Rattle.chess_base.specs.Squares.{file, rank}
 use Rattle.chess_fen.specs.Writing.{run_text, row_text, fen_rank, ranks_down, placement_text, side_text, right_text, or_dash, rights_text, target_text, fen}
 use Rattle.chess_base.specs.Letters.{is_digit}
@@ -160,7 +160,7 @@ target_bare_at men c (Some t) h =
     (one_bare (49 + rank t) (bare_low (49 + rank t) (omega arith) (omega arith)))
 
 target_bare : (p : Setup) → IsSound p → IsBare (target_text p.target)
-unfolding target_is_behind_double_advance
+unfolding target_is_sound
 target_bare p h = target_bare_at p.men p.side p.target h.target
 
 pub fen_bare : (p : Setup) → IsSound p → list_all is_bare (fen p) ≡ true

@@ -13,7 +13,7 @@ use Rattle.chess_base.specs.laws.Laws.{AfterIsSound}
 use Rattle.chess_base.specs.Moves.{after}
 use Rattle.chess_base.specs.Sound.{IsSound}
 use Rattle.chess_game.specs.Ends.{verdict}
-use Rattle.chess_game.specs.Line.{last, IsLine}
+use Rattle.chess_game.specs.Line.{position_after, IsLine}
 use Rattle.chess_game.specs.Results.{outcome_text}
 use Rattle.chess_game.specs.declared.results.Outcome.{Outcome}
 use Rattle.chess_game.specs.declared.results.Outcome.TheVariants.{WhiteWins, BlackWins, Draw, Unfinished}
@@ -22,14 +22,14 @@ use Rattle.chess_pgn.specs.GameRead.{SoFar, GameRead}
 use Rattle.chess_pgn.specs.GameText.{number_token, move_tokens}
 use Rattle.chess_text.specs.San.{san}
 use Rattle.chess_pgn.specs.Tokens.{is_word_byte}
-use Rattle.chess_pgn.specs.Written.{fits, wrapped_token, next_column, line_close, filled_from}
+use Rattle.chess_pgn.specs.Written.{fits_line, wrapped_token, next_column, line_close, filled_from}
 use Rattle.chess_pgn.proofs.PgnPieces.{read_on, Takes, begun, white_number, black_number, san_takes, skip_space, skip_line_end, ended_game, outcome_ends}
 use Rattle.chess_text.proofs.SanLaw.{san_short}
 
 -- ---- tokens in filled lines
 
 column_after : (column : ℕ) (t : List ℕ) → 0 < length t → 0 < next_column column t
-column_after column t some = by_test (fits column t)
+column_after column t some = by_test (fits_line column t)
   where
     by_test : (b : Bool) → 0 < cond b (column + 1 + length t) (length t)
     by_test true = omega arith
@@ -105,7 +105,7 @@ read_so_far t start done is_begun = record {
   termination = t;
 }
 
-last-more : (start : Setup) (done : List Move) (m : Move) → last start (done ++ m ∷ []) ≡ after (last start done) m
+last-more : (start : Setup) (done : List Move) (m : Move) → position_after start (done ++ m ∷ []) ≡ after (position_after start done) m
 last-more start [] m = refl
 last-more start (x ∷ done) m = last-more (after start x) done m
 
@@ -176,7 +176,7 @@ module _ (limit total : ℕ) where
 
   pub moves_read : AfterIsSound → (told : Option Termination) (start : Setup) (all : List Move) → IsWhole start all
       → (last_token rest : List ℕ) (r : GameRead) → Reads told start all (last_token ∷ []) rest r
-      → (is_first : Bool) (p : Setup) (done ms : List Move) → done ++ ms ≡ all → last start done ≡ p → IsSound p
+      → (is_first : Bool) (p : Setup) (done ms : List Move) → done ++ ms ≡ all → position_after start done ≡ p → IsSound p
       → IsLine p ms → Reads told start done (move_tokens is_first p ms ++ last_token ∷ []) rest r
   moves_read law told start all whole o rest r ended is_first p done [] same at sound line is_begun begins column =
       ap (λ d. read_on limit total (read_so_far told start d is_begun) begins (filled_from [] column (o ∷ []) ++ rest))

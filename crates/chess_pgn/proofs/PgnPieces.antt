@@ -23,7 +23,7 @@ use Rattle.chess_pgn.specs.GameRead.{SoFar, GameRead, On, Stop, declared_after, 
 use Rattle.chess_text.specs.Moves.{reading}
 use Rattle.chess_text.specs.San.{san}
 use Rattle.chess_pgn.specs.Tokens.{Token, Skip, Tag, Word, is_word_byte, token_at, tokens_of}
-use Rattle.chess_pgn.specs.Words.{kind_of}
+use Rattle.chess_pgn.specs.Words.{word_kind}
 use Rattle.chess_pgn.specs.Written.{escaped, tag_line}
 use Rattle.chess_pgn.proofs.PgnFen.{fen_bare}
 use Rattle.chess_pgn.proofs.PgnTags.{is_in_line, is_bare, bare_escaped, bare_in_line, is_tag_name, tag_token, tag_line_bytes}
@@ -136,7 +136,7 @@ module _ (limit total : ℕ) where
       → read_on limit total g begins (text ++ d ∷ rest) ≡ read_on limit total h false (d ∷ rest)
 
   word_takes : (g h : SoFar) (word : List ℕ) → 0 < length word → list_all is_word_byte word ≡ true
-      → ((offset : ℕ) → word_step limit g offset word (kind_of word) ≡ On h) → Takes g h word
+      → ((offset : ℕ) → word_step limit g offset word (word_kind word) ≡ On h) → Takes g h word
   word_takes g h [] some all next = absurd (omega arith)
   word_takes g h (c ∷ cs) some all next = λ begins d rest ends.
       let here = (and_parts (is_word_byte c) (list_all is_word_byte cs) all).0 in

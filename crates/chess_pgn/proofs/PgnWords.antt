@@ -22,7 +22,7 @@ use Rattle.chess_text.specs.laws.Laws.{is_san_byte, begins_with_letter}
 use Rattle.chess_pgn.specs.Tokens.{Word, is_word_byte, token_at, begins_line}
 use Rattle.chess_pgn.specs.ties.Begins.{begins_from_a}
 use Rattle.chess_base.specs.Letters.{is_digit, is_letter}
-use Rattle.chess_pgn.specs.Words.{outcome_of, kind_of}
+use Rattle.chess_pgn.specs.Words.{outcome_of, word_kind}
 use Rattle.chess_pgn.proofs.Walk.{NextToken, next_token}
 
 -- ---- a run of bytes that pass
@@ -158,7 +158,7 @@ no_letter BlackWins = refl
 no_letter Draw = refl
 no_letter Unfinished = refl
 
-pub outcome_kind : (o : Outcome) → kind_of (outcome_text o) ≡ End o
+pub outcome_kind : (o : Outcome) → word_kind (outcome_text o) ≡ End o
 outcome_kind WhiteWins = refl
 outcome_kind BlackWins = refl
 outcome_kind Draw = refl
@@ -170,7 +170,7 @@ outcome_bytes BlackWins = inl refl
 outcome_bytes Draw = inl refl
 outcome_bytes Unfinished = inr refl
 
-pub number_kind : (word : List ℕ) → list_all is_digit word ≡ true → kind_of word ≡ Number
+pub number_kind : (word : List ℕ) → list_all is_digit word ≡ true → word_kind word ≡ Number
 number_kind word h = ap (kind_by word) (no_outcome (list_all is_digit) word no_digits h) ∙ rw h refl
 
 letter_fails : (p : ℕ → Bool) (c : ℕ) → ((k : ℕ) → p k ≡ true → is_letter k ≡ false) → is_letter c ≡ true → p c ≡ false
@@ -196,7 +196,7 @@ mark_no_letter k h =
     let b : nat_le 97 k ≡ false = grind (arith, nat_tests) in
     rw (a, b) refl
 
-pub move_kind : (word : List ℕ) → begins_with_letter word ≡ true → kind_of word ≡ Move
+pub move_kind : (word : List ℕ) → begins_with_letter word ≡ true → word_kind word ≡ Move
 move_kind [] h = absurd (cc)
 move_kind (c ∷ cs) h =
     let digit = letter_fails is_digit c digit_no_letter h in
@@ -211,7 +211,7 @@ from_a_no_outcome BlackWins = refl
 from_a_no_outcome Draw = refl
 from_a_no_outcome Unfinished = refl
 
-pub from_a_kind : (word : List ℕ) → begins_from_a word ≡ true → kind_of word ≡ Move
+pub from_a_kind : (word : List ℕ) → begins_from_a word ≡ true → word_kind word ≡ Move
 from_a_kind [] h = absurd (cc)
 from_a_kind (c ∷ cs) h =
     let first : 65 ≤ c = grind (arith, nat_tests) in

@@ -13,7 +13,7 @@ use Rattle.chess_pgn.specs.GameRead.{variant_named, tagged_variant}
 use Rattle.chess_pgn.specs.LastTags.{is_marks, may_precede_tags, named_tag, last_tag}
 use Rattle.chess_pgn.specs.ties.TagSteps.{result_after, result_from, variant_after_word, variant_after, variant_then, variant_from}
 use Rattle.chess_pgn.specs.Tokens.{Token, Skip, Tag, Word, Bad_tag, Unclosed_comment, Unclosed_variation, Bad}
-use Rattle.chess_pgn.specs.Words.{outcome_of, kind_of}
+use Rattle.chess_pgn.specs.Words.{outcome_of, word_kind}
 
 -- the last tag of a name among tokens, or the one before them
 abbrev last_from : List ℕ → Option (List ℕ × ℕ) → List (ℕ × Token) → Option (List ℕ × ℕ)
@@ -114,7 +114,7 @@ variant_from_is before (t ∷ ts) =
         (last_from (codes "Variant") (option_or (named_tag (codes "Variant") t) before) ts) before)
     by_token Skip later = later before
     by_token (Tag name text left) later = by_name text left (bytes_eq name (codes "Variant")) later
-    by_token (Word word) later = by_kind (kind_of word) later
+    by_token (Word word) later = by_kind (word_kind word) later
     by_token Bad_tag later = refl
     by_token (Unclosed_comment left) later = refl
     by_token Unclosed_variation later = refl

@@ -26,7 +26,7 @@ use Rattle.chess_pgn.specs.laws.PgnLaw.{AreTagTexts}
 use Rattle.chess_text.specs.San.{san}
 use Rattle.chess_base.specs.Moves.{after}
 use Rattle.chess_pgn.specs.Tokens.{Token, Skip, Tag, Word, is_word_byte, token_at, tokens_of}
-use Rattle.chess_pgn.specs.Words.{kind_of}
+use Rattle.chess_pgn.specs.Words.{word_kind}
 use Rattle.chess_pgn.specs.Written.{escaped, tag_line, ended, next_column, filled_from}
 use Rattle.chess_pgn.proofs.PgnFen.{fen_bare}
 use Rattle.chess_pgn.proofs.PgnPieces.{termination_bare}
@@ -200,7 +200,7 @@ outcome_stops v Unfinished true rest = token_stops v true 42 (10 ∷ rest) (Word
 outcome_stops v Unfinished false rest = token_stops v false 42 (10 ∷ rest) (Word (codes "*")) (10 ∷ rest) refl refl
 
 digits_stop : (v : Variant) (word : List ℕ) (begins : Bool) (rest : List ℕ) → 0 < length word
-    → list_all is_word_byte word ≡ true → kind_of word ≡ Number → told_on v begins (word ++ 46 ∷ rest) ≡ v
+    → list_all is_word_byte word ≡ true → word_kind word ≡ Number → told_on v begins (word ++ 46 ∷ rest) ≡ v
 digits_stop v [] begins rest some all kind = absurd (omega arith)
 digits_stop v (c ∷ cs) begins rest some all kind = token_stops v begins c (cs ++ 46 ∷ rest) (Word (c ∷ cs)) (46 ∷ rest)
     (word_token begins c cs 46 rest all refl) (ap (variant_after_word v) kind)

@@ -28,7 +28,7 @@ use Rattle.chess_text.specs.Moves.{reading}
 use Rattle.chess_pgn.specs.LastTags.{last_tag}
 use Rattle.chess_pgn.specs.Terminations.{termination_named}
 use Rattle.chess_pgn.specs.Tokens.{Token, Skip, Tag, Word, Bad_tag, Unclosed_comment, Unclosed_variation, Bad, after_byte_order_mark, tokens_from}
-use Rattle.chess_pgn.specs.Words.{kind_of}
+use Rattle.chess_pgn.specs.Words.{word_kind}
 
 -- what reading has found so far in a game's text: the game; whether there was a tag, number or move (`is_met`);
 -- whether there was a number or move (`is_begun`), after which a tag belongs to the next game; and what its tag
@@ -123,7 +123,7 @@ abbrev pub step : ℕ → ℕ → SoFar → ℕ → Token → Step
 step limit total g left Skip = On g
 step limit total g left (Tag name text string) =
     if g.is_begun then fails g NoResult (total - left) else tag_step g name text (total - string)
-step limit total g left (Word word) = word_step limit g (total - left) word (kind_of word)
+step limit total g left (Word word) = word_step limit g (total - left) word (word_kind word)
 step limit total g left Bad_tag = fails g (if g.is_begun then NoResult else BadTag) (total - left)
 step limit total g left (Unclosed_comment brace) = fails g UnclosedComment (total - brace)
 step limit total g left Unclosed_variation = fails g UnclosedVariation (total - left)

@@ -8,7 +8,7 @@ use Rattle.chess_pgn.specs.declared.results.ResultTag.{ResultTag}
 use Rattle.chess_pgn.specs.declared.word.WordKind.{WordKind}
 use Rattle.chess_pgn.specs.declared.word.WordKind.TheVariants.{Marks}
 use Rattle.chess_pgn.specs.Tokens.{Token, Skip, Tag, Word, after_byte_order_mark, tokens_from}
-use Rattle.chess_pgn.specs.Words.{outcome_of, kind_of}
+use Rattle.chess_pgn.specs.Words.{outcome_of, word_kind}
 
 -- a word of this kind is marks alone, such as `!?`
 abbrev pub is_marks : WordKind → Bool
@@ -19,7 +19,7 @@ is_marks _ = false
 abbrev pub may_precede_tags : Token → Bool
 may_precede_tags Skip = true
 may_precede_tags (Tag name text left) = true
-may_precede_tags (Word word) = is_marks (kind_of word)
+may_precede_tags (Word word) = is_marks (word_kind word)
 may_precede_tags _ = false
 
 -- the text of a token that is a tag with the given name, and how many bytes of the game's text are left where that text

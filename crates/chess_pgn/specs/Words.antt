@@ -16,7 +16,7 @@ outcome_of word = find (λ o. bytes_eq (outcome_text o) word) (WhiteWins ∷ Bla
 
 -- what a word is: an outcome such as `1-0`, a number (digits alone), marks (`!` and `?` alone), or else what may be a
 -- move
-abbrev pub kind_of : List ℕ → WordKind
-kind_of word = option_map_or End (outcome_of word)
+abbrev pub word_kind : List ℕ → WordKind
+word_kind word = option_map_or End (outcome_of word)
     (if list_all is_digit word then Number
     else (if list_all (λ c. c == byte "!" || c == byte "?") word then Marks else Move))

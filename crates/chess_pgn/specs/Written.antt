@@ -8,8 +8,8 @@ use Rattle.std.specs.List.{flat_map, AllByRecursion}
 
 -- the token goes on the line that is begun, which has `column` bytes so far: with a space and the token it has at most
 -- 79. False for column 0, where no line is begun
-abbrev pub fits : ℕ → List ℕ → Bool
-fits column token = not (column == 0) && nat_le (column + 1 + length token) 79
+abbrev pub fits_line : ℕ → List ℕ → Bool
+fits_line column token = not (column == 0) && nat_le (column + 1 + length token) 79
 
 -- what ends a line with `column` bytes so far: `\n`, or nothing for column 0, where no line is begun
 abbrev pub line_close : ℕ → List ℕ
@@ -19,12 +19,12 @@ line_close column = if column == 0 then [] else new_line ∷ []
 -- `prefix`. Column 0: no line is begun
 abbrev pub wrapped_token : List ℕ → ℕ → List ℕ → List ℕ
 wrapped_token prefix column token =
-    if fits column token then space ∷ token else line_close column ++ (prefix ++ token)
+    if fits_line column token then space ∷ token else line_close column ++ (prefix ++ token)
 
 -- how many bytes the line has once the token is added, if it has `column` before; the prefix isn't counted. A token
 -- that doesn't fit begins a new line
 abbrev pub next_column : ℕ → List ℕ → ℕ
-next_column column token = if fits column token then column + 1 + length token else length token
+next_column column token = if fits_line column token then column + 1 + length token else length token
 
 -- the text of these tokens in lines of at most 79 bytes, each line after `prefix` (not counted), where the line that is
 -- begun has `column` bytes so far (0: none is begun)

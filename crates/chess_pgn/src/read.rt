@@ -2,11 +2,11 @@
 
 ghost use Rattle.std.specs.Prelude.{◌≡◌, ℕ, ◌+◌, ◌-◌, ◌^◌, ◌≤◌, ◌<◌, true, false, length, None, IfOk, Err, is_some, IsNone, IsTrue, OnErr};
 ghost use Rattle.std.specs.Option.{IfSome, option_map_or};
-ghost use Rattle.chess_game.specs.Game.{State, at as left_at, with_declared, current, verdict_now, refusal_now};
+ghost use Rattle.chess_game.specs.Game.{State, with_state as left_at, with_declared, current, verdict_now, refusal_now};
 ghost use Rattle.chess_base.specs.Moves.{is_legal};
 ghost use Rattle.chess_text.specs.Moves.{reading};
 ghost use Rattle.chess_text.specs.declared.reading.Reading.TheVariants as reads;
-ghost use Rattle.chess_pgn.specs.Words.{kind_of};
+ghost use Rattle.chess_pgn.specs.Words.{word_kind};
 ghost use Rattle.chess_pgn.specs.ties.Seen.{token_seen, fault_seen};
 ghost use Rattle.chess_pgn.specs.GameRead.{declared_after, termination_after, move_step, word_step, tag_step, step, variant_named, tagged_variant, pgn_read};
 ghost use Rattle.chess_pgn.specs.ties.TagSteps.{variant_after};
@@ -257,7 +257,7 @@ fn read_word<B: Board>(
     ensures limit { game.new.limit ≡ game.old.limit }
     ensures ended { EndsIn offset (offset + length word.now) result }
     ensures step { step_seen game.new.state result
-        ≡ word_step game.old.limit (so_far game.old.state progress) offset word.now (kind_of word.now) }
+        ≡ word_step game.old.limit (so_far game.old.state progress) offset word.now (word_kind word.now) }
 {
     match word_kind(word) {
         WordKind::End(outcome) => {

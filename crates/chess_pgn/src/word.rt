@@ -3,7 +3,7 @@
 ghost use Rattle.std.specs.Prelude.{◌≡◌, ◌||◌, ◌==◌};
 ghost use Rattle.std.specs.List.{list_all};
 ghost use Rattle.chess_base.specs.Letters.{byte, is_digit};
-ghost use Rattle.chess_pgn.specs.Words.{outcome_of, kind_of};
+ghost use Rattle.chess_pgn.specs.Words.{outcome_of, word_kind};
 ghost use Rattle.chess_pgn.specs.ties.Begins.{begins_from_a};
 
 use crate::bytes::is_digit;
@@ -63,7 +63,7 @@ fn begins_from_a(word: &[u8]) -> bool
 #[tactic(auto, using(crate::proofs::PgnWords::number_kind))]
 #[inline(never)]
 fn low_word_kind(word: &[u8]) -> WordKind
-    ensures { result ≡ kind_of word.now }
+    ensures { result ≡ word_kind word.now }
 {
     if has_digits_alone(word) {
         WordKind::Number
@@ -80,7 +80,7 @@ fn low_word_kind(word: &[u8]) -> WordKind
 #[tactic(auto, using(crate::proofs::PgnWords::from_a_kind))]
 #[inline(always)]
 pub(crate) fn word_kind(word: &[u8]) -> WordKind
-    ensures { result ≡ kind_of word.now }
+    ensures { result ≡ word_kind word.now }
 {
     if begins_from_a(word) {
         WordKind::Move

@@ -10,7 +10,7 @@ use Rattle.chess_base.specs.declared.man.Move.{Move}
 use Rattle.chess_base.specs.declared.setup.Setup.{Setup}
 use Rattle.chess_base.specs.Moves.{is_legal}
 use Rattle.chess_base.specs.Squares.{from_below}
-use Rattle.chess_base.specs.MoveList.{promotions, triple, squares, all_triples, moves}
+use Rattle.chess_base.specs.MoveList.{promotions, move_of, squares, all_moves, moves}
 use Rattle.chess_moves.proofs.Parts.{filter-flat_map}
 use Rattle.chess_moves.proofs.SomeMember.{any-filter, any-flat_map, any-square}
 use Rattle.chess_text.specs.laws.Laws.{CanPromote}
@@ -64,7 +64,7 @@ none-squares f e = none-from_below 64 (λ s. s) f (λ k l. e k)
 -- ---- some move of the list
 
 abbrev among : (Move → Bool) → ℕ → ℕ → Bool
-among t a b = list_any t (map (triple a b) promotions)
+among t a b = list_any t (map (move_of a b) promotions)
 
 any-here : {A : Type 0} (t : A → Bool) (x : A) (xs : List A) → t x ≡ true → list_any t (x ∷ xs) ≡ true
 any-here t x xs e = or_left (t x) (list_any t xs) e
@@ -73,67 +73,67 @@ any-later : {A : Type 0} (t : A → Bool) (x : A) (xs : List A) → list_any t x
 any-later t x xs e = or_right (t x) (list_any t xs) e
 
 abbrev from_knight : ℕ → ℕ → List Move
-from_knight a b = triple a b (Some Knight) ∷ []
+from_knight a b = move_of a b (Some Knight) ∷ []
 
 abbrev from_bishop : ℕ → ℕ → List Move
-from_bishop a b = triple a b (Some Bishop) ∷ from_knight a b
+from_bishop a b = move_of a b (Some Bishop) ∷ from_knight a b
 
 abbrev from_rook : ℕ → ℕ → List Move
-from_rook a b = triple a b (Some Rook) ∷ from_bishop a b
+from_rook a b = move_of a b (Some Rook) ∷ from_bishop a b
 
 abbrev from_queen : ℕ → ℕ → List Move
-from_queen a b = triple a b (Some Queen) ∷ from_rook a b
+from_queen a b = move_of a b (Some Queen) ∷ from_rook a b
 
-any-promotion : (t : Move → Bool) (a b : ℕ) (o : Option Kind) → IfSome o CanPromote → t (triple a b o) ≡ true
+any-promotion : (t : Move → Bool) (a b : ℕ) (o : Option Kind) → IfSome o CanPromote → t (move_of a b o) ≡ true
     → among t a b ≡ true
-any-promotion t a b None h e = any-here t (triple a b None) (from_queen a b) e
+any-promotion t a b None h e = any-here t (move_of a b None) (from_queen a b) e
 any-promotion t a b (Some King) h e = absurd h
 any-promotion t a b (Some Pawn) h e = absurd h
-any-promotion t a b (Some Queen) h e = any-later t (triple a b None) (from_queen a b)
-    (any-here t (triple a b (Some Queen)) (from_rook a b) e)
+any-promotion t a b (Some Queen) h e = any-later t (move_of a b None) (from_queen a b)
+    (any-here t (move_of a b (Some Queen)) (from_rook a b) e)
 any-promotion t a b (Some Rook) h e =
-    any-later t (triple a b None) (from_queen a b)
-    (any-later t (triple a b (Some Queen)) (from_rook a b)
-    (any-here t (triple a b (Some Rook)) (from_bishop a b) e))
+    any-later t (move_of a b None) (from_queen a b)
+    (any-later t (move_of a b (Some Queen)) (from_rook a b)
+    (any-here t (move_of a b (Some Rook)) (from_bishop a b) e))
 any-promotion t a b (Some Bishop) h e =
-    any-later t (triple a b None) (from_queen a b)
-    (any-later t (triple a b (Some Queen)) (from_rook a b)
-    (any-later t (triple a b (Some Rook)) (from_bishop a b)
-    (any-here t (triple a b (Some Bishop)) (from_knight a b) e)))
+    any-later t (move_of a b None) (from_queen a b)
+    (any-later t (move_of a b (Some Queen)) (from_rook a b)
+    (any-later t (move_of a b (Some Rook)) (from_bishop a b)
+    (any-here t (move_of a b (Some Bishop)) (from_knight a b) e)))
 any-promotion t a b (Some Knight) h e =
-    any-later t (triple a b None) (from_queen a b)
-    (any-later t (triple a b (Some Queen)) (from_rook a b) (any-later t (triple a b (Some Rook)) (from_bishop a b)
-    (any-later t (triple a b (Some Bishop)) (from_knight a b) (any-here t (triple a b (Some Knight)) [] e))))
+    any-later t (move_of a b None) (from_queen a b)
+    (any-later t (move_of a b (Some Queen)) (from_rook a b) (any-later t (move_of a b (Some Rook)) (from_bishop a b)
+    (any-later t (move_of a b (Some Bishop)) (from_knight a b) (any-here t (move_of a b (Some Knight)) [] e))))
 
 any-triple : (t : Move → Bool) (m : Move) → m.from < 64 → m.to < 64 → IfSome m.promotion CanPromote → t m ≡ true
-    → list_any t all_triples ≡ true
-unfolding all_triples
+    → list_any t all_moves ≡ true
+unfolding all_moves
 any-triple t m f b k e =
     let here : among t m.from m.to ≡ true = any-promotion t m.from m.to m.promotion k e in
-    let from : list_any t (flat_map (λ b. map (triple m.from b) promotions) squares) ≡ true =
-    any-flat_map t (λ b. map (triple m.from b) promotions) squares
+    let from : list_any t (flat_map (λ b. map (move_of m.from b) promotions) squares) ≡ true =
+    any-flat_map t (λ b. map (move_of m.from b) promotions) squares
     ∙ any-square (λ b. among t m.from b) m.to b here in
-    any-flat_map t (λ a. flat_map (λ b. map (triple a b) promotions) squares) squares
-    ∙ any-square (λ a. list_any t (flat_map (λ b. map (triple a b) promotions) squares)) m.from f from
+    any-flat_map t (λ a. flat_map (λ b. map (move_of a b) promotions) squares) squares
+    ∙ any-square (λ a. list_any t (flat_map (λ b. map (move_of a b) promotions) squares)) m.from f from
 
 -- a legal move that passes a test is among all moves
 pub any-move : (p : Setup) (t : Move → Bool) (m : Move) → is_legal p m ≡ true → t m ≡ true → list_any t (moves p) ≡ true
 unfolding moves
 any-move p t m legal e =
     let h = legal_move p m legal in
-    any-filter (λ x. is_legal p x) t all_triples ∙ any-triple (λ x. is_legal p x && t x) m h.from_in h.to_in
+    any-filter (λ x. is_legal p x) t all_moves ∙ any-triple (λ x. is_legal p x && t x) m h.from_in h.to_in
     h.promotion_is (and_from (is_legal p m) (t m) legal e)
 
 -- ---- the only move of the list
 
 abbrev pub kept : (Move → Bool) → ℕ → ℕ → List Move
-kept t a b = filter t (map (triple a b) promotions)
+kept t a b = filter t (map (move_of a b) promotions)
 
-pub none-kept : (t : Move → Bool) (a b : ℕ) → ((k : Option Kind) → t (triple a b k) ≡ false) → kept t a b ≡ []
+pub none-kept : (t : Move → Bool) (a b : ℕ) → ((k : Option Kind) → t (move_of a b k) ≡ false) → kept t a b ≡ []
 none-kept t a b h = rw (h None, h (Some Queen), h (Some Rook), h (Some Bishop), h (Some Knight)) refl
 
-only-promotion : (t : Move → Bool) (a b : ℕ) (o : Option Kind) → IfSome o CanPromote → t (triple a b o) ≡ true
-    → ((k : Option Kind) → k ≢ o → t (triple a b k) ≡ false) → kept t a b ≡ triple a b o ∷ []
+only-promotion : (t : Move → Bool) (a b : ℕ) (o : Option Kind) → IfSome o CanPromote → t (move_of a b o) ≡ true
+    → ((k : Option Kind) → k ≢ o → t (move_of a b k) ≡ false) → kept t a b ≡ move_of a b o ∷ []
 only-promotion t a b None h e n =
     rw (e, n (Some Queen) (λ q. cc), n (Some Rook) (λ q. cc), n (Some Bishop) (λ q. cc), n (Some Knight) (λ q. cc)) refl
 only-promotion t a b (Some King) h e n = absurd h
@@ -148,23 +148,23 @@ only-promotion t a b (Some Knight) h e n =
     rw (e, n None (λ q. cc), n (Some Queen) (λ q. cc), n (Some Rook) (λ q. cc), n (Some Bishop) (λ q. cc)) refl
 
 only-triple : (t : Move → Bool) (m : Move) → m.from < 64 → m.to < 64 → IfSome m.promotion CanPromote → t m ≡ true
-    → ((n : Move) → t n ≡ true → n ≡ m) → filter t all_triples ≡ m ∷ []
-unfolding all_triples
+    → ((n : Move) → t n ≡ true → n ≡ m) → filter t all_moves ≡ m ∷ []
+unfolding all_moves
 only-triple t m f b k e alone =
     let other : (n : Move) → n ≢ m → t n ≡ false = λ n differs.
     false_from_ne_true (t n) (λ passed. differs (alone n passed)) in
-    let away : (a : ℕ) → a ≢ m.from → filter t (flat_map (λ b. map (triple a b) promotions) squares) ≡ [] = λ a differs.
-    filter-flat_map t (λ b. map (triple a b) promotions) squares
+    let away : (a : ℕ) → a ≢ m.from → filter t (flat_map (λ b. map (move_of a b) promotions) squares) ≡ [] = λ a differs.
+    filter-flat_map t (λ b. map (move_of a b) promotions) squares
     ∙ none-squares (λ b. kept t a b)
-    (λ b. none-kept t a b (λ k. other (triple a b k) (λ same. differs (ap (λ (n : Move). n.from) same)))) in
+    (λ b. none-kept t a b (λ k. other (move_of a b k) (λ same. differs (ap (λ (n : Move). n.from) same)))) in
     let aside : (b : ℕ) → b ≢ m.to → kept t m.from b ≡ [] = λ b differs.
-    none-kept t m.from b (λ k. other (triple m.from b k) (λ same. differs (ap (λ (n : Move). n.to) same))) in
-    filter-flat_map t (λ a. flat_map (λ b. map (triple a b) promotions) squares) squares
-    ∙ only-square (λ a. filter t (flat_map (λ b. map (triple a b) promotions) squares)) m.from f away
-    ∙ filter-flat_map t (λ b. map (triple m.from b) promotions) squares
+    none-kept t m.from b (λ k. other (move_of m.from b k) (λ same. differs (ap (λ (n : Move). n.to) same))) in
+    filter-flat_map t (λ a. flat_map (λ b. map (move_of a b) promotions) squares) squares
+    ∙ only-square (λ a. filter t (flat_map (λ b. map (move_of a b) promotions) squares)) m.from f away
+    ∙ filter-flat_map t (λ b. map (move_of m.from b) promotions) squares
     ∙ only-square (λ b. kept t m.from b) m.to b aside
     ∙ only-promotion t m.from m.to m.promotion k e
-    (λ k differs. other (triple m.from m.to k) (λ same. differs (ap (λ (n : Move). n.promotion) same)))
+    (λ k differs. other (move_of m.from m.to k) (λ same. differs (ap (λ (n : Move). n.promotion) same)))
 
 -- a legal move that alone of the legal ones passes a test is the only one that is kept of all moves
 pub only-move : (p : Setup) (t : Move → Bool) (m : Move) → is_legal p m ≡ true → t m ≡ true
@@ -172,6 +172,6 @@ pub only-move : (p : Setup) (t : Move → Bool) (m : Move) → is_legal p m ≡ 
 unfolding moves
 only-move p t m legal e alone =
     let h = legal_move p m legal in
-    filter-both (λ x. is_legal p x) t all_triples
+    filter-both (λ x. is_legal p x) t all_moves
     ∙ only-triple (λ x. is_legal p x && t x) m h.from_in h.to_in h.promotion_is (and_from (is_legal p m) (t m) legal e)
     (λ n both. let parts = and_parts (is_legal p n) (t n) both in alone n parts.0 parts.1)

@@ -17,7 +17,7 @@ use Rattle.chess_text.specs.laws.Laws.{SpellsAlone, AreParts, CanPromote}
 use Rattle.chess_text.specs.Parts.{unmarked}
 use Rattle.chess_text.specs.ties.Fitting.{promotion_text, parts_text}
 use Rattle.chess_text.specs.Moves.{shape, reading}
-use Rattle.chess_text.specs.ties.Fitting.{has_equals, promotes_so, is_form, parts_fit, is_by_squares, is_by_letter, is_straight, is_from_file}
+use Rattle.chess_text.specs.ties.Fitting.{has_equals, promotes_so, is_form, parts_fit, is_by_squares, is_by_letter, is_straight, is_by_file}
 use Rattle.chess_text.proofs.Alone.{read_alone, spelled_parts, shape_parts, spells_move, move_is, written, promotes-self, promotes-same}
 use Rattle.chess_text.proofs.Legal.{IsMove, legal_move, told_of}
 use Rattle.chess_text.proofs.Solid.{bare_parts}
@@ -93,8 +93,8 @@ by_squares p m n k e =
       promotion = promotes-same false true m.promotion n.promotion e5.1;
     }
 
-from_file : (p : Setup) (m n : Move) (k : Kind) → is_from_file (squares_named m) (told_of p n k) ≡ true → Same m n
-unfolding is_from_file
+from_file : (p : Setup) (m n : Move) (k : Kind) → is_by_file (squares_named m) (told_of p n k) ≡ true → Same m n
+unfolding is_by_file
 from_file p m n k e =
     let e4 = and_parts ((file m.from == file n.from) && (rank m.from == rank n.from) && same_kind Pawn k && true
     && (m.to == n.to)) (promotes_so (written false true m.promotion) n.promotion) e in
@@ -124,7 +124,7 @@ fits_alone p m n k e =
     let a = not_by_letter p m n k in
     let b = not_straight p m n k in
     elim (or_cases (is_by_squares (squares_named m) (told_of p n k) || is_by_letter (squares_named m) (told_of p n k)
-    || is_straight (squares_named m) (told_of p n k)) (is_from_file (squares_named m) (told_of p n k)) e) [
+    || is_straight (squares_named m) (told_of p n k)) (is_by_file (squares_named m) (told_of p n k)) e) [
       | inr h ↦ from_file p m n k h
       | inl h ↦ elim
           (or_cases (is_by_squares (squares_named m) (told_of p n k) || is_by_letter (squares_named m) (told_of p n k))

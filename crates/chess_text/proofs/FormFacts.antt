@@ -9,7 +9,7 @@ use Rattle.chess_base.specs.declared.man.CastlingSide.TheVariants.{KingSide, Que
 use Rattle.chess_base.specs.declared.man.Move.{Move}
 use Rattle.chess_base.specs.declared.setup.Setup.{Setup}
 use Rattle.chess_base.specs.Moves.{is_legal}
-use Rattle.chess_base.specs.MoveList.{all_triples, moves}
+use Rattle.chess_base.specs.MoveList.{all_moves, moves}
 use Rattle.chess_text.specs.declared.described.Described.{Described}
 use Rattle.chess_text.specs.declared.form.Form.{Form}
 use Rattle.chess_text.specs.declared.form.Form.TheVariants.{Piece}
@@ -121,9 +121,9 @@ legal_agree : (p : Setup) (t u : Move → Bool) → ((m : Move) → is_legal p m
     → filter t (moves p) ≡ filter u (moves p)
 unfolding moves
 legal_agree p t u h =
-    filter-both (λ m. is_legal p m) t all_triples
-    ∙ filter_agree (λ m. is_legal p m && t m) (λ m. is_legal p m && u m) both all_triples
-    ∙ sym (filter-both (λ m. is_legal p m) u all_triples)
+    filter-both (λ m. is_legal p m) t all_moves
+    ∙ filter_agree (λ m. is_legal p m && t m) (λ m. is_legal p m && u m) both all_moves
+    ∙ sym (filter-both (λ m. is_legal p m) u all_moves)
   where
     both : (m : Move) → (is_legal p m && t m) ≡ (is_legal p m && u m)
     both m =
@@ -175,7 +175,7 @@ read_legal p text m e = by_shape (shape text) refl e
   where
     by_shape : (t : Bool) → shape text ≡ t → cond t (one_of (filter (λ m. spells p text m) (moves p))) reads.NotAMove
         ≡ reads.Move m → is_legal p m ≡ true
-    by_shape true is e = filter-again (λ m. is_legal p m) (λ m. spells p text m) all_triples m []
+    by_shape true is e = filter-again (λ m. is_legal p m) (λ m. spells p text m) all_moves m []
         (one_is (filter (λ m. spells p text m) (moves p)) m e)
     by_shape false is e = absurd cc
 

@@ -17,7 +17,7 @@ use Rattle.chess_base.specs.Men.{is_of, man_at, other, same_colour, same_kind, i
 use Rattle.chess_base.specs.Moves.{is_legal, is_pseudo_legal, after, moves_as, man_moves, pawn_moves, pawn_advances, pawn_captures, promotion_fits}
 use Rattle.chess_base.specs.ties.Splits.{castles_or_moves, names_castling}
 use Rattle.chess_base.specs.declared.castling.Castle.{Castle}
-use Rattle.chess_base.specs.Castling.{castling, says_castling, castled_king_file, castle_of, home_square, king_home_file, right_of}
+use Rattle.chess_base.specs.Castling.{castling, is_castling_to, castled_king_file, castle_of, home_square, king_home_file, right_of}
 use Rattle.chess_base.specs.Squares.{rank}
 use Rattle.chess_base.proofs.MenFacts.{same_colour-true, is_none-None}
 use Rattle.chess_base.proofs.Landing.{says_from_castling}
@@ -73,7 +73,7 @@ none_promotes o e = rw e tt
 pub castling_says : (p : Setup) (m : Move) (w : CastlingSide) → castling p m ≡ Some w
     → (is_man p.side King (man_at p.men m.from) ≡ true)
     × (names_castling p.variant p.side m w (right_of p.rights p.side w) ≡ true)
-unfolding says_castling
+unfolding is_castling_to
 castling_says p m w e = and_parts (is_man p.side King (man_at p.men m.from))
     (names_castling p.variant p.side m w (right_of p.rights p.side w)) (says_from_castling p m w e)
 

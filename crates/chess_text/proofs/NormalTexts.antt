@@ -12,11 +12,11 @@ use Rattle.chess_base.specs.declared.man.Variant.TheVariants.{Normal}
 use Rattle.chess_base.specs.declared.setup.Setup.{Setup}
 use Rattle.chess_base.specs.Attacks.{is_in_check}
 use Rattle.chess_base.specs.Coordinates.{coordinate, optional}
-use Rattle.chess_base.specs.Castling.{castling, says_castling, right_of, home_square, king_home_file, castled_king_file}
+use Rattle.chess_base.specs.Castling.{castling, is_castling_to, right_of, home_square, king_home_file, castled_king_file}
 use Rattle.chess_base.specs.ties.Splits.{names_castling}
 use Rattle.chess_base.specs.Men.{man_at, is_man, same_kind}
 use Rattle.chess_base.specs.Moves.{after}
-use Rattle.chess_base.specs.MoveList.{all_triples, moves}
+use Rattle.chess_base.specs.MoveList.{all_moves, moves}
 use Rattle.chess_base.specs.laws.Normal.{normal_says_castling, normal_castling, normal_after}
 use Rattle.chess_base.proofs.NormalKept.{normal_kept as rules_kept}
 use Rattle.chess_text.specs.declared.described.Described.{Described}
@@ -28,7 +28,7 @@ use Rattle.chess_text.specs.laws.Normal.{NormalIsKept, normal_moves, normal_desc
 
 pub moves_kept : (p : Setup) → p.variant ≡ Normal → moves p ≡ normal_moves p
 unfolding moves normal_moves
-moves_kept p e = ap (λ (test : Move → Bool). filter test all_triples) (fun_ext (rules_kept p e).legal)
+moves_kept p e = ap (λ (test : Move → Bool). filter test all_moves) (fun_ext (rules_kept p e).legal)
 
 -- ---- castling
 
@@ -51,8 +51,8 @@ says_by c m w king (Some rook) = in_turn king (m.from == home_square c king_home
     (m.to == home_square c (castled_king_file w))
 
 says_kept : (p : Setup) → p.variant ≡ Normal → (m : Move) (w : CastlingSide)
-    → says_castling p m w ≡ normal_says_castling p m w
-unfolding says_castling normal_says_castling
+    → is_castling_to p m w ≡ normal_says_castling p m w
+unfolding is_castling_to normal_says_castling
 says_kept p e m w = rw e (says_by p.side m w (is_man p.side King (man_at p.men m.from)) (right_of p.rights p.side w))
 
 castling_kept : (p : Setup) → p.variant ≡ Normal → (m : Move) → castling p m ≡ normal_castling p m

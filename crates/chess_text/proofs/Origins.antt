@@ -15,8 +15,8 @@ use Rattle.chess_base.specs.declared.setup.Setup.{Setup}
 use Rattle.chess_base.specs.Squares.{file, rank}
 use Rattle.chess_base.specs.Men.{man_at, is_man, same_kind, same_colour}
 use Rattle.chess_base.specs.Moves.{is_legal}
-use Rattle.chess_base.specs.MoveList.{promotions, triple, moves}
-use Rattle.chess_moves.specs.Sets.{has, members, HasOrigins}
+use Rattle.chess_base.specs.MoveList.{promotions, move_of, moves}
+use Rattle.chess_moves.specs.Sets.{contains, members, HasOrigins}
 use Rattle.chess_moves.proofs.Members.{flat_map_members}
 use Rattle.chess_text.specs.declared.described.Described.{Described}
 use Rattle.chess_text.specs.declared.form.Form.{Form}
@@ -25,7 +25,7 @@ use Rattle.chess_text.specs.declared.parts.Parts.{Parts}
 use Rattle.chess_text.specs.declared.reading.Reading.{Reading}
 use Rattle.chess_text.specs.declared.reading.Reading.TheVariants as reads
 use Rattle.chess_text.specs.Moves.{one_of, described, passes}
-use Rattle.chess_text.specs.ties.Fitting.{names, admits, is_by_squares, is_by_letter, is_straight, is_from_file, parts_fit}
+use Rattle.chess_text.specs.ties.Fitting.{names, admits, is_by_squares, is_by_letter, is_straight, is_by_file, parts_fit}
 use Rattle.chess_text.specs.ties.Forms.{same_side, form_fits, is_spelled, end_square, spelled_with, with_move, with_moves, named_square, IsStart}
 use Rattle.chess_text.proofs.Alone.{castled}
 use Rattle.chess_text.proofs.AllMoves.{none-kept}
@@ -67,7 +67,7 @@ named_is (Some f) (Some r) s h e g =
 
 -- what the parts say where they name a letter, a square, or neither
 pub letter_fits : (q : Parts) (d : Described) (k : Kind) → q.letter ≡ Some k → parts_fit q d ≡ true → same_kind k d.man ≡ true
-unfolding parts_fit is_by_squares is_by_letter is_straight is_from_file
+unfolding parts_fit is_by_squares is_by_letter is_straight is_by_file
 letter_fits q d k at h = grind (arith, nat_tests, at, h)
 
 -- without a letter: by its two coordinates, or as a pawn
@@ -85,8 +85,8 @@ squares_named : (q : Parts) (d : Described) → is_by_squares q d ≡ true → N
 unfolding is_by_squares
 squares_named q d h = BySquares (grind (arith, nat_tests, h)) (grind (arith, nat_tests, h))
 
-file_named : (q : Parts) (d : Described) → is_from_file q d ≡ true → NoLetter q d
-unfolding is_from_file
+file_named : (q : Parts) (d : Described) → is_by_file q d ≡ true → NoLetter q d
+unfolding is_by_file
 file_named q d h = ByFile (grind (arith, nat_tests, h)) (grind (arith, nat_tests, h)) (grind (arith, nat_tests, h))
 
 straight_named : (q : Parts) (d : Described) → is_straight q d ≡ true → NoLetter q d
@@ -100,7 +100,7 @@ letter_named q d at h = absurd (grind (arith, nat_tests, at, h))
 no_letter : (q : Parts) (d : Described) → q.letter ≡ None → parts_fit q d ≡ true → NoLetter q d
 unfolding parts_fit
 no_letter q d at h =
-    elim (or_cases (is_by_squares q d || is_by_letter q d || is_straight q d) (is_from_file q d) h) [
+    elim (or_cases (is_by_squares q d || is_by_letter q d || is_straight q d) (is_by_file q d) h) [
       | inr e ↦ file_named q d e
       | inl three ↦ elim (or_cases (is_by_squares q d || is_by_letter q d) (is_straight q d) three) [
         | inr e ↦ straight_named q d e
@@ -133,7 +133,7 @@ file_there None r s e n A = absurd cc
 file_there (Some f) r s e n A = absurd cc
 
 pub by_squares : (p : Setup) (q : Parts) (s w : ℕ) → q.letter ≡ None → named_square q.file q.rank ≡ Some s
-    → ((k : ℕ) → has w k ≡ (k == s)) → IsStart p (Piece q) w
+    → ((k : ℕ) → contains w k ≡ (k == s)) → IsStart p (Piece q) w
 by_squares p q s w at square single = λ m spelled legal.
     let h = legal_move p m legal in
     let here : m.from ≡ s = from_square m.from h.from_in (told_of p m h.man) refl
@@ -189,14 +189,14 @@ pub spelled_from : (form : Form) (p : Setup) (w : ℕ) → IsStart p form w
     (moves p)
 spelled_from form p w start = flat_map_members _ w (λ k low out. none_there k out) ∙ all_spelled form p
   where
-    none_there : (k : ℕ) → has w k ≡ false → spelled_with form p k (end_square form p) promotions ≡ []
+    none_there : (k : ℕ) → contains w k ≡ false → spelled_with form p k (end_square form p) promotions ≡ []
     none_there k out =
         none-kept (λ m. is_spelled form p m && is_legal p m) k (end_square form p)
         (λ x. false_from_ne_true
-        (is_spelled form p (triple k (end_square form p) x) && is_legal p (triple k (end_square form p) x))
-        (λ e. let both = and_parts (is_spelled form p (triple k (end_square form p) x))
-        (is_legal p (triple k (end_square form p) x)) e in
-        let there : has w k ≡ true = start (triple k (end_square form p) x) both.0 both.1 in
+        (is_spelled form p (move_of k (end_square form p) x) && is_legal p (move_of k (end_square form p) x))
+        (λ e. let both = and_parts (is_spelled form p (move_of k (end_square form p) x))
+        (is_legal p (move_of k (end_square form p) x)) e in
+        let there : contains w k ≡ true = start (move_of k (end_square form p) x) both.0 both.1 in
         cc))
 
 -- ---- what a text is that denotes some moves

@@ -6,7 +6,7 @@ use Rattle.chess_base.specs.declared.man.Kind.{Kind}
 use Rattle.chess_base.specs.declared.man.Kind.TheVariants.{Queen, Rook, Bishop, Knight}
 use Rattle.chess_base.specs.declared.setup.Setup.{Setup}
 use Rattle.chess_base.specs.Moves.{is_legal}
-use Rattle.chess_base.specs.MoveList.{promotions, triple}
+use Rattle.chess_base.specs.MoveList.{promotions, move_of}
 use Rattle.chess_moves.specs.ties.Candidates.{moves_with, moves_between}
 use Rattle.chess_moves.specs.Promoting.{would_promote}
 use Rattle.chess_moves.proofs.Parts as parts
@@ -30,7 +30,7 @@ both t q (x ∷ xs) =
 -- the legal ones, filtered
 of_legal : (form : Form) (p : Setup) (a b : ℕ) (ks : List (Option Kind))
     → spelled_with form p a b ks ≡ filter (λ m. is_spelled form p m) (moves_with p a b ks)
-of_legal form p a b ks = both (λ m. is_spelled form p m) (λ m. is_legal p m) (map (triple a b) ks)
+of_legal form p a b ks = both (λ m. is_spelled form p m) (λ m. is_legal p m) (map (move_of a b) ks)
 
 pub all_promote : (form : Form) (p : Setup) (a b : ℕ) → would_promote p a b ≡ true
     → spelled_with form p a b (Some Queen ∷ Some Rook ∷ Some Bishop ∷ Some Knight ∷ []) ≡ spelled_with form p a b

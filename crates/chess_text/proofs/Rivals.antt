@@ -15,8 +15,8 @@ use Rattle.chess_base.specs.Squares.{file, rank, some_square}
 use Rattle.chess_base.proofs.OverSquares.{some_square-none}
 use Rattle.chess_base.specs.Men.{man_at, is_man, same_kind, same_colour}
 use Rattle.chess_base.specs.Moves.{is_legal}
-use Rattle.chess_base.specs.MoveList.{promotions, triple, squares, all_triples, moves}
-use Rattle.chess_moves.specs.Sets.{has, members, HasLegalStarts}
+use Rattle.chess_base.specs.MoveList.{promotions, move_of, squares, all_moves, moves}
+use Rattle.chess_moves.specs.Sets.{contains, members, HasLegalStarts}
 use Rattle.chess_moves.proofs.Members.{by_range, members_none, of_range}
 use Rattle.chess_moves.proofs.Parts.{filter-flat_map}
 use Rattle.chess_moves.proofs.SomeMember.{any-filter, any-square}
@@ -84,22 +84,22 @@ outside p d m past = false_from_ne_true (legal_rival p d m)
     omega (arith, below, past))
 
 promoted : (p : Setup) (d : Described) (a : ℕ) (k : Kind) → same_kind d.man Pawn ≡ false
-    → legal_rival p d (triple a d.to (Some k)) ≡ false
-promoted p d a k other = false_from_ne_true (legal_rival p d (triple a d.to (Some k)))
-    (λ e. let none : Some k ≡ None = stays p d (triple a d.to (Some k)) other e in cc)
+    → legal_rival p d (move_of a d.to (Some k)) ≡ false
+promoted p d a k other = false_from_ne_true (legal_rival p d (move_of a d.to (Some k)))
+    (λ e. let none : Some k ≡ None = stays p d (move_of a d.to (Some k)) other e in cc)
 
 -- another piece of the kind has the legal move to the same square
 abbrev starts : Setup → Described → ℕ → Bool
-starts p d a = is_man p.side d.man (man_at p.men a) && is_legal p (triple a d.to None) && not (a == d.from)
+starts p d a = is_man p.side d.man (man_at p.men a) && is_legal p (move_of a d.to None) && not (a == d.from)
 
-is_start : (p : Setup) (d : Described) (a : ℕ) → legal_rival p d (triple a d.to None) ≡ starts p d a
+is_start : (p : Setup) (d : Described) (a : ℕ) → legal_rival p d (move_of a d.to None) ≡ starts p d a
 unfolding is_man
 is_start p d a =
-    elim (cases_Bool (is_legal p (triple a d.to None))) [
+    elim (cases_Bool (is_legal p (move_of a d.to None))) [
       | inr off ↦ rw (off, and-false (is_man p.side d.man (man_at p.men a))) refl
       | inl legal ↦
-          let h = legal_move p (triple a d.to None) legal in
-          rw (legal, of_move p d (triple a d.to None) h, h.at_from, eq-eqb d.to d.to refl, own p.side)
+          let h = legal_move p (move_of a d.to None) legal in
+          rw (legal, of_move p d (move_of a d.to None) h, h.at_from, eq-eqb d.to d.to refl, own p.side)
           (by_kinds (not (a == d.from)) h.man d.man)
     ]
   where
@@ -111,19 +111,19 @@ is_start p d a =
     by_kinds t j k = grind (arith)
 
 from_square : (p : Setup) (d : Described) (a : ℕ) → same_kind d.man Pawn ≡ false
-    → map (λ (m : Move). m.from) (filter (legal_rival p d) (flat_map (λ b. map (triple a b) promotions) squares))
+    → map (λ (m : Move). m.from) (filter (legal_rival p d) (flat_map (λ b. map (move_of a b) promotions) squares))
     ≡ cond (starts p d a) (a ∷ []) []
 from_square p d a other =
     ap (map (λ (m : Move). m.from))
-    (filter-flat_map (legal_rival p d) (λ b. map (triple a b) promotions) squares
+    (filter-flat_map (legal_rival p d) (λ b. map (move_of a b) promotions) squares
     ∙ alone-square (λ b. kept (legal_rival p d) a b) d.to
-    (λ b away. none-kept (legal_rival p d) a b (λ k. elsewhere p d (triple a b k) away))
-    (λ past. none-kept (legal_rival p d) a d.to (λ k. outside p d (triple a d.to k) past))
+    (λ b away. none-kept (legal_rival p d) a b (λ k. elsewhere p d (move_of a b k) away))
+    (λ past. none-kept (legal_rival p d) a d.to (λ k. outside p d (move_of a d.to k) past))
     ∙ one_kept (legal_rival p d) a d.to (starts p d a) (is_start p d a) (promoted p d a Queen other)
     (promoted p d a Rook other) (promoted p d a Bishop other) (promoted p d a Knight other))
     ∙ its_start (starts p d a)
   where
-    its_start : (s : Bool) → map (λ (m : Move). m.from) (cond s (triple a d.to None ∷ []) []) ≡ cond s (a ∷ []) []
+    its_start : (s : Bool) → map (λ (m : Move). m.from) (cond s (move_of a d.to None ∷ []) []) ≡ cond s (a ∷ []) []
     its_start true = refl
     its_start false = refl
 
@@ -144,36 +144,36 @@ gathered f t (suc n) a h =
     joined false a xs = refl
 
 pub rivals : (p : Setup) (d : Described) (w s v : ℕ) → same_kind d.man Pawn ≡ false → HasLegalStarts p d.man d.to w
-    → ((k : ℕ) → has s k ≡ (k == d.from)) → ((k : ℕ) → k < 64 → has v k ≡ (has w k && not (has s k)))
+    → ((k : ℕ) → contains s k ≡ (k == d.from)) → ((k : ℕ) → k < 64 → contains v k ≡ (contains w k && not (contains s k)))
     → members v ≡ rival_starts p (moves p) d
-unfolding rival_starts moves all_triples
+unfolding rival_starts moves all_moves
 rivals p d w s v other legal_starts single without =
     sym (ap (map (λ (m : Move). m.from))
-    (filter-both (λ m. is_legal p m) (λ m. is_rival p d m) all_triples
-    ∙ filter-flat_map (legal_rival p d) (λ a. flat_map (λ b. map (triple a b) promotions) squares) squares)
+    (filter-both (λ m. is_legal p m) (λ m. is_rival p d m) all_moves
+    ∙ filter-flat_map (legal_rival p d) (λ a. flat_map (λ b. map (move_of a b) promotions) squares) squares)
     ∙ ap (λ xs. map (λ (m : Move). m.from) (flat_map (λ a. from a) xs)) by_range
-    ∙ gathered (λ a. from a) (λ k. has v k) 64 0
+    ∙ gathered (λ a. from a) (λ k. contains v k) 64 0
     (λ k low. from_square p d k other
     ∙ ap (λ b. cond b (k ∷ []) []) (sym (without k (omega (arith, low))
-    ∙ ap (λ b. b && not (has s k)) (legal_starts k (omega (arith, low)))
-    ∙ ap (λ b. is_man p.side d.man (man_at p.men k) && is_legal p (triple k d.to None) && not b) (single k))))
+    ∙ ap (λ b. b && not (contains s k)) (legal_starts k (omega (arith, low)))
+    ∙ ap (λ b. is_man p.side d.man (man_at p.men k) && is_legal p (move_of k d.to None) && not b) (single k))))
     ∙ sym (of_range v))
   where
     from : ℕ → List Move
-    from a = filter (legal_rival p d) (flat_map (λ b. map (triple a b) promotions) squares)
+    from a = filter (legal_rival p d) (flat_map (λ b. map (move_of a b) promotions) squares)
 
 -- ---- what is written of the start
 
-some_member : (w : ℕ) → some_square (λ k. has w k) ≡ true → list_any (λ s. true) (members w) ≡ true
+some_member : (w : ℕ) → some_square (λ k. contains w k) ≡ true → list_any (λ s. true) (members w) ≡ true
 unfolding members
 some_member w some =
-    any-filter (λ k. has w k) (λ s. true) squares
-    ∙ elim (cases_Bool (list_any (λ k. has w k && true) squares)) [
+    any-filter (λ k. contains w k) (λ s. true) squares
+    ∙ elim (cases_Bool (list_any (λ k. contains w k && true) squares)) [
       | inl on ↦ on
       | inr off ↦
-          let none : some_square (λ k. has w k) ≡ false = some_square-none (λ k. has w k)
-          (λ k low. false_from_ne_true (has w k)
-          (λ here. let on = any-square (λ k. has w k && true) k low (rw here refl) in cc)) in
+          let none : some_square (λ k. contains w k) ≡ false = some_square-none (λ k. contains w k)
+          (λ k low. false_from_ne_true (contains w k)
+          (λ here. let on = any-square (λ k. contains w k && true) k low (rw here refl) in cc)) in
           absurd cc
     ]
 
@@ -181,11 +181,11 @@ pub alone : (from w : ℕ) → w ≡ 0 → distinction false false ≡ disambigu
 alone from w none = ap (disambiguate from) (sym (members_none w none))
 
 -- beside others it is by their files and ranks
-pub beside_others : (from w : ℕ) (empty : Bool) → empty ≡ not (some_square (λ k. has w k)) → empty ≡ false
+pub beside_others : (from w : ℕ) (empty : Bool) → empty ≡ not (some_square (λ k. contains w k)) → empty ≡ false
     → (if not (some_on_file (file from) (members w)) then distinction true false
     else (if not (some_on_rank (rank from) (members w)) then distinction false true else distinction true true))
     ≡ disambiguate from (members w)
-beside_others from w empty is off = by_others from (members w) (some_member w (occupied empty (some_square (λ k. has w k)) is off))
+beside_others from w empty is off = by_others from (members w) (some_member w (occupied empty (some_square (λ k. contains w k)) is off))
   where
     occupied : (empty some : Bool) → empty ≡ not some → empty ≡ false → some ≡ true
     occupied empty true is off = refl
@@ -197,7 +197,7 @@ beside_others from w empty is off = by_others from (members w) (some_member w (o
     by_others from [] h = absurd cc
     by_others from (x ∷ xs) h = refl
 
-pub file_written : (from f w : ℕ) (empty on : Bool) → empty ≡ not (some_square (λ k. has w k)) → empty ≡ false
+pub file_written : (from f w : ℕ) (empty on : Bool) → empty ≡ not (some_square (λ k. contains w k)) → empty ≡ false
     → f ≡ file from → on ≡ some_on_file f (members w) → on ≡ false → distinction true false ≡ disambiguate from (members w)
 file_written from f w empty on is full at found off =
     let none : some_on_file (file from) (members w) ≡ false = ap (λ n. some_on_file n (members w)) (sym at) ∙ sym found

@@ -32,7 +32,7 @@ use Rattle.chess_text.specs.laws.Laws.{SpellsAlone, is_san_byte, begins_with_let
 use Rattle.chess_text.specs.Parts.{unmarked}
 use Rattle.chess_text.specs.ties.Fitting.{parts_text}
 use Rattle.chess_text.specs.Moves.{captures, passes, shape, reading}
-use Rattle.chess_text.specs.ties.Fitting.{admits, has_equals, promotes_so, is_form, parts_fit, is_by_squares, is_by_letter, is_straight, is_from_file}
+use Rattle.chess_text.specs.ties.Fitting.{admits, has_equals, promotes_so, is_form, parts_fit, is_by_squares, is_by_letter, is_straight, is_by_file}
 use Rattle.chess_text.specs.ties.Forms.{same_side}
 use Rattle.chess_text.specs.San.{castling_text, is_rival, rival_starts, piece_text, unmarked_san, check_mark, san}
 use Rattle.chess_text.specs.ties.SanParts.{disambiguate, if_written, pawn_parts, lettered_parts, piece_parts}
@@ -137,7 +137,7 @@ pawn_form false from to o = refl
 
 pawn_fits : (p : Setup) (m : Move) (c : Bool) → captures p m ≡ c → (c ≡ false → file m.from ≡ file m.to)
     → parts_fit (pawn_named c m.from m.to (written true false m.promotion)) (told_of p m Pawn) ≡ true
-unfolding parts_fit is_by_squares is_by_letter is_straight is_from_file
+unfolding parts_fit is_by_squares is_by_letter is_straight is_by_file
 pawn_fits p m true e on =
     let a = eq-eqb (file m.from) (file m.from) refl in
     let b = eq-eqb m.to m.to refl in
@@ -158,7 +158,7 @@ record GoesStraight (p : Setup) (m n : Move) (l : Kind) : Type 0 where
 
 straight_fits : (p : Setup) (m n : Move) (l : Kind)
     → parts_fit (pawn_named false m.from m.to (written true false m.promotion)) (told_of p n l) ≡ true → GoesStraight p m n l
-unfolding parts_fit is_by_squares is_by_letter is_straight is_from_file
+unfolding parts_fit is_by_squares is_by_letter is_straight is_by_file
 straight_fits p m n l e =
     let straight : (same_kind Pawn l && (file n.from == file n.to) && (m.to == n.to)
     && promotes_so (written true false m.promotion) n.promotion) ≡ true =
@@ -184,7 +184,7 @@ record Takes (p : Setup) (m n : Move) (l : Kind) : Type 0 where
 
 takes_fits : (p : Setup) (m n : Move) (l : Kind)
     → parts_fit (pawn_named true m.from m.to (written true false m.promotion)) (told_of p n l) ≡ true → Takes p m n l
-unfolding parts_fit is_by_squares is_by_letter is_straight is_from_file
+unfolding parts_fit is_by_squares is_by_letter is_straight is_by_file
 takes_fits p m n l e =
     let e4 = and_parts ((file m.from == file n.from) && true && same_kind Pawn l && captures p n && (m.to == n.to))
     (promotes_so (written true false m.promotion) n.promotion) (by_squares e) in
@@ -317,7 +317,7 @@ lettered_form k start c from to = refl
 
 lettered_fits : (p : Setup) (m : Move) (k : Kind) (start : Disambiguation) → castling p m ≡ None
     → parts_fit (lettered_named k start (captures p m) m.from m.to) (told_of p m k) ≡ true
-unfolding parts_fit is_by_squares is_by_letter is_straight is_from_file
+unfolding parts_fit is_by_squares is_by_letter is_straight is_by_file
 lettered_fits p m k start none =
     let a = same_kind-self k in
     let b = told_admits start.file (file m.from) in
@@ -335,7 +335,7 @@ record Goes (p : Setup) (m n : Move) (k l : Kind) (start : Disambiguation) : Typ
 
 lettered_goes : (p : Setup) (m n : Move) (k l : Kind) (start : Disambiguation) (c : Bool)
     → parts_fit (lettered_named k start c m.from m.to) (told_of p n l) ≡ true → Goes p m n k l start
-unfolding parts_fit is_by_squares is_by_letter is_straight is_from_file
+unfolding parts_fit is_by_squares is_by_letter is_straight is_by_file
 lettered_goes p m n k l start c e =
     let by_letter : (same_kind k l && is_none (castling p n) && admits (if_written start.file (file m.from)) (file n.from)
     && admits (if_written start.rank (rank m.from)) (rank n.from) && (not c || captures p n) && (m.to == n.to) && true)

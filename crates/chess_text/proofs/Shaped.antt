@@ -15,7 +15,7 @@ use Rattle.chess_text.specs.declared.parts.Parts.{Parts}
 use Rattle.chess_text.specs.declared.parts.Promotion.{Promotion}
 use Rattle.chess_text.specs.Parts.{unmarked}
 use Rattle.chess_text.specs.Moves.{is_castling_text, passes, spells_described, all_described, shape}
-use Rattle.chess_text.specs.ties.Fitting.{parts_text, admits, promotes_so, is_by_squares, is_by_letter, is_straight, is_from_file, parts_fit, is_form, has_parts, has_form, fits_text}
+use Rattle.chess_text.specs.ties.Fitting.{parts_text, admits, promotes_so, is_by_squares, is_by_letter, is_straight, is_by_file, parts_fit, is_form, has_parts, has_form, fits_text}
 use Rattle.chess_text.specs.ties.Reader.{parts_at}
 use Rattle.chess_text.specs.laws.Laws.{CanPromote, AreParts, IsSpelled}
 use Rattle.chess_text.proofs.Grammar.{spelled-parts, parts-spelled}
@@ -155,7 +155,7 @@ described_in d h =
 
 pub no_form : (letter : Option Kind) (f r : Option ℕ) (takes : Bool) (to : ℕ) (promotion : Option Promotion) (d : Described)
     → is_form (of letter f r takes to promotion) ≡ false → parts_fit (of letter f r takes to promotion) d ≡ false
-unfolding is_form parts_fit is_by_squares is_by_letter is_straight is_from_file
+unfolding is_form parts_fit is_by_squares is_by_letter is_straight is_by_file
 no_form (Some k) f r takes to (Some x) d e = simp (and_right)
 no_form (Some k) f r takes to None d e = absurd cc
 no_form None (Some n) r takes to promotion d e = absurd cc

@@ -12,14 +12,14 @@ use Rattle.chess_base.specs.declared.setup.Setup.{Setup}
 use Rattle.chess_base.specs.Men.{man_at}
 use Rattle.chess_base.specs.Moves.{is_legal}
 use Rattle.chess_base.specs.Castling.{right_of}
-use Rattle.chess_base.specs.MoveList.{promotions, triple, squares, all_triples, moves}
+use Rattle.chess_base.specs.MoveList.{promotions, move_of, squares, all_moves, moves}
 use Rattle.chess_moves.proofs.Parts.{filter-flat_map}
 use Rattle.chess_text.specs.declared.described.Described.{Described}
 use Rattle.chess_text.specs.declared.form.Form.{Form}
 use Rattle.chess_text.specs.declared.form.Form.TheVariants.{Castling, Piece}
 use Rattle.chess_text.specs.declared.parts.Parts.{Parts}
 use Rattle.chess_text.specs.Moves.{described, passes}
-use Rattle.chess_text.specs.ties.Fitting.{is_by_squares, is_by_letter, is_straight, is_from_file, parts_fit}
+use Rattle.chess_text.specs.ties.Fitting.{is_by_squares, is_by_letter, is_straight, is_by_file, parts_fit}
 use Rattle.chess_text.specs.ties.Forms.{same_side, form_fits, is_spelled, castling_end, end_square, spelled_with}
 use Rattle.chess_text.proofs.Alone.{castled}
 use Rattle.chess_text.proofs.AllMoves.{filter-both, none-kept, kept, alone-square}
@@ -39,14 +39,14 @@ straight_ends : (q : Parts) (d : Described) → is_straight q d ≡ true → d.t
 unfolding is_straight
 straight_ends q d h = grind (arith, nat_tests, h)
 
-from_file_ends : (q : Parts) (d : Described) → is_from_file q d ≡ true → d.to ≡ q.end.to
-unfolding is_from_file
+from_file_ends : (q : Parts) (d : Described) → is_by_file q d ≡ true → d.to ≡ q.end.to
+unfolding is_by_file
 from_file_ends q d h = grind (arith, nat_tests, h)
 
 fitting_ends : (q : Parts) (d : Described) → parts_fit q d ≡ true → d.to ≡ q.end.to
 unfolding parts_fit
 fitting_ends q d h =
-    elim (or_cases (is_by_squares q d || is_by_letter q d || is_straight q d) (is_from_file q d) h) [
+    elim (or_cases (is_by_squares q d || is_by_letter q d || is_straight q d) (is_by_file q d) h) [
       | inr e ↦ from_file_ends q d e
       | inl three ↦ elim (or_cases (is_by_squares q d || is_by_letter q d) (is_straight q d) three) [
         | inr e ↦ straight_ends q d e
@@ -102,22 +102,22 @@ flat_map_same f g h [] = refl
 flat_map_same f g h (x ∷ xs) = rw (h x, flat_map_same f g h xs) refl
 
 -- from one square
-from_one : (form : Form) (p : Setup) (a : ℕ) → filter (fit form p) (flat_map (λ b. map (triple a b) promotions) squares)
+from_one : (form : Form) (p : Setup) (a : ℕ) → filter (fit form p) (flat_map (λ b. map (move_of a b) promotions) squares)
     ≡ spelled_with form p a (end_square form p) promotions
 from_one form p a =
-    filter-flat_map (fit form p) (λ b. map (triple a b) promotions) squares
+    filter-flat_map (fit form p) (λ b. map (move_of a b) promotions) squares
     ∙ alone-square (λ b. kept (fit form p) a b) (end_square form p)
-    (λ b away. none-kept (fit form p) a b (λ k. not_fit form p (triple a b k) away))
-    (λ past. none-kept (fit form p) a (end_square form p) (λ k. not_legal form p (triple a (end_square form p) k) past))
+    (λ b away. none-kept (fit form p) a b (λ k. not_fit form p (move_of a b k) away))
+    (λ past. none-kept (fit form p) a (end_square form p) (λ k. not_legal form p (move_of a (end_square form p) k) past))
 
 pub all_spelled : (form : Form) (p : Setup)
     → flat_map (λ a. spelled_with form p a (end_square form p) promotions) squares
     ≡ filter (λ m. is_spelled form p m) (moves p)
-unfolding moves all_triples
+unfolding moves all_moves
 all_spelled form p =
-    sym (filter-both (λ m. is_legal p m) (λ m. is_spelled form p m) all_triples
+    sym (filter-both (λ m. is_legal p m) (λ m. is_spelled form p m) all_moves
     ∙ filter_same (λ m. is_legal p m && is_spelled form p m) (fit form p)
-    (λ m. and_comm (is_legal p m) (is_spelled form p m)) all_triples
-    ∙ filter-flat_map (fit form p) (λ a. flat_map (λ b. map (triple a b) promotions) squares) squares
-    ∙ flat_map_same (λ a. filter (fit form p) (flat_map (λ b. map (triple a b) promotions) squares))
+    (λ m. and_comm (is_legal p m) (is_spelled form p m)) all_moves
+    ∙ filter-flat_map (fit form p) (λ a. flat_map (λ b. map (move_of a b) promotions) squares) squares
+    ∙ flat_map_same (λ a. filter (fit form p) (flat_map (λ b. map (move_of a b) promotions) squares))
     (λ a. spelled_with form p a (end_square form p) promotions) (from_one form p) squares)

@@ -20,7 +20,7 @@ use Rattle.chess_text.specs.declared.form.Form.TheVariants.{Piece}
 use Rattle.chess_text.specs.declared.parts.Parts.{Parts}
 use Rattle.chess_text.specs.declared.parts.Promotion.{Promotion}
 use Rattle.chess_text.specs.Moves.{captures}
-use Rattle.chess_text.specs.ties.Fitting.{admits, names, is_by_squares, is_by_letter, is_straight, is_from_file, parts_fit}
+use Rattle.chess_text.specs.ties.Fitting.{admits, names, is_by_squares, is_by_letter, is_straight, is_by_file, parts_fit}
 use Rattle.chess_text.specs.ties.Forms.{is_spelled, is_spelled_by_letter, is_spelled_by_pawn, is_spelled_of, kind_by, named_square, one_kind}
 use Rattle.chess_text.proofs.Legal.{castling_says, legal_move, IsMove, told_of, described_is}
 use Rattle.chess_text.proofs.Origins.{named_is}
@@ -109,7 +109,7 @@ letter_fits : (k : Kind) (f r : Option ℕ) (takes captured : Bool) (a to : ℕ)
       end = record { to = to; promotion = None };
     }) (record { man = k; from = a; to = to; promotion = None; captures = captured; castles = o })
     ≡ (admits f (file a) && admits r (rank a) && (not takes || captured) && is_none o)
-unfolding parts_fit is_by_squares is_by_letter is_straight is_from_file
+unfolding parts_fit is_by_squares is_by_letter is_straight is_by_file
 letter_fits k f r takes captured a to o =
     rw (eq-eqb (kind_number k) (kind_number k) refl, eq-eqb to to refl)
     (last_two (is_none o && admits f (file a) && admits r (rank a) && (not takes || captured))
@@ -147,7 +147,7 @@ pawn_fits_by : (f r : Option ℕ) (takes captured : Bool) (a to : ℕ) (o : Opti
     }) (record { man = Pawn; from = a; to = to; promotion = None; captures = captured; castles = o })
     ≡ cond (is_none f) (is_none r && not takes && (file a == file to))
     (names f (file a) && admits r (rank a) && (not takes || captured))
-unfolding parts_fit is_by_letter is_straight is_from_file
+unfolding parts_fit is_by_letter is_straight is_by_file
 pawn_fits_by None None takes captured a to o e = rw (e, eq-eqb to to refl)
     (straight (not takes) (file a == file to))
   where

@@ -18,7 +18,7 @@ use Rattle.chess_text.specs.declared.parts.Parts.{Parts}
 use Rattle.chess_text.specs.declared.parts.Promotion.{Promotion}
 use Rattle.chess_text.specs.Parts.{unmarked, when, kind_text, file_text, rank_text}
 use Rattle.chess_text.specs.Moves.{is_castling_text, passes, spells_described, start_texts, capture_texts, promotion_texts, texts_by_squares, texts_by_letter, pawn_starts, texts_of_pawn}
-use Rattle.chess_text.specs.ties.Fitting.{promotion_text, parts_text, admits, names, names_kind, promotes_so, has_equals, is_by_squares, is_by_letter, is_straight, is_from_file, parts_fit, has_parts, fits_text}
+use Rattle.chess_text.specs.ties.Fitting.{promotion_text, parts_text, admits, names, names_kind, promotes_so, has_equals, is_by_squares, is_by_letter, is_straight, is_by_file, parts_fit, has_parts, fits_text}
 use Rattle.chess_text.specs.ties.Reader.{parts_at}
 use Rattle.chess_text.specs.laws.Laws.{HasLetter, CanPromote, AreParts, IsSpelled}
 use Rattle.chess_text.proofs.Lists.{IsIn, Each, here, later, in-flat_map, in-one, in-append-left, in-append-right, each-nil, each-cons, each-flat_map, each-one, each-append}
@@ -51,26 +51,26 @@ IsText d text = (q : Parts) × Lettered q × (text ≡ parts_text q) × (parts_f
 pub fit_squares : (q : Parts) (d : Described) → is_by_squares q d ≡ true → parts_fit q d ≡ true
 unfolding parts_fit
 fit_squares q d e =
-    or_left (is_by_squares q d || is_by_letter q d || is_straight q d) (is_from_file q d)
+    or_left (is_by_squares q d || is_by_letter q d || is_straight q d) (is_by_file q d)
     (or_left (is_by_squares q d || is_by_letter q d) (is_straight q d)
     (or_left (is_by_squares q d) (is_by_letter q d) e))
 
 pub fit_letter : (q : Parts) (d : Described) → is_by_letter q d ≡ true → parts_fit q d ≡ true
 unfolding parts_fit
 fit_letter q d e =
-    or_left (is_by_squares q d || is_by_letter q d || is_straight q d) (is_from_file q d)
+    or_left (is_by_squares q d || is_by_letter q d || is_straight q d) (is_by_file q d)
     (or_left (is_by_squares q d || is_by_letter q d) (is_straight q d)
     (or_right (is_by_squares q d) (is_by_letter q d) e))
 
 pub fit_straight : (q : Parts) (d : Described) → is_straight q d ≡ true → parts_fit q d ≡ true
 unfolding parts_fit
 fit_straight q d e =
-    or_left (is_by_squares q d || is_by_letter q d || is_straight q d) (is_from_file q d)
+    or_left (is_by_squares q d || is_by_letter q d || is_straight q d) (is_by_file q d)
     (or_right (is_by_squares q d || is_by_letter q d) (is_straight q d) e)
 
-pub fit_file : (q : Parts) (d : Described) → is_from_file q d ≡ true → parts_fit q d ≡ true
+pub fit_file : (q : Parts) (d : Described) → is_by_file q d ≡ true → parts_fit q d ≡ true
 unfolding parts_fit
-fit_file q d e = or_right (is_by_squares q d || is_by_letter q d || is_straight q d) (is_from_file q d) e
+fit_file q d e = or_right (is_by_squares q d || is_by_letter q d || is_straight q d) (is_by_file q d) e
 
 -- ---- each listed text is that of parts that fit
 
@@ -234,8 +234,8 @@ straight_fits d p pawn on so = let c = eq-eqb d.to d.to refl in rw (pawn, on, c,
 
 pub file_fits : (d : Described) (f r : Option ℕ) (takes : Bool) (p : Option Promotion) → same_kind Pawn d.man ≡ true
     → names f (file d.from) ≡ true → admits r (rank d.from) ≡ true → (not takes || d.captures) ≡ true
-    → promotes_so p d.promotion ≡ true → is_from_file (of None f r takes d.to p) d ≡ true
-unfolding is_from_file
+    → promotes_so p d.promotion ≡ true → is_by_file (of None f r takes d.to p) d ≡ true
+unfolding is_by_file
 file_fits d f r takes p pawn file_is rank_is takes_is so =
     let c = eq-eqb d.to d.to refl in
     rw (file_is, rank_is, pawn, takes_is, c, so) refl
@@ -538,9 +538,9 @@ filed_in d r takes p pawn rank_is takes_is so =
     (in-one (λ takes. start ++ takes) (capture_texts d.captures) x (in_capture d.captures takes takes_is)))))
 
 file_in : (d : Described) (letter : Option Kind) (f r : Option ℕ) (takes : Bool) (to : ℕ) (p : Option Promotion)
-    → is_from_file (of letter f r takes to p) d ≡ true
+    → is_by_file (of letter f r takes to p) d ≡ true
     → IsIn Text (texts_of_pawn d) (parts_text (of letter f r takes to p))
-unfolding is_from_file
+unfolding is_by_file
 file_in d letter f r takes to p e =
     let a : is_none letter ≡ true = grind (arith, nat_tests, e) in
     let b : names f (file d.from) ≡ true = grind (arith, nat_tests, e) in
@@ -554,7 +554,7 @@ file_in d letter f r takes to p e =
 pub text_in : (q : Parts) (d : Described) → Lettered q → parts_fit q d ≡ true → IsIn Text (texts_of d) (parts_text q)
 unfolding parts_fit
 text_in q d has e =
-    elim (or_cases (is_by_squares q d || is_by_letter q d || is_straight q d) (is_from_file q d) e) [
+    elim (or_cases (is_by_squares q d || is_by_letter q d || is_straight q d) (is_by_file q d) e) [
       | inr h ↦ last (file_in d q.letter q.file q.rank q.takes q.end.to q.end.promotion h)
       | inl three ↦ elim (or_cases (is_by_squares q d || is_by_letter q d) (is_straight q d) three) [
         | inr h ↦ last (straight_in d q.letter q.file q.rank q.takes q.end.to q.end.promotion h)
@@ -652,8 +652,8 @@ facts_straight q d e = record {
   promotion_is = grind (arith, nat_tests, e);
 }
 
-facts_file : (q : Parts) (d : Described) → is_from_file q d ≡ true → Facts q d
-unfolding is_from_file
+facts_file : (q : Parts) (d : Described) → is_by_file q d ≡ true → Facts q d
+unfolding is_by_file
 facts_file q d e = record {
   file_is = name_admits q.file (file d.from) (grind (arith, nat_tests, e));
   rank_is = grind (arith, nat_tests, e);
@@ -664,7 +664,7 @@ facts_file q d e = record {
 facts : (q : Parts) (d : Described) → parts_fit q d ≡ true → Facts q d
 unfolding parts_fit
 facts q d e =
-    elim (or_cases (is_by_squares q d || is_by_letter q d || is_straight q d) (is_from_file q d) e) [
+    elim (or_cases (is_by_squares q d || is_by_letter q d || is_straight q d) (is_by_file q d) e) [
       | inr h ↦ facts_file q d h
       | inl three ↦ elim (or_cases (is_by_squares q d || is_by_letter q d) (is_straight q d) three) [
         | inr h ↦ facts_straight q d h

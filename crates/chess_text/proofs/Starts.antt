@@ -11,8 +11,8 @@ use Rattle.chess_base.specs.declared.man.Move.{Move}
 use Rattle.chess_base.specs.declared.setup.Setup.{Setup}
 use Rattle.chess_base.specs.Men.{man_at, is_man, same_kind}
 use Rattle.chess_base.specs.Moves.{is_legal}
-use Rattle.chess_base.specs.MoveList.{promotions, triple, moves}
-use Rattle.chess_moves.specs.Sets.{has, members, HasLegalStarts}
+use Rattle.chess_base.specs.MoveList.{promotions, move_of, moves}
+use Rattle.chess_moves.specs.Sets.{contains, members, HasLegalStarts}
 use Rattle.chess_moves.proofs.Members.{of_range}
 use Rattle.chess_text.specs.declared.described.Described.{Described}
 use Rattle.chess_text.specs.declared.form.Form.TheVariants.{Piece}
@@ -20,7 +20,7 @@ use Rattle.chess_text.specs.declared.parts.Parts.{Parts}
 use Rattle.chess_text.specs.declared.parts.Promotion.{Promotion}
 use Rattle.chess_text.specs.declared.reading.Reading.{Reading}
 use Rattle.chess_text.specs.Moves.{one_of}
-use Rattle.chess_text.specs.ties.Fitting.{promotes_so, is_by_squares, is_by_letter, is_straight, is_from_file, parts_fit}
+use Rattle.chess_text.specs.ties.Fitting.{promotes_so, is_by_squares, is_by_letter, is_straight, is_by_file, parts_fit}
 use Rattle.chess_text.specs.ties.Forms.{is_spelled, spelled_with, named_square, kind_by, one_kind, is_spelled_of, spelled_start, IsStart}
 use Rattle.chess_text.proofs.Legal.{legal_move, MovesAs, told_of}
 use Rattle.chess_text.proofs.Origins.{man_is, fits_told, letter_fits, pawn_named, spelled_from}
@@ -49,7 +49,7 @@ none_told (Some k) e = absurd cc
 
 promotes_as : (q : Parts) (d : Described) → q.letter ≡ None → parts_fit q d ≡ true
     → promotes_so q.end.promotion d.promotion ≡ true
-unfolding parts_fit is_by_squares is_by_letter is_straight is_from_file
+unfolding parts_fit is_by_squares is_by_letter is_straight is_by_file
 promotes_as q d at h = grind (arith, nat_tests, at, h)
 
 -- ---- one kind
@@ -100,24 +100,24 @@ of_kind p q k e = by_kind p q q.letter (named_square q.file q.rank) q.end.promot
 
 -- ---- each such move begins on a square of the set
 
-same_move : (m : Move) (b : ℕ) → m.to ≡ b → m.promotion ≡ None → m ≡ triple m.from b None
+same_move : (m : Move) (b : ℕ) → m.to ≡ b → m.promotion ≡ None → m ≡ move_of m.from b None
 same_move m b t n = rw (sym t, sym n) refl
 
 starts : (p : Setup) (q : Parts) (k : Kind) (w : ℕ) → one_kind q ≡ Some k → HasLegalStarts p k q.end.to w
     → IsStart p (Piece q) w
 starts p q k w e legal_starts = λ m spelled legal.
     let of = of_kind p q k e m spelled legal in
-    let is : m ≡ triple m.from q.end.to None = same_move m q.end.to (spelled_ends (Piece q) p m spelled) of.1 in
+    let is : m ≡ move_of m.from q.end.to None = same_move m q.end.to (spelled_ends (Piece q) p m spelled) of.1 in
     legal_starts m.from (legal_move p m legal).from_in
-    ∙ and_from (is_man p.side k (man_at p.men m.from)) (is_legal p (triple m.from q.end.to None)) of.0
+    ∙ and_from (is_man p.side k (man_at p.men m.from)) (is_legal p (move_of m.from q.end.to None)) of.0
     (sym (ap (is_legal p) is) ∙ legal)
 
 -- ---- one move from each of them
 
-pub one_kept : (t : Move → Bool) (a b : ℕ) (s : Bool) → t (triple a b None) ≡ s → t (triple a b (Some Queen)) ≡ false
-    → t (triple a b (Some Rook)) ≡ false → t (triple a b (Some Bishop)) ≡ false → t (triple a b (Some Knight)) ≡ false
-    → filter t (triple a b None ∷ triple a b (Some Queen) ∷ triple a b (Some Rook) ∷ triple a b (Some Bishop)
-    ∷ triple a b (Some Knight) ∷ []) ≡ cond s (triple a b None ∷ []) []
+pub one_kept : (t : Move → Bool) (a b : ℕ) (s : Bool) → t (move_of a b None) ≡ s → t (move_of a b (Some Queen)) ≡ false
+    → t (move_of a b (Some Rook)) ≡ false → t (move_of a b (Some Bishop)) ≡ false → t (move_of a b (Some Knight)) ≡ false
+    → filter t (move_of a b None ∷ move_of a b (Some Queen) ∷ move_of a b (Some Rook) ∷ move_of a b (Some Bishop)
+    ∷ move_of a b (Some Knight) ∷ []) ≡ cond s (move_of a b None ∷ []) []
 one_kept t a b true n x y z u = rw (n, x, y, z, u) refl
 one_kept t a b false n x y z u = rw (n, x, y, z, u) refl
 
@@ -125,11 +125,11 @@ abbrev fit : Parts → Setup → Move → Bool
 fit q p m = is_spelled (Piece q) p m && is_legal p m
 
 no_other : (p : Setup) (q : Parts) (k : Kind) (a : ℕ) (x : Kind) → one_kind q ≡ Some k
-    → fit q p (triple a q.end.to (Some x)) ≡ false
-no_other p q k a x e = false_from_ne_true (fit q p (triple a q.end.to (Some x))) (λ h.
-    let both = and_parts (is_spelled (Piece q) p (triple a q.end.to (Some x)))
-    (is_legal p (triple a q.end.to (Some x))) h in
-    let none : Some x ≡ None = (of_kind p q k e (triple a q.end.to (Some x)) both.0 both.1).1 in
+    → fit q p (move_of a q.end.to (Some x)) ≡ false
+no_other p q k a x e = false_from_ne_true (fit q p (move_of a q.end.to (Some x))) (λ h.
+    let both = and_parts (is_spelled (Piece q) p (move_of a q.end.to (Some x)))
+    (is_legal p (move_of a q.end.to (Some x))) h in
+    let none : Some x ≡ None = (of_kind p q k e (move_of a q.end.to (Some x)) both.0 both.1).1 in
     cc)
 
 legal_one : (s l : Bool) → l ≡ true → (s && l) ≡ s
@@ -137,13 +137,13 @@ legal_one true l e = e
 legal_one false l e = refl
 
 one_start : (p : Setup) (q : Parts) (k : Kind) (w a : ℕ) → one_kind q ≡ Some k → HasLegalStarts p k q.end.to w
-    → a < 64 → has w a ≡ true → spelled_with (Piece q) p a q.end.to promotions ≡ spelled_start q p k a
+    → a < 64 → contains w a ≡ true → spelled_with (Piece q) p a q.end.to promotions ≡ spelled_start q p k a
 one_start p q k w a e legal_starts low there =
-    let both = and_parts (is_man p.side k (man_at p.men a)) (is_legal p (triple a q.end.to None))
+    let both = and_parts (is_man p.side k (man_at p.men a)) (is_legal p (move_of a q.end.to None))
     (sym (legal_starts a low) ∙ there) in
-    one_kept (fit q p) a q.end.to (is_spelled_of q p k (triple a q.end.to None))
-    (legal_one (is_spelled (Piece q) p (triple a q.end.to None)) (is_legal p (triple a q.end.to None)) both.1
-    ∙ spelled_of q p k (triple a q.end.to None) e both.1 refl refl both.0)
+    one_kept (fit q p) a q.end.to (is_spelled_of q p k (move_of a q.end.to None))
+    (legal_one (is_spelled (Piece q) p (move_of a q.end.to None)) (is_legal p (move_of a q.end.to None)) both.1
+    ∙ spelled_of q p k (move_of a q.end.to None) e both.1 refl refl both.0)
     (no_other p q k a Queen e) (no_other p q k a Rook e) (no_other p q k a Bishop e) (no_other p q k a Knight e)
 
 flat_map-kept : {B : Type 0} (f g : ℕ → List B) (t : ℕ → Bool) (n a : ℕ)
@@ -158,9 +158,9 @@ flat_map-kept f g t (suc n) a h =
       | inr off ↦ rw off rest
     ]
 
-flat_map-members : {B : Type 0} (f g : ℕ → List B) (w : ℕ) → ((k : ℕ) → k < 64 → has w k ≡ true → f k ≡ g k)
+flat_map-members : {B : Type 0} (f g : ℕ → List B) (w : ℕ) → ((k : ℕ) → k < 64 → contains w k ≡ true → f k ≡ g k)
     → flat_map f (members w) ≡ flat_map g (members w)
-flat_map-members f g w h = rw (of_range w) (flat_map-kept f g (λ k. has w k) 64 0 (λ k l e. h k (omega arith) e))
+flat_map-members f g w h = rw (of_range w) (flat_map-kept f g (λ k. contains w k) 64 0 (λ k l e. h k (omega arith) e))
 
 -- ---- the reading
 

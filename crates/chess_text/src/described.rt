@@ -2,7 +2,7 @@
 
 ghost use Rattle.std.specs.Prelude.{◌≡◌, ◌==◌};
 ghost use Rattle.chess_text.specs.Moves.{captures, described};
-ghost use Rattle.chess_text.specs.ties.Fitting.{admits, names, names_kind, promotes_so, has_equals, is_by_squares, is_by_letter, is_straight, is_from_file, parts_fit, is_form};
+ghost use Rattle.chess_text.specs.ties.Fitting.{admits, names, names_kind, promotes_so, has_equals, is_by_squares, is_by_letter, is_straight, is_by_file, parts_fit, is_form};
 
 use crate::parts::{Parts, Promotion};
 use chess_base::rules::{castling, is_en_passant, is_of};
@@ -142,9 +142,9 @@ fn is_straight(parts: &Parts, d: &Described) -> bool
 
 // Whether the parts denote the move, a pawn's, by its start file and its end square, as `exd5` or `exd8=Q`. A start
 // rank that they name is the pawn's, with `x` it is a capture, and the promotions agree.
-#[tactic(auto, unfolding(crate::specs::ties::Fitting::is_from_file))]
-fn is_from_file(parts: &Parts, d: &Described) -> bool
-    ensures { result ≡ is_from_file parts.now d.now }
+#[tactic(auto, unfolding(crate::specs::ties::Fitting::is_by_file))]
+fn is_by_file(parts: &Parts, d: &Described) -> bool
+    ensures { result ≡ is_by_file parts.now d.now }
 {
     parts.letter.is_none()
         && names(parts.file, d.from.file())
@@ -164,7 +164,7 @@ pub(crate) fn parts_fit(parts: &Parts, d: &Described) -> bool
     is_by_squares(parts, d)
         || is_by_letter(parts, d)
         || is_straight(parts, d)
-        || is_from_file(parts, d)
+        || is_by_file(parts, d)
 }
 
 // Whether the parts can be those of a move's text: a letter and no promotion (`Nf3`), or no letter and either a start

@@ -3,7 +3,7 @@ use Rattle.std.proofs.Common.{◌≡◌, ℕ, zero, suc, ◌+◌, ◌*◌, ◌/�
 use Rattle.std.specs.Prelude.{if◌then◌else◌, ◌==◌}
 use Rattle.std.proofs.Math.Nat.{div-mul-le_self, mul-le-mul_left}
 use Rattle.std.proofs.lemmas.Nat.{le-div}
-use Rattle.engine_lines.specs.Levels.{LevelSeen, sessions, allotted, left}
+use Rattle.engine_lines.specs.Levels.{LevelSeen, sessions, allotted, time_left}
 use Rattle.engine_lines.specs.Clocks.{Spent, spent_more}
 use Rattle.engine_lines.specs.ties.Bounds.{IsWithin}
 use Rattle.chess_game.specs.declared.game.TheConstants.{MOST_MOVES}
@@ -27,16 +27,16 @@ allotted_grows l k =
     let i : l.increment * k ≤ l.increment * (k + 1) = mul-le-mul_left l.increment (omega arith) in
     omega arith
 
-pub within_more : (l : LevelSeen) (s : Spent) (used : ℕ) → IsWithin l s → used ≤ left l s.moves s.used
+pub within_more : (l : LevelSeen) (s : Spent) (used : ℕ) → IsWithin l s → used ≤ time_left l s.moves s.used
     → s.moves < MOST_MOVES
     → IsWithin l (spent_more s used)
-unfolding left
+unfolding time_left
 within_more l s used w in_time few =
     let g = allotted_grows l s.moves in
     let u = w.used in
     record { moves = omega (arith, few); used = omega (arith, g, u, in_time) }
 
-pub room_more : (l : LevelSeen) (k used more : ℕ) → used ≤ allotted l k → more ≤ left l k used
+pub room_more : (l : LevelSeen) (k used more : ℕ) → used ≤ allotted l k → more ≤ time_left l k used
     → allotted l k ≤ 4611686018427387904 → used + more < 18446744073709551616
-unfolding left
+unfolding time_left
 room_more l k used more u t b = omega (arith, u, t, b)

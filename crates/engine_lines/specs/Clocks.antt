@@ -2,7 +2,7 @@
 use Rattle.std.specs.Prelude.{ℕ, ◌+◌}
 use Rattle.chess_base.specs.declared.man.Colour.{Colour}
 use Rattle.chess_base.specs.declared.man.Colour.TheVariants.{White, Black}
-use Rattle.engine_lines.specs.Levels.{LevelSeen, left}
+use Rattle.engine_lines.specs.Levels.{LevelSeen, time_left}
 
 -- what a side used so far: how many moves it made, and the time that they took
 pub record Spent : Type 0 where
@@ -31,7 +31,7 @@ spent_by clocks Black = clocks.black
 
 -- the milliseconds that the side `c` has left
 abbrev pub remaining : ClocksSeen → Colour → ℕ
-remaining clocks c = left clocks.level (spent_by clocks c).moves (spent_by clocks c).used
+remaining clocks c = time_left clocks.level (spent_by clocks c).moves (spent_by clocks c).used
 
 -- what a side used after one more move, which took `used` milliseconds
 abbrev pub spent_more : Spent → ℕ → Spent

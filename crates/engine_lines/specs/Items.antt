@@ -100,8 +100,8 @@ value_text (Quoted cs) = cs
 
 -- the text of the value of the last of these items that has this name, such as `myname`, without quotes; empty if none
 -- has it
-unfoldable pub told : List ℕ → List Item → List ℕ
-told name items = last_said value_text [] name items
+unfoldable pub last_value : List ℕ → List Item → List ℕ
+last_value name items = last_said value_text [] name items
 
 -- whether a byte separates the names in the value of `variants`: a comma, space or tab
 abbrev pub is_comma_or_blank : ℕ → Bool

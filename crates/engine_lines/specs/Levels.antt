@@ -73,5 +73,5 @@ unfoldable pub allotted : LevelSeen → ℕ → ℕ
 allotted level k = 1000 * (level.base * sessions level k + level.increment * k)
 
 -- the milliseconds that a side has left after `k` moves that took `used` milliseconds in all; at least 0
-unfoldable pub left : LevelSeen → ℕ → ℕ → ℕ
-left level k used = allotted level k - used
+unfoldable pub time_left : LevelSeen → ℕ → ℕ → ℕ
+time_left level k used = allotted level k - used

@@ -1,7 +1,7 @@
 //! The clocks of a game.
 
 ghost use Rattle.std.specs.Prelude.{◌≡◌, ◌≤◌, ◌<◌};
-ghost use Rattle.engine_lines.specs.Levels.{left};
+ghost use Rattle.engine_lines.specs.Levels.{time_left};
 ghost use Rattle.engine_lines.specs.Clocks.{new_clocks, spent_by, remaining, charged};
 ghost use Rattle.chess_game.specs.declared.game.TheConstants.{MOST_MOVES};
 
@@ -77,7 +77,7 @@ impl Clocks {
     }
 
     /// The milliseconds that this side has left.
-    #[tactic(auto, unfolding(crate::specs::Levels::left))]
+    #[tactic(auto, unfolding(crate::specs::Levels::time_left))]
     pub fn remaining(&self, side: Colour) -> u64
         ensures { result ≡ remaining self.now side }
     {

@@ -13,7 +13,7 @@ use Rattle.pgn_pieces.proofs.Inputs.{nothing_read}
 use Rattle.pgn_verifier.specs.declared.options.VerifyOptions.{VerifyOptions}
 use Rattle.pgn_verifier.specs.declared.tally.Tally.{Tally}
 use Rattle.pgn_verifier.specs.declared.fault.VerifyFault.TheVariants.{WriteFailed}
-use Rattle.pgn_verifier.specs.Reports.{reports_in, lines_of, counts_line, counts_of}
+use Rattle.pgn_verifier.specs.Reports.{reports_in, report_lines, counts_line, counts_of}
 use Rattle.pgn_verifier.specs.Collection.{collection_reports, collection_lines, VerifiesCollection}
 use Rattle.pgn_verifier.specs.ties.OnTheWay.{WritesCollection, next_number, GrowsBy, reports_of, counted}
 use Rattle.pgn_verifier.specs.ties.Faults.{piece_fault}
@@ -31,7 +31,7 @@ pub record SoFar (options : VerifyOptions) (r r' : InputState) (w w' : OutputSta
   pub stands : IsStateOf s r r' text
   pub due : (ended : Bool) (rest : List ℕ) → MayFollow s.ended ended rest
       → pieces_after_part ended 0 [] (text ++ rest) ≡ done ++ pieces_held ended (past_piece s) rest
-  pub took : Took w w' (lines_of options.quiet 1 (reports_of options.strict done))
+  pub took : Took w w' (report_lines options.quiet 1 (reports_of options.strict done))
   pub is : tally ≡ counted none (reports_of options.strict done)
   pub few : tally.games + tally.faults ≤ 2 * (s.offset + length s.part)
   pub few_moves : tally.half_moves ≤ s.offset + length s.part
@@ -90,7 +90,7 @@ module _ (options : VerifyOptions) (r r' r'' : InputState) (w w' : OutputState) 
 
   pub written_on : (w'' : OutputState) (after : Tally) → Next s s' r r'' so.text (Ok true)
       → s'.offset ≡ s.offset + length s.part → 0 < length s'.part → s'.offset + length s'.part ≤ 2 ^ 63
-      → Took w' w'' (lines_of options.quiet (next_number tally) (reports_in options.strict (current s')))
+      → Took w' w'' (report_lines options.quiet (next_number tally) (reports_in options.strict (current s')))
       → after ≡ counted tally (reports_in options.strict (current s')) → GrowsBy (length s'.part) tally after
       → SoFar options r r'' w w'' s' after
   written_on w'' after next offset some small took is grown =
@@ -102,7 +102,7 @@ module _ (options : VerifyOptions) (r r' r'' : InputState) (w w' : OutputState) 
         done = so.done ++ current s' ∷ [];
         stands = next.1;
         due = come next;
-        took = subst (λ xs. Took w w'' (lines_of options.quiet 1 xs)) (sym reports_more)
+        took = subst (λ xs. Took w w'' (report_lines options.quiet 1 xs)) (sym reports_more)
             (took_after options.quiet none tally w w' w'' (reports_of options.strict so.done) so.took so.is
             (reports_in options.strict (current s')) took);
         is = is ∙ ap (λ (t : Tally). counted t (reports_in options.strict (current s'))) so.is
@@ -114,7 +114,7 @@ module _ (options : VerifyOptions) (r r' r'' : InputState) (w w' : OutputState) 
       }
 
   pub write_failed : (law : PiecesAreCut) (w'' : OutputState) → Next s s' r r'' so.text (Ok true)
-      → BreaksOff w' w'' (lines_of options.quiet (next_number tally) (reports_in options.strict (current s')))
+      → BreaksOff w' w'' (report_lines options.quiet (next_number tally) (reports_in options.strict (current s')))
       → VerifiesCollection options r r'' w w'' (Err WriteFailed)
   write_failed law w'' next broke =
       let later = pieces_held s'.ended (past_piece s') [] in
@@ -128,9 +128,9 @@ module _ (options : VerifyOptions) (r r' r'' : InputState) (w w' : OutputState) 
       let first = broke_after options.quiet none tally w w' w'' (reports_of options.strict so.done) so.took so.is
       (reports_in options.strict (current s'))
       broke in
-      let lines = breaks_longer w w'' (lines_of options.quiet 1
+      let lines = breaks_longer w w'' (report_lines options.quiet 1
       (reports_of options.strict so.done ++ reports_in options.strict (current s')))
-      (lines_of options.quiet (1 + length
+      (report_lines options.quiet (1 + length
       (reports_of options.strict so.done ++ reports_in options.strict (current s')))
       (reports_of options.strict later)) first in (
         s'.ended,
@@ -141,7 +141,7 @@ module _ (options : VerifyOptions) (r r' r'' : InputState) (w w' : OutputState) 
             (subst (BreaksOff w w'') (sym (lines_after options.quiet 1
             (reports_of options.strict so.done ++ reports_in options.strict (current s'))
             (reports_of options.strict later))
-            ∙ ap (lines_of options.quiet 1) (sym all)) lines),
+            ∙ ap (report_lines options.quiet 1) (sym all)) lines),
       )
 
   pub all_written : (law : PiecesAreCut) → Next s s' r r'' so.text (Ok false)
@@ -156,7 +156,7 @@ module _ (options : VerifyOptions) (r r' r'' : InputState) (w w' : OutputState) 
       append-nil so.done) in (
         text,
         next.1,
-        subst (λ xs. Took w w' (lines_of options.quiet 1 xs)) (sym all) so.took,
+        subst (λ xs. Took w w' (report_lines options.quiet 1 xs)) (sym all) so.took,
         so.is ∙ ap (counted none) (sym all),
       )
 
@@ -169,7 +169,7 @@ module _ (options : VerifyOptions) (r r' r'' : InputState) (w w' : OutputState) 
       ap (reports_of options.strict) (law false text ∙ so.due false more
       (subst (λ b. MayFollow b false more) (sym next.2) tt)
       ∙ ap (λ ps. so.done ++ ps) next.3 ∙ append-nil so.done) in
-      let told = subst (λ xs. Took w w' (lines_of options.quiet 1 xs)) (sym all) so.took in
+      let told = subst (λ xs. Took w w' (report_lines options.quiet 1 xs)) (sym all) so.took in
       by_fault fault next.1 told
     where
       by_fault : (e : PieceFault) → IsCause r r'' (so.text ++ next.0) e

@@ -7,7 +7,7 @@ use Rattle.pgn_verifier.specs.declared.options.VerifyOptions.{VerifyOptions}
 use Rattle.pgn_verifier.specs.declared.tally.Tally.{Tally}
 use Rattle.pgn_verifier.specs.declared.tally.Verified.{Verified}
 use Rattle.pgn_verifier.specs.declared.fault.VerifyFault.TheVariants.{WriteFailed}
-use Rattle.pgn_verifier.specs.Reports.{reports_on, lines_of, counts_line, counts_of, verified}
+use Rattle.pgn_verifier.specs.Reports.{reports_on, report_lines, counts_line, counts_of, verified}
 use Rattle.pgn_verifier.specs.Verify.{text_lines}
 use Rattle.pgn_verifier.specs.Collection.{collection_reports, collection_lines, VerifiesCollection}
 use Rattle.pgn_verifier.specs.ties.OnTheWay.{WritesCollection, next_number, counted}
@@ -28,9 +28,9 @@ sent_more a b c x y h k = record {
 
 -- a text that is read as a whole begins with the input
 pub whole_lines : (options : VerifyOptions) (t : Tally) (text : List ℕ) → t ≡ none
-    → lines_of options.quiet (next_number t) (reports_on options.strict 0 text) ≡ text_lines options text
+    → report_lines options.quiet (next_number t) (reports_on options.strict 0 text) ≡ text_lines options text
 whole_lines options t text is =
-    ap (λ (u : Tally). lines_of options.quiet (next_number u) (reports_on options.strict 0 text)) is
+    ap (λ (u : Tally). report_lines options.quiet (next_number u) (reports_on options.strict 0 text)) is
 
 pub whole_counted : (strict : Bool) (t u : Tally) (text : List ℕ) (v : Verified) → t ≡ none
     → u ≡ counted t (reports_on strict 0 text) → v ≡ verified u → v ≡ verified (counts_of (reports_on strict 0 text))

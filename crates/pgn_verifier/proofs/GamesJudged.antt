@@ -2,7 +2,7 @@
 use Rattle.std.proofs.Common.{◌≡◌, ℕ, ◌+◌, ◌≤◌, Bool, true, false, List, length, Option, Some, None, Result, Ok, Err, sym, ap, subst, ◌∙◌, arith}
 use Rattle.std.specs.Prelude.{if◌then◌else◌, IfOk, IfErr, IfSome}
 use Rattle.std.specs.Option.{option_eq, option_map_or, option_or}
-use Rattle.chess_game.specs.Game.{Seen, at as left_at, is_other, verdict_now}
+use Rattle.chess_game.specs.Game.{Seen, with_state as left_at, contradicts_verdict, verdict_now}
 use Rattle.chess_game.specs.declared.ends.Verdict.{Verdict}
 use Rattle.chess_game.specs.declared.game.TheConstants.{MOST_MOVES}
 use Rattle.chess_game.specs.Results.{same_outcome}
@@ -32,7 +32,7 @@ tag_within len (Some tag) end h = either (InText len) (option_eq same_outcome ta
 
 board_within : (len : ℕ) (verdict : Option Verdict) (end : PgnEnd) → end.offset ≤ len
     → InText len (board_says_otherwise verdict end)
-board_within len verdict end h = either (InText len) (is_other verdict end.outcome) _ None (omega (arith, h)) tt
+board_within len verdict end h = either (InText len) (contradicts_verdict verdict end.outcome) _ None (omega (arith, h)) tt
 
 first_within : (len : ℕ) (first second : Option GameFault) → InText len first → InText len second
     → InText len (option_or first second)

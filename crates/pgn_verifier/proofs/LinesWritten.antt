@@ -5,19 +5,19 @@ use Rattle.byte_devices.proofs.DeviceLaws.{took_none, took_more, breaks_more, br
 use Rattle.pgn_verifier.specs.declared.report.Report.{Report}
 use Rattle.pgn_verifier.specs.declared.report.Report.TheVariants.{Game, Faulty}
 use Rattle.pgn_verifier.specs.declared.tally.Tally.{Tally}
-use Rattle.pgn_verifier.specs.Reports.{written_line, lines_of, with_report}
+use Rattle.pgn_verifier.specs.Reports.{written_line, report_lines, with_report}
 use Rattle.pgn_verifier.specs.ties.OnTheWay.{next_number, Writes, counted}
 
 -- ---- reports and those after them
 
 pub lines_after : (quiet : Bool) (number : ℕ) (xs ys : List Report)
-    → lines_of quiet number (xs ++ ys) ≡ lines_of quiet number xs ++ lines_of quiet (number + length xs) ys
-lines_after quiet number [] ys = ap (λ n. lines_of quiet n ys) (omega arith)
+    → report_lines quiet number (xs ++ ys) ≡ report_lines quiet number xs ++ report_lines quiet (number + length xs) ys
+lines_after quiet number [] ys = ap (λ n. report_lines quiet n ys) (omega arith)
 lines_after quiet number (x ∷ xs) ys =
     ap (λ t. written_line quiet number x ++ t) (lines_after quiet (number + 1) xs ys)
-    ∙ sym (append_assoc (written_line quiet number x) (lines_of quiet (number + 1) xs)
-    (lines_of quiet (number + 1 + length xs) ys))
-    ∙ ap (λ n. (written_line quiet number x ++ lines_of quiet (number + 1) xs) ++ lines_of quiet n ys) (omega arith)
+    ∙ sym (append_assoc (written_line quiet number x) (report_lines quiet (number + 1) xs)
+    (report_lines quiet (number + 1 + length xs) ys))
+    ∙ ap (λ n. (written_line quiet number x ++ report_lines quiet (number + 1) xs) ++ report_lines quiet n ys) (omega arith)
 
 -- ---- counts
 
@@ -42,25 +42,25 @@ number_after t u xs h = ap next_number h ∙ numbers_after t xs
 
 -- ---- writing
 
-pub wrote_none : (quiet : Bool) (t : Tally) (w : OutputState) → Took w w (lines_of quiet (next_number t) [])
+pub wrote_none : (quiet : Bool) (t : Tally) (w : OutputState) → Took w w (report_lines quiet (next_number t) [])
 wrote_none quiet t w = took_none w
 
 module _ (quiet : Bool) (t u : Tally) (w w' w'' : OutputState) (xs : List Report)
-    (took : Took w w' (lines_of quiet (next_number t) xs)) (is : u ≡ counted t xs) where
-  lines_are : (ys : List Report) → lines_of quiet (next_number t) (xs ++ ys)
-      ≡ lines_of quiet (next_number t) xs ++ lines_of quiet (next_number u) ys
+    (took : Took w w' (report_lines quiet (next_number t) xs)) (is : u ≡ counted t xs) where
+  lines_are : (ys : List Report) → report_lines quiet (next_number t) (xs ++ ys)
+      ≡ report_lines quiet (next_number t) xs ++ report_lines quiet (next_number u) ys
   lines_are ys = lines_after quiet (next_number t) xs ys
-      ∙ ap (λ n. lines_of quiet (next_number t) xs ++ lines_of quiet n ys) (sym (number_after t u xs is))
+      ∙ ap (λ n. report_lines quiet (next_number t) xs ++ report_lines quiet n ys) (sym (number_after t u xs is))
 
-  pub took_after : (ys : List Report) → Took w' w'' (lines_of quiet (next_number u) ys)
-      → Took w w'' (lines_of quiet (next_number t) (xs ++ ys))
+  pub took_after : (ys : List Report) → Took w' w'' (report_lines quiet (next_number u) ys)
+      → Took w w'' (report_lines quiet (next_number t) (xs ++ ys))
   took_after ys h = subst (Took w w'') (sym (lines_are ys))
-      (took_more w w' w'' (lines_of quiet (next_number t) xs) (lines_of quiet (next_number u) ys) took h)
+      (took_more w w' w'' (report_lines quiet (next_number t) xs) (report_lines quiet (next_number u) ys) took h)
 
-  pub broke_after : (ys : List Report) → BreaksOff w' w'' (lines_of quiet (next_number u) ys)
-      → BreaksOff w w'' (lines_of quiet (next_number t) (xs ++ ys))
+  pub broke_after : (ys : List Report) → BreaksOff w' w'' (report_lines quiet (next_number u) ys)
+      → BreaksOff w w'' (report_lines quiet (next_number t) (xs ++ ys))
   broke_after ys h = subst (BreaksOff w w'') (sym (lines_are ys))
-      (breaks_more w w' w'' (lines_of quiet (next_number t) xs) (lines_of quiet (next_number u) ys) took h)
+      (breaks_more w w' w'' (report_lines quiet (next_number t) xs) (report_lines quiet (next_number u) ys) took h)
 
   pub writes_after : {E : Type 0} (result : Result Tally E) (ys : List Report) → Writes quiet u w' w'' result ys
       → Writes quiet t w w'' result (xs ++ ys)
@@ -69,10 +69,10 @@ module _ (quiet : Bool) (t u : Tally) (w w' w'' : OutputState) (xs : List Report
   writes_after (Err e) ys h = broke_after ys h
 
 -- one line
-pub one_line : (quiet : Bool) (number : ℕ) (r : Report) → written_line quiet number r ≡ lines_of quiet number (r ∷ [])
+pub one_line : (quiet : Bool) (number : ℕ) (r : Report) → written_line quiet number r ≡ report_lines quiet number (r ∷ [])
 one_line quiet number r = sym (append-nil (written_line quiet number r))
 
 pub first_broke : (quiet : Bool) (number : ℕ) (w w' : OutputState) (r : Report) (rest : List Report)
-    → BreaksOff w w' (written_line quiet number r) → BreaksOff w w' (lines_of quiet number (r ∷ rest))
+    → BreaksOff w w' (written_line quiet number r) → BreaksOff w w' (report_lines quiet number (r ∷ rest))
 first_broke quiet number w w' r rest h =
-    breaks_longer w w' (written_line quiet number r) (lines_of quiet (number + 1) rest) h
+    breaks_longer w w' (written_line quiet number r) (report_lines quiet (number + 1) rest) h

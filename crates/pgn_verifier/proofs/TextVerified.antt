@@ -8,7 +8,7 @@ use Rattle.pgn_verifier.specs.declared.options.VerifyOptions.{VerifyOptions}
 use Rattle.pgn_verifier.specs.declared.report.Report.{Report}
 use Rattle.pgn_verifier.specs.declared.report.Report.TheVariants.{Game, Faulty}
 use Rattle.pgn_verifier.specs.declared.tally.Tally.{Tally}
-use Rattle.pgn_verifier.specs.Reports.{report_then, reports_from, reports_on, written_line, lines_of, with_report}
+use Rattle.pgn_verifier.specs.Reports.{report_then, reports_from, reports_on, written_line, report_lines, with_report}
 use Rattle.pgn_verifier.specs.ties.OnTheWay.{next_number, Writes, GrowsBy, moved, counted}
 use Rattle.pgn_verifier.proofs.LinesWritten.{wrote_none, took_after, broke_after, writes_after, one_line, first_broke, counted_after}
 
@@ -31,7 +31,7 @@ pub record SoFar (options : VerifyOptions) (start : ℕ) (text : List ℕ) (befo
   pub within : at ≤ length text
   pub few : tally.games + tally.faults ≤ before.games + before.faults + at
   pub few_moves : tally.half_moves ≤ before.half_moves + at
-  pub took : Took w w' (lines_of options.quiet (next_number before) done)
+  pub took : Took w w' (report_lines options.quiet (next_number before) done)
   pub is : tally ≡ counted before done
   pub n : ℕ
   pub enough : length text < at + suc n
@@ -120,7 +120,7 @@ module _ (options : VerifyOptions) (start : ℕ) (text : List ℕ) (before : Tal
   game_broke e end plies h k broke =
       let r = Game plies end.outcome end.termination in
       let rest = reports_from options.strict start s.n text end.offset in
-      subst (λ xs. BreaksOff w w'' (lines_of options.quiet (next_number before) xs))
+      subst (λ xs. BreaksOff w w'' (report_lines options.quiet (next_number before) xs))
       (sym (due (Ok (Some end)) plies h k))
       (broke_after options.quiet before tally w w' w'' done s.took s.is (r ∷ rest)
       (first_broke options.quiet (next_number tally) w' w'' r rest broke))
@@ -152,7 +152,7 @@ module _ (options : VerifyOptions) (start : ℕ) (text : List ℕ) (before : Tal
       → Writes options.quiet before w w'' (Err e) (reports_on options.strict start text)
   fault_broke e fault h broke =
       let r = Faulty (moved start fault) in
-      subst (λ xs. BreaksOff w w'' (lines_of options.quiet (next_number before) xs))
+      subst (λ xs. BreaksOff w w'' (report_lines options.quiet (next_number before) xs))
       (sym (due (Err fault) (length (read_at text at).state.moves) h refl))
       (broke_after options.quiet before tally w w' w'' done s.took s.is (r ∷ [])
       (first_broke options.quiet (next_number tally) w' w'' r [] broke))

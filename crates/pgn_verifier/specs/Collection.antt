@@ -9,7 +9,7 @@ use Rattle.pgn_verifier.specs.declared.fault.VerifyFault.TheVariants.{ReadFailed
 use Rattle.pgn_verifier.specs.declared.options.VerifyOptions.{VerifyOptions}
 use Rattle.pgn_verifier.specs.declared.report.Report.{Report}
 use Rattle.pgn_verifier.specs.declared.tally.Verified.{Verified}
-use Rattle.pgn_verifier.specs.Reports.{reports_in, lines_of, counts_line, counts_of, verified}
+use Rattle.pgn_verifier.specs.Reports.{reports_in, report_lines, counts_line, counts_of, verified}
 
 -- the reports on the games of a collection of which this text was read: on all its pieces, if the text is all of it
 -- (`ended`), else on all but the last. `strict`: results are compared
@@ -20,7 +20,7 @@ collection_reports strict ended text = flat_map (reports_in strict) (pieces ende
 -- 0-1`. `ended`: the text is all of it; if not, its last piece isn't reported. `options` say whether results are
 -- compared, and whether only faults have a line
 abbrev pub collection_lines : VerifyOptions → Bool → List ℕ → List ℕ
-collection_lines options ended text = lines_of options.quiet 1 (collection_reports options.strict ended text)
+collection_lines options ended text = report_lines options.quiet 1 (collection_reports options.strict ended text)
 
 -- all that is written of a collection of which this text was read: the lines of its games, and if the text is all of it
 -- (`ended`) the line of counts

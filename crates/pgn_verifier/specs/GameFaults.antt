@@ -1,7 +1,7 @@
 -- The faults of a game, and when its result contradicts its text or the board.
 use Rattle.std.specs.Prelude.{ℕ, ◌-◌, Bool, if◌then◌else◌, List, length, codes, Option, Some, None, Result, Ok, Err}
 use Rattle.std.specs.Option.{option_eq, option_map_or, option_or}
-use Rattle.chess_game.specs.Game.{is_other, verdict_now}
+use Rattle.chess_game.specs.Game.{contradicts_verdict, verdict_now}
 use Rattle.chess_game.specs.Results.{outcome_text, same_outcome}
 use Rattle.chess_game.specs.declared.ends.Verdict.{Verdict}
 use Rattle.chess_game.specs.declared.game.TheConstants.{MOST_MOVES}
@@ -28,7 +28,7 @@ result_differs (Some tag) end = if option_eq same_outcome tag.outcome (Some end.
 -- the fault of a game whose text ends with another outcome (`end`) than the board's verdict, such as mate; none without
 -- a verdict. Its offset is that of the text's outcome mark
 abbrev pub board_says_otherwise : Option Verdict → PgnEnd → Option GameFault
-board_says_otherwise verdict end = if is_other verdict end.outcome
+board_says_otherwise verdict end = if contradicts_verdict verdict end.outcome
     then Some (record { kind = BoardSaysOtherwise; offset = end.offset - length (outcome_text end.outcome) }) else None
 
 -- the fault of a game whose outcome (`end`) differs from its last tag Result (`tag`) or else from the board's verdict;

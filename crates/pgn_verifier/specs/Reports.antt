@@ -16,7 +16,7 @@ use Rattle.pgn_verifier.specs.declared.report.Report.{Report}
 use Rattle.pgn_verifier.specs.declared.report.Report.TheVariants.{Game, Faulty}
 use Rattle.pgn_verifier.specs.declared.tally.Tally.{Tally}
 use Rattle.pgn_verifier.specs.declared.tally.Verified.{Verified}
-use Rattle.pgn_verifier.specs.declared.tally.Verified.TheVariants.{EachGame, FaultTold}
+use Rattle.pgn_verifier.specs.declared.tally.Verified.TheVariants.{EachGame, FaultReported}
 
 -- ---- the reports on the games of a text
 
@@ -76,9 +76,9 @@ abbrev pub written_line : Bool → ℕ → Report → List ℕ
 written_line quiet number report = if is_written quiet report then report_line number report else []
 
 -- the lines of reports, whose games are numbered from `number` on; with `quiet` only those of faults
-abbrev pub lines_of : Bool → ℕ → List Report → List ℕ
-lines_of quiet number [] = []
-lines_of quiet number (report ∷ rest) = written_line quiet number report ++ lines_of quiet (number + 1) rest
+abbrev pub report_lines : Bool → ℕ → List Report → List ℕ
+report_lines quiet number [] = []
+report_lines quiet number (report ∷ rest) = written_line quiet number report ++ report_lines quiet (number + 1) rest
 
 -- ---- the counts
 
@@ -92,10 +92,10 @@ with_report t (Faulty fault) = record t { faults = t.faults + 1 }
 abbrev pub counts_of : List Report → Tally
 counts_of reports = fold with_report (record { games = 0; half_moves = 0; faults = 0 }) reports
 
--- how verifying ended, by the counts of all reports: `EachGame` if each game is without a fault, `FaultTold` if a fault
+-- how verifying ended, by the counts of all reports: `EachGame` if each game is without a fault, `FaultReported` if a fault
 -- was reported
 abbrev pub verified : Tally → Verified
-verified t = if t.faults == 0 then EachGame else FaultTold
+verified t = if t.faults == 0 then EachGame else FaultReported
 
 -- the last line of a collection, such as `games 2 half-moves 6 faults 1`
 unfoldable pub counts_line : Tally → List ℕ

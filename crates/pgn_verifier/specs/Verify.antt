@@ -7,7 +7,7 @@ use Rattle.pgn_verifier.specs.declared.fault.VerifyFault.{VerifyFault}
 use Rattle.pgn_verifier.specs.declared.fault.VerifyFault.TheVariants.{ReadFailed, WriteFailed, NoMemory, InputTooLong}
 use Rattle.pgn_verifier.specs.declared.options.VerifyOptions.{VerifyOptions}
 use Rattle.pgn_verifier.specs.declared.tally.Verified.{Verified}
-use Rattle.pgn_verifier.specs.Reports.{reports_on, lines_of, counts_of, verified}
+use Rattle.pgn_verifier.specs.Reports.{reports_on, report_lines, counts_of, verified}
 
 -- between the input's states `r` and `r'` all that was left of it was read, this text, of at most 16,777,216 bytes
 abbrev pub IsAll : InputState → InputState → List ℕ → Type 0
@@ -16,7 +16,7 @@ IsAll r r' text = HasRead true r r' text × (length text ≤ PIECE_LEN)
 -- all that is written of a text: the lines of its games up to the first fault, numbered from 1. `options` say whether
 -- results are compared, and whether only faults have a line
 abbrev pub text_lines : VerifyOptions → List ℕ → List ℕ
-text_lines options text = lines_of options.quiet 1 (reports_on options.strict 0 text)
+text_lines options text = report_lines options.quiet 1 (reports_on options.strict 0 text)
 
 -- what verifying a text does, from the input's state `r` to `r'` and the output's `w` to `w'`. It read all of the
 -- input, wrote the lines and flushed them; or a write failed, and a beginning was written; or the input failed, was

@@ -2,7 +2,7 @@
 
 ghost use Rattle.std.specs.Prelude.{◌≡◌, ◌≤◌, length, Some};
 ghost use Rattle.std.specs.Option.{IfSome, option_eq, option_or};
-ghost use Rattle.chess_game.specs.Game.{is_other, verdict_now};
+ghost use Rattle.chess_game.specs.Game.{contradicts_verdict, verdict_now};
 ghost use Rattle.chess_pgn.specs.LastTags.{result_tag_of};
 ghost use Rattle.chess_game.specs.Results.{same_outcome};
 ghost use Rattle.pgn_verifier.specs.GameFaults.{result_differs, board_says_otherwise, contradiction};
@@ -39,7 +39,7 @@ fn result_differs(tag: Option<ResultTag>, end: PgnEnd) -> Option<GameFault>
 
 // Whether the board has a verdict, such as mate, and its outcome is not this one.
 fn is_other(verdict: Option<Verdict>, outcome: Outcome) -> bool
-    ensures { result ≡ is_other verdict outcome }
+    ensures { result ≡ contradicts_verdict verdict outcome }
 {
     match verdict {
         Some(verdict) => verdict.outcome() != outcome,

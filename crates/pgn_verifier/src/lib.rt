@@ -6,7 +6,7 @@
 //! let options = VerifyOptions { quiet: false, strict: false };
 //! match verify(alloc, options, &mut input, &mut output)? {
 //!     Verified::EachGame => println!(rt; "each game was read")?,
-//!     Verified::FaultTold => println!(rt; "a game has a fault")?,
+//!     Verified::FaultReported => println!(rt; "a game has a fault")?,
 //! }
 //! ```
 //!

@@ -9,7 +9,7 @@ pub enum Verified {
     /// No game that was read has a fault.
     EachGame,
     /// A game has a fault, which was reported.
-    FaultTold,
+    FaultReported,
 }
 
 /// Counts of what was reported.
@@ -75,7 +75,7 @@ impl Tally {
         if self.faults == 0 {
             Verified::EachGame
         } else {
-            Verified::FaultTold
+            Verified::FaultReported
         }
     }
 }

@@ -73,7 +73,7 @@ fn texts_have_a_line_for_each_game(rt: HostRuntime) {
         false,
         ALL,
         b"1. f3 e5 2. g4 Qh4# 0-1\n\n1. e4 e4 *",
-        Verified::FaultTold,
+        Verified::FaultReported,
         b"game 1: 4 half-moves, 0-1\ngame 2: illegal move at byte 31\n",
     );
     check_cuts(
@@ -82,7 +82,7 @@ fn texts_have_a_line_for_each_game(rt: HostRuntime) {
         false,
         STRICT,
         b"[Result \"1-0\"]\n1. e4 0-1",
-        Verified::FaultTold,
+        Verified::FaultReported,
         b"game 1: result differs at byte 9\n",
     );
 }
@@ -95,7 +95,7 @@ fn collections_go_on_after_a_fault(rt: HostRuntime) {
         true,
         ALL,
         b"[Event \"a\"]\n1. e4\n[Event \"b\"]\n1. d4 *",
-        Verified::FaultTold,
+        Verified::FaultReported,
         b"game 1: no result at byte 18\ngame 2: 1 half-moves, *\ngames 1 half-moves 1 faults 1\n",
     );
 }

@@ -22,7 +22,7 @@ use Rattle.chess_arbiter.specs.declared.games.GamesFault.{GamesFault}
 use Rattle.chess_arbiter.specs.declared.games.GamesFault.TheVariants.{WriteFailed, NoMemory, CanNotStart}
 use Rattle.chess_arbiter.specs.declared.games.GamesPlayed.{GamesPlayed}
 use Rattle.chess_arbiter.specs.declared.score.Score.{Score}
-use Rattle.chess_arbiter.specs.Games.{first_side, GameRecord, IsOfPlan, game_text, IsStartFault, game_texts, LogsGames, score_of, EndsGames, BrokeOff}
+use Rattle.chess_arbiter.specs.Games.{first_side, GameRecord, IsOfPlan, game_text, IsStartFault, game_texts, LogsGames, score_of, EndsGames, GamesBrokeOff}
 
 -- ---- the score, as it is counted
 
@@ -60,9 +60,9 @@ LogsGame (Some first) l l' notes = Logged l l' (log_text first notes)
 -- a game from the position `start` with the time control `level` ran by a transcript to the reported `end`; it was
 -- logged if `first`, the side of the engine of `--white`, is given. `l`, `g`, `w` and `coming` are the log, the game,
 -- the engines' devices and the times that the clock is to give before, `l'`, `g'`, `w'` and `coming'` after
-abbrev pub Relayed : Option Colour → LogSeen → LogSeen → Setup → LevelSeen → Seen → Seen → MatchEnd → Ports → Ports
+abbrev pub RanAndLogged : Option Colour → LogSeen → LogSeen → Setup → LevelSeen → Seen → Seen → MatchEnd → Ports → Ports
     → (ℕ → Option ℕ) → (ℕ → Option ℕ) → Type 0
-Relayed first l l' start level g g' end w w' coming coming' =
+RanAndLogged first l l' start level g g' end w w' coming coming' =
     (notes : List Note) × RanNoted notes start level g g' end w w' coming coming' × LogsGame first l l' notes
 
 -- `end` is the reported end of a game from the position `start` with the time control `level`, between engines whose
@@ -106,4 +106,4 @@ abbrev pub HasPlayed : MatchPlan → OutputState → OutputState → LogSeen →
 HasPlayed plan w w' l l' (Ok played) =
     (games : List GameRecord) × EndsGames plan games played.fault × (played.score ≡ score_of games)
     × Flushed w w' (game_texts plan games) × LogsGames plan.log l l' games
-HasPlayed plan w w' l l' (Err fault) = BrokeOff plan w w' l l' fault
+HasPlayed plan w w' l l' (Err fault) = GamesBrokeOff plan w w' l l' fault

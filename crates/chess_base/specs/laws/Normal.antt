@@ -17,7 +17,7 @@ use Rattle.chess_base.specs.Men.{Men, man_at, is_man, same_colour, same_kind, ot
 use Rattle.chess_base.specs.Attacks.{is_in_check}
 use Rattle.chess_base.specs.Castling.{right_of, rook_file, king_home_file, home_square, right_is_sound, castled_king_file, castle_by, castles}
 use Rattle.chess_base.specs.Steps.{men_stepped}
-use Rattle.chess_base.specs.Moves.{pawn_moves, is_en_passant, behind, man_moves, man_that_lands, rights_after, target_after, halfmove_after, fullmove_after, is_legal, after}
+use Rattle.chess_base.specs.Moves.{pawn_moves, is_en_passant, one_rank_back, man_moves, arriving_man, rights_after, target_after, halfmove_after, fullmove_after, is_legal, after}
 
 -- a castling right of colour c on side w, given as its rook's square, has its king and rook on their initial squares;
 -- true if there is no right
@@ -63,12 +63,12 @@ normal_has_pattern p m = nat_lt m.from 64 && nat_lt m.to 64 && normal_moves_as p
 abbrev pub normal_steps_of : Setup → Move → Steps
 normal_steps_of p m = record {
   from = m.from;
-  second_from = if is_en_passant p m then Some (behind p.side m.to) else option_map (λ k. k.rook_from)
+  second_from = if is_en_passant p m then Some (one_rank_back p.side m.to) else option_map (λ k. k.rook_from)
       (normal_castle_of p m);
   second_to = option_map (λ k. k.rook_to) (normal_castle_of p m);
   second = Some (record { colour = p.side; kind = Rook });
   to = option_map_or (λ k. k.king_to) (normal_castle_of p m) m.to;
-  mover = man_that_lands (man_at p.men m.from) m.promotion;
+  mover = arriving_man (man_at p.men m.from) m.promotion;
 }
 
 -- normal chess: the pieces on the board after the move m of position p

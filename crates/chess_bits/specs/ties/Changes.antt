@@ -8,25 +8,25 @@ use Rattle.chess_base.specs.declared.man.Move.{Move}
 use Rattle.chess_base.specs.declared.man.Rights.{Rights}
 use Rattle.chess_base.specs.declared.setup.Setup.{Setup}
 use Rattle.chess_base.specs.declared.setup.TheConstants.{COUNTER_LIMIT}
-use Rattle.chess_base.specs.Castling.{castle_of, lands_on, castling_rook_to}
+use Rattle.chess_base.specs.Castling.{castle_of, mover_end, castling_rook_to}
 use Rattle.chess_base.specs.Men.{man_at, is_man, same_kind}
-use Rattle.chess_base.specs.MoveList.{triple}
+use Rattle.chess_base.specs.MoveList.{move_of}
 use Rattle.chess_base.specs.Moves.{is_pseudo_legal, is_en_passant, second_square_emptied}
 use Rattle.chess_base.specs.Squares.{is_square}
 
 -- by move m of position p a piece arrives on square k or leaves it
 abbrev pub is_changed : Setup → Move → ℕ → Bool
-is_changed p m k = (lands_on p m == k) || is_square (castling_rook_to p m) k
+is_changed p m k = (mover_end p m == k) || is_square (castling_rook_to p m) k
     || (is_square (second_square_emptied p m) k || (m.from == k))
 
 -- by move m of position p a piece arrives on square k: the mover, or the castling rook
 abbrev pub is_filled : Setup → Move → ℕ → Bool
-is_filled p m k = (lands_on p m == k) || is_square (castling_rook_to p m) k
+is_filled p m k = (mover_end p m == k) || is_square (castling_rook_to p m) k
 
 -- the move from square a to square b without a promotion is pseudo-legal, not the king's and not en passant; so only
 -- what is on a and b changes
 pub record StepsPlainly (p : Setup) (a b : ℕ) : Type 0 where
-  pub pattern : is_pseudo_legal p (triple a b None) ≡ true
+  pub pattern : is_pseudo_legal p (move_of a b None) ≡ true
   pub no_king : is_man p.side King (man_at p.men a) ≡ false
   pub no_passing : (is_man p.side Pawn (man_at p.men a) && is_square p.target b) ≡ false
 

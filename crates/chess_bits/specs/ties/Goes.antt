@@ -14,13 +14,13 @@ use Rattle.chess_base.specs.Attacks.{is_clear, is_attacked}
 use Rattle.chess_base.specs.Castling.{home_square, castled_king_file, right_of, castle_of}
 use Rattle.chess_base.specs.Men.{Men, man_at, other, is_man, same_kind, pawn_rank}
 use Rattle.chess_base.specs.ties.Changes.{with_man}
-use Rattle.chess_base.specs.MoveList.{triple}
+use Rattle.chess_base.specs.MoveList.{move_of}
 use Rattle.chess_base.specs.Moves.{is_pseudo_legal, is_legal, man_moves}
 use Rattle.chess_base.specs.Squares.{rank, share_rank_or_file, share_diagonal}
 use Rattle.chess_bits.specs.declared.table.Shape.TheVariants as shape
 use Rattle.chess_bits.specs.ties.Shapes.{in_shape}
 use Rattle.chess_moves.specs.Promoting.{would_promote}
-use Rattle.chess_moves.specs.Sets.{has}
+use Rattle.chess_moves.specs.Sets.{contains}
 
 -- the promotion with which a move from a to b is tried: to a queen, as one of the four kinds, if a pawn of the side on
 -- move would reach its last rank; else none
@@ -29,7 +29,7 @@ usual_promotion p a b = if would_promote p a b then Some Queen else None
 
 -- some move from square a to square b is pseudo-legal
 unfoldable pub goes : Setup → ℕ → ℕ → Bool
-goes p a b = is_pseudo_legal p (triple a b (usual_promotion p a b))
+goes p a b = is_pseudo_legal p (move_of a b (usual_promotion p a b))
 
 -- b is the end square of colour c's castling on side w, whose right is given as its rook's square: in normal chess the
 -- king's end square, in Chess960 the rook's square. False if there is no right
@@ -53,12 +53,12 @@ legal_or p m (Some castle) s = is_legal p m
 -- the answer s
 abbrev pub castling_or : Setup → CastlingSide → ℕ → ℕ → Bool → Bool
 castling_or p w a b s =
-    if names_end p.variant p.side w (right_of p.rights p.side w) b then legal_or p (triple a b None)
-    (castle_of p (triple a b None)) s else s
+    if names_end p.variant p.side w (right_of p.rights p.side w) b then legal_or p (move_of a b None)
+    (castle_of p (move_of a b None)) s else s
 
 -- a piece other than a pawn may go from a to b: by an ordinary pseudo-legal move, or by legal castling
 abbrev pub man_goes : Setup → ℕ → ℕ → Bool
-man_goes p a b = legal_or p (triple a b None) (castle_of p (triple a b None)) (man_moves p (triple a b None))
+man_goes p a b = legal_or p (move_of a b None) (castle_of p (move_of a b None)) (man_moves p (move_of a b None))
 
 -- the pieces, with the one on square a taken off
 abbrev pub lifted : Men → ℕ → Men
@@ -90,7 +90,7 @@ pub record IsFree (p : Setup) (a : ℕ) : Type 0 where
 -- each square of the set w holds a piece of this kind, of the side on move, that is free: its king is safe wherever it
 -- goes
 abbrev pub AreFree : Setup → Kind → ℕ → Type 0
-AreFree p kind w = (k : ℕ) → k < 64 → has w k ≡ true → (is_man p.side kind (man_at p.men k) ≡ true) × IsFree p k
+AreFree p kind w = (k : ℕ) → k < 64 → contains w k ≡ true → (is_man p.side kind (man_at p.men k) ≡ true) × IsFree p k
 
 -- o, a square's content, is a piece of colour c and this kind: a queen, rook, bishop or knight
 pub record IsOfficer (c : Colour) (kind : Kind) (o : Option Man) : Type 0 where

@@ -15,7 +15,7 @@ use Rattle.chess_text.specs.declared.reading.Reading.{Reading}
 use Rattle.chess_text.specs.declared.reading.Reading.TheVariants as reads
 use Rattle.chess_text.specs.laws.Normal.{normal_moves, normal_reading}
 use Rattle.chess_game.specs.declared.results.Declared.{Declared}
-use Rattle.chess_game.specs.Game.{State, from_start, played, with_declared, is_other}
+use Rattle.chess_game.specs.Game.{State, from_start, played, with_declared, contradicts_verdict}
 use Rattle.chess_pgn.specs.declared.tags.Tags.{Tags}
 use Rattle.chess_cecp.specs.declared.command.Command.{Command}
 use Rattle.chess_cecp.specs.declared.command.Command.TheVariants.{New, SetBoard, UserMove, BareMove, Undo, Remove, Declare, Claim, Ping, Protover, Variant, Go, ShowFen, ShowMoves, ShowState, ShowPgn, Quit, Silent, BadNumber, Unknown}
@@ -57,7 +57,7 @@ normal_move_row limit s text =
 abbrev pub normal_result_row : State → List ℕ → Option Declared → Response State
 normal_result_row s text None = refuses s (codes "Error (bad result): ") text
 normal_result_row s text (Some d) =
-    if is_other (normal_verdict_now s) d.outcome then refuses s (codes "Error (the board says otherwise): ") text
+    if contradicts_verdict (normal_verdict_now s) d.outcome then refuses s (codes "Error (the board says otherwise): ") text
     else becomes (with_declared s (Some d))
 
 -- the answer to `claim` in the game `s`: a draw by threefold repetition or 50 moves, if the game is not over and the

@@ -16,7 +16,7 @@ use Rattle.chess_base.specs.Attacks.{is_in_check}
 use Rattle.chess_base.specs.Faults.{counters_fit, first_failing}
 use Rattle.chess_base.specs.Letters.{byte, space}
 use Rattle.chess_base.specs.Men.{other}
-use Rattle.chess_base.specs.Sound.{has_one_king, no_pawn_on_end_ranks, has_at_most_16, target_is_behind_double_advance}
+use Rattle.chess_base.specs.Sound.{has_one_king, no_pawn_on_end_ranks, has_at_most_16, target_is_sound}
 use Rattle.chess_base.specs.laws.Normal.{normal_right_is_sound_at}
 use Rattle.chess_fen.specs.Reading.{◌>>=◌, side_of, unless_fault}
 use Rattle.chess_fen.specs.RightNames.{right_named}
@@ -114,7 +114,7 @@ normal_fault p =
     ∷ (faults.Pawns, no_pawn_on_end_ranks p.men)
     ∷ (faults.Men, has_at_most_16 p.men White && has_at_most_16 p.men Black)
     ∷ (faults.Castling, normal_rights_are_sound p)
-    ∷ (faults.EnPassant, target_is_behind_double_advance p)
+    ∷ (faults.EnPassant, target_is_sound p)
     ∷ (faults.Check, not (is_in_check p.men (other p.side)))
     ∷ [])
 

@@ -5,8 +5,8 @@ use Rattle.chess_base.specs.declared.man.Move.{Move}
 use Rattle.chess_base.specs.declared.setup.Saved.{Saved}
 use Rattle.chess_base.specs.declared.setup.Setup.{Setup}
 use Rattle.chess_moves.specs.Made.{WasMade}
-use Rattle.chess_game.specs.Line.{last}
-use Rattle.chess_game.specs.Same.{same}
+use Rattle.chess_game.specs.Line.{position_after}
+use Rattle.chess_game.specs.Same.{is_same_position}
 use Rattle.chess_game.specs.ties.PlayedMoves.{moves_of}
 use Rattle.chess_game.specs.declared.repetition.Hashed.{Hashed}
 use Rattle.chess_game.specs.declared.game.PlayedMove.{PlayedMove}
@@ -18,7 +18,7 @@ bucket k = k.word % BUCKETS
 
 -- `now` is a position that one more legal move gives, in the game from `start` by the played moves xs
 abbrev pub IsNext : Hashed → List PlayedMove → Hashed → Type 0
-IsNext start xs now = (m : Move) × (s : Saved) × WasMade (last start.position (moves_of xs)) m s now.position
+IsNext start xs now = (m : Move) × (s : Saved) × WasMade (position_after start.position (moves_of xs)) m s now.position
 
 -- the position number k in the game from `start` by the played moves xs: the start for 0, the one that played move k
 -- reached for k + 1; for greater numbers the last one
@@ -33,7 +33,7 @@ is_in start xs b k = bucket (known_at start xs k) == b
 
 -- whether the position with number k, in the game from `start` by the played moves xs, is the same as q (9.2.3)
 abbrev pub is_same_at : Hashed → List PlayedMove → Setup → ℕ → Bool
-is_same_at start xs q k = same (known_at start xs k).position q
+is_same_at start xs q k = is_same_position (known_at start xs k).position q
 
 -- one more than the greatest number below n for which the test t holds, or 0 if it holds for none
 unfoldable pub latest_below : (ℕ → Bool) → ℕ → ℕ

@@ -7,25 +7,25 @@ use Rattle.chess_base.specs.declared.man.Kind.TheVariants.{King, Queen, Rook, Bi
 use Rattle.chess_base.specs.declared.man.Man.{Man}
 use Rattle.chess_base.specs.Men.{Men, man_at, is_of}
 use Rattle.chess_base.specs.Squares.{from_below}
-use Rattle.chess_moves.specs.Sets.{has}
+use Rattle.chess_moves.specs.Sets.{contains}
 use Rattle.chess_game.specs.Ends.{is_kind}
 use Rattle.chess_game.specs.declared.packed.PackedMen.{PackedMen}
 
 -- the kind of the piece on square s, as the packed sets p say; none if no set of a kind has s
 abbrev pub kind_in : PackedMen → ℕ → Option Kind
 kind_in p s =
-    if has p.kings s then Some King
-    else if has p.queens s then Some Queen
-    else if has p.rooks s then Some Rook
-    else if has p.bishops s then Some Bishop
-    else if has p.knights s then Some Knight
-    else if has p.pawns s then Some Pawn
+    if contains p.kings s then Some King
+    else if contains p.queens s then Some Queen
+    else if contains p.rooks s then Some Rook
+    else if contains p.bishops s then Some Bishop
+    else if contains p.knights s then Some Knight
+    else if contains p.pawns s then Some Pawn
     else None
 
 -- the colour of the piece on square s, as the packed sets p say: White if White's set has s, else Black (also for an
 -- empty square)
 abbrev pub colour_in : PackedMen → ℕ → Colour
-colour_in p s = if has p.white s then White else Black
+colour_in p s = if contains p.white s then White else Black
 
 -- a piece of this colour and kind; none if there is no kind
 abbrev pub man_of : Colour → Option Kind → Option Man
@@ -43,13 +43,13 @@ men_in p = from_below 64 (man_in p)
 -- the sets have square s as the content o of that square wants it: White's set if o is white, a kind's set if o is of
 -- that kind
 pub record IsPackedAt (p : PackedMen) (s : ℕ) (o : Option Man) : Type 0 where
-  pub white : has p.white s ≡ is_of White o
-  pub kings : has p.kings s ≡ is_kind King o
-  pub queens : has p.queens s ≡ is_kind Queen o
-  pub rooks : has p.rooks s ≡ is_kind Rook o
-  pub bishops : has p.bishops s ≡ is_kind Bishop o
-  pub knights : has p.knights s ≡ is_kind Knight o
-  pub pawns : has p.pawns s ≡ is_kind Pawn o
+  pub white : contains p.white s ≡ is_of White o
+  pub kings : contains p.kings s ≡ is_kind King o
+  pub queens : contains p.queens s ≡ is_kind Queen o
+  pub rooks : contains p.rooks s ≡ is_kind Rook o
+  pub bishops : contains p.bishops s ≡ is_kind Bishop o
+  pub knights : contains p.knights s ≡ is_kind Knight o
+  pub pawns : contains p.pawns s ≡ is_kind Pawn o
 
 -- the packed sets p are those of these pieces, on each of the 64 squares
 abbrev pub ArePacked : PackedMen → Men → Type 0

@@ -7,7 +7,7 @@ use Rattle.chess_base.specs.declared.man.Rights.{Rights}
 use Rattle.chess_base.specs.declared.setup.Setup.{Setup}
 use Rattle.chess_base.specs.Men.{Men}
 use Rattle.chess_moves.specs.Made.{WasMade}
-use Rattle.chess_game.specs.Line.{last}
+use Rattle.chess_game.specs.Line.{position_after}
 use Rattle.chess_game.specs.Same.{live_target}
 use Rattle.chess_game.specs.Ends.{verdict}
 use Rattle.chess_game.specs.declared.repetition.Hashed.{Hashed}
@@ -52,7 +52,7 @@ pub record IsKept (f : Hashing) (start : Hashed) (played_moves : List PlayedMove
   pub known : IsKnown start
   pub follows : Follows start.position played_moves
   pub words : HaveHashes f start played_moves
-  pub at_end : board ≡ last start.position (moves_of played_moves)
+  pub at_end : board ≡ position_after start.position (moves_of played_moves)
 
 -- no verdict came before the last of these moves
 pub record IsUnended (start : Setup) (moves : List Move) : Type 0 where

@@ -6,7 +6,7 @@ use Rattle.chess_base.specs.declared.man.Move.{Move}
 use Rattle.byte_devices.specs.Devices.{OutputState, BreaksOff}
 use Rattle.chess_base.specs.Men.{other, same_colour}
 use Rattle.chess_cecp.specs.Lines.{LineSeen}
-use Rattle.chess_match.specs.Match.{Match, Event, Line, OutputEnds, FailsToRead, FailsToWrite, after}
+use Rattle.chess_match.specs.Match.{Match, Event, Line, OutputEnds, FailsToRead, FailsToWrite, match_after}
 use Rattle.chess_match.specs.Notes.{Noted, WasNoted, Happened, Note, both_notes}
 use Rattle.chess_match.specs.Reasons.{by_colour}
 use Rattle.chess_match.specs.Rules.{Rules}
@@ -61,7 +61,7 @@ abbrev pub broken_notes : Rules → Match → (Colour → List SentLine) → Col
 broken_notes r m due first c =
     both_notes first (λ S. if same_colour first c && not (same_colour c S) then [] else due S)
     ++ Happened (FailsToWrite c)
-    ∷ both_notes White (λ S. if same_colour c S then [] else block r m (after r m (FailsToWrite c)) S)
+    ∷ both_notes White (λ S. if same_colour c S then [] else block r m (match_after r m (FailsToWrite c)) S)
 
 -- a write of its lines `due` to the side `c` failed, which ended the match: the other engine was sent its `due` only if
 -- it is the side `first`, and then its last lines. `m` is the match before the failure; `core` and the moves `played`
@@ -72,12 +72,12 @@ pub record OneFailed (r : Rules) (core : MatchState) (played : List Move) (m : M
     (c : Colour) : Type 0 where
   pub on : is_on m.phase ≡ true
   pub some : 0 < length (due c)
-  pub stands : Represents r core played (after r m (FailsToWrite c))
+  pub stands : Represents r core played (match_after r m (FailsToWrite c))
   pub fails : failed c ≡ true
   pub broke : BreaksOff (w c) (w' c) (bytes_of (due c))
   pub others : (v : OutputState) × Flushed (w (other c)) v
       (bytes_of (if same_colour c first then [] else due (other c)))
-      × SendsIf (failed (other c)) v (w' (other c)) (bytes_of (block r m (after r m (FailsToWrite c)) (other c)))
+      × SendsIf (failed (other c)) v (w' (other c)) (bytes_of (block r m (match_after r m (FailsToWrite c)) (other c)))
   pub noted : WasNoted notes notes' (broken_notes r m due first c)
 
 -- the lines `due` at an event were sent, those of the side `first` first: all of them, or up to a write that failed,

@@ -7,12 +7,12 @@ use Rattle.chess_base.specs.Men.{same_colour}
 use Rattle.chess_pgn.specs.Written.{cut_tag}
 use Rattle.engine_lines.specs.Clocks.{ClocksSeen, Spent, charged}
 use Rattle.engine_lines.specs.EngineLines.{LineKind}
-use Rattle.engine_lines.specs.Items.{Item, told}
+use Rattle.engine_lines.specs.Items.{Item, last_value}
 use Rattle.engine_lines.specs.Seen.{features_of}
 use Rattle.engine_lines.specs.Levels.{LevelSeen}
 use Rattle.chess_match.specs.Match.{Match, Seat, items_of_line}
 use Rattle.chess_match.specs.Rules.{Rules}
-use Rattle.chess_match.specs.Sent.{SentLine, Says, answers_to, entry, block}
+use Rattle.chess_match.specs.Sent.{SentLine, Says, answers_to, lines_on_entering, block}
 use Rattle.chess_match.specs.declared.phase.Phase.{Phase}
 use Rattle.chess_match.specs.declared.phase.Phase.TheVariants.{Hello, AwaitPong}
 use Rattle.chess_match.specs.declared.state.Player.{Player}
@@ -24,7 +24,7 @@ use Rattle.chess_match.specs.ties.Texts.{AreOfLast}
 -- the name that an engine with these items gave by its last `myname`, cut so that a PGN tag can hold it; empty if it
 -- gave none
 unfoldable pub name_by : List Item → List ℕ
-name_by items = cut_tag (told (codes "myname") items)
+name_by items = cut_tag (last_value (codes "myname") items)
 
 -- what the code keeps of an engine (`kept`: features, name, and whether its offer of a draw is open) is what the
 -- definitions know of it (`known`)
@@ -34,12 +34,12 @@ pub record Keeps (kept : Player) (known : Seat) : Type 0 where
   pub offers : kept.offers ≡ known.offers
 
 -- what a side has used of its clock so far: how many moves it made, and the sum of the milliseconds that they took
-abbrev pub spent_of : Seat → Spent
-spent_of s = record { moves = length s.used; used = sum s.used }
+abbrev pub time_used_by : Seat → Spent
+time_used_by s = record { moves = length s.used; used = sum s.used }
 
 -- the clocks of the match `m`, with the time control `level`
 abbrev pub clocks_of : LevelSeen → Match → ClocksSeen
-clocks_of level m = record { level = level; white = spent_of m.white; black = spent_of m.black }
+clocks_of level m = record { level = level; white = time_used_by m.white; black = time_used_by m.black }
 
 -- the code's state `core` and the moves `played` of its game are, by the rules `r`, the match `m` of the definitions
 pub record Represents (r : Rules) (core : MatchState) (played : List Move) (m : Match) : Type 0 where
@@ -54,9 +54,9 @@ pub record Represents (r : Rules) (core : MatchState) (played : List Move) (m : 
   pub opened : core.opened ≡ m.opened
 
 -- the lines `text` if `S` is the side that the option names, else no lines
-abbrev pub to : Option Colour → Colour → List SentLine → List SentLine
-to None S text = []
-to (Some c) S text = if same_colour c S then text else []
+abbrev pub lines_if_to : Option Colour → Colour → List SentLine → List SentLine
+lines_if_to None S text = []
+lines_if_to (Some c) S text = if same_colour c S then text else []
 
 -- what items the side `S` is to be sent answers to: these, if `S` is the side `c`, else none
 abbrev pub items_to : Colour → List Item → Colour → List Item
@@ -69,7 +69,7 @@ nothing_said S = []
 -- what the side `S` is sent after the answers to its items, by the code's `given`: `draw`, if the other offered one,
 -- and the lines of the phase of `m`, if it was entered
 abbrev pub after_answers : Rules → Actions → Match → Colour → List SentLine
-after_answers r given m S = to given.draw S (Says (codes "draw") ∷ []) ++ (if given.entered then entry r m S else [])
+after_answers r given m S = lines_if_to given.draw S (Says (codes "draw") ∷ []) ++ (if given.entered then lines_on_entering r m S else [])
 
 -- all that the side `S` is sent at an event, after which the match is `m`: answers to its `items`, and by the code's
 -- `given` an offer of a draw and the lines of a new phase

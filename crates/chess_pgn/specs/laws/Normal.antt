@@ -14,7 +14,7 @@ use Rattle.chess_pgn.specs.GameRead.{SoFar, GameRead, Step, On, fails, fen_step,
 use Rattle.chess_pgn.specs.GameText.{is_initial, fen_lines, further_lines}
 use Rattle.chess_pgn.specs.Terminations.{termination_text}
 use Rattle.chess_pgn.specs.Tokens.{Token, Skip, Tag, Word, Bad_tag, Unclosed_comment, Unclosed_variation, Bad, after_byte_order_mark, tokens_from}
-use Rattle.chess_pgn.specs.Words.{kind_of}
+use Rattle.chess_pgn.specs.Words.{word_kind}
 use Rattle.chess_pgn.specs.Written.{tag_line}
 
 -- ---- written
@@ -86,7 +86,7 @@ is_mark_word (End o) = false
 abbrev pub ends_tags : Token → Bool
 ends_tags Skip = false
 ends_tags (Tag name text left) = false
-ends_tags (Word word) = not (is_mark_word (kind_of word))
+ends_tags (Word word) = not (is_mark_word (word_kind word))
 ends_tags Bad_tag = true
 ends_tags (Unclosed_comment left) = true
 ends_tags Unclosed_variation = true

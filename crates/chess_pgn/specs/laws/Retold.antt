@@ -13,7 +13,7 @@ use Rattle.chess_base.specs.Initial.{initial_setup_of}
 use Rattle.chess_fen.specs.Reading.{fen_reading_as}
 use Rattle.chess_game.specs.Ends.{verdict}
 use Rattle.chess_game.specs.Game.{State, current, verdict_now}
-use Rattle.chess_game.specs.Line.{last}
+use Rattle.chess_game.specs.Line.{position_after}
 use Rattle.chess_text.specs.declared.reading.Reading.{Reading}
 use Rattle.chess_text.specs.declared.reading.Reading.TheVariants as reads
 use Rattle.chess_text.specs.Moves.{reading}
@@ -26,7 +26,7 @@ use Rattle.chess_pgn.specs.declared.word.WordKind.{WordKind}
 use Rattle.chess_pgn.specs.declared.word.WordKind.TheVariants.{End, Number, Marks, Move}
 use Rattle.chess_pgn.specs.GameRead.{GameRead, declared_after, termination_after, tagged_variant, pgn_read}
 use Rattle.chess_pgn.specs.Tokens.{Token, Skip, Tag, Word, Bad_tag, Unclosed_comment, Unclosed_variation, Bad, after_byte_order_mark, tokens_from}
-use Rattle.chess_pgn.specs.Words.{kind_of}
+use Rattle.chess_pgn.specs.Words.{word_kind}
 
 -- ---- kinds of tokens
 
@@ -46,7 +46,7 @@ is_outcome Move = false
 
 -- whether a token is a number or a move: after it no tag belongs to the game
 abbrev pub begins : Token → Bool
-begins (Word word) = is_number_or_move (kind_of word)
+begins (Word word) = is_number_or_move (word_kind word)
 begins Skip = false
 begins (Tag name text left) = false
 begins Bad_tag = false
@@ -57,7 +57,7 @@ begins Bad = false
 -- whether a token is a tag, number or move, so that a text with it has a game
 abbrev pub counts : Token → Bool
 counts (Tag name text left) = true
-counts (Word word) = is_number_or_move (kind_of word)
+counts (Word word) = is_number_or_move (word_kind word)
 counts Skip = false
 counts Bad_tag = false
 counts (Unclosed_comment left) = false
@@ -76,7 +76,7 @@ is_fen name = bytes_eq name (codes "FEN")
 abbrev pub can_be_taken : Variant → Bool → Token → Bool
 can_be_taken v begun Skip = true
 can_be_taken v begun (Tag name text left) = not begun && (not (is_fen name) || is_ok (fen_reading_as v text))
-can_be_taken v begun (Word word) = not (is_outcome (kind_of word))
+can_be_taken v begun (Word word) = not (is_outcome (word_kind word))
 can_be_taken v begun Bad_tag = false
 can_be_taken v begun (Unclosed_comment left) = false
 can_be_taken v begun Unclosed_variation = false
@@ -99,7 +99,7 @@ if_move word Move = word ∷ []
 
 -- the token's word as a list of one, if it may be a move, else the empty list
 abbrev pub move_words_of : Token → List (List ℕ)
-move_words_of (Word word) = if_move word (kind_of word)
+move_words_of (Word word) = if_move word (word_kind word)
 move_words_of Skip = []
 move_words_of (Tag name text left) = []
 move_words_of Bad_tag = []
@@ -156,7 +156,7 @@ AreReadAs limit start done [] [] = Unit {0}
 AreReadAs limit start done [] (m ∷ ms) = ⊥
 AreReadAs limit start done (w ∷ ws) [] = ⊥
 AreReadAs limit start done (w ∷ ws) (m ∷ ms) =
-    (verdict start done ≡ None) × (length done < limit) × (reading (last start done) w ≡ reads.Move m)
+    (verdict start done ≡ None) × (length done < limit) × (reading (position_after start done) w ≡ reads.Move m)
     × AreReadAs limit start (done ++ m ∷ []) ws ms
 
 -- ---- why a token is not taken
@@ -194,7 +194,7 @@ token_fault limit total v begun s left Skip = None
 token_fault limit total v begun s left (Tag name text string) =
     if begun then fault_at (total - left) (Some NoResult)
     else (if is_fen name && not (is_ok (fen_reading_as v text)) then fault_at (total - string) (Some BadFen) else None)
-token_fault limit total v begun s left (Word word) = fault_at (total - left) (word_fault limit s word (kind_of word))
+token_fault limit total v begun s left (Word word) = fault_at (total - left) (word_fault limit s word (word_kind word))
 token_fault limit total v begun s left Bad_tag = fault_at (total - left) (Some (if begun then NoResult else BadTag))
 token_fault limit total v begun s left (Unclosed_comment brace) = fault_at (total - brace) (Some UnclosedComment)
 token_fault limit total v begun s left Unclosed_variation = fault_at (total - left) (Some UnclosedVariation)
@@ -213,7 +213,7 @@ StopsAt limit total v taken [] s (Err f) =
     (s.declared ≡ None) × (list_any (λ t. counts t.1) taken ≡ true) × (f ≡ record { kind = NoResult; offset = total })
 StopsAt limit total v taken (t ∷ ts) s (Ok None) = ⊥
 StopsAt limit total v taken (t ∷ ts) s (Ok (Some e)) =
-    (word : List ℕ) × (t.1 ≡ Word word) × (kind_of word ≡ End e.outcome)
+    (word : List ℕ) × (t.1 ≡ Word word) × (word_kind word ≡ End e.outcome)
     × (s.declared ≡ declared_after (is_some (verdict_now s)) e.outcome)
     × (e.termination ≡ tagged_termination None taken) × (e.offset ≡ total - t.0 + length word)
 StopsAt limit total v taken (t ∷ ts) s (Err f) =

@@ -8,7 +8,7 @@ use Rattle.chess_pgn.specs.declared.word.WordKind.TheVariants.{Marks}
 use Rattle.chess_pgn.specs.GameRead.{variant_named}
 use Rattle.chess_pgn.specs.LastTags.{may_precede_tags}
 use Rattle.chess_pgn.specs.Tokens.{Token, Skip, Tag, Word}
-use Rattle.chess_pgn.specs.Words.{outcome_of, kind_of}
+use Rattle.chess_pgn.specs.Words.{outcome_of, word_kind}
 
 -- ---- the tag Result
 
@@ -44,7 +44,7 @@ variant_after_word v _ = None
 abbrev pub variant_after : Variant → Token → Option Variant
 variant_after v Skip = Some v
 variant_after v (Tag name text left) = Some (if bytes_eq name (codes "Variant") then variant_named text else v)
-variant_after v (Word word) = variant_after_word v (kind_of word)
+variant_after v (Word word) = variant_after_word v (word_kind word)
 variant_after v _ = None
 
 -- what `later` gives for the variant found, if one is given (`Some`); else, as no more tags may follow, `v`, the

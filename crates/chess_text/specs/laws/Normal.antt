@@ -8,7 +8,7 @@ use Rattle.chess_base.specs.declared.setup.Setup.{Setup}
 use Rattle.chess_base.specs.Attacks.{is_in_check}
 use Rattle.chess_base.specs.Coordinates.{coordinate, optional}
 use Rattle.chess_base.specs.Men.{man_at, same_kind}
-use Rattle.chess_base.specs.MoveList.{all_triples, moves}
+use Rattle.chess_base.specs.MoveList.{all_moves, moves}
 use Rattle.chess_base.specs.laws.Normal.{normal_is_legal, normal_castling, normal_after}
 use Rattle.chess_text.specs.declared.described.Described.{Described}
 use Rattle.chess_text.specs.declared.reading.Reading.{Reading}
@@ -19,7 +19,7 @@ use Rattle.chess_text.specs.San.{unmarked_san, san, shown_move}
 
 -- all legal moves of position p, rising by start square, end square and promotion
 unfoldable pub normal_moves : Setup → List Move
-normal_moves p = filter (λ m. normal_is_legal p m) all_triples
+normal_moves p = filter (λ m. normal_is_legal p m) all_moves
 
 -- ---- read
 

@@ -81,15 +81,15 @@ is_straight q d =
 
 -- the parts q denote move d, a pawn's, by its start file and its end square, as exd5 or exd8=Q. A start rank that they
 -- name is the pawn's, with `x` the move is a capture, and the promotions agree
-unfoldable pub is_from_file : Parts → Described → Bool
-is_from_file q d =
+unfoldable pub is_by_file : Parts → Described → Bool
+is_by_file q d =
     is_none q.letter && names q.file (file d.from) && admits q.rank (rank d.from) && same_kind Pawn d.man
     && (not q.takes || d.captures) && (q.end.to == d.to) && promotes_so q.end.promotion d.promotion
 
 -- the parts q of a text denote move d: by its two squares, by its piece's letter, or as a pawn's, straight to its end
 -- square or from its start file
 unfoldable pub parts_fit : Parts → Described → Bool
-parts_fit q d = is_by_squares q d || is_by_letter q d || is_straight q d || is_from_file q d
+parts_fit q d = is_by_squares q d || is_by_letter q d || is_straight q d || is_by_file q d
 
 -- the parts can be those of a move's text: a letter and no promotion (Nf3); or no letter, and either a start file
 -- (exd5, e2e4) or the end square alone (e4)

@@ -16,14 +16,14 @@ use Rattle.chess_base.specs.Moves.{is_legal}
 use Rattle.chess_base.specs.Castling.{castled_king_file, castling, home_square, right_of}
 use Rattle.chess_base.specs.Men.{same_kind}
 use Rattle.chess_base.specs.Squares.{file, rank}
-use Rattle.chess_base.specs.MoveList.{triple}
+use Rattle.chess_base.specs.MoveList.{move_of}
 use Rattle.chess_text.specs.declared.described.Described.{Described}
 use Rattle.chess_text.specs.declared.form.Form.{Form}
 use Rattle.chess_text.specs.declared.form.Form.TheVariants.{Castling, Piece}
 use Rattle.chess_text.specs.declared.parts.Parts.{Parts}
 use Rattle.chess_text.specs.Parts.{unmarked}
 use Rattle.chess_text.specs.ties.Reader.{parts_at}
-use Rattle.chess_moves.specs.Sets.{has}
+use Rattle.chess_moves.specs.Sets.{contains}
 use Rattle.chess_text.specs.declared.reading.Reading.{Reading}
 use Rattle.chess_text.specs.declared.reading.Reading.TheVariants as reads
 use Rattle.chess_text.specs.Moves.{captures, castling_texts, described, passes}
@@ -81,7 +81,7 @@ end_square (Piece q) p = q.end.to
 
 -- the legal moves from square a to square b, with one of the promotions ks, that a text of this form denotes
 abbrev pub spelled_with : Form → Setup → ℕ → ℕ → List (Option Kind) → List Move
-spelled_with form p a b ks = filter (λ m. is_spelled form p m && is_legal p m) (map (triple a b) ks)
+spelled_with form p a b ks = filter (λ m. is_spelled form p m && is_legal p m) (map (move_of a b) ks)
 
 -- what a text is read as after one more legal move m that it denotes, from the reading so far: m if it was `NoSuch`,
 -- `Ambiguous` if there was a move already (`NotAMove` stays)
@@ -106,7 +106,7 @@ named_square (Some f) (Some r) = if nat_lt f 8 && nat_lt r 8 then Some (8 * r + 
 -- the set of squares w has at least the start square of each legal move that a text of this form denotes; it may have
 -- others too
 abbrev pub IsStart : Setup → Form → ℕ → Type 0
-IsStart p form w = (m : Move) → is_spelled form p m ≡ Bool.true → is_legal p m ≡ Bool.true → has w m.from ≡ Bool.true
+IsStart p form w = (m : Move) → is_spelled form p m ≡ Bool.true → is_legal p m ≡ Bool.true → contains w m.from ≡ Bool.true
 
 -- the kind of the pieces whose moves a text denotes, from the letter and the start square that it names, either of
 -- which may be missing: a letter's kind; without both a pawn (e4, exd5); with a start square alone none, since any
@@ -143,7 +143,7 @@ is_spelled_of q p k m = if is_some q.letter then is_spelled_by_letter q p k m el
 -- the move from square a to the end square of the parts q, as a list of one, if q denotes it; else the empty list. It
 -- is known that this move is legal, no promotion, and of a piece of kind k
 abbrev pub spelled_start : Parts → Setup → Kind → ℕ → List Move
-spelled_start q p k a = if is_spelled_of q p k (triple a q.end.to None) then triple a q.end.to None ∷ [] else []
+spelled_start q p k a = if is_spelled_of q p k (move_of a q.end.to None) then move_of a q.end.to None ∷ [] else []
 
 -- if the described move names a promotion, its piece is a pawn
 abbrev pub promotes_as_a_pawn : Described → Type 0

@@ -11,7 +11,7 @@ use Rattle.pgn_verifier.specs.declared.game_fault.GameFault.{GameFault}
 use Rattle.pgn_verifier.specs.declared.options.VerifyOptions.{VerifyOptions}
 use Rattle.pgn_verifier.specs.declared.tally.Tally.{Tally}
 use Rattle.pgn_verifier.specs.declared.tally.Verified.{Verified}
-use Rattle.pgn_verifier.specs.Reports.{reports_on, reports_in, with_report, counts_of, verified, lines_of}
+use Rattle.pgn_verifier.specs.Reports.{reports_on, reports_in, with_report, counts_of, verified, report_lines}
 use Rattle.pgn_verifier.specs.Verify.{text_lines}
 use Rattle.pgn_verifier.specs.Collection.{collection_reports, collection_lines, VerifiesCollection}
 use Rattle.pgn_verifier.specs.declared.report.Report.{Report}
@@ -61,8 +61,8 @@ next_number before = before.games + before.faults + 1
 -- line
 abbrev pub Writes : {E : Type 0} → Bool → Tally → OutputState → OutputState → Result Tally E → List Report → Type 0
 Writes quiet before w w' (Ok after) reports =
-    Took w w' (lines_of quiet (next_number before) reports) × (after ≡ counted before reports)
-Writes quiet before w w' (Err e) reports = BreaksOff w w' (lines_of quiet (next_number before) reports)
+    Took w w' (report_lines quiet (next_number before) reports) × (after ≡ counted before reports)
+Writes quiet before w w' (Err e) reports = BreaksOff w w' (report_lines quiet (next_number before) reports)
 
 -- a text of `len` bytes adds at most as many half-moves to the counts, and at most one report more than it has bytes
 pub record GrowsBy (len : ℕ) (before after : Tally) : Type 0 where

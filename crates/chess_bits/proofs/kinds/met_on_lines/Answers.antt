@@ -1,7 +1,7 @@
 -- Where none of these pieces is on the square's rank or file, none is met there, whatever is between (none_met).
 use Rattle.std.proofs.Common.{◌==◌, not, sym, ◌∙◌}
 use Rattle.chess_base.specs.Squares.{share_rank_or_file}
-use Rattle.chess_moves.specs.Sets.{has}
+use Rattle.chess_moves.specs.Sets.{contains}
 use Rattle.chess_bits.specs.ties.Rays.{is_open}
 use Rattle.chess_bits.specs.ties.Shapes.{in_shape}
 use Rattle.chess_bits.proofs.Attackers.{none_there, none_met}
@@ -14,4 +14,4 @@ returns-then-is_empty c =
     let none = none_there c.intersection-near.result k (sym c.is_empty.ensures.zero ∙ c.if-is_empty.true) in
     let near = rw (c.at.ensures k h) at (c.intersection-near.ensures k) in
     none ∙ sym (none_met (not (k == c.args.square)) (share_rank_or_file k c.args.square)
-    (is_open c.args.occupied c.args.square k) (has c.args.men k) (sym near ∙ none))
+    (is_open c.args.occupied c.args.square k) (contains c.args.men k) (sym near ∙ none))

@@ -2,7 +2,7 @@
 use Rattle.std.proofs.Common.{◌≡◌, List, [], ◌∷◌, ap, ◌∙◌}
 use Rattle.chess_base.specs.declared.man.Colour.{Colour}
 use Rattle.chess_base.specs.Men.{other}
-use Rattle.chess_match.specs.Match.{Match, FailsToWrite, after}
+use Rattle.chess_match.specs.Match.{Match, FailsToWrite, match_after}
 use Rattle.chess_match.specs.Notes.{Happened, given_note}
 use Rattle.chess_match.specs.Sent.{SentLine, block, bytes_of}
 use Rattle.chess_match.specs.ties.Represents.{given_block, nothing_said}
@@ -15,12 +15,12 @@ pub note_and_send-requires-clause-unsent_to : goal.note_and_send-requires-clause
 note_and_send-requires-clause-unsent_to g c =
     let l = c.requires.last in
     let goes = c.write_fails-given.ensures l.0 _ l.1 (on_too l.0 _ _ l.1 l.2 c.requires.on) l.2 in
-    last_told l.0 _ _ (after l.0 l.1 (FailsToWrite c.args.side)) goes.stands l.3
+    last_told l.0 _ _ (match_after l.0 l.1 (FailsToWrite c.args.side)) goes.stands l.3
 
 pub returns-clause-ended : goal.returns-clause-ended
 returns-clause-ended g c r m p s =
     let goes = c.write_fails-given.ensures r _ m (on_too r _ _ m s c.requires.on) s in
-    let m' : Match = after r m (FailsToWrite c.args.side) in
+    let m' : Match = match_after r m (FailsToWrite c.args.side) in
     let none = no_answers _ c.requires.empty in
     let sent : given_block r c.write_fails-given.result nothing_said m' c.other.result
     ≡ block r m m' (other c.args.side) =

@@ -7,7 +7,7 @@ use Rattle.chess_cecp.specs.Lines.{nothing_held}
 use Rattle.chess_cecp.specs.Next.{line_read}
 use Rattle.chess_game.specs.Game as game
 use Rattle.chess_match.specs.ties.Delivering.{event_read}
-use Rattle.chess_match.specs.Match.{Match, Opened, start, after}
+use Rattle.chess_match.specs.Match.{Match, Opened, start, match_after}
 use Rattle.chess_match.specs.Rules.{Rules, rules_of}
 use Rattle.chess_match.specs.Sent.{answers_to, block, bytes_of}
 use Rattle.chess_match.specs.ties.Represents.{Represents, items_to, nothing_said}
@@ -125,7 +125,7 @@ deliver-failed-requires-in-Line-clause-last g c =
     let plays = plays_on c.args.game.now c.events.game c.args.setup.now.start c.args.setup.now.level i.2 i.3 i.4 in
     let h = c.hear-given.ensures.heard in (
       r,
-      after r m (event_read S h.0 heard),
+      match_after r m (event_read S h.0 heard),
       (h.5 r m plays reading i.1.stands).stands,
       (heard_sane r m S h.0 heard i.1.sane).unsent_to,
     )
@@ -147,7 +147,7 @@ events-smaller g c =
     let plays = plays_on c.args.game.now c.events.game c.args.setup.now.start c.args.setup.now.level i.2 i.3 i.4 in
     let h = c.hear-given.ensures.heard in
     let goes = h.5 r m plays reading i.1.stands in
-    let d = delivered_by r _ _ _ _ (block r m (after r m (event_read S h.0 heard))) S _ _ _ _ _
+    let d = delivered_by r _ _ _ _ (block r m (match_after r m (event_read S h.0 heard))) S _ _ _ _ _
     goes.gives (c.deliver-failed-in-Line.ensures.delivered r _ (items_to S h.1) (c.hear-given.ensures.rules r plays)
     goes.stands (h.4 ∙ ap (λ (is : List Item). bytes_of (answers_to is)) (sym (to_own S h.1))) (to_other S h.1)) in
     heard_less r c.events.core.phase c.deliver-failed-in-Line.new.core _ m S h.0 heard _
@@ -168,7 +168,7 @@ events-preserved g c =
     let plays = plays_on c.args.game.now c.events.game c.args.setup.now.start c.args.setup.now.level i.2 i.3 i.4 in
     let h = c.hear-given.ensures.heard in
     let goes = h.5 r m plays reading i.1.stands in
-    let d = delivered_by r _ _ _ _ (block r m (after r m (event_read S h.0 heard))) S _ _ _ _ _
+    let d = delivered_by r _ _ _ _ (block r m (match_after r m (event_read S h.0 heard))) S _ _ _ _ _
     goes.gives (c.deliver-failed-in-Line.ensures.delivered r _ (items_to S h.1) (c.hear-given.ensures.rules r plays)
     goes.stands (h.4 ∙ ap (λ (is : List Item). bytes_of (answers_to is)) (sym (to_own S h.1))) (to_other S h.1)) in
     let u = heard_on r i.0 S h.0 heard c.events.core c.deliver-failed-in-Line.new.core _ _

@@ -2,7 +2,7 @@
 use Rattle.std.proofs.Common.{◌<◌, List, ◌∷◌, length, true, false, refl, ap, sym, ◌∙◌, subst}
 use Rattle.chess_base.specs.declared.man.Colour.{Colour}
 use Rattle.chess_base.specs.Men.{other}
-use Rattle.chess_match.specs.Match.{FailsToWrite, after}
+use Rattle.chess_match.specs.Match.{FailsToWrite, match_after}
 use Rattle.chess_match.specs.Notes.{WasNoted, Happened, given_note}
 use Rattle.chess_match.specs.Sent.{SentLine, block, bytes_of}
 use Rattle.chess_match.specs.ties.Represents.{Represents, given_block}
@@ -31,13 +31,13 @@ returns-then-is_err-2-clause-delivered g c r m items p s own none =
     let others = no_answers_of _ (items c.other.result) c.requires.empty
     (ap items c.other.ensures ∙ none) in
     let end = subst (λ (X : Colour). Represents r c.end_for_other-own_failed.new.core (g.G.MatchGame.played c.args.game.now)
-    (after r m (FailsToWrite X))
+    (match_after r m (FailsToWrite X))
     × SendsIf c.end_for_other-own_failed.result (g.W.Output.seen c.note_and_send.new.writer)
     (g.W.Output.seen c.end_for_other-own_failed.new.others)
-    (bytes_of (block r m (after r m (FailsToWrite X)) (other X)))
+    (bytes_of (block r m (match_after r m (FailsToWrite X)) (other X)))
     × WasNoted (g.L.Witness.noted c.note_and_send-2.new.witness)
     (g.L.Witness.noted c.end_for_other-own_failed.new.witness) (Happened (FailsToWrite X)
-    ∷ given_note (other X) (bytes_of (block r m (after r m (FailsToWrite X)) (other X)))))
+    ∷ given_note (other X) (bytes_of (block r m (match_after r m (FailsToWrite X)) (other X)))))
     c.other-then-is_err-2.ensures (c.end_for_other-own_failed.ensures.ended r m p s) in
     second_failed r _ _ m due c.args.side _ _ _ _ _ _ _ _
     (on_too r _ _ m s c.requires.on)

@@ -1,10 +1,10 @@
 use Rattle.std.proofs.Common.{◌≡◌, ℕ, ◌&&◌, None, nat_lt}
 use Rattle.chess_base.specs.Men.{man_at, is_man}
-use Rattle.chess_base.specs.MoveList.{triple}
+use Rattle.chess_base.specs.MoveList.{move_of}
 use Rattle.chess_base.specs.Moves.{is_legal}
-use Rattle.chess_moves.specs.Sets.{has}
+use Rattle.chess_moves.specs.Sets.{contains}
 use Rattle.chess_moves.proofs.plain.legal_starts.Given as goal
 
 abbrev pub invariant-loop-number : goal.invariant-loop-number
-invariant-loop-number l = (k : ℕ) → has l.set k ≡ (nat_lt k l.number
-    && (is_man l.setup.side l.kind (man_at l.setup.men k) && is_legal l.setup (triple k l.to None)))
+invariant-loop-number l = (k : ℕ) → contains l.set k ≡ (nat_lt k l.number
+    && (is_man l.setup.side l.kind (man_at l.setup.men k) && is_legal l.setup (move_of k l.to None)))

@@ -1,5 +1,5 @@
 use Rattle.std.proofs.Common.{◌≡◌, take, true}
-use Rattle.chess_game.specs.Line.{last}
+use Rattle.chess_game.specs.Line.{position_after}
 use Rattle.chess_pgn.specs.GameText.{move_tokens}
 use Rattle.chess_pgn.specs.ties.Lines.{placed_all, column_after_all}
 use Rattle.chess_pgn.specs.ties.Waiting.{TookSome}
@@ -14,5 +14,5 @@ invariant-loop-ply g l =
           (placed_all l.fn.lines.prefix.now l.fn.lines.column tokens);
       column : l.lines.column ≡ column_after_all l.fn.lines.column tokens;
       prefix : l.lines.prefix.now ≡ l.fn.lines.prefix.now;
-      position : g.B.Board.position l.scratch ≡ last l.game.state.start (take l.ply l.game.state.moves);
+      position : g.B.Board.position l.scratch ≡ position_after l.game.state.start (take l.ply l.game.state.moves);
     }

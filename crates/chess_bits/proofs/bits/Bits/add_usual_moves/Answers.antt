@@ -1,7 +1,7 @@
 -- A free piece leaves its king safe wherever it goes; as it neither promotes nor takes en passant, it has just one
 -- legal move to each target (free_listed of Freely).
 use Rattle.std.proofs.Common.{◌≡◌, ◌<◌, ◌++◌, ◌≤◌, ◌∷◌, [], None, length, lit<, ap, subst, length-append, arith}
-use Rattle.chess_base.specs.MoveList.{triple}
+use Rattle.chess_base.specs.MoveList.{move_of}
 use Rattle.chess_base.specs.Sound.{IsSound}
 use Rattle.chess_moves.specs.ties.Candidates.{moves_between, moves_from}
 use Rattle.chess_bits.proofs.Freely.{usual_from, free_listed, one_fits}
@@ -18,7 +18,7 @@ loop-to-init c =
     record {
       moves = ap (λ ms. c.args.list.now.items ++ ms)
           (from_targets p c.args.from c.targets-targets.result c.targets-targets.ensures.complete);
-      ones = each_member c.targets-targets.result (λ b. moves_between p c.args.from b ≡ triple c.args.from b None ∷ [])
+      ones = each_member c.targets-targets.result (λ b. moves_between p c.args.from b ≡ move_of c.args.from b None ∷ [])
           (free_listed p c.args.from c.king-king.result c.targets-targets.result sound c.requires.free usual low
           c.king-king.ensures.in_range alone c.targets-targets.ensures.sound);
     }
@@ -28,8 +28,8 @@ push-requires c =
     let long : length (c.args.list.now.items ++ moves_from c.args.self.now c.args.from) ≤ 896 =
     (let e = length-append c.args.list.now.items (moves_from c.args.self.now c.args.from) in omega arith) in (
       lit< tt,
-      one_fits (λ b. moves_between c.args.self.now c.args.from b) (triple c.args.from c.in-Some.to None)
+      one_fits (λ b. moves_between c.args.self.now c.args.from b) (move_of c.args.from c.in-Some.to None)
           c.loop-to.list.items _ _ c.in-Some.to _ 896 c.in-Some.ensures c.loop-to.invariant.moves long
-          (each_first (λ b. moves_between c.args.self.now c.args.from b ≡ triple c.args.from b None ∷ []) _ c.in-Some.to
+          (each_first (λ b. moves_between c.args.self.now c.args.from b ≡ move_of c.args.from b None ∷ []) _ c.in-Some.to
           _ c.in-Some.ensures c.loop-to.invariant.ones),
     )

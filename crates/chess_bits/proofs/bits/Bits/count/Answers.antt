@@ -5,14 +5,14 @@ use Rattle.std.specs.List.{flat_map}
 use Rattle.chess_base.specs.Men.{man_at, is_of}
 use Rattle.chess_base.specs.MoveList.{moves}
 use Rattle.chess_moves.specs.ties.Candidates.{moves_from}
-use Rattle.chess_moves.specs.Sets.{has, members}
+use Rattle.chess_moves.specs.Sets.{contains, members}
 use Rattle.chess_moves.proofs.Room.{moves_fit}
 use Rattle.chess_bits.proofs.Listed.{from_men}
 use Rattle.chess_bits.proofs.bits.Bits.count.Goals as goal
 
 pub count_kind-pawns-requires-clause-few : goal.count_kind-pawns-requires-clause-few
 count_kind-pawns-requires-clause-few c =
-    let own : (k : ℕ) → k < 64 → has c.all-men.result k ≡ is_of c.args.self.now.side (man_at c.args.self.now.men k) =
+    let own : (k : ℕ) → k < 64 → contains c.all-men.result k ≡ is_of c.args.self.now.side (man_at c.args.self.now.men k) =
     rw (← c.self.view_is) (c.all-men.ensures c.self.inside.setup.men c.self.invariant.1) in
     let all : length (flat_map (λ a. moves_from c.args.self.now a) (members c.all-men.result))
     ≡ length (moves c.args.self.now) = ap length (from_men c.args.self.now c.all-men.result own) in
@@ -21,7 +21,7 @@ count_kind-pawns-requires-clause-few c =
 
 pub count_kind-knights-requires-clause-few : goal.count_kind-knights-requires-clause-few
 count_kind-knights-requires-clause-few c =
-    let own : (k : ℕ) → k < 64 → has c.all-men.result k ≡ is_of c.args.self.now.side (man_at c.args.self.now.men k) =
+    let own : (k : ℕ) → k < 64 → contains c.all-men.result k ≡ is_of c.args.self.now.side (man_at c.args.self.now.men k) =
     rw (← c.self.view_is) (c.all-men.ensures c.self.inside.setup.men c.self.invariant.1) in
     let all : length (flat_map (λ a. moves_from c.args.self.now a) (members c.all-men.result))
     ≡ length (moves c.args.self.now) = ap length (from_men c.args.self.now c.all-men.result own) in
@@ -34,7 +34,7 @@ count_kind-knights-requires-clause-few c =
 
 pub count_kind-bishops-requires-clause-few : goal.count_kind-bishops-requires-clause-few
 count_kind-bishops-requires-clause-few c =
-    let own : (k : ℕ) → k < 64 → has c.all-men.result k ≡ is_of c.args.self.now.side (man_at c.args.self.now.men k) =
+    let own : (k : ℕ) → k < 64 → contains c.all-men.result k ≡ is_of c.args.self.now.side (man_at c.args.self.now.men k) =
     rw (← c.self.view_is) (c.all-men.ensures c.self.inside.setup.men c.self.invariant.1) in
     let all : length (flat_map (λ a. moves_from c.args.self.now a) (members c.all-men.result))
     ≡ length (moves c.args.self.now) = ap length (from_men c.args.self.now c.all-men.result own) in
@@ -51,7 +51,7 @@ count_kind-bishops-requires-clause-few c =
 
 pub count_kind-rooks-requires-clause-few : goal.count_kind-rooks-requires-clause-few
 count_kind-rooks-requires-clause-few c =
-    let own : (k : ℕ) → k < 64 → has c.all-men.result k ≡ is_of c.args.self.now.side (man_at c.args.self.now.men k) =
+    let own : (k : ℕ) → k < 64 → contains c.all-men.result k ≡ is_of c.args.self.now.side (man_at c.args.self.now.men k) =
     rw (← c.self.view_is) (c.all-men.ensures c.self.inside.setup.men c.self.invariant.1) in
     let all : length (flat_map (λ a. moves_from c.args.self.now a) (members c.all-men.result))
     ≡ length (moves c.args.self.now) = ap length (from_men c.args.self.now c.all-men.result own) in
@@ -72,7 +72,7 @@ count_kind-rooks-requires-clause-few c =
 
 pub count_kind-queens-requires-clause-few : goal.count_kind-queens-requires-clause-few
 count_kind-queens-requires-clause-few c =
-    let own : (k : ℕ) → k < 64 → has c.all-men.result k ≡ is_of c.args.self.now.side (man_at c.args.self.now.men k) =
+    let own : (k : ℕ) → k < 64 → contains c.all-men.result k ≡ is_of c.args.self.now.side (man_at c.args.self.now.men k) =
     rw (← c.self.view_is) (c.all-men.ensures c.self.inside.setup.men c.self.invariant.1) in
     let all : length (flat_map (λ a. moves_from c.args.self.now a) (members c.all-men.result))
     ≡ length (moves c.args.self.now) = ap length (from_men c.args.self.now c.all-men.result own) in
@@ -97,7 +97,7 @@ count_kind-queens-requires-clause-few c =
 
 pub count_each-others-requires : goal.count_each-others-requires
 count_each-others-requires c =
-    let own : (k : ℕ) → k < 64 → has c.all-men.result k ≡ is_of c.args.self.now.side (man_at c.args.self.now.men k) =
+    let own : (k : ℕ) → k < 64 → contains c.all-men.result k ≡ is_of c.args.self.now.side (man_at c.args.self.now.men k) =
     rw (← c.self.view_is) (c.all-men.ensures c.self.inside.setup.men c.self.invariant.1) in
     let all : length (flat_map (λ a. moves_from c.args.self.now a) (members c.all-men.result))
     ≡ length (moves c.args.self.now) = ap length (from_men c.args.self.now c.all-men.result own) in
@@ -126,7 +126,7 @@ count_each-others-requires c =
 
 pub overflow_add-result : goal.overflow_add-result
 overflow_add-result c =
-    let own : (k : ℕ) → k < 64 → has c.all-men.result k ≡ is_of c.args.self.now.side (man_at c.args.self.now.men k) =
+    let own : (k : ℕ) → k < 64 → contains c.all-men.result k ≡ is_of c.args.self.now.side (man_at c.args.self.now.men k) =
     rw (← c.self.view_is) (c.all-men.ensures c.self.inside.setup.men c.self.invariant.1) in
     let all : length (flat_map (λ a. moves_from c.args.self.now a) (members c.all-men.result))
     ≡ length (moves c.args.self.now) = ap length (from_men c.args.self.now c.all-men.result own) in
@@ -158,7 +158,7 @@ overflow_add-result c =
 
 pub overflow_add-result-2 : goal.overflow_add-result-2
 overflow_add-result-2 c =
-    let own : (k : ℕ) → k < 64 → has c.all-men.result k ≡ is_of c.args.self.now.side (man_at c.args.self.now.men k) =
+    let own : (k : ℕ) → k < 64 → contains c.all-men.result k ≡ is_of c.args.self.now.side (man_at c.args.self.now.men k) =
     rw (← c.self.view_is) (c.all-men.ensures c.self.inside.setup.men c.self.invariant.1) in
     let all : length (flat_map (λ a. moves_from c.args.self.now a) (members c.all-men.result))
     ≡ length (moves c.args.self.now) = ap length (from_men c.args.self.now c.all-men.result own) in
@@ -190,7 +190,7 @@ overflow_add-result-2 c =
 
 pub overflow_add-result-3 : goal.overflow_add-result-3
 overflow_add-result-3 c =
-    let own : (k : ℕ) → k < 64 → has c.all-men.result k ≡ is_of c.args.self.now.side (man_at c.args.self.now.men k) =
+    let own : (k : ℕ) → k < 64 → contains c.all-men.result k ≡ is_of c.args.self.now.side (man_at c.args.self.now.men k) =
     rw (← c.self.view_is) (c.all-men.ensures c.self.inside.setup.men c.self.invariant.1) in
     let all : length (flat_map (λ a. moves_from c.args.self.now a) (members c.all-men.result))
     ≡ length (moves c.args.self.now) = ap length (from_men c.args.self.now c.all-men.result own) in
@@ -222,7 +222,7 @@ overflow_add-result-3 c =
 
 pub overflow_add-result-4 : goal.overflow_add-result-4
 overflow_add-result-4 c =
-    let own : (k : ℕ) → k < 64 → has c.all-men.result k ≡ is_of c.args.self.now.side (man_at c.args.self.now.men k) =
+    let own : (k : ℕ) → k < 64 → contains c.all-men.result k ≡ is_of c.args.self.now.side (man_at c.args.self.now.men k) =
     rw (← c.self.view_is) (c.all-men.ensures c.self.inside.setup.men c.self.invariant.1) in
     let all : length (flat_map (λ a. moves_from c.args.self.now a) (members c.all-men.result))
     ≡ length (moves c.args.self.now) = ap length (from_men c.args.self.now c.all-men.result own) in
@@ -254,7 +254,7 @@ overflow_add-result-4 c =
 
 pub overflow_add-result-5 : goal.overflow_add-result-5
 overflow_add-result-5 c =
-    let own : (k : ℕ) → k < 64 → has c.all-men.result k ≡ is_of c.args.self.now.side (man_at c.args.self.now.men k) =
+    let own : (k : ℕ) → k < 64 → contains c.all-men.result k ≡ is_of c.args.self.now.side (man_at c.args.self.now.men k) =
     rw (← c.self.view_is) (c.all-men.ensures c.self.inside.setup.men c.self.invariant.1) in
     let all : length (flat_map (λ a. moves_from c.args.self.now a) (members c.all-men.result))
     ≡ length (moves c.args.self.now) = ap length (from_men c.args.self.now c.all-men.result own) in
@@ -286,7 +286,7 @@ overflow_add-result-5 c =
 
 pub returns : goal.returns
 returns c =
-    let own : (k : ℕ) → k < 64 → has c.all-men.result k ≡ is_of c.args.self.now.side (man_at c.args.self.now.men k) =
+    let own : (k : ℕ) → k < 64 → contains c.all-men.result k ≡ is_of c.args.self.now.side (man_at c.args.self.now.men k) =
     rw (← c.self.view_is) (c.all-men.ensures c.self.inside.setup.men c.self.invariant.1) in
     let all : length (flat_map (λ a. moves_from c.args.self.now a) (members c.all-men.result))
     ≡ length (moves c.args.self.now) = ap length (from_men c.args.self.now c.all-men.result own) in

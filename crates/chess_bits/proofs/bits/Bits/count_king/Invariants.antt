@@ -1,6 +1,6 @@
 use Rattle.std.proofs.Common.{◌≡◌, ◌+◌, length, None, true}
 use Rattle.std.specs.List.{flat_map}
-use Rattle.chess_base.specs.MoveList.{triple}
+use Rattle.chess_base.specs.MoveList.{move_of}
 use Rattle.chess_base.specs.Moves.{man_moves}
 use Rattle.chess_moves.specs.ties.Candidates.{moves_between, moves_from}
 use Rattle.chess_moves.specs.Sets.{members}
@@ -12,7 +12,7 @@ abbrev pub invariant-loop-to : goal.invariant-loop-to
 invariant-loop-to l = record {
   all : l.count + length (flat_map (λ b. moves_between l.self l.king b) (members l.steps))
       ≡ length (moves_from l.self l.king);
-  steps : Each (λ b. man_moves l.self (triple l.king b None) ≡ true) (members l.steps);
+  steps : Each (λ b. man_moves l.self (move_of l.king b None) ≡ true) (members l.steps);
 }
 
 abbrev pub decreases-loop-to : goal.decreases-loop-to

@@ -4,19 +4,19 @@ use Rattle.std.proofs.Common.{◌≡◌, length, not, sym, ◌∙◌, arith}
 use Rattle.std.specs.List.{flat_map}
 use Rattle.std.proofs.lemmas.Bool.{and_parts, not-true}
 use Rattle.chess_moves.specs.ties.Candidates.{moves_from}
-use Rattle.chess_moves.specs.Sets.{has, members}
+use Rattle.chess_moves.specs.Sets.{contains, members}
 use Rattle.chess_bits.proofs.KindsCounted.{split}
 use Rattle.chess_bits.proofs.bits.Bits.count_pawns.Goals as goal
 
 pub count_usual_pawns-requires-clause-free : goal.count_usual_pawns-requires-clause-free
 count_usual_pawns-requires-clause-free c = λ k low on.
     c.requires.free k low
-    (and_parts (has c.args.men k) (not (has c.unusual_squares-squares.result k)) (sym (c.without-usual.ensures k low) ∙ on)).0
+    (and_parts (contains c.args.men k) (not (contains c.unusual_squares-squares.result k)) (sym (c.without-usual.ensures k low) ∙ on)).0
 
 pub count_usual_pawns-requires-clause-usual : goal.count_usual_pawns-requires-clause-usual
 count_usual_pawns-requires-clause-usual c = λ k low on.
     sym (c.unusual_squares-squares.ensures k low)
-    ∙ not-true _ (and_parts (has c.args.men k) (not (has c.unusual_squares-squares.result k))
+    ∙ not-true _ (and_parts (contains c.args.men k) (not (contains c.unusual_squares-squares.result k))
     (sym (c.without-usual.ensures k low) ∙ on)).1
 
 pub count_each-requires : goal.count_each-requires

@@ -4,7 +4,7 @@ use Rattle.std.proofs.Common.{◌≡◌, ◌<◌, ◌==◌, ℕ, true, false, le
 use Rattle.chess_base.specs.declared.man.Kind.TheVariants.{Pawn}
 use Rattle.chess_base.specs.Men.{man_at, is_of}
 use Rattle.chess_base.specs.Squares.{rank}
-use Rattle.chess_moves.specs.Sets.{has, members}
+use Rattle.chess_moves.specs.Sets.{contains, members}
 use Rattle.chess_bits.specs.ties.Goes.{goes_unusually, AreFree}
 use Rattle.chess_bits.proofs.PawnsCounted.{AreSets, members_fit, summed, ways_are, pawns_counted}
 use Rattle.chess_bits.proofs.bits.Bits.count_usual_pawns.Goals as goal
@@ -13,7 +13,7 @@ pub returns : goal.returns
 returns c =
     let p = c.self.inside.setup in
     let free : AreFree p Pawn c.args.pawns = rw c.self.view_is c.requires.free in
-    let usual : (k : ℕ) → k < 64 → has c.args.pawns k ≡ true → goes_unusually p k ≡ false =
+    let usual : (k : ℕ) → k < 64 → contains c.args.pawns k ≡ true → goes_unusually p k ≡ false =
     rw c.self.view_is c.requires.usual in
     let sets : AreSets p c.args.pawns c.occupied.result c.behind-blocked.result c.behind.result c.of_rank-home.result
     c.all-theirs.result c.attacking_left.result c.attacking_right.result c.without-once.result c.intersection.result

@@ -2,7 +2,7 @@
 -- legal moves (from_men of Listed).
 use Rattle.std.proofs.Common.{◌≡◌, ◌<◌, ℕ, nat_lt, length, sym, ap, ◌∙◌}
 use Rattle.chess_base.specs.Men.{man_at, is_of}
-use Rattle.chess_moves.specs.Sets.{has}
+use Rattle.chess_moves.specs.Sets.{contains}
 use Rattle.chess_bits.proofs.Counted.{some_fit, some_of}
 use Rattle.chess_bits.proofs.Listed.{from_men}
 use Rattle.chess_bits.proofs.bits.Bits.has_move.Goals as goal
@@ -19,6 +19,6 @@ returns-then-has_king_move c = some_of c.args.self.now c.of-kings.result
 
 pub returns : goal.returns
 returns c =
-    let own : (k : ℕ) → k < 64 → has c.all.result k ≡ is_of c.args.self.now.side (man_at c.args.self.now.men k) =
+    let own : (k : ℕ) → k < 64 → contains c.all.result k ≡ is_of c.args.self.now.side (man_at c.args.self.now.men k) =
     rw (← c.self.view_is) (c.all.ensures c.self.inside.setup.men c.self.invariant.1) in
     c.has_move_of.ensures ∙ ap (λ ms. nat_lt 0 (length ms)) (from_men c.args.self.now c.all.result own)

@@ -2,7 +2,7 @@
 use Rattle.std.proofs.Common.{◌≡◌, ◌==◌, ◌||◌, ℕ, ◌<◌, refl, ap, ◌∙◌}
 use Rattle.chess_base.specs.declared.steps.Steps.{Steps}
 use Rattle.chess_base.specs.Squares.{is_square}
-use Rattle.chess_moves.specs.Sets.{has}
+use Rattle.chess_moves.specs.Sets.{contains}
 use Rattle.chess_bits.specs.ties.Changes.{is_changed, is_filled}
 use Rattle.chess_bits.proofs.bits.Bits.is_safe_by.Goals as goal
 
@@ -10,13 +10,13 @@ pub returns : goal.returns
 returns c =
     let p = c.args.self.now in
     let m = c.args.m.now in
-    let filled : (k : ℕ) → k < 64 → has c.filled_by-filled.result k ≡ is_filled p m k =
+    let filled : (k : ℕ) → k < 64 → contains c.filled_by-filled.result k ≡ is_filled p m k =
     λ k low. c.filled_by-filled.ensures k
     ∙ ap (λ (t : Steps). (t.to == k) || is_square t.second_to k) c.requires.steps in
-    let emptied : (k : ℕ) → has c.emptied_by.result k ≡ _ =
+    let emptied : (k : ℕ) → contains c.emptied_by.result k ≡ _ =
     λ k. c.emptied_by.ensures k
     ∙ ap (λ (t : Steps). is_square t.second_from k || (t.from == k)) c.requires.steps in
-    let changed : (k : ℕ) → k < 64 → has c.union-changed.result k ≡ is_changed p m k =
+    let changed : (k : ℕ) → k < 64 → contains c.union-changed.result k ≡ is_changed p m k =
     λ k low. c.union-changed.ensures k ∙ rw (filled k low, emptied k) refl in
     c.is_safe_at.ensures m c.requires.pattern c.king_after-king.ensures.in_range c.king_after-king.ensures.there filled
     changed

@@ -5,7 +5,7 @@ use Rattle.chess_base.specs.declared.man.Kind.TheVariants.{King}
 use Rattle.chess_base.specs.Attacks.{is_attacked}
 use Rattle.chess_base.specs.Men.{man_at, is_of, is_man}
 use Rattle.chess_base.proofs.MenFacts.{no_other}
-use Rattle.chess_moves.specs.Sets.{has}
+use Rattle.chess_moves.specs.Sets.{contains}
 use Rattle.chess_bits.specs.ties.Goes.{lifted}
 use Rattle.chess_bits.proofs.KingSteps.{step_is}
 use Rattle.chess_bits.proofs.Lifted.{lifted_kinds, lifted_occupied}
@@ -25,7 +25,7 @@ returns c =
     (c.of.ensures p.men c.self.invariant.1) in
     let occupied = lifted_occupied c.occupied.result c.without-left.result p.men a c.self.invariant.0.board low
     (c.occupied.ensures p.men c.self.invariant.1)
-    (λ k l. c.without-left.ensures k l ∙ ap (λ t. has c.occupied.result k && not t) (c.single.ensures.value k)) in
+    (λ k l. c.without-left.ensures k l ∙ ap (λ t. contains c.occupied.result k && not t) (c.single.ensures.value k)) in
     let hit = c.attacks.ensures (lifted p.men a) kinds occupied in
     rw (← c.self.view_is)
     (ap not (hit ∙ ap (is_attacked (lifted p.men a) c.args.to) c.other-by.ensures)

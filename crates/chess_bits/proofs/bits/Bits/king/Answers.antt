@@ -1,7 +1,7 @@
 -- In a sound position a colour has one king, so the set of its kings has a square (some_king) and no other (alone).
 use Rattle.std.proofs.Common.{sym, ◌∙◌, ap}
 use Rattle.chess_base.specs.declared.man.Kind.TheVariants.{King}
-use Rattle.chess_moves.specs.Sets.{has}
+use Rattle.chess_moves.specs.Sets.{contains}
 use Rattle.chess_bits.proofs.OneKing.{some_king, alone, has_king}
 use Rattle.chess_bits.proofs.bits.Bits.king.Goals as goal
 
@@ -10,7 +10,7 @@ first-requires c =
     let kinds = c.of-men.ensures c.self.inside.setup.men c.self.invariant.1 in
     some_king c.self.inside.setup.men c.args.colour c.of-kings.result c.self.invariant.0.board
     (has_king c.self.inside.setup c.args.colour c.self.invariant.0)
-    (λ k low. ap (λ w. has w k) c.of-kings.ensures ∙ kinds.of_kind King k low)
+    (λ k low. ap (λ w. contains w k) c.of-kings.ensures ∙ kinds.of_kind King k low)
 
 pub returns-clause-alone : goal.returns-clause-alone
 returns-clause-alone c =
@@ -18,5 +18,5 @@ returns-clause-alone c =
     rw (← c.self.view_is)
     (alone c.self.inside.setup.men c.args.colour c.first.result c.self.invariant.0.board
     (has_king c.self.inside.setup c.args.colour c.self.invariant.0)
-    (sym (ap (λ w. has w c.first.result) c.of-kings.ensures
+    (sym (ap (λ w. contains w c.first.result) c.of-kings.ensures
     ∙ kinds.of_kind King c.first.result c.first.ensures.in_range) ∙ c.first.ensures.nearest.here))

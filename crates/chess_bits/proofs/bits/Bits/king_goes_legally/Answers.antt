@@ -1,7 +1,7 @@
 -- A king steps where it attacks what is no own piece (steps_are of KingSteps), and else it castles (king_otherwise of
 -- ByKind).
 use Rattle.std.proofs.Common.{◌≡◌, ◌<◌, None, true, false, sym, subst, ◌∙◌}
-use Rattle.chess_base.specs.MoveList.{triple}
+use Rattle.chess_base.specs.MoveList.{move_of}
 use Rattle.chess_base.specs.Moves.{man_moves}
 use Rattle.chess_bits.proofs.ByKind.{king_otherwise}
 use Rattle.chess_bits.proofs.KingSteps.{steps_are}
@@ -11,7 +11,7 @@ pub is_safe_step-requires : goal.is_safe_step-requires
 is_safe_step-requires c =
     let p = c.args.self.now in
     let high : c.args.to < 64 = subst (λ n. n < 64) c.number-end.ensures.value c.number-end.ensures.in_range in
-    let step : man_moves p (triple c.args.king c.args.to None) ≡ true =
+    let step : man_moves p (move_of c.args.king c.args.to None) ≡ true =
     sym (steps_are p c.args.king c.args.to c.requires) ∙ sym (c.steps.ensures c.args.to high)
     ∙ sym c.contains.ensures ∙ c.if-contains.true in
     record { king = c.requires; step = step }
@@ -21,7 +21,7 @@ returns c =
     let p = c.args.self.now in
     let low : c.args.king < 64 = subst (λ n. n < 64) c.number-start.ensures.value c.number-start.ensures.in_range in
     let high : c.args.to < 64 = subst (λ n. n < 64) c.number-end.ensures.value c.number-end.ensures.in_range in
-    let still : man_moves p (triple c.args.king c.args.to None) ≡ false =
+    let still : man_moves p (move_of c.args.king c.args.to None) ≡ false =
     sym (steps_are p c.args.king c.args.to c.requires) ∙ sym (c.steps.ensures c.args.to high)
     ∙ sym c.contains.ensures ∙ c.if-contains.false in
     c.contains-2.ensures ∙ c.castling_ends.ensures c.args.to high

@@ -5,7 +5,7 @@ use Rattle.std.proofs.lemmas.Bool.{and_parts, and_from, both_ways}
 use Rattle.chess_base.specs.declared.man.Kind.TheVariants.{Queen, Rook}
 use Rattle.chess_base.specs.Men.{man_at, other, is_of, is_man}
 use Rattle.chess_base.specs.Squares.{share_rank_or_file}
-use Rattle.chess_moves.specs.Sets.{has}
+use Rattle.chess_moves.specs.Sets.{contains}
 use Rattle.chess_bits.specs.ties.Rays.{is_open}
 use Rattle.chess_bits.specs.ties.Shapes.{in_shape}
 use Rattle.chess_bits.proofs.Attackers.{none_there}
@@ -19,7 +19,7 @@ returns-then-is_empty c =
     let king = c.args.king in
     let kinds = rw c.other.ensures at (c.of-men.ensures p.men c.self.invariant.1) in
     let aimed : (b : ℕ) → b < 64
-    → has c.intersection-aimed.result b
+    → contains c.intersection-aimed.result b
     ≡ ((is_man (other p.side) Rook (man_at p.men b) || is_man (other p.side) Queen (man_at p.men b))
     && (not (b == king) && share_rank_or_file b king)) =
     λ b high. c.intersection-aimed.ensures b
@@ -34,7 +34,7 @@ returns-then-is_empty c =
     ) refl in
     rw (← c.self.view_is)
     (λ a low own off b high theirs on clear.
-    absurd (both_ways (has c.intersection-aimed.result b)
+    absurd (both_ways (contains c.intersection-aimed.result b)
     (none_there c.intersection-aimed.result b (sym c.is_empty.ensures.zero ∙ c.if-is_empty.true))
     (aimed b high ∙ and_from _ _ theirs on)))
 
@@ -45,7 +45,7 @@ returns-then-is_empty-2 c =
     let king = c.args.king in
     let kinds = rw c.other.ensures at (c.of-men.ensures p.men c.self.invariant.1) in
     let aimed : (b : ℕ) → b < 64
-    → has c.intersection-aimed.result b
+    → contains c.intersection-aimed.result b
     ≡ ((is_man (other p.side) Rook (man_at p.men b) || is_man (other p.side) Queen (man_at p.men b))
     && (not (b == king) && share_rank_or_file b king)) =
     λ b high. c.intersection-aimed.ensures b
@@ -60,7 +60,7 @@ returns-then-is_empty-2 c =
     ) refl in
     let stood = c.occupied-occupied.ensures p.men c.self.invariant.1 in
     let near : (a : ℕ) → a < 64
-    → has c.intersection-near.result a
+    → contains c.intersection-near.result a
     ≡ ((not (a == king) && share_rank_or_file a king && is_open c.occupied-occupied.result king a)
     && is_of p.side (man_at p.men a)) =
     λ a low. c.intersection-near.ensures a
@@ -70,8 +70,8 @@ returns-then-is_empty-2 c =
     let line = line_of b king (and_parts (not (b == king)) (share_rank_or_file b king) on).1 in
     absurd
     (nothing_hidden line.0 p.men c.occupied-occupied.result c.without.result a b king
-    (λ x. has c.intersection-near.result x) (λ x y. share_rank_or_file x y)
-    (is_of p.side (man_at p.men a)) (has c.intersection-aimed.result b) (has c.intersection-hidden.result b)
+    (λ x. contains c.intersection-near.result x) (λ x y. share_rank_or_file x y)
+    (is_of p.side (man_at p.men a)) (contains c.intersection-aimed.result b) (contains c.intersection-hidden.result b)
     stood c.self.invariant.0.board low line.1 (line.2 a) own (near a low) (λ x l. c.without.ensures x l)
     (aimed b high ∙ and_from _ _ theirs on) on
     (c.intersection-hidden.ensures b ∙ rw (c.along_lines-opened.ensures b high) refl)
@@ -83,7 +83,7 @@ returns c =
     let king = c.args.king in
     let stood = c.occupied-occupied.ensures p.men c.self.invariant.1 in
     let near : (a : ℕ) → a < 64
-    → has c.intersection-near.result a
+    → contains c.intersection-near.result a
     ≡ ((not (a == king) && share_rank_or_file a king && is_open c.occupied-occupied.result king a)
     && is_of p.side (man_at p.men a)) =
     λ a low. c.intersection-near.ensures a
@@ -91,6 +91,6 @@ returns c =
     rw (← c.self.view_is)
     (λ a low own off b high theirs on clear.
     let line = line_of b king (and_parts (not (b == king)) (share_rank_or_file b king) on).1 in
-    nothing_near line.0 p.men c.occupied-occupied.result a b king (has c.intersection-near.result a)
+    nothing_near line.0 p.men c.occupied-occupied.result a b king (contains c.intersection-near.result a)
     (share_rank_or_file a king) (is_of p.side (man_at p.men a))
     stood c.self.invariant.0.board low line.1 (line.2 a) own (near a low) off clear)

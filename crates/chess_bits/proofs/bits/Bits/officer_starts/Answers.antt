@@ -2,7 +2,7 @@
 -- own_on_end of ByKind).
 use Rattle.std.proofs.Common.{◌≡◌, ◌<◌, true, false, sym, ap, subst, ◌∙◌}
 use Rattle.chess_base.specs.Men.{man_at, is_of}
-use Rattle.chess_moves.specs.Sets.{has}
+use Rattle.chess_moves.specs.Sets.{contains}
 use Rattle.chess_bits.proofs.ByKind.{own_on_end, starts_plain, officer_starts_are}
 use Rattle.chess_bits.proofs.bits.Bits.officer_starts.Goals as goal
 
@@ -24,7 +24,7 @@ safe_starts-requires c =
     rw (← c.self.view_is)
     (starts_plain p c.args.kind c.args.to c.of-2.result c.reached_from-reached.result c.intersection-men.result
     c.requires free high c.intersection-men.ensures
-    (λ k low. ap (λ w. has w k) c.of-2.ensures ∙ kinds.of_kind c.args.kind k low)
+    (λ k low. ap (λ w. contains w k) c.of-2.ensures ∙ kinds.of_kind c.args.kind k low)
     (c.reached_from-reached.ensures p.men (c.occupied.ensures p.men c.self.invariant.1)))
 
 pub returns : goal.returns
@@ -34,6 +34,6 @@ returns c = λ k low.
     let made = rw (← c.self.view_is) at (c.safe_starts.ensures k low) in
     rw (← c.self.view_is)
     (officer_starts_are p c.args.kind c.args.to c.of-2.result c.reached_from-reached.result c.intersection-men.result k
-    (has c.safe_starts.result k) c.requires c.intersection-men.ensures
-    (λ j l. ap (λ w. has w j) c.of-2.ensures ∙ kinds.of_kind c.args.kind j l)
+    (contains c.safe_starts.result k) c.requires c.intersection-men.ensures
+    (λ j l. ap (λ w. contains w j) c.of-2.ensures ∙ kinds.of_kind c.args.kind j l)
     (c.reached_from-reached.ensures p.men (c.occupied.ensures p.men c.self.invariant.1)) low made)

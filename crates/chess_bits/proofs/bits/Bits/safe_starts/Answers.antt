@@ -1,6 +1,6 @@
 -- Nothing is gathered at first, and the members of the set that pass are all that are asked for (passes_is of Starts).
 use Rattle.std.proofs.Common.{◌||◌, None, ap, ◌∙◌}
-use Rattle.chess_base.specs.MoveList.{triple}
+use Rattle.chess_base.specs.MoveList.{move_of}
 use Rattle.chess_base.specs.Moves.{is_legal}
 use Rattle.chess_bits.specs.ties.Changes.{StepsPlainly}
 use Rattle.chess_bits.proofs.Listed.{each_member}
@@ -11,8 +11,8 @@ use Rattle.chess_bits.proofs.bits.Bits.safe_starts.Goals as goal
 pub loop-from-init : goal.loop-from-init
 loop-from-init c = record {
   starts = λ k low.
-      ap (λ t. t || passes (λ a. is_legal c.args.self.now (triple a c.args.to None)) k (members c.args.men))
+      ap (λ t. t || passes (λ a. is_legal c.args.self.now (move_of a c.args.to None)) k (members c.args.men))
       (c.empty-starts.ensures k)
-      ∙ passes_is c.args.men (λ a. is_legal c.args.self.now (triple a c.args.to None)) k low;
+      ∙ passes_is c.args.men (λ a. is_legal c.args.self.now (move_of a c.args.to None)) k low;
   plain = each_member c.args.men (λ a. StepsPlainly c.args.self.now a c.args.to) c.requires;
 }

@@ -1,18 +1,18 @@
 use Rattle.std.proofs.Common.{◌≡◌, ◌<◌, ℕ, ◌&&◌, ◌||◌, None, length}
-use Rattle.chess_base.specs.MoveList.{triple}
+use Rattle.chess_base.specs.MoveList.{move_of}
 use Rattle.chess_base.specs.Moves.{is_legal}
 use Rattle.chess_bits.specs.ties.Changes.{StepsPlainly}
 use Rattle.chess_bits.proofs.Listed.{Each}
 use Rattle.chess_bits.proofs.Starts.{passes}
-use Rattle.chess_moves.specs.Sets.{has, members}
+use Rattle.chess_moves.specs.Sets.{contains, members}
 use Rattle.chess_bits.proofs.bits.Bits.safe_starts.Given as goal
 
 -- what was gathered, with those that are left and pass, is all that pass; each that is left goes to the square
 abbrev pub invariant-loop-from : goal.invariant-loop-from
 invariant-loop-from l = record {
   starts : (k : ℕ) → k < 64
-      → (has l.starts k || passes (λ a. is_legal l.self (triple a l.to None)) k (members l.rest))
-      ≡ (has l.fn.men k && is_legal l.self (triple k l.to None));
+      → (contains l.starts k || passes (λ a. is_legal l.self (move_of a l.to None)) k (members l.rest))
+      ≡ (contains l.fn.men k && is_legal l.self (move_of k l.to None));
   plain : Each (λ a. StepsPlainly l.self a l.to) (members l.rest);
 }
 

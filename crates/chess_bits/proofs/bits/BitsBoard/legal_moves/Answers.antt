@@ -1,8 +1,8 @@
 use Rattle.std.proofs.lemmas.List.Elements.{filter_passes}
 use Rattle.chess_base.specs.Moves.{is_legal}
-use Rattle.chess_base.specs.MoveList.{moves, all_triples}
+use Rattle.chess_base.specs.MoveList.{moves, all_moves}
 use Rattle.chess_bits.proofs.bits.BitsBoard.legal_moves.Goals as goal
 
 pub returns-clause-legal : goal.returns-clause-legal
 unfolding moves
-returns-clause-legal c = rw c.moves.ensures (filter_passes (λ m. is_legal c.args.self.now m) all_triples)
+returns-clause-legal c = rw c.moves.ensures (filter_passes (λ m. is_legal c.args.self.now m) all_moves)

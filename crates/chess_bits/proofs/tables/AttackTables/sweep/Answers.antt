@@ -1,7 +1,7 @@
 -- A ray is open up to and with its first blocker; where none is on it, no ray goes on from the board's last square
 -- (swept_to of Blockers).
 use Rattle.std.proofs.Common.{◌≡◌, ℕ, ◌<◌, ◌&&◌, ap, ◌∙◌}
-use Rattle.chess_moves.specs.Sets.{has}
+use Rattle.chess_moves.specs.Sets.{contains}
 use Rattle.chess_bits.specs.ties.Shapes.{in_shape}
 use Rattle.chess_bits.specs.ties.Rays.{is_on_ray}
 use Rattle.chess_bits.proofs.Blockers.{swept_to}
@@ -11,12 +11,12 @@ pub returns : goal.returns
 unfolding in_shape
 returns c =
     λ k h.
-    let on : (x : ℕ) → x < 64 → has c.at-all.result x ≡ is_on_ray c.args.line c.args.up c.args.from x =
+    let on : (x : ℕ) → x < 64 → contains c.at-all.result x ≡ is_on_ray c.args.line c.args.up c.args.from x =
     λ x m. (rw c.table-ray.ensures at (c.at-all.ensures x m)) in
-    let past : has c.at.result k ≡ is_on_ray c.args.line c.args.up c.nearest.result k =
+    let past : contains c.at.result k ≡ is_on_ray c.args.line c.args.up c.nearest.result k =
     (rw c.table-ray.ensures at (c.at.ensures k h)) in
     c.without.ensures k h ∙ rw (on k h, past)
     (swept_to c.args.line c.args.up c.args.from k c.args.occupied c.intersection-blockers.result c.nearest.result
     c.nearest.ensures.in_range h
-    (λ x m. c.intersection-blockers.ensures x ∙ ap (λ t. t && has c.args.occupied x) (on x m))
+    (λ x m. c.intersection-blockers.ensures x ∙ ap (λ t. t && contains c.args.occupied x) (on x m))
     c.nearest.ensures.nearer c.nearest.ensures.beyond)

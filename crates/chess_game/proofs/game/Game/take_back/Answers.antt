@@ -1,7 +1,7 @@
 -- The last played move holds the position that its move left, so the board goes back to that one (taken of Kept). No verdict
 -- came before the last move, so none before the one that is now the last (unended_fewer of Judged).
 use Rattle.std.proofs.Common.{subst, arith}
-use Rattle.chess_game.specs.Line.{last}
+use Rattle.chess_game.specs.Line.{position_after}
 use Rattle.chess_game.specs.ties.Buckets.{IsIndexed}
 use Rattle.chess_game.specs.ties.PlayedMoves.{moves_of}
 use Rattle.chess_game.proofs.Kept.{taken, fewer, words_fewer}
@@ -10,7 +10,7 @@ use Rattle.chess_game.proofs.game.Game.take_back.Goals as goal
 
 pub take_back-requires : goal.take_back-requires
 take_back-requires g c = (
-  last c.self.inside.start.position (moves_of c.pop.new.self.items),
+  position_after c.self.inside.start.position (moves_of c.pop.new.self.items),
   taken c.self.inside.start.position c.self.inside.played_moves.items c.pop.new.self.items c.in-Some.played_move _
       c.self.invariant.0.follows c.in-Some.ensures.items c.self.invariant.0.at_end,
 )
@@ -23,7 +23,7 @@ invariant_of-self-in-Some g c = (
         c.self.invariant.0.follows c.in-Some.ensures.items;
     words = words_fewer g.B.Board.word_of c.self.inside.start c.self.inside.played_moves.items c.pop.new.self.items
         c.in-Some.played_move c.self.invariant.0.words c.in-Some.ensures.items;
-    at_end = c.take_back.ensures.back (last c.self.inside.start.position (moves_of c.pop.new.self.items))
+    at_end = c.take_back.ensures.back (position_after c.self.inside.start.position (moves_of c.pop.new.self.items))
         (taken c.self.inside.start.position c.self.inside.played_moves.items c.pop.new.self.items c.in-Some.played_move _
         c.self.invariant.0.follows c.in-Some.ensures.items c.self.invariant.0.at_end);
   },

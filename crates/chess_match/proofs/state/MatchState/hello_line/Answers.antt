@@ -4,7 +4,7 @@ use Rattle.std.proofs.Common.{◌≡◌, ◌+◌, true, false, refl, sym, ◌∙
 use Rattle.std.proofs.lemmas.Bool.{lt-leb}
 use Rattle.std.specs.Prelude.{nat_le}
 use Rattle.engine_lines.specs.Items.{has_done}
-use Rattle.chess_match.specs.Match.{hear, items_of_line, greeted, enter, hello_line}
+use Rattle.chess_match.specs.Match.{take_items, items_of_line, greeted, enter, hello_line}
 use Rattle.engine_lines.specs.Seen.{seen}
 use Rattle.chess_match.specs.Sent.{is_same_phase}
 use Rattle.chess_match.specs.ties.Represents.{Represents}
@@ -19,10 +19,10 @@ pub returns-then-done-clause-goes : goal.returns-then-done-clause-goes
 unfolding hello_line
 returns-then-done-clause-goes g c r m p at s =
     let st : Represents r c.hear-done.new.self (g.G.MatchGame.played c.args.game.now)
-    (hear c.args.side (items_of_line (seen c.args.line)) m) = c.hear-done.ensures.heard r _ m s in
+    (take_items c.args.side (items_of_line (seen c.args.line)) m) = c.hear-done.ensures.heard r _ m s in
     let done : has_done (items_of_line (seen c.args.line)) ≡ true = sym c.hear-done.ensures.done ∙ c.if-done.true in
-    let on : greeted r c.args.side (hear c.args.side (items_of_line (seen c.args.line)) m)
-    ≡ enter c.after_hello-self.result (hear c.args.side (items_of_line (seen c.args.line)) m) =
+    let on : greeted r c.args.side (take_items c.args.side (items_of_line (seen c.args.line)) m)
+    ≡ enter c.after_hello-self.result (take_items c.args.side (items_of_line (seen c.args.line)) m) =
     c.after_hello-self.ensures.greeted r _ p st in
     let differs : is_same_phase m.phase c.after_hello-self.result ≡ false = rw at c.after_hello-self.ensures.leaves in
     rw (done, on) (hello_goes r c.hear-done.new.self _ _ c.args.side (items_of_line (seen c.args.line))
@@ -32,13 +32,13 @@ pub returns-then-self-ge1000-clause-goes : goal.returns-then-self-ge1000-clause-
 unfolding hello_line
 returns-then-self-ge1000-clause-goes g c r m p at s =
     let st : Represents r c.hear-done.new.self (g.G.MatchGame.played c.args.game.now)
-    (hear c.args.side (items_of_line (seen c.args.line)) m) = c.hear-done.ensures.heard r _ m s in
+    (take_items c.args.side (items_of_line (seen c.args.line)) m) = c.hear-done.ensures.heard r _ m s in
     let done : has_done (items_of_line (seen c.args.line)) ≡ false = sym c.hear-done.ensures.done ∙ c.if-done.false in
     let many : nat_le 1000 (m.count + 1) ≡ true =
     le-leb 1000 (m.count + 1) (omega (arith, s.count, c.hear-done.ensures.count)) in
     let differs : is_same_phase m.phase (Over (Faulted c.args.side NoDone)) ≡ false = rw at refl in
     rw (done, many) (hello_goes r c.hear-done.new.self _ _ c.args.side (items_of_line (seen c.args.line))
-    (Over (Faulted c.args.side NoDone)) (hear c.args.side (items_of_line (seen c.args.line)) m).count false m st
+    (Over (Faulted c.args.side NoDone)) (take_items c.args.side (items_of_line (seen c.args.line)) m).count false m st
     differs
     (one_core c.hear-done.new.self _ _ _ _ refl st.count))
 
@@ -46,13 +46,13 @@ pub returns-else-self-ge1000-clause-goes : goal.returns-else-self-ge1000-clause-
 unfolding hello_line
 returns-else-self-ge1000-clause-goes g c r m p at s =
     let st : Represents r c.hear-done.new.self (g.G.MatchGame.played c.args.game.now)
-    (hear c.args.side (items_of_line (seen c.args.line)) m) = c.hear-done.ensures.heard r _ m s in
+    (take_items c.args.side (items_of_line (seen c.args.line)) m) = c.hear-done.ensures.heard r _ m s in
     let done : has_done (items_of_line (seen c.args.line)) ≡ false = sym c.hear-done.ensures.done ∙ c.if-done.false in
     let few : nat_le 1000 (m.count + 1) ≡ false =
     lt-leb 1000 (m.count + 1) (omega (arith, s.count, c.hear-done.ensures.count, c.if-self-ge1000.false)) in
-    let stays : is_same_phase m.phase (hear c.args.side (items_of_line (seen c.args.line)) m).phase ≡ true =
+    let stays : is_same_phase m.phase (take_items c.args.side (items_of_line (seen c.args.line)) m).phase ≡ true =
     rw (hear_phase c.args.side (items_of_line (seen c.args.line)) m, at) (same_colour-self c.args.side) in
     let more : c.hear-done.new.self.count + 1 ≡ m.count + 1 = omega (arith, s.count, c.hear-done.ensures.count) in
     rw (done, few) (hello_goes r c.hear-done.new.self _ _ c.args.side (items_of_line (seen c.args.line))
-    (hear c.args.side (items_of_line (seen c.args.line)) m).phase (m.count + 1) true m st stays
+    (take_items c.args.side (items_of_line (seen c.args.line)) m).phase (m.count + 1) true m st stays
     (one_core c.hear-done.new.self _ _ _ _ st.phase more))
