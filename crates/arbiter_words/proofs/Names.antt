@@ -9,5 +9,5 @@ plan_named p (Stub words) is = is.0
 plan_named p (Match plan) is = is.0
 
 -- a plan to verify has the flags that the arguments set
-pub verify_spelled : VerifyIsAsAsked
-verify_spelled p v is = is.1
+pub verify_denoted : VerifyIsAsAsked
+verify_denoted p v is = is.1

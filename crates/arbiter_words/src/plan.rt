@@ -108,11 +108,11 @@ fn validate<'a>(words: &MatchRequest<'a>) -> Result<MatchPlan<'a>, WordsFault>
 
 // The plan of what the request asks for; of a match only if level, FEN and date are valid, else the fault of the first
 // of them that is not.
-pub(crate) fn planned<'a>(spelled: Request<'a>) -> Result<Plan<'a>, WordsFault>
-    ensures plan { IfOk result (IsPlanned spelled.entry) }
-    ensures fault { IfErr result (IsPlanFault spelled.entry) }
+pub(crate) fn planned<'a>(denoted: Request<'a>) -> Result<Plan<'a>, WordsFault>
+    ensures plan { IfOk result (IsPlanned denoted.entry) }
+    ensures fault { IfErr result (IsPlanFault denoted.entry) }
 {
-    match spelled {
+    match denoted {
         Request::Session => Ok(Plan::Session),
         Request::Verify(plan) => Ok(Plan::Verify(plan)),
         Request::Stub(words) => Ok(Plan::Stub(words)),

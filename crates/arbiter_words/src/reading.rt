@@ -31,12 +31,12 @@ pub fn read_words<'a>(alloc: Global, words: &'a [&'a str]) -> Result<Plan<'a>, W
         Ok(matches) => matches,
         Err(error) => return Err(refusal(error)),
     };
-    let spelled = match entered(&matches) {
+    let denoted = match entered(&matches) {
         None => Request::Session,
         Some((name, found)) => match request_in(alloc, name, found) {
-            Ok(spelled) => spelled,
+            Ok(denoted) => denoted,
             Err(AllocError) => return Err(WordsFault::NoMemory),
         },
     };
-    planned(spelled)
+    planned(denoted)
 }

@@ -93,21 +93,21 @@ serves named ws a (Err fault) is r r' w w' l l' status ran =
 -- `verify` alone sets none of its flags
 without_flags : VerifyIsAsAsked → (words : List Text) (v : VerifyPlan) → VerifyAsBare words
     → IsReading words (Ok (Verify v)) → v ≡ bare_plan
-without_flags spelled ws v bare (names, are, (none, is)) = spelled (asked names ws) v is ∙ bare names
+without_flags denoted ws v bare (names, are, (none, is)) = denoted (asked names ws) v is ∙ bare names
 
 verifies : PlansAreNamed → VerifyIsAsAsked → (words : List Text) → AskFor words (codes "verify") → VerifyAsBare words
     → (read : Result Plan WordsFault) → IsReading words read
     → (r r' : InputState) (w w' : OutputState) (l l' : LogSeen) (status : ℕ) → RanPlan read r r' w w' l l' status
     → RanVerify bare_plan r r' w w' status
-verifies named spelled ws a bare (Ok Session) is r r' w w' l l' status ran =
+verifies named denoted ws a bare (Ok Session) is r r' w w' l l' status ran =
     absurd (shorter (codes "verify") (codes "session") (lit< tt) (read_word named ws (codes "verify") Session a is))
-verifies named spelled ws a bare (Ok (Verify v)) is r r' w w' l l' status ran =
-    subst (λ (plan : VerifyPlan). RanVerify plan r r' w w' status) (without_flags spelled ws v bare is) ran
-verifies named spelled ws a bare (Ok (Stub s)) is r r' w w' l l' status ran =
+verifies named denoted ws a bare (Ok (Verify v)) is r r' w w' l l' status ran =
+    subst (λ (plan : VerifyPlan). RanVerify plan r r' w w' status) (without_flags denoted ws v bare is) ran
+verifies named denoted ws a bare (Ok (Stub s)) is r r' w w' l l' status ran =
     absurd (shorter (codes "stub") (codes "verify") (lit< tt) (sym (read_word named ws (codes "verify") (Stub s) a is)))
-verifies named spelled ws a bare (Ok (Match m)) is r r' w w' l l' status ran =
+verifies named denoted ws a bare (Ok (Match m)) is r r' w w' l l' status ran =
     absurd (no_match_by_verify (read_word named ws (codes "verify") (Match m) a is))
-verifies named spelled ws a bare (Err fault) is r r' w w' l l' status ran =
+verifies named denoted ws a bare (Err fault) is r r' w w' l l' status ran =
     verify_or_want fault r r' w w' l l' status (refused_word ws (codes "verify") fault a no_match_by_verify is) ran
 
 pub serves_session : PlansAreNamed → (words : List Text) → AskFor words (codes "session") → ServesSession words
@@ -115,5 +115,5 @@ serves_session named ws a r r' w w' l l' status (read, is, ran) = serves named w
 
 pub verifies_games : PlansAreNamed → VerifyIsAsAsked → (words : List Text) → AskFor words (codes "verify")
     → VerifyAsBare words → VerifiesGames words
-verifies_games named spelled ws a bare r r' w w' l l' status (read, is, ran) = verifies named spelled ws a bare read is r r'
+verifies_games named denoted ws a bare r r' w w' l l' status (read, is, ran) = verifies named denoted ws a bare read is r r'
     w w' l l' status ran

@@ -153,8 +153,8 @@ trimmed_short xs =
     omega arith
 
 -- what is held, as a part and a window
-abbrev pub Spelled : ℕ → Held → List ℕ → List ℕ → Type 0
-Spelled n held part window = (told : Bool) (rest : List ℕ)
+abbrev pub Denoted : ℕ → Held → List ℕ → List ℕ → Type 0
+Denoted n held part window = (told : Bool) (rest : List ℕ)
     → lines_held n told held rest ≡ lines_from n told part (window ++ rest)
 
 pub ten_step : (n : ℕ) (told : Bool) (part : List ℕ) (b : ℕ) (bs : List ℕ) → b ≡ 10
@@ -176,7 +176,7 @@ unfolding line_of
 line_ended n e piece = refl
 
 pub found_line : (n : ℕ) (held : Held) (part part' window window' : List ℕ) (b : ℕ) (line : LineSeen)
-    → Spelled n held part window → length window ≤ length held.coming
+    → Denoted n held part window → length window ≤ length held.coming
     → window ≡ b ∷ window' → b ≡ 10 → line ≡ line_of n true part → part' ≡ []
     → HeldLine n held (record { part = part'; coming = window' }) (Some line)
 found_line n held part part' window window' b line same fewer w ten is empty = (
@@ -188,13 +188,13 @@ found_line n held part part' window window' b line same fewer w ten is empty = (
       ∙ ap (λ v. line ∷ lines_from n told v (window' ++ rest)) (sym empty),
 )
 
-pub one_byte : (n : ℕ) (held : Held) (part part' window window' : List ℕ) (b : ℕ) → Spelled n held part window
-    → window ≡ b ∷ window' → b ≢ 10 → SameLines n (part ++ b ∷ []) part' → Spelled n held part' window'
+pub one_byte : (n : ℕ) (held : Held) (part part' window window' : List ℕ) (b : ℕ) → Denoted n held part window
+    → window ≡ b ∷ window' → b ≢ 10 → SameLines n (part ++ b ∷ []) part' → Denoted n held part' window'
 one_byte n held part part' window window' b same w ten add told rest =
     same told rest ∙ ap (λ v. lines_from n told part (v ++ rest)) w ∙ byte_step n told part b (window' ++ rest) ten
     ∙ add told (window' ++ rest)
 
-pub no_line : (n : ℕ) (held : Held) (part window window' : List ℕ) → Spelled n held part window → window ≡ []
+pub no_line : (n : ℕ) (held : Held) (part window window' : List ℕ) → Denoted n held part window → window ≡ []
     → window' ≡ [] → HeldLine n held (record { part = part; coming = window' }) None
 no_line n held part window window' same w w' = (
   same false [] ∙ ap (λ v. lines_from n false part (v ++ [])) w ∙ none_from n part,

@@ -17,7 +17,7 @@ use Rattle.chess_base.specs.ties.Splits.{right_is_sound_at}
 use Rattle.chess_fen.specs.Texts.{first_letter, names_file}
 use Rattle.chess_fen.specs.RightNames.{side_letter, is_towards, nowhere, outer_rook, named_square, only_one_of}
 use Rattle.chess_fen.specs.ties.Loops.{edge_file, rook_among, right_after_letters}
-use Rattle.chess_fen.specs.Spelling.{IsCastling, IsHeld, SpellsRights}
+use Rattle.chess_fen.specs.Denotation.{IsCastling, IsHeld, DenotesRights}
 use Rattle.chess_base.specs.Sound.{IsSound}
 use Rattle.chess_fen.specs.laws.NamedRooks.{IsOutermost, NamesRook, NamesNone, RightIsNamed}
 use Rattle.chess_fen.specs.laws.Laws.{RightsAreNamed}
@@ -333,16 +333,16 @@ unfolding right_is_sound
 stands_of p e sound c w = subst (λ v. right_is_sound_at v p.men c w (right_of p.rights c w) ≡ true) e
     (right_stands_of p sound c w)
 
-field_of : (text : List ℕ) (p : Setup) → SpellsRights text p → (c : Colour) (w : CastlingSide)
+field_of : (text : List ℕ) (p : Setup) → DenotesRights text p → (c : Colour) (w : CastlingSide)
     → IsHeld p.variant p.men text c w (right_of p.rights c w)
 field_of text p h White KingSide = h.white_king_side
 field_of text p h White QueenSide = h.white_queen_side
 field_of text p h Black KingSide = h.black_king_side
 field_of text p h Black QueenSide = h.black_queen_side
 
-spelled_of : (text : List ℕ) (p : Setup) → IsCastling p.variant text
-    → ((c : Colour) (w : CastlingSide) → IsHeld p.variant p.men text c w (right_of p.rights c w)) → SpellsRights text p
-spelled_of text p l h = record {
+denoted_of : (text : List ℕ) (p : Setup) → IsCastling p.variant text
+    → ((c : Colour) (w : CastlingSide) → IsHeld p.variant p.men text c w (right_of p.rights c w)) → DenotesRights text p
+denoted_of text p l h = record {
   letters = l;
   white_king_side = h White KingSide;
   white_queen_side = h White QueenSide;
@@ -357,7 +357,7 @@ rights_named text p e sound = (
     λ c w. named_by p.men c w text (right_of p.rights c w) (stands_of p e sound c w)
         (held_of p.variant p.men text c w (right_of p.rights c w) e (field_of text p h c w)),
   )),
-  (λ h. spelled_of text p (subst (λ v. IsCastling v text) (sym e) h.0)
+  (λ h. denoted_of text p (subst (λ v. IsCastling v text) (sym e) h.0)
       (λ c w. of_held p.variant p.men text c w (right_of p.rights c w) e
       (told_by p.men c w text (right_of p.rights c w) (stands_of p e sound c w) (h.1 c w)))),
 )

@@ -21,8 +21,8 @@ use Rattle.chess_fen.specs.Texts.{times, first_letter, names_file, may_name_righ
 use Rattle.chess_fen.specs.RightNames.{side_letter, is_towards, named_square, only_one_of}
 use Rattle.chess_fen.specs.ties.Loops.{right_after_letters}
 use Rattle.chess_fen.specs.Writing.{right_text, or_dash, rights_text}
-use Rattle.chess_fen.specs.Spelling.{IsCastling}
-use Rattle.chess_fen.proofs.SpelledRights.{times-cons}
+use Rattle.chess_fen.specs.Denotation.{IsCastling}
+use Rattle.chess_fen.proofs.DenotedRights.{times-cons}
 
 -- what an available right says of king and rook
 pub record Beside (men : Men) (c : Colour) (w : CastlingSide) (s : ℕ) : Type 0 where

@@ -17,7 +17,7 @@ use Rattle.chess_base.specs.declared.man.Variant.{Variant}
 use Rattle.chess_base.specs.declared.man.Variant.TheVariants.{Normal, Fischerandom}
 use Rattle.chess_fen.specs.RightNames.{right_letter, right_by_letters}
 use Rattle.chess_fen.proofs.RightsBack.{Stand, right_back, text_is_castling}
-use Rattle.chess_fen.proofs.SpelledRights.{castling-spelled}
+use Rattle.chess_fen.proofs.DenotedRights.{castling-denoted}
 use Rattle.chess_base.specs.declared.setup.Setup.{Setup}
 use Rattle.chess_fen.specs.ManLetters.{letter, letter_by}
 use Rattle.chess_base.specs.Letters.{white_letter, byte, is_digit, value_after}
@@ -34,7 +34,7 @@ use Rattle.std.proofs.lemmas.Bool.{and_parts, eqb-true}
 use Rattle.std.proofs.Math.Seq.{take-add}
 use Rattle.chess_fen.specs.Reading.{side_of, rights_of, setup_in}
 use Rattle.chess_fen.proofs.Ranks.{squares-digit}
-use Rattle.chess_fen.proofs.SpelledRanks.{squares-letter}
+use Rattle.chess_fen.proofs.DenotedRanks.{squares-letter}
 use Rattle.chess_fen.proofs.Lengths.{short_decimal}
 use Rattle.chess_fen.proofs.Joined.{From, From-append, From-weaker, From-join, slice_split-join, fields_of-join}
 
@@ -173,7 +173,7 @@ are_read Normal men r s =
 are_read Fischerandom men r s =
     let stand : Stand men r = record { a = s.a; b = s.b; c = s.c; d = s.d } in
     record {
-      letters = castling-spelled Fischerandom (rights_text Fischerandom r) (text_is_castling men r stand);
+      letters = castling-denoted Fischerandom (rights_text Fischerandom r) (text_is_castling men r stand);
       rights = λ c w. right_back men r c w stand;
     }
 

@@ -2,13 +2,13 @@
 use Rattle.std.proofs.Common.{◌≡◌, Ok, sym, subst, ◌∙◌}
 use Rattle.chess_base.specs.declared.setup.Setup.{Setup}
 use Rattle.chess_base.specs.Sound.{IsSound}
-use Rattle.chess_fen.specs.Spelling.{SpellsFenAs}
+use Rattle.chess_fen.specs.Denotation.{DenotesFenAs}
 use Rattle.chess_fen.specs.Writing.{fen}
 use Rattle.chess_fen.proofs.RoundTrip.{setup-fen}
-use Rattle.chess_fen.proofs.SpelledFen.{TextOutcome, text_outcome, setup-spelled}
+use Rattle.chess_fen.proofs.DenotedFen.{TextOutcome, text_outcome, setup-denoted}
 
-pub fen-spelled : (p : Setup) → IsSound p → SpellsFenAs p.variant (fen p) p
-fen-spelled p h = subst (TextOutcome p.variant (fen p)) (setup-fen p h) (text_outcome p.variant (fen p))
+pub fen-denoted : (p : Setup) → IsSound p → DenotesFenAs p.variant (fen p) p
+fen-denoted p h = subst (TextOutcome p.variant (fen p)) (setup-fen p h) (text_outcome p.variant (fen p))
 
-pub no_other : (p q : Setup) → IsSound p → SpellsFenAs p.variant (fen p) q → q ≡ p
-no_other p q h s = let e : Ok q ≡ Ok p = sym (setup-spelled p.variant (fen p) q s) ∙ setup-fen p h in cc
+pub no_other : (p q : Setup) → IsSound p → DenotesFenAs p.variant (fen p) q → q ≡ p
+no_other p q h s = let e : Ok q ≡ Ok p = sym (setup-denoted p.variant (fen p) q s) ∙ setup-fen p h in cc

@@ -11,31 +11,31 @@ use Rattle.chess_base.specs.declared.fault.FenFault.{FenFault}
 use Rattle.chess_base.specs.declared.fault.FenFault.TheVariants.{Fields, Placement, Side, Castling, EnPassant, Counters}
 use Rattle.chess_fen.specs.Texts.{fields_of}
 use Rattle.chess_fen.specs.Writing.{side_text}
-use Rattle.chess_fen.specs.Spelling.{SpellsPlacement, IsCastling, SpellsTarget, SpellsCounters, SpellsFenAs}
+use Rattle.chess_fen.specs.Denotation.{DenotesPlacement, IsCastling, DenotesTarget, DenotesCounters, DenotesFenAs}
 
 -- the text, a FEN's first field, denotes the pieces of a board
-abbrev pub SpellsSomeMen : List ℕ → Type 0
-SpellsSomeMen text = (men : Men) × SpellsPlacement text men
+abbrev pub DenotesSomeMen : List ℕ → Type 0
+DenotesSomeMen text = (men : Men) × DenotesPlacement text men
 
 -- the text, a FEN's second field, denotes a side: it is w or b
-abbrev pub SpellsSomeSide : List ℕ → Type 0
-SpellsSomeSide text = (colour : Colour) × (text ≡ side_text colour)
+abbrev pub DenotesSomeSide : List ℕ → Type 0
+DenotesSomeSide text = (colour : Colour) × (text ≡ side_text colour)
 
 -- the text, a FEN's fourth field, denotes an en passant target, or by a dash none
-abbrev pub SpellsSomeTarget : List ℕ → Type 0
-SpellsSomeTarget text = (target : Option ℕ) × SpellsTarget text target
+abbrev pub DenotesSomeTarget : List ℕ → Type 0
+DenotesSomeTarget text = (target : Option ℕ) × DenotesTarget text target
 
 -- the field that this fault is about denotes nothing, and each field before it does denote something: for `Castling`
 -- the third is wrong, the first two are right. a, b, c and d are the first four fields, `more` is the list of the two
 -- counters or empty
 abbrev pub IsFieldFault : Variant → List ℕ → List ℕ → List ℕ → List ℕ → List (List ℕ) → FenFault → Type 0
-IsFieldFault v a b c d more Placement = (men : Men) → SpellsPlacement a men → ⊥
-IsFieldFault v a b c d more Side = SpellsSomeMen a × ((colour : Colour) → b ≢ side_text colour)
-IsFieldFault v a b c d more Castling = SpellsSomeMen a × SpellsSomeSide b × (IsCastling v c → ⊥)
-IsFieldFault v a b c d more EnPassant = SpellsSomeMen a × SpellsSomeSide b × IsCastling v c
-    × ((target : Option ℕ) → SpellsTarget d target → ⊥)
-IsFieldFault v a b c d more Counters = SpellsSomeMen a × SpellsSomeSide b × IsCastling v c × SpellsSomeTarget d
-    × ((halfmove fullmove : ℕ) → SpellsCounters more halfmove fullmove → ⊥)
+IsFieldFault v a b c d more Placement = (men : Men) → DenotesPlacement a men → ⊥
+IsFieldFault v a b c d more Side = DenotesSomeMen a × ((colour : Colour) → b ≢ side_text colour)
+IsFieldFault v a b c d more Castling = DenotesSomeMen a × DenotesSomeSide b × (IsCastling v c → ⊥)
+IsFieldFault v a b c d more EnPassant = DenotesSomeMen a × DenotesSomeSide b × IsCastling v c
+    × ((target : Option ℕ) → DenotesTarget d target → ⊥)
+IsFieldFault v a b c d more Counters = DenotesSomeMen a × DenotesSomeSide b × IsCastling v c × DenotesSomeTarget d
+    × ((halfmove fullmove : ℕ) → DenotesCounters more halfmove fullmove → ⊥)
 IsFieldFault v a b c d more f = ⊥
 
 -- f is the fault `Fields`, and the text has neither four nor six fields
@@ -43,8 +43,8 @@ abbrev pub HasWrongFieldCount : List ℕ → FenFault → Type 0
 HasWrongFieldCount text f = (f ≡ Fields) × (length (fields_of text) ≢ 4) × (length (fields_of text) ≢ 6)
 
 -- the text has four or six fields, and the first of them that denotes nothing is the one that fault f is about
-abbrev pub IsMisspelled : Variant → List ℕ → FenFault → Type 0
-IsMisspelled v text f =
+abbrev pub IsMalformed : Variant → List ℕ → FenFault → Type 0
+IsMalformed v text f =
     (a : List ℕ) × (b : List ℕ) × (c : List ℕ) × (d : List ℕ) × (more : List (List ℕ))
     × (fields_of text ≡ a ∷ b ∷ c ∷ d ∷ more)
     × ((length more ≡ 0) ⊎ (length more ≡ 2))
@@ -53,12 +53,12 @@ IsMisspelled v text f =
 -- each field of the text denotes something, but together they give an unsound position, and f is the first condition of
 -- soundness that it fails
 abbrev pub IsUnsound : Variant → List ℕ → FenFault → Type 0
-IsUnsound v text f = (p : Setup) × SpellsFenAs v text p × (setup_fault p ≡ Some f)
+IsUnsound v text f = (p : Setup) × DenotesFenAs v text p × (setup_fault p ≡ Some f)
 
 -- f is the fault of a text that is read as a FEN of variant v: a wrong number of fields, or else a field that denotes
 -- nothing, or else an unsound position
 abbrev pub IsFaultAs : Variant → List ℕ → FenFault → Type 0
-IsFaultAs v text f = HasWrongFieldCount text f ⊎ IsMisspelled v text f ⊎ IsUnsound v text f
+IsFaultAs v text f = HasWrongFieldCount text f ⊎ IsMalformed v text f ⊎ IsUnsound v text f
 
 -- f is the fault of a text that is read as a FEN of normal chess, as `IsFaultAs` says
 abbrev pub IsFault : List ℕ → FenFault → Type 0

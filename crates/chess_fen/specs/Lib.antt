@@ -3,7 +3,7 @@ pub mod Texts
 pub mod RightNames
 pub mod Writing
 pub mod Reading
-pub mod Spelling
+pub mod Denotation
 pub mod FenFaults
 pub mod laws
 pub mod ties

@@ -6,13 +6,13 @@ ghost use Rattle.chess_base.specs.declared.setup.Setup.{Setup};
 ghost use Rattle.chess_fen.specs.Reading.{fen_reading_as};
 ghost use Rattle.chess_fen.specs.Writing.{fen};
 ghost use Rattle.chess_fen.specs.laws.Normal.{normal_fen, normal_fen_reading};
-ghost use Rattle.chess_fen.specs.laws.Laws.{WrittenIsSpelled, WrittenSpellsNoOther, WrittenIsReadBack, RightsAreNamed};
+ghost use Rattle.chess_fen.specs.laws.Laws.{WrittenIsDenoted, WrittenDenotesNoOther, WrittenIsReadBack, RightsAreNamed};
 
 /// A law: the contract says it, and the function does nothing. The FEN that is written for a sound position denotes
 /// that position, denotes no other, and is read as that position.
-pub fn written_is_spelled()
-    ensures spells { WrittenIsSpelled }
-    ensures no_other { WrittenSpellsNoOther }
+pub fn written_is_denoted()
+    ensures denotes { WrittenIsDenoted }
+    ensures no_other { WrittenDenotesNoOther }
     ensures read_back { WrittenIsReadBack }
 {}
 

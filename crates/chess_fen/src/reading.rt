@@ -9,7 +9,7 @@ ghost use Rattle.chess_fen.specs.FenFaults.{IsFault, IsFaultAs};
 ghost use Rattle.chess_fen.specs.Texts.{fields_of};
 ghost use Rattle.chess_fen.specs.RightNames.{right_by_letters};
 ghost use Rattle.chess_fen.specs.Reading.{side_of, rights_of, setup_by, setup_in, fen_reading, fen_reading_as};
-ghost use Rattle.chess_fen.specs.Spelling.{SpellsFen, SpellsFenAs};
+ghost use Rattle.chess_fen.specs.Denotation.{DenotesFen, DenotesFenAs};
 
 use crate::castling::{is_castling, right_by_letters};
 use crate::fields::{Fields, read_fields};
@@ -106,7 +106,7 @@ fn read_setup(variant: Variant, text: &[u8]) -> Result<Setup, FenFault>
 
 // The sound position that a text denotes as a FEN of this variant; or the fault: of the first wrong field, or of the
 // first condition of soundness that fails.
-fn spelled_position(variant: Variant, text: &[u8]) -> Result<Position, FenFault>
+fn denoted_position(variant: Variant, text: &[u8]) -> Result<Position, FenFault>
     ensures value { result ≡ fen_reading_as variant text.now }
     ensures sound { IfOk result IsSound }
 {
@@ -122,15 +122,15 @@ fn spelled_position(variant: Variant, text: &[u8]) -> Result<Position, FenFault>
 pub fn read_fen_as(variant: Variant, text: &[u8]) -> Result<Position, FenFault>
     ensures value { result ≡ fen_reading_as variant text.now }
     // The text denotes what is read, which is sound.
-    ensures found { IfOk result (λ p. SpellsFenAs variant text.now p × IsSound p) }
+    ensures found { IfOk result (λ p. DenotesFenAs variant text.now p × IsSound p) }
     // A sound position that the text denotes is read.
-    ensures only { (p : Setup) → SpellsFenAs variant text.now p → IsSound p → result ≡ Ok p }
+    ensures only { (p : Setup) → DenotesFenAs variant text.now p → IsSound p → result ≡ Ok p }
     // What the fault says of the text, field by field.
     ensures told { IfErr result (IsFaultAs variant text.now) }
     // No other fault says so.
     ensures refused { (f : FenFault) → IsFaultAs variant text.now f → result ≡ Err f }
 {
-    spelled_position(variant, text)
+    denoted_position(variant, text)
 }
 
 /// The position of normal chess that a text denotes as FEN (PGN standard of 1994, section 16.1), or the first fault of
@@ -138,9 +138,9 @@ pub fn read_fen_as(variant: Variant, text: &[u8]) -> Result<Position, FenFault>
 pub fn read_fen(text: &[u8]) -> Result<Position, FenFault>
     ensures value { result ≡ fen_reading text.now }
     // The text denotes what is read, which is sound.
-    ensures found { IfOk result (λ p. SpellsFen text.now p × IsSound p) }
+    ensures found { IfOk result (λ p. DenotesFen text.now p × IsSound p) }
     // A sound position that the text denotes is read.
-    ensures only { (p : Setup) → SpellsFen text.now p → IsSound p → result ≡ Ok p }
+    ensures only { (p : Setup) → DenotesFen text.now p → IsSound p → result ≡ Ok p }
     // What the fault says of the text, field by field.
     ensures told { IfErr result (IsFault text.now) }
     // No other fault says so.

@@ -276,7 +276,7 @@ const SPELLINGS: &[(&[u8], Wanted)] = &[
 ];
 
 #[test]
-fn other_spellings_are_read(rt: HostRuntime) {
+fn other_denotations_are_read(rt: HostRuntime) {
     check_all(&rt, SPELLINGS);
 }
 

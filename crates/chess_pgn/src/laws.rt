@@ -11,7 +11,7 @@ ghost use Rattle.chess_pgn.specs.Written.{move_text_of};
 ghost use Rattle.chess_pgn.specs.laws.Layout.{AreShort, IsMoveText};
 
 use chess_base::{Position, Variant, after_is_sound};
-use chess_fen::written_is_spelled;
+use chess_fen::written_is_denoted;
 use chess_text::san_is_a_word;
 
 /// States a law and does nothing: the text that tokens of 1 to 79 bytes make from left to right has them in filled
@@ -53,7 +53,7 @@ pub fn pgn_is_read_back()
 {
     // The prover wants these laws: each position of a game is sound, and a FEN that was written is read back.
     after_is_sound();
-    written_is_spelled();
+    written_is_denoted();
     // The prover wants this fact: the initial position of normal chess is sound.
     let initial = Position::initial_of(Variant::Normal);
     let _sound = initial.setup();

@@ -11,29 +11,29 @@ use Rattle.chess_text.specs.declared.described.Described.{Described}
 use Rattle.chess_text.specs.declared.parts.Parts.{Parts}
 use Rattle.chess_text.specs.declared.parts.Promotion.{Promotion}
 use Rattle.chess_text.specs.declared.reading.Reading.TheVariants as reads
-use Rattle.chess_text.specs.laws.Laws.{SpellsAlone, IsShaped, AreParts}
+use Rattle.chess_text.specs.laws.Laws.{DenotesAlone, IsShaped, AreParts}
 use Rattle.chess_text.specs.Parts.{unmarked}
 use Rattle.chess_text.specs.ties.Fitting.{parts_text, has_parts}
 use Rattle.chess_text.specs.ties.Reader.{parts_at}
-use Rattle.chess_text.specs.Moves.{is_castling_text, passes, shape, spells_described, spells, one_of, reading}
+use Rattle.chess_text.specs.Moves.{is_castling_text, passes, shape, denotes_described, denotes, one_of, reading}
 use Rattle.chess_text.specs.ties.Fitting.{is_form, parts_fit, promotes_so, has_form, fits_text}
 use Rattle.chess_text.specs.ties.Forms.{same_side}
 use Rattle.chess_text.proofs.AllMoves.{only-move}
 use Rattle.chess_text.proofs.Castlings.{IsCastling, names_side, castling_from_name}
-use Rattle.chess_text.proofs.FormFacts.{has-read, spelled_castling as castling_spelled}
+use Rattle.chess_text.proofs.FormFacts.{has-read, denoted_castling as castling_denoted}
 use Rattle.chess_text.proofs.SameKinds.{same_kind-self, same_kind-true}
 use Rattle.chess_text.proofs.Shaped.{shape_is}
-use Rattle.chess_text.proofs.Spellings.{spells_is}
-use Rattle.chess_text.proofs.Grammar.{spelled-parts, parts-spelled}
+use Rattle.chess_text.proofs.Denotations.{denotes_is}
+use Rattle.chess_text.proofs.Grammar.{denoted-parts, parts-denoted}
 use Rattle.chess_text.proofs.Legal.{IsMove, told_of, described_is}
 
 -- ---- what is read
 
 -- a text that denotes a legal move alone is read as it
-pub read_alone : (p : Setup) (text : List ℕ) (m : Move) → is_legal p m ≡ true → shape text ≡ true → SpellsAlone p text m
+pub read_alone : (p : Setup) (text : List ℕ) (m : Move) → is_legal p m ≡ true → shape text ≡ true → DenotesAlone p text m
     → reading p text ≡ reads.Move m
 unfolding reading
-read_alone p text m legal is alone = rw is (ap one_of (only-move p (λ n. spells p text n) m legal alone.0 alone.1))
+read_alone p text m legal is alone = rw is (ap one_of (only-move p (λ n. denotes p text n) m legal alone.0 alone.1))
 
 -- ---- the text of parts
 
@@ -47,12 +47,12 @@ no_side text q e None = refl
 no_side text q e (Some w) = no_name text q e w
 
 read_parts : (text : List ℕ) (q : Parts) → unmarked text ≡ parts_text q → AreParts q → parts_at (unmarked text) ≡ Some q
-read_parts text q e h = ap parts_at e ∙ parts-spelled q h
+read_parts text q e h = ap parts_at e ∙ parts-denoted q h
 
-pub spelled_parts : (text : List ℕ) (q : Parts) (d : Described) → unmarked text ≡ parts_text q → AreParts q
+pub denoted_parts : (text : List ℕ) (q : Parts) (d : Described) → unmarked text ≡ parts_text q → AreParts q
     → fits_text text d ≡ parts_fit q d
 unfolding fits_text is_castling_text
-spelled_parts text q d e h =
+denoted_parts text q d e h =
     let at = read_parts text q e h in
     ap (λ t. t || has_parts (λ r. parts_fit r d) text) (no_side (unmarked text) q at d.castles)
     ∙ has-read (λ r. parts_fit r d) text ∙ ap (passes (λ r. parts_fit r d)) at
@@ -72,11 +72,11 @@ shape_parts text q e h form = shape_is text ∙ form_parts text q e h form
 
 -- ---- the text of castling
 
-pub spelled_castling : (text : List ℕ) (w : CastlingSide) (d : Described) → IsCastling (unmarked text) w
+pub denoted_castling : (text : List ℕ) (w : CastlingSide) (d : Described) → IsCastling (unmarked text) w
     → fits_text text d ≡ passes (same_side w) d.castles
 unfolding fits_text is_castling_text
-spelled_castling text w d h = ap (λ t. passes (is_castling_text text) d.castles || t) (has-read (λ q. parts_fit q d) text)
-    ∙ castling_spelled (unmarked text) w d h
+denoted_castling text w d h = ap (λ t. passes (is_castling_text text) d.castles || t) (has-read (λ q. parts_fit q d) text)
+    ∙ castling_denoted (unmarked text) w d h
 
 form_castling : (text : List ℕ) (w : CastlingSide) → IsCastling (unmarked text) w → has_form text ≡ true
 unfolding has_form is_castling_text
@@ -88,12 +88,12 @@ shape_castling text w h = shape_is text ∙ form_castling text w h
 
 -- ---- of a legal move
 
-pub spells_move : (p : Setup) (text : List ℕ) (m : Move) (h : IsMove p m)
-    → spells p text m ≡ fits_text text (told_of p m h.man)
-unfolding spells
-spells_move p text m h =
-    ap (passes (spells_described text)) (described_is p m h)
-    ∙ spells_is text (told_of p m h.man) h.from_in h.to_in h.promotion_is
+pub denotes_move : (p : Setup) (text : List ℕ) (m : Move) (h : IsMove p m)
+    → denotes p text m ≡ fits_text text (told_of p m h.man)
+unfolding denotes
+denotes_move p text m h =
+    ap (passes (denotes_described text)) (described_is p m h)
+    ∙ denotes_is text (told_of p m h.man) h.from_in h.to_in h.promotion_is
 
 pub move_is : (n m : Move) → n.from ≡ m.from → n.to ≡ m.to → n.promotion ≡ m.promotion → n ≡ m
 move_is n m a b k =
@@ -145,7 +145,7 @@ is_formed_so text e =
       | inl h ↦ inl (either_side text h)
       | inr h ↦
           let of = of_parts is_form (parts_at (unmarked text)) (sym (has-read is_form text) ∙ h) in
-          let is = spelled-parts (unmarked text) of.0 of.1 in
+          let is = denoted-parts (unmarked text) of.0 of.1 in
           inr (of.0, is.0, is.1, of.2)
     ]
 

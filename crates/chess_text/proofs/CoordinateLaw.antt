@@ -13,12 +13,12 @@ use Rattle.chess_base.specs.Sound.{IsSound}
 use Rattle.chess_base.specs.Squares.{file, rank}
 use Rattle.chess_text.specs.declared.parts.Parts.{Parts}
 use Rattle.chess_text.specs.declared.reading.Reading.TheVariants as reads
-use Rattle.chess_text.specs.laws.Laws.{SpellsAlone, AreParts, CanPromote}
+use Rattle.chess_text.specs.laws.Laws.{DenotesAlone, AreParts, CanPromote}
 use Rattle.chess_text.specs.Parts.{unmarked}
 use Rattle.chess_text.specs.ties.Fitting.{promotion_text, parts_text}
 use Rattle.chess_text.specs.Moves.{shape, reading}
 use Rattle.chess_text.specs.ties.Fitting.{has_equals, promotes_so, is_form, parts_fit, is_by_squares, is_by_letter, is_straight, is_by_file}
-use Rattle.chess_text.proofs.Alone.{read_alone, spelled_parts, shape_parts, spells_move, move_is, written, promotes-self, promotes-same}
+use Rattle.chess_text.proofs.Alone.{read_alone, denoted_parts, shape_parts, denotes_move, move_is, written, promotes-self, promotes-same}
 use Rattle.chess_text.proofs.Legal.{IsMove, legal_move, told_of}
 use Rattle.chess_text.proofs.Solid.{bare_parts}
 use Rattle.chess_text.proofs.Told.{same_square}
@@ -135,19 +135,19 @@ fits_alone p m n k e =
           ]
     ]
 
-pub coordinate_alone : (p : Setup) (m : Move) → IsSound p → IsTrue (is_legal p m) → SpellsAlone p (coordinate m) m
+pub coordinate_alone : (p : Setup) (m : Move) → IsSound p → IsTrue (is_legal p m) → DenotesAlone p (coordinate m) m
 coordinate_alone p m sound legal =
     let h = legal_move p m legal in
     let at = bare m h.to_in in
     let are = are_parts p m h in (
-      spells_move p (coordinate m) m h ∙ spelled_parts (coordinate m) (squares_named m) (told_of p m h.man) at are
+      denotes_move p (coordinate m) m h ∙ denoted_parts (coordinate m) (squares_named m) (told_of p m h.man) at are
           ∙ fits_itself p m h.man,
       λ n n_legal e.
           let g = legal_move p n n_legal in
           let same =
           fits_alone p m n g.man
-          (sym (spells_move p (coordinate m) n g
-          ∙ spelled_parts (coordinate m) (squares_named m) (told_of p n g.man) at are) ∙ e) in
+          (sym (denotes_move p (coordinate m) n g
+          ∙ denoted_parts (coordinate m) (squares_named m) (told_of p n g.man) at are) ∙ e) in
           move_is n m same.from same.to same.promotion,
     )
 

@@ -19,13 +19,13 @@ use Rattle.chess_text.specs.declared.reading.Reading.TheVariants as reads
 use mathlib.Core.Bool.{or-false}
 use Rattle.chess_text.specs.Parts.{unmarked}
 use Rattle.chess_text.specs.ties.Reader.{parts_at}
-use Rattle.chess_text.specs.Moves.{castling_texts, is_castling_text, passes, shape, spells_described, spells, one_of, reading, IsLegalReading}
+use Rattle.chess_text.specs.Moves.{castling_texts, is_castling_text, passes, shape, denotes_described, denotes, one_of, reading, IsLegalReading}
 use Rattle.chess_text.specs.ties.Fitting.{is_form, parts_fit, has_parts, has_form, fits_text}
-use Rattle.chess_text.specs.ties.Forms.{form_of_parts, form_at, form_of, same_side, form_fits, is_spelled}
+use Rattle.chess_text.specs.ties.Forms.{form_of_parts, form_at, form_of, same_side, form_fits, is_denoted}
 use Rattle.chess_text.proofs.AllMoves.{filter-both}
 use Rattle.chess_text.proofs.Legal.{legal_move, told_of, described_is}
 use Rattle.chess_text.proofs.Shaped.{no_form, shape_is}
-use Rattle.chess_text.proofs.Spellings.{spells_is}
+use Rattle.chess_text.proofs.Denotations.{denotes_is}
 use Rattle.chess_text.proofs.Castlings.{IsCastling, castling_from_name}
 
 pub has-read : (test : Parts → Bool) (text : List ℕ) → has_parts test text ≡ passes test (parts_at (unmarked text))
@@ -73,10 +73,10 @@ same_for test other h None = refl
 same_for test other h (Some v) = h v
 
 -- a text of castling denotes castling to its side
-pub spelled_castling : (text : List ℕ) (w : CastlingSide) (d : Described) → IsCastling text w
+pub denoted_castling : (text : List ℕ) (w : CastlingSide) (d : Described) → IsCastling text w
     → (passes (λ v. list_any (bytes_eq text) (castling_texts v)) d.castles || passes (λ q. parts_fit q d) (parts_at text))
     ≡ passes (same_side w) d.castles
-spelled_castling text w d h =
+denoted_castling text w d h =
     rw h.no_parts (or-false _ ∙ same_for (λ v. list_any (bytes_eq text) (castling_texts v)) (same_side w) h.names
     d.castles)
 
@@ -87,31 +87,31 @@ not_named text a b None = refl
 not_named text a b (Some KingSide) = a
 not_named text a b (Some QueenSide) = b
 
-spelled_by : (text : List ℕ) (d : Described) (a b : Bool) → list_any (bytes_eq text) (castling_texts KingSide) ≡ a
+denoted_by : (text : List ℕ) (d : Described) (a b : Bool) → list_any (bytes_eq text) (castling_texts KingSide) ≡ a
     → list_any (bytes_eq text) (castling_texts QueenSide) ≡ b
     → (passes (λ v. list_any (bytes_eq text) (castling_texts v)) d.castles || passes (λ q. parts_fit q d) (parts_at text))
     ≡ passes (λ f. form_fits f d) (form_at (cond a (Some KingSide) (cond b (Some QueenSide) None)) text)
-spelled_by text d true b ea eb = spelled_castling text KingSide d (castling_from_name text KingSide ea)
-spelled_by text d false true ea eb = spelled_castling text QueenSide d (castling_from_name text QueenSide eb)
-spelled_by text d false false ea eb = ap (λ t. t || passes (λ q. parts_fit q d) (parts_at text))
+denoted_by text d true b ea eb = denoted_castling text KingSide d (castling_from_name text KingSide ea)
+denoted_by text d false true ea eb = denoted_castling text QueenSide d (castling_from_name text QueenSide eb)
+denoted_by text d false false ea eb = ap (λ t. t || passes (λ q. parts_fit q d) (parts_at text))
     (not_named text ea eb d.castles) ∙ fits_by_form d (parts_at text)
 
 fits-form : (text : List ℕ) (d : Described) → fits_text text d ≡ passes (λ f. form_fits f d) (form_of text)
 unfolding fits_text form_of is_castling_text
 fits-form text d = rw (has-read (λ q. parts_fit q d) text)
-    (spelled_by (unmarked text) d (list_any (bytes_eq (unmarked text)) (castling_texts KingSide))
+    (denoted_by (unmarked text) d (list_any (bytes_eq (unmarked text)) (castling_texts KingSide))
     (list_any (bytes_eq (unmarked text)) (castling_texts QueenSide)) refl refl)
 
 -- ---- the reading
 
-pub spells-read : (form : Form) (text : List ℕ) (p : Setup) (m : Move) → is_legal p m ≡ true → form_of text ≡ Some form
-    → spells p text m ≡ is_spelled form p m
-unfolding spells is_spelled
-spells-read form text p m legal e =
+pub denotes-read : (form : Form) (text : List ℕ) (p : Setup) (m : Move) → is_legal p m ≡ true → form_of text ≡ Some form
+    → denotes p text m ≡ is_denoted form p m
+unfolding denotes is_denoted
+denotes-read form text p m legal e =
     let h = legal_move p m legal in
     let d = told_of p m h.man in
-    ap (passes (spells_described text)) (described_is p m h)
-    ∙ spells_is text d h.from_in h.to_in h.promotion_is
+    ap (passes (denotes_described text)) (described_is p m h)
+    ∙ denotes_is text d h.from_in h.to_in h.promotion_is
     ∙ fits-form text d
     ∙ ap (passes (λ f. form_fits f d)) e
     ∙ sym (ap (passes (form_fits form)) (described_is p m h))
@@ -132,14 +132,14 @@ legal_agree p t u h =
           | inr off ↦ rw off refl
         ]
 
-pub reading_spelled : (p : Setup) (text : List ℕ) (form : Form) → form_of text ≡ Some form
-    → one_of (filter (λ m. is_spelled form p m) (moves p)) ≡ reading p text
+pub reading_denoted : (p : Setup) (text : List ℕ) (form : Form) → form_of text ≡ Some form
+    → one_of (filter (λ m. is_denoted form p m) (moves p)) ≡ reading p text
 unfolding reading
-reading_spelled p text form e =
+reading_denoted p text form e =
     let has : shape text ≡ true = shape-form text ∙ ap is_some e in
     rw has (ap one_of
-    (sym (legal_agree p (λ m. spells p text m) (λ m. is_spelled form p m)
-    (λ m legal. spells-read form text p m legal e))))
+    (sym (legal_agree p (λ m. denotes p text m) (λ m. is_denoted form p m)
+    (λ m legal. denotes-read form text p m legal e))))
 
 pub reading_nothing : (p : Setup) (text : List ℕ) → form_of text ≡ None → reads.NotAMove ≡ reading p text
 unfolding reading
@@ -173,10 +173,10 @@ read_legal : (p : Setup) (text : List ℕ) (m : Move) → reading p text ≡ rea
 unfolding reading moves
 read_legal p text m e = by_shape (shape text) refl e
   where
-    by_shape : (t : Bool) → shape text ≡ t → cond t (one_of (filter (λ m. spells p text m) (moves p))) reads.NotAMove
+    by_shape : (t : Bool) → shape text ≡ t → cond t (one_of (filter (λ m. denotes p text m) (moves p))) reads.NotAMove
         ≡ reads.Move m → is_legal p m ≡ true
-    by_shape true is e = filter-again (λ m. is_legal p m) (λ m. spells p text m) all_moves m []
-        (one_is (filter (λ m. spells p text m) (moves p)) m e)
+    by_shape true is e = filter-again (λ m. is_legal p m) (λ m. denotes p text m) all_moves m []
+        (one_is (filter (λ m. denotes p text m) (moves p)) m e)
     by_shape false is e = absurd cc
 
 pub reads_legal : (p : Setup) (text : List ℕ) (r : Reading) → r ≡ reading p text → IsLegalReading p r

@@ -93,27 +93,27 @@ promotion_read equals false Queen h = refl
 abbrev IsPromotion : Option Promotion → Type 0
 IsPromotion o = IfSome o (λ p. CanPromote p.kind)
 
-spelled-promotion : (text : List ℕ) (o : Option Promotion) → promotion_at text ≡ Some o
+denoted-promotion : (text : List ℕ) (o : Option Promotion) → promotion_at text ≡ Some o
     → (text ≡ optional promotion_text o) × IsPromotion o
-spelled-promotion [] o e = let is : None ≡ o =
+denoted-promotion [] o e = let is : None ≡ o =
     cc in subst (λ (r : Option Promotion). ([] ≡ optional promotion_text r) × IsPromotion r) is (refl, tt)
-spelled-promotion (c ∷ []) o e =
+denoted-promotion (c ∷ []) o e =
     let m = mapped Some (promotion_by false c) o e in
     let p = promotion_is false c m.0 m.1 in
     subst (λ (r : Option Promotion). (c ∷ [] ≡ optional promotion_text r) × IsPromotion r) m.2
     (rw p.0 (ap (λ x. x ∷ []) p.1), p.2)
-spelled-promotion (c ∷ d ∷ []) o e =
+denoted-promotion (c ∷ d ∷ []) o e =
     let h = chosen (eqb c 61) (option_map Some (promotion_by true d)) o e in
     let at : c ≡ 61 = grind (arith, nat_tests, h.0) in
     let m = mapped Some (promotion_by true d) o h.1 in
     let p = promotion_is true d m.0 m.1 in
     subst (λ (r : Option Promotion). (c ∷ d ∷ [] ≡ optional promotion_text r) × IsPromotion r) m.2
     (rw p.0 (ap (λ x. x ∷ d ∷ []) at ∙ ap (λ x. 61 ∷ x ∷ []) p.1), p.2)
-spelled-promotion (c ∷ d ∷ x ∷ cs) o e = absurd cc
+denoted-promotion (c ∷ d ∷ x ∷ cs) o e = absurd cc
 
-promotion-spelled : (o : Option Promotion) → IsPromotion o → promotion_at (optional promotion_text o) ≡ Some o
-promotion-spelled None h = refl
-promotion-spelled (Some p) h = by_equals p.equals refl
+promotion-denoted : (o : Option Promotion) → IsPromotion o → promotion_at (optional promotion_text o) ≡ Some o
+promotion-denoted None h = refl
+promotion-denoted (Some p) h = by_equals p.equals refl
   where
     by_equals : (b : Bool) → p.equals ≡ b → promotion_at (promotion_text p) ≡ Some (Some p)
     by_equals true e = rw e (ap (option_map Some) (promotion_read true p.small p.kind h))
@@ -121,11 +121,11 @@ promotion-spelled (Some p) h = by_equals p.equals refl
 
 -- ---- the end
 
-pub spelled-end : (text : List ℕ) (x : End) → end_at text ≡ Some x
+pub denoted-end : (text : List ℕ) (x : End) → end_at text ≡ Some x
     → (text ≡ end_text x) × (x.to < 64) × IsPromotion x.promotion
-spelled-end [] x e = absurd cc
-spelled-end (f ∷ []) x e = absurd cc
-spelled-end (f ∷ r ∷ rest) x e =
+denoted-end [] x e = absurd cc
+denoted-end (f ∷ []) x e = absurd cc
+denoted-end (f ∷ r ∷ rest) x e =
     let h = chosen (is_file_letter f && is_rank_digit r)
     (option_map (λ p. record { to = 8 * (r - 49) + (f - 97); promotion = p }) (promotion_at rest)) x e in
     let f0 : 97 ≤ f = grind (arith, nat_tests, h.0) in
@@ -134,7 +134,7 @@ spelled-end (f ∷ r ∷ rest) x e =
     let r1 : r ≤ 56 = grind (arith, nat_tests, h.0) in
     let m = mapped (λ (p : Option Promotion). record { to = 8 * (r - 49) + (f - 97); promotion = p })
     (promotion_at rest) x h.1 in
-    let p = spelled-promotion rest m.0 m.1 in
+    let p = denoted-promotion rest m.0 m.1 in
     subst (λ (y : End). (f ∷ r ∷ rest ≡ end_text y) × (y.to < 64) × IsPromotion y.promotion) m.2
     (squares f0 f1 r0 r1 m.0 p.0, omega arith, p.1)
   where
@@ -146,14 +146,14 @@ spelled-end (f ∷ r ∷ rest) x e =
         ap (λ x. f ∷ r ∷ x) is ∙ ap (λ x. x ∷ r ∷ optional promotion_text o) file
         ∙ ap (λ x. (97 + (8 * (r - 49) + (f - 97)) % 8) ∷ x ∷ optional promotion_text o) rank
 
-pub end-spelled : (x : End) → x.to < 64 → IsPromotion x.promotion → end_at (end_text x) ≡ Some x
-end-spelled x h p =
+pub end-denoted : (x : End) → x.to < 64 → IsPromotion x.promotion → end_at (end_text x) ≡ Some x
+end-denoted x h p =
     let t0 : leb 97 (97 + x.to % 8) ≡ true = grind (arith, nat_tests) in
     let t1 : leb (97 + x.to % 8) 104 ≡ true = grind (arith, nat_tests) in
     let t2 : leb 49 (49 + x.to / 8) ≡ true = grind (arith, nat_tests) in
     let t3 : leb (49 + x.to / 8) 56 ≡ true = grind (arith, nat_tests) in
     let at : 8 * ((49 + x.to / 8) - 49) + ((97 + x.to % 8) - 97) ≡ x.to = omega arith in
-    rw (t0, t1, t2, t3, at, promotion-spelled x.promotion p) refl
+    rw (t0, t1, t2, t3, at, promotion-denoted x.promotion p) refl
 
 -- ---- before the square
 
@@ -169,28 +169,28 @@ with_rank o y = (o, y.0, y.1)
 abbrev takes_text : Bool → End → List ℕ
 takes_text b e = when b (120 ∷ []) ++ end_text e
 
-spelled-takes : (text : List ℕ) (b : Bool) (x : End) → takes_at text ≡ Some (b, x) → (text ≡ takes_text b x) × IsEnd x
-spelled-takes [] b x e = absurd cc
-spelled-takes (c ∷ rest) b x e = by_test (eqb c 120) refl e
+denoted-takes : (text : List ℕ) (b : Bool) (x : End) → takes_at text ≡ Some (b, x) → (text ≡ takes_text b x) × IsEnd x
+denoted-takes [] b x e = absurd cc
+denoted-takes (c ∷ rest) b x e = by_test (eqb c 120) refl e
   where
     by_test : (t : Bool) → eqb c 120 ≡ t → cond t (option_map (with_takes true) (end_at rest))
         (option_map (with_takes false) (end_at (c ∷ rest))) ≡ Some (b, x) → (c ∷ rest ≡ takes_text b x) × IsEnd x
     by_test true t e =
         let m = mapped (with_takes true) (end_at rest) (b, x) e in
-        let s = spelled-end rest m.0 m.1 in
+        let s = denoted-end rest m.0 m.1 in
         let at : c ≡ 120 = grind (arith, nat_tests) in
         subst (λ (y : Bool × End). (c ∷ rest ≡ takes_text y.0 y.1) × IsEnd y.1) m.2
         (ap (λ k. k ∷ rest) at ∙ ap (λ r. 120 ∷ r) s.0, (s.1, s.2))
     by_test false t e =
         let m = mapped (with_takes false) (end_at (c ∷ rest)) (b, x) e in
-        let s = spelled-end (c ∷ rest) m.0 m.1 in
+        let s = denoted-end (c ∷ rest) m.0 m.1 in
         subst (λ (y : Bool × End). (c ∷ rest ≡ takes_text y.0 y.1) × IsEnd y.1) m.2 (s.0, (s.1, s.2))
 
-takes-spelled : (b : Bool) (x : End) → IsEnd x → takes_at (takes_text b x) ≡ Some (b, x)
-takes-spelled true x h = ap (option_map (with_takes true)) (end-spelled x h.0 h.1)
-takes-spelled false x h =
+takes-denoted : (b : Bool) (x : End) → IsEnd x → takes_at (takes_text b x) ≡ Some (b, x)
+takes-denoted true x h = ap (option_map (with_takes true)) (end-denoted x h.0 h.1)
+takes-denoted false x h =
     let other : eqb (97 + x.to % 8) 120 ≡ false = grind (arith, nat_tests) in
-    rw other (ap (option_map (with_takes false)) (end-spelled x h.0 h.1))
+    rw other (ap (option_map (with_takes false)) (end-denoted x h.0 h.1))
 
 abbrev tail_text : Option ℕ → Bool → End → List ℕ
 tail_text o b e = optional (λ r. (49 + r) ∷ []) o ++ takes_text b e
@@ -198,10 +198,10 @@ tail_text o b e = optional (λ r. (49 + r) ∷ []) o ++ takes_text b e
 abbrev IsRank : Option ℕ → Type 0
 IsRank o = IfSome o (λ r. r < 8)
 
-spelled-rank : (text : List ℕ) (x : Option ℕ × Bool × End) → rank_at text ≡ Some x
+denoted-rank : (text : List ℕ) (x : Option ℕ × Bool × End) → rank_at text ≡ Some x
     → (text ≡ tail_text x.0 x.1 x.2) × IsRank x.0 × IsEnd x.2
-spelled-rank [] x e = absurd cc
-spelled-rank (c ∷ rest) x e = by_test (is_rank_digit c) refl e
+denoted-rank [] x e = absurd cc
+denoted-rank (c ∷ rest) x e = by_test (is_rank_digit c) refl e
   where
     by_test : (t : Bool) → is_rank_digit c ≡ t
         → cond t (option_map (with_rank (Some (c - 49))) (takes_at rest))
@@ -209,7 +209,7 @@ spelled-rank (c ∷ rest) x e = by_test (is_rank_digit c) refl e
         → (c ∷ rest ≡ tail_text x.0 x.1 x.2) × IsRank x.0 × IsEnd x.2
     by_test true t e =
         let m = mapped (with_rank (Some (c - 49))) (takes_at rest) x e in
-        let s = spelled-takes rest m.0.0 m.0.1 m.1 in
+        let s = denoted-takes rest m.0.0 m.0.1 m.1 in
         let low : 49 ≤ c = grind (arith, nat_tests) in
         let high : c ≤ 56 = grind (arith, nat_tests) in
         let at : c ≡ 49 + (c - 49) = omega arith in
@@ -217,21 +217,21 @@ spelled-rank (c ∷ rest) x e = by_test (is_rank_digit c) refl e
         (ap (λ k. k ∷ rest) at ∙ ap (λ r. (49 + (c - 49)) ∷ r) s.0, omega arith, s.1)
     by_test false t e =
         let m = mapped (with_rank None) (takes_at (c ∷ rest)) x e in
-        let s = spelled-takes (c ∷ rest) m.0.0 m.0.1 m.1 in
+        let s = denoted-takes (c ∷ rest) m.0.0 m.0.1 m.1 in
         subst (λ (y : Option ℕ × Bool × End). (c ∷ rest ≡ tail_text y.0 y.1 y.2) × IsRank y.0 × IsEnd y.2) m.2
         (s.0, tt, s.1)
 
-rank-spelled : (o : Option ℕ) (b : Bool) (x : End) → IsRank o → IsEnd x → rank_at (tail_text o b x) ≡ Some (o, b, x)
-rank-spelled (Some r) b x k h =
+rank-denoted : (o : Option ℕ) (b : Bool) (x : End) → IsRank o → IsEnd x → rank_at (tail_text o b x) ≡ Some (o, b, x)
+rank-denoted (Some r) b x k h =
     let t0 : leb 49 (49 + r) ≡ true = grind (arith, nat_tests) in
     let t1 : leb (49 + r) 56 ≡ true = grind (arith, nat_tests) in
     let at : (49 + r) - 49 ≡ r = omega arith in
-    rw (t0, t1, at, takes-spelled b x h) refl
-rank-spelled None true x k h = ap (option_map (with_rank None)) (takes-spelled true x h)
-rank-spelled None false x k h =
+    rw (t0, t1, at, takes-denoted b x h) refl
+rank-denoted None true x k h = ap (option_map (with_rank None)) (takes-denoted true x h)
+rank-denoted None false x k h =
     let t1 : leb (97 + x.to % 8) 56 ≡ false = grind (arith, nat_tests) in
     let t0 : leb 49 (97 + x.to % 8) ≡ true = grind (arith, nat_tests) in
-    rw (t0, t1) (ap (option_map (with_rank None)) (takes-spelled false x h))
+    rw (t0, t1) (ap (option_map (with_rank None)) (takes-denoted false x h))
 
 -- ---- the file
 
@@ -245,9 +245,9 @@ record IsBody (letter : Option Kind) (text : List ℕ) (q : Parts) : Type 0 wher
   rank_is : IsRank q.rank
   end_is : IsEnd q.end
 
-spelled-file : (letter : Option Kind) (text : List ℕ) (q : Parts) → file_at letter text ≡ Some q → IsBody letter text q
-spelled-file letter [] q e = absurd cc
-spelled-file letter (c ∷ rest) q e = by_case
+denoted-file : (letter : Option Kind) (text : List ℕ) (q : Parts) → file_at letter text ≡ Some q → IsBody letter text q
+denoted-file letter [] q e = absurd cc
+denoted-file letter (c ∷ rest) q e = by_case
     (either (option_map (with_parts letter None) (rank_at (c ∷ rest)))
     (cond (is_file_letter c) (option_map (with_parts letter (Some (c - 97))) (rank_at rest)) None) q e)
   where
@@ -256,7 +256,7 @@ spelled-file letter (c ∷ rest) q e = by_case
         → IsBody letter (c ∷ rest) q
     by_case (inl h) =
         let m = mapped (with_parts letter None) (rank_at (c ∷ rest)) q h in
-        let s = spelled-rank (c ∷ rest) m.0 m.1 in
+        let s = denoted-rank (c ∷ rest) m.0 m.1 in
         subst (IsBody letter (c ∷ rest)) m.2
         (record { letter_is = refl; text_is = s.0; file_is = tt; rank_is = s.1; end_is = s.2 })
     by_case (inr h) =
@@ -265,7 +265,7 @@ spelled-file letter (c ∷ rest) q e = by_case
         let high : c ≤ 104 = grind (arith, nat_tests, k.0) in
         let at : c ≡ 97 + (c - 97) = omega arith in
         let m = mapped (with_parts letter (Some (c - 97))) (rank_at rest) q k.1 in
-        let s = spelled-rank rest m.0 m.1 in
+        let s = denoted-rank rest m.0 m.1 in
         subst (IsBody letter (c ∷ rest)) m.2
         (record {
           letter_is = refl;
@@ -326,20 +326,20 @@ no_rank f o b x h k = by_parts o b k
         (λ (q : Option Promotion). record { to = 8 * ((49 + r) - 49) + ((97 + f) - 97); promotion = q })
         p))) (not_promoted x))
 
-file-spelled : (letter : Option Kind) (file o : Option ℕ) (b : Bool) (x : End) → IfSome file (λ f. f < 8) → IsRank o
+file-denoted : (letter : Option Kind) (file o : Option ℕ) (b : Bool) (x : End) → IfSome file (λ f. f < 8) → IsRank o
     → IsEnd x → file_at letter (optional (λ f. (97 + f) ∷ []) file ++ tail_text o b x)
     ≡ Some (record { letter = letter; file = file; rank = o; takes = b; end = x })
-file-spelled letter None (Some r) b x h k e = rw (rank-spelled (Some r) b x k e) refl
-file-spelled letter None None true x h k e = rw (rank-spelled None true x k e) refl
-file-spelled letter None None false x h k e = rw (rank-spelled None false x k e) refl
-file-spelled letter (Some f) o b x h k e =
+file-denoted letter None (Some r) b x h k e = rw (rank-denoted (Some r) b x k e) refl
+file-denoted letter None None true x h k e = rw (rank-denoted None true x k e) refl
+file-denoted letter None None false x h k e = rw (rank-denoted None false x k e) refl
+file-denoted letter (Some f) o b x h k e =
     let t3 : leb 97 (97 + f) ≡ true = grind (arith, nat_tests) in
     let t4 : leb (97 + f) 104 ≡ true = grind (arith, nat_tests) in
     let at : (97 + f) - 97 ≡ f = omega arith in
     ap (λ r. or_else (option_map (with_parts letter None) r)
     (cond (is_file_letter (97 + f)) (option_map (with_parts letter (Some ((97 + f) - 97)))
     (rank_at (tail_text o b x))) None)) (no_rank f o b x h k)
-    ∙ rw (t3, t4, at) (ap (option_map (with_parts letter (Some f))) (rank-spelled o b x k e))
+    ∙ rw (t3, t4, at) (ap (option_map (with_parts letter (Some f))) (rank-denoted o b x k e))
 
 -- ---- the letter
 
@@ -382,17 +382,17 @@ parts_of letter text q h b = (
       ∙ ap (λ r. optional kind_text q.letter ++ r) b.text_is,
 )
 
-pub spelled-parts : (text : List ℕ) (q : Parts) → parts_at text ≡ Some q → AreParts q × (text ≡ parts_text q)
-spelled-parts [] q e = absurd cc
-spelled-parts (c ∷ rest) q e = by_letter (kind_from lettered_kinds c) refl e
+pub denoted-parts : (text : List ℕ) (q : Parts) → parts_at text ≡ Some q → AreParts q × (text ≡ parts_text q)
+denoted-parts [] q e = absurd cc
+denoted-parts (c ∷ rest) q e = by_letter (kind_from lettered_kinds c) refl e
   where
     by_letter : (o : Option Kind) → kind_from lettered_kinds c ≡ o → at_letter o c rest ≡ Some q
         → AreParts q × (c ∷ rest ≡ parts_text q)
-    by_letter None is e = parts_of None (c ∷ rest) q tt (spelled-file None (c ∷ rest) q e)
+    by_letter None is e = parts_of None (c ∷ rest) q tt (denoted-file None (c ∷ rest) q e)
     by_letter (Some k) is e =
         let at = found lettered_kinds c k is in
         let p = parts_of (Some k) rest q (lettered_is k (ap (kind_from lettered_kinds) at ∙ is))
-        (spelled-file (Some k) rest q e) in
+        (denoted-file (Some k) rest q e) in
         (p.0, ap (λ x. x ∷ rest) (sym at) ∙ p.1)
 
 parts-body : (file o : Option ℕ) (b : Bool) (x : End) → IfSome file (λ f. f < 8) → IsRank o
@@ -406,11 +406,11 @@ parts-body None None true x h k = refl
 parts-body None None false x h k = ap (λ l. at_letter l (97 + x.to % 8)
     ((49 + x.to / 8) ∷ optional promotion_text x.promotion)) (no_lettered (97 + x.to % 8) (inr (omega arith)))
 
-pub parts-spelled : (q : Parts) → AreParts q → parts_at (parts_text q) ≡ Some q
-parts-spelled q h = by_letter q.letter h.letter_is
+pub parts-denoted : (q : Parts) → AreParts q → parts_at (parts_text q) ≡ Some q
+parts-denoted q h = by_letter q.letter h.letter_is
   where
     body : (letter : Option Kind) → file_at letter (body_text q) ≡ Some (record q { letter = letter })
-    body letter = file-spelled letter q.file q.rank q.takes q.end h.file_is h.rank_is (h.to_is, h.promotion_is)
+    body letter = file-denoted letter q.file q.rank q.takes q.end h.file_is h.rank_is (h.to_is, h.promotion_is)
 
     by_letter : (o : Option Kind) → IfSome o HasLetter
         → parts_at (optional kind_text o ++ body_text q) ≡ Some (record q { letter = o })

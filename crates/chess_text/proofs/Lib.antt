@@ -1,8 +1,8 @@
-pub mod SpelledMoves
+pub mod DenotedMoves
 pub mod Grammar
 pub mod Lists
 pub mod SameKinds
-pub mod Spellings
+pub mod Denotations
 pub mod Shaped
 pub mod Castlings
 pub mod FormFacts
@@ -20,7 +20,7 @@ pub mod Words
 pub mod SanLaw
 pub mod ShownLaw
 pub mod Origins
-mod SpelledStart
+mod DenotedStart
 pub mod Starts
 mod Rivals
 mod Promoting

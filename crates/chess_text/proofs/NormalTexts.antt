@@ -21,10 +21,10 @@ use Rattle.chess_base.specs.laws.Normal.{normal_says_castling, normal_castling, 
 use Rattle.chess_base.proofs.NormalKept.{normal_kept as rules_kept}
 use Rattle.chess_text.specs.declared.described.Described.{Described}
 use Rattle.chess_text.specs.declared.reading.Reading.TheVariants.{NotAMove}
-use Rattle.chess_text.specs.Moves.{described, captures, passes, shape, spells, spells_described, one_of, reading}
+use Rattle.chess_text.specs.Moves.{described, captures, passes, shape, denotes, denotes_described, one_of, reading}
 use Rattle.chess_text.specs.Parts.{when}
 use Rattle.chess_text.specs.San.{is_rival, rival_starts, check_mark, san, unmarked_san, shown_as, shown_move}
-use Rattle.chess_text.specs.laws.Normal.{NormalIsKept, normal_moves, normal_described, normal_spells, normal_reading, normal_is_rival, normal_rival_starts, normal_check_mark, normal_san}
+use Rattle.chess_text.specs.laws.Normal.{NormalIsKept, normal_moves, normal_described, normal_denotes, normal_reading, normal_is_rival, normal_rival_starts, normal_check_mark, normal_san}
 
 pub moves_kept : (p : Setup) → p.variant ≡ Normal → moves p ≡ normal_moves p
 unfolding moves normal_moves
@@ -76,16 +76,16 @@ described_kept : (p : Setup) → p.variant ≡ Normal → (m : Move) → describ
 unfolding described normal_described
 described_kept p e m = ap (with_castles p m (man_at p.men m.from)) (castling_kept p e m)
 
-spells_kept : (p : Setup) → p.variant ≡ Normal → (text : List ℕ) (m : Move) → spells p text m ≡ normal_spells p text m
-unfolding spells normal_spells
-spells_kept p e text m = ap (passes (spells_described text)) (described_kept p e m)
+denotes_kept : (p : Setup) → p.variant ≡ Normal → (text : List ℕ) (m : Move) → denotes p text m ≡ normal_denotes p text m
+unfolding denotes normal_denotes
+denotes_kept p e text m = ap (passes (denotes_described text)) (described_kept p e m)
 
 reading_kept : (p : Setup) → p.variant ≡ Normal → (text : List ℕ) → reading p text ≡ normal_reading p text
 unfolding reading normal_reading
 reading_kept p e text =
     ap (λ (test : Move → Bool). if shape text then one_of (filter test (moves p)) else NotAMove)
-    (fun_ext (spells_kept p e text))
-    ∙ ap (λ ms. if shape text then one_of (filter (λ m. normal_spells p text m) ms) else NotAMove) (moves_kept p e)
+    (fun_ext (denotes_kept p e text))
+    ∙ ap (λ ms. if shape text then one_of (filter (λ m. normal_denotes p text m) ms) else NotAMove) (moves_kept p e)
 
 -- ---- written
 

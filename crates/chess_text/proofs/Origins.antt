@@ -26,11 +26,11 @@ use Rattle.chess_text.specs.declared.reading.Reading.{Reading}
 use Rattle.chess_text.specs.declared.reading.Reading.TheVariants as reads
 use Rattle.chess_text.specs.Moves.{one_of, described, passes}
 use Rattle.chess_text.specs.ties.Fitting.{names, admits, is_by_squares, is_by_letter, is_straight, is_by_file, parts_fit}
-use Rattle.chess_text.specs.ties.Forms.{same_side, form_fits, is_spelled, end_square, spelled_with, with_move, with_moves, named_square, IsStart}
+use Rattle.chess_text.specs.ties.Forms.{same_side, form_fits, is_denoted, end_square, denoted_with, with_move, with_moves, named_square, IsStart}
 use Rattle.chess_text.proofs.Alone.{castled}
 use Rattle.chess_text.proofs.AllMoves.{none-kept}
 use Rattle.chess_text.proofs.Legal.{described_by, castling_says, legal_move, IsMove, told_of, described_is}
-use Rattle.chess_text.proofs.SpelledMoves.{spelled_ends, all_spelled}
+use Rattle.chess_text.proofs.DenotedMoves.{denoted_ends, all_denoted}
 
 -- the piece of a legal move, as a test
 pub man_is : (p : Setup) (m : Move) (h : IsMove p m) (k : Kind) → same_kind k h.man ≡ true
@@ -43,9 +43,9 @@ man_is p m h k e = rw h.at_from (by_colour p.side e)
     by_colour Black e = e
 
 -- what is described of a legal move that is denoted
-pub fits_told : (p : Setup) (q : Parts) (m : Move) (h : IsMove p m) → is_spelled (Piece q) p m ≡ true
+pub fits_told : (p : Setup) (q : Parts) (m : Move) (h : IsMove p m) → is_denoted (Piece q) p m ≡ true
     → parts_fit q (told_of p m h.man) ≡ true
-unfolding is_spelled
+unfolding is_denoted
 fits_told p q m h e = rw (described_is p m h) at e
 
 -- ---- by the form
@@ -115,10 +115,10 @@ no_letter q d at h =
 
 pub by_letter : (p : Setup) (q : Parts) (k : Kind) (w : ℕ) → q.letter ≡ Some k → HasOrigins p k q.end.to w
     → IsStart p (Piece q) w
-by_letter p q k w at origins = λ m spelled legal.
+by_letter p q k w at origins = λ m denoted legal.
     let h = legal_move p m legal in
-    origins m legal (man_is p m h k (letter_fits q (told_of p m h.man) k at (fits_told p q m h spelled)))
-    (spelled_ends (Piece q) p m spelled)
+    origins m legal (man_is p m h k (letter_fits q (told_of p m h.man) k at (fits_told p q m h denoted)))
+    (denoted_ends (Piece q) p m denoted)
 
 some_is : (f r : Option ℕ) (s t : ℕ) → named_square f r ≡ Some s → named_square f r ≡ Some t → s ≡ t
 some_is f r s t e g = cc
@@ -134,10 +134,10 @@ file_there (Some f) r s e n A = absurd cc
 
 pub by_squares : (p : Setup) (q : Parts) (s w : ℕ) → q.letter ≡ None → named_square q.file q.rank ≡ Some s
     → ((k : ℕ) → contains w k ≡ (k == s)) → IsStart p (Piece q) w
-by_squares p q s w at square single = λ m spelled legal.
+by_squares p q s w at square single = λ m denoted legal.
     let h = legal_move p m legal in
     let here : m.from ≡ s = from_square m.from h.from_in (told_of p m h.man) refl
-    (no_letter q (told_of p m h.man) at (fits_told p q m h spelled)) in
+    (no_letter q (told_of p m h.man) at (fits_told p q m h denoted)) in
     single m.from ∙ eq-eqb m.from s here
   where
     from_square : (a : ℕ) → a < 64 → (d : Described) → d.from ≡ a → NoLetter q d → a ≡ s
@@ -160,41 +160,41 @@ pawn_named q d low at square told = by_form (no_letter q d at told)
 
 pub by_pawn : (p : Setup) (q : Parts) (w : ℕ) → q.letter ≡ None → named_square q.file q.rank ≡ None
     → HasOrigins p Pawn q.end.to w → IsStart p (Piece q) w
-by_pawn p q w at square origins = λ m spelled legal.
+by_pawn p q w at square origins = λ m denoted legal.
     let h = legal_move p m legal in
     origins m legal (man_is p m h Pawn
-    (pawn_named q (told_of p m h.man) h.from_in at square (fits_told p q m h spelled)))
-    (spelled_ends (Piece q) p m spelled)
+    (pawn_named q (told_of p m h.man) h.from_in at square (fits_told p q m h denoted)))
+    (denoted_ends (Piece q) p m denoted)
 
 king_by : (v : CastlingSide) (p : Setup) (m : Move) (o : Option Man)
     → passes (form_fits (Castling v)) (described_by p m o) ≡ true → is_man p.side King (man_at p.men m.from) ≡ true
 king_by v p m None h = cc
 king_by v p m (Some x) h = let c = castled (same_side v) _ h in (castling_says p m c.0 c.1).0
 
-king_spelled : (v : CastlingSide) (p : Setup) (m : Move) → is_spelled (Castling v) p m ≡ true
+king_denoted : (v : CastlingSide) (p : Setup) (m : Move) → is_denoted (Castling v) p m ≡ true
     → is_man p.side King (man_at p.men m.from) ≡ true
-unfolding is_spelled described
-king_spelled v p m h = king_by v p m (man_at p.men m.from) h
+unfolding is_denoted described
+king_denoted v p m h = king_by v p m (man_at p.men m.from) h
 
 pub by_castling : (p : Setup) (v : CastlingSide) (to w : ℕ) → to ≡ end_square (Castling v) p → HasOrigins p King to w
     → IsStart p (Castling v) w
-by_castling p v to w there origins = λ m spelled legal. origins m legal (king_spelled v p m spelled)
-    (spelled_ends (Castling v) p m spelled ∙ sym there)
+by_castling p v to w there origins = λ m denoted legal. origins m legal (king_denoted v p m denoted)
+    (denoted_ends (Castling v) p m denoted ∙ sym there)
 
 -- ---- the list over a set
 
-pub spelled_from : (form : Form) (p : Setup) (w : ℕ) → IsStart p form w
-    → flat_map (λ a. spelled_with form p a (end_square form p) promotions) (members w)
-    ≡ filter (λ m. is_spelled form p m)
+pub denoted_from : (form : Form) (p : Setup) (w : ℕ) → IsStart p form w
+    → flat_map (λ a. denoted_with form p a (end_square form p) promotions) (members w)
+    ≡ filter (λ m. is_denoted form p m)
     (moves p)
-spelled_from form p w start = flat_map_members _ w (λ k low out. none_there k out) ∙ all_spelled form p
+denoted_from form p w start = flat_map_members _ w (λ k low out. none_there k out) ∙ all_denoted form p
   where
-    none_there : (k : ℕ) → contains w k ≡ false → spelled_with form p k (end_square form p) promotions ≡ []
+    none_there : (k : ℕ) → contains w k ≡ false → denoted_with form p k (end_square form p) promotions ≡ []
     none_there k out =
-        none-kept (λ m. is_spelled form p m && is_legal p m) k (end_square form p)
+        none-kept (λ m. is_denoted form p m && is_legal p m) k (end_square form p)
         (λ x. false_from_ne_true
-        (is_spelled form p (move_of k (end_square form p) x) && is_legal p (move_of k (end_square form p) x))
-        (λ e. let both = and_parts (is_spelled form p (move_of k (end_square form p) x))
+        (is_denoted form p (move_of k (end_square form p) x) && is_legal p (move_of k (end_square form p) x))
+        (λ e. let both = and_parts (is_denoted form p (move_of k (end_square form p) x))
         (is_legal p (move_of k (end_square form p) x)) e in
         let there : contains w k ≡ true = start (move_of k (end_square form p) x) both.0 both.1 in
         cc))

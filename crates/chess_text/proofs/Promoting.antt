@@ -11,38 +11,38 @@ use Rattle.chess_moves.specs.ties.Candidates.{moves_with, moves_between}
 use Rattle.chess_moves.specs.Promoting.{would_promote}
 use Rattle.chess_moves.proofs.Parts as parts
 use Rattle.chess_text.specs.declared.form.Form.{Form}
-use Rattle.chess_text.specs.ties.Forms.{is_spelled, spelled_with}
+use Rattle.chess_text.specs.ties.Forms.{is_denoted, denoted_with}
 
 both : {A : Type 0} (t q : A → Bool) (xs : List A) → filter (λ x. t x && q x) xs ≡ filter t (filter q xs)
 both t q [] = refl
 both t q (x ∷ xs) =
     elim (cases_Bool (q x)) [
       | inl on ↦ elim (cases_Bool (t x)) [
-        | inl spelled ↦ rw (on, spelled) (ap (λ ys. x ∷ ys) (both t q xs))
+        | inl denoted ↦ rw (on, denoted) (ap (λ ys. x ∷ ys) (both t q xs))
         | inr other ↦ rw (on, other) (both t q xs)
       ]
       | inr off ↦ elim (cases_Bool (t x)) [
-        | inl spelled ↦ rw (off, spelled) (both t q xs)
+        | inl denoted ↦ rw (off, denoted) (both t q xs)
         | inr other ↦ rw (off, other) (both t q xs)
       ]
     ]
 
 -- the legal ones, filtered
 of_legal : (form : Form) (p : Setup) (a b : ℕ) (ks : List (Option Kind))
-    → spelled_with form p a b ks ≡ filter (λ m. is_spelled form p m) (moves_with p a b ks)
-of_legal form p a b ks = both (λ m. is_spelled form p m) (λ m. is_legal p m) (map (move_of a b) ks)
+    → denoted_with form p a b ks ≡ filter (λ m. is_denoted form p m) (moves_with p a b ks)
+of_legal form p a b ks = both (λ m. is_denoted form p m) (λ m. is_legal p m) (map (move_of a b) ks)
 
 pub all_promote : (form : Form) (p : Setup) (a b : ℕ) → would_promote p a b ≡ true
-    → spelled_with form p a b (Some Queen ∷ Some Rook ∷ Some Bishop ∷ Some Knight ∷ []) ≡ spelled_with form p a b
+    → denoted_with form p a b (Some Queen ∷ Some Rook ∷ Some Bishop ∷ Some Knight ∷ []) ≡ denoted_with form p a b
     promotions
 unfolding moves_between
 all_promote form p a b e =
-    of_legal form p a b parts.promoting ∙ ap (filter (λ m. is_spelled form p m)) (sym (parts.all_promote p a b e))
+    of_legal form p a b parts.promoting ∙ ap (filter (λ m. is_denoted form p m)) (sym (parts.all_promote p a b e))
     ∙ sym (of_legal form p a b promotions)
 
 pub none_promotes : (form : Form) (p : Setup) (a b : ℕ) → would_promote p a b ≡ false
-    → spelled_with form p a b (None ∷ []) ≡ spelled_with form p a b promotions
+    → denoted_with form p a b (None ∷ []) ≡ denoted_with form p a b promotions
 unfolding moves_between
 none_promotes form p a b n =
-    of_legal form p a b (None ∷ []) ∙ ap (filter (λ m. is_spelled form p m)) (sym (parts.none_promotes p a b n))
+    of_legal form p a b (None ∷ []) ∙ ap (filter (λ m. is_denoted form p m)) (sym (parts.none_promotes p a b n))
     ∙ sym (of_legal form p a b promotions)

@@ -28,7 +28,7 @@ use Rattle.chess_base.proofs.MenFacts.{is_none-None}
 use Rattle.chess_base.proofs.StaysSound.{one_king_of}
 use Rattle.chess_moves.proofs.SomeMember.{any-filter}
 use Rattle.chess_text.specs.declared.writing.Disambiguation.{Disambiguation}
-use Rattle.chess_text.specs.laws.Laws.{SpellsAlone, is_san_byte, begins_with_letter, AreParts, HasLetter, CanPromote}
+use Rattle.chess_text.specs.laws.Laws.{DenotesAlone, is_san_byte, begins_with_letter, AreParts, HasLetter, CanPromote}
 use Rattle.chess_text.specs.Parts.{unmarked}
 use Rattle.chess_text.specs.ties.Fitting.{parts_text}
 use Rattle.chess_text.specs.Moves.{captures, passes, shape, reading}
@@ -36,7 +36,7 @@ use Rattle.chess_text.specs.ties.Fitting.{admits, has_equals, promotes_so, is_fo
 use Rattle.chess_text.specs.ties.Forms.{same_side}
 use Rattle.chess_text.specs.San.{castling_text, is_rival, rival_starts, piece_text, unmarked_san, check_mark, san}
 use Rattle.chess_text.specs.ties.SanParts.{disambiguate, if_written, pawn_parts, lettered_parts, piece_parts}
-use Rattle.chess_text.proofs.Alone.{read_alone, spelled_parts, shape_parts, spelled_castling, shape_castling, spells_move, move_is, written, promotes-self, promotes-same}
+use Rattle.chess_text.proofs.Alone.{read_alone, denoted_parts, shape_parts, denoted_castling, shape_castling, denotes_move, move_is, written, promotes-self, promotes-same}
 use Rattle.chess_text.proofs.SameKinds.{same_kind-self, same_kind-true}
 use Rattle.chess_text.proofs.AllMoves.{any-move}
 use Rattle.chess_text.proofs.Lists.{any-map}
@@ -509,7 +509,7 @@ san_text p m h =
 -- what the laws say of a text
 pub record Law (p : Setup) (m : Move) (text : List ℕ) : Type 0 where
   pub has_shape : shape text ≡ true
-  pub alone : SpellsAlone p text m
+  pub alone : DenotesAlone p text m
 
 pub castling_law : (p : Setup) (m : Move) (text : List ℕ) (w : CastlingSide) → IsSound p → IsMove p m
     → castling p m ≡ Some w → unmarked text ≡ castling_text w → Law p m text
@@ -518,13 +518,13 @@ castling_law p m text w sound h e bare =
     record {
       has_shape = shape_castling text w is;
       alone = (
-        spells_move p text m h ∙ spelled_castling text w (told_of p m h.man) is ∙ ap (passes (same_side w)) e
+        denotes_move p text m h ∙ denoted_castling text w (told_of p m h.man) is ∙ ap (passes (same_side w)) e
             ∙ same_side-self w,
         λ n legal s.
             let g = legal_move p n legal in
             let to =
             castles_so w (castling p n)
-            (sym (spells_move p text n g ∙ spelled_castling text w (told_of p n g.man) is) ∙ s) in
+            (sym (denotes_move p text n g ∙ denoted_castling text w (told_of p n g.man) is) ∙ s) in
             same_castling p m n w sound h g e to,
       );
     }
@@ -534,10 +534,10 @@ piece_law : (p : Setup) (m : Move) (text : List ℕ) (q : Parts) (h : IsMove p m
 piece_law p m text q h parts bare = record {
   has_shape = shape_parts text q bare parts.are parts.form;
   alone = (
-    spells_move p text m h ∙ spelled_parts text q (told_of p m h.man) bare parts.are ∙ parts.fits_it,
+    denotes_move p text m h ∙ denoted_parts text q (told_of p m h.man) bare parts.are ∙ parts.fits_it,
     λ n legal s.
         let g = legal_move p n legal in
-        parts.alone n legal g (sym (spells_move p text n g ∙ spelled_parts text q (told_of p n g.man) bare parts.are)
+        parts.alone n legal g (sym (denotes_move p text n g ∙ denoted_parts text q (told_of p n g.man) bare parts.are)
         ∙ s),
   );
 }
@@ -565,7 +565,7 @@ law p m sound legal =
     let h = legal_move p m legal in
     law_by p m (san p m) sound h (castling p m) refl (san_text p m h)
 
-pub san_alone : (p : Setup) (m : Move) → IsSound p → IsTrue (is_legal p m) → SpellsAlone p (san p m) m
+pub san_alone : (p : Setup) (m : Move) → IsSound p → IsTrue (is_legal p m) → DenotesAlone p (san p m) m
 san_alone p m sound legal = (law p m sound legal).0.alone
 
 pub san_shape : (p : Setup) (m : Move) → IsSound p → IsTrue (is_legal p m) → IsTrue (shape (san p m))

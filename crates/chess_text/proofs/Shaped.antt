@@ -14,14 +14,14 @@ use Rattle.chess_text.specs.declared.described.Described.{Described}
 use Rattle.chess_text.specs.declared.parts.Parts.{Parts}
 use Rattle.chess_text.specs.declared.parts.Promotion.{Promotion}
 use Rattle.chess_text.specs.Parts.{unmarked}
-use Rattle.chess_text.specs.Moves.{is_castling_text, passes, spells_described, all_described, shape}
+use Rattle.chess_text.specs.Moves.{is_castling_text, passes, denotes_described, all_described, shape}
 use Rattle.chess_text.specs.ties.Fitting.{parts_text, admits, promotes_so, is_by_squares, is_by_letter, is_straight, is_by_file, parts_fit, is_form, has_parts, has_form, fits_text}
 use Rattle.chess_text.specs.ties.Reader.{parts_at}
-use Rattle.chess_text.specs.laws.Laws.{CanPromote, AreParts, IsSpelled}
-use Rattle.chess_text.proofs.Grammar.{spelled-parts, parts-spelled}
+use Rattle.chess_text.specs.laws.Laws.{CanPromote, AreParts, IsDenoted}
+use Rattle.chess_text.proofs.Grammar.{denoted-parts, parts-denoted}
 use Rattle.chess_text.proofs.SameKinds.{same_kind-self}
 use Rattle.chess_text.proofs.Lists.{IsIn, Each, here, later, in-flat_map, in-one, in-below, each-nil, each-cons, each-flat_map, each-one, each-below}
-use Rattle.chess_text.proofs.Spellings.{of, fit_letter, fit_straight, fit_file, by_letter_fits, straight_fits, file_fits, castled, of_parts, bool_same, spelled_so, spells_is}
+use Rattle.chess_text.proofs.Denotations.{of, fit_letter, fit_straight, fit_file, by_letter_fits, straight_fits, file_fits, castled, of_parts, bool_same, denoted_so, denotes_is}
 
 -- ---- all descriptions
 
@@ -274,7 +274,7 @@ unfolding has_form has_parts
 parts_have text q are is form =
     or_right (is_castling_text text KingSide || is_castling_text text QueenSide)
     (passes is_form (parts_at (unmarked text)))
-    (ap (passes is_form) (ap parts_at is ∙ parts-spelled q are) ∙ form)
+    (ap (passes is_form) (ap parts_at is ∙ parts-denoted q are) ∙ form)
 
 form_so : (text : List ℕ) (d : Described) → fits_text text d ≡ true → has_form text ≡ true
 unfolding fits_text has_parts
@@ -283,20 +283,20 @@ form_so text d e =
       | inl h ↦ let c = castled (is_castling_text text) d.castles h in castling_has text c.0 c.2
       | inr h ↦
           let of = of_parts (λ r. parts_fit r d) (parts_at (unmarked text)) h in
-          let is = spelled-parts (unmarked text) of.0 of.1 in
+          let is = denoted-parts (unmarked text) of.0 of.1 in
           parts_have text of.0 is.0 is.1 (fit_form of.0 d of.2)
     ]
 
 has_so : (text : List ℕ) → shape text ≡ true → has_form text ≡ true
 unfolding shape
 has_so text e =
-    let f = each_described (λ d. spells_described text d) e in
-    form_so text f.0 (sym (spells_is text f.0 f.1.from_in f.1.to_in f.1.becomes) ∙ f.2)
+    let f = each_described (λ d. denotes_described text d) e in
+    form_so text f.0 (sym (denotes_is text f.0 f.1.from_in f.1.to_in f.1.becomes) ∙ f.2)
 
-shaped_by : (text : List ℕ) (d : Described) → IsOnBoard d → IsSpelled text d → shape text ≡ true
+shaped_by : (text : List ℕ) (d : Described) → IsOnBoard d → IsDenoted text d → shape text ≡ true
 unfolding shape
-shaped_by text d on_board spelled =
-    described_in d on_board (λ e. spells_described text e) (spelled_so text d spelled)
+shaped_by text d on_board denoted =
+    described_in d on_board (λ e. denotes_described text e) (denoted_so text d denoted)
 
 abbrev castling_to : CastlingSide → Described
 castling_to w = record { man = King; from = 0; to = 0; promotion = None; captures = false; castles = Some w }
@@ -322,7 +322,7 @@ shape_so text e =
       ]
       | inr h ↦
           let of = of_parts is_form (parts_at (unmarked text)) h in
-          let is = spelled-parts (unmarked text) of.0 of.1 in
+          let is = denoted-parts (unmarked text) of.0 of.1 in
           parts_shape text of.0 is.0 is.1 of.2
     ]
 

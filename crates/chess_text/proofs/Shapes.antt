@@ -4,7 +4,7 @@ use Rattle.std.specs.List.{filter}
 use Rattle.chess_base.specs.declared.man.Move.{Move}
 use Rattle.chess_base.specs.declared.setup.Setup.{Setup}
 use Rattle.chess_base.specs.MoveList.{moves}
-use Rattle.chess_text.specs.Moves.{one_of, reading, has_shape, shape, spells}
+use Rattle.chess_text.specs.Moves.{one_of, reading, has_shape, shape, denotes}
 use Rattle.chess_text.specs.declared.reading.Reading.TheVariants as reads
 
 one_has_shape : (ms : List Move) → has_shape (one_of ms) ≡ true
@@ -18,4 +18,4 @@ by_shape false ms = refl
 
 pub read_shape : (p : Setup) (text : List ℕ) → has_shape (reading p text) ≡ shape text
 unfolding reading
-read_shape p text = by_shape (shape text) (filter (λ m. spells p text m) (moves p))
+read_shape p text = by_shape (shape text) (filter (λ m. denotes p text m) (moves p))

@@ -11,7 +11,7 @@ use Rattle.chess_base.specs.Castling.{castling}
 use Rattle.chess_base.specs.Moves.{is_legal}
 use Rattle.chess_base.specs.Sound.{IsSound}
 use Rattle.chess_text.specs.declared.reading.Reading.TheVariants as reads
-use Rattle.chess_text.specs.laws.Laws.{SpellsAlone}
+use Rattle.chess_text.specs.laws.Laws.{DenotesAlone}
 use Rattle.chess_text.specs.Moves.{shape, reading}
 use Rattle.chess_text.specs.San.{castling_text, shown_as, shown_move}
 use Rattle.chess_text.proofs.Alone.{read_alone}
@@ -35,7 +35,7 @@ law : (p : Setup) (m : Move) → IsSound p → IsTrue (is_legal p m) → Law p m
 unfolding shown_move
 law p m sound legal = law_by p m sound legal p.variant (castling p m) refl
 
-pub shown_alone : (p : Setup) (m : Move) → IsSound p → IsTrue (is_legal p m) → SpellsAlone p (shown_move p m) m
+pub shown_alone : (p : Setup) (m : Move) → IsSound p → IsTrue (is_legal p m) → DenotesAlone p (shown_move p m) m
 shown_alone p m sound legal = (law p m sound legal).alone
 
 pub shown_shape : (p : Setup) (m : Move) → IsSound p → IsTrue (is_legal p m) → IsTrue (shape (shown_move p m))

@@ -21,11 +21,11 @@ use Rattle.chess_text.specs.declared.parts.Promotion.{Promotion}
 use Rattle.chess_text.specs.declared.reading.Reading.{Reading}
 use Rattle.chess_text.specs.Moves.{one_of}
 use Rattle.chess_text.specs.ties.Fitting.{promotes_so, is_by_squares, is_by_letter, is_straight, is_by_file, parts_fit}
-use Rattle.chess_text.specs.ties.Forms.{is_spelled, spelled_with, named_square, kind_by, one_kind, is_spelled_of, spelled_start, IsStart}
+use Rattle.chess_text.specs.ties.Forms.{is_denoted, denoted_with, named_square, kind_by, one_kind, is_denoted_of, denoted_start, IsStart}
 use Rattle.chess_text.proofs.Legal.{legal_move, MovesAs, told_of}
-use Rattle.chess_text.proofs.Origins.{man_is, fits_told, letter_fits, pawn_named, spelled_from}
-use Rattle.chess_text.proofs.SpelledMoves.{spelled_ends}
-use Rattle.chess_text.proofs.SpelledStart.{spelled_of}
+use Rattle.chess_text.proofs.Origins.{man_is, fits_told, letter_fits, pawn_named, denoted_from}
+use Rattle.chess_text.proofs.DenotedMoves.{denoted_ends}
+use Rattle.chess_text.proofs.DenotedStart.{denoted_of}
 
 -- ---- no promotion
 
@@ -59,17 +59,17 @@ abbrev OfKind : Setup → Kind → Move → Type 0
 OfKind p k m = (is_man p.side k (man_at p.men m.from) ≡ true) × (m.promotion ≡ None)
 
 lettered : (p : Setup) (q : Parts) (k : Kind) (m : Move) → q.letter ≡ Some k → same_kind Pawn k ≡ false
-    → is_spelled (Piece q) p m ≡ true → is_legal p m ≡ true → OfKind p k m
-lettered p q k m at other spelled legal =
+    → is_denoted (Piece q) p m ≡ true → is_legal p m ≡ true → OfKind p k m
+lettered p q k m at other denoted legal =
     let h = legal_move p m legal in
-    let same : same_kind k h.man ≡ true = letter_fits q (told_of p m h.man) k at (fits_told p q m h spelled) in
+    let same : same_kind k h.man ≡ true = letter_fits q (told_of p m h.man) k at (fits_told p q m h denoted) in
     (man_is p m h k same, unpromoted p m k h.man h.moves_as same other)
 
 of_pawn : (p : Setup) (q : Parts) (m : Move) → q.letter ≡ None → named_square q.file q.rank ≡ None
-    → q.end.promotion ≡ None → is_spelled (Piece q) p m ≡ true → is_legal p m ≡ true → OfKind p Pawn m
-of_pawn p q m at square plain spelled legal =
+    → q.end.promotion ≡ None → is_denoted (Piece q) p m ≡ true → is_legal p m ≡ true → OfKind p Pawn m
+of_pawn p q m at square plain denoted legal =
     let h = legal_move p m legal in
-    let told : parts_fit q (told_of p m h.man) ≡ true = fits_told p q m h spelled in (
+    let told : parts_fit q (told_of p m h.man) ≡ true = fits_told p q m h denoted in (
       man_is p m h Pawn (pawn_named q (told_of p m h.man) h.from_in at square told),
       none_told m.promotion (rw plain at (promotes_as q (told_of p m h.man) at told)),
     )
@@ -77,25 +77,25 @@ of_pawn p q m at square plain spelled legal =
 by_kind : (p : Setup) (q : Parts) (letter : Option Kind) (square : Option ℕ) (promotion : Option Promotion) (k : Kind)
     → q.letter ≡ letter → named_square q.file q.rank ≡ square → q.end.promotion ≡ promotion
     → cond (is_some promotion) None (kind_by letter square) ≡ Some k
-    → (m : Move) → is_spelled (Piece q) p m ≡ true → is_legal p m ≡ true → OfKind p k m
-by_kind p q letter square (Some x) k l s n e m spelled legal = absurd cc
-by_kind p q None (Some s') None k l s n e m spelled legal = absurd cc
-by_kind p q None None None k l s n e m spelled legal =
-    let pawn : Pawn ≡ k = cc in subst (λ k. OfKind p k m) pawn (of_pawn p q m l s n spelled legal)
-by_kind p q (Some Pawn) square None k l s n e m spelled legal = absurd cc
-by_kind p q (Some King) square None k l s n e m spelled legal = let is : King ≡ k = cc in
-    subst (λ k. OfKind p k m) is (lettered p q King m l refl spelled legal)
-by_kind p q (Some Queen) square None k l s n e m spelled legal = let is : Queen ≡ k = cc in
-    subst (λ k. OfKind p k m) is (lettered p q Queen m l refl spelled legal)
-by_kind p q (Some Rook) square None k l s n e m spelled legal = let is : Rook ≡ k = cc in
-    subst (λ k. OfKind p k m) is (lettered p q Rook m l refl spelled legal)
-by_kind p q (Some Bishop) square None k l s n e m spelled legal = let is : Bishop ≡ k = cc in
-    subst (λ k. OfKind p k m) is (lettered p q Bishop m l refl spelled legal)
-by_kind p q (Some Knight) square None k l s n e m spelled legal = let is : Knight ≡ k = cc in
-    subst (λ k. OfKind p k m) is (lettered p q Knight m l refl spelled legal)
+    → (m : Move) → is_denoted (Piece q) p m ≡ true → is_legal p m ≡ true → OfKind p k m
+by_kind p q letter square (Some x) k l s n e m denoted legal = absurd cc
+by_kind p q None (Some s') None k l s n e m denoted legal = absurd cc
+by_kind p q None None None k l s n e m denoted legal =
+    let pawn : Pawn ≡ k = cc in subst (λ k. OfKind p k m) pawn (of_pawn p q m l s n denoted legal)
+by_kind p q (Some Pawn) square None k l s n e m denoted legal = absurd cc
+by_kind p q (Some King) square None k l s n e m denoted legal = let is : King ≡ k = cc in
+    subst (λ k. OfKind p k m) is (lettered p q King m l refl denoted legal)
+by_kind p q (Some Queen) square None k l s n e m denoted legal = let is : Queen ≡ k = cc in
+    subst (λ k. OfKind p k m) is (lettered p q Queen m l refl denoted legal)
+by_kind p q (Some Rook) square None k l s n e m denoted legal = let is : Rook ≡ k = cc in
+    subst (λ k. OfKind p k m) is (lettered p q Rook m l refl denoted legal)
+by_kind p q (Some Bishop) square None k l s n e m denoted legal = let is : Bishop ≡ k = cc in
+    subst (λ k. OfKind p k m) is (lettered p q Bishop m l refl denoted legal)
+by_kind p q (Some Knight) square None k l s n e m denoted legal = let is : Knight ≡ k = cc in
+    subst (λ k. OfKind p k m) is (lettered p q Knight m l refl denoted legal)
 
 pub of_kind : (p : Setup) (q : Parts) (k : Kind) → one_kind q ≡ Some k
-    → (m : Move) → is_spelled (Piece q) p m ≡ true → is_legal p m ≡ true → OfKind p k m
+    → (m : Move) → is_denoted (Piece q) p m ≡ true → is_legal p m ≡ true → OfKind p k m
 of_kind p q k e = by_kind p q q.letter (named_square q.file q.rank) q.end.promotion k refl refl refl e
 
 -- ---- each such move begins on a square of the set
@@ -105,9 +105,9 @@ same_move m b t n = rw (sym t, sym n) refl
 
 starts : (p : Setup) (q : Parts) (k : Kind) (w : ℕ) → one_kind q ≡ Some k → HasLegalStarts p k q.end.to w
     → IsStart p (Piece q) w
-starts p q k w e legal_starts = λ m spelled legal.
-    let of = of_kind p q k e m spelled legal in
-    let is : m ≡ move_of m.from q.end.to None = same_move m q.end.to (spelled_ends (Piece q) p m spelled) of.1 in
+starts p q k w e legal_starts = λ m denoted legal.
+    let of = of_kind p q k e m denoted legal in
+    let is : m ≡ move_of m.from q.end.to None = same_move m q.end.to (denoted_ends (Piece q) p m denoted) of.1 in
     legal_starts m.from (legal_move p m legal).from_in
     ∙ and_from (is_man p.side k (man_at p.men m.from)) (is_legal p (move_of m.from q.end.to None)) of.0
     (sym (ap (is_legal p) is) ∙ legal)
@@ -122,12 +122,12 @@ one_kept t a b true n x y z u = rw (n, x, y, z, u) refl
 one_kept t a b false n x y z u = rw (n, x, y, z, u) refl
 
 abbrev fit : Parts → Setup → Move → Bool
-fit q p m = is_spelled (Piece q) p m && is_legal p m
+fit q p m = is_denoted (Piece q) p m && is_legal p m
 
 no_other : (p : Setup) (q : Parts) (k : Kind) (a : ℕ) (x : Kind) → one_kind q ≡ Some k
     → fit q p (move_of a q.end.to (Some x)) ≡ false
 no_other p q k a x e = false_from_ne_true (fit q p (move_of a q.end.to (Some x))) (λ h.
-    let both = and_parts (is_spelled (Piece q) p (move_of a q.end.to (Some x)))
+    let both = and_parts (is_denoted (Piece q) p (move_of a q.end.to (Some x)))
     (is_legal p (move_of a q.end.to (Some x))) h in
     let none : Some x ≡ None = (of_kind p q k e (move_of a q.end.to (Some x)) both.0 both.1).1 in
     cc)
@@ -137,13 +137,13 @@ legal_one true l e = e
 legal_one false l e = refl
 
 one_start : (p : Setup) (q : Parts) (k : Kind) (w a : ℕ) → one_kind q ≡ Some k → HasLegalStarts p k q.end.to w
-    → a < 64 → contains w a ≡ true → spelled_with (Piece q) p a q.end.to promotions ≡ spelled_start q p k a
+    → a < 64 → contains w a ≡ true → denoted_with (Piece q) p a q.end.to promotions ≡ denoted_start q p k a
 one_start p q k w a e legal_starts low there =
     let both = and_parts (is_man p.side k (man_at p.men a)) (is_legal p (move_of a q.end.to None))
     (sym (legal_starts a low) ∙ there) in
-    one_kept (fit q p) a q.end.to (is_spelled_of q p k (move_of a q.end.to None))
-    (legal_one (is_spelled (Piece q) p (move_of a q.end.to None)) (is_legal p (move_of a q.end.to None)) both.1
-    ∙ spelled_of q p k (move_of a q.end.to None) e both.1 refl refl both.0)
+    one_kept (fit q p) a q.end.to (is_denoted_of q p k (move_of a q.end.to None))
+    (legal_one (is_denoted (Piece q) p (move_of a q.end.to None)) (is_legal p (move_of a q.end.to None)) both.1
+    ∙ denoted_of q p k (move_of a q.end.to None) e both.1 refl refl both.0)
     (no_other p q k a Queen e) (no_other p q k a Rook e) (no_other p q k a Bishop e) (no_other p q k a Knight e)
 
 flat_map-kept : {B : Type 0} (f g : ℕ → List B) (t : ℕ → Bool) (n a : ℕ)
@@ -165,9 +165,9 @@ flat_map-members f g w h = rw (of_range w) (flat_map-kept f g (λ k. contains w 
 -- ---- the reading
 
 pub by_starts : (p : Setup) (q : Parts) (k : Kind) (w : ℕ) (r : Reading) → one_kind q ≡ Some k
-    → HasLegalStarts p k q.end.to w → r ≡ one_of (flat_map (spelled_start q p k) (members w))
-    → r ≡ one_of (filter (λ m. is_spelled (Piece q) p m) (moves p))
+    → HasLegalStarts p k q.end.to w → r ≡ one_of (flat_map (denoted_start q p k) (members w))
+    → r ≡ one_of (filter (λ m. is_denoted (Piece q) p m) (moves p))
 by_starts p q k w r e legal_starts is =
-    is ∙ ap one_of (sym (flat_map-members (λ a. spelled_with (Piece q) p a q.end.to promotions) (spelled_start q p k) w
+    is ∙ ap one_of (sym (flat_map-members (λ a. denoted_with (Piece q) p a q.end.to promotions) (denoted_start q p k) w
     (λ a low there. one_start p q k w a e legal_starts low there))
-    ∙ spelled_from (Piece q) p w (starts p q k w e legal_starts))
+    ∙ denoted_from (Piece q) p w (starts p q k w e legal_starts))

@@ -105,8 +105,8 @@ passes test o = option_map_or test o false
 
 -- the text, but for the marks (+ # ! ?) at its end, denotes the described move: as castling, by its two squares, by its
 -- piece's letter, or as a pawn's
-unfoldable pub spells_described : List ℕ → Described → Bool
-spells_described text d = passes (is_castling_text text) d.castles
+unfoldable pub denotes_described : List ℕ → Described → Bool
+denotes_described text d = passes (is_castling_text text) d.castles
     || list_any (bytes_eq (unmarked text)) (texts_by_squares d ++ (texts_by_letter d ++ texts_of_pawn d))
 
 -- all descriptions of moves, whether or not there are such moves
@@ -119,11 +119,11 @@ all_described =
 
 -- the text has a move's shape: it denotes some described move, whether or not that is legal anywhere
 unfoldable pub shape : List ℕ → Bool
-shape text = list_any (λ d. spells_described text d) all_described
+shape text = list_any (λ d. denotes_described text d) all_described
 
 -- the text denotes move m in position p: Nf3, Ng1f3, g1f3 and Nf3+ all denote the knight's move in the initial position
-unfoldable pub spells : Setup → List ℕ → Move → Bool
-spells p text m = passes (spells_described text) (described p m)
+unfoldable pub denotes : Setup → List ℕ → Move → Bool
+denotes p text m = passes (denotes_described text) (described p m)
 
 -- ---- reading
 
@@ -137,7 +137,7 @@ one_of (m ∷ n ∷ ms) = reads.Ambiguous
 -- the reading of a text in a position: without a move's shape it is no move; else it is the one legal move that it
 -- denotes, ambiguous if it denotes several, and no such move if it denotes none
 unfoldable pub reading : Setup → List ℕ → Reading
-reading p text = if shape text then one_of (filter (λ m. spells p text m) (moves p)) else reads.NotAMove
+reading p text = if shape text then one_of (filter (λ m. denotes p text m) (moves p)) else reads.NotAMove
 
 -- the text that was read with this result has a move's shape: the result is not `NotAMove`
 abbrev pub has_shape : Reading → Bool

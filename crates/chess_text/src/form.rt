@@ -1,7 +1,7 @@
 //! What a text is read as, before any position is looked at.
 
 ghost use Rattle.std.specs.Prelude.{◌≡◌};
-ghost use Rattle.chess_text.specs.ties.Forms.{castling_named, form_of, same_side, form_fits, is_spelled};
+ghost use Rattle.chess_text.specs.ties.Forms.{castling_named, form_of, same_side, form_fits, is_denoted};
 
 use crate::described::{Described, describe, is_form, parts_fit};
 use crate::parts::{Parts, read_parts, unmarked};
@@ -58,9 +58,9 @@ fn form_fits(form: &Form, d: &Described) -> bool
 }
 
 // Whether the text that was read as this form denotes the move `m` of the position.
-#[tactic(auto, unfolding(crate::specs::ties::Forms::is_spelled))]
-pub(crate) fn is_spelled(form: &Form, setup: &Setup, m: &Move) -> bool
-    ensures { result ≡ is_spelled form.now setup.now m.now }
+#[tactic(auto, unfolding(crate::specs::ties::Forms::is_denoted))]
+pub(crate) fn is_denoted(form: &Form, setup: &Setup, m: &Move) -> bool
+    ensures { result ≡ is_denoted form.now setup.now m.now }
 {
     match describe(setup, m) {
         None => false,

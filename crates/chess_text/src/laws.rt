@@ -1,6 +1,6 @@
 //! Laws of the texts. A caller learns one by calling its function, which does nothing.
 
-ghost use Rattle.chess_text.specs.laws.Laws.{SanSpellsItsMove, SanHasShape, SanIsReadBack, SanIsShort, SanHasBytes, SanBeginsWithLetter, ReadMovesAreLegal, CoordinateSpellsItsMove, CoordinateHasShape, CoordinateIsReadBack, ShownMoveSpellsItsMove, ShownMoveHasShape, ShownMoveIsReadBack, PartsAreTheTexts, PartsAreRead, SpelledByText, ShapedByText};
+ghost use Rattle.chess_text.specs.laws.Laws.{SanDenotesItsMove, SanHasShape, SanIsReadBack, SanIsShort, SanHasBytes, SanBeginsWithLetter, ReadMovesAreLegal, CoordinateDenotesItsMove, CoordinateHasShape, CoordinateIsReadBack, ShownMoveDenotesItsMove, ShownMoveHasShape, ShownMoveIsReadBack, PartsAreTheTexts, PartsAreRead, DenotedByText, ShapedByText};
 ghost use Rattle.std.specs.Prelude.{◌≡◌};
 ghost use Rattle.chess_base.specs.declared.man.Variant.TheVariants.{Normal};
 ghost use Rattle.chess_base.specs.declared.setup.Setup.{Setup};
@@ -8,8 +8,8 @@ ghost use Rattle.chess_text.specs.laws.Normal.{NormalIsKept};
 
 /// A law: the contract says it, and the function does nothing. The SAN of a legal move of a sound position denotes that
 /// move and no other legal move, and is read as it.
-pub fn san_spells_its_move()
-    ensures spells { SanSpellsItsMove }
+pub fn san_denotes_its_move()
+    ensures denotes { SanDenotesItsMove }
     ensures shape { SanHasShape }
     ensures read_back { SanIsReadBack }
 {}
@@ -30,16 +30,16 @@ pub fn read_moves_are_legal()
 
 /// A law: the contract says it, and the function does nothing. The coordinate text (`e2e4`) of a legal move of a sound
 /// position denotes that move and no other legal move, and is read as it.
-pub fn coordinate_spells_its_move()
-    ensures spells { CoordinateSpellsItsMove }
+pub fn coordinate_denotes_its_move()
+    ensures denotes { CoordinateDenotesItsMove }
     ensures shape { CoordinateHasShape }
     ensures read_back { CoordinateIsReadBack }
 {}
 
 /// A law: the contract says it, and the function does nothing. The text by which lists of moves show a legal move of a
 /// sound position, castling in Chess960 too, denotes that move and no other legal move, and is read as it.
-pub fn move_text_spells_its_move()
-    ensures spells { ShownMoveSpellsItsMove }
+pub fn move_text_denotes_its_move()
+    ensures denotes { ShownMoveDenotesItsMove }
     ensures shape { ShownMoveHasShape }
     ensures read_back { ShownMoveIsReadBack }
 {}
@@ -50,7 +50,7 @@ pub fn move_text_spells_its_move()
 pub fn texts_have_parts()
     ensures read { PartsAreTheTexts }
     ensures written { PartsAreRead }
-    ensures spelled { SpelledByText }
+    ensures denoted { DenotedByText }
     ensures shaped { ShapedByText }
 {}
 

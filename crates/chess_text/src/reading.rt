@@ -5,11 +5,11 @@ ghost use Rattle.std.specs.List.{filter, flat_map};
 ghost use Rattle.chess_base.specs.MoveList.{promotions, moves};
 ghost use Rattle.chess_text.specs.Moves.{shape, one_of, reading, has_shape, IsLegalReading};
 ghost use Rattle.chess_text.specs.declared.form.Form.TheVariants.{Piece};
-ghost use Rattle.chess_text.specs.ties.Forms.{is_spelled, castling_end, end_square, spelled_with, with_move, with_moves, named_square, one_kind, is_spelled_by_letter, is_spelled_by_pawn, is_spelled_of, spelled_start, IsStart};
+ghost use Rattle.chess_text.specs.ties.Forms.{is_denoted, castling_end, end_square, denoted_with, with_move, with_moves, named_square, one_kind, is_denoted_by_letter, is_denoted_by_pawn, is_denoted_of, denoted_start, IsStart};
 ghost use Rattle.chess_moves.specs.Sets.{members};
 
 use crate::described::{admits, captures, names};
-use crate::form::{Form, is_spelled, read_form};
+use crate::form::{Form, is_denoted, read_form};
 use crate::parts::Parts;
 use chess_base::rules::{castled_king_file, castling, home_square, right_of};
 use chess_base::{CastlingSide, Colour, Kind, Move, Setup, Square, Variant};
@@ -123,7 +123,7 @@ fn with_move(found: Reading, m: Move) -> Reading
 
 // What a text of this form is read as, from the reading so far (`before`) and those of the legal moves between the two
 // squares, with one of these promotions, that it denotes: a single move in all is the reading, several are `Ambiguous`.
-fn with_spelled<B: Board>(
+fn with_denoted<B: Board>(
     board: &B,
     form: &Form,
     from: Square,
@@ -131,7 +131,7 @@ fn with_spelled<B: Board>(
     promotions: &[Option<Kind>],
     before: Reading,
 ) -> Reading
-    ensures { result ≡ with_moves before (spelled_with form.now (B.position board.now) from to promotions.now) }
+    ensures { result ≡ with_moves before (denoted_with form.now (B.position board.now) from to promotions.now) }
 {
     let mut found = before;
     for promotion in promotions {
@@ -140,7 +140,7 @@ fn with_spelled<B: Board>(
             to,
             promotion: *promotion,
         };
-        if is_spelled(form, board.setup(), &m) && board.is_legal(&m) {
+        if is_denoted(form, board.setup(), &m) && board.is_legal(&m) {
             found = with_move(found, m);
         }
     }
@@ -150,14 +150,14 @@ fn with_spelled<B: Board>(
 // What a text of this form is read as, from the reading so far (`found`) and those of the legal moves between the two
 // squares that it denotes: a single move in all is the reading, several are `Ambiguous`.
 #[tactic(auto, using(crate::proofs::Promoting::all_promote, crate::proofs::Promoting::none_promotes))]
-fn with_spelled_between<B: Board>(
+fn with_denoted_between<B: Board>(
     board: &B,
     form: &Form,
     from: Square,
     to: Square,
     found: Reading,
 ) -> Reading
-    ensures { result ≡ with_moves found (spelled_with form.now (B.position board.now) from to promotions) }
+    ensures { result ≡ with_moves found (denoted_with form.now (B.position board.now) from to promotions) }
 {
     if would_promote(board.setup(), from, to) {
         let promotions = [
@@ -166,9 +166,9 @@ fn with_spelled_between<B: Board>(
             Some(Kind::Bishop),
             Some(Kind::Knight),
         ];
-        with_spelled(board, form, from, to, &promotions, found)
+        with_denoted(board, form, from, to, &promotions, found)
     } else {
-        with_spelled(board, form, from, to, &[None], found)
+        with_denoted(board, form, from, to, &[None], found)
     }
 }
 
@@ -191,8 +191,8 @@ fn one_kind(parts: &Parts) -> Option<Kind>
 // Whether the parts, which have the letter of this kind, denote `m`, a legal move of such a piece to their end square:
 // it starts on the file and rank that they name, is a capture if they have `x`, and is not castling.
 #[inline(always)]
-fn is_spelled_by_letter(parts: &Parts, setup: &Setup, kind: Kind, m: &Move) -> bool
-    ensures { result ≡ is_spelled_by_letter parts.now setup.now kind m.now }
+fn is_denoted_by_letter(parts: &Parts, setup: &Setup, kind: Kind, m: &Move) -> bool
+    ensures { result ≡ is_denoted_by_letter parts.now setup.now kind m.now }
 {
     admits(parts.file, m.from.file())
         && admits(parts.rank, m.from.rank())
@@ -203,8 +203,8 @@ fn is_spelled_by_letter(parts: &Parts, setup: &Setup, kind: Kind, m: &Move) -> b
 // Whether the parts, which have no letter, denote `m`, a pawn's legal move to their end square without a promotion:
 // straight ahead if they name no file (`e4`), else from that file, and a capture if they have `x` (`exd5`).
 #[inline(always)]
-fn is_spelled_by_pawn(parts: &Parts, setup: &Setup, m: &Move) -> bool
-    ensures { result ≡ is_spelled_by_pawn parts.now setup.now m.now }
+fn is_denoted_by_pawn(parts: &Parts, setup: &Setup, m: &Move) -> bool
+    ensures { result ≡ is_denoted_by_pawn parts.now setup.now m.now }
 {
     if parts.file.is_none() {
         parts.rank.is_none() && !parts.takes && m.from.file() == m.to.file()
@@ -218,13 +218,13 @@ fn is_spelled_by_pawn(parts: &Parts, setup: &Setup, m: &Move) -> bool
 // Whether the parts, in which only pieces of this kind can be meant, denote `m`, a legal move of such a piece to their
 // end square, without a promotion.
 #[inline(always)]
-fn is_spelled_of(parts: &Parts, setup: &Setup, kind: Kind, m: &Move) -> bool
-    ensures { result ≡ is_spelled_of parts.now setup.now kind m.now }
+fn is_denoted_of(parts: &Parts, setup: &Setup, kind: Kind, m: &Move) -> bool
+    ensures { result ≡ is_denoted_of parts.now setup.now kind m.now }
 {
     if parts.letter.is_some() {
-        is_spelled_by_letter(parts, setup, kind, m)
+        is_denoted_by_letter(parts, setup, kind, m)
     } else {
-        is_spelled_by_pawn(parts, setup, m)
+        is_denoted_by_pawn(parts, setup, m)
     }
 }
 
@@ -233,14 +233,14 @@ fn is_spelled_of(parts: &Parts, setup: &Setup, kind: Kind, m: &Move) -> bool
 // `Ambiguous`.
 #[inline(always)]
 fn with_start(found: Reading, setup: &Setup, parts: &Parts, kind: Kind, from: Square) -> Reading
-    ensures { result ≡ with_moves found (spelled_start parts.now setup.now kind from) }
+    ensures { result ≡ with_moves found (denoted_start parts.now setup.now kind from) }
 {
     let m = Move {
         from,
         to: parts.end.to,
         promotion: None,
     };
-    if is_spelled_of(parts, setup, kind, &m) {
+    if is_denoted_of(parts, setup, kind, &m) {
         with_move(found, m)
     } else {
         found
@@ -258,7 +258,7 @@ fn with_starts(
     kind: Kind,
     starts: SquareSet,
 ) -> Reading
-    ensures { result ≡ with_moves before (flat_map (spelled_start parts.now setup.now kind) (members starts)) }
+    ensures { result ≡ with_moves before (flat_map (denoted_start parts.now setup.now kind) (members starts)) }
 {
     let mut found = before;
     let mut rest = starts;
@@ -271,8 +271,8 @@ fn with_starts(
 // What a text of these parts, in which only pieces of this kind can be meant, is read as. `starts` has the squares from
 // which such pieces may legally move to the parts' end square.
 #[inline(always)]
-fn spelled_among(setup: &Setup, parts: &Parts, kind: Kind, starts: SquareSet) -> Reading
-    ensures { result ≡ one_of (flat_map (spelled_start parts.now setup.now kind) (members starts)) }
+fn denoted_among(setup: &Setup, parts: &Parts, kind: Kind, starts: SquareSet) -> Reading
+    ensures { result ≡ one_of (flat_map (denoted_start parts.now setup.now kind) (members starts)) }
 {
     let mut rest = starts;
     let Some(from) = rest.take_first() else {
@@ -288,12 +288,12 @@ fn spelled_among(setup: &Setup, parts: &Parts, kind: Kind, starts: SquareSet) ->
 // What a text of these parts, in which only pieces of this kind can be meant, and no promotion, is read as in the
 // board's position: one legal move, several (`Ambiguous`) or none (`NoSuch`).
 #[inline(always)]
-fn spelled_by_kind<B: Board>(board: &B, parts: &Parts, kind: Kind) -> Reading
+fn denoted_by_kind<B: Board>(board: &B, parts: &Parts, kind: Kind) -> Reading
     requires { one_kind parts.now ≡ Some kind }
     ensures { result ≡ one_of
-        (filter (λ m. is_spelled (Piece parts.now) (B.position board.now) m) (moves (B.position board.now))) }
+        (filter (λ m. is_denoted (Piece parts.now) (B.position board.now) m) (moves (B.position board.now))) }
 {
-    spelled_among(
+    denoted_among(
         board.setup(),
         parts,
         kind,
@@ -304,15 +304,15 @@ fn spelled_by_kind<B: Board>(board: &B, parts: &Parts, kind: Kind) -> Reading
 // What a text of this form is read as in the board's position, by trying moves from all squares where one that it
 // denotes may begin: one legal move, several (`Ambiguous`) or none (`NoSuch`).
 #[inline(never)]
-fn spelled_from_origins<B: Board>(board: &B, form: &Form) -> Reading
+fn denoted_from_origins<B: Board>(board: &B, form: &Form) -> Reading
     ensures { result ≡ one_of
-        (filter (λ m. is_spelled form.now (B.position board.now) m) (moves (B.position board.now))) }
+        (filter (λ m. is_denoted form.now (B.position board.now) m) (moves (B.position board.now))) }
 {
     let to = end_square(form, board.setup());
     let mut found = Reading::NoSuch;
     let mut rest = form_origins(board, form, to);
     while let Some(from) = rest.take_first() {
-        found = with_spelled_between(board, form, from, to, found);
+        found = with_denoted_between(board, form, from, to, found);
     }
     found
 }
@@ -320,16 +320,16 @@ fn spelled_from_origins<B: Board>(board: &B, form: &Form) -> Reading
 // What a text of this form is read as in the board's position: one legal move, several (`Ambiguous`) or none
 // (`NoSuch`).
 #[inline(always)]
-fn spelled<B: Board>(board: &B, form: &Form) -> Reading
+fn denoted<B: Board>(board: &B, form: &Form) -> Reading
     ensures { result ≡ one_of
-        (filter (λ m. is_spelled form.now (B.position board.now) m) (moves (B.position board.now))) }
+        (filter (λ m. is_denoted form.now (B.position board.now) m) (moves (B.position board.now))) }
 {
     if let Form::Piece(parts) = form {
         if let Some(kind) = one_kind(parts) {
-            return spelled_by_kind(board, parts, kind);
+            return denoted_by_kind(board, parts, kind);
         }
     }
-    spelled_from_origins(board, form)
+    denoted_from_origins(board, form)
 }
 
 /// Reads a text as a move of the board's position: a legal move if the text denotes exactly one, else why it doesn't.
@@ -343,5 +343,5 @@ pub fn read_move<B: Board>(board: &B, text: &[u8]) -> Reading
     let Some(form) = read_form(text) else {
         return Reading::NotAMove;
     };
-    spelled(board, &form)
+    denoted(board, &form)
 }

@@ -3,9 +3,9 @@ use chess_bits::{AttackTables, Bits};
 use chess_fen::{read_fen_as, write_fen};
 use chess_moves::{Board, Plain};
 use chess_text::{
-    Reading, coordinate, coordinate_spells_its_move, has_move_shape, move_text,
-    move_text_spells_its_move, normal_is_kept, read_move, read_moves_are_legal, san, san_is_a_word,
-    san_spells_its_move, texts_have_parts,
+    Reading, coordinate, coordinate_denotes_its_move, has_move_shape, move_text,
+    move_text_denotes_its_move, normal_is_kept, read_move, read_moves_are_legal, san, san_is_a_word,
+    san_denotes_its_move, texts_have_parts,
 };
 use std::alloc::Global;
 use std::process::Abort;
@@ -581,10 +581,10 @@ fn castling_is_shown_by_its_variant(rt: HostRuntime) -> Result<(), Fail> {
 
 #[test]
 fn laws_do_nothing(_rt: HostRuntime) {
-    san_spells_its_move();
+    san_denotes_its_move();
     san_is_a_word();
-    coordinate_spells_its_move();
-    move_text_spells_its_move();
+    coordinate_denotes_its_move();
+    move_text_denotes_its_move();
     read_moves_are_legal();
     texts_have_parts();
     normal_is_kept();

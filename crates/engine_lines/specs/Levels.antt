@@ -1,4 +1,4 @@
--- Levels of time, their spelling, and the time that a level gives (CECP, version 2: command `level`).
+-- Levels of time, their denotation, and the time that a level gives (CECP, version 2: command `level`).
 use Rattle.std.specs.Prelude.{ℕ, ◌+◌, ◌-◌, ◌*◌, ◌/◌, ◌%◌, ◌==◌, nat_lt, if◌then◌else◌, List, [], ◌∷◌, ◌++◌, length, take, drop, codes, decimal, Option, None, Some}
 use Rattle.std.specs.List.{position_or_len}
 use Rattle.std.specs.Option.{option_map}
@@ -14,7 +14,7 @@ pub record LevelSeen : Type 0 where
   pub base : ℕ
   pub increment : ℕ
 
--- ---- spelling
+-- ---- denotation
 
 -- the index of the first colon; the text's length if there is none
 abbrev pub colon_at : List ℕ → ℕ

@@ -8,16 +8,16 @@ use Rattle.chess_base.specs.Castling.{right_of}
 use Rattle.chess_base.specs.Sound.{IsSound}
 use Rattle.chess_fen.specs.Writing.{fen}
 use Rattle.chess_fen.specs.Reading.{fen_reading_as}
-use Rattle.chess_fen.specs.Spelling.{SpellsFenAs, IsCastling, SpellsRights}
+use Rattle.chess_fen.specs.Denotation.{DenotesFenAs, IsCastling, DenotesRights}
 use Rattle.chess_fen.specs.laws.NamedRooks.{RightIsNamed}
 
 -- the FEN that is written for a sound position denotes that position, in its variant
-abbrev pub WrittenIsSpelled : Type 0
-WrittenIsSpelled = (p : Setup) → IsSound p → SpellsFenAs p.variant (fen p) p
+abbrev pub WrittenIsDenoted : Type 0
+WrittenIsDenoted = (p : Setup) → IsSound p → DenotesFenAs p.variant (fen p) p
 
 -- the FEN that is written for a sound position denotes no other position of its variant
-abbrev pub WrittenSpellsNoOther : Type 0
-WrittenSpellsNoOther = (p q : Setup) → IsSound p → SpellsFenAs p.variant (fen p) q → q ≡ p
+abbrev pub WrittenDenotesNoOther : Type 0
+WrittenDenotesNoOther = (p q : Setup) → IsSound p → DenotesFenAs p.variant (fen p) q → q ≡ p
 
 -- the FEN that is written for a sound position is read as that position, in its variant
 abbrev pub WrittenIsReadBack : Type 0
@@ -29,6 +29,6 @@ WrittenIsReadBack = (p : Setup) → IsSound p → fen_reading_as p.variant (fen 
 abbrev pub RightsAreNamed : Type 0
 RightsAreNamed =
     (text : List ℕ) → (p : Setup) → p.variant ≡ Fischerandom → IsSound p
-    → (SpellsRights text p ↔
+    → (DenotesRights text p ↔
     (IsCastling Fischerandom text × ((c : Colour) → (w : CastlingSide)
     → RightIsNamed text p.men c w (right_of p.rights c w))))

@@ -14,7 +14,7 @@ use Rattle.chess_text.specs.declared.reading.Reading.TheVariants as reads
 use Rattle.chess_text.specs.Parts.{unmarked}
 use Rattle.chess_text.specs.ties.Fitting.{parts_text}
 use Rattle.chess_text.specs.ties.Reader.{parts_at}
-use Rattle.chess_text.specs.Moves.{is_castling_text, spells_described, spells, shape, reading}
+use Rattle.chess_text.specs.Moves.{is_castling_text, denotes_described, denotes, shape, reading}
 use Rattle.chess_text.specs.ties.Fitting.{is_form, parts_fit}
 use Rattle.chess_text.specs.San.{san, shown_move}
 use Rattle.chess_base.specs.declared.man.Kind.{Kind}
@@ -41,13 +41,13 @@ pub record AreParts (q : Parts) : Type 0 where
   pub promotion_is : IfSome q.end.promotion (λ p. CanPromote p.kind)
 
 -- the text denotes move m in position p, and no other legal move
-abbrev pub SpellsAlone : Setup → List ℕ → Move → Type 0
-SpellsAlone p text m = IsTrue (spells p text m)
-    × ((n : Move) → IsTrue (is_legal p n) → IsTrue (spells p text n) → n ≡ m)
+abbrev pub DenotesAlone : Setup → List ℕ → Move → Type 0
+DenotesAlone p text m = IsTrue (denotes p text m)
+    × ((n : Move) → IsTrue (is_legal p n) → IsTrue (denotes p text n) → n ≡ m)
 
 -- the SAN of a legal move of a sound position denotes that move, and no other legal move
-abbrev pub SanSpellsItsMove : Type 0
-SanSpellsItsMove = (p : Setup) → (m : Move) → IsSound p → IsTrue (is_legal p m) → SpellsAlone p (san p m) m
+abbrev pub SanDenotesItsMove : Type 0
+SanDenotesItsMove = (p : Setup) → (m : Move) → IsSound p → IsTrue (is_legal p m) → DenotesAlone p (san p m) m
 
 -- the SAN of a legal move of a sound position has the shape of a move
 abbrev pub SanHasShape : Type 0
@@ -86,8 +86,8 @@ abbrev pub ReadMovesAreLegal : Type 0
 ReadMovesAreLegal = (p : Setup) → (text : List ℕ) → (m : Move) → reading p text ≡ reads.Move m → IsTrue (is_legal p m)
 
 -- the coordinate text (e2e4) of a legal move of a sound position denotes that move, and no other legal move
-abbrev pub CoordinateSpellsItsMove : Type 0
-CoordinateSpellsItsMove = (p : Setup) → (m : Move) → IsSound p → IsTrue (is_legal p m) → SpellsAlone p (coordinate m) m
+abbrev pub CoordinateDenotesItsMove : Type 0
+CoordinateDenotesItsMove = (p : Setup) → (m : Move) → IsSound p → IsTrue (is_legal p m) → DenotesAlone p (coordinate m) m
 
 -- the coordinate text of a legal move of a sound position has the shape of a move
 abbrev pub CoordinateHasShape : Type 0
@@ -99,8 +99,8 @@ CoordinateIsReadBack = (p : Setup) → (m : Move) → IsSound p → IsTrue (is_l
     → reading p (coordinate m) ≡ reads.Move m
 
 -- the text by which lists of moves show a legal move of a sound position denotes that move, and no other legal move
-abbrev pub ShownMoveSpellsItsMove : Type 0
-ShownMoveSpellsItsMove = (p : Setup) → (m : Move) → IsSound p → IsTrue (is_legal p m) → SpellsAlone p (shown_move p m) m
+abbrev pub ShownMoveDenotesItsMove : Type 0
+ShownMoveDenotesItsMove = (p : Setup) → (m : Move) → IsSound p → IsTrue (is_legal p m) → DenotesAlone p (shown_move p m) m
 
 -- the text by which lists of moves show a legal move of a sound position has the shape of a move
 abbrev pub ShownMoveHasShape : Type 0
@@ -122,16 +122,16 @@ PartsAreRead = (q : Parts) → AreParts q → parts_at (parts_text q) ≡ Some q
 
 -- the text denotes the described move: it names its castling, or it is, but for its marks, the text of parts (letter,
 -- file, rank, `x`, end) that fit it. Said by parts, without lists of all texts
-abbrev pub IsSpelled : List ℕ → Described → Type 0
-IsSpelled text d =
+abbrev pub IsDenoted : List ℕ → Described → Type 0
+IsDenoted text d =
     ((w : CastlingSide) × (d.castles ≡ Some w) × IsTrue (is_castling_text text w))
     ⊎ ((q : Parts) × IfSome q.letter HasLetter × (unmarked text ≡ parts_text q) × IsTrue (parts_fit q d))
 
--- a text denotes a described move by `spells_described`, which compares it with lists of all texts of that move, if and
--- only if it does by `IsSpelled`, which needs no lists: it names the castling, or is the text of parts that fit the
+-- a text denotes a described move by `denotes_described`, which compares it with lists of all texts of that move, if and
+-- only if it does by `IsDenoted`, which needs no lists: it names the castling, or is the text of parts that fit the
 -- move
-abbrev pub SpelledByText : Type 0
-SpelledByText = (text : List ℕ) → (d : Described) → IsTrue (spells_described text d) ↔ IsSpelled text d
+abbrev pub DenotedByText : Type 0
+DenotedByText = (text : List ℕ) → (d : Described) → IsTrue (denotes_described text d) ↔ IsDenoted text d
 
 -- the text has the shape of a move: it denotes castling, or it is, but for its marks, the text of parts (letter, file,
 -- rank, `x`, end) in one of the forms of a move's text. Said without trying all descriptions of moves

@@ -13,7 +13,7 @@ use Rattle.chess_base.specs.laws.Normal.{normal_is_legal, normal_castling, norma
 use Rattle.chess_text.specs.declared.described.Described.{Described}
 use Rattle.chess_text.specs.declared.reading.Reading.{Reading}
 use Rattle.chess_text.specs.declared.reading.Reading.TheVariants.{NotAMove}
-use Rattle.chess_text.specs.Moves.{captures, passes, shape, spells_described, one_of, reading}
+use Rattle.chess_text.specs.Moves.{captures, passes, shape, denotes_described, one_of, reading}
 use Rattle.chess_text.specs.Parts.{when}
 use Rattle.chess_text.specs.San.{unmarked_san, san, shown_move}
 
@@ -37,13 +37,13 @@ normal_described p m =
     }) (man_at p.men m.from)
 
 -- the text denotes move m in position p, a position of normal chess: Nf3, Ng1f3 and g1f3 all denote the knight's move
-unfoldable pub normal_spells : Setup → List ℕ → Move → Bool
-normal_spells p text m = passes (spells_described text) (normal_described p m)
+unfoldable pub normal_denotes : Setup → List ℕ → Move → Bool
+normal_denotes p text m = passes (denotes_described text) (normal_described p m)
 
 -- what a text is read as in position p: `NotAMove` if it hasn't the shape of a move; else the legal move that it
 -- denotes, `Ambiguous` if it denotes several, `NoSuch` if it denotes none
 unfoldable pub normal_reading : Setup → List ℕ → Reading
-normal_reading p text = if shape text then one_of (filter (λ m. normal_spells p text m) (normal_moves p)) else NotAMove
+normal_reading p text = if shape text then one_of (filter (λ m. normal_denotes p text m) (normal_moves p)) else NotAMove
 
 -- ---- written
 

@@ -64,8 +64,8 @@ form_fits (Castling w) d = passes (same_side w) d.castles
 form_fits (Piece q) d = parts_fit q d
 
 -- the text that was read as this form denotes move m of position p
-unfoldable pub is_spelled : Form → Setup → Move → Bool
-is_spelled form p m = passes (form_fits form) (described p m)
+unfoldable pub is_denoted : Form → Setup → Move → Bool
+is_denoted form p m = passes (form_fits form) (described p m)
 
 -- the end square of the move by which colour c castles on side w: in normal chess the king's end square, in Chess960
 -- the square of the right's rook (if there is no right, no such move is legal)
@@ -80,8 +80,8 @@ end_square (Castling w) p = castling_end p.variant p.side w (right_of p.rights p
 end_square (Piece q) p = q.end.to
 
 -- the legal moves from square a to square b, with one of the promotions ks, that a text of this form denotes
-abbrev pub spelled_with : Form → Setup → ℕ → ℕ → List (Option Kind) → List Move
-spelled_with form p a b ks = filter (λ m. is_spelled form p m && is_legal p m) (map (move_of a b) ks)
+abbrev pub denoted_with : Form → Setup → ℕ → ℕ → List (Option Kind) → List Move
+denoted_with form p a b ks = filter (λ m. is_denoted form p m && is_legal p m) (map (move_of a b) ks)
 
 -- what a text is read as after one more legal move m that it denotes, from the reading so far: m if it was `NoSuch`,
 -- `Ambiguous` if there was a move already (`NotAMove` stays)
@@ -106,7 +106,7 @@ named_square (Some f) (Some r) = if nat_lt f 8 && nat_lt r 8 then Some (8 * r + 
 -- the set of squares w has at least the start square of each legal move that a text of this form denotes; it may have
 -- others too
 abbrev pub IsStart : Setup → Form → ℕ → Type 0
-IsStart p form w = (m : Move) → is_spelled form p m ≡ Bool.true → is_legal p m ≡ Bool.true → contains w m.from ≡ Bool.true
+IsStart p form w = (m : Move) → is_denoted form p m ≡ Bool.true → is_legal p m ≡ Bool.true → contains w m.from ≡ Bool.true
 
 -- the kind of the pieces whose moves a text denotes, from the letter and the start square that it names, either of
 -- which may be missing: a letter's kind; without both a pawn (e4, exd5); with a start square alone none, since any
@@ -124,26 +124,26 @@ one_kind q = if is_some q.end.promotion then None else kind_by q.letter (named_s
 
 -- the parts q, which have the letter of kind k, denote m, a legal move of such a piece to their end square: it starts
 -- on the file and rank that they name, is a capture if they have `x`, and is not castling
-abbrev pub is_spelled_by_letter : Parts → Setup → Kind → Move → Bool
-is_spelled_by_letter q p k m = admits q.file (file m.from) && admits q.rank (rank m.from)
+abbrev pub is_denoted_by_letter : Parts → Setup → Kind → Move → Bool
+is_denoted_by_letter q p k m = admits q.file (file m.from) && admits q.rank (rank m.from)
     && (not q.takes || captures p m) && not (same_kind King k && is_some (castling p m))
 
 -- the parts q, which have no letter, denote m, a pawn's legal move to their end square without a promotion: straight
 -- ahead if they name no file (e4), else from that file, and a capture if they have `x` (exd5)
-abbrev pub is_spelled_by_pawn : Parts → Setup → Move → Bool
-is_spelled_by_pawn q p m =
+abbrev pub is_denoted_by_pawn : Parts → Setup → Move → Bool
+is_denoted_by_pawn q p m =
     if is_none q.file then is_none q.rank && not q.takes && (file m.from == file m.to)
     else names q.file (file m.from) && admits q.rank (rank m.from) && (not q.takes || captures p m)
 
 -- the parts q, in which only pieces of kind k can be meant, denote m, a legal move of a piece of kind k to their end
 -- square, without a promotion
-abbrev pub is_spelled_of : Parts → Setup → Kind → Move → Bool
-is_spelled_of q p k m = if is_some q.letter then is_spelled_by_letter q p k m else is_spelled_by_pawn q p m
+abbrev pub is_denoted_of : Parts → Setup → Kind → Move → Bool
+is_denoted_of q p k m = if is_some q.letter then is_denoted_by_letter q p k m else is_denoted_by_pawn q p m
 
 -- the move from square a to the end square of the parts q, as a list of one, if q denotes it; else the empty list. It
 -- is known that this move is legal, no promotion, and of a piece of kind k
-abbrev pub spelled_start : Parts → Setup → Kind → ℕ → List Move
-spelled_start q p k a = if is_spelled_of q p k (move_of a q.end.to None) then move_of a q.end.to None ∷ [] else []
+abbrev pub denoted_start : Parts → Setup → Kind → ℕ → List Move
+denoted_start q p k a = if is_denoted_of q p k (move_of a q.end.to None) then move_of a q.end.to None ∷ [] else []
 
 -- if the described move names a promotion, its piece is a pawn
 abbrev pub promotes_as_a_pawn : Described → Type 0

@@ -1,5 +1,5 @@
-use Rattle.arbiter_words.proofs.Names.{verify_spelled}
+use Rattle.arbiter_words.proofs.Names.{verify_denoted}
 use Rattle.arbiter_words.proofs.laws.verify_is_as_asked.Goals as goal
 
 pub returns : goal.returns
-returns c = verify_spelled
+returns c = verify_denoted

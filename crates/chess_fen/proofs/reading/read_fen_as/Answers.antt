@@ -1,4 +1,4 @@
--- The result is what the function of the definition reads. SpelledFen says that this is the sound position that the
+-- The result is what the function of the definition reads. DenotedFen says that this is the sound position that the
 -- text denotes, if there is one, and else the one fault that is true of the text.
 use Rattle.std.proofs.Common.{◌≡◌, Result, Ok, Err, List, ℕ, sym, ◌∙◌}
 use Rattle.std.specs.Prelude.{IfOk, IfErr}
@@ -7,13 +7,13 @@ use Rattle.chess_base.specs.declared.setup.Setup.{Setup}
 use Rattle.chess_base.specs.Sound.{IsSound}
 use Rattle.chess_base.specs.declared.fault.FenFault.{FenFault}
 use Rattle.chess_fen.specs.Reading.{fen_reading_as}
-use Rattle.chess_fen.specs.Spelling.{SpellsFenAs}
+use Rattle.chess_fen.specs.Denotation.{DenotesFenAs}
 use Rattle.chess_fen.specs.FenFaults.{IsFaultAs}
-use Rattle.chess_fen.proofs.SpelledFen.{found, faulty, fault-read, reading-spelled}
+use Rattle.chess_fen.proofs.DenotedFen.{found, faulty, fault-read, reading-denoted}
 use Rattle.chess_fen.proofs.reading.read_fen_as.Goals as goal
 
 read : (v : Variant) (text : List ℕ) (r : Result Setup FenFault) → r ≡ fen_reading_as v text → IfOk r IsSound
-    → IfOk r (λ p. SpellsFenAs v text p × IsSound p)
+    → IfOk r (λ p. DenotesFenAs v text p × IsSound p)
 read v text (Ok p) e h = (found v text p (sym e), h)
 read v text (Err f) e h = tt
 
@@ -23,14 +23,14 @@ told v text (Ok p) e = tt
 told v text (Err f) e = faulty v text f (sym e)
 
 pub returns-clause-found : goal.returns-clause-found
-returns-clause-found c = read c.args.variant c.args.text.now c.spelled_position.result c.spelled_position.ensures.value
-    c.spelled_position.ensures.sound
+returns-clause-found c = read c.args.variant c.args.text.now c.denoted_position.result c.denoted_position.ensures.value
+    c.denoted_position.ensures.sound
 
 pub returns-clause-only : goal.returns-clause-only
-returns-clause-only c = λ p s h. c.spelled_position.ensures.value ∙ reading-spelled c.args.variant c.args.text.now p s h
+returns-clause-only c = λ p s h. c.denoted_position.ensures.value ∙ reading-denoted c.args.variant c.args.text.now p s h
 
 pub returns-clause-told : goal.returns-clause-told
-returns-clause-told c = told c.args.variant c.args.text.now c.spelled_position.result c.spelled_position.ensures.value
+returns-clause-told c = told c.args.variant c.args.text.now c.denoted_position.result c.denoted_position.ensures.value
 
 pub returns-clause-refused : goal.returns-clause-refused
-returns-clause-refused c = λ f h. c.spelled_position.ensures.value ∙ fault-read c.args.variant c.args.text.now f h
+returns-clause-refused c = λ f h. c.denoted_position.ensures.value ∙ fault-read c.args.variant c.args.text.now f h

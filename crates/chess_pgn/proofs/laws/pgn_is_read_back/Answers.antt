@@ -4,5 +4,5 @@ use Rattle.chess_pgn.proofs.PgnWhole.{pgn_law}
 use Rattle.chess_pgn.proofs.laws.pgn_is_read_back.Goals as goal
 
 pub returns : goal.returns
-returns c = pgn_law c.after_is_sound.ensures c.written_is_spelled.ensures.read_back
+returns c = pgn_law c.after_is_sound.ensures c.written_is_denoted.ensures.read_back
     (subst IsSound (c.setup-sound.ensures.value ∙ c.initial_of-initial.ensures) c.setup-sound.ensures.sound)

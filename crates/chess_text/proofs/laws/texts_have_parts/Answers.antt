@@ -1,18 +1,18 @@
 -- Each part shows by its first byte, but for a file, which is the start's just where a square follows: so parts and
 -- their texts fit one to one (Grammar). Else a text denotes castling or nothing (Alone).
 use Rattle.chess_text.proofs.Alone.{shaped_by_text}
-use Rattle.chess_text.proofs.Spellings.{spelled_by_text}
-use Rattle.chess_text.proofs.Grammar.{spelled-parts, parts-spelled}
+use Rattle.chess_text.proofs.Denotations.{denoted_by_text}
+use Rattle.chess_text.proofs.Grammar.{denoted-parts, parts-denoted}
 use Rattle.chess_text.proofs.laws.texts_have_parts.Goals as goal
 
 pub returns-clause-read : goal.returns-clause-read
-returns-clause-read c = spelled-parts
+returns-clause-read c = denoted-parts
 
 pub returns-clause-written : goal.returns-clause-written
-returns-clause-written c = parts-spelled
+returns-clause-written c = parts-denoted
 
-pub returns-clause-spelled : goal.returns-clause-spelled
-returns-clause-spelled c = spelled_by_text
+pub returns-clause-denoted : goal.returns-clause-denoted
+returns-clause-denoted c = denoted_by_text
 
 pub returns-clause-shaped : goal.returns-clause-shaped
 returns-clause-shaped c = shaped_by_text

@@ -1,14 +1,14 @@
 use Rattle.std.proofs.Common.{◌≡◌, length}
 use Rattle.std.specs.List.{flat_map}
 use Rattle.chess_moves.specs.Sets.{members}
-use Rattle.chess_text.specs.ties.Forms.{spelled_start, with_moves}
+use Rattle.chess_text.specs.ties.Forms.{denoted_start, with_moves}
 use Rattle.chess_text.proofs.reading.with_starts.Given as goal
 
 -- the squares that are left give the whole
 abbrev pub invariant-loop-from : goal.invariant-loop-from
 invariant-loop-from l =
-    with_moves l.found (flat_map (spelled_start l.parts l.setup l.kind) (members l.rest))
-    ≡ with_moves l.fn.before (flat_map (spelled_start l.parts l.setup l.kind) (members l.fn.starts))
+    with_moves l.found (flat_map (denoted_start l.parts l.setup l.kind) (members l.rest))
+    ≡ with_moves l.fn.before (flat_map (denoted_start l.parts l.setup l.kind) (members l.fn.starts))
 
 abbrev pub decreases-loop-from : goal.decreases-loop-from
 decreases-loop-from l = length (members l.rest)

@@ -15,7 +15,7 @@ use Rattle.chess_base.specs.declared.man.Variant.TheVariants.{Normal, Fischerand
 use Rattle.chess_base.specs.Men.{Men}
 use Rattle.chess_base.specs.Castling.{home_square, rook_file}
 use Rattle.chess_fen.specs.RightNames.{side_letter, right_named, right_by_letters}
-use Rattle.chess_fen.specs.Spelling.{AreRightLetters, IsCastling, IsHeldBy, IsHeld}
+use Rattle.chess_fen.specs.Denotation.{AreRightLetters, IsCastling, IsHeldBy, IsHeld}
 
 -- ---- how often a letter occurs
 
@@ -77,8 +77,8 @@ names_all v whole (x ∷ xs) within one p =
     (and_from (may_name_right v x) (eqb (times x whole) 1) p.0 t)
     (names_all v whole xs (λ c. omega (arith, within c, times-later c x xs)) one p.1)
 
-letters_spelled : (v : Variant) (text : List ℕ) → are_letters v text ≡ true → AreRightLetters v text
-letters_spelled v text e =
+letters_denoted : (v : Variant) (text : List ℕ) → are_letters v text ≡ true → AreRightLetters v text
+letters_denoted v text e =
     let outer = and_parts (ltb 0 (length text) && leb (length text) 4) (list_all (names_once v text) text) e in
     let inner = and_parts (ltb 0 (length text)) (leb (length text) 4) outer.0 in
     record {
@@ -88,24 +88,24 @@ letters_spelled v text e =
       distinct = at_most_once v text outer.1;
     }
 
-spelled_letters : (v : Variant) (text : List ℕ) → AreRightLetters v text → are_letters v text ≡ true
-spelled_letters v text s =
+denoted_letters : (v : Variant) (text : List ℕ) → AreRightLetters v text → are_letters v text ≡ true
+denoted_letters v text s =
     let t0 : ltb 0 (length text) ≡ true = grind (arith, nat_tests, s.some) in
     let t1 : leb (length text) 4 ≡ true = grind (arith, nat_tests, s.few) in
     and_from (ltb 0 (length text) && leb (length text) 4) (list_all (names_once v text) text)
     (and_from (ltb 0 (length text)) (leb (length text) 4) t0 t1)
     (names_all v text text (λ c. omega arith) s.distinct s.each)
 
-pub spelled-castling : (v : Variant) (text : List ℕ) → is_castling v text ≡ true → IsCastling v text
-spelled-castling v text e =
+pub denoted-castling : (v : Variant) (text : List ℕ) → is_castling v text ≡ true → IsCastling v text
+denoted-castling v text e =
     elim (or_cases (bytes_eq text (codes "-")) (are_letters v text) e) [
       | inl h ↦ inl ((bytes_eq-Decides text (codes "-")).0 h)
-      | inr h ↦ inr (letters_spelled v text h)
+      | inr h ↦ inr (letters_denoted v text h)
     ]
 
-pub castling-spelled : (v : Variant) (text : List ℕ) → IsCastling v text → is_castling v text ≡ true
-castling-spelled v text (inl e) = ap (is_castling v) e
-castling-spelled v text (inr s) = or_right (bytes_eq text (codes "-")) (are_letters v text) (spelled_letters v text s)
+pub castling-denoted : (v : Variant) (text : List ℕ) → IsCastling v text → is_castling v text ≡ true
+castling-denoted v text (inl e) = ap (is_castling v) e
+castling-denoted v text (inr s) = or_right (bytes_eq text (codes "-")) (are_letters v text) (denoted_letters v text s)
 
 -- ---- the rights that they name
 
@@ -114,9 +114,9 @@ held : (b : Bool) (corner : ℕ) → (IsSome (cond b (Some corner) None) ↔ IsT
 held true corner = (((λ _. refl), (λ _. refl)), refl)
 held false corner = (((λ e. e), (λ e. e)), tt)
 
-pub spelled-right : (letter : ℕ) (text : List ℕ) (corner : ℕ)
+pub denoted-right : (letter : ℕ) (text : List ℕ) (corner : ℕ)
     → IsHeldBy letter text (right_named text letter corner) corner
-spelled-right letter text corner = held (occurs letter text) corner
+denoted-right letter text corner = held (occurs letter text) corner
 
 named : (b : Bool) (right : Option ℕ) (corner : ℕ) → (IsSome right ↔ IsTrue b)
     → IfSome right (λ square. square ≡ corner) → cond b (Some corner) None ≡ right
@@ -125,18 +125,18 @@ named true None corner i h = let e : false ≡ true = i.1 refl in absurd cc
 named false (Some square) corner i h = let e : false ≡ true = i.0 refl in absurd cc
 named false None corner i h = refl
 
-pub right-spelled : (letter : ℕ) (text : List ℕ) (right : Option ℕ) (corner : ℕ) → IsHeldBy letter text right corner
+pub right-denoted : (letter : ℕ) (text : List ℕ) (right : Option ℕ) (corner : ℕ) → IsHeldBy letter text right corner
     → right_named text letter corner ≡ right
-right-spelled letter text right corner s = named (occurs letter text) right corner s.0 s.1
+right-denoted letter text right corner s = named (occurs letter text) right corner s.0 s.1
 
 -- ---- in both variants
 
-pub spelled-by_letters : (v : Variant) (men : Men) (text : List ℕ) (c : Colour) (w : CastlingSide)
+pub denoted-by_letters : (v : Variant) (men : Men) (text : List ℕ) (c : Colour) (w : CastlingSide)
     → IsHeld v men text c w (right_by_letters v men text c w)
-spelled-by_letters Normal men text c w = spelled-right (side_letter c w) text (home_square c (rook_file w))
-spelled-by_letters Fischerandom men text c w = refl
+denoted-by_letters Normal men text c w = denoted-right (side_letter c w) text (home_square c (rook_file w))
+denoted-by_letters Fischerandom men text c w = refl
 
-pub by_letters-spelled : (v : Variant) (men : Men) (text : List ℕ) (c : Colour) (w : CastlingSide) (right : Option ℕ)
+pub by_letters-denoted : (v : Variant) (men : Men) (text : List ℕ) (c : Colour) (w : CastlingSide) (right : Option ℕ)
     → IsHeld v men text c w right → right_by_letters v men text c w ≡ right
-by_letters-spelled Normal men text c w right s = right-spelled (side_letter c w) text right (home_square c (rook_file w)) s
-by_letters-spelled Fischerandom men text c w right s = sym s
+by_letters-denoted Normal men text c w right s = right-denoted (side_letter c w) text right (home_square c (rook_file w)) s
+by_letters-denoted Fischerandom men text c w right s = sym s

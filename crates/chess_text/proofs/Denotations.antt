@@ -17,12 +17,12 @@ use Rattle.chess_text.specs.declared.described.Described.{Described}
 use Rattle.chess_text.specs.declared.parts.Parts.{Parts}
 use Rattle.chess_text.specs.declared.parts.Promotion.{Promotion}
 use Rattle.chess_text.specs.Parts.{unmarked, when, kind_text, file_text, rank_text}
-use Rattle.chess_text.specs.Moves.{is_castling_text, passes, spells_described, start_texts, capture_texts, promotion_texts, texts_by_squares, texts_by_letter, pawn_starts, texts_of_pawn}
+use Rattle.chess_text.specs.Moves.{is_castling_text, passes, denotes_described, start_texts, capture_texts, promotion_texts, texts_by_squares, texts_by_letter, pawn_starts, texts_of_pawn}
 use Rattle.chess_text.specs.ties.Fitting.{promotion_text, parts_text, admits, names, names_kind, promotes_so, has_equals, is_by_squares, is_by_letter, is_straight, is_by_file, parts_fit, has_parts, fits_text}
 use Rattle.chess_text.specs.ties.Reader.{parts_at}
-use Rattle.chess_text.specs.laws.Laws.{HasLetter, CanPromote, AreParts, IsSpelled}
+use Rattle.chess_text.specs.laws.Laws.{HasLetter, CanPromote, AreParts, IsDenoted}
 use Rattle.chess_text.proofs.Lists.{IsIn, Each, here, later, in-flat_map, in-one, in-append-left, in-append-right, each-nil, each-cons, each-flat_map, each-one, each-append}
-use Rattle.chess_text.proofs.Grammar.{spelled-parts, parts-spelled}
+use Rattle.chess_text.proofs.Grammar.{denoted-parts, parts-denoted}
 use Rattle.chess_text.proofs.SameKinds.{same_kind-self, same_kind-true}
 
 abbrev Text : Type 0
@@ -579,9 +579,9 @@ pub castled : (test : CastlingSide → Bool) (o : Option CastlingSide) → passe
 castled test None e = absurd cc
 castled test (Some w) e = (w, refl, e)
 
-is_spelled_so : (text : Text) (d : Described) → spells_described text d ≡ true → IsSpelled text d
-unfolding spells_described
-is_spelled_so text d e =
+is_denoted_so : (text : Text) (d : Described) → denotes_described text d ≡ true → IsDenoted text d
+unfolding denotes_described
+is_denoted_so text d e =
     elim (or_cases (passes (is_castling_text text) d.castles) (list_any (bytes_eq (unmarked text)) (texts_of d)) e) [
       | inl h ↦ inl (castled (is_castling_text text) d.castles h)
       | inr h ↦
@@ -589,24 +589,24 @@ is_spelled_so text d e =
           inr (f.1.0, f.1.1, (bytes_eq-Decides (unmarked text) f.0).0 f.2 ∙ f.1.2, f.1.3)
     ]
 
-castling_spells : (text : Text) (d : Described) (w : CastlingSide) → d.castles ≡ Some w
-    → is_castling_text text w ≡ true → spells_described text d ≡ true
-unfolding spells_described
-castling_spells text d w e h = rw (e, h) refl
+castling_denotes : (text : Text) (d : Described) (w : CastlingSide) → d.castles ≡ Some w
+    → is_castling_text text w ≡ true → denotes_described text d ≡ true
+unfolding denotes_described
+castling_denotes text d w e h = rw (e, h) refl
 
-parts_spell : (text : Text) (d : Described) (q : Parts) → Lettered q → unmarked text ≡ parts_text q
-    → parts_fit q d ≡ true → spells_described text d ≡ true
-unfolding spells_described
-parts_spell text d q has is fit =
+parts_denote : (text : Text) (d : Described) (q : Parts) → Lettered q → unmarked text ≡ parts_text q
+    → parts_fit q d ≡ true → denotes_described text d ≡ true
+unfolding denotes_described
+parts_denote text d q has is fit =
     or_right (passes (is_castling_text text) d.castles) (list_any (bytes_eq (unmarked text)) (texts_of d))
     (text_in q d has fit (bytes_eq (unmarked text)) ((bytes_eq-Decides (unmarked text) (parts_text q)).1 is))
 
-pub spelled_so : (text : Text) (d : Described) → IsSpelled text d → spells_described text d ≡ true
-spelled_so text d (inl h) = castling_spells text d h.0 h.1 h.2
-spelled_so text d (inr h) = parts_spell text d h.0 h.1 h.2 h.3
+pub denoted_so : (text : Text) (d : Described) → IsDenoted text d → denotes_described text d ≡ true
+denoted_so text d (inl h) = castling_denotes text d h.0 h.1 h.2
+denoted_so text d (inr h) = parts_denote text d h.0 h.1 h.2 h.3
 
-pub spelled_by_text : (text : Text) (d : Described) → IsTrue (spells_described text d) ↔ IsSpelled text d
-spelled_by_text text d = (is_spelled_so text d, spelled_so text d)
+pub denoted_by_text : (text : Text) (d : Described) → IsTrue (denotes_described text d) ↔ IsDenoted text d
+denoted_by_text text d = (is_denoted_so text d, denoted_so text d)
 
 -- ---- by the parts that are read
 
@@ -718,29 +718,29 @@ parts_fit_text : (text : Text) (d : Described) (q : Parts) → AreParts q → un
 unfolding fits_text has_parts
 parts_fit_text text d q are is fit =
     or_right (passes (is_castling_text text) d.castles) (passes (λ r. parts_fit r d) (parts_at (unmarked text)))
-    (ap (passes (λ r. parts_fit r d)) (ap parts_at is ∙ parts-spelled q are) ∙ fit)
+    (ap (passes (λ r. parts_fit r d)) (ap parts_at is ∙ parts-denoted q are) ∙ fit)
 
-fits_so : (text : Text) (d : Described) → d.from < 64 → d.to < 64 → IfSome d.promotion CanPromote → IsSpelled text d
+fits_so : (text : Text) (d : Described) → d.from < 64 → d.to < 64 → IfSome d.promotion CanPromote → IsDenoted text d
     → fits_text text d ≡ true
 fits_so text d from to promotion (inl h) = castling_fits text d h.0 h.1 h.2
 fits_so text d from to promotion (inr h) =
     parts_fit_text text d h.0 (are_parts h.0 d h.1 from to promotion h.3) h.2 h.3
 
-pub fits_cases : (text : Text) (d : Described) → fits_text text d ≡ true → IsSpelled text d
+pub fits_cases : (text : Text) (d : Described) → fits_text text d ≡ true → IsDenoted text d
 unfolding fits_text has_parts
 fits_cases text d e =
     elim (or_cases (passes (is_castling_text text) d.castles) (passes (λ r. parts_fit r d) (parts_at (unmarked text))) e) [
       | inl h ↦ inl (castled (is_castling_text text) d.castles h)
       | inr h ↦
           let of = of_parts (λ r. parts_fit r d) (parts_at (unmarked text)) h in
-          let is = spelled-parts (unmarked text) of.0 of.1 in
+          let is = denoted-parts (unmarked text) of.0 of.1 in
           inr (of.0, is.0.letter_is, is.1, of.2)
     ]
 
 -- of a move on the board a text denotes it just where its parts fit
-pub spells_is : (text : Text) (d : Described) → d.from < 64 → d.to < 64 → IfSome d.promotion CanPromote
-    → spells_described text d ≡ fits_text text d
-spells_is text d from to promotion =
-    bool_same (spells_described text d) (fits_text text d)
-    (λ e. fits_so text d from to promotion (is_spelled_so text d e))
-    (λ e. spelled_so text d (fits_cases text d e))
+pub denotes_is : (text : Text) (d : Described) → d.from < 64 → d.to < 64 → IfSome d.promotion CanPromote
+    → denotes_described text d ≡ fits_text text d
+denotes_is text d from to promotion =
+    bool_same (denotes_described text d) (fits_text text d)
+    (λ e. fits_so text d from to promotion (is_denoted_so text d e))
+    (λ e. denoted_so text d (fits_cases text d e))

@@ -27,14 +27,14 @@ StandsFor c squares = ((man : Man) × (c ≡ letter man) × (squares ≡ Some ma
     ⊎ ((n : ℕ) × (0 < n) × (n ≤ 8) × (c ≡ byte "0" + n) × (squares ≡ replicate n None))
 
 -- a part of a rank's text denotes these squares, from left to right: "p2" a black pawn and two empty squares
-abbrev pub SpellsSquares : List ℕ → List (Option Man) → Type 0
-SpellsSquares [] squares = squares ≡ []
-SpellsSquares (c ∷ cs) squares = (first : List (Option Man)) × (others : List (Option Man)) × StandsFor c first
-    × SpellsSquares cs others × (squares ≡ first ++ others)
+abbrev pub DenotesSquares : List ℕ → List (Option Man) → Type 0
+DenotesSquares [] squares = squares ≡ []
+DenotesSquares (c ∷ cs) squares = (first : List (Option Man)) × (others : List (Option Man)) × StandsFor c first
+    × DenotesSquares cs others × (squares ≡ first ++ others)
 
 -- the text denotes these squares of one rank, from file a to file h, and they are eight
-abbrev pub SpellsRank : List ℕ → List (Option Man) → Type 0
-SpellsRank text row = SpellsSquares text row × (length row ≡ 8)
+abbrev pub DenotesRank : List ℕ → List (Option Man) → Type 0
+DenotesRank text row = DenotesSquares text row × (length row ≡ 8)
 
 -- the squares of ranks that are given from the highest down, as one list from the lowest up (a1 to h8)
 abbrev pub from_top : List (List (Option Man)) → List (Option Man)
@@ -42,9 +42,9 @@ from_top [] = []
 from_top (row ∷ rows) = from_top rows ++ row
 
 -- the text, a FEN's first field, denotes these pieces: eight ranks, rank 8 first, with a slash between them
-abbrev pub SpellsPlacement : List ℕ → List (Option Man) → Type 0
-SpellsPlacement text men = (rows : List (List (Option Man))) × (length rows ≡ 8)
-    × AllZip SpellsRank (slice_split (λ c. c == stroke) text) rows × (men ≡ from_top rows)
+abbrev pub DenotesPlacement : List ℕ → List (Option Man) → Type 0
+DenotesPlacement text men = (rows : List (List (Option Man))) × (length rows ≡ 8)
+    × AllZip DenotesRank (slice_split (λ c. c == stroke) text) rows × (men ≡ from_top rows)
 
 -- the text is one to four of the letters K, Q, k and q, in Chess960 of the files A to H and a to h too, none twice
 pub record AreRightLetters (v : Variant) (text : List ℕ) : Type 0 where
@@ -70,7 +70,7 @@ IsHeld Normal men text c w right = IsHeldBy (side_letter c w) text right (home_s
 IsHeld Fischerandom men text c w right = right ≡ right_by_letters Fischerandom men text c w
 
 -- the text, a FEN's third field, denotes the castling rights of position p; a dash denotes that there is none
-pub record SpellsRights (text : List ℕ) (p : Setup) : Type 0 where
+pub record DenotesRights (text : List ℕ) (p : Setup) : Type 0 where
   pub letters : IsCastling p.variant text
   pub white_king_side : IsHeld p.variant p.men text White KingSide (right_of p.rights White KingSide)
   pub white_queen_side : IsHeld p.variant p.men text White QueenSide (right_of p.rights White QueenSide)
@@ -79,41 +79,41 @@ pub record SpellsRights (text : List ℕ) (p : Setup) : Type 0 where
 
 -- the text, a FEN's fourth field, denotes this en passant target: a dash for none, else the name of a square on rank 3
 -- or 6
-abbrev pub SpellsTarget : List ℕ → Option ℕ → Type 0
-SpellsTarget text target = (text ≡ target_text target) × IfSome target (λ square. (rank square ≡ 2) ⊎ (rank square ≡ 5))
+abbrev pub DenotesTarget : List ℕ → Option ℕ → Type 0
+DenotesTarget text target = (text ≡ target_text target) × IfSome target (λ square. (rank square ≡ 2) ⊎ (rank square ≡ 5))
 
 -- the text is one to six digits, which denote the number n
-abbrev pub SpellsNumber : List ℕ → ℕ → Type 0
-SpellsNumber text n = (0 < length text) × (length text ≤ 6) × AllByRecursion (λ c. (byte "0" ≤ c) × (c ≤ byte "9")) text
+abbrev pub DenotesNumber : List ℕ → ℕ → Type 0
+DenotesNumber text n = (0 < length text) × (length text ≤ 6) × AllByRecursion (λ c. (byte "0" ≤ c) × (c ≤ byte "9")) text
     × (n ≡ digits_value 10 text)
 
 -- the fields after the target denote the halfmove clock and the fullmove number: there are none (then 0 and 1), or
 -- both; a fullmove number of 0 is read as 1
-abbrev pub SpellsCounters : List (List ℕ) → ℕ → ℕ → Type 0
-SpellsCounters [] halfmove fullmove = (halfmove ≡ 0) × (fullmove ≡ 1)
-SpellsCounters (a ∷ []) halfmove fullmove = ⊥
-SpellsCounters (a ∷ b ∷ []) halfmove fullmove =
-    SpellsNumber a halfmove × ((n : ℕ) × SpellsNumber b n × (fullmove ≡ max n 1))
-SpellsCounters (a ∷ b ∷ c ∷ more) halfmove fullmove = ⊥
+abbrev pub DenotesCounters : List (List ℕ) → ℕ → ℕ → Type 0
+DenotesCounters [] halfmove fullmove = (halfmove ≡ 0) × (fullmove ≡ 1)
+DenotesCounters (a ∷ []) halfmove fullmove = ⊥
+DenotesCounters (a ∷ b ∷ []) halfmove fullmove =
+    DenotesNumber a halfmove × ((n : ℕ) × DenotesNumber b n × (fullmove ≡ max n 1))
+DenotesCounters (a ∷ b ∷ c ∷ more) halfmove fullmove = ⊥
 
 -- the fields of a FEN denote position p: a the pieces, b the side on move, c the rights, d the en passant target, and
 -- `counters_text` the two counters (or none of them)
-pub record SpellsFields (a b c d : List ℕ) (counters_text : List (List ℕ)) (p : Setup) : Type 0 where
-  pub men : SpellsPlacement a p.men
+pub record DenotesFields (a b c d : List ℕ) (counters_text : List (List ℕ)) (p : Setup) : Type 0 where
+  pub men : DenotesPlacement a p.men
   pub side : b ≡ side_text p.side
-  pub rights : SpellsRights c p
-  pub target : SpellsTarget d p.target
-  pub counters : SpellsCounters counters_text p.halfmove p.fullmove
+  pub rights : DenotesRights c p
+  pub target : DenotesTarget d p.target
+  pub counters : DenotesCounters counters_text p.halfmove p.fullmove
 
 -- the text has four fields or six, and they denote position p, in p's variant
-abbrev pub SpellsFenOf : List ℕ → Setup → Type 0
-SpellsFenOf text p = (a : List ℕ) × (b : List ℕ) × (c : List ℕ) × (d : List ℕ) × (more : List (List ℕ))
-    × (fields_of text ≡ a ∷ b ∷ c ∷ d ∷ more) × SpellsFields a b c d more p
+abbrev pub DenotesFenOf : List ℕ → Setup → Type 0
+DenotesFenOf text p = (a : List ℕ) × (b : List ℕ) × (c : List ℕ) × (d : List ℕ) × (more : List (List ℕ))
+    × (fields_of text ≡ a ∷ b ∷ c ∷ d ∷ more) × DenotesFields a b c d more p
 
 -- the text denotes position p as a FEN, and p is of variant v
-abbrev pub SpellsFenAs : Variant → List ℕ → Setup → Type 0
-SpellsFenAs v text p = (p.variant ≡ v) × SpellsFenOf text p
+abbrev pub DenotesFenAs : Variant → List ℕ → Setup → Type 0
+DenotesFenAs v text p = (p.variant ≡ v) × DenotesFenOf text p
 
 -- the text denotes position p as a FEN of normal chess
-abbrev pub SpellsFen : List ℕ → Setup → Type 0
-SpellsFen text p = SpellsFenAs Normal text p
+abbrev pub DenotesFen : List ℕ → Setup → Type 0
+DenotesFen text p = DenotesFenAs Normal text p

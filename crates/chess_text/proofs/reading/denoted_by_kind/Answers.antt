@@ -4,14 +4,14 @@ use Rattle.std.proofs.Common.{ap, ◌∙◌}
 use Rattle.std.specs.List.{flat_map}
 use Rattle.chess_moves.specs.Sets.{members}
 use Rattle.chess_text.specs.Moves.{one_of}
-use Rattle.chess_text.specs.ties.Forms.{spelled_start}
+use Rattle.chess_text.specs.ties.Forms.{denoted_start}
 use Rattle.chess_text.proofs.Starts.{by_starts}
-use Rattle.chess_text.proofs.reading.spelled_by_kind.Goals as goal
+use Rattle.chess_text.proofs.reading.denoted_by_kind.Goals as goal
 
 pub returns : goal.returns
 returns g c =
     by_starts (g.B.Board.position c.args.board.now) c.args.parts.now c.args.kind c.legal_starts.result
-    c.spelled_among.result c.requires c.legal_starts.ensures
-    (c.spelled_among.ensures
-    ∙ ap (λ s. one_of (flat_map (spelled_start c.args.parts.now s c.args.kind) (members c.legal_starts.result)))
+    c.denoted_among.result c.requires c.legal_starts.ensures
+    (c.denoted_among.ensures
+    ∙ ap (λ s. one_of (flat_map (denoted_start c.args.parts.now s c.args.kind) (members c.legal_starts.result)))
     c.setup.ensures.value)

@@ -1,23 +1,23 @@
 -- A legal move that the form denotes begins on a square of the set, and all such moves end on one square: so those from
--- the set's squares to that one are all (spelled_from of Origins).
+-- the set's squares to that one are all (denoted_from of Origins).
 use Rattle.std.proofs.Common.{ap, ◌∙◌}
 use Rattle.chess_base.specs.MoveList.{promotions}
-use Rattle.chess_text.specs.ties.Forms.{end_square, spelled_with, with_moves}
+use Rattle.chess_text.specs.ties.Forms.{end_square, denoted_with, with_moves}
 use Rattle.chess_text.specs.declared.reading.Reading.TheVariants as reads
-use Rattle.chess_text.proofs.Origins.{spelled_from, one_found, more_found}
-use Rattle.chess_text.proofs.reading.spelled_from_origins.Goals as goal
+use Rattle.chess_text.proofs.Origins.{denoted_from, one_found, more_found}
+use Rattle.chess_text.proofs.reading.denoted_from_origins.Goals as goal
 
 pub loop-from-init : goal.loop-from-init
 loop-from-init g c =
     ap (with_moves reads.NoSuch)
-    (spelled_from c.args.form.now (g.B.Board.position c.args.board.now) c.form_origins-rest.result
+    (denoted_from c.args.form.now (g.B.Board.position c.args.board.now) c.form_origins-rest.result
     c.form_origins-rest.ensures) ∙ one_found _
 
 pub loop-from-preserved : goal.loop-from-preserved
 loop-from-preserved g c =
     let p = g.B.Board.position c.args.board.now in
-    more_found (λ a. spelled_with c.args.form.now p a (end_square c.args.form.now p) promotions) c.loop-from.found _ _
+    more_found (λ a. denoted_with c.args.form.now p a (end_square c.args.form.now p) promotions) c.loop-from.found _ _
     c.in-Some.from _ _ c.in-Some.ensures c.loop-from.invariant
-    (c.with_spelled_between-found.ensures
-    ∙ ap (λ b. with_moves c.loop-from.found (spelled_with c.args.form.now p c.in-Some.from b promotions))
+    (c.with_denoted_between-found.ensures
+    ∙ ap (λ b. with_moves c.loop-from.found (denoted_with c.args.form.now p c.in-Some.from b promotions))
     (c.end_square-to.ensures ∙ ap (end_square c.args.form.now) c.setup.ensures.value))

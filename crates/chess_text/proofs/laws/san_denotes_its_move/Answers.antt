@@ -2,10 +2,10 @@
 -- start tells it from all rivals. So one legal move alone fits (SanLaw), and the text is read as it (read_alone of
 -- Alone).
 use Rattle.chess_text.proofs.SanLaw.{san_alone, san_shape, san_read}
-use Rattle.chess_text.proofs.laws.san_spells_its_move.Goals as goal
+use Rattle.chess_text.proofs.laws.san_denotes_its_move.Goals as goal
 
-pub returns-clause-spells : goal.returns-clause-spells
-returns-clause-spells c = san_alone
+pub returns-clause-denotes : goal.returns-clause-denotes
+returns-clause-denotes c = san_alone
 
 pub returns-clause-shape : goal.returns-clause-shape
 returns-clause-shape c = san_shape

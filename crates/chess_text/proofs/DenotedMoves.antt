@@ -20,7 +20,7 @@ use Rattle.chess_text.specs.declared.form.Form.TheVariants.{Castling, Piece}
 use Rattle.chess_text.specs.declared.parts.Parts.{Parts}
 use Rattle.chess_text.specs.Moves.{described, passes}
 use Rattle.chess_text.specs.ties.Fitting.{is_by_squares, is_by_letter, is_straight, is_by_file, parts_fit}
-use Rattle.chess_text.specs.ties.Forms.{same_side, form_fits, is_spelled, castling_end, end_square, spelled_with}
+use Rattle.chess_text.specs.ties.Forms.{same_side, form_fits, is_denoted, castling_end, end_square, denoted_with}
 use Rattle.chess_text.proofs.Alone.{castled}
 use Rattle.chess_text.proofs.AllMoves.{filter-both, none-kept, kept, alone-square}
 use Rattle.chess_text.proofs.Legal.{described_by, castling_says, names_end, legal_move}
@@ -72,24 +72,24 @@ form_ends (Castling w) p m (Some x) h =
     names_end p.variant p.side m c.0 (right_of p.rights p.side c.0) (castling_says p m c.0 c.1).1
     ∙ ap (λ v. castling_end p.variant p.side v (right_of p.rights p.side v)) (sym (same_side-true w c.0 c.2))
 
-pub spelled_ends : (form : Form) (p : Setup) (m : Move) → is_spelled form p m ≡ true → m.to ≡ end_square form p
-unfolding is_spelled described
-spelled_ends form p m h = form_ends form p m (man_at p.men m.from) h
+pub denoted_ends : (form : Form) (p : Setup) (m : Move) → is_denoted form p m ≡ true → m.to ≡ end_square form p
+unfolding is_denoted described
+denoted_ends form p m h = form_ends form p m (man_at p.men m.from) h
 
 -- ---- all of them
 
 abbrev fit : Form → Setup → Move → Bool
-fit form p m = is_spelled form p m && is_legal p m
+fit form p m = is_denoted form p m && is_legal p m
 
 not_fit : (form : Form) (p : Setup) (m : Move) → m.to ≢ end_square form p → fit form p m ≡ false
 not_fit form p m away =
     false_from_ne_true (fit form p m)
-    (λ h. away (spelled_ends form p m (and_parts (is_spelled form p m) (is_legal p m) h).0))
+    (λ h. away (denoted_ends form p m (and_parts (is_denoted form p m) (is_legal p m) h).0))
 
 not_legal : (form : Form) (p : Setup) (m : Move) → 64 ≤ m.to → fit form p m ≡ false
 not_legal form p m past =
     false_from_ne_true (fit form p m)
-    (λ h. let legal = legal_move p m (and_parts (is_spelled form p m) (is_legal p m) h).1 in let below = legal.to_in in
+    (λ h. let legal = legal_move p m (and_parts (is_denoted form p m) (is_legal p m) h).1 in let below = legal.to_in in
     omega (arith, below, past))
 
 filter_same : {A : Type 0} (q t : A → Bool) → ((x : A) → q x ≡ t x) → (xs : List A) → filter q xs ≡ filter t xs
@@ -103,21 +103,21 @@ flat_map_same f g h (x ∷ xs) = rw (h x, flat_map_same f g h xs) refl
 
 -- from one square
 from_one : (form : Form) (p : Setup) (a : ℕ) → filter (fit form p) (flat_map (λ b. map (move_of a b) promotions) squares)
-    ≡ spelled_with form p a (end_square form p) promotions
+    ≡ denoted_with form p a (end_square form p) promotions
 from_one form p a =
     filter-flat_map (fit form p) (λ b. map (move_of a b) promotions) squares
     ∙ alone-square (λ b. kept (fit form p) a b) (end_square form p)
     (λ b away. none-kept (fit form p) a b (λ k. not_fit form p (move_of a b k) away))
     (λ past. none-kept (fit form p) a (end_square form p) (λ k. not_legal form p (move_of a (end_square form p) k) past))
 
-pub all_spelled : (form : Form) (p : Setup)
-    → flat_map (λ a. spelled_with form p a (end_square form p) promotions) squares
-    ≡ filter (λ m. is_spelled form p m) (moves p)
+pub all_denoted : (form : Form) (p : Setup)
+    → flat_map (λ a. denoted_with form p a (end_square form p) promotions) squares
+    ≡ filter (λ m. is_denoted form p m) (moves p)
 unfolding moves all_moves
-all_spelled form p =
-    sym (filter-both (λ m. is_legal p m) (λ m. is_spelled form p m) all_moves
-    ∙ filter_same (λ m. is_legal p m && is_spelled form p m) (fit form p)
-    (λ m. and_comm (is_legal p m) (is_spelled form p m)) all_moves
+all_denoted form p =
+    sym (filter-both (λ m. is_legal p m) (λ m. is_denoted form p m) all_moves
+    ∙ filter_same (λ m. is_legal p m && is_denoted form p m) (fit form p)
+    (λ m. and_comm (is_legal p m) (is_denoted form p m)) all_moves
     ∙ filter-flat_map (fit form p) (λ a. flat_map (λ b. map (move_of a b) promotions) squares) squares
     ∙ flat_map_same (λ a. filter (fit form p) (flat_map (λ b. map (move_of a b) promotions) squares))
-    (λ a. spelled_with form p a (end_square form p) promotions) (from_one form p) squares)
+    (λ a. denoted_with form p a (end_square form p) promotions) (from_one form p) squares)

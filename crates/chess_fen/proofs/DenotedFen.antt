@@ -18,29 +18,29 @@ use Rattle.chess_base.specs.declared.fault.FenFault.TheVariants as faults
 use Rattle.chess_fen.specs.RightNames.{right_by_letters}
 use Rattle.chess_fen.specs.Texts.{number_of, placement_of, is_castling, target_of, fields_of}
 use Rattle.chess_fen.specs.Reading.{◌>>=◌, side_of, rights_of, setup_by, setup_in, unless_fault, fen_reading_as}
-use Rattle.chess_fen.specs.Spelling.{IsCastling, SpellsCounters, SpellsRights, SpellsFields, SpellsFenAs}
-use Rattle.chess_fen.specs.FenFaults.{IsFieldFault, HasWrongFieldCount, IsMisspelled, IsFaultAs}
-use Rattle.chess_fen.proofs.SpelledRights.{spelled-castling, castling-spelled, spelled-by_letters, by_letters-spelled}
-use Rattle.chess_fen.proofs.SpelledFields.{spelled-placement, placement-spelled, spelled-side, side-spelled, spelled-target, target-spelled, spelled-number, number-spelled}
+use Rattle.chess_fen.specs.Denotation.{IsCastling, DenotesCounters, DenotesRights, DenotesFields, DenotesFenAs}
+use Rattle.chess_fen.specs.FenFaults.{IsFieldFault, HasWrongFieldCount, IsMalformed, IsFaultAs}
+use Rattle.chess_fen.proofs.DenotedRights.{denoted-castling, castling-denoted, denoted-by_letters, by_letters-denoted}
+use Rattle.chess_fen.proofs.DenotedFields.{denoted-placement, placement-denoted, denoted-side, side-denoted, denoted-target, target-denoted, denoted-number, number-denoted}
 
 -- ---- counters
 
 -- the texts h and f of the counters, which the fields `more` give or leave out
 record AreCounters (more : List (List ℕ)) (h f : List ℕ) : Type 0 where
-  read : (n k : ℕ) → number_of h ≡ Some n → number_of f ≡ Some k → SpellsCounters more n (max k 1)
-  spelled : (n m : ℕ) → SpellsCounters more n m
+  read : (n k : ℕ) → number_of h ≡ Some n → number_of f ≡ Some k → DenotesCounters more n (max k 1)
+  denoted : (n m : ℕ) → DenotesCounters more n m
       → (k : ℕ) × (number_of h ≡ Some n) × (number_of f ≡ Some k) × (m ≡ max k 1)
 
 left_out : AreCounters [] (codes "0") (codes "1")
-left_out = record { read = read; spelled = λ n m s. (1, ap Some (sym s.0), refl, s.1) }
+left_out = record { read = read; denoted = λ n m s. (1, ap Some (sym s.0), refl, s.1) }
   where
-    read : (n k : ℕ) → Some 0 ≡ Some n → Some 1 ≡ Some k → SpellsCounters [] n (max k 1)
+    read : (n k : ℕ) → Some 0 ≡ Some n → Some 1 ≡ Some k → DenotesCounters [] n (max k 1)
     read n k p q = let a : n ≡ 0 = cc in let b : k ≡ 1 = cc in (a, ap (λ j. max j 1) b)
 
 given : (h f : List ℕ) → AreCounters (h ∷ f ∷ []) h f
 given h f = record {
-  read = λ n k p q. (spelled-number h n p, (k, spelled-number f k q, refl));
-  spelled = λ n m s. (s.1.0, number-spelled h n s.0, number-spelled f s.1.0 s.1.1, s.1.2);
+  read = λ n k p q. (denoted-number h n p, (k, denoted-number f k q, refl));
+  denoted = λ n m s. (s.1.0, number-denoted h n s.0, number-denoted f s.1.0 s.1.1, s.1.2);
 }
 
 -- ---- the fields in turn
@@ -72,7 +72,7 @@ with_side v men b c d h f = ok_or (side_of b) faults.Side >>= λ colour. with_ri
 
 -- either the fields denote the position, or the first that denotes nothing is the fault
 abbrev Outcome : Variant → List ℕ → List ℕ → List ℕ → List ℕ → List (List ℕ) → Result Setup FenFault → Type 0
-Outcome v a b c d more (Ok p) = (p.variant ≡ v) × SpellsFields a b c d more p
+Outcome v a b c d more (Ok p) = (p.variant ≡ v) × DenotesFields a b c d more p
 Outcome v a b c d more (Err f) = IsFieldFault v a b c d more f
 
 some_impossible : {A : Type 0} (o : Option A) (x : A) → o ≡ None → o ≡ Some x → ⊥
@@ -86,33 +86,33 @@ numbers_outcome : (v : Variant) (a b c d h f : List ℕ) (more : List (List ℕ)
 numbers_outcome v a b c d h f more men colour passed counters hm hs hc ht =
     by_numbers (number_of h) refl (number_of f) refl
   where
-    faulty : ((n m : ℕ) → SpellsCounters more n m → ⊥) → IsFieldFault v a b c d more faults.Counters
+    faulty : ((n m : ℕ) → DenotesCounters more n m → ⊥) → IsFieldFault v a b c d more faults.Counters
     faulty none = (
-      (men, spelled-placement a men hm),
-      (colour, spelled-side b colour hs),
-      spelled-castling v c hc,
-      (passed, spelled-target d passed ht),
+      (men, denoted-placement a men hm),
+      (colour, denoted-side b colour hs),
+      denoted-castling v c hc,
+      (passed, denoted-target d passed ht),
       none,
     )
 
     by_numbers : (o : Option ℕ) → number_of h ≡ o → (u : Option ℕ) → number_of f ≡ u
         → Outcome v a b c d more (with_numbers v men colour (rights_by (right_by_letters v men c)) passed o u)
-    by_numbers None e u i = faulty (λ n m s. some_impossible (number_of h) n e (counters.spelled n m s).1)
+    by_numbers None e u i = faulty (λ n m s. some_impossible (number_of h) n e (counters.denoted n m s).1)
     by_numbers (Some n) e None i =
-        faulty (λ n m s. let k = counters.spelled n m s in some_impossible (number_of f) k.0 i k.2)
+        faulty (λ n m s. let k = counters.denoted n m s in some_impossible (number_of f) k.0 i k.2)
     by_numbers (Some n) e (Some k) i = (
       refl,
       record {
-        men = spelled-placement a men hm;
-        side = spelled-side b colour hs;
+        men = denoted-placement a men hm;
+        side = denoted-side b colour hs;
         rights = record {
-          letters = spelled-castling v c hc;
-          white_king_side = spelled-by_letters v men c White KingSide;
-          white_queen_side = spelled-by_letters v men c White QueenSide;
-          black_king_side = spelled-by_letters v men c Black KingSide;
-          black_queen_side = spelled-by_letters v men c Black QueenSide;
+          letters = denoted-castling v c hc;
+          white_king_side = denoted-by_letters v men c White KingSide;
+          white_queen_side = denoted-by_letters v men c White QueenSide;
+          black_king_side = denoted-by_letters v men c Black KingSide;
+          black_queen_side = denoted-by_letters v men c Black QueenSide;
         };
-        target = spelled-target d passed ht;
+        target = denoted-target d passed ht;
         counters = counters.read n k e i;
       },
     )
@@ -126,10 +126,10 @@ target_outcome v a b c d h f more men colour counters hm hs hc = by_target (targ
         → Outcome v a b c d more (ok_or o faults.EnPassant >>= λ passed. with_numbers v men colour
         (rights_by (right_by_letters v men c)) passed (number_of h) (number_of f))
     by_target None e = (
-      (men, spelled-placement a men hm),
-      (colour, spelled-side b colour hs),
-      spelled-castling v c hc,
-      (λ target s. some_impossible (target_of d) target e (target-spelled d target s)),
+      (men, denoted-placement a men hm),
+      (colour, denoted-side b colour hs),
+      denoted-castling v c hc,
+      (λ target s. some_impossible (target_of d) target e (target-denoted d target s)),
     )
     by_target (Some passed) e = numbers_outcome v a b c d h f more men colour passed counters hm hs hc e
 
@@ -144,9 +144,9 @@ rights_outcome v a b c d h f more men colour counters hm hs = by_test (is_castli
         men colour rights d h f)
     by_test true e = target_outcome v a b c d h f more men colour counters hm hs e
     by_test false e = (
-      (men, spelled-placement a men hm),
-      (colour, spelled-side b colour hs),
-      (λ s. let t = sym e ∙ castling-spelled v c s in absurd cc),
+      (men, denoted-placement a men hm),
+      (colour, denoted-side b colour hs),
+      (λ s. let t = sym e ∙ castling-denoted v c s in absurd cc),
     )
 
 side_outcome : (v : Variant) (a b c d h f : List ℕ) (more : List (List ℕ)) (men : Men) → AreCounters more h f
@@ -156,9 +156,9 @@ side_outcome v a b c d h f more men counters hm = by_side (side_of b) refl
     by_side : (o : Option Colour) → side_of b ≡ o
         → Outcome v a b c d more (ok_or o faults.Side >>= λ colour. with_rights v men colour c d h f)
     by_side None e = (
-      (men, spelled-placement a men hm),
+      (men, denoted-placement a men hm),
       (λ colour s. some_impossible (side_of b) colour e
-          (side-spelled b colour s)),
+          (side-denoted b colour s)),
     )
     by_side (Some colour) e = rights_outcome v a b c d h f more men colour counters hm e
 
@@ -168,15 +168,15 @@ outcome v a b c d h f more counters = by_men (placement_of a) refl
   where
     by_men : (o : Option Men) → placement_of a ≡ o
         → Outcome v a b c d more (ok_or o faults.Placement >>= λ men. with_side v men b c d h f)
-    by_men None e = (λ men s. some_impossible (placement_of a) men e (placement-spelled a men s))
+    by_men None e = (λ men s. some_impossible (placement_of a) men e (placement-denoted a men s))
     by_men (Some men) e = side_outcome v a b c d h f more men counters e
 
 -- ---- the text
 
 -- what the reading of a text says of it
 abbrev pub TextOutcome : Variant → List ℕ → Result Setup FenFault → Type 0
-TextOutcome v text (Ok p) = SpellsFenAs v text p
-TextOutcome v text (Err f) = HasWrongFieldCount text f ⊎ IsMisspelled v text f
+TextOutcome v text (Ok p) = DenotesFenAs v text p
+TextOutcome v text (Err f) = HasWrongFieldCount text f ⊎ IsMalformed v text f
 
 of_fields : (v : Variant) (text : List ℕ) (a b c d : List ℕ) (more : List (List ℕ))
     → fields_of text ≡ a ∷ b ∷ c ∷ d ∷ more → (length more ≡ 0) ⊎ (length more ≡ 2) → (r : Result Setup FenFault)
@@ -212,25 +212,25 @@ text_outcome v text = text_outcome_by v text (fields_of text) refl
 
 -- ---- and back
 
-rights-spelled : (c : List ℕ) (p : Setup) → SpellsRights c p → rights_of p.variant p.men c ≡ Some p.rights
-rights-spelled c p s =
+rights-denoted : (c : List ℕ) (p : Setup) → DenotesRights c p → rights_of p.variant p.men c ≡ Some p.rights
+rights-denoted c p s =
     rw (
-      castling-spelled p.variant c s.letters,
-      by_letters-spelled p.variant p.men c White KingSide p.rights.white.king_side s.white_king_side,
-      by_letters-spelled p.variant p.men c White QueenSide p.rights.white.queen_side s.white_queen_side,
-      by_letters-spelled p.variant p.men c Black KingSide p.rights.black.king_side s.black_king_side,
-      by_letters-spelled p.variant p.men c Black QueenSide p.rights.black.queen_side s.black_queen_side,
+      castling-denoted p.variant c s.letters,
+      by_letters-denoted p.variant p.men c White KingSide p.rights.white.king_side s.white_king_side,
+      by_letters-denoted p.variant p.men c White QueenSide p.rights.white.queen_side s.white_queen_side,
+      by_letters-denoted p.variant p.men c Black KingSide p.rights.black.king_side s.black_king_side,
+      by_letters-denoted p.variant p.men c Black QueenSide p.rights.black.queen_side s.black_queen_side,
     ) refl
 
-fields-spelled : (a b c d h f : List ℕ) (more : List (List ℕ)) (p : Setup) → AreCounters more h f
-    → SpellsFields a b c d more p → setup_by p.variant a b c d h f ≡ Ok p
-fields-spelled a b c d h f more p counters s =
-    let k = counters.spelled p.halfmove p.fullmove s.counters in
+fields-denoted : (a b c d h f : List ℕ) (more : List (List ℕ)) (p : Setup) → AreCounters more h f
+    → DenotesFields a b c d more p → setup_by p.variant a b c d h f ≡ Ok p
+fields-denoted a b c d h f more p counters s =
+    let k = counters.denoted p.halfmove p.fullmove s.counters in
     rw (
-      placement-spelled a p.men s.men,
-      side-spelled b p.side s.side,
-      rights-spelled c p s.rights,
-      target-spelled d p.target s.target,
+      placement-denoted a p.men s.men,
+      side-denoted b p.side s.side,
+      rights-denoted c p s.rights,
+      target-denoted d p.target s.target,
       k.1,
       k.2,
     )
@@ -245,16 +245,16 @@ fields-spelled a b c d h f more p counters s =
     }))
     (sym k.3))
 
-in_fields : (a b c d : List ℕ) (more : List (List ℕ)) (p : Setup) → SpellsFields a b c d more p
+in_fields : (a b c d : List ℕ) (more : List (List ℕ)) (p : Setup) → DenotesFields a b c d more p
     → setup_in p.variant (a ∷ b ∷ c ∷ d ∷ more) ≡ Ok p
-in_fields a b c d [] p s = fields-spelled a b c d (codes "0") (codes "1") [] p left_out s
+in_fields a b c d [] p s = fields-denoted a b c d (codes "0") (codes "1") [] p left_out s
 in_fields a b c d (f ∷ []) p s = absurd s.counters
-in_fields a b c d (f ∷ g ∷ []) p s = fields-spelled a b c d f g (f ∷ g ∷ []) p (given f g) s
+in_fields a b c d (f ∷ g ∷ []) p s = fields-denoted a b c d f g (f ∷ g ∷ []) p (given f g) s
 in_fields a b c d (f ∷ g ∷ h ∷ more) p s = absurd s.counters
 
-pub setup-spelled : (v : Variant) (text : List ℕ) (p : Setup) → SpellsFenAs v text p
+pub setup-denoted : (v : Variant) (text : List ℕ) (p : Setup) → DenotesFenAs v text p
     → setup_in v (fields_of text) ≡ Ok p
-setup-spelled v text p (is, s) =
+setup-denoted v text p (is, s) =
     ap (λ u. setup_in u (fields_of text)) (sym is)
     ∙ (ap (setup_in p.variant) s.5 ∙ in_fields s.0 s.1 s.2 s.3 s.4 p s.6)
 
@@ -264,25 +264,25 @@ setup-spelled v text p (is, s) =
 abbrev if_sound : Setup → Result Setup FenFault
 if_sound p = unless_fault p (setup_fault p)
 
-pub reading-spelled : (v : Variant) (text : List ℕ) (p : Setup) → SpellsFenAs v text p → IsSound p
+pub reading-denoted : (v : Variant) (text : List ℕ) (p : Setup) → DenotesFenAs v text p → IsSound p
     → fen_reading_as v text ≡ Ok p
-reading-spelled v text p s h = ap (λ r. r >>= if_sound) (setup-spelled v text p s)
+reading-denoted v text p s h = ap (λ r. r >>= if_sound) (setup-denoted v text p s)
     ∙ ap (unless_fault p) (no_fault_from_IsSound p h)
 
 -- the text denotes what is read, and the fault is true
 abbrev ReadingOutcome : Variant → List ℕ → Result Setup FenFault → Type 0
-ReadingOutcome v text (Ok p) = SpellsFenAs v text p
+ReadingOutcome v text (Ok p) = DenotesFenAs v text p
 ReadingOutcome v text (Err f) = IsFaultAs v text f
 
 pub reading_outcome : (v : Variant) (text : List ℕ) → ReadingOutcome v text (fen_reading_as v text)
 reading_outcome v text = by_setup (setup_in v (fields_of text)) (text_outcome v text)
   where
-    by_sound : (p : Setup) → SpellsFenAs v text p → (o : Option FenFault) → setup_fault p ≡ o
+    by_sound : (p : Setup) → DenotesFenAs v text p → (o : Option FenFault) → setup_fault p ≡ o
         → ReadingOutcome v text (unless_fault p o)
     by_sound p s None e = s
     by_sound p s (Some f) e = inr (inr (p, s, e))
 
-    first_two : (f : FenFault) → HasWrongFieldCount text f ⊎ IsMisspelled v text f → IsFaultAs v text f
+    first_two : (f : FenFault) → HasWrongFieldCount text f ⊎ IsMalformed v text f → IsFaultAs v text f
     first_two f (inl h) = inl h
     first_two f (inr h) = inr (inl h)
 
@@ -290,7 +290,7 @@ reading_outcome v text = by_setup (setup_in v (fields_of text)) (text_outcome v 
     by_setup (Ok p) s = by_sound p s (setup_fault p) refl
     by_setup (Err f) s = first_two f s
 
-pub found : (v : Variant) (text : List ℕ) (p : Setup) → fen_reading_as v text ≡ Ok p → SpellsFenAs v text p
+pub found : (v : Variant) (text : List ℕ) (p : Setup) → fen_reading_as v text ≡ Ok p → DenotesFenAs v text p
 found v text p e = subst (ReadingOutcome v text) e (reading_outcome v text)
 
 pub faulty : (v : Variant) (text : List ℕ) (f : FenFault) → fen_reading_as v text ≡ Err f → IsFaultAs v text f
@@ -321,7 +321,7 @@ no_castling v c false e h = e
 
 -- with no counters the reading ends with their fault
 unnumbered : (v : Variant) (men : Men) (colour : Colour) (rights : Rights) (passed : Option ℕ) (h f : List ℕ)
-    (more : List (List ℕ)) → AreCounters more h f → ((n m : ℕ) → SpellsCounters more n m → ⊥)
+    (more : List (List ℕ)) → AreCounters more h f → ((n m : ℕ) → DenotesCounters more n m → ⊥)
     → with_numbers v men colour rights passed (number_of h) (number_of f) ≡ Err faults.Counters
 unnumbered v men colour rights passed h f more counters none = by_numbers (number_of h) refl (number_of f) refl
   where
@@ -332,35 +332,35 @@ unnumbered v men colour rights passed h f more counters none = by_numbers (numbe
     by_numbers (Some n) e (Some k) i = absurd (none n (max k 1) (counters.read n k e i))
 
 no_rights : (v : Variant) (men : Men) (c : List ℕ) → (IsCastling v c → ⊥) → rights_of v men c ≡ None
-no_rights v men c h = rw (no_castling v c (is_castling v c) refl (λ e. h (spelled-castling v c e))) refl
+no_rights v men c h = rw (no_castling v c (is_castling v c) refl (λ e. h (denoted-castling v c e))) refl
 
 some_rights : (v : Variant) (men : Men) (c : List ℕ) → IsCastling v c
     → rights_of v men c ≡ Some (rights_by (right_by_letters v men c))
-some_rights v men c h = rw (castling-spelled v c h) refl
+some_rights v men c h = rw (castling-denoted v c h) refl
 
 misread : (v : Variant) (a b c d h f : List ℕ) (more : List (List ℕ)) (fault : FenFault) → AreCounters more h f
     → IsFieldFault v a b c d more fault → setup_by v a b c d h f ≡ Err fault
 misread v a b c d h f more faults.Placement n s =
-    rw (none_if (placement_of a) (λ men e. s men (spelled-placement a men e))) refl
+    rw (none_if (placement_of a) (λ men e. s men (denoted-placement a men e))) refl
 misread v a b c d h f more faults.Side n s = rw (
-  placement-spelled a s.0.0 s.0.1,
-  none_if (side_of b) (λ colour e. s.1 colour (spelled-side b colour e)),
+  placement-denoted a s.0.0 s.0.1,
+  none_if (side_of b) (λ colour e. s.1 colour (denoted-side b colour e)),
 ) refl
 misread v a b c d h f more faults.Castling n s =
-    rw (placement-spelled a s.0.0 s.0.1, side-spelled b s.1.0 s.1.1, no_rights v s.0.0 c s.2) refl
+    rw (placement-denoted a s.0.0 s.0.1, side-denoted b s.1.0 s.1.1, no_rights v s.0.0 c s.2) refl
 misread v a b c d h f more faults.EnPassant n s =
     rw (
-      placement-spelled a s.0.0 s.0.1,
-      side-spelled b s.1.0 s.1.1,
+      placement-denoted a s.0.0 s.0.1,
+      side-denoted b s.1.0 s.1.1,
       some_rights v s.0.0 c s.2,
-      none_if (target_of d) (λ target e. s.3 target (spelled-target d target e)),
+      none_if (target_of d) (λ target e. s.3 target (denoted-target d target e)),
     ) refl
 misread v a b c d h f more faults.Counters n s =
     rw (
-      placement-spelled a s.0.0 s.0.1,
-      side-spelled b s.1.0 s.1.1,
+      placement-denoted a s.0.0 s.0.1,
+      side-denoted b s.1.0 s.1.1,
       some_rights v s.0.0 c s.2,
-      target-spelled d s.3.0 s.3.1,
+      target-denoted d s.3.0 s.3.1,
     )
     (unnumbered v s.0.0 s.1.0 (rights_by (right_by_letters v s.0.0 c)) s.3.0 h f more n s.4)
 misread v a b c d h f more faults.Fields n s = absurd s
@@ -400,4 +400,4 @@ pub fault-read : (v : Variant) (text : List ℕ) (f : FenFault) → IsFaultAs v 
 fault-read v text f (inl h) = ap (λ r. r >>= if_sound) (uncounted v (fields_of text) h.1 h.2) ∙ ap Err (sym h.0)
 fault-read v text f (inr (inl h)) = ap (λ r. r >>= if_sound)
     (ap (setup_in v) h.5 ∙ misread_in v h.0 h.1 h.2 h.3 h.4 f h.6 h.7)
-fault-read v text f (inr (inr h)) = ap (λ r. r >>= if_sound) (setup-spelled v text h.0 h.1) ∙ ap (unless_fault h.0) h.2
+fault-read v text f (inr (inr h)) = ap (λ r. r >>= if_sound) (setup-denoted v text h.0 h.1) ∙ ap (unless_fault h.0) h.2

@@ -7,18 +7,18 @@ use Rattle.chess_moves.specs.Sets.{members}
 use Rattle.chess_moves.proofs.Members.{members_none}
 use Rattle.chess_text.specs.Moves.{one_of}
 use Rattle.chess_text.specs.declared.reading.Reading.TheVariants as reads
-use Rattle.chess_text.specs.ties.Forms.{spelled_start}
+use Rattle.chess_text.specs.ties.Forms.{denoted_start}
 use Rattle.chess_text.proofs.Origins.{last_found, more_found, one_found}
-use Rattle.chess_text.proofs.reading.spelled_among.Goals as goal
+use Rattle.chess_text.proofs.reading.denoted_among.Goals as goal
 
 pub returns-in_default : goal.returns-in_default
 returns-in_default c =
-    let f = spelled_start c.args.parts.now c.args.setup.now c.args.kind in
+    let f = denoted_start c.args.parts.now c.args.setup.now c.args.kind in
     sym (ap (λ ms. one_of (flat_map f ms)) c.in_default.ensures.0)
 
 pub returns-then-is_empty : goal.returns-then-is_empty
 returns-then-is_empty c =
-    let f = spelled_start c.args.parts.now c.args.setup.now c.args.kind in
+    let f = denoted_start c.args.parts.now c.args.setup.now c.args.kind in
     last_found f c.with_start-found.result _ (members c.take_first.new.self)
     (members_none c.take_first.new.self
     (eqb-true c.take_first.new.self 0 (sym c.is_empty.ensures.zero ∙ c.if-is_empty.true)))
@@ -28,7 +28,7 @@ returns-then-is_empty c =
 
 pub returns : goal.returns
 returns c =
-    let f = spelled_start c.args.parts.now c.args.setup.now c.args.kind in
+    let f = denoted_start c.args.parts.now c.args.setup.now c.args.kind in
     c.with_starts.ensures
     ∙ more_found f reads.NoSuch c.with_start-found.result _ c.in-Some.from (members c.args.starts)
     (members c.take_first.new.self) c.in-Some.ensures

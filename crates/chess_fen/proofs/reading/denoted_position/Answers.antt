@@ -1,5 +1,5 @@
-use Rattle.chess_fen.proofs.SpelledFen.{judged-read}
-use Rattle.chess_fen.proofs.reading.spelled_position.Goals as goal
+use Rattle.chess_fen.proofs.DenotedFen.{judged-read}
+use Rattle.chess_fen.proofs.reading.denoted_position.Goals as goal
 
 pub returns-in-Ok-clause-value : goal.returns-in-Ok-clause-value
 returns-in-Ok-clause-value c =

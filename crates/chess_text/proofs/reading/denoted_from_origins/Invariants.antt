@@ -3,17 +3,17 @@ use Rattle.std.specs.List.{filter, flat_map}
 use Rattle.chess_base.specs.MoveList.{promotions, moves}
 use Rattle.chess_moves.specs.Sets.{members}
 use Rattle.chess_text.specs.Moves.{one_of}
-use Rattle.chess_text.specs.ties.Forms.{is_spelled, end_square, spelled_with, with_moves}
-use Rattle.chess_text.proofs.reading.spelled_from_origins.Given as goal
+use Rattle.chess_text.specs.ties.Forms.{is_denoted, end_square, denoted_with, with_moves}
+use Rattle.chess_text.proofs.reading.denoted_from_origins.Given as goal
 
 -- the squares that are left give the whole
 abbrev pub invariant-loop-from : goal.invariant-loop-from
 invariant-loop-from g l =
     with_moves l.found (flat_map
-    (λ a. spelled_with l.form (g.B.Board.position l.board) a (end_square l.form (g.B.Board.position l.board))
+    (λ a. denoted_with l.form (g.B.Board.position l.board) a (end_square l.form (g.B.Board.position l.board))
     promotions)
     (members l.rest)) ≡ one_of
-    (filter (λ m. is_spelled l.form (g.B.Board.position l.board) m) (moves (g.B.Board.position l.board)))
+    (filter (λ m. is_denoted l.form (g.B.Board.position l.board) m) (moves (g.B.Board.position l.board)))
 
 abbrev pub decreases-loop-from : goal.decreases-loop-from
 decreases-loop-from g l = length (members l.rest)

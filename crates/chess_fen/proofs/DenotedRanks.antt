@@ -11,7 +11,7 @@ use Rattle.chess_base.specs.declared.man.Colour.{Colour}
 use Rattle.chess_base.specs.declared.man.Colour.TheVariants.{White, Black}
 use Rattle.chess_fen.specs.ManLetters.{letter, letter_by, man_with_letter, all_men}
 use Rattle.chess_fen.specs.Texts.{squares_of, rank_after, rank_of}
-use Rattle.chess_fen.specs.Spelling.{StandsFor, SpellsSquares, SpellsRank}
+use Rattle.chess_fen.specs.Denotation.{StandsFor, DenotesSquares, DenotesRank}
 use Rattle.chess_fen.proofs.Ranks.{squares-digit}
 
 -- a piece's letter is read as the piece
@@ -46,8 +46,8 @@ found (m ∷ men) c man e = by_test (λ h. found men c man h) (eqb (letter m) c)
 
 -- ---- a byte
 
-pub spelled_squares : (c : ℕ) (squares : List (Option Man)) → squares_of c ≡ Some squares → StandsFor c squares
-spelled_squares c squares e = by_test (leb 49 c && leb c 56) refl e
+pub denoted_squares : (c : ℕ) (squares : List (Option Man)) → squares_of c ≡ Some squares → StandsFor c squares
+denoted_squares c squares e = by_test (leb 49 c && leb c 56) refl e
   where
     by_man : (o : Option Man) → man_with_letter c ≡ o → option_map (λ m. Some m ∷ []) o ≡ Some squares
         → StandsFor c squares
@@ -63,9 +63,9 @@ spelled_squares c squares e = by_test (leb 49 c && leb c 56) refl e
         inr (c - 48, omega arith, omega arith, omega arith, cc)
     by_test false t e = by_man (man_with_letter c) refl e
 
-pub squares-spelled : (c : ℕ) (squares : List (Option Man)) → StandsFor c squares → squares_of c ≡ Some squares
-squares-spelled c squares (inl m) = ap squares_of m.1 ∙ squares-letter m.0 ∙ ap Some (sym m.2)
-squares-spelled c squares (inr d) = squares-digit c (omega (arith, d.1, d.3)) (omega (arith, d.2, d.3))
+pub squares-denoted : (c : ℕ) (squares : List (Option Man)) → StandsFor c squares → squares_of c ≡ Some squares
+squares-denoted c squares (inl m) = ap squares_of m.1 ∙ squares-letter m.0 ∙ ap Some (sym m.2)
+squares-denoted c squares (inr d) = squares-digit c (omega (arith, d.1, d.3)) (omega (arith, d.2, d.3))
     ∙ digits (omega (arith, d.3))
   where
     digits : c - 48 ≡ d.0 → Some (replicate (c - 48) None) ≡ Some squares
@@ -73,12 +73,12 @@ squares-spelled c squares (inr d) = squares-digit c (omega (arith, d.1, d.3)) (o
 
 -- ---- a rank
 
-pub rank-spelled : (text : List ℕ) (before row : List (Option Man)) → SpellsSquares text row
+pub rank-denoted : (text : List ℕ) (before row : List (Option Man)) → DenotesSquares text row
     → rank_after before text ≡ rank_after (before ++ row) []
-rank-spelled [] before row s = ap (λ r. rank_after r []) (sym (ap (λ r. before ++ r) s ∙ append-nil before))
-rank-spelled (c ∷ cs) before row s =
-    ap (option_and_then (λ squares. rank_after (before ++ squares) cs)) (squares-spelled c s.0 s.2)
-    ∙ rank-spelled cs (before ++ s.0) s.1 s.3
+rank-denoted [] before row s = ap (λ r. rank_after r []) (sym (ap (λ r. before ++ r) s ∙ append-nil before))
+rank-denoted (c ∷ cs) before row s =
+    ap (option_and_then (λ squares. rank_after (before ++ squares) cs)) (squares-denoted c s.0 s.2)
+    ∙ rank-denoted cs (before ++ s.0) s.1 s.3
     ∙ ap (λ r. rank_after r []) (append_assoc before s.0 s.1 ∙ ap (λ r. before ++ r) (sym s.4))
 
 -- ---- and back
@@ -86,7 +86,7 @@ rank-spelled (c ∷ cs) before row s =
 -- a rank that is read after some squares
 pub record ReadBehind (text : List ℕ) (before whole : List (Option Man)) : Type 0 where
   pub row : List (Option Man)
-  pub spells : SpellsSquares text row
+  pub denotes : DenotesSquares text row
   pub parts : whole ≡ before ++ row
   pub eight : length whole ≡ 8
 
@@ -101,7 +101,7 @@ read_behind [] before whole e = by_test (eqb (length before) 8) refl e
         let eight : length before ≡ 8 = grind (arith, nat_tests) in
         record {
           row = [];
-          spells = refl;
+          denotes = refl;
           parts = sym same ∙ sym (append-nil before);
           eight = ap length (sym same) ∙ eight;
         }
@@ -118,14 +118,14 @@ read_behind (c ∷ cs) before whole e = by_squares (λ first h. read_behind cs (
         let r = later first e in
         record {
           row = first ++ r.row;
-          spells = (first, r.row, spelled_squares c first is, r.spells, refl);
+          denotes = (first, r.row, denoted_squares c first is, r.denotes, refl);
           parts = r.parts ∙ append_assoc before first r.row;
           eight = r.eight;
         }
 
-pub spelled-rank : (text : List ℕ) (row : List (Option Man)) → rank_of text ≡ Some row → SpellsRank text row
-spelled-rank text row e = let r = read_behind text [] row
-    e in (subst (SpellsSquares text) (sym r.parts) r.spells, r.eight)
+pub denoted-rank : (text : List ℕ) (row : List (Option Man)) → rank_of text ≡ Some row → DenotesRank text row
+denoted-rank text row e = let r = read_behind text [] row
+    e in (subst (DenotesSquares text) (sym r.parts) r.denotes, r.eight)
 
-pub rank-of_spelled : (text : List ℕ) (row : List (Option Man)) → SpellsRank text row → rank_of text ≡ Some row
-rank-of_spelled text row s = rank-spelled text [] row s.0 ∙ ap (λ n. cond (eqb n 8) (Some row) None) s.1
+pub rank-of_denoted : (text : List ℕ) (row : List (Option Man)) → DenotesRank text row → rank_of text ≡ Some row
+rank-of_denoted text row s = rank-denoted text [] row s.0 ∙ ap (λ n. cond (eqb n 8) (Some row) None) s.1

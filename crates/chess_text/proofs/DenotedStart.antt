@@ -21,7 +21,7 @@ use Rattle.chess_text.specs.declared.parts.Parts.{Parts}
 use Rattle.chess_text.specs.declared.parts.Promotion.{Promotion}
 use Rattle.chess_text.specs.Moves.{captures}
 use Rattle.chess_text.specs.ties.Fitting.{admits, names, is_by_squares, is_by_letter, is_straight, is_by_file, parts_fit}
-use Rattle.chess_text.specs.ties.Forms.{is_spelled, is_spelled_by_letter, is_spelled_by_pawn, is_spelled_of, kind_by, named_square, one_kind}
+use Rattle.chess_text.specs.ties.Forms.{is_denoted, is_denoted_by_letter, is_denoted_by_pawn, is_denoted_of, kind_by, named_square, one_kind}
 use Rattle.chess_text.proofs.Legal.{castling_says, legal_move, IsMove, told_of, described_is}
 use Rattle.chess_text.proofs.Origins.{named_is}
 
@@ -167,10 +167,10 @@ pawn_fits_by (Some n) r takes captured a to o e = rw (e, eq-eqb to to refl)
 
 -- ---- as the parts are
 
-spelled_as : (p : Setup) (m : Move) (h : IsMove p m) (q : Parts) → is_spelled (Piece q) p m
+denoted_as : (p : Setup) (m : Move) (h : IsMove p m) (q : Parts) → is_denoted (Piece q) p m
     ≡ parts_fit q (told_of p m h.man)
-unfolding is_spelled
-spelled_as p m h q = rw (described_is p m h) refl
+unfolding is_denoted
+denoted_as p m h q = rw (described_is p m h) refl
 
 abbrev lettered : Parts → Option Kind → Option Promotion → Parts
 lettered q letter promotion = record {
@@ -183,7 +183,7 @@ lettered q letter promotion = record {
 
 of_letter : (q : Parts) (p : Setup) (k : Kind) (m : Move) → q.letter ≡ Some k → q.end.promotion ≡ None
     → m.to ≡ q.end.to → m.promotion ≡ None → is_man p.side k (man_at p.men m.from) ≡ true
-    → parts_fit q (told_of p m k) ≡ is_spelled_by_letter q p k m
+    → parts_fit q (told_of p m k) ≡ is_denoted_by_letter q p k m
 of_letter q p k m letter plain to none man =
     ap (λ l. parts_fit (lettered q l q.end.promotion) (told_of p m k)) letter
     ∙ ap (λ o. parts_fit (lettered q (Some k) o) (told_of p m k)) plain
@@ -209,7 +209,7 @@ of_letter q p k m letter plain to none man =
 
 of_pawn : (q : Parts) (p : Setup) (m : Move) → q.letter ≡ None → q.end.promotion ≡ None
     → named_square q.file q.rank ≡ None → m.from < 64
-    → m.to ≡ q.end.to → m.promotion ≡ None → parts_fit q (told_of p m Pawn) ≡ is_spelled_by_pawn q p m
+    → m.to ≡ q.end.to → m.promotion ≡ None → parts_fit q (told_of p m Pawn) ≡ is_denoted_by_pawn q p m
 of_pawn q p m letter plain square low to none =
     ap (λ l. parts_fit (lettered q l q.end.promotion) (told_of p m Pawn)) letter
     ∙ ap (λ o. parts_fit (lettered q None o) (told_of p m Pawn)) plain
@@ -241,8 +241,8 @@ of_pawn q p m letter plain square low to none =
     ∙ ap (λ b. cond (is_none q.file) (is_none q.rank && not q.takes && (file m.from == file b))
     (names q.file (file m.from) && admits q.rank (rank m.from) && (not q.takes || captures p m))) (sym to)
 
-abbrev Spelled : Parts → Setup → Kind → Move → Type 0
-Spelled q p k m = parts_fit q (told_of p m k) ≡ is_spelled_of q p k m
+abbrev Denoted : Parts → Setup → Kind → Move → Type 0
+Denoted q p k m = parts_fit q (told_of p m k) ≡ is_denoted_of q p k m
 
 -- the letter's kind, or a pawn
 by_kind : (q : Parts) (p : Setup) (k : Kind) (m : Move) (letter : Option Kind) (square : Option ℕ)
@@ -250,7 +250,7 @@ by_kind : (q : Parts) (p : Setup) (k : Kind) (m : Move) (letter : Option Kind) (
     → q.end.promotion ≡ promotion → cond (is_some promotion) None (kind_by letter square) ≡ Some k
     → m.from < 64 → m.to ≡ q.end.to → m.promotion ≡ None → is_man p.side k (man_at p.men m.from) ≡ true
     → parts_fit q (told_of p m k)
-    ≡ cond (is_some letter) (is_spelled_by_letter q p k m) (is_spelled_by_pawn q p m)
+    ≡ cond (is_some letter) (is_denoted_by_letter q p k m) (is_denoted_by_pawn q p m)
 by_kind q p k m letter square (Some x) l s n e low to none man = absurd cc
 by_kind q p k m None (Some x) None l s n e low to none man = absurd cc
 by_kind q p k m None None None l s n e low to none man =
@@ -268,12 +268,12 @@ by_kind q p k m (Some Bishop) square None l s n e low to none man =
 by_kind q p k m (Some Knight) square None l s n e low to none man =
     of_letter q p k m (l ∙ e) n to none man
 
-pub spelled_of : (q : Parts) (p : Setup) (k : Kind) (m : Move) → one_kind q ≡ Some k → is_legal p m ≡ true
+pub denoted_of : (q : Parts) (p : Setup) (k : Kind) (m : Move) → one_kind q ≡ Some k → is_legal p m ≡ true
     → m.to ≡ q.end.to → m.promotion ≡ None → is_man p.side k (man_at p.men m.from) ≡ true
-    → is_spelled (Piece q) p m ≡ is_spelled_of q p k m
-spelled_of q p k m e legal to none man =
+    → is_denoted (Piece q) p m ≡ is_denoted_of q p k m
+denoted_of q p k m e legal to none man =
     let h = legal_move p m legal in
-    spelled_as p m h q
+    denoted_as p m h q
     ∙ ap (λ j. parts_fit q (told_of p m j)) (sym (kind_there p.side k (man_at p.men m.from)
     (record { colour = p.side; kind = h.man }) h.at_from man))
     ∙ by_kind q p k m q.letter (named_square q.file q.rank) q.end.promotion refl refl refl e h.from_in to none man

@@ -1,10 +1,10 @@
 -- The text is that of the coordinates, which denotes its move alone (CoordinateLaw), or in Chess960 that of castling to
 -- a side, which is one move (castling_law of SanLaw).
 use Rattle.chess_text.proofs.ShownLaw.{shown_alone, shown_shape, shown_read}
-use Rattle.chess_text.proofs.laws.move_text_spells_its_move.Goals as goal
+use Rattle.chess_text.proofs.laws.move_text_denotes_its_move.Goals as goal
 
-pub returns-clause-spells : goal.returns-clause-spells
-returns-clause-spells c = shown_alone
+pub returns-clause-denotes : goal.returns-clause-denotes
+returns-clause-denotes c = shown_alone
 
 pub returns-clause-shape : goal.returns-clause-shape
 returns-clause-shape c = shown_shape

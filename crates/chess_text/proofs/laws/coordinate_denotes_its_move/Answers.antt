@@ -1,10 +1,10 @@
 -- The text names start, end and promotion, so its parts fit one legal move alone (CoordinateLaw); a text that denotes
 -- one alone is read as it (read_alone of Alone).
 use Rattle.chess_text.proofs.CoordinateLaw.{coordinate_alone, coordinate_shape, coordinate_read}
-use Rattle.chess_text.proofs.laws.coordinate_spells_its_move.Goals as goal
+use Rattle.chess_text.proofs.laws.coordinate_denotes_its_move.Goals as goal
 
-pub returns-clause-spells : goal.returns-clause-spells
-returns-clause-spells c = coordinate_alone
+pub returns-clause-denotes : goal.returns-clause-denotes
+returns-clause-denotes c = coordinate_alone
 
 pub returns-clause-shape : goal.returns-clause-shape
 returns-clause-shape c = coordinate_shape

@@ -1,0 +1,14 @@
+-- What is written denotes its position and no other (WrittenFen), and what denotes a sound position is read as it.
+use Rattle.chess_fen.proofs.DenotedFen.{reading-denoted}
+use Rattle.chess_fen.proofs.WrittenFen.{fen-denoted, no_other}
+use Rattle.chess_fen.specs.Writing.{fen}
+use Rattle.chess_fen.proofs.laws.written_is_denoted.Goals as goal
+
+pub returns-clause-denotes : goal.returns-clause-denotes
+returns-clause-denotes c = fen-denoted
+
+pub returns-clause-no_other : goal.returns-clause-no_other
+returns-clause-no_other c = no_other
+
+pub returns-clause-read_back : goal.returns-clause-read_back
+returns-clause-read_back c = λ p h. reading-denoted p.variant (fen p) p (fen-denoted p h) h
