@@ -15,7 +15,7 @@ use crate::steps::{Steps, take_steps};
 
 /// The piece that arrives on the end square, from the one that left the start square: the same piece, or after a
 /// promotion one of the new kind.
-pub fn man_that_lands(man: Option<Man>, promotion: Option<Kind>) -> Option<Man>
+pub fn arriving_man(man: Option<Man>, promotion: Option<Kind>) -> Option<Man>
     ensures { result ≡ arriving_man man promotion }
 {
     let man = man?;
@@ -58,7 +58,7 @@ pub fn steps_of(setup: &Setup, m: &Move) -> Steps
             kind: Kind::Rook,
         }),
         to: mover_to(m, castle),
-        mover: man_that_lands(setup.men[m.from.index()], m.promotion),
+        mover: arriving_man(setup.men[m.from.index()], m.promotion),
     }
 }
 

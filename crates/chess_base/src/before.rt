@@ -119,7 +119,7 @@ fn castled(
 // The four squares of the castling that the move was, from the position after it (`setup`) and what was saved; none if
 // it was not castling.
 #[tactic(auto, unfolding(crate::specs::Before::castling_undone))]
-fn castle_made(setup: &Setup, m: &Move, saved: &Saved) -> Option<Castle>
+fn castling_undone(setup: &Setup, m: &Move, saved: &Saved) -> Option<Castle>
     ensures { result ≡ castling_undone setup.now m.now saved.now }
 {
     let colour = setup.side.other();
@@ -128,7 +128,7 @@ fn castle_made(setup: &Setup, m: &Move, saved: &Saved) -> Option<Castle>
 }
 
 // The moving piece as it was before the move, from the piece as it arrived: a pawn if the move names a promotion.
-fn man_that_left(man: Option<Man>, promotion: Option<Kind>) -> Option<Man>
+fn leaving_man(man: Option<Man>, promotion: Option<Kind>) -> Option<Man>
     ensures { result ≡ leaving_man man promotion }
 {
     let man = man?;
@@ -143,7 +143,7 @@ fn man_that_left(man: Option<Man>, promotion: Option<Kind>) -> Option<Man>
 
 // The square on which a second piece returns when move `m` of this colour is taken back: that of the castling rook, if
 // `m` was castling (`castle`), or else of the captured piece; `None` if nothing was captured.
-fn second_back_to(
+fn returning_square(
     colour: Colour,
     m: &Move,
     saved: &Saved,
@@ -160,7 +160,7 @@ fn second_back_to(
 
 // The second piece that returns when a move of this colour is taken back: the castling rook, if the move was castling
 // (`castle`), or else the captured piece; `None` if nothing was captured.
-fn second_back(colour: Colour, saved: &Saved, castle: &Option<Castle>) -> Option<Man>
+fn returning_man(colour: Colour, saved: &Saved, castle: &Option<Castle>) -> Option<Man>
     ensures { result ≡ returning_man colour saved.now castle.now }
 {
     match castle {
@@ -179,14 +179,14 @@ pub fn steps_back(setup: &Setup, m: &Move, saved: &Saved) -> Steps
     ensures { result ≡ steps_back setup.now m.now saved.now }
 {
     let colour = setup.side.other();
-    let castle = &castle_made(setup, m, saved);
+    let castle = &castling_undone(setup, m, saved);
     let from = mover_to(m, castle);
     Steps {
         from,
         second_from: rook_to(castle),
-        second_to: second_back_to(colour, m, saved, castle),
-        second: second_back(colour, saved, castle),
+        second_to: returning_square(colour, m, saved, castle),
+        second: returning_man(colour, saved, castle),
         to: m.from,
-        mover: man_that_left(setup.men[from.index()], m.promotion),
+        mover: leaving_man(setup.men[from.index()], m.promotion),
     }
 }

@@ -194,7 +194,7 @@ pub(crate) fn names_castling(
 // Whether the move is castling to this side: the side on move has the right, and its king makes that move. Whether
 // anything prevents it is asked by `castles`.
 #[tactic(auto, unfolding(crate::specs::Castling::is_castling_to))]
-fn says_castling(setup: &Setup, m: &Move, castling_side: CastlingSide) -> bool
+fn is_castling_to(setup: &Setup, m: &Move, castling_side: CastlingSide) -> bool
     ensures { result ≡ is_castling_to setup.now m.now castling_side }
 {
     is_man(setup.side, Kind::King, setup.men[m.from.index()])
@@ -212,9 +212,9 @@ fn says_castling(setup: &Setup, m: &Move, castling_side: CastlingSide) -> bool
 pub fn castling(setup: &Setup, m: &Move) -> Option<CastlingSide>
     ensures { result ≡ castling setup.now m.now }
 {
-    if says_castling(setup, m, CastlingSide::KingSide) {
+    if is_castling_to(setup, m, CastlingSide::KingSide) {
         Some(CastlingSide::KingSide)
-    } else if says_castling(setup, m, CastlingSide::QueenSide) {
+    } else if is_castling_to(setup, m, CastlingSide::QueenSide) {
         Some(CastlingSide::QueenSide)
     } else {
         None
@@ -291,7 +291,7 @@ pub(crate) fn rook_to(castle: &Option<Castle>) -> Option<Square>
 /// The square on which the moving piece ends. It is the move's end square, but for castling in Chess960, where `e1h1`
 /// takes the king to `g1`.
 #[tactic(auto, unfolding(crate::specs::Castling::mover_end))]
-pub fn lands_on(setup: &Setup, m: &Move) -> Square
+pub fn mover_end(setup: &Setup, m: &Move) -> Square
     ensures { result ≡ mover_end setup.now m.now }
 {
     mover_to(m, &castle_of(setup, m))

@@ -16,7 +16,7 @@ use crate::keys::KeyTable;
 use crate::sets::Sets;
 use crate::targets::is_pawn;
 use chess_base::rules::{
-    Steps, fullmove_after, halfmove_after, is_man, man_that_lands, rights_after, saved_of,
+    Steps, fullmove_after, halfmove_after, is_man, arriving_man, rights_after, saved_of,
     steps_back, steps_of, target_after,
 };
 use chess_base::{COUNTER_LIMIT, Kind, Man, Move, Rights, Saved, Setup, Square};
@@ -110,7 +110,7 @@ pub(crate) fn fast_steps_of(setup: &Setup, m: &Move) -> Steps
             kind: Kind::Rook,
         }),
         to: m.to,
-        mover: man_that_lands(man, m.promotion),
+        mover: arriving_man(man, m.promotion),
     }
 }
 

@@ -27,7 +27,7 @@ use Rattle.chess_fen.specs.ties.Loops.{ranks_text}
 use Rattle.chess_base.specs.declared.man.CastlingSide.{CastlingSide}
 use Rattle.chess_base.specs.declared.man.CastlingSide.TheVariants.{KingSide, QueenSide}
 use Rattle.chess_base.specs.Men.{Men, man_at, is_man, other, forward, crossed_rank}
-use Rattle.chess_base.specs.Sound.{IsSound, target_is_behind_double_advance_at, target_is_sound}
+use Rattle.chess_base.specs.Sound.{IsSound, target_is_sound_at, target_is_sound}
 use Rattle.chess_base.specs.Castling.{home_square, rook_file, right_of, right_is_sound}
 use Rattle.chess_base.specs.ties.Splits.{right_is_sound_at}
 use Rattle.std.proofs.lemmas.Bool.{and_parts, eqb-true}
@@ -189,7 +189,7 @@ rights-text p h =
     rw (back.letters, t White KingSide, t White QueenSide, t Black KingSide, t Black QueenSide) refl
 
 -- a target has rank 3 or 6
-target_rank : (men : Men) (c : Colour) (target : Option ℕ) → target_is_behind_double_advance_at men c target ≡ true
+target_rank : (men : Men) (c : Colour) (target : Option ℕ) → target_is_sound_at men c target ≡ true
     → IfSome target (λ square. (square / 8 ≡ 2) ⊎ (square / 8 ≡ 5))
 target_rank men c None e = tt
 target_rank men c (Some t) e = by_colour c

@@ -11,7 +11,7 @@ use Rattle.chess_base.specs.Attacks.{attacks}
 use Rattle.chess_base.specs.Men.{man_at, is_man, other, first_rank, crossed_rank}
 use Rattle.chess_base.specs.Moves.{is_legal, is_en_passant}
 use Rattle.chess_base.specs.Squares.{is_square}
-use Rattle.chess_base.specs.Sound.{IsSound, target_is_sound, target_is_behind_double_advance_at}
+use Rattle.chess_base.specs.Sound.{IsSound, target_is_sound, target_is_sound_at}
 use Rattle.chess_base.specs.Squares.{rank}
 use Rattle.chess_moves.specs.Promoting.{would_promote}
 use Rattle.chess_moves.specs.Sets.{HasOrigins}
@@ -23,7 +23,7 @@ pub target_rank : (p : Setup) (t : ℕ) → IsSound p → p.target ≡ Some t �
 unfolding target_is_sound
 target_rank p t sound at = by_target p.target sound.target at
   where
-    by_target : (o : Option ℕ) → target_is_behind_double_advance_at p.men p.side o ≡ true → o ≡ Some t
+    by_target : (o : Option ℕ) → target_is_sound_at p.men p.side o ≡ true → o ≡ Some t
         → rank t ≡ crossed_rank (other p.side)
     by_target None h e = cc
     by_target (Some s) h e = grind (arith, h, e)

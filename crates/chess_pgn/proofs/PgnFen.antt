@@ -19,7 +19,7 @@ use Rattle.chess_fen.specs.RightNames.{right_letter}
 use Rattle.chess_base.specs.declared.setup.Setup.{Setup}
 use Rattle.chess_fen.specs.ManLetters.{letter_by}
 use Rattle.chess_base.specs.Men.{Men, other, crossed_rank}
-use Rattle.chess_base.specs.Sound.{IsSound, target_is_sound, target_is_behind_double_advance_at}
+use Rattle.chess_base.specs.Sound.{IsSound, target_is_sound, target_is_sound_at}
 use Rattle.chess_base.specs.Squares.{file, rank}
 use Rattle.chess_fen.specs.Writing.{run_text, row_text, fen_rank, ranks_down, placement_text, side_text, right_text, or_dash, rights_text, target_text, fen}
 use Rattle.chess_base.specs.Letters.{is_digit}
@@ -150,7 +150,7 @@ crossed_low : (c : Colour) → crossed_rank c ≤ 8
 crossed_low White = omega arith
 crossed_low Black = omega arith
 
-target_bare_at : (men : Men) (c : Colour) (o : Option ℕ) → target_is_behind_double_advance_at men c o ≡ true
+target_bare_at : (men : Men) (c : Colour) (o : Option ℕ) → target_is_sound_at men c o ≡ true
     → IsBare (target_text o)
 target_bare_at men c None h = refl
 target_bare_at men c (Some t) h =

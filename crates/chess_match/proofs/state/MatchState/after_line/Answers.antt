@@ -40,40 +40,40 @@ pub returns-in-Features : goal.returns-in-Features
 unfolding after_line
 returns-in-Features g c r m p at s =
     let h : reads m.phase c.args.side ≡ true = rw at (same_colour-self c.args.side) in
-    rw c.in-Features.is (c.either_way.ensures r m p h s)
+    rw c.in-Features.is (c.turn_line.ensures r m p h s)
 
 pub returns-in-Resign : goal.returns-in-Resign
 unfolding after_line
 returns-in-Resign g c r m p at s =
     let h : reads m.phase c.args.side ≡ true = rw at (same_colour-self c.args.side) in
-    rw c.in-Resign.is (c.either_way-in-Resign.ensures r m p h s)
+    rw c.in-Resign.is (c.turn_line-in-Resign.ensures r m p h s)
 
 pub returns-in-Offer : goal.returns-in-Offer
 unfolding after_line
 returns-in-Offer g c r m p at s =
     let h : reads m.phase c.args.side ≡ true = rw at (same_colour-self c.args.side) in
-    rw c.in-Offer.is (c.either_way-in-Offer.ensures r m p h s)
+    rw c.in-Offer.is (c.turn_line-in-Offer.ensures r m p h s)
 
 pub returns-in-Draw : goal.returns-in-Draw
 unfolding after_line
 returns-in-Draw g c r m p at s =
     let h : reads m.phase c.args.side ≡ true = rw at (same_colour-self c.args.side) in
-    rw c.in-Draw.is (c.either_way-in-Draw.ensures r m p h s)
+    rw c.in-Draw.is (c.turn_line-in-Draw.ensures r m p h s)
 
 pub returns-in-Win : goal.returns-in-Win
 unfolding after_line
 returns-in-Win g c r m p at s =
     let h : reads m.phase c.args.side ≡ true = rw at (same_colour-self c.args.side) in
-    rw c.in-Win.is (c.either_way-in-Win.ensures r m p h s)
+    rw c.in-Win.is (c.turn_line-in-Win.ensures r m p h s)
 
 pub returns-in-Rejection : goal.returns-in-Rejection
 unfolding after_line
 returns-in-Rejection g c r m p at s =
     let h : reads m.phase c.args.side ≡ true = rw at (same_colour-self c.args.side) in
-    rw c.in-Rejection.is (c.either_way-in-Rejection.ensures r m p h s)
+    rw c.in-Rejection.is (c.turn_line-in-Rejection.ensures r m p h s)
 
 pub returns-in-Other : goal.returns-in-Other
 unfolding after_line
 returns-in-Other g c r m p at s =
     let h : reads m.phase c.args.side ≡ true = rw at (same_colour-self c.args.side) in
-    rw c.in-Other.is (c.either_way-in-Other.ensures r m p h s)
+    rw c.in-Other.is (c.turn_line-in-Other.ensures r m p h s)

@@ -1,5 +1,5 @@
 -- The clock and the opening's moment are those of the match (Going.clocks_left), so the flag falls here where it falls
--- there. In time, `move_line` and `either_way` go on as the table says for the line.
+-- there. In time, `move_line` and `turn_line` go on as the table says for the line.
 use Rattle.std.proofs.Common.{◌≡◌, ◌-◌, ℕ, Bool, true, false, refl, sym, ◌∙◌}
 use Rattle.std.specs.Prelude.{nat_lt}
 use Rattle.chess_base.specs.Men.{other}
@@ -60,7 +60,7 @@ returns-in-Features-clause-goes g c r m p at s =
     let flag : nat_lt (clock r m c.args.side) (c.args.moment - m.opened) ≡ false =
     flag_kept _ _ _ _ false left used (sym c.is_flagged.ensures ∙ c.if-is_flagged.false) in
     let h : reads m.phase c.args.side ≡ true = rw at (same_colour-self c.args.side) in
-    rw (c.in-Features.is, flag) (c.either_way.ensures r m p h s)
+    rw (c.in-Features.is, flag) (c.turn_line.ensures r m p h s)
 
 pub returns-in-Resign-clause-goes : goal.returns-in-Resign-clause-goes
 unfolding before_line
@@ -71,7 +71,7 @@ returns-in-Resign-clause-goes g c r m p at s =
     let flag : nat_lt (clock r m c.args.side) (c.args.moment - m.opened) ≡ false =
     flag_kept _ _ _ _ false left used (sym c.is_flagged.ensures ∙ c.if-is_flagged.false) in
     let h : reads m.phase c.args.side ≡ true = rw at (same_colour-self c.args.side) in
-    rw (c.in-Resign.is, flag) (c.either_way-in-Resign.ensures r m p h s)
+    rw (c.in-Resign.is, flag) (c.turn_line-in-Resign.ensures r m p h s)
 
 pub returns-in-Offer-clause-goes : goal.returns-in-Offer-clause-goes
 unfolding before_line
@@ -82,7 +82,7 @@ returns-in-Offer-clause-goes g c r m p at s =
     let flag : nat_lt (clock r m c.args.side) (c.args.moment - m.opened) ≡ false =
     flag_kept _ _ _ _ false left used (sym c.is_flagged.ensures ∙ c.if-is_flagged.false) in
     let h : reads m.phase c.args.side ≡ true = rw at (same_colour-self c.args.side) in
-    rw (c.in-Offer.is, flag) (c.either_way-in-Offer.ensures r m p h s)
+    rw (c.in-Offer.is, flag) (c.turn_line-in-Offer.ensures r m p h s)
 
 pub returns-in-Draw-clause-goes : goal.returns-in-Draw-clause-goes
 unfolding before_line
@@ -93,7 +93,7 @@ returns-in-Draw-clause-goes g c r m p at s =
     let flag : nat_lt (clock r m c.args.side) (c.args.moment - m.opened) ≡ false =
     flag_kept _ _ _ _ false left used (sym c.is_flagged.ensures ∙ c.if-is_flagged.false) in
     let h : reads m.phase c.args.side ≡ true = rw at (same_colour-self c.args.side) in
-    rw (c.in-Draw.is, flag) (c.either_way-in-Draw.ensures r m p h s)
+    rw (c.in-Draw.is, flag) (c.turn_line-in-Draw.ensures r m p h s)
 
 pub returns-in-Win-clause-goes : goal.returns-in-Win-clause-goes
 unfolding before_line
@@ -104,7 +104,7 @@ returns-in-Win-clause-goes g c r m p at s =
     let flag : nat_lt (clock r m c.args.side) (c.args.moment - m.opened) ≡ false =
     flag_kept _ _ _ _ false left used (sym c.is_flagged.ensures ∙ c.if-is_flagged.false) in
     let h : reads m.phase c.args.side ≡ true = rw at (same_colour-self c.args.side) in
-    rw (c.in-Win.is, flag) (c.either_way-in-Win.ensures r m p h s)
+    rw (c.in-Win.is, flag) (c.turn_line-in-Win.ensures r m p h s)
 
 pub returns-in-Rejection-clause-goes : goal.returns-in-Rejection-clause-goes
 unfolding before_line
@@ -115,7 +115,7 @@ returns-in-Rejection-clause-goes g c r m p at s =
     let flag : nat_lt (clock r m c.args.side) (c.args.moment - m.opened) ≡ false =
     flag_kept _ _ _ _ false left used (sym c.is_flagged.ensures ∙ c.if-is_flagged.false) in
     let h : reads m.phase c.args.side ≡ true = rw at (same_colour-self c.args.side) in
-    rw (c.in-Rejection.is, flag) (c.either_way-in-Rejection.ensures r m p h s)
+    rw (c.in-Rejection.is, flag) (c.turn_line-in-Rejection.ensures r m p h s)
 
 pub returns-in-Pong-clause-goes : goal.returns-in-Pong-clause-goes
 unfolding before_line
@@ -126,7 +126,7 @@ returns-in-Pong-clause-goes g c r m p at s =
     let flag : nat_lt (clock r m c.args.side) (c.args.moment - m.opened) ≡ false =
     flag_kept _ _ _ _ false left used (sym c.is_flagged.ensures ∙ c.if-is_flagged.false) in
     let h : reads m.phase c.args.side ≡ true = rw at (same_colour-self c.args.side) in
-    rw (c.in-Pong.is, flag) (c.either_way-in-Pong.ensures r m p h s)
+    rw (c.in-Pong.is, flag) (c.turn_line-in-Pong.ensures r m p h s)
 
 pub returns-in-Other-clause-goes : goal.returns-in-Other-clause-goes
 unfolding before_line
@@ -137,4 +137,4 @@ returns-in-Other-clause-goes g c r m p at s =
     let flag : nat_lt (clock r m c.args.side) (c.args.moment - m.opened) ≡ false =
     flag_kept _ _ _ _ false left used (sym c.is_flagged.ensures ∙ c.if-is_flagged.false) in
     let h : reads m.phase c.args.side ≡ true = rw at (same_colour-self c.args.side) in
-    rw (c.in-Other.is, flag) (c.either_way-in-Other.ensures r m p h s)
+    rw (c.in-Other.is, flag) (c.turn_line-in-Other.ensures r m p h s)

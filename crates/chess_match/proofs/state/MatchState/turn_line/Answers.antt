@@ -4,7 +4,7 @@ use Rattle.std.proofs.Common.{◌≡◌, true, false, sym, ◌∙◌, Some, None
 use Rattle.chess_base.specs.Men.{other, same_colour}
 use Rattle.chess_match.specs.Match.{seat, was_sent_move}
 use Rattle.chess_match.proofs.Going.{reads_on, clocks_moves}
-use Rattle.chess_match.proofs.state.MatchState.either_way.Goals as goal
+use Rattle.chess_match.proofs.state.MatchState.turn_line.Goals as goal
 
 pub returns-in-Resign : goal.returns-in-Resign
 returns-in-Resign g c r m p h s =
