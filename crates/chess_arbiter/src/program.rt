@@ -60,10 +60,7 @@ fn fault_of(fault: Fault) -> ProgramFault
 
 // Writes the fault with which answering lines ended to the error output, if there is one, and returns it as the
 // program's.
-fn report_served<E: Output>(
-    outcome: Result<End, Fault>,
-    errors: &mut E,
-) -> Result<(), ProgramFault>
+fn report_served<E: Output>(outcome: Result<End, Fault>, errors: &mut E) -> Result<(), ProgramFault>
     ensures { result ≡ served outcome }
 {
     match outcome {

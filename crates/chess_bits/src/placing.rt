@@ -16,7 +16,7 @@ use crate::keys::KeyTable;
 use crate::sets::Sets;
 use crate::targets::is_pawn;
 use chess_base::rules::{
-    Steps, fullmove_after, halfmove_after, is_man, arriving_man, rights_after, saved_of,
+    Steps, arriving_man, fullmove_after, halfmove_after, is_man, rights_after, saved_of,
     steps_back, steps_of, target_after,
 };
 use chess_base::{COUNTER_LIMIT, Kind, Man, Move, Rights, Saved, Setup, Square};

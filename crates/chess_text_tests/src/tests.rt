@@ -4,8 +4,8 @@ use chess_fen::{read_fen_as, write_fen};
 use chess_moves::{Board, Plain};
 use chess_text::{
     Reading, coordinate, coordinate_denotes_its_move, has_move_shape, move_text,
-    move_text_denotes_its_move, normal_is_kept, read_move, read_moves_are_legal, san, san_is_a_word,
-    san_denotes_its_move, texts_have_parts,
+    move_text_denotes_its_move, normal_is_kept, read_move, read_moves_are_legal, san,
+    san_denotes_its_move, san_is_a_word, texts_have_parts,
 };
 use std::alloc::Global;
 use std::process::Abort;

@@ -7,5 +7,9 @@ use Rattle.chess_arbiter.proofs.program.help.Goals as goal
 pub returns : goal.returns
 returns g c =
     let sent = c.send-outcome.result in
-    inl (sent, _, c.send-outcome.ensures,
-    c.status_of.ensures ∙ ap status_of c.report_help.ensures ∙ helped_status sent)
+    inl (
+      sent,
+      _,
+      c.send-outcome.ensures,
+      c.status_of.ensures ∙ ap status_of c.report_help.ensures ∙ helped_status sent,
+    )
