@@ -81,15 +81,11 @@ fn measure_lines(rt: &HostRuntime, depth: u8, fen: &[u8]) -> io::Result<ExitCode
 }
 
 // An empty game on a bitboard that uses these tables.
-fn open_game<'t>(alloc: Global, tables: &'t AttackTables) -> Result<Game<Bits<'t>>, AllocError> {
-    Game::open(alloc, Bits::new(tables), MOST_MOVES)
-}
-
 // Reads all games of a PGN text, and prints how many games and half-moves it has, and on standard error how many
 // half-moves were read a second; or the place of its first fault.
 fn measure_games(rt: &HostRuntime, text: &[u8]) -> io::Result<ExitCode> {
     let tables = AttackTables::open(rt.alloc())?;
-    let mut game = open_game(rt.alloc(), &tables)?;
+    let mut game = Game::open(rt.alloc(), Bits::new(&tables), MOST_MOVES)?;
     time_games(rt, text, &mut game)
 }
 
@@ -118,7 +114,7 @@ const MATCH_LEN: usize = 500;
 // they have, and on standard error how many were played a second.
 fn measure_matches(rt: &HostRuntime, times: u32) -> io::Result<ExitCode> {
     let tables = AttackTables::open(rt.alloc())?;
-    let mut game = open_game(rt.alloc(), &tables)?;
+    let mut game = Game::open(rt.alloc(), Bits::new(&tables), MOST_MOVES)?;
     let script = write_script(rt.alloc(), &mut game, MATCH_LEN)?;
     time_matches(rt, times, &script, &mut game)
 }

@@ -1,6 +1,6 @@
 //! The games of a match, one after another.
 
-ghost use Rattle.std.specs.Prelude.{◌≡◌, ◌≤◌, ◌⊎◌, [], IfErr, IfOk};
+ghost use Rattle.std.specs.Prelude.{◌≡◌, ◌≤◌, ◌⊎◌, [], IfErr};
 ghost use Rattle.byte_devices.specs.Devices.{Sends};
 ghost use Rattle.chess_match.specs.Reasons.{by_colour, comment_of};
 ghost use Rattle.chess_match.specs.Run.{Ports};
@@ -13,19 +13,18 @@ ghost use Rattle.chess_game.specs.declared.game.TheConstants.{MOST_MOVES};
 
 use crate::engine::{Engine, StartFault, finish, start};
 use crate::fault::ProgramFault;
-use crate::log::{Log, is_side, run_match_logged};
+use crate::log::{Log, run_match_logged};
 use crate::moments::SinceStart;
-use crate::output::send;
 use crate::score::Score;
 use arbiter_words::MatchPlan;
-use byte_devices::{Counted, Input, Output, WriteFault};
-use chess_base::Colour;
+use byte_devices::{Counted, Input, Output, WriteFault, send};
+use chess_base::{Colour, same_colour};
 use chess_bits::{AttackTables, Bits};
 use chess_game::{Game, MOST_MOVES};
 use chess_match::{Ends, MatchEnd, MatchFault, Moments, Reason, Setup, run_match};
 use chess_pgn::{TagText, Tags, write_pgn};
 use itoa::Buffer;
-use std::alloc::{AllocError, Global};
+use std::alloc::Global;
 use std::process::{OpenProcess, Processes};
 use std::rt::Clock;
 use thiserror::Error;
@@ -72,7 +71,7 @@ fn first_side(number: u32) -> Colour
 fn command_of<'a>(plan: &MatchPlan<'a>, number: u32, side: Colour) -> &'a str
     ensures { result.now ≡ engine_command plan.now number side }
 {
-    if is_side(side, first_side(number)) {
+    if same_colour(side, first_side(number)) {
         plan.white
     } else {
         plan.black
@@ -350,13 +349,6 @@ fn play_each<'a, 't, P: Processes + Clock, M: Moments, W: Output, E: Output>(
     Ok(GamesPlayed { score, fault: None })
 }
 
-// A new game of at most 20,000 half-moves, on a bitboard that uses these tables.
-fn open_game<'t>(alloc: Global, tables: &'t AttackTables) -> Result<Game<Bits<'t>>, AllocError>
-    ensures { IfOk result (λ g. g.limit ≡ MOST_MOVES) }
-{
-    Game::open(alloc, Bits::new(tables), MOST_MOVES)
-}
-
 /// Plays the games of a match, with colours changed after each, and writes each game's PGN and then the score; if the
 /// plan asks for a log, each game is logged.
 ///
@@ -377,7 +369,7 @@ pub(crate) fn play_games<'a, P: Processes + Clock, W: Output, E: Output>(
     let Ok(tables) = AttackTables::open(alloc) else {
         return Err(GamesFault::NoMemory);
     };
-    let Ok(mut game) = open_game(alloc, &tables) else {
+    let Ok(mut game) = Game::open(alloc, Bits::new(&tables), MOST_MOVES) else {
         return Err(GamesFault::NoMemory);
     };
     let mut scratch = Bits::new(&tables);

@@ -14,7 +14,6 @@ mod games;
 mod laws;
 mod log;
 mod moments;
-mod output;
 mod program;
 mod score;
 mod standard;

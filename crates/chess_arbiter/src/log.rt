@@ -10,10 +10,9 @@ ghost use Rattle.chess_match.specs.Run.{Ports, text_read};
 ghost use Rattle.chess_arbiter.specs.Log.{Logs, RanLogged, ends_line, engine_text, given_text, head, log_line, log_seen, shown};
 ghost use Rattle.chess_arbiter.specs.ties.Logging.{Adds, IsLog, log_start, received_text};
 
-use crate::output::send;
 use arrayvec::ArrayVec;
-use byte_devices::{Input, Output};
-use chess_base::Colour;
+use byte_devices::{Input, Output, send};
+use chess_base::{Colour, same_colour};
 use chess_cecp::Line;
 use chess_game::Game;
 use chess_match::{ENGINE_LINE_LEN, Ends, MatchEnd, Moments, Setup, Witness, run_match_watched};
@@ -262,18 +261,6 @@ fn engine_text(is_first: bool) -> &'static [u8]
     if is_first { b"first : " } else { b"second: " }
 }
 
-// Whether two sides are the same.
-pub(crate) fn is_side(side: Colour, other: Colour) -> bool
-    ensures { result ≡ same_colour side other }
-{
-    match (side, other) {
-        (Colour::White, Colour::White) => true,
-        (Colour::Black, Colour::Black) => true,
-        (Colour::White, Colour::Black) => false,
-        (Colour::Black, Colour::White) => false,
-    }
-}
-
 /// An output on which games are logged in the form of XBoard's debug file: it watches a match, and writes each event,
 /// and each line that an engine is sent. After a write or flush that failed it logs nothing more.
 #[derive(Drop)]
@@ -341,7 +328,7 @@ impl<E: Output> Log<E> {
         ensures first { self.new.first ≡ self.old.first }
         ensures state { self.new.state ≡ (record { moment = self.old.state.moment; at_start = true }) }
     {
-        let is_first = is_side(side, self.first);
+        let is_first = same_colour(side, self.first);
         let moment = self.state.moment;
         self.pending
             .add_line(&mut self.output, moment, b'!', is_first, text);
@@ -360,7 +347,7 @@ impl<E: Output> Witness for Log<E> {
 
     // Logs a line that an engine sent, such as `312 <first : move e2e4`.
     fn line(&mut self, side: Colour, line: &Line<ENGINE_LINE_LEN>, moment: u64) {
-        let is_first = is_side(side, self.first);
+        let is_first = same_colour(side, self.first);
         self.pending
             .add_received(&mut self.output, moment, is_first, line);
         self.state = LogState {
@@ -391,7 +378,7 @@ impl<E: Output> Witness for Log<E> {
 
     // Logs the lines that an engine is sent, each such as `312 >first : e2e4`.
     fn gives(&mut self, side: Colour, text: &[u8]) {
-        let is_first = is_side(side, self.first);
+        let is_first = same_colour(side, self.first);
         let state = self.state;
         self.state = self
             .pending

@@ -12,10 +12,9 @@ ghost use Rattle.chess_game.specs.declared.game.TheConstants.{MOST_MOVES};
 use crate::fault::{ProgramFault, report_text, reported, reported_fault};
 use crate::games::play_games;
 use crate::log::Log;
-use crate::output::send;
 use crate::stub::Stub;
 use arbiter_words::{MatchPlan, Plan, VerifyPlan, WordsFault, read_words};
-use byte_devices::{Input, Output, WriteFault};
+use byte_devices::{Input, Output, WriteFault, send};
 use chess_bits::{AttackTables, Bits};
 use chess_cecp::{End, Fault, Session, run_session, serve_lines};
 use chess_game::MOST_MOVES;
@@ -190,7 +189,7 @@ fn help<W: Output, E: Output, D: Display>(
     status_of(report_help(outcome, errors))
 }
 
-// Tells why the arguments ask for nothing, and returns the exit status: help and the version go to the output, all else
+// Reports why the arguments ask for nothing, and returns the exit status: help and the version go to the output, all else
 // to the error output.
 fn report_arguments<W: Output, E: Output>(
     alloc: Global,

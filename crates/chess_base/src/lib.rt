@@ -29,7 +29,7 @@ pub use fault::FenFault;
 pub use laws::{
     after_is_sound, before_undoes_after, moves_rise, normal_is_kept, reserve_never_grows,
 };
-pub use man::{CastlingSide, Colour, ColourRights, Kind, Man, Move, Rights, Variant};
+pub use man::{CastlingSide, Colour, ColourRights, Kind, Man, Move, Rights, Variant, same_colour};
 pub use position::Position;
 pub use setup::{COUNTER_LIMIT, Saved, Setup};
 pub use square::Square;

@@ -27,6 +27,18 @@ impl Colour {
     }
 }
 
+/// Whether two colours are the same: `==`, with a contract in the words of the definitions.
+pub fn same_colour(colour: Colour, other: Colour) -> bool
+    ensures { result ≡ same_colour colour other }
+{
+    match (colour, other) {
+        (Colour::White, Colour::White) => true,
+        (Colour::Black, Colour::Black) => true,
+        (Colour::White, Colour::Black) => false,
+        (Colour::Black, Colour::White) => false,
+    }
+}
+
 impl fmt::Display for Colour {
     ghost output = { λ c. Some (colour_word c) };
 

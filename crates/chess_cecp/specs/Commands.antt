@@ -1,10 +1,10 @@
 -- What a line commands, by its first word (Chess Engine Communication Protocol, version 2; `claim`, `showfen`,
 -- `showmoves`, `showpgn` and `showstate` are this project's own).
-use Rattle.std.specs.Prelude.{ℕ, ◌==◌, ◌&&◌, ◌||◌, nat_lt, nat_le, if◌then◌else◌, Bool, List, [], ◌∷◌, length, drop, codes, Option, None, Some, unwrap_or}
-use Rattle.std.specs.List.{find, list_all, list_any}
+use Rattle.std.specs.Prelude.{ℕ, ◌==◌, ◌||◌, if◌then◌else◌, Bool, List, [], ◌∷◌, length, drop, codes, Option, None, Some, unwrap_or}
+use Rattle.std.specs.List.{find, list_any}
 use Rattle.std.specs.Option.{option_map, option_map_or}
 use Rattle.std.specs.Str.{bytes_eq}
-use Rattle.chess_base.specs.Letters.{is_digit, value_after}
+use Rattle.chess_fen.specs.Texts.{short_number}
 use Rattle.chess_cecp.specs.Lines.{is_blank, without_front_blanks}
 use Rattle.chess_text.specs.Moves.{shape}
 use Rattle.chess_cecp.specs.declared.command.Command.{Command}
@@ -18,11 +18,6 @@ word_of (c ∷ cs) = if is_blank c then [] else c ∷ word_of cs
 -- the text after the first word and the spaces and tabs that follow it: of `usermove e4` it is `e4`
 unfoldable pub argument_of : List ℕ → List ℕ
 argument_of text = without_front_blanks (drop (length (word_of text)) text)
-
--- the number that a text of 1 to `most` digits denotes; `None` for any other text
-abbrev pub short_number : ℕ → List ℕ → Option ℕ
-short_number most text = if nat_lt 0 (length text) && nat_le (length text) most
-    && list_all is_digit text then Some (value_after 0 text) else None
 
 -- the number that a text of 1 to 9 digits denotes, as in `ping 7`; `None` for any other text
 unfoldable pub command_number : List ℕ → Option ℕ

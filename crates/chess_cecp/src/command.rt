@@ -1,12 +1,13 @@
 //! What a line commands.
 
-ghost use Rattle.std.specs.Prelude.{◌≡◌, ◌+◌, ◌^◌, ◌<◌, ◌≤◌, ◌++◌, IfSome, length};
+ghost use Rattle.std.specs.Prelude.{◌≡◌, ◌+◌, ◌<◌, ◌≤◌, ◌++◌, length};
 ghost use Rattle.chess_cecp.specs.Lines.{is_blank};
-ghost use Rattle.chess_cecp.specs.Commands.{command_of, named_command, word_of, argument_of, short_number, command_number, is_ignored};
+ghost use Rattle.chess_cecp.specs.Commands.{command_of, named_command, word_of, argument_of, command_number, is_ignored};
 ghost use Rattle.chess_cecp.specs.ties.Ignored.{is_engine_command, is_opponent_or_clock_command};
 ghost use Rattle.std.specs.Option.{option_map_or};
 
 use crate::trim::is_blank;
+use chess_fen::short_number;
 use chess_text::has_move_shape;
 
 /// The kinds of command (CECP, version 2; `claim`, `showfen`, `showmoves`, `showpgn` and `showstate` are this project's
@@ -94,25 +95,6 @@ pub fn read_number(text: &[u8]) -> Option<u32>
     ensures { result ≡ command_number text.now }
 {
     short_number(text, 9)
-}
-
-/// The number that a text of 1 to `most` digits denotes; `None` for any other text.
-pub fn short_number(text: &[u8], most: usize) -> Option<u32>
-    requires { most ≤ 9 }
-    ensures value { result ≡ short_number most text.now }
-    ensures small { IfSome result (λ n. n < 10 ^ most) }
-{
-    if text.is_empty() || text.len() > most {
-        return None;
-    }
-    let mut number = 0;
-    for byte in text {
-        if !byte.is_ascii_digit() {
-            return None;
-        }
-        number = 10 * number + u32::from(*byte - b'0');
-    }
-    Some(number)
 }
 
 // The command of a line `ping N` with this argument: `BadNumber` if it isn't a number of 1 to 9 digits.

@@ -1,4 +1,5 @@
 pub mod Lengths
+pub mod FewDigits
 pub mod RanksText
 pub mod Ranks
 pub mod Splits

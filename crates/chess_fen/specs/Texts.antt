@@ -15,10 +15,14 @@ use Rattle.chess_fen.specs.ManLetters.{stroke, man_with_letter}
 
 -- ---- numbers
 
--- the number that a text of one to six digits denotes; none for any other text
-abbrev pub number_of : List ℕ → Option ℕ
-number_of text = if nat_lt 0 (length text) && nat_le (length text) 6
+-- the number that a text of 1 to `most` digits denotes; none for any other text
+abbrev pub short_number : ℕ → List ℕ → Option ℕ
+short_number most text = if nat_lt 0 (length text) && nat_le (length text) most
     && list_all is_digit text then Some (value_after 0 text) else None
+
+-- a FEN's counter: the number that one to six digits denote
+abbrev pub number_of : List ℕ → Option ℕ
+number_of text = short_number 6 text
 
 -- ---- ranks
 

@@ -1,21 +1,30 @@
-//! Numbers of one to six digits.
+//! Numbers of a few digits.
 
-ghost use Rattle.std.specs.Prelude.{◌≡◌};
-ghost use Rattle.chess_fen.specs.Texts.{number_of};
+ghost use Rattle.std.specs.Prelude.{◌≡◌, ◌^◌, ◌<◌, ◌≤◌, IfSome};
+ghost use Rattle.chess_fen.specs.Texts.{number_of, short_number};
 
-// The number that a text of one to six digits denotes; none for any other text.
-pub(crate) fn read_number(text: &[u8]) -> Option<u32>
-    ensures { result ≡ number_of text.now }
+/// The number that a text of 1 to `most` digits denotes; `None` for any other text.
+pub fn short_number(text: &[u8], most: usize) -> Option<u32>
+    requires { most ≤ 9 }
+    ensures value { result ≡ short_number most text.now }
+    ensures small { IfSome result (λ n. n < 10 ^ most) }
 {
-    if text.is_empty() || text.len() > 6 {
+    if text.is_empty() || text.len() > most {
         return None;
     }
     let mut number = 0;
-    for &byte in text {
+    for byte in text {
         if !byte.is_ascii_digit() {
             return None;
         }
-        number = 10 * number + u32::from(byte - b'0');
+        number = 10 * number + u32::from(*byte - b'0');
     }
     Some(number)
+}
+
+// The number of a FEN's counter, of one to six digits; none for any other text.
+pub(crate) fn read_number(text: &[u8]) -> Option<u32>
+    ensures { result ≡ number_of text.now }
+{
+    short_number(text, 6)
 }

@@ -124,7 +124,8 @@ fn is_en_passant_from<B: Board>(board: &B, from: Square, to: Square) -> bool
     is_en_passant(board.setup(), &m) && board.is_legal(&m)
 }
 
-// Whether two optional squares are equal: the same square, or both none.
+// Whether two optional squares are equal, the same square or both none: `==`, with a contract in the words of the
+// definitions.
 fn same_square(this: Option<Square>, that: Option<Square>) -> bool
     ensures { result ≡ same_square this that }
 {

@@ -8,7 +8,6 @@ ghost use Rattle.chess_fen.specs.Writing.{fen};
 ghost use Rattle.chess_base.specs.Initial.{initial_setup};
 ghost use Rattle.chess_game.specs.Game.{current, verdict_now, State};
 ghost use Rattle.chess_game.specs.Ends.{verdict, claims};
-ghost use Rattle.chess_pgn.specs.GameText.{is_initial};
 ghost use Rattle.chess_text.specs.Moves.{reading};
 ghost use Rattle.chess_match.specs.Rules.{rules_of, has_bare_king, is_king_or_other, move_read, claim_by, fen_sent};
 
@@ -20,6 +19,7 @@ use chess_base::{Colour, Kind, Man, Move, Position, Variant};
 use chess_fen::{FenText, write_fen};
 use chess_game::{Claims, Game, Verdict};
 use chess_moves::Board;
+use chess_pgn::is_initial;
 use chess_text::{
     Reading, add_check_mark, move_text, read_move, read_moves_are_legal, unmarked_san,
 };
@@ -53,13 +53,6 @@ fn claim_by(claims: Claims) -> Option<DrawClaim>
     } else {
         None
     }
-}
-
-// Whether this start, of normal chess, is the initial position.
-fn is_initial(start: &Position) -> bool
-    ensures { result ≡ is_initial start.now }
-{
-    write_fen(start).as_slice() == write_fen(&Position::initial()).as_slice()
 }
 
 // The FEN that `setboard` sends to the engines for this start; `None` for the initial position of normal chess, in

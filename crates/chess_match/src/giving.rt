@@ -15,10 +15,10 @@ ghost use Rattle.chess_match.specs.ties.Reported.{SendsIf};
 
 use crate::block::Block;
 use crate::match_game::MatchGame;
-use crate::sending::{add_entered, add_offer, put_and_flush};
+use crate::sending::{add_entered, add_offer};
 use crate::state::{Actions, MatchState};
 use crate::witness::Witness;
-use byte_devices::{Output, WriteFault};
+use byte_devices::{Output, WriteFault, send};
 use chess_base::Colour;
 
 // Appends to the block what this side is sent after the answers to its items, as far as `given` says so: an offer of a
@@ -55,7 +55,7 @@ fn note_and_put<W: Output, L: Witness>(
         return Ok(());
     }
     witness.gives(side, text);
-    put_and_flush(writer, text)
+    send(writer, text)
 }
 
 /// Appends to the answers in `block` what else this side is sent (`given` says what), gives the witness a note of it

@@ -3,7 +3,6 @@
 ghost use Rattle.chess_match.specs.declared.block.TheConstants.{BLOCK_LEN};
 ghost use Rattle.std.specs.Prelude.{◌≡◌, ◌+◌, false, ◌≤◌, ◌++◌, ◌∷◌, [], List, is_some, true, if◌then◌else◌, codes};
 ghost use Rattle.arrayvec.specs.ArrayVec.{array_vec_len};
-ghost use Rattle.byte_devices.specs.Devices.{Sends};
 ghost use Rattle.chess_match.specs.Match.{Match};
 ghost use Rattle.chess_match.specs.Rules.{Rules};
 ghost use Rattle.chess_base.specs.declared.man.Move.{Move};
@@ -14,10 +13,9 @@ use crate::block::{Block, add, add_end, add_level, add_move, add_ping, add_times
 use crate::match_game::MatchGame;
 use crate::phase::Phase;
 use crate::reason::{MatchFault, Reason};
-use crate::state::{Actions, MatchState, is_side};
-use byte_devices::{Output, WriteFault, put, put_parts};
-use chess_base::{Colour, Variant};
-use engine_lines::{Features, is_known, next_item};
+use crate::state::{Actions, MatchState};
+use chess_base::{Colour, Variant, same_colour};
+use engine_lines::Features;
 
 impl MatchState {
     // The features that this side's engine has on.
@@ -129,7 +127,7 @@ fn add_unsent(block: &mut Block, core: &MatchState, side: Colour)
     match core.unsent_to {
         None => {}
         Some(unsent_to) => {
-            if is_side(unsent_to, side) {
+            if same_colour(unsent_to, side) {
                 add_last(block, core, side);
             }
         }
@@ -155,7 +153,7 @@ fn is_unwritten(reason: Reason, side: Colour) -> bool
 {
     match reason {
         Reason::Faulted(failed, fault) => match fault {
-            MatchFault::Write => is_side(failed, side),
+            MatchFault::Write => same_colour(failed, side),
             MatchFault::Ended => false,
             MatchFault::Read => false,
             MatchFault::NoDone => false,
@@ -187,23 +185,23 @@ fn add_entry<G: MatchGame>(block: &mut Block, core: &MatchState, game: &G, side:
 {
     match core.phase {
         Phase::Hello(on) => {
-            if is_side(on, side) {
+            if same_colour(on, side) {
                 add(block, b"xboard\nprotover 2\n");
             }
         }
         Phase::Setup(on) => {
-            if is_side(on, side) {
+            if same_colour(on, side) {
                 add_setup(block, core, game);
             }
         }
         Phase::SendTurn(on) => {
-            if is_side(on, side) {
+            if same_colour(on, side) {
                 add_opening(block, core, side);
             }
         }
         Phase::AwaitMove(_) => {}
         Phase::AwaitPong(on) => {
-            if is_side(on, side) {
+            if same_colour(on, side) {
                 add_ping(block, core.clocks.moves(side) + 1);
             }
         }
@@ -226,7 +224,7 @@ pub(crate) fn add_offer(block: &mut Block, given: Actions, side: Colour)
     match given.draw {
         None => {}
         Some(offered) => {
-            if is_side(offered, side) {
+            if same_colour(offered, side) {
                 add(block, b"draw\n");
             }
         }
@@ -251,12 +249,4 @@ pub(crate) fn add_entered<G: MatchGame>(
     if given.entered {
         add_entry(block, core, game, side);
     }
-}
-
-/// Writes a text to the output, and flushes it.
-pub(crate) fn put_and_flush<W: Output>(writer: &mut W, text: &[u8]) -> Result<(), WriteFault>
-    ensures { Sends (W.seen writer.old) (W.seen writer.new) result text.now }
-{
-    put(writer, text)?;
-    writer.flush()
 }

@@ -3,7 +3,6 @@
 ghost use Rattle.std.specs.Prelude.{◌≡◌, ◌++◌, ◌∷◌, [], List, false, ◌+◌, ◌*◌, ◌≤◌, length};
 ghost use Rattle.arrayvec.specs.ArrayVec.{array_vec_len};
 ghost use Rattle.chess_match.specs.declared.block.TheConstants.{ANSWERS_LEN};
-ghost use Rattle.chess_base.specs.Men.{same_colour};
 ghost use Rattle.engine_lines.specs.Seen.{item_seen, features_of};
 ghost use Rattle.engine_lines.specs.Items as told;
 ghost use Rattle.engine_lines.specs.Items.{items_of, has_done};
@@ -122,18 +121,6 @@ impl MatchState {
             count: 0,
             opened: 0,
         }
-    }
-}
-
-/// Whether two sides are the same.
-pub(crate) fn is_side(side: Colour, other: Colour) -> bool
-    ensures { result ≡ same_colour side other }
-{
-    match (side, other) {
-        (Colour::White, Colour::White) => true,
-        (Colour::Black, Colour::Black) => true,
-        (Colour::White, Colour::Black) => false,
-        (Colour::Black, Colour::White) => false,
     }
 }
 

@@ -36,4 +36,4 @@ pub use results::{ResultTag, result_tag};
 pub use tags::{HowEnded, TagText, Tags};
 pub use termination::Termination;
 pub use word::outcome_of;
-pub use write::write_pgn;
+pub use write::{is_initial, write_pgn};

@@ -164,8 +164,8 @@ fn put_start<W: Output>(
     }
 }
 
-// Whether a start of normal chess is the initial position.
-fn is_initial(start: &Position) -> bool
+/// Whether a start of normal chess is the initial position: by its FEN, as the definition has it.
+pub fn is_initial(start: &Position) -> bool
     ensures { result ≡ is_initial start.now }
 {
     write_fen(start).as_slice() == write_fen(&Position::initial()).as_slice()

@@ -6,5 +6,5 @@ use Rattle.chess_arbiter.proofs.log.send_unless_broken.Goals as goal
 
 pub returns : goal.returns
 returns g c =
-    subst (λ (b : Bool). Logs b c.is_err.result (g.E.Output.seen c.args.output.now) (g.E.Output.seen c.send.new.output) []
+    subst (λ (b : Bool). Logs b c.is_err.result (g.E.Output.seen c.args.output.now) (g.E.Output.seen c.send.new.writer) []
     c.args.text.now) (sym c.if-broken.false) (logs_sent _ _ c.send.result _ _ c.send.ensures c.is_err.ensures.value)

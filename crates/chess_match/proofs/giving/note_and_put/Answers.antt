@@ -19,7 +19,7 @@ returns-then-is_empty-clause-noted g c =
     (sym (is_nil c.args.text.now _ c.is_empty.ensures c.if-is_empty.true)) (noted_none _)
 
 pub returns-clause-sends : goal.returns-clause-sends
-returns-clause-sends g c = sent_now _ _ c.put_and_flush.result _ c.put_and_flush.ensures
+returns-clause-sends g c = sent_now _ _ c.send.result _ c.send.ensures
 
 pub returns-clause-noted : goal.returns-clause-noted
 returns-clause-noted g c = given_some _ _ c.args.side c.args.text.now

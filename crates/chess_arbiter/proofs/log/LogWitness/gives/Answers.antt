@@ -10,5 +10,5 @@ pub returns : goal.returns
 returns g c = logged _ _ _ _ _ _ _ _ (Gives c.args.side c.args.text.now) refl
     (adds_as _ _ _ _ _ _
     (ap (λ (b : Bool). given_text (head c.args.self.now.state.moment (byte ">") b) c.args.self.now.state.at_start
-    c.args.text.now) c.is_side-is_first.ensures) c.add_given-self.ensures.adds)
+    c.args.text.now) c.same_colour-is_first.ensures) c.add_given-self.ensures.adds)
     c.add_given-self.ensures.state

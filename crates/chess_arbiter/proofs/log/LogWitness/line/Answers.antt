@@ -10,7 +10,7 @@ use Rattle.chess_arbiter.proofs.log.LogWitness.line.Goals as goal
 pub returns : goal.returns
 returns g c = logged _ _ _ _ _ _ _ _ (Happened (Line c.args.side (text_read c.args.line.now) c.args.moment)) refl
     (adds_as _ _ _ _ _ _
-    (ap (λ (b : Bool). received_text c.args.moment b (text_read c.args.line.now)) c.is_side-is_first.ensures
+    (ap (λ (b : Bool). received_text c.args.moment b (text_read c.args.line.now)) c.same_colour-is_first.ensures
     ∙ received_note c.args.self.now.first c.args.self.now.state c.args.side (text_read c.args.line.now) c.args.moment)
     c.add_received.ensures)
     refl

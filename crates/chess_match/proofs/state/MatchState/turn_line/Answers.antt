@@ -24,15 +24,15 @@ returns-in-None g c r m p h s =
     let says : r.claim m.played ≡ None = rw (← s.moves) (sym (c.in-None.ensures r p)) in
     rw (c.in-Draw.is, says) (c.offer-in-None.ensures r _ m h s)
 
-pub returns-then-is_side : goal.returns-then-is_side
-returns-then-is_side g c r m p h s =
-    let same : same_colour c.in-Win.winner c.args.side ≡ true = sym c.if-is_side.ensures in
-    rw (c.in-Win.is, same) (c.finish-then-is_side.ensures r _ m (reads_on m.phase c.args.side h) s)
+pub returns-then-same_colour : goal.returns-then-same_colour
+returns-then-same_colour g c r m p h s =
+    let same : same_colour c.in-Win.winner c.args.side ≡ true = sym c.if-same_colour.ensures in
+    rw (c.in-Win.is, same) (c.finish-then-same_colour.ensures r _ m (reads_on m.phase c.args.side h) s)
 
-pub returns-else-is_side : goal.returns-else-is_side
-returns-else-is_side g c r m p h s =
-    let differs : same_colour c.in-Win.winner c.args.side ≡ false = sym c.if-is_side.ensures in
-    rw (c.in-Win.is, differs) (c.finish-else-is_side.ensures r _ m (reads_on m.phase c.args.side h) s)
+pub returns-else-same_colour : goal.returns-else-same_colour
+returns-else-same_colour g c r m p h s =
+    let differs : same_colour c.in-Win.winner c.args.side ≡ false = sym c.if-same_colour.ensures in
+    rw (c.in-Win.is, differs) (c.finish-else-same_colour.ensures r _ m (reads_on m.phase c.args.side h) s)
 
 pub returns-then-moves-gt0 : goal.returns-then-moves-gt0
 returns-then-moves-gt0 g c r m p h s =

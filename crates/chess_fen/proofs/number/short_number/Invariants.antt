@@ -1,7 +1,7 @@
 use Rattle.std.proofs.Common.{drop, ◌^◌, ◌≡◌, ◌<◌}
 use Rattle.std.specs.List.{list_all}
 use Rattle.chess_base.specs.Letters.{is_digit, value_after}
-use Rattle.chess_cecp.proofs.command.short_number.Given as goal
+use Rattle.chess_fen.proofs.number.short_number.Given as goal
 
 -- what is left gives the whole number
 abbrev pub invariant-loop-byte : goal.invariant-loop-byte

@@ -1,8 +1,8 @@
--- Of at most nine digits those before the last write less than 10 ^ 8 (Words.small_number), so no step overflows; and all
--- write less than 10 to the power of their number (Words.number_bound).
+-- Of at most nine digits those before the last write less than 10 ^ 8 (FewDigits.small_number), so no step overflows; and all
+-- write less than 10 to the power of their number (FewDigits.number_bound).
 use Rattle.std.proofs.Common.{arith, ◌<◌, ◌≤◌, ◌^◌, length}
-use Rattle.chess_cecp.proofs.Words.{small_number, number_bound}
-use Rattle.chess_cecp.proofs.command.short_number.Goals as goal
+use Rattle.chess_fen.proofs.FewDigits.{small_number, number_bound}
+use Rattle.chess_fen.proofs.number.short_number.Goals as goal
 
 pub overflow_mul-number : goal.overflow_mul-number
 overflow_mul-number c = let s : c.loop-byte.number < 10 ^ 8 = small_number _ _ (length c.args.text.now) c.args.most

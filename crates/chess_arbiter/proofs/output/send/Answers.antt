@@ -1,8 +1,0 @@
-use Rattle.byte_devices.proofs.DeviceLaws.{flush_on, sends_exit}
-use Rattle.chess_arbiter.proofs.output.send.Goals as goal
-
-pub returns-in_err-put : goal.returns-in_err-put
-returns-in_err-put g c = sends_exit _ _ c.from_residual.result _ c.in_err-put.ensures c.from_residual.ensures.0
-
-pub returns : goal.returns
-returns g c = flush_on _ _ _ c.flush.result _ c.in_ok-put.ensures c.flush.ensures
