@@ -206,8 +206,9 @@ fn play_move<B: Board>(
     Err(PgnFault { kind, offset })
 }
 
-// Plays the move that a word denotes in the current position, or returns the fault at `offset`, the word's. `progress`
-// is what is known before the word.
+// Plays the move that a word denotes in the current position, and returns the step "reading goes on", with what is
+// then known of the game beside its moves; `progress` is what was known of it before the word. If the word denotes no
+// one legal move, or the game is over or full, plays nothing and returns the fault at `offset`, the word's.
 #[inline(always)]
 fn play_word<B: Board>(
     game: &mut Game<B>,
