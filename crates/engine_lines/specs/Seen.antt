@@ -24,7 +24,8 @@ seen Rejection = kinds.Rejects
 seen (Pong n) = kinds.Answers n
 seen Other = kinds.SaysElse
 
--- the value in an item (`NAME=VALUE` of a `feature` line), as the definitions have it, for the code's value: of the same form (digits, or text between double quotes), with the same bytes
+-- the value in an item (`NAME=VALUE` of a `feature` line), as the definitions have it, for the code's value: of the
+-- same form (digits, or text between double quotes), with the same bytes
 abbrev pub value_seen : Value → items.Value
 value_seen (Digits text) = items.Digits text.now
 value_seen (Quoted text) = items.Quoted text.now
