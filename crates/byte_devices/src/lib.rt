@@ -1,4 +1,5 @@
-//! What gives bytes and what takes them: readers and writers whose contracts fix their bytes and count their failures.
+//! What gives bytes and what takes them: readers and writers whose contracts fix their bytes and count their failures;
+//! and buffers, in which a text is put together before it is written.
 //!
 //! A reader that gives pieces of three bytes, and a writer into memory:
 //!
@@ -11,11 +12,13 @@
 //! ```
 #![tactic(auto)]
 
+mod buffers;
 mod counted;
 mod gated;
 mod memory;
 mod traits;
 
+pub use buffers::{append, append_number};
 pub use counted::Counted;
 pub use gated::{GatedReader, GatedWriter};
 pub use memory::{PieceReader, PieceWriter};

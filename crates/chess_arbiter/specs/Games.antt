@@ -59,16 +59,16 @@ pub record GameRecord : Type 0 where
   pub end : MatchEnd
   pub notes : List Note
 
--- the game `told` was played from the start of `plan` with its time control, with at most 20,000 half-moves, whatever
+-- the game `played` was played from the start of `plan` with its time control, with at most 20,000 half-moves, whatever
 -- the two engines sent
 abbrev pub IsOfPlan : MatchPlan → GameRecord → Type 0
-IsOfPlan plan told = (before : Seen) × (before.limit ≡ MOST_MOVES)
+IsOfPlan plan played = (before : Seen) × (before.limit ≡ MOST_MOVES)
     × (w : Ports) × (w' : Ports) × (coming : ℕ → Option ℕ) × (coming' : ℕ → Option ℕ)
-    × RanNoted told.notes plan.start plan.level before told.game told.end w w' coming coming'
+    × RanNoted played.notes plan.start plan.level before played.game played.end w w' coming coming'
 
--- the PGN of the game `told`, which has this number
+-- the PGN of the game `played`, which has this number
 abbrev pub game_text : MatchPlan → ℕ → GameRecord → List ℕ
-game_text plan number told = pgn [] (tags_of plan number told.end) told.game.state
+game_text plan number played = pgn [] (tags_of plan number played.end) played.game.state
 
 -- the fault says that one of the plan's two engines could not be started, or that there was no memory
 abbrev pub IsStartFault : MatchPlan → GamesFault → Type 0
@@ -81,7 +81,7 @@ IsStartFault plan _ = ⊥
 -- each of these games was played by the plan, and ended without a fault of an engine
 abbrev pub SoundGames : MatchPlan → List GameRecord → Type 0
 SoundGames plan [] = Unit {0}
-SoundGames plan (told ∷ rest) = IsOfPlan plan told × (told.end.fault ≡ None) × SoundGames plan rest
+SoundGames plan (played ∷ rest) = IsOfPlan plan played × (played.end.fault ≡ None) × SoundGames plan rest
 
 -- the PGN of these games one after another; they are numbered from 1
 abbrev pub game_texts : MatchPlan → List GameRecord → List ℕ

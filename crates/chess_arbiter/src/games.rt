@@ -225,7 +225,7 @@ fn write_score<W: Output>(score: Score, output: &mut W) -> Result<(), WriteFault
 // How the fault of starting the engine with this command is reported: out of memory as such, all else by the command.
 fn start_fault<'a>(fault: StartFault, command: &'a str) -> GamesFault<'a>
     ensures fails { FailsToStart command.entry.now result }
-    ensures told { ReportsStart fault command.entry.now result }
+    ensures reported { ReportsStart fault command.entry.now result }
 {
     match fault {
         StartFault::NoMemory => GamesFault::NoMemory,

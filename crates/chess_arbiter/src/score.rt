@@ -8,9 +8,9 @@ ghost use Rattle.chess_arbiter.specs.Games.{score_line};
 ghost use Rattle.chess_arbiter.specs.ties.Playing.{no_score, plus, score_after};
 
 use arrayvec::ArrayVec;
+use byte_devices::{append, append_number};
 use chess_base::Colour;
 use chess_game::Outcome;
-use itoa::Buffer;
 
 /// How many games each engine won (`first` is that of `--white`), and how many were drawn or have no result.
 #[derive(Clone, Copy, Debug, PartialEq, Eq)]
@@ -23,27 +23,6 @@ pub(crate) struct Score {
 
 // The score's line: its text has 40 bytes, and its four numbers at most 20 each.
 type ScoreLine = ArrayVec<u8, 140>;
-
-// Appends a text to the line of the score.
-fn add_text(line: &mut ScoreLine, text: &[u8])
-    requires { array_vec_len line.old + length text.now ≤ 140 }
-    ensures text { line.new.items ≡ line.old.items ++ text.now }
-    ensures len { array_vec_len line.new ≡ array_vec_len line.old + length text.now }
-{
-    line.try_extend_from_slice(text).unwrap();
-}
-
-// Appends a number in decimal to the line of the score.
-#[tactic(auto, using(crate::proofs::Decimals::few_digits))]
-fn add_number(line: &mut ScoreLine, number: u16)
-    requires { array_vec_len line.old + 20 ≤ 140 }
-    ensures text { line.new.items ≡ line.old.items ++ decimal number }
-    ensures len { array_vec_len line.new ≤ array_vec_len line.old + 20 }
-{
-    let mut buffer = Buffer::new();
-    line.try_extend_from_slice(buffer.format(number).as_bytes())
-        .unwrap();
-}
 
 // A count after a game: one more, if the game adds to it (`one_more`), but at most 65,535.
 fn plus(count: u16, one_more: bool) -> u16
@@ -98,14 +77,14 @@ impl Score {
         ensures { result.items ≡ score_line self }
     {
         let mut line = ScoreLine::new();
-        add_text(&mut line, b"score first ");
-        add_number(&mut line, self.first);
-        add_text(&mut line, b" second ");
-        add_number(&mut line, self.second);
-        add_text(&mut line, b" drawn ");
-        add_number(&mut line, self.drawn);
-        add_text(&mut line, b" unfinished ");
-        add_number(&mut line, self.unfinished);
+        append(&mut line, b"score first ");
+        append_number(&mut line, u64::from(self.first));
+        append(&mut line, b" second ");
+        append_number(&mut line, u64::from(self.second));
+        append(&mut line, b" drawn ");
+        append_number(&mut line, u64::from(self.drawn));
+        append(&mut line, b" unfinished ");
+        append_number(&mut line, u64::from(self.unfinished));
         line.push(b'\n');
         line
     }

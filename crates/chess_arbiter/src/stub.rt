@@ -8,9 +8,8 @@ ghost use Rattle.chess_cecp.specs.Commands.{command_of};
 ghost use Rattle.chess_arbiter.specs.Stub.{after_remarks, after_opponent_move, played_text, remark, remarks, stub_row, stub_response, turn, waiting};
 
 use arrayvec::ArrayVec;
-use byte_devices::{Output, WriteFault, put, put_parts};
+use byte_devices::{Output, WriteFault, append, append_number, put, put_parts};
 use chess_cecp::{COMMAND_LEN, Command, Go, Line, LineServer, first_word, read_command};
-use itoa::Buffer;
 use std::marker::Model;
 
 // The reply to `protover`.
@@ -47,8 +46,8 @@ fn say_line<W: Output>(writer: &mut W, prefix: &[u8], word: &str) -> Result<(), 
         return put_parts(writer, &[prefix, word.as_bytes(), b"\n".as_slice()]);
     }
     let mut line: ArrayVec<u8, 40> = ArrayVec::new();
-    line.try_extend_from_slice(prefix).unwrap();
-    line.try_extend_from_slice(word.as_bytes()).unwrap();
+    append(&mut line, prefix);
+    append(&mut line, word.as_bytes());
     line.push(b'\n');
     put(writer, line.as_slice())
 }
@@ -61,15 +60,12 @@ fn say_word<W: Output>(writer: &mut W, word: &str) -> Result<(), WriteFault>
 }
 
 // Sends `pong` with this number, the answer to a `ping`.
-#[tactic(auto, using(crate::proofs::Decimals::few_digits))]
 fn say_pong<W: Output>(writer: &mut W, number: u32) -> Result<(), WriteFault>
     ensures { Puts (W.seen writer.old) (W.seen writer.new) result (codes "pong " ++ (decimal number ++ new_line ∷ [])) }
 {
-    let mut buffer = Buffer::new();
     let mut line: ArrayVec<u8, 40> = ArrayVec::new();
-    line.try_extend_from_slice(b"pong ").unwrap();
-    line.try_extend_from_slice(buffer.format(number).as_bytes())
-        .unwrap();
+    append(&mut line, b"pong ");
+    append_number(&mut line, u64::from(number));
     line.push(b'\n');
     put(writer, line.as_slice())
 }

@@ -25,8 +25,8 @@ work r held = r.pieces_left * 1025 + length held.coming
 -- follow it, however the stream goes on. `given` was read, which took the input from `r` to `r'`; `held` and `held'`
 -- are the bytes read and not returned, before and after. Lines have at most `n` bytes
 pub record GotLine (n : ℕ) (r r' : InputState) (held held' : Held) (given : List ℕ) (line : LineSeen) : Type 0 where
-  pub lines : (told : Bool) (rest : List ℕ)
-      → lines_held n told held (given ++ rest) ≡ line ∷ lines_held n told held' rest
+  pub lines : (at_end : Bool) (rest : List ℕ)
+      → lines_held n at_end held (given ++ rest) ≡ line ∷ lines_held n at_end held' rest
   pub failures : r'.failure_count ≡ r.failure_count
   pub ends : r'.end_count ≡ r.end_count
   pub falls : work r' held' < work r held
@@ -45,7 +45,7 @@ pub record GotLast (n : ℕ) (r r' : InputState) (held held' : Held) (given : Li
 -- the end of the stream was reported, and no line is left: `given`, which was read and took the input from `r` to `r'`,
 -- and what was `held` before give no line, and nothing is held after (`held'`). Lines have at most `n` bytes
 pub record GotNone (n : ℕ) (r r' : InputState) (held held' : Held) (given : List ℕ) : Type 0 where
-  pub lines : (told : Bool) → lines_held n told held given ≡ []
+  pub lines : (at_end : Bool) → lines_held n at_end held given ≡ []
   pub rest : held' ≡ nothing_held
   pub at_end : IsAtEnd r'.known_bytes
   pub failures : r'.failure_count ≡ r.failure_count
@@ -55,7 +55,8 @@ pub record GotNone (n : ℕ) (r r' : InputState) (held held' : Held) (given : Li
 -- and all of it is kept in `held'`. Lines have at most `n` bytes
 pub record GotFault (n : ℕ) (r r' : InputState) (held held' : Held) (given : List ℕ) : Type 0 where
   pub whole : lines_held n false held given ≡ []
-  pub lines : (told : Bool) (rest : List ℕ) → lines_held n told held (given ++ rest) ≡ lines_held n told held' rest
+  pub lines : (at_end : Bool) (rest : List ℕ)
+      → lines_held n at_end held (given ++ rest) ≡ lines_held n at_end held' rest
   pub failures : r'.failure_count ≡ risen r.failure_count
   pub ends : r'.end_count ≡ r.end_count
 

@@ -12,11 +12,11 @@ ghost use Rattle.chess_cecp.specs.Session.{moves_line, result_line, verdict_line
 
 use crate::declaring::claims_text;
 use arrayvec::ArrayVec;
+use byte_devices::{append, append_number};
 use chess_base::{FenFault, Move, Position};
 use chess_game::{Declared, Game, Outcome, Verdict};
 use chess_moves::Board;
 use chess_text::move_text;
-use itoa::Buffer;
 
 // The most bytes of an answer, which is put together before it is written: `# moves`, a number, and six bytes for each
 // of 896 moves; or an echoed line of 1,024 bytes and the words before it.
@@ -30,8 +30,8 @@ pub(crate) fn write_line(answer: &mut Answer, front: &[u8], text: &[u8])
     requires { array_vec_len answer.old + length front.now + length text.now + 1 ≤ ANSWER_LEN }
     ensures { answer.new.items ≡ answer.old.items ++ joined_line front.now text.now }
 {
-    answer.try_extend_from_slice(front).unwrap();
-    answer.try_extend_from_slice(text).unwrap();
+    append(answer, front);
+    append(answer, text);
     answer.push(b'\n');
 }
 
@@ -40,8 +40,9 @@ pub(crate) fn write_pong(answer: &mut Answer, number: u32)
     requires { array_vec_len answer.old ≤ 1000 }
     ensures { answer.new.items ≡ answer.old.items ++ joined_line (codes "pong ") (decimal number) }
 {
-    let mut buffer = Buffer::new();
-    write_line(answer, b"pong ", buffer.format(number).as_bytes());
+    append(answer, b"pong ");
+    append_number(answer, u64::from(number));
+    answer.push(b'\n');
 }
 
 // The features that an arbiter has: it takes `setboard`, answers `ping`, and knows normal chess and Chess960.
@@ -82,9 +83,7 @@ pub(crate) fn write_illegal_position(answer: &mut Answer, fault: FenFault)
     ensures { answer.new.items
         ≡ joined_line (codes "tellusererror Illegal position (") (fen_fault_name fault ++ codes ")") }
 {
-    answer
-        .try_extend_from_slice(b"tellusererror Illegal position (")
-        .unwrap();
+    append(answer, b"tellusererror Illegal position (");
     write_line(answer, fen_fault_name(fault).as_bytes(), b")");
 }
 
@@ -98,15 +97,6 @@ pub(crate) fn write_verdict(answer: &mut Answer, verdict: Option<Verdict>)
     }
 }
 
-// Appends a text to the answer.
-fn write_text(answer: &mut Answer, text: &[u8])
-    requires { array_vec_len answer.old + length text.now ≤ ANSWER_LEN }
-    ensures text { answer.new.items ≡ answer.old.items ++ text.now }
-    ensures len { array_vec_len answer.new ≡ array_vec_len answer.old + length text.now }
-{
-    answer.try_extend_from_slice(text).unwrap();
-}
-
 // Appends a result with its comment to the answer, such as `1-0 {White mates}`, without `\n`.
 #[tactic(auto, unfolding(crate::specs::Declaring::result_text))]
 fn write_result_text(answer: &mut Answer, outcome: Outcome, comment: &[u8])
@@ -114,10 +104,10 @@ fn write_result_text(answer: &mut Answer, outcome: Outcome, comment: &[u8])
     ensures text { answer.new.items ≡ answer.old.items ++ result_text outcome comment.now }
     ensures len { array_vec_len answer.new ≤ array_vec_len answer.old + length comment.now + 10 }
 {
-    write_text(answer, outcome.text());
-    write_text(answer, b" {");
-    write_text(answer, comment);
-    write_text(answer, b"}");
+    append(answer, outcome.text());
+    append(answer, b" {");
+    append(answer, comment);
+    append(answer, b"}");
 }
 
 // Appends the line of a result to the answer, such as `1-0 {White mates}`, with `\n`.
@@ -136,9 +126,8 @@ fn write_number(answer: &mut Answer, front: &[u8], number: u64)
     ensures text { answer.new.items ≡ answer.old.items ++ (front.now ++ decimal number) }
     ensures len { array_vec_len answer.new ≤ array_vec_len answer.old + length front.now + 20 }
 {
-    let mut buffer = Buffer::new();
-    write_text(answer, front);
-    write_text(answer, buffer.format(number).as_bytes());
+    append(answer, front);
+    append_number(answer, number);
 }
 
 // Appends the board's verdict as `showstate` writes it, such as `1-0 {White mates}`; `none` without one.
@@ -149,7 +138,7 @@ fn write_verdict_text(answer: &mut Answer, verdict: Option<Verdict>)
 {
     match verdict {
         Some(verdict) => write_result_text(answer, verdict.outcome(), verdict.comment()),
-        None => write_text(answer, b"none"),
+        None => append(answer, b"none"),
     }
 }
 
@@ -161,7 +150,7 @@ fn write_declared_text(answer: &mut Answer, declared: Option<&Declared>)
 {
     match declared {
         Some(declared) => write_result_text(answer, declared.outcome, declared.comment.as_bytes()),
-        None => write_text(answer, b"none"),
+        None => append(answer, b"none"),
     }
 }
 
@@ -178,11 +167,11 @@ pub(crate) fn write_state<B: Board>(answer: &mut Answer, game: &Game<B>)
         b" clock ",
         u64::from(game.position().setup().halfmove),
     );
-    write_text(answer, b" claims ");
-    write_text(answer, claims_text(game.claims()));
-    write_text(answer, b" verdict ");
+    append(answer, b" claims ");
+    append(answer, claims_text(game.claims()));
+    append(answer, b" verdict ");
     write_verdict_text(answer, game.verdict());
-    write_text(answer, b" declared ");
+    append(answer, b" declared ");
     write_declared_text(answer, game.declared());
     answer.push(b'\n');
 }
@@ -194,11 +183,8 @@ pub(crate) fn write_moves(answer: &mut Answer, position: &Position, moves: &[Mov
     requires empty { answer.old.items ≡ [] }
     ensures { answer.new.items ≡ moves_line position.now moves.now }
 {
-    let mut buffer = Buffer::new();
-    answer.try_extend_from_slice(b"# moves ").unwrap();
-    answer
-        .try_extend_from_slice(buffer.format(moves.len()).as_bytes())
-        .unwrap();
+    append(answer, b"# moves ");
+    append_number(answer, moves.len() as u64);
     write_each(answer, position, moves);
     answer.push(b'\n');
 }
@@ -211,8 +197,6 @@ fn write_each(answer: &mut Answer, position: &Position, moves: &[Move])
 {
     for m in moves {
         answer.push(b' ');
-        answer
-            .try_extend_from_slice(move_text(position, *m).as_slice())
-            .unwrap();
+        append(answer, move_text(position, *m).as_slice());
     }
 }

@@ -13,11 +13,11 @@ ghost use Rattle.chess_cecp.specs.laws.Normal.{normal_row_of, keeps_its_row};
 ghost use Rattle.chess_cecp.specs.Session.{row, session_response, IsRefusal};
 
 /// States a law and does nothing: each `\n` of a stream ends a line; what follows the last `\n` is a line too, if it
-/// isn't empty and the end of the stream was reported (`told`).
+/// isn't empty and the end of the stream was reported (`at_end`).
 pub fn lines_are_pieces()
-    ensures empty { (n : ℕ) (told : Bool) → stream_lines n told [] ≡ [] }
-    ensures ended { (n : ℕ) (told : Bool) (piece rest : List ℕ) → HasNoEnd piece →
-        stream_lines n told (piece ++ new_line ∷ rest) ≡ line_of n true piece ∷ stream_lines n told rest }
+    ensures empty { (n : ℕ) (at_end : Bool) → stream_lines n at_end [] ≡ [] }
+    ensures ended { (n : ℕ) (at_end : Bool) (piece rest : List ℕ) → HasNoEnd piece →
+        stream_lines n at_end (piece ++ new_line ∷ rest) ≡ line_of n true piece ∷ stream_lines n at_end rest }
     ensures last { (n : ℕ) (piece : List ℕ) → HasNoEnd piece → 0 < length piece →
         stream_lines n true piece ≡ line_of n false piece ∷ [] }
     ensures not_told { (n : ℕ) (piece : List ℕ) → HasNoEnd piece → stream_lines n false piece ≡ [] }

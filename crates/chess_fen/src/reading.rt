@@ -126,7 +126,7 @@ pub fn read_fen_as(variant: Variant, text: &[u8]) -> Result<Position, FenFault>
     // A sound position that the text denotes is read.
     ensures only { (p : Setup) → DenotesFenAs variant text.now p → IsSound p → result ≡ Ok p }
     // What the fault says of the text, field by field.
-    ensures told { IfErr result (IsFaultAs variant text.now) }
+    ensures fault { IfErr result (IsFaultAs variant text.now) }
     // No other fault says so.
     ensures refused { (f : FenFault) → IsFaultAs variant text.now f → result ≡ Err f }
 {
@@ -142,7 +142,7 @@ pub fn read_fen(text: &[u8]) -> Result<Position, FenFault>
     // A sound position that the text denotes is read.
     ensures only { (p : Setup) → DenotesFen text.now p → IsSound p → result ≡ Ok p }
     // What the fault says of the text, field by field.
-    ensures told { IfErr result (IsFault text.now) }
+    ensures fault { IfErr result (IsFault text.now) }
     // No other fault says so.
     ensures refused { (f : FenFault) → IsFault text.now f → result ≡ Err f }
 {

@@ -251,7 +251,7 @@ impl<B: Board> Game<B> {
         // The same in single facts.
         ensures refused { OnErr result (self.new ≡ self.old) }
         ensures none { IsErr result ↔ (self.old.state.moves ≡ []) }
-        ensures position_after { IfOk result (λ m. self.old.state.moves ≡ self.new.state.moves ++ m ∷ []) }
+        ensures last { IfOk result (λ m. self.old.state.moves ≡ self.new.state.moves ++ m ∷ []) }
         ensures undeclared { OnOk result (IsNone self.new.state.declared) }
         ensures kept { (self.new.limit ≡ self.old.limit) × (self.new.state.start ≡ self.old.state.start) }
     {

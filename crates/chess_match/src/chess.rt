@@ -11,7 +11,7 @@ ghost use Rattle.chess_game.specs.Ends.{verdict, claims};
 ghost use Rattle.chess_text.specs.Moves.{reading};
 ghost use Rattle.chess_match.specs.Rules.{rules_of, has_bare_king, is_king_or_other, move_read, claim_by, fen_sent};
 
-use crate::block::{Block, add};
+use crate::block::Block;
 use crate::match_game::MatchGame;
 use crate::reason::DrawClaim;
 use crate::texts::MoveTexts;
@@ -164,9 +164,9 @@ impl<B: Board> MatchGame for Game<B> {
         match start_text(&self.start()) {
             None => {}
             Some(text) => {
-                add(block, b"setboard ");
-                add(block, text.as_slice());
-                add(block, b"\n");
+                append(block, b"setboard ");
+                append(block, text.as_slice());
+                append(block, b"\n");
             }
         }
     }

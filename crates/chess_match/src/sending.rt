@@ -9,7 +9,7 @@ ghost use Rattle.chess_base.specs.declared.man.Move.{Move};
 ghost use Rattle.chess_match.specs.Sent.{Says, bytes_of, last_move_lines, clock_lines, opening_lines, setup_lines, end_lines, lines_on_entering, unsent_lines, variant_command, is_unwritten};
 ghost use Rattle.chess_match.specs.ties.Represents.{Represents, player, lines_if_to};
 
-use crate::block::{Block, add, add_end, add_level, add_move, add_ping, add_times};
+use crate::block::{Block, add_end, add_level, add_move, add_ping, add_times};
 use crate::match_game::MatchGame;
 use crate::phase::Phase;
 use crate::reason::{MatchFault, Reason};
@@ -83,7 +83,7 @@ fn add_opening(block: &mut Block, core: &MatchState, side: Colour)
     } else {
         add_last(block, core, side);
         add_clocks(block, core, side);
-        add(block, b"go\n");
+        append(block, b"go\n");
     }
 }
 
@@ -96,7 +96,7 @@ fn add_variant(block: &mut Block, variant: Variant)
 {
     match variant {
         Variant::Normal => {}
-        Variant::Fischerandom => add(block, b"variant fischerandom\n"),
+        Variant::Fischerandom => append(block, b"variant fischerandom\n"),
     }
 }
 
@@ -108,10 +108,10 @@ fn add_setup<G: MatchGame>(block: &mut Block, core: &MatchState, game: &G)
         → block.new.items ≡ block.old.items ++ bytes_of (setup_lines r) }
     ensures len { array_vec_len block.new ≤ array_vec_len block.old + 300 }
 {
-    add(block, b"new\n");
+    append(block, b"new\n");
     add_variant(block, game.variant());
     add_level(block, core.clocks.level());
-    add(block, b"nopost\neasy\nforce\n");
+    append(block, b"nopost\neasy\nforce\n");
     game.add_start(block);
     add_ping(block, 1);
 }
@@ -186,7 +186,7 @@ fn add_entry<G: MatchGame>(block: &mut Block, core: &MatchState, game: &G, side:
     match core.phase {
         Phase::Hello(on) => {
             if same_colour(on, side) {
-                add(block, b"xboard\nprotover 2\n");
+                append(block, b"xboard\nprotover 2\n");
             }
         }
         Phase::Setup(on) => {
@@ -225,7 +225,7 @@ pub(crate) fn add_offer(block: &mut Block, given: Actions, side: Colour)
         None => {}
         Some(offered) => {
             if same_colour(offered, side) {
-                add(block, b"draw\n");
+                append(block, b"draw\n");
             }
         }
     }

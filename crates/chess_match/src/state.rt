@@ -4,7 +4,7 @@ ghost use Rattle.std.specs.Prelude.{◌≡◌, ◌++◌, ◌∷◌, [], List, fa
 ghost use Rattle.arrayvec.specs.ArrayVec.{array_vec_len};
 ghost use Rattle.chess_match.specs.declared.block.TheConstants.{ANSWERS_LEN};
 ghost use Rattle.engine_lines.specs.Seen.{item_seen, features_of};
-ghost use Rattle.engine_lines.specs.Items as told;
+ghost use Rattle.engine_lines.specs.Items as feature_items;
 ghost use Rattle.engine_lines.specs.Items.{items_of, has_done};
 ghost use Rattle.chess_match.specs.ties.Represents.{name_by, Represents};
 ghost use Rattle.chess_match.specs.Match.{start};
@@ -83,9 +83,9 @@ impl Player {
     /// them to `block`, and returns whether `done=1` is among them.
     pub(crate) fn hear(&mut self, text: &[u8], block: &mut Block) -> bool
         requires { array_vec_len block.old + 4 * length text.now ≤ ANSWERS_LEN }
-        ensures features { (items : List told.Item) → self.old.features ≡ features_of items
+        ensures features { (items : List feature_items.Item) → self.old.features ≡ features_of items
             → self.new.features ≡ features_of (items ++ items_of text.now) }
-        ensures name { (items : List told.Item) → self.old.name ≡ name_by items
+        ensures name { (items : List feature_items.Item) → self.old.name ≡ name_by items
             → self.new.name ≡ name_by (items ++ items_of text.now) }
         ensures offers { self.new.offers ≡ self.old.offers }
         ensures done { result ≡ has_done (items_of text.now) }
@@ -127,7 +127,7 @@ impl MatchState {
 // If the item is `myname`, sets `name` to its value, cut so that a PGN tag can hold it; else leaves it.
 #[tactic(auto, unfolding(crate::specs::ties::Represents::name_by, engine_lines::specs::Items::last_value))]
 fn note_name(name: &mut TagText, item: &Item<'_>)
-    ensures { (items : List told.Item) → name.old ≡ name_by items
+    ensures { (items : List feature_items.Item) → name.old ≡ name_by items
         → name.new ≡ name_by (items ++ item_seen item.now ∷ []) }
 {
     if item.name == b"myname".as_slice() {

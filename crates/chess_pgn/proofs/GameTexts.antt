@@ -4,7 +4,6 @@ use Rattle.std.specs.Prelude.{decimal, IsTrue}
 use Rattle.std.specs.List.{flat_map}
 use Rattle.std.proofs.lemmas.List.Concat.{flat_map-append}
 use Rattle.std.proofs.lemmas.Bool.Decides.{nat_tests}
-use Rattle.std.proofs.lemmas.Fmt.{length-decimal-le}
 use Rattle.chess_base.specs.declared.man.Move.{Move}
 use Rattle.chess_base.specs.declared.man.Variant.{Variant}
 use Rattle.chess_base.specs.declared.setup.Setup.{Setup}
@@ -23,10 +22,6 @@ use Rattle.chess_text.specs.San.{san}
 use Rattle.chess_pgn.specs.ties.Waiting.{TookSome, Adds}
 use Rattle.chess_pgn.specs.Written.{ended, wrapped_token, next_column, line_close, filled_from, move_text_of}
 use Rattle.chess_pgn.proofs.Added.{added_more, added_break, break_longer, adds_more, finished}
-
--- a number of 32 bits has at most ten digits
-pub short_decimal : (n : ℕ) → n < 2 ^ 32 → length (decimal n) ≤ 10
-short_decimal n h = length-decimal-le 10 n (omega arith) (omega arith) (omega arith)
 
 -- ---- texts of three parts
 

@@ -412,7 +412,7 @@ fn tagged_variant(text: &[u8], at: usize) -> Variant
         match next_token(text, offset) {
             Ok(Some((token, behind))) => {
                 match variant_after(variant, &token) {
-                    Some(told) => variant = told,
+                    Some(named) => variant = named,
                     None => return variant,
                 }
                 offset = behind;

@@ -9,7 +9,7 @@ ghost use Rattle.chess_pgn.specs.ties.Lines.{tag_lines_of};
 use crate::lines::LineWriter;
 use crate::tags::TagPair;
 use arrayvec::ArrayVec;
-use byte_devices::{Output, WriteFault};
+use byte_devices::{Output, WriteFault, append};
 
 // The line of a tag, put together.
 type TagLine = ArrayVec<u8, 256>;
@@ -36,10 +36,10 @@ fn tag_line(name: &[u8], text: &[u8]) -> TagLine
 {
     let mut line = TagLine::new();
     line.push(b'[');
-    line.try_extend_from_slice(name).unwrap();
-    line.try_extend_from_slice(b" \"").unwrap();
+    append(&mut line, name);
+    append(&mut line, b" \"");
     write_escaped(&mut line, text);
-    line.try_extend_from_slice(b"\"]").unwrap();
+    append(&mut line, b"\"]");
     line
 }
 

@@ -15,16 +15,15 @@ use crate::tag_lines::put_tags;
 use crate::tags::{TagPair, Tags};
 use crate::termination::Termination;
 use arrayvec::ArrayVec;
-use byte_devices::{Output, WriteFault};
+use byte_devices::{Output, WriteFault, append, append_number};
 use chess_base::{Colour, Move, Position, Setup, Variant};
 use chess_fen::write_fen;
 use chess_game::{Game, Outcome};
 use chess_moves::Board;
 use chess_text::{san, san_is_a_word};
-use itoa::Buffer;
 
-// The token of a move number: at most ten digits, and three dots.
-type NumberText = ArrayVec<u8, 13>;
+// The token of a move number: at most 20 digits, and three dots.
+type NumberText = ArrayVec<u8, 23>;
 
 /// Writes a game's text (PGN standard of 1994, section 3.2, the form for exchange): its tags, an empty line, its moves
 /// in SAN with the outcome last, and an empty line. Each line begins with `prefix` and ends with `\n`. The writer is
@@ -320,17 +319,14 @@ fn put_number<W: Output>(
 }
 
 // A number with dots after it, such as `12.` or `12...`.
-#[tactic(auto, using(crate::proofs::GameTexts::short_decimal))]
 fn number_text(number: u32, dots: &[u8]) -> NumberText
     requires some { 0 < length dots.now }
     requires few { length dots.now ≤ 3 }
     ensures text { result.items ≡ decimal number ++ dots.now }
     ensures some { 0 < array_vec_len result }
 {
-    let mut buffer = Buffer::new();
     let mut text = NumberText::new();
-    text.try_extend_from_slice(buffer.format(number).as_bytes())
-        .unwrap();
-    text.try_extend_from_slice(dots).unwrap();
+    append_number(&mut text, u64::from(number));
+    append(&mut text, dots);
     text
 }

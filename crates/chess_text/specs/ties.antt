@@ -1,4 +1,5 @@
--- What only joins code to the definitions: no claim rests on it.
+-- What joins code to the definitions. Of the claims only that of `texts_have_parts` (laws/Laws) speaks of it, by the
+-- parts of a text.
 pub mod Forms
 pub mod Reader
 pub mod SanParts

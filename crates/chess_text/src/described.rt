@@ -45,23 +45,23 @@ pub(crate) fn describe(setup: &Setup, m: &Move) -> Option<Described>
     })
 }
 
-// Whether a text that names this file or rank (`told`), or none, can mean `number`: it names that, or none at all.
-pub(crate) fn admits(told: Option<u8>, number: u8) -> bool
-    ensures { result ≡ admits told number }
+// Whether a text that names this file or rank (`named`), or none, can mean `number`: it names that, or none at all.
+pub(crate) fn admits(named: Option<u8>, number: u8) -> bool
+    ensures { result ≡ admits named number }
 {
-    match told {
+    match named {
         None => true,
-        Some(told) => told == number,
+        Some(named) => named == number,
     }
 }
 
-// Whether a text names a file or rank (`told`), and it is `number`.
-pub(crate) fn names(told: Option<u8>, number: u8) -> bool
-    ensures { result ≡ names told number }
+// Whether a text names a file or rank (`named`), and it is `number`.
+pub(crate) fn names(named: Option<u8>, number: u8) -> bool
+    ensures { result ≡ names named number }
 {
-    match told {
+    match named {
         None => false,
-        Some(told) => told == number,
+        Some(named) => named == number,
     }
 }
 
@@ -71,28 +71,28 @@ fn names_kind(letter: Option<Kind>, kind: Kind) -> bool
 {
     match letter {
         None => false,
-        Some(told) => told == kind,
+        Some(named) => named == kind,
     }
 }
 
-// Whether the promotion that a text names (`told`) is the move's (`promotion`): both to the same kind, or both none.
-fn promotes_so(told: Option<Promotion>, promotion: Option<Kind>) -> bool
-    ensures { result ≡ promotes_so told promotion }
+// Whether the promotion that a text names (`named`) is the move's (`promotion`): both to the same kind, or both none.
+fn promotes_so(named: Option<Promotion>, promotion: Option<Kind>) -> bool
+    ensures { result ≡ promotes_so named promotion }
 {
-    match (told, promotion) {
+    match (named, promotion) {
         (None, None) => true,
-        (Some(told), Some(kind)) => told.kind == kind,
+        (Some(named), Some(kind)) => named.kind == kind,
         _ => false,
     }
 }
 
-// Whether a text names a promotion (`told`), and writes it with `=`.
-fn has_equals(told: Option<Promotion>) -> bool
-    ensures { result ≡ has_equals told }
+// Whether a text names a promotion (`named`), and writes it with `=`.
+fn has_equals(named: Option<Promotion>) -> bool
+    ensures { result ≡ has_equals named }
 {
-    match told {
+    match named {
         None => false,
-        Some(told) => told.equals,
+        Some(named) => named.equals,
     }
 }
 

@@ -1,7 +1,7 @@
 //! What an engine takes.
 
 ghost use Rattle.std.specs.Prelude.{◌≡◌, ◌++◌, ◌∷◌, [], List};
-ghost use Rattle.engine_lines.specs.Items as told;
+ghost use Rattle.engine_lines.specs.Items as feature_items;
 ghost use Rattle.engine_lines.specs.Seen.{features_of, item_seen};
 
 use crate::item::Item;
@@ -38,7 +38,7 @@ impl Features {
 
     /// Which features the engine has on after one more item, such as `ping=1`.
     pub fn heard(self, item: &Item<'_>) -> Self
-        ensures { (items : List told.Item) → self ≡ features_of items
+        ensures { (items : List feature_items.Item) → self ≡ features_of items
             → result ≡ features_of (items ++ item_seen item.now ∷ []) }
     {
         Features {

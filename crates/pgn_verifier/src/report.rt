@@ -9,10 +9,9 @@ ghost use Rattle.pgn_verifier.specs.Reports.{termination_part, report_text, repo
 use crate::game_fault::{GameFault, fault_name};
 use crate::tally::Tally;
 use arrayvec::ArrayVec;
-use byte_devices::{Output, WriteFault, put};
+use byte_devices::{Output, WriteFault, append, append_number, put};
 use chess_game::Outcome;
 use chess_pgn::Termination;
-use itoa::Buffer;
 
 // The most bytes of a line: three numbers' and 60 more.
 const LINE_LEN: usize = 120;
@@ -33,25 +32,6 @@ pub(crate) enum Report {
     Faulty(GameFault),
 }
 
-// Appends a text to the line.
-fn write_text(line: &mut ReportLine, text: &[u8])
-    requires { array_vec_len line.old + length text.now ≤ LINE_LEN }
-    ensures text { line.new.items ≡ line.old.items ++ text.now }
-    ensures len { array_vec_len line.new ≡ array_vec_len line.old + length text.now }
-{
-    line.try_extend_from_slice(text).unwrap();
-}
-
-// Appends a number to the line.
-fn write_number(line: &mut ReportLine, number: usize)
-    requires { array_vec_len line.old + 20 ≤ LINE_LEN }
-    ensures text { line.new.items ≡ line.old.items ++ decimal number }
-    ensures len { array_vec_len line.new ≤ array_vec_len line.old + 20 }
-{
-    let mut buffer = Buffer::new();
-    write_text(line, buffer.format(number as u64).as_bytes());
-}
-
 // Appends what the tag `Termination` says, such as `, time forfeit`; nothing if there is none.
 fn write_termination(line: &mut ReportLine, termination: Option<Termination>)
     requires { array_vec_len line.old + 18 ≤ LINE_LEN }
@@ -59,8 +39,8 @@ fn write_termination(line: &mut ReportLine, termination: Option<Termination>)
     ensures len { array_vec_len line.new ≤ array_vec_len line.old + 18 }
 {
     if let Some(termination) = termination {
-        write_text(line, b", ");
-        write_text(line, termination.text());
+        append(line, b", ");
+        append(line, termination.text());
     }
 }
 
@@ -76,15 +56,15 @@ fn write_report(line: &mut ReportLine, report: &Report)
             outcome,
             termination,
         } => {
-            write_number(line, *plies);
-            write_text(line, b" half-moves, ");
-            write_text(line, outcome.text());
+            append_number(line, *plies as u64);
+            append(line, b" half-moves, ");
+            append(line, outcome.text());
             write_termination(line, *termination);
         }
         Report::Faulty(fault) => {
-            write_text(line, fault_name(fault.kind));
-            write_text(line, b" at byte ");
-            write_number(line, fault.offset);
+            append(line, fault_name(fault.kind));
+            append(line, b" at byte ");
+            append_number(line, fault.offset as u64);
         }
     }
 }
@@ -95,9 +75,9 @@ fn report_line(number: usize, report: &Report) -> ReportLine
     ensures { result.items ≡ report_line number report.now }
 {
     let mut line = ReportLine::new();
-    write_text(&mut line, b"game ");
-    write_number(&mut line, number);
-    write_text(&mut line, b": ");
+    append(&mut line, b"game ");
+    append_number(&mut line, number as u64);
+    append(&mut line, b": ");
     write_report(&mut line, report);
     line.push(b'\n');
     line
@@ -135,12 +115,12 @@ fn counts_line(tally: Tally) -> ReportLine
     ensures { result.items ≡ counts_line tally }
 {
     let mut line = ReportLine::new();
-    write_text(&mut line, b"games ");
-    write_number(&mut line, tally.games);
-    write_text(&mut line, b" half-moves ");
-    write_number(&mut line, tally.half_moves);
-    write_text(&mut line, b" faults ");
-    write_number(&mut line, tally.faults);
+    append(&mut line, b"games ");
+    append_number(&mut line, tally.games as u64);
+    append(&mut line, b" half-moves ");
+    append_number(&mut line, tally.half_moves as u64);
+    append(&mut line, b" faults ");
+    append_number(&mut line, tally.faults as u64);
     line.push(b'\n');
     line
 }

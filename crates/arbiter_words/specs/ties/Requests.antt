@@ -83,6 +83,6 @@ IsPlanFault _ f = ⊥
 
 -- the second fault is how this error of `clap` is reported: as out of memory if it is that, else as the error itself
 abbrev pub Refuses : Error → WordsFault → Type 0
-Refuses e (Words told) = (kind_of e ≢ OutOfMemory) × (told ≡ e)
+Refuses e (Words e') = (kind_of e ≢ OutOfMemory) × (e' ≡ e)
 Refuses e NoMemory = kind_of e ≡ OutOfMemory
 Refuses e _ = ⊥

@@ -96,8 +96,8 @@ PlayedOne plan number w w' l l' (Ok end) =
     × Sent w w' (game_text plan number (record { game = game; end = end; notes = notes }))
     × LogsGame (logged_side plan number) l l' notes
 PlayedOne plan number w w' l l' (Err WriteFailed) =
-    (told : GameRecord) × IsOfPlan plan told × BreaksOff w w' (game_text plan number told)
-    × LogsGame (logged_side plan number) l l' told.notes
+    (played : GameRecord) × IsOfPlan plan played × BreaksOff w w' (game_text plan number played)
+    × LogsGame (logged_side plan number) l l' played.notes
 PlayedOne plan number w w' l l' (Err fault) = IsStartFault plan fault × (w' ≡ w) × (l' ≡ l)
 
 -- what playing the games of a match does, by its result: each was written and logged, and the score counts them, up to

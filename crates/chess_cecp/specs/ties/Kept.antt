@@ -13,17 +13,18 @@ kept_part bytes false = bytes
 -- whatever bytes follow, and whether the stream then ends or not, the lines are the same after `part` as after `part'`;
 -- a line of more than `n` bytes is too long
 abbrev pub SameLines : ℕ → List ℕ → List ℕ → Type 0
-SameLines n part part' = (told : Bool) (bytes : List ℕ) → lines_from n told part bytes ≡ lines_from n told part' bytes
+SameLines n part part' = (at_end : Bool) (bytes : List ℕ)
+    → lines_from n at_end part bytes ≡ lines_from n at_end part' bytes
 
 -- what looking for a whole line in the bytes read but not returned (`held` before, `held'` after) found: that line, the
 -- first of them; or `None`, and then all of them were looked at. Lines have at most `n` bytes
 abbrev pub HeldLine : ℕ → Held → Held → Option LineSeen → Type 0
 HeldLine n held held' (Some line) =
     (line.ended ≡ true) × (length held'.coming < length held.coming)
-    × ((told : Bool) (rest : List ℕ) → lines_held n told held rest ≡ line ∷ lines_held n told held' rest)
+    × ((at_end : Bool) (rest : List ℕ) → lines_held n at_end held rest ≡ line ∷ lines_held n at_end held' rest)
 HeldLine n held held' None =
     (lines_held n false held [] ≡ []) × (held'.coming ≡ [])
-    × ((told : Bool) (rest : List ℕ) → lines_held n told held rest ≡ lines_held n told held' rest)
+    × ((at_end : Bool) (rest : List ℕ) → lines_held n at_end held rest ≡ lines_held n at_end held' rest)
 
 -- a read took the input from its state `r` to `r'`, and gave the bytes `coming`, whose number is the result; or it
 -- failed, and gave none

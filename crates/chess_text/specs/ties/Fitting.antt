@@ -37,25 +37,25 @@ parts_text q = optional kind_text q.letter
 
 -- ---- the forms
 
--- a file or rank that the text may name (`told`) is n, or the text names none
+-- a file or rank that the text may name (`named`) is n, or the text names none
 abbrev pub admits : Option ℕ → ℕ → Bool
-admits told n = option_map_or (λ t. t == n) told true
+admits named n = option_map_or (λ t. t == n) named true
 
--- the text names a file or rank (`told`), and it is n
+-- the text names a file or rank (`named`), and it is n
 abbrev pub names : Option ℕ → ℕ → Bool
-names told n = option_map_or (λ t. t == n) told false
+names named n = option_map_or (λ t. t == n) named false
 
--- the text names a kind of piece by its letter (`told`), and it is k
+-- the text names a kind of piece by its letter (`named`), and it is k
 abbrev pub names_kind : Option Kind → Kind → Bool
-names_kind told k = option_map_or (λ t. same_kind t k) told false
+names_kind named k = option_map_or (λ t. same_kind t k) named false
 
--- the promotion that the text names (`told`) is the move's (`o`): both to the same kind, or both none
+-- the promotion that the text names (`named`) is the move's (`o`): both to the same kind, or both none
 abbrev pub promotes_so : Option Promotion → Option Kind → Bool
-promotes_so told o = option_eq same_kind (option_map (λ t. t.kind) told) o
+promotes_so named o = option_eq same_kind (option_map (λ t. t.kind) named) o
 
--- the text names a promotion (`told`), and writes it with `=`
+-- the text names a promotion (`named`), and writes it with `=`
 abbrev pub has_equals : Option Promotion → Bool
-has_equals told = option_map_or (λ t. t.equals) told false
+has_equals named = option_map_or (λ t. t.equals) named false
 
 -- the parts q denote move d by its two squares, as g1f3 or e7e8q, castling too (e1g1): no letter, no `x`, and the
 -- promotions agree, which the text writes without `=`

@@ -29,8 +29,8 @@ returns-clause-found c = read c.args.variant c.args.text.now c.denoted_position.
 pub returns-clause-only : goal.returns-clause-only
 returns-clause-only c = λ p s h. c.denoted_position.ensures.value ∙ reading-denoted c.args.variant c.args.text.now p s h
 
-pub returns-clause-told : goal.returns-clause-told
-returns-clause-told c = told c.args.variant c.args.text.now c.denoted_position.result c.denoted_position.ensures.value
+pub returns-clause-fault : goal.returns-clause-fault
+returns-clause-fault c = told c.args.variant c.args.text.now c.denoted_position.result c.denoted_position.ensures.value
 
 pub returns-clause-refused : goal.returns-clause-refused
 returns-clause-refused c = λ f h. c.denoted_position.ensures.value ∙ fault-read c.args.variant c.args.text.now f h
