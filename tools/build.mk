@@ -19,7 +19,7 @@ now = { echo '$(call uses,$1)'; find $(top)/crates/$1/{src,specs,proofs} '$(kit)
 
 # A second process for a crate costs a fifth of a processor's time more than one process alone, and four cost half more. So a crate
 # that little waits for gets one process, on the processors that the others leave, and those that are proved beside each other two.
-at_leisure := arbiter_grammar arbiter_words chess_bits pgn_pieces pgn_verifier
+at_leisure := arbiter_grammar arbiter_cli chess_bits pgn_pieces pgn_verifier
 side_by_side := chess_fen chess_game chess_text
 processes = $(if $(filter $@,$(at_leisure)),1,$(if $(filter $@,$(side_by_side)),$(if $(filter 1,$(jobs)),1,2),$(jobs)))
 nice = $(if $(filter $@,$(at_leisure)),nice -n 5)

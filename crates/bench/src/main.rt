@@ -8,12 +8,12 @@ mod games;
 mod lines;
 mod relay;
 
+use cecp_engine::Level;
 use chess_base::Position;
 use chess_bits::{AttackTables, Bits};
 use chess_fen::read_fen;
 use chess_game::{Game, MOST_MOVES};
 use chess_moves::Board;
-use engine_lines::Level;
 use games::read_games;
 use lines::count_lines;
 use perft_positions::KIWIPETE;

@@ -1,12 +1,12 @@
 //! Relaying the moves of a game between two engines in memory.
 
 use byte_devices::{Counted, PieceReader, PieceWriter};
+use cecp_engine::Level;
 use chess_base::{Kind, Move, Position, Setup};
 use chess_game::Game;
 use chess_match::{Ends, Moments, run_match};
 use chess_moves::Board;
 use chess_text::coordinate;
-use engine_lines::Level;
 use std::alloc::{AllocError, Global};
 
 /// All lines that two engines send in a match, each engine's as one text.

@@ -5,7 +5,7 @@ use Rattle.std.specs.List.{enumerate_from}
 use Rattle.std.proofs.lemmas.List.Concat.{flat_map-append}
 use Rattle.std.proofs.lemmas.List.FromFn.{length-enumerate_from}
 use Rattle.std.proofs.lemmas.List.Sums.{count_by-le-length, sum_by_push}
-use Rattle.arbiter_words.specs.declared.plan.MatchPlan.{MatchPlan}
+use Rattle.arbiter_cli.specs.declared.plan.MatchPlan.{MatchPlan}
 use Rattle.chess_base.specs.Men.{other}
 use Rattle.chess_base.specs.declared.man.Colour.{Colour}
 use Rattle.byte_devices.specs.Devices.{OutputState, Begins, BreaksOff, Sends, Sent}
@@ -15,7 +15,7 @@ use Rattle.chess_game.specs.Results.{same_outcome}
 use Rattle.chess_game.specs.declared.results.Outcome.{Outcome}
 use Rattle.chess_game.specs.declared.results.Outcome.TheVariants.{Draw, Unfinished}
 use Rattle.chess_base.specs.declared.setup.Setup.{Setup}
-use Rattle.engine_lines.specs.Levels.{LevelSeen}
+use Rattle.cecp_engine.specs.Levels.{LevelSeen}
 use Rattle.chess_match.specs.Reasons.{comment_of, win_of}
 use Rattle.chess_match.specs.Notes.{Note, notes_of}
 use Rattle.chess_match.specs.Rules.{rules_of}

@@ -11,7 +11,7 @@ use Rattle.chess_base.specs.declared.setup.Setup.{Setup}
 use Rattle.byte_devices.specs.Devices.{OutputState, Sent, Sends, risen}
 use Rattle.byte_devices.proofs.DeviceLaws.{appends_more}
 use Rattle.chess_game.specs.Game.{Seen}
-use Rattle.engine_lines.specs.Levels.{LevelSeen}
+use Rattle.cecp_engine.specs.Levels.{LevelSeen}
 use Rattle.chess_base.specs.Men.{same_colour}
 use Rattle.chess_match.specs.Match.{Line}
 use Rattle.chess_match.specs.Notes.{Note, Happened, WasNoted, notes_of}

@@ -2,13 +2,13 @@
 use Rattle.std.proofs.Common.{◌≡◌, ◌∙◌, ◌<◌, ℕ, List, [], length, lit<, codes, Result, Ok, Err, refl, sym, ap, subst, inl, inr, false, arith}
 use Rattle.clap.specs.Words.{IsAmong, Text, kind_of}
 use Rattle.arbiter_grammar.specs.Grammar.{asked}
-use Rattle.arbiter_words.specs.Plans.{IsReading}
-use Rattle.arbiter_words.specs.laws.Laws.{AskFor, PlansAreNamed, VerifyAsBare, VerifyIsAsAsked, bare_plan, command_name}
-use Rattle.arbiter_words.specs.declared.fault.WordsFault.{WordsFault}
-use Rattle.arbiter_words.specs.declared.fault.WordsFault.TheVariants as words
-use Rattle.arbiter_words.specs.declared.plan.Plan.{Plan}
-use Rattle.arbiter_words.specs.declared.plan.VerifyPlan.{VerifyPlan}
-use Rattle.arbiter_words.specs.declared.plan.Plan.TheVariants.{Session, Verify, Stub, Match}
+use Rattle.arbiter_cli.specs.Plans.{IsReading}
+use Rattle.arbiter_cli.specs.laws.Laws.{AskFor, PlansAreNamed, VerifyAsBare, VerifyIsAsAsked, bare_plan, command_name}
+use Rattle.arbiter_cli.specs.declared.fault.WordsFault.{WordsFault}
+use Rattle.arbiter_cli.specs.declared.fault.WordsFault.TheVariants as words
+use Rattle.arbiter_cli.specs.declared.plan.Plan.{Plan}
+use Rattle.arbiter_cli.specs.declared.plan.VerifyPlan.{VerifyPlan}
+use Rattle.arbiter_cli.specs.declared.plan.Plan.TheVariants.{Session, Verify, Stub, Match}
 use Rattle.byte_devices.specs.Devices.{InputState, OutputState}
 use Rattle.byte_devices.proofs.DeviceLaws.{consumes_none}
 use Rattle.chess_arbiter.specs.laws.Laws.{ServesSession, VerifiesGames}

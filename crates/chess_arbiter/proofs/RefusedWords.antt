@@ -3,11 +3,11 @@ use Rattle.std.proofs.Common.{◌≡◌, ◌≢◌, ◌∙◌, ◌⊎◌, ℕ, L
 use Rattle.clap.specs.Words.{IsAmong, Kinds, Text, kind_of}
 use Rattle.clap.specs.declared.error.kind.ErrorKind.{ErrorKind}
 use Rattle.clap.specs.declared.error.kind.ErrorKind.TheVariants.{DisplayHelp, DisplayVersion}
-use Rattle.arbiter_words.specs.Plans.{IsReading}
-use Rattle.arbiter_words.specs.laws.Laws.{AreRefused}
-use Rattle.arbiter_words.specs.declared.fault.WordsFault.{WordsFault}
-use Rattle.arbiter_words.specs.declared.fault.WordsFault.TheVariants as words
-use Rattle.arbiter_words.specs.declared.plan.Plan.{Plan}
+use Rattle.arbiter_cli.specs.Plans.{IsReading}
+use Rattle.arbiter_cli.specs.laws.Laws.{AreRefused}
+use Rattle.arbiter_cli.specs.declared.fault.WordsFault.{WordsFault}
+use Rattle.arbiter_cli.specs.declared.fault.WordsFault.TheVariants as words
+use Rattle.arbiter_cli.specs.declared.plan.Plan.{Plan}
 use Rattle.byte_devices.specs.Devices.{OutputState}
 use Rattle.chess_arbiter.specs.laws.Laws.{RefusesWords, ShowsHelp}
 use Rattle.chess_arbiter.specs.Program.{RanHelp, ReportsArguments}

@@ -2,7 +2,7 @@
 use Rattle.std.specs.Prelude.{◌≡◌, ◌⊎◌, ⊤, ℕ, ◌+◌, ◌<◌, ◌≤◌, ◌%◌, ◌==◌, Bool, true, false, if◌then◌else◌, List, [], ◌∷◌, ◌++◌, length, count_by, flat_map, codes, decimal, Option, None, Some, Result, Ok, Err}
 use Rattle.std.specs.List.{enumerate_from}
 use Rattle.chess_base.specs.Letters.{new_line}
-use Rattle.arbiter_words.specs.declared.plan.MatchPlan.{MatchPlan}
+use Rattle.arbiter_cli.specs.declared.plan.MatchPlan.{MatchPlan}
 use Rattle.chess_game.specs.declared.results.Outcome.{Outcome}
 use Rattle.chess_game.specs.declared.results.Outcome.TheVariants.{Draw, Unfinished}
 use Rattle.chess_game.specs.Results.{same_outcome}

@@ -6,7 +6,7 @@ use Rattle.chess_base.specs.Men.{same_colour}
 use Rattle.chess_base.specs.declared.setup.Setup.{Setup}
 use Rattle.byte_devices.specs.Devices.{OutputState, Begins}
 use Rattle.chess_game.specs.Game.{Seen}
-use Rattle.engine_lines.specs.Levels.{LevelSeen}
+use Rattle.cecp_engine.specs.Levels.{LevelSeen}
 use Rattle.chess_match.specs.Match.{Event, Line, Opened, OutputEnds, FailsToRead, FailsToWrite}
 use Rattle.chess_match.specs.Notes.{Note, Happened, Gives, notes_of}
 use Rattle.chess_match.specs.Rules.{rules_of}

@@ -2,11 +2,11 @@
 use Rattle.std.specs.Prelude.{◌≡◌, ◌≢◌, ◌⊎◌, ℕ, Bool, true, false, if◌then◌else◌, List, Result, Ok, Err, is_ok}
 use Rattle.clap.specs.Words.{Text, kind_of}
 use Rattle.clap.specs.declared.error.kind.ErrorKind.TheVariants.{DisplayHelp, DisplayVersion}
-use Rattle.arbiter_words.specs.Plans.{IsReading}
-use Rattle.arbiter_words.specs.declared.plan.Plan.{Plan}
-use Rattle.arbiter_words.specs.declared.plan.Plan.TheVariants.{Session, Verify, Stub, Match}
-use Rattle.arbiter_words.specs.declared.fault.WordsFault.{WordsFault}
-use Rattle.arbiter_words.specs.declared.fault.WordsFault.TheVariants as words
+use Rattle.arbiter_cli.specs.Plans.{IsReading}
+use Rattle.arbiter_cli.specs.declared.plan.Plan.{Plan}
+use Rattle.arbiter_cli.specs.declared.plan.Plan.TheVariants.{Session, Verify, Stub, Match}
+use Rattle.arbiter_cli.specs.declared.fault.WordsFault.{WordsFault}
+use Rattle.arbiter_cli.specs.declared.fault.WordsFault.TheVariants as words
 use Rattle.byte_devices.specs.Devices.{InputState, OutputState, Sends}
 use Rattle.byte_devices.specs.declared.traits.WriteFault.{WriteFault}
 use Rattle.chess_cecp.specs.declared.run.End.{End}
@@ -17,8 +17,8 @@ use Rattle.chess_cecp.specs.Serving.{Server}
 use Rattle.chess_cecp.specs.Session.{session_response}
 use Rattle.chess_cecp.specs.Run.{Transcript, SessionRan}
 use Rattle.chess_arbiter.specs.declared.fault.ProgramFault.{ProgramFault}
-use Rattle.arbiter_words.specs.declared.plan.MatchPlan.{MatchPlan}
-use Rattle.arbiter_words.specs.declared.plan.VerifyPlan.{VerifyPlan}
+use Rattle.arbiter_cli.specs.declared.plan.MatchPlan.{MatchPlan}
+use Rattle.arbiter_cli.specs.declared.plan.VerifyPlan.{VerifyPlan}
 use Rattle.pgn_verifier.specs.declared.fault.VerifyFault.{VerifyFault}
 use Rattle.pgn_verifier.specs.declared.options.VerifyOptions.{VerifyOptions}
 use Rattle.pgn_verifier.specs.declared.tally.Verified.{Verified}

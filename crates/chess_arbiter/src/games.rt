@@ -16,7 +16,7 @@ use crate::fault::ProgramFault;
 use crate::log::{Log, run_match_logged};
 use crate::moments::SinceStart;
 use crate::score::Score;
-use arbiter_words::MatchPlan;
+use arbiter_cli::MatchPlan;
 use byte_devices::{Counted, Input, Output, WriteFault, send};
 use chess_base::{Colour, same_colour};
 use chess_bits::{AttackTables, Bits};

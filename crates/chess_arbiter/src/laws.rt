@@ -8,7 +8,7 @@ ghost use Rattle.chess_match.specs.declared.run.TheConstants.{ENGINE_LINE_LEN};
 ghost use Rattle.pgn_pieces.specs.declared.pieces.TheConstants.{PIECE_LEN};
 ghost use Rattle.chess_arbiter.specs.laws.Laws.{RefusesWords, ServesSession, ShowsHelp, VerifiesGames};
 
-use arbiter_words::{
+use arbiter_cli::{
     plain_arguments_are_refused, plain_arguments_are_taken, plans_are_named, verify_is_as_asked,
 };
 

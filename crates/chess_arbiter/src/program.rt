@@ -13,7 +13,7 @@ use crate::fault::{ProgramFault, report_text, reported, reported_fault};
 use crate::games::play_games;
 use crate::log::Log;
 use crate::stub::Stub;
-use arbiter_words::{MatchPlan, Plan, VerifyPlan, WordsFault, read_words};
+use arbiter_cli::{MatchPlan, Plan, VerifyPlan, WordsFault, read_words};
 use byte_devices::{Input, Output, WriteFault, send};
 use chess_bits::{AttackTables, Bits};
 use chess_cecp::{End, Fault, Session, run_session, serve_lines};
@@ -233,7 +233,7 @@ fn matched<P: Processes + Clock, W: Output, E: Output>(
     }
 }
 
-/// Runs the program on its arguments, read as `arbiter_words` reads them, and returns its exit status.
+/// Runs the program on its arguments, read as `arbiter_cli` reads them, and returns its exit status.
 ///
 /// - No arguments, or `session`: a session of at most 20,000 half-moves.
 /// - `verify`: the games of the input, one line for each up to the first fault. With `--keep-going` an input of any

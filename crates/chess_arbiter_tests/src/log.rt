@@ -1,12 +1,12 @@
 //! The log of a match, over memory.
 
 use byte_devices::{Counted, PieceReader, PieceWriter};
+use cecp_engine::Level;
 use chess_arbiter::{Log, run_match_logged};
 use chess_base::{Colour, Position};
 use chess_game::Game;
 use chess_match::{Ends, MatchFault, Moments, Setup};
 use chess_moves::Plain;
-use engine_lines::Level;
 use std::alloc::Global;
 use std::process::Abort;
 use std::test::Fail;

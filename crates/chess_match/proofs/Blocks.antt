@@ -5,7 +5,7 @@ use Rattle.std.specs.List.{flat_map}
 use Rattle.std.proofs.lemmas.Grind.{flat_map-append}
 use Rattle.chess_base.specs.declared.man.Colour.{Colour}
 use Rattle.chess_base.specs.Men.{other}
-use Rattle.engine_lines.specs.Items.{Item, takes}
+use Rattle.cecp_engine.specs.Items.{Item, takes}
 use Rattle.chess_match.specs.Match.{Match, Event, seat}
 use Rattle.chess_match.specs.Rules.{Rules}
 use Rattle.chess_match.specs.Sent.{SentLine, answer_words, Says, answers_to, block, lines_on_entering, is_same_phase, draw_line}

@@ -4,15 +4,15 @@ use Rattle.std.specs.Prelude.{sum}
 use Rattle.chess_base.specs.declared.man.Colour.{Colour}
 use Rattle.chess_base.specs.declared.man.Colour.TheVariants.{White, Black}
 use Rattle.chess_base.specs.declared.man.Move.{Move}
-use Rattle.engine_lines.specs.EngineLines.{LineKind, line_kind}
-use Rattle.engine_lines.specs.Items.{Item}
+use Rattle.cecp_engine.specs.EngineLines.{LineKind, line_kind}
+use Rattle.cecp_engine.specs.Items.{Item}
 use Rattle.chess_match.specs.laws.Laws.{ClocksDoNotUnderflow}
-use Rattle.engine_lines.specs.Levels.{LevelSeen, allotted, time_left}
+use Rattle.cecp_engine.specs.Levels.{LevelSeen, allotted, time_left}
 use Rattle.chess_match.specs.Match.{Match, Event, take_items, start, clock, played_by, match_after}
 use Rattle.chess_match.specs.Rules.{Rules}
 use Rattle.chess_match.specs.Sent.{SentLine, lines_on_entering}
 use Rattle.chess_match.specs.Transcript.{fits_next, fits, match_of}
-use Rattle.engine_lines.proofs.Allotment.{allotted_grows}
+use Rattle.cecp_engine.proofs.Allotment.{allotted_grows}
 use Rattle.chess_match.proofs.Outcomes.{InTurn, event_outcome, kept_by}
 use Rattle.chess_match.proofs.Going.{offered, sum-snoc}
 

@@ -6,10 +6,10 @@ use Rattle.chess_base.specs.declared.man.Colour.TheVariants.{White, Black}
 use Rattle.chess_base.specs.declared.man.Move.{Move}
 use Rattle.byte_devices.specs.Devices.{OutputState}
 use Rattle.chess_base.specs.Men.{other}
-use Rattle.engine_lines.specs.Clocks.{ClocksSeen, spent_by}
+use Rattle.cecp_engine.specs.Clocks.{ClocksSeen, spent_by}
 use Rattle.chess_cecp.specs.Lines.{LineSeen}
 use Rattle.chess_match.specs.ties.Delivering.{Delivered, broken_notes, by_turn, event_read, first_in}
-use Rattle.engine_lines.specs.Items.{Item}
+use Rattle.cecp_engine.specs.Items.{Item}
 use Rattle.chess_match.specs.Match.{Match, Event, Line, OutputEnds, FailsToRead, FailsToWrite, match_after}
 use Rattle.chess_match.specs.Notes.{Noted, WasNoted, Happened, both_notes}
 use Rattle.chess_match.specs.Rules.{Rules}

@@ -6,7 +6,7 @@ use Rattle.std.specs.Str.{bytes_eq}
 use Rattle.chess_base.specs.declared.man.Colour.TheVariants.{White, Black}
 use Rattle.chess_cecp.specs.Commands.{word_of, argument_of, command_number}
 use Rattle.chess_cecp.proofs.Parts.{wfb_short}
-use Rattle.engine_lines.specs.EngineLines.{LineKind, Features, Moves, Resigns, OffersDraw, ClaimsDraw, ClaimsWin, Rejects, Answers, SaysElse, kind_of}
+use Rattle.cecp_engine.specs.EngineLines.{LineKind, Features, Moves, Resigns, OffersDraw, ClaimsDraw, ClaimsWin, Rejects, Answers, SaysElse, kind_of}
 
 argument_short : (text : List ℕ) → length (argument_of text) ≤ length text
 unfolding argument_of

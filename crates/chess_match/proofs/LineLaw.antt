@@ -4,8 +4,8 @@ use Rattle.chess_base.specs.declared.man.Colour.{Colour}
 use Rattle.chess_base.specs.declared.man.Colour.TheVariants.{White, Black}
 use Rattle.chess_base.specs.declared.man.Move.{Move}
 use Rattle.chess_base.specs.Men.{other}
-use Rattle.engine_lines.specs.EngineLines.{LineKind, line_kind}
-use Rattle.engine_lines.specs.Items.{Item}
+use Rattle.cecp_engine.specs.EngineLines.{LineKind, line_kind}
+use Rattle.cecp_engine.specs.Items.{Item}
 use Rattle.chess_match.specs.laws.Laws.{LinesAreFew, line_count}
 use Rattle.chess_match.specs.Match.{Match, Event, items_of_line, Line, Opened, OutputEnds, FailsToRead, FailsToWrite, seat, take_items, start, over, enter, open_turn, played_by, match_after}
 use Rattle.chess_match.specs.Rules.{Rules}

@@ -10,8 +10,8 @@ use Rattle.chess_base.specs.declared.man.Colour.TheVariants.{White, Black}
 use Rattle.chess_base.specs.declared.man.Move.{Move}
 use Rattle.chess_base.specs.Men.{other, same_colour}
 use Rattle.chess_game.specs.declared.ends.Verdict.{Verdict}
-use Rattle.engine_lines.specs.EngineLines.{LineKind, line_kind}
-use Rattle.engine_lines.specs.Items.{Item, takes}
+use Rattle.cecp_engine.specs.EngineLines.{LineKind, line_kind}
+use Rattle.cecp_engine.specs.Items.{Item, takes}
 use Rattle.chess_match.specs.laws.Laws.{move_sent, moves_sent, texts_from, move_texts, owed_to, MovesAreSent, AllMovesAreSent, sent, ending_in}
 use Rattle.chess_match.specs.Match.{Match, Event, Line, Opened, OutputEnds, FailsToRead, FailsToWrite, items_of_line, seat, take_items, start, over, enter, open_turn, played_by, match_after, clock, ping_number}
 use Rattle.chess_match.specs.Rules.{Rules}
@@ -31,7 +31,7 @@ use Rattle.chess_match.proofs.Outcomes.{Lines, InTurn, line_outcome, opens_at, a
 use Rattle.chess_match.proofs.Going.{hear_phase, leaves, offered, plain_block, reads_on, reads_stays}
 use Rattle.chess_match.proofs.Seats.{hear_played, hear_untold, items_same}
 use Rattle.chess_match.proofs.Blocks.{told_more}
-use Rattle.engine_lines.specs.Levels.{level_text}
+use Rattle.cecp_engine.specs.Levels.{level_text}
 use Rattle.chess_match.specs.ties.Steps.{match_from}
 
 -- ---- who moves

@@ -3,8 +3,8 @@ use Rattle.std.proofs.Common.{◌≡◌, true, false, List, [], ◌∷◌, ◌++
 use Rattle.std.specs.Prelude.{codes}
 use Rattle.std.specs.Str.{bytes_eq}
 use Rattle.chess_pgn.specs.Written.{cut_tag}
-use Rattle.engine_lines.specs.Items.{Item, last_value, value_text}
-use Rattle.engine_lines.proofs.ItemRuns.{last_said-snoc}
+use Rattle.cecp_engine.specs.Items.{Item, last_value, value_text}
+use Rattle.cecp_engine.proofs.ItemRuns.{last_said-snoc}
 use Rattle.chess_match.specs.ties.Represents.{name_by}
 
 pub name_said : (items : List Item) (i : Item) → bytes_eq i.name (codes "myname") ≡ true

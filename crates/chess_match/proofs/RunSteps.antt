@@ -13,7 +13,7 @@ use Rattle.chess_game.specs.Game.{from_start}
 use Rattle.chess_match.specs.ties.Chess.{Plays}
 use Rattle.chess_match.specs.ties.Delivering.{Delivered, event_read}
 use Rattle.chess_match.proofs.Hearing.{HearsAt}
-use Rattle.engine_lines.specs.Levels.{LevelSeen}
+use Rattle.cecp_engine.specs.Levels.{LevelSeen}
 use Rattle.chess_match.specs.Match.{Match, Event, start, match_after}
 use Rattle.chess_match.specs.Notes.{Noted, WasNoted, Happened}
 use Rattle.chess_match.specs.Rules.{Rules, rules_of}

@@ -11,9 +11,9 @@ use Rattle.chess_game.specs.declared.ends.Verdict.TheVariants.{BlackMates}
 use Rattle.std.specs.Str.{bytes_eq}
 use Rattle.chess_base.specs.declared.man.Move.{Move}
 use Rattle.chess_base.specs.Coordinates.{coordinate}
-use Rattle.engine_lines.specs.Items.{item_of, items_of, has_done, takes, last_value, plays_fischerandom, is_known}
-use Rattle.engine_lines.specs.EngineLines.{kind_of}
-use Rattle.engine_lines.specs.Levels.{LevelSeen, level_text, sessions, allotted, time_left}
+use Rattle.cecp_engine.specs.Items.{item_of, items_of, has_done, takes, last_value, plays_fischerandom, is_known}
+use Rattle.cecp_engine.specs.EngineLines.{kind_of}
+use Rattle.cecp_engine.specs.Levels.{LevelSeen, level_text, sessions, allotted, time_left}
 use Rattle.chess_match.specs.Rules.{Rules}
 use Rattle.chess_match.specs.Match.{Event, Line, Opened, OutputEnds, FailsToRead, FailsToWrite, hello_line, setup_line, before_line, after_line}
 use Rattle.chess_match.specs.Sent.{block, bytes_of, setup_lines, last_move_sent, clock_lines, opening_lines, end_lines}

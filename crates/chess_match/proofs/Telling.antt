@@ -10,7 +10,7 @@ use Rattle.chess_base.specs.declared.man.Colour.TheVariants.{White, Black}
 use Rattle.chess_base.specs.declared.man.Move.{Move}
 use Rattle.chess_base.specs.Men.{other, same_colour}
 use Rattle.chess_base.proofs.MenFacts.{same_colour-true}
-use Rattle.engine_lines.specs.EngineLines.{LineKind, line_kind}
+use Rattle.cecp_engine.specs.EngineLines.{LineKind, line_kind}
 use Rattle.chess_match.specs.Match.{Match, Event, Line, Opened, OutputEnds, FailsToRead, FailsToWrite, items_of_line, take_items, over, open_turn, played_by, match_after}
 use Rattle.chess_match.specs.Rules.{Rules}
 use Rattle.chess_match.specs.Sent.{SentLine, Says, block, lines_on_entering, entry_to, is_same_phase}

@@ -11,10 +11,10 @@ use Rattle.chess_base.specs.declared.man.Variant.{Variant}
 use Rattle.chess_base.specs.declared.man.Variant.TheVariants.{Normal, Fischerandom}
 use Rattle.chess_base.specs.Men.{other, same_colour}
 use Rattle.chess_game.specs.declared.ends.Verdict.{Verdict}
-use Rattle.engine_lines.specs.EngineLines.{LineKind, line_kind}
-use Rattle.engine_lines.specs.Items.{Item, takes}
+use Rattle.cecp_engine.specs.EngineLines.{LineKind, line_kind}
+use Rattle.cecp_engine.specs.Items.{Item, takes}
 use Rattle.chess_match.specs.laws.Laws.{centiseconds, time_sent, otim_sent, TimesAreClocks, OtherTimesAreClocks, sent}
-use Rattle.engine_lines.specs.Levels.{LevelSeen, time_left, level_text}
+use Rattle.cecp_engine.specs.Levels.{LevelSeen, time_left, level_text}
 use Rattle.chess_match.specs.Match.{Match, Event, Line, Opened, OutputEnds, FailsToRead, FailsToWrite, items_of_line, seat, take_items, start, over, enter, open_turn, played_by, match_after, clock, ping_number}
 use Rattle.chess_match.specs.Rules.{Rules}
 use Rattle.chess_match.specs.Sent.{SentLine, Says, Time, Otim, lines_on_entering, entry_to, is_same_phase, is_unwritten, setup_lines, variant_command, start_lines, opening_lines, last_move_sent, last_move_lines, clock_lines, end_lines, unsent_lines, ping}

@@ -6,8 +6,8 @@ use Rattle.chess_base.specs.declared.man.Colour.TheVariants.{White, Black}
 use Rattle.chess_base.specs.declared.man.Move.{Move}
 use Rattle.chess_base.specs.Men.{other, same_colour}
 use Rattle.chess_game.specs.declared.ends.Verdict.{Verdict}
-use Rattle.engine_lines.specs.EngineLines.{line_kind}
-use Rattle.engine_lines.specs.Items.{Item, has_done, takes}
+use Rattle.cecp_engine.specs.EngineLines.{line_kind}
+use Rattle.cecp_engine.specs.Items.{Item, has_done, takes}
 use Rattle.chess_match.specs.laws.Laws.{moves_sent, owed_to, texts_from, items_said, ItemsAreSaid, EachIsSentOthersMoves, sent, ending}
 use Rattle.chess_match.specs.Match.{Match, Event, Line, Opened, OutputEnds, FailsToRead, FailsToWrite, items_of_line, seat, take_items, start, over, enter, open_turn, played_by, match_after}
 use Rattle.chess_match.specs.Rules.{Rules}

@@ -19,7 +19,7 @@ use Rattle.chess_text.specs.Moves.{reading}
 use Rattle.chess_text.specs.San.{san, shown_move}
 use Rattle.chess_text.specs.declared.reading.Reading.{Reading}
 use Rattle.chess_text.specs.declared.reading.Reading.TheVariants as reads
-use Rattle.engine_lines.specs.Levels.{LevelSeen}
+use Rattle.cecp_engine.specs.Levels.{LevelSeen}
 use Rattle.chess_match.specs.declared.reason.DrawClaim.{DrawClaim}
 use Rattle.chess_match.specs.declared.reason.DrawClaim.TheVariants.{Threefold, FiftyMoves}
 use Rattle.chess_base.specs.declared.man.Variant.{Variant}

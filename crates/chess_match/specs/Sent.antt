@@ -5,8 +5,8 @@ use Rattle.chess_base.specs.Letters.{new_line}
 use Rattle.chess_base.specs.declared.man.Colour.{Colour}
 use Rattle.chess_base.specs.Men.{other, same_colour}
 use Rattle.chess_cecp.specs.Declaring.{result_text}
-use Rattle.engine_lines.specs.Items.{Item, takes, is_known}
-use Rattle.engine_lines.specs.Levels.{level_text}
+use Rattle.cecp_engine.specs.Items.{Item, takes, is_known}
+use Rattle.cecp_engine.specs.Levels.{level_text}
 use Rattle.chess_match.specs.Match.{Match, Seat, seat, clock, ping_number}
 use Rattle.chess_match.specs.Reasons.{outcome_by_reason, comment_of}
 use Rattle.chess_match.specs.Rules.{Rules, is_fischerandom}

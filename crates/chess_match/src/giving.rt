@@ -4,7 +4,7 @@ ghost use Rattle.std.specs.Prelude.{◌≡◌, ◌≢◌, ◌+◌, ◌≤◌, �
 ghost use Rattle.std.specs.Result.{is_err};
 ghost use Rattle.arrayvec.specs.ArrayVec.{array_vec_len};
 ghost use Rattle.chess_base.specs.declared.man.Colour.{Colour};
-ghost use Rattle.engine_lines.specs.Items.{Item};
+ghost use Rattle.cecp_engine.specs.Items.{Item};
 ghost use Rattle.chess_match.specs.declared.block.TheConstants.{ANSWERS_LEN, BLOCK_LEN};
 ghost use Rattle.chess_match.specs.Match.{Match};
 ghost use Rattle.chess_match.specs.Notes.{WasNoted, given_note};

@@ -14,8 +14,8 @@ use crate::match_game::MatchGame;
 use crate::phase::Phase;
 use crate::reason::{MatchFault, Reason};
 use crate::state::{Actions, MatchState};
+use cecp_engine::Features;
 use chess_base::{Colour, Variant, same_colour};
-use engine_lines::Features;
 
 impl MatchState {
     // The features that this side's engine has on.

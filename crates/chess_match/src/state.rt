@@ -3,9 +3,9 @@
 ghost use Rattle.std.specs.Prelude.{◌≡◌, ◌++◌, ◌∷◌, [], List, false, ◌+◌, ◌*◌, ◌≤◌, length};
 ghost use Rattle.arrayvec.specs.ArrayVec.{array_vec_len};
 ghost use Rattle.chess_match.specs.declared.block.TheConstants.{ANSWERS_LEN};
-ghost use Rattle.engine_lines.specs.Seen.{item_seen, features_of};
-ghost use Rattle.engine_lines.specs.Items as feature_items;
-ghost use Rattle.engine_lines.specs.Items.{items_of, has_done};
+ghost use Rattle.cecp_engine.specs.Seen.{item_seen, features_of};
+ghost use Rattle.cecp_engine.specs.Items as feature_items;
+ghost use Rattle.cecp_engine.specs.Items.{items_of, has_done};
 ghost use Rattle.chess_match.specs.ties.Represents.{name_by, Represents};
 ghost use Rattle.chess_match.specs.Match.{start};
 ghost use Rattle.chess_match.specs.Rules.{Rules};
@@ -14,9 +14,9 @@ ghost use Rattle.chess_match.specs.Sent.{answers_to, bytes_of};
 use crate::block::{Block, add_answer};
 use crate::phase::Phase;
 use crate::texts::MoveTexts;
+use cecp_engine::{Clocks, Features, Item, Level, next_item};
 use chess_base::Colour;
 use chess_pgn::TagText;
-use engine_lines::{Clocks, Features, Item, Level, next_item};
 
 /// What is kept of one engine.
 #[derive(Drop)]
@@ -66,7 +66,7 @@ pub(crate) const ENTRY: Actions = Actions {
 
 impl Player {
     // What is kept of an engine of which nothing is known yet.
-    #[tactic(auto, unfolding(crate::specs::ties::Represents::name_by, engine_lines::specs::Items::last_value))]
+    #[tactic(auto, unfolding(crate::specs::ties::Represents::name_by, cecp_engine::specs::Items::last_value))]
     fn new() -> Self
         ensures features { result.features ≡ features_of [] }
         ensures name { result.name ≡ name_by [] }
@@ -125,7 +125,7 @@ impl MatchState {
 }
 
 // If the item is `myname`, sets `name` to its value, cut so that a PGN tag can hold it; else leaves it.
-#[tactic(auto, unfolding(crate::specs::ties::Represents::name_by, engine_lines::specs::Items::last_value))]
+#[tactic(auto, unfolding(crate::specs::ties::Represents::name_by, cecp_engine::specs::Items::last_value))]
 fn note_name(name: &mut TagText, item: &Item<'_>)
     ensures { (items : List feature_items.Item) → name.old ≡ name_by items
         → name.new ≡ name_by (items ++ item_seen item.now ∷ []) }

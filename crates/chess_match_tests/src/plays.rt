@@ -1,13 +1,13 @@
 //! Matches on both boards, for tests.
 
 use byte_devices::{Counted, Input, Output, PieceWriter};
+use cecp_engine::Level;
 use chess_base::{Colour, Position};
 use chess_bits::{AttackTables, Bits};
 use chess_game::{Game, Outcome};
 use chess_match::{Ends, MatchEnd, MatchFault, Moments, Setup, run_match};
 use chess_moves::{Board, Plain};
 use chess_pgn::{Tags, write_pgn};
-use engine_lines::Level;
 use std::alloc::Global;
 use std::process::Abort;
 use std::test::Fail;

@@ -1,7 +1,7 @@
 -- What arguments do.
 use Rattle.std.specs.Prelude.{◌≡◌, ◌⊎◌, ℕ, List}
 use Rattle.clap.specs.Words.{Text}
-use Rattle.arbiter_words.specs.laws.Laws.{bare_plan}
+use Rattle.arbiter_cli.specs.laws.Laws.{bare_plan}
 use Rattle.byte_devices.specs.Devices.{InputState, OutputState}
 use Rattle.chess_arbiter.specs.Log.{LogSeen}
 use Rattle.chess_arbiter.specs.Program.{RanHelp, RanProgram, RanSession, RanVerify}

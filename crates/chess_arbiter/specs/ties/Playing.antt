@@ -1,7 +1,7 @@
 -- What code does for one game of a match, and for all of them.
 use Rattle.std.specs.Prelude.{◌≡◌, ⊤, ℕ, ◌+◌, min, Bool, true, false, if◌then◌else◌, List, Option, None, Some, Result, Ok, Err}
 use Rattle.std.specs.Borrow.{Bor}
-use Rattle.arbiter_words.specs.declared.plan.MatchPlan.{MatchPlan}
+use Rattle.arbiter_cli.specs.declared.plan.MatchPlan.{MatchPlan}
 use Rattle.chess_base.specs.Men.{other}
 use Rattle.chess_base.specs.declared.man.Colour.{Colour}
 use Rattle.chess_base.specs.declared.setup.Setup.{Setup}
@@ -10,7 +10,7 @@ use Rattle.chess_game.specs.Game.{Seen}
 use Rattle.chess_game.specs.Results.{same_outcome}
 use Rattle.chess_game.specs.declared.results.Outcome.{Outcome}
 use Rattle.chess_game.specs.declared.results.Outcome.TheVariants.{Draw, Unfinished}
-use Rattle.engine_lines.specs.Levels.{LevelSeen}
+use Rattle.cecp_engine.specs.Levels.{LevelSeen}
 use Rattle.chess_match.specs.Notes.{Note}
 use Rattle.chess_match.specs.Reasons.{win_of}
 use Rattle.chess_match.specs.Run.{Ports, Flushed}

@@ -5,11 +5,11 @@ use Rattle.chess_base.specs.declared.man.Colour.TheVariants.{White, Black}
 use Rattle.chess_base.specs.declared.man.Move.{Move}
 use Rattle.chess_base.specs.Men.{same_colour}
 use Rattle.chess_pgn.specs.Written.{cut_tag}
-use Rattle.engine_lines.specs.Clocks.{ClocksSeen, Spent, charged}
-use Rattle.engine_lines.specs.EngineLines.{LineKind}
-use Rattle.engine_lines.specs.Items.{Item, last_value}
-use Rattle.engine_lines.specs.Seen.{features_of}
-use Rattle.engine_lines.specs.Levels.{LevelSeen}
+use Rattle.cecp_engine.specs.Clocks.{ClocksSeen, Spent, charged}
+use Rattle.cecp_engine.specs.EngineLines.{LineKind}
+use Rattle.cecp_engine.specs.Items.{Item, last_value}
+use Rattle.cecp_engine.specs.Seen.{features_of}
+use Rattle.cecp_engine.specs.Levels.{LevelSeen}
 use Rattle.chess_match.specs.Match.{Match, Seat, items_of_line}
 use Rattle.chess_match.specs.Rules.{Rules}
 use Rattle.chess_match.specs.Sent.{SentLine, Says, answers_to, lines_on_entering, block}

@@ -1,11 +1,11 @@
 -- What is kept of an engine is what its items say, so it lacks what they lack (lack_of).
 use Rattle.std.proofs.Common.{◌≡◌, List, Bool, not, ◌&&◌, refl, ◌∙◌, ap, Option, Some, None}
 use Rattle.std.specs.Prelude.{is_some, if◌then◌else◌}
-use Rattle.engine_lines.specs.Items.{Item}
+use Rattle.cecp_engine.specs.Items.{Item}
 use Rattle.chess_match.specs.Match.{lack}
 use Rattle.chess_match.specs.Rules.{Rules, is_fischerandom}
-use Rattle.engine_lines.specs.Seen.{features_of}
-use Rattle.engine_lines.specs.declared.features.Features.{Features}
+use Rattle.cecp_engine.specs.Seen.{features_of}
+use Rattle.cecp_engine.specs.declared.features.Features.{Features}
 use Rattle.chess_match.specs.declared.reason.MatchFault.{MatchFault}
 use Rattle.chess_match.specs.declared.reason.MatchFault.TheVariants.{NoPing, NoSetboard, NoVariant}
 use Rattle.chess_base.specs.declared.man.Variant.{Variant}

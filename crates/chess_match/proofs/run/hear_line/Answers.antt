@@ -1,6 +1,6 @@
 -- The moment is asked for, and the core takes over what the line says.
 use Rattle.std.proofs.Common.{ap, sym}
-use Rattle.engine_lines.specs.Seen.{seen}
+use Rattle.cecp_engine.specs.Seen.{seen}
 use Rattle.chess_match.specs.ties.Represents.{items_in}
 use Rattle.chess_match.specs.declared.phase.Phase.{Phase}
 use Rattle.chess_match.specs.Run.{text_read}

@@ -11,7 +11,7 @@ use Rattle.chess_match.specs.Match.{Match, Opened, start, match_after}
 use Rattle.chess_match.specs.Rules.{Rules, rules_of}
 use Rattle.chess_match.specs.Sent.{answers_to, block, bytes_of}
 use Rattle.chess_match.specs.ties.Represents.{Represents, items_to, nothing_said}
-use Rattle.engine_lines.specs.Items.{Item}
+use Rattle.cecp_engine.specs.Items.{Item}
 use Rattle.chess_match.specs.Transcript.{match_of, reads, opens}
 use Rattle.chess_match.specs.declared.phase.Phase.{Phase}
 use Rattle.chess_match.proofs.Delivers.{both_sides}

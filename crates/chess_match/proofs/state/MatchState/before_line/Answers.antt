@@ -3,7 +3,7 @@
 use Rattle.std.proofs.Common.{◌≡◌, ◌-◌, ℕ, Bool, true, false, refl, sym, ◌∙◌}
 use Rattle.std.specs.Prelude.{nat_lt}
 use Rattle.chess_base.specs.Men.{other}
-use Rattle.engine_lines.specs.Clocks.{remaining}
+use Rattle.cecp_engine.specs.Clocks.{remaining}
 use Rattle.chess_match.specs.Match.{clock, before_line}
 use Rattle.chess_match.specs.Transcript.{reads, is_on}
 use Rattle.chess_match.proofs.Going.{clocks_left}

@@ -3,9 +3,9 @@
 use Rattle.std.proofs.Common.{◌≡◌, ◌+◌, true, false, refl, sym, ◌∙◌, arith, le-leb}
 use Rattle.std.proofs.lemmas.Bool.{lt-leb}
 use Rattle.std.specs.Prelude.{nat_le}
-use Rattle.engine_lines.specs.Items.{has_done}
+use Rattle.cecp_engine.specs.Items.{has_done}
 use Rattle.chess_match.specs.Match.{take_items, items_of_line, greeted, enter, hello_line}
-use Rattle.engine_lines.specs.Seen.{seen}
+use Rattle.cecp_engine.specs.Seen.{seen}
 use Rattle.chess_match.specs.Sent.{is_same_phase}
 use Rattle.chess_match.specs.ties.Represents.{Represents}
 use Rattle.chess_match.specs.declared.reason.MatchFault.TheVariants.{NoDone}

@@ -1,7 +1,7 @@
 -- The phase of the core is that of the match, and each phase has a function whose contract is the row of that phase
 -- (Going.goes_in); in an opening or at the end no line is read.
 use Rattle.std.proofs.Common.{◌≡◌, true, false, ap, sym, ◌∙◌}
-use Rattle.engine_lines.specs.Seen.{seen}
+use Rattle.cecp_engine.specs.Seen.{seen}
 use Rattle.chess_match.specs.declared.phase.Phase.TheVariants.{Hello, Setup, SendTurn, AwaitMove, AwaitPong, Over}
 use Rattle.chess_match.specs.Transcript.{reads}
 use Rattle.chess_match.specs.declared.phase.Phase.{Phase}

@@ -1,0 +1,13 @@
+-- A plan is that of the command that was asked for.
+use Rattle.arbiter_cli.specs.laws.Laws.{PlansAreNamed, VerifyIsAsAsked}
+use Rattle.arbiter_cli.specs.declared.plan.Plan.TheVariants.{Session, Verify, Stub, Match}
+
+pub plan_named : PlansAreNamed
+plan_named p Session is = is
+plan_named p (Verify v) is = is.0
+plan_named p (Stub words) is = is.0
+plan_named p (Match plan) is = is.0
+
+-- a plan to verify has the flags that the arguments set
+pub verify_denoted : VerifyIsAsAsked
+verify_denoted p v is = is.1

@@ -1,0 +1,148 @@
+-- What was parsed, taken as written and planned is a reading of the arguments.
+use Rattle.std.proofs.Common.{◌≡◌, ◌∙◌, ◌≤◌, Bool, true, false, refl, ap, ap₂, sym, subst, inl, inr, option_map, unwrap_or, [], codes, IfOk, IfErr, IfSome, List, Option, Some, None, Result, Ok, Err, Bor}
+use Rattle.clap.specs.Words.{HasKind, IsAmong, Kinds, Row, Text, found_of, kind_of, rows_of, subcommand_of, subcommand_rows_of}
+use Rattle.clap.specs.declared.error.Error.{Error}
+use Rattle.clap.specs.declared.parser.matches.ArgMatches.{ArgMatches}
+use Rattle.arbiter_grammar.specs.Grammar.{AreVariants, IsComplete, IsParsed, Lent, arbiter_app, asked, faults_in}
+use Rattle.arbiter_cli.specs.Plans.{IsMatchPlan, IsPlanOf, IsReadBy, IsReading, date_asked, is_date, level_and_start, start_asked, text_or}
+use Rattle.arbiter_cli.specs.ties.Requests.{IsJudged, IsJudgedFault, IsMatchOf, IsPlanFault, IsPlanned, IsRequestOf, Refuses, start_of}
+use Rattle.chess_base.specs.declared.fault.FenFault.{FenFault}
+use Rattle.chess_base.specs.declared.setup.Setup.{Setup}
+use Rattle.chess_fen.specs.Reading.{◌>>=◌}
+use Rattle.cecp_engine.specs.Levels.{LevelSeen, level_of}
+use Rattle.std.specs.Prelude.{if◌then◌else◌, ok_or}
+use Rattle.std.specs.Result.{result_map_both}
+use Rattle.arbiter_cli.specs.declared.plan.MatchPlan.{MatchPlan}
+use Rattle.arbiter_cli.specs.declared.fault.WordsFault.{WordsFault}
+use Rattle.arbiter_cli.specs.declared.fault.WordsFault.TheVariants.{Words, NoMemory, BadLevel, BadFen, BadDate}
+use Rattle.arbiter_cli.specs.declared.plan.Plan.{Plan}
+use Rattle.arbiter_cli.specs.declared.request.MatchRequest.{MatchRequest}
+use Rattle.arbiter_cli.specs.declared.request.Request.{Request}
+use Rattle.arbiter_cli.specs.declared.request.Request.TheVariants as request
+
+-- `clap` gave no matches
+abbrev IsRefusalBy : Kinds → WordsFault → Type 0
+IsRefusalBy kinds (Words e) = IsAmong (kind_of e) kinds
+IsRefusalBy kinds NoMemory = Unit {0}
+IsRefusalBy kinds _ = ⊥
+
+refusal_by : (kinds : Kinds) (e : Error) (f : WordsFault) → HasKind kinds e → Refuses e f → IsRefusalBy kinds f
+refusal_by kinds e (Words x) (inl none) (other, same) = absurd (other none)
+refusal_by kinds e (Words x) (inr among) (other, same) =
+    subst (λ (y : Error). IsAmong (kind_of y) kinds) (sym same) among
+refusal_by kinds e NoMemory h fits = tt
+refusal_by kinds e BadLevel h fits = absurd fits
+refusal_by kinds e (BadFen x) h fits = absurd fits
+refusal_by kinds e BadDate h fits = absurd fits
+
+refused_by : (names : Lent) (texts : List Text) (f : WordsFault) → IsRefusalBy (faults_in names texts) f
+    → IsReadBy names texts (Err f)
+refused_by names texts (Words x) h = h
+refused_by names texts NoMemory h = h
+refused_by names texts BadLevel h = absurd h
+refused_by names texts (BadFen x) h = absurd h
+refused_by names texts BadDate h = absurd h
+
+pub refused_reading : (texts : List Text) (e : Error) (f : WordsFault) → IsParsed texts (Err e) → Refuses e f
+    → IsReading texts (Err f)
+refused_reading texts e f p fits =
+    (p.0, p.1, refused_by p.0 texts f (refusal_by (faults_in p.0 texts) e f p.2 fits))
+
+-- level, start and date, read in turn
+abbrev in_turn : Option LevelSeen → Result Setup FenFault → Bool → Result (LevelSeen × Setup) WordsFault
+in_turn level start is_good =
+    ok_or level BadLevel >>= λ l. result_map_both (λ setup. setup) BadFen start >>= λ s.
+    if is_good then Ok (l, s) else Err BadDate
+
+read_as : (rows : List Row) (level : Option LevelSeen) (start : Result Setup FenFault) (is_good : Bool)
+    → level_of (text_or (codes "level") rows (codes "40 5 0")) ≡ level → start_asked rows ≡ start
+    → is_date (date_asked rows) ≡ is_good → level_and_start rows ≡ in_turn level start is_good
+read_as rows level start is_good l s d =
+    ap (λ v. in_turn v (start_asked rows) (is_date (date_asked rows))) l
+    ∙ ap (λ v. in_turn level v (is_date (date_asked rows))) s
+    ∙ ap (in_turn level start) d
+
+-- a match that was taken as written and then judged is played by what its options denote
+module _ (rows : List Row) (m : MatchRequest) (is : IsMatchOf rows m) where
+  level_is : level_of (text_or (codes "level") rows (codes "40 5 0")) ≡ level_of m.level.now
+  level_is = ap level_of (sym is.level)
+
+  start_is : start_asked rows ≡ start_of m.variant (option_map (λ t. t.now) m.fen)
+  start_is = ap₂ start_of (sym is.variant) (sym is.fen)
+
+  match_judged : (plan : MatchPlan) → IsJudged m plan → IsMatchPlan rows plan
+  match_judged plan validate = record {
+    white = is.white ∙ ap (λ (t : Bor Text). Some t.now) (sym validate.white);
+    black = is.black ∙ ap (λ (t : Bor Text). Some t.now) (sym validate.black);
+    read = read_as rows (Some plan.level) (Ok plan.start) true (level_is ∙ validate.level) (start_is ∙ validate.start)
+        (ap is_date (sym is.date) ∙ validate.good_date);
+    games = validate.games ∙ is.games;
+    games_range = subst (λ n. (1 ≤ n) × (n ≤ 1000)) (sym validate.games) is.games_range;
+    date = ap (λ (t : Bor Text). t.now) validate.date ∙ is.date;
+    log = validate.log ∙ is.log;
+  }
+
+  judged_fault : (f : WordsFault) → IsJudgedFault m f → level_and_start rows ≡ Err f
+  judged_fault (Words x) h = absurd h
+  judged_fault NoMemory h = absurd h
+  judged_fault BadLevel h = read_as rows None (start_asked rows) (is_date (date_asked rows)) (level_is ∙ h) refl refl
+  judged_fault (BadFen x) (l, level, start) =
+      read_as rows (Some l) (Err x) (is_date (date_asked rows)) (level_is ∙ level) (start_is ∙ start) refl
+  judged_fault BadDate (l, p, level, start, date) =
+      read_as rows (Some l) (Ok p) false (level_is ∙ level) (start_is ∙ start) (ap is_date (sym is.date) ∙ date)
+
+match_fault : (names : Lent) (texts : List Text) (f : WordsFault) → faults_in names texts ≡ []
+    → (asked names texts).0 ≡ codes "match" → (m : MatchRequest) → IsMatchOf (asked names texts).1 m
+    → IsJudgedFault m f → IsReadBy names texts (Err f)
+match_fault names texts (Words x) none name m is h = absurd h
+match_fault names texts NoMemory none name m is h = absurd h
+match_fault names texts BadLevel none name m is h = (none, name, judged_fault _ m is BadLevel h)
+match_fault names texts (BadFen x) none name m is h = (none, name, judged_fault _ m is (BadFen x) h)
+match_fault names texts BadDate none name m is h = (none, name, judged_fault _ m is BadDate h)
+
+planned_plan : (p : Text × List Row) (s : Request) (plan : Plan) → IsRequestOf p s → IsPlanned s plan → IsPlanOf p plan
+planned_plan p request.Session plan is e = subst (IsPlanOf p) (sym e) is
+planned_plan p (request.Verify v) plan is e = subst (IsPlanOf p) (sym e) is
+planned_plan p (request.Stub words) plan is e = subst (IsPlanOf p) (sym e) is
+planned_plan p (request.Match m) plan is e =
+    subst (IsPlanOf p) (sym e.1) (is.0, match_judged p.1 m is.1 e.0 e.2)
+
+plan_fault : (names : Lent) (texts : List Text) (s : Request) (f : WordsFault) → faults_in names texts ≡ []
+    → IsRequestOf (asked names texts) s → IsPlanFault s f → IsReadBy names texts (Err f)
+plan_fault names texts request.Session f none is h = absurd h
+plan_fault names texts (request.Verify v) f none is h = absurd h
+plan_fault names texts (request.Stub words) f none is h = absurd h
+plan_fault names texts (request.Match m) f none is h =
+    match_fault names texts f none is.0 m is.1 h
+
+-- what was taken as written was planned
+pub planned_reading : (names : Lent) (texts : List Text) → AreVariants names → faults_in names texts ≡ []
+    → (s : Request) → IsRequestOf (asked names texts) s
+    → (r : Result Plan WordsFault) → IfOk r (IsPlanned s) → IfErr r (IsPlanFault s) → IsReading texts r
+planned_reading names texts are none s is (Ok plan) p f = (names, are, (none, planned_plan (asked names texts) s plan is p))
+planned_reading names texts are none s is (Err e) p f = (names, are, plan_fault names texts s e none is f)
+
+-- ---- the command that was entered
+
+abbrev pub with_rows : Bor Text × Bor ArgMatches → Text × List Row
+with_rows p = (p.0.now, rows_of (found_of p.1.now))
+
+abbrev or_session : Option (Text × List Row) → Text × List Row
+or_session o = unwrap_or o (codes "session", [])
+
+-- the matches, and what was entered in them
+module _ (texts : List Text) (m : ArgMatches) (p : IsParsed texts (Ok m)) (o : Option (Bor Text × Bor ArgMatches))
+    (e : option_map with_rows o ≡ subcommand_rows_of m) where
+  abbrev pub met : option_map with_rows o ≡ subcommand_of (arbiter_app p.0) texts
+  met = e ∙ p.2.1
+
+  pub none_asked : o ≡ None → asked p.0 texts ≡ (codes "session", [])
+  none_asked is = ap or_session (sym met ∙ ap (option_map with_rows) is)
+
+  pub some_asked : (x : Bor Text × Bor ArgMatches) → o ≡ Some x → asked p.0 texts ≡ with_rows x
+  some_asked x is = ap or_session (sym met ∙ ap (option_map with_rows) is)
+
+  pub entered_well : IfSome (subcommand_rows_of m) IsComplete → (x : Bor Text × Bor ArgMatches) → o ≡ Some x
+      → IsComplete (with_rows x)
+  entered_well complete x is = subst (λ (y : Option (Text × List Row)). IfSome y IsComplete)
+      (sym e ∙ ap (option_map with_rows) is) complete

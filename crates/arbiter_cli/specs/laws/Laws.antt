@@ -1,0 +1,45 @@
+-- What arguments ask for, and which of them are refused.
+use Rattle.std.specs.Prelude.{◌≡◌, List, [], codes, false}
+use Rattle.std.specs.List.{list_any}
+use Rattle.clap.specs.Words.{Kinds, Row, Text}
+use Rattle.clap.specs.Facts.{explicit_source}
+use Rattle.arbiter_grammar.specs.Grammar.{Lent, asked, faults_in}
+use Rattle.arbiter_cli.specs.declared.plan.Plan.{Plan}
+use Rattle.arbiter_cli.specs.declared.plan.Plan.TheVariants.{Session, Verify, Stub, Match}
+use Rattle.arbiter_cli.specs.declared.plan.VerifyPlan.{VerifyPlan}
+use Rattle.arbiter_cli.specs.Plans.{verify_plan_of, IsPlanOf}
+
+-- the name of the subcommand that asks for this plan
+abbrev pub command_name : Plan → Text
+command_name Session = codes "session"
+command_name (Verify v) = codes "verify"
+command_name (Stub words) = codes "stub"
+command_name (Match plan) = codes "match"
+
+-- each plan is asked for by the subcommand of its kind (`session`, `verify`, `stub` or `match`); `p` is the
+-- subcommand's name and its options as matched
+abbrev pub PlansAreNamed : Type 0
+PlansAreNamed = (p : Text × List Row) (plan : Plan) → IsPlanOf p plan → p.0 ≡ command_name plan
+
+-- whenever arguments ask for verifying, the plan has just the flags that were given; `p` is the subcommand's name and
+-- its options as matched
+abbrev pub VerifyIsAsAsked : Type 0
+VerifyIsAsAsked = (p : Text × List Row) (v : VerifyPlan) → IsPlanOf p (Verify v) → v ≡ verify_plan_of p.1
+
+-- `clap` accepts these arguments, and they ask for the subcommand `name` with no options given
+pub record AskFor (words : List Text) (name : Text) : Type 0 where
+  pub taken : (names : Lent) → faults_in names words ≡ []
+  pub named : (names : Lent) → (asked names words).0 ≡ name
+  pub bare : (names : Lent) → list_any (λ r. explicit_source r.source) (asked names words).1 ≡ false
+
+-- `clap` refuses these arguments, and `kinds` are the kinds of fault that it may report for them
+abbrev pub AreRefused : List Text → Kinds → Type 0
+AreRefused words kinds = (names : Lent) → faults_in names words ≡ kinds
+
+-- the plan of `verify` without flags
+abbrev pub bare_plan : VerifyPlan
+bare_plan = record { keep_going = false; quiet = false; strict = false }
+
+-- the options of these arguments make the plan of `verify` without flags
+abbrev pub VerifyAsBare : List Text → Type 0
+VerifyAsBare words = (names : Lent) → verify_plan_of (asked names words).1 ≡ bare_plan

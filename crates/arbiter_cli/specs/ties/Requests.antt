@@ -1,0 +1,88 @@
+-- What the arguments ask for as they are written, on the way to a plan.
+use Rattle.std.specs.Prelude.{◌≡◌, ◌≤◌, List, [], codes, map, option_map, Option, Some, None, Result, Ok, Err, true, false, unwrap_or, ◌≢◌}
+use Rattle.std.specs.Option.{option_map_or}
+use Rattle.clap.specs.Words.{Row, Text, all_of, first_of, kind_of}
+use Rattle.arbiter_cli.specs.declared.plan.Plan.{Plan}
+use Rattle.arbiter_cli.specs.declared.plan.Plan.TheVariants.{Session, Verify, Stub, Match}
+use Rattle.arbiter_cli.specs.declared.plan.MatchPlan.{MatchPlan}
+use Rattle.arbiter_cli.specs.declared.fault.WordsFault.{WordsFault}
+use Rattle.arbiter_cli.specs.declared.fault.WordsFault.TheVariants.{Words, NoMemory, BadLevel, BadFen, BadDate}
+use Rattle.arbiter_cli.specs.declared.request.MatchRequest.{MatchRequest}
+use Rattle.arbiter_cli.specs.declared.request.Request.{Request}
+use Rattle.arbiter_cli.specs.declared.request.Request.TheVariants as request
+use Rattle.chess_base.specs.Initial.{initial_setup_of}
+use Rattle.chess_base.specs.declared.fault.FenFault.{FenFault}
+use Rattle.chess_base.specs.declared.man.Variant.{Variant}
+use Rattle.chess_base.specs.declared.setup.Setup.{Setup}
+use Rattle.chess_fen.specs.Reading.{fen_reading_as}
+use Rattle.cecp_engine.specs.Levels.{LevelSeen, level_of}
+use Rattle.arbiter_cli.specs.Plans.{date_asked, games_in, is_date, is_set, text_or, variant_in, verify_plan_of}
+use Rattle.clap.specs.declared.error.Error.{Error}
+use Rattle.clap.specs.declared.error.kind.ErrorKind.TheVariants.{OutOfMemory}
+
+-- the position that a match starts in: what the FEN denotes, or without one the initial position of the variant
+abbrev pub start_of : Variant → Option Text → Result Setup FenFault
+start_of v fen = option_map_or (fen_reading_as v) fen (Ok (initial_setup_of v))
+
+-- the request `m` has the options of `match` (`rows`, as matched), each as given or by default; level, FEN and date are
+-- still texts
+pub record IsMatchOf (rows : List Row) (m : MatchRequest) : Type 0 where
+  pub white : first_of (codes "white") rows ≡ Some m.white.now
+  pub black : first_of (codes "black") rows ≡ Some m.black.now
+  pub level : m.level.now ≡ text_or (codes "level") rows (codes "40 5 0")
+  pub fen : option_map (λ t. t.now) m.fen ≡ first_of (codes "fen") rows
+  pub games : m.games ≡ games_in rows
+  pub games_range : (1 ≤ m.games) × (m.games ≤ 1000)
+  pub date : m.date.now ≡ date_asked rows
+  pub variant : m.variant ≡ variant_in rows
+  pub log : m.log ≡ is_set (codes "log") rows
+
+-- the request is what the arguments ask for, with level, FEN and date of a match still as texts; `p` is the
+-- subcommand's name and its options as matched
+abbrev pub IsRequestOf : Text × List Row → Request → Type 0
+IsRequestOf p request.Session = p.0 ≡ codes "session"
+IsRequestOf p (request.Verify v) = (p.0 ≡ codes "verify") × (v ≡ verify_plan_of p.1)
+IsRequestOf p (request.Stub words) = (p.0 ≡ codes "stub")
+    × (map (λ w. w.now) words.items ≡ unwrap_or (all_of (codes "words") p.1) [])
+IsRequestOf p (request.Match m) = (p.0 ≡ codes "match") × IsMatchOf p.1 m
+
+-- the plan of a match is what the request `m` asks for: level and FEN as what they denote, a date that can be a tag,
+-- all else as it is
+pub record IsJudged (m : MatchRequest) (plan : MatchPlan) : Type 0 where
+  pub white : plan.white ≡ m.white
+  pub black : plan.black ≡ m.black
+  pub level : level_of m.level.now ≡ Some plan.level
+  pub start : start_of m.variant (option_map (λ t. t.now) m.fen) ≡ Ok plan.start
+  pub games : plan.games ≡ m.games
+  pub date : plan.date ≡ m.date
+  pub log : plan.log ≡ m.log
+  pub good_date : is_date m.date.now ≡ true
+
+-- the fault is that of the first of level, FEN and date that is invalid in this request of a match
+abbrev pub IsJudgedFault : MatchRequest → WordsFault → Type 0
+IsJudgedFault m (Words e) = ⊥
+IsJudgedFault m NoMemory = ⊥
+IsJudgedFault m BadLevel = level_of m.level.now ≡ None
+IsJudgedFault m (BadFen f) = (l : LevelSeen) × (level_of m.level.now ≡ Some l)
+    × (start_of m.variant (option_map (λ t. t.now) m.fen) ≡ Err f)
+IsJudgedFault m BadDate = (l : LevelSeen) × (p : Setup) × (level_of m.level.now ≡ Some l)
+    × (start_of m.variant (option_map (λ t. t.now) m.fen) ≡ Ok p) × (is_date m.date.now ≡ false)
+
+-- the plan is what the request asks for; of a match, level and FEN are read, and the date is checked
+abbrev pub IsPlanned : Request → Plan → Type 0
+IsPlanned request.Session plan = plan ≡ Session
+IsPlanned (request.Verify v) plan = plan ≡ Verify v
+IsPlanned (request.Stub words) plan = plan ≡ Stub words
+IsPlanned (request.Match m) plan = (p : MatchPlan) × (plan ≡ Match p) × IsJudged m p
+
+-- the fault is right for this request: that of the first of level, FEN and date that is invalid in a match; no other
+-- request has one
+abbrev pub IsPlanFault : Request → WordsFault → Type 0
+IsPlanFault (request.Match m) f = IsJudgedFault m f
+IsPlanFault _ f = ⊥
+
+-- the second fault is how this error of `clap` is reported: as out of memory if it is that, else as the error itself
+abbrev pub Refuses : Error → WordsFault → Type 0
+Refuses e (Words e') = (kind_of e ≢ OutOfMemory) × (e' ≡ e)
+Refuses e NoMemory = kind_of e ≡ OutOfMemory
+Refuses e _ = ⊥

@@ -1,0 +1,39 @@
+//! Why arguments ask for nothing.
+
+ghost use Rattle.arbiter_cli.specs.ties.Requests.{Refuses};
+
+use chess_base::FenFault;
+use chess_cecp::fen_fault_name;
+use clap::Error;
+use clap::error::ErrorKind;
+
+/// Why the arguments ask for nothing.
+#[derive(Debug, Drop, thiserror::Error)]
+pub enum WordsFault {
+    /// They are none of the program's forms, or ask for help or the version; the text is `clap`'s.
+    #[error(transparent)]
+    Words(Error),
+    /// There was no memory to read them.
+    #[error("no memory")]
+    NoMemory,
+    /// The text of a match's level denotes none.
+    #[error("bad level")]
+    BadLevel,
+    /// The text of a match's start denotes no sound position.
+    #[error("illegal position ({})", fen_fault_name(*.0))]
+    BadFen(FenFault),
+    /// The date of a match has more than 60 bytes, or one outside 32 to 126.
+    #[error("bad date")]
+    BadDate,
+}
+
+// How an error of `clap` is reported: as out of memory if it is that, else as the error itself.
+pub(crate) fn refusal(error: Error) -> WordsFault
+    ensures { Refuses error result }
+{
+    if error.kind() == ErrorKind::OutOfMemory {
+        WordsFault::NoMemory
+    } else {
+        WordsFault::Words(error)
+    }
+}

@@ -1,0 +1,33 @@
+//! Laws of the arguments. A caller learns one by calling its function, which does nothing.
+
+ghost use Rattle.std.specs.Prelude.{[], ◌∷◌, codes};
+ghost use Rattle.clap.specs.declared.error.kind.ErrorKind.TheVariants.{DisplayHelp, DisplayVersion, MissingRequiredArgument};
+ghost use Rattle.arbiter_cli.specs.laws.Laws.{AreRefused, AskFor, PlansAreNamed, VerifyAsBare, VerifyIsAsAsked};
+
+/// States a law and does nothing: `clap` accepts no arguments, `session` alone and `verify` alone; they ask for a
+/// session or, without flags, to verify.
+pub fn plain_arguments_are_taken()
+    ensures none { AskFor [] (codes "session") }
+    ensures session { AskFor (codes "session" ∷ []) (codes "session") }
+    ensures verify { AskFor (codes "verify" ∷ []) (codes "verify") }
+    ensures bare { VerifyAsBare (codes "verify" ∷ []) }
+{}
+
+/// States a law and does nothing: `clap` refuses `--help` and `--version` with the fault that asks to show a text, and
+/// `match` alone with the fault that required options lack.
+pub fn plain_arguments_are_refused()
+    ensures help { AreRefused (codes "--help" ∷ []) (DisplayHelp ∷ []) }
+    ensures version { AreRefused (codes "--version" ∷ []) (DisplayVersion ∷ []) }
+    ensures bare_match { AreRefused (codes "match" ∷ []) (MissingRequiredArgument ∷ []) }
+{}
+
+/// States a law and does nothing: each plan is asked for by the subcommand of its kind: `session`, `verify`, `stub` or
+/// `match`.
+pub fn plans_are_named()
+    ensures { PlansAreNamed }
+{}
+
+/// States a law and does nothing: a plan to verify has just the flags that were given after `verify`.
+pub fn verify_is_as_asked()
+    ensures { VerifyIsAsAsked }
+{}

@@ -1,0 +1,124 @@
+//! What arguments ask for.
+
+ghost use Rattle.std.specs.Prelude.{◌≡◌, ◌&&◌, IfErr, IfOk, nat_le, option_map};
+ghost use Rattle.std.specs.List.{list_all};
+ghost use Rattle.arbiter_cli.specs.Plans.{is_date as date_test};
+ghost use Rattle.arbiter_cli.specs.ties.Requests.{IsJudged, IsJudgedFault, IsPlanFault, IsPlanned, start_of};
+
+use crate::fault::WordsFault;
+use crate::request::{MatchRequest, Request};
+use cecp_engine::Level;
+use chess_base::{FenFault, Position, Variant};
+use chess_fen::read_fen_as;
+
+/// What a match is played by.
+#[derive(Clone, Copy)]
+pub struct MatchPlan<'a> {
+    /// The command of the first engine, which has White in odd games.
+    pub white: &'a str,
+    /// The command of the second engine.
+    pub black: &'a str,
+    /// The level of time of both.
+    pub level: Level,
+    /// Where each game starts; its variant is that of the match.
+    pub start: Position,
+    /// How many games, from 1 to 1,000.
+    pub games: u16,
+    /// The date in each game's tags.
+    pub date: &'a str,
+    /// Whether what the engines say and are sent is written to the error output.
+    pub log: bool,
+}
+
+/// How the games on the standard input are verified.
+#[derive(Clone, Copy, Debug, PartialEq, Eq)]
+pub struct VerifyPlan {
+    /// Whether verifying continues after a fault, with the next line that begins with `[Event `, and writes totals
+    /// at the end.
+    pub keep_going: bool,
+    /// Whether only games with a fault are written.
+    pub quiet: bool,
+    /// Whether the result is also checked against the tag Result and the final position.
+    pub strict: bool,
+}
+
+/// What the arguments ask for.
+#[derive(Drop)]
+pub enum Plan<'a> {
+    /// A session on the standard streams.
+    Session,
+    /// To verify the games on the standard input.
+    Verify(VerifyPlan),
+    /// To be an engine that plays these arguments.
+    Stub(Vec<&'a str>),
+    /// Games between two engines.
+    Match(MatchPlan<'a>),
+}
+
+// Whether all bytes are printable ASCII (32 to 126).
+fn is_plain(bytes: &[u8]) -> bool
+    ensures { result ≡ list_all (λ b. nat_le 32 b && nat_le b 126) bytes.now }
+{
+    bytes.iter().all(|b| 32 <= *b && *b <= 126)
+}
+
+// Whether a text can be the tag Date: at most 60 bytes of printable ASCII. It need not be a date.
+fn is_date(text: &str) -> bool
+    ensures { result ≡ date_test text.now }
+{
+    text.len() <= 60 && is_plain(text.as_bytes())
+}
+
+// The position in which games start: what the FEN denotes, or without one the initial position of the variant.
+fn start_of(variant: Variant, fen: Option<&str>) -> Result<Position, FenFault>
+    ensures { result ≡ start_of variant (option_map (λ t. t.now) fen.entry) }
+{
+    match fen {
+        None => Ok(Position::initial_of(variant)),
+        Some(text) => read_fen_as(variant, text.as_bytes()),
+    }
+}
+
+// The plan of the match that `words` asks for, if its level, FEN and date are valid; else the fault of the first of
+// them that is not.
+fn validate<'a>(words: &MatchRequest<'a>) -> Result<MatchPlan<'a>, WordsFault>
+    ensures plan { IfOk result (IsJudged words.now) }
+    ensures fault { IfErr result (IsJudgedFault words.now) }
+{
+    let Some(level) = Level::read(words.level.as_bytes()) else {
+        return Err(WordsFault::BadLevel);
+    };
+    let start = match start_of(words.variant, words.fen) {
+        Ok(start) => start,
+        Err(fault) => return Err(WordsFault::BadFen(fault)),
+    };
+    if !is_date(words.date) {
+        return Err(WordsFault::BadDate);
+    }
+    Ok(MatchPlan {
+        white: words.white,
+        black: words.black,
+        level,
+        start,
+        games: words.games,
+        date: words.date,
+        log: words.log,
+    })
+}
+
+// The plan of what the request asks for; of a match only if level, FEN and date are valid, else the fault of the first
+// of them that is not.
+pub(crate) fn planned<'a>(denoted: Request<'a>) -> Result<Plan<'a>, WordsFault>
+    ensures plan { IfOk result (IsPlanned denoted.entry) }
+    ensures fault { IfErr result (IsPlanFault denoted.entry) }
+{
+    match denoted {
+        Request::Session => Ok(Plan::Session),
+        Request::Verify(plan) => Ok(Plan::Verify(plan)),
+        Request::Stub(words) => Ok(Plan::Stub(words)),
+        Request::Match(words) => match validate(&words) {
+            Ok(plan) => Ok(Plan::Match(plan)),
+            Err(fault) => Err(fault),
+        },
+    }
+}

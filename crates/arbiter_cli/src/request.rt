@@ -1,0 +1,148 @@
+//! What the arguments ask for, as written.
+
+ghost use Rattle.std.specs.Prelude.{◌≡◌, ◌≤◌, [], IfOk, IfSome, IsSome, true, codes, is_some, map, option_map, unwrap_or};
+ghost use Rattle.clap.specs.Words.{all_of, first_of, found_of, rows_of, subcommand_rows_of};
+ghost use Rattle.arbiter_grammar.specs.Grammar.{HasGames, IsCommand, NamesBoth};
+ghost use Rattle.arbiter_cli.specs.Plans.{games_in, is_set, text_or, variant_in, verify_plan_of};
+ghost use Rattle.arbiter_cli.specs.ties.Requests.{IsMatchOf, IsRequestOf};
+
+use crate::plan::VerifyPlan;
+use chess_base::Variant;
+use clap::ArgMatches;
+use std::alloc::{AllocError, Global};
+
+/// The options of a match, not yet read as levels or positions.
+#[derive(Clone, Copy, Debug)]
+pub(crate) struct MatchRequest<'a> {
+    pub white: &'a str,
+    pub black: &'a str,
+    pub level: &'a str,
+    pub fen: Option<&'a str>,
+    pub games: u16,
+    pub date: &'a str,
+    pub variant: Variant,
+    pub log: bool,
+}
+
+/// What the arguments ask for; texts are not yet read as levels or positions.
+#[derive(Drop)]
+pub(crate) enum Request<'a> {
+    Session,
+    Verify(VerifyPlan),
+    Stub(Vec<&'a str>),
+    Match(MatchRequest<'a>),
+}
+
+// The value that the option `name` was given, else its default; `found` are the options as matched.
+fn text_or<'a>(found: &ArgMatches<'a>, name: &str, default: &'a str) -> &'a str
+    ensures { result.now ≡ text_or name.now (rows_of (found_of found.now)) default.entry.now }
+{
+    match found.get_str(name) {
+        Some(text) => text,
+        None => default,
+    }
+}
+
+// Whether the flag `name`, such as `--quiet`, was given; `found` are the options as matched.
+fn is_set(found: &ArgMatches<'_>, name: &str) -> bool
+    ensures { result ≡ is_set name.now (rows_of (found_of found.now)) }
+{
+    text_or(found, name, "false") == "true"
+}
+
+// What the flags of `verify` ask for; `found` are the flags as matched.
+fn verify_plan(found: &ArgMatches<'_>) -> VerifyPlan
+    ensures { result ≡ verify_plan_of (rows_of (found_of found.now)) }
+{
+    VerifyPlan {
+        keep_going: is_set(found, "keep-going"),
+        quiet: is_set(found, "quiet"),
+        strict: is_set(found, "strict"),
+    }
+}
+
+// The arguments that follow `stub`, in their order; `found` are they as matched.
+fn stub_arguments<'a>(alloc: Global, found: &ArgMatches<'a>) -> Result<Vec<&'a str>, AllocError>
+    ensures { IfOk result (λ v. map (λ w. w.now) v.items
+        ≡ unwrap_or (all_of (codes "words") (rows_of (found_of found.now))) []) }
+{
+    match found.get_strs("words") {
+        Some(words) => words.to_vec(alloc),
+        None => Ok(Vec::new(alloc)),
+    }
+}
+
+// The value of `--games`, 1 if it was not given; `found` are the options as matched.
+fn games_of(found: &ArgMatches<'_>) -> u16
+    requires { HasGames (rows_of (found_of found.now)) }
+    ensures value { result ≡ games_in (rows_of (found_of found.now)) }
+    ensures range { (1 ≤ result) × (result ≤ 1000) }
+{
+    match found.get_str("games") {
+        None => 1,
+        Some(text) => match text.parse::<u16>() {
+            Ok(games) => games,
+            Err(_) => unreachable!(),
+        },
+    }
+}
+
+// The variant that `--variant` asks for, normal chess if it was not given; `found` are the options as matched.
+fn variant_of(found: &ArgMatches<'_>) -> Variant
+    ensures { result ≡ variant_in (rows_of (found_of found.now)) }
+{
+    if text_or(found, "variant", "normal") == "fischerandom" {
+        Variant::Fischerandom
+    } else {
+        Variant::Normal
+    }
+}
+
+// The options of `match`, each as given or by default; `None` if `--white` or `--black` was not given. `found` are the
+// options as matched.
+fn match_request<'a>(found: &ArgMatches<'a>) -> Option<MatchRequest<'a>>
+    requires { HasGames (rows_of (found_of found.now)) }
+    ensures given { IfSome result (IsMatchOf (rows_of (found_of found.now))) }
+    ensures needed { (is_some (first_of (codes "white") (rows_of (found_of found.now))) ≡ true)
+        → (is_some (first_of (codes "black") (rows_of (found_of found.now))) ≡ true) → IsSome result }
+{
+    let white = found.get_str("white")?;
+    let black = found.get_str("black")?;
+    Some(MatchRequest {
+        white,
+        black,
+        level: text_or(found, "level", "40 5 0"),
+        fen: found.get_str("fen"),
+        games: games_of(found),
+        date: text_or(found, "date", "????.??.??"),
+        variant: variant_of(found),
+        log: is_set(found, "log"),
+    })
+}
+
+// What the subcommand `name` with these options (`found`, as matched) asks for.
+pub(crate) fn request_in<'a>(
+    alloc: Global,
+    name: &str,
+    found: &ArgMatches<'a>,
+) -> Result<Request<'a>, AllocError>
+    requires known { IsCommand name.now }
+    requires both { NamesBoth (name.now, rows_of (found_of found.now)) }
+    requires games { HasGames (rows_of (found_of found.now)) }
+    ensures { IfOk result (IsRequestOf (name.now, rows_of (found_of found.now))) }
+{
+    if name == "verify" {
+        return Ok(Request::Verify(verify_plan(found)));
+    }
+    if name == "stub" {
+        let words = stub_arguments(alloc, found)?;
+        return Ok(Request::Stub(words));
+    }
+    if name == "match" {
+        return match match_request(found) {
+            Some(words) => Ok(Request::Match(words)),
+            None => unreachable!(),
+        };
+    }
+    Ok(Request::Session)
+}

@@ -1,0 +1,478 @@
+//! What the arguments of the command line ask for, and which are refused.
+
+use arbiter_cli::{Plan, VerifyPlan, WordsFault, read_words};
+use chess_base::Variant;
+use chess_fen::write_fen;
+use std::test::Fail;
+
+#[test]
+fn plans_without_arguments(rt: HostRuntime) -> Result<(), Fail> {
+    let none: [&str; 0] = [];
+    assert!(rt; matches!(read_words(rt.alloc(), none.as_slice())?, Plan::Session));
+    assert!(rt;
+        matches!(
+            read_words(rt.alloc(), ["session"].as_slice())?,
+            Plan::Session
+        )
+    );
+    Ok(())
+}
+
+// Arguments of `verify`, and the flags that they set: keep-going, quiet, strict.
+const VERIFY: [(&[&str], bool, bool, bool); 14] = [
+    (&["verify"], false, false, false),
+    (&["verify", "--keep-going"], true, false, false),
+    (&["verify", "--quiet"], false, true, false),
+    (&["verify", "--strict"], false, false, true),
+    (&["verify", "--keep-going", "--quiet"], true, true, false),
+    (&["verify", "--quiet", "--keep-going"], true, true, false),
+    (&["verify", "--strict", "--quiet"], false, true, true),
+    (&["verify", "--keep-going", "--strict"], true, false, true),
+    (
+        &["verify", "--strict", "--keep-going", "--quiet"],
+        true,
+        true,
+        true,
+    ),
+    (
+        &["verify", "--strict", "--quiet", "--keep-going"],
+        true,
+        true,
+        true,
+    ),
+    (
+        &["verify", "--keep-going", "--strict", "--quiet"],
+        true,
+        true,
+        true,
+    ),
+    (
+        &["verify", "--quiet", "--strict", "--keep-going"],
+        true,
+        true,
+        true,
+    ),
+    (
+        &["verify", "--keep-going", "--quiet", "--strict"],
+        true,
+        true,
+        true,
+    ),
+    (
+        &["verify", "--quiet", "--keep-going", "--strict"],
+        true,
+        true,
+        true,
+    ),
+];
+
+// The arguments of `verify` go together in any order.
+#[test]
+fn verify_by_its_options(rt: HostRuntime) -> Result<(), Fail> {
+    for (words, keep_going, quiet, strict) in &VERIFY {
+        let Plan::Verify(plan) = read_words(rt.alloc(), words)? else {
+            return Err(Fail::new("another plan"));
+        };
+        assert_eq!(rt;
+            plan,
+            VerifyPlan {
+                keep_going: *keep_going,
+                quiet: *quiet,
+                strict: *strict,
+            }
+        );
+    }
+    Ok(())
+}
+
+// Arguments of `stub`, and how many of them it plays.
+const STUBS: [(&[&str], usize); 3] = [
+    (&["stub", "e2e4", "offer"], 2),
+    (&["stub"], 0),
+    (&["stub", "--", "-x"], 1),
+];
+
+#[test]
+fn a_stub_keeps_its_arguments(rt: HostRuntime) -> Result<(), Fail> {
+    for (words, count) in &STUBS {
+        let Plan::Stub(found) = read_words(rt.alloc(), words)? else {
+            return Err(Fail::new("another plan"));
+        };
+        assert_eq!(rt; found.len(), *count);
+        assert!(rt; words.ends_with(found.as_slice()));
+    }
+    Ok(())
+}
+
+#[test]
+fn a_match_by_default(rt: HostRuntime) -> Result<(), Fail> {
+    let words = ["match", "--white", "a b", "--black=c"];
+    let Plan::Match(plan) = read_words(rt.alloc(), words.as_slice())? else {
+        return Err(Fail::new("another plan"));
+    };
+    assert!(rt; plan.white == "a b" && plan.black == "c");
+    assert!(rt;
+        plan.level.moves() == 40 && plan.level.base() == 300 && plan.level.increment() == 0
+    );
+    assert_eq!(rt;
+        write_fen(&plan.start).as_slice(),
+        b"rnbqkbnr/pppppppp/8/8/8/8/PPPPPPPP/RNBQKBNR w KQkq - 0 1".as_slice()
+    );
+    assert_eq!(rt; plan.games, 1);
+    assert!(rt; plan.date == "????.??.??");
+    assert!(rt; !plan.log);
+    Ok(())
+}
+
+#[test]
+fn a_match_with_all_options(rt: HostRuntime) -> Result<(), Fail> {
+    let words = [
+        "match",
+        "--date",
+        "2026.11.23",
+        "--games",
+        "1000",
+        "--fen",
+        "4k3/8/8/8/8/8/8/RK5R w KQ - 0 1",
+        "--level=0 0:30 1",
+        "--variant",
+        "fischerandom",
+        "--log",
+        "--black",
+        "y",
+        "--white=-x",
+    ];
+    let Plan::Match(plan) = read_words(rt.alloc(), words.as_slice())? else {
+        return Err(Fail::new("another plan"));
+    };
+    assert!(rt; plan.white == "-x" && plan.black == "y");
+    assert!(rt; plan.level.moves() == 0 && plan.level.base() == 30 && plan.level.increment() == 1);
+    assert_eq!(rt; plan.start.variant(), Variant::Fischerandom);
+    assert_eq!(rt;
+        write_fen(&plan.start).as_slice(),
+        b"4k3/8/8/8/8/8/8/RK5R w HA - 0 1".as_slice()
+    );
+    assert_eq!(rt; plan.games, 1000);
+    assert!(rt; plan.date == "2026.11.23");
+    assert!(rt; plan.log);
+    Ok(())
+}
+
+const VARIANTS: [(&str, &[u8]); 2] = [
+    (
+        "normal",
+        b"rnbqkbnr/pppppppp/8/8/8/8/PPPPPPPP/RNBQKBNR w KQkq - 0 1",
+    ),
+    (
+        "fischerandom",
+        b"rnbqkbnr/pppppppp/8/8/8/8/PPPPPPPP/RNBQKBNR w HAha - 0 1",
+    ),
+];
+
+#[test]
+fn a_variant_has_its_initial_position(rt: HostRuntime) -> Result<(), Fail> {
+    for (name, fen) in &VARIANTS {
+        let words = ["match", "--white", "x", "--black", "y", "--variant", *name];
+        let Plan::Match(plan) = read_words(rt.alloc(), words.as_slice())? else {
+            return Err(Fail::new("another plan"));
+        };
+        assert_eq!(rt; write_fen(&plan.start).as_slice(), *fen);
+    }
+    Ok(())
+}
+
+// Arguments of a match, and what is reported of them.
+const FAULTS: [([&str; 6], &str); 8] = [
+    (
+        ["--level", "40 5", "--fen", "x", "--date", "\u{7f}"],
+        "bad level",
+    ),
+    (
+        ["--level", "0 0:60 0", "--fen", "x", "--date", "x"],
+        "bad level",
+    ),
+    (
+        [
+            "--level",
+            "40 5 0",
+            "--fen",
+            "8/8/8/8/8/8/8/8 w - - 0 1",
+            "--date",
+            "\u{7f}",
+        ],
+        "illegal position (kings)",
+    ),
+    (
+        ["--level", "40 5 0", "--fen", "4k3/8 w - -", "--date", "x"],
+        "illegal position (placement)",
+    ),
+    (
+        [
+            "--level",
+            "0 1 0",
+            "--fen",
+            "4k3/8/8/8/8/8/8/4K3 w - - 0 1",
+            "--date",
+            "\u{7f}",
+        ],
+        "bad date",
+    ),
+    (
+        [
+            "--level",
+            "0 1 0",
+            "--fen",
+            "4k3/8/8/8/8/8/8/4K3 w - - 0 1",
+            "--date",
+            "é",
+        ],
+        "bad date",
+    ),
+    (
+        [
+            "--games",
+            "1",
+            "--variant",
+            "normal",
+            "--date",
+            "0123456789012345678901234567890123456789012345678901234567890",
+        ],
+        "bad date",
+    ),
+    (
+        [
+            "--games",
+            "1",
+            "--variant",
+            "normal",
+            "--fen",
+            "4k3/8/8/8/8/8/8/RK5R w HA - 0 1",
+        ],
+        "illegal position (castling)",
+    ),
+];
+
+// Arguments that ask for nothing: what is reported of them.
+#[test]
+fn faults_are_reported(rt: HostRuntime) -> Result<(), Fail> {
+    for ([a, b, c, d, e, f], wanted) in &FAULTS {
+        let words = [
+            "match", "--white", "x", "--black", "y", *a, *b, *c, *d, *e, *f,
+        ];
+        let Err(fault) = read_words(rt.alloc(), words.as_slice()) else {
+            return Err(Fail::new("a plan"));
+        };
+        let told = format!(in rt.alloc(); "{fault}")?;
+        assert!(rt; told.as_str() == *wanted);
+    }
+    Ok(())
+}
+
+const OTHERS: [(&[&str], i32); 39] = [
+    (&["match", "--white", "x"], 2),
+    (
+        &["match", "--white", "x", "--white", "y", "--black", "z"],
+        2,
+    ),
+    (&["match", "--white", "-x", "--black", "y"], 2),
+    (&["match", "--white", "x", "--black", "--date", "y"], 2),
+    (
+        &["match", "--white", "x", "--black", "y", "--games", "0"],
+        2,
+    ),
+    (
+        &["match", "--white", "x", "--black", "y", "--games", "1001"],
+        2,
+    ),
+    (
+        &["match", "--white", "x", "--black", "y", "--games", "two"],
+        2,
+    ),
+    (
+        &[
+            "match",
+            "--white",
+            "x",
+            "--black",
+            "y",
+            "--variant",
+            "atomic",
+        ],
+        2,
+    ),
+    (
+        &[
+            "match",
+            "--white",
+            "x",
+            "--black",
+            "y",
+            "--variant",
+            "Normal",
+        ],
+        2,
+    ),
+    (&["match", "--white", "x", "--black", "y", "z"], 2),
+    (&["stub", "-x"], 2),
+    (&["mat"], 2),
+    (&[""], 2),
+    (&["help"], 2),
+    (&["session", "x"], 2),
+    (&["verify", "--version"], 2),
+    (&["verify", "--keep"], 2),
+    (&["verify", "--quiet=true"], 2),
+    (&["verify", "--quiet", "--quiet"], 2),
+    (&["verify", "--stric"], 2),
+    (&["verify", "--strict=true"], 2),
+    (&["verify", "--strict", "--strict"], 2),
+    (&["verify", "--strict", "16"], 2),
+    (&["verify", "--any-size"], 2),
+    (&["session", "--strict"], 2),
+    (&["session", "--quiet"], 2),
+    (&["--log"], 2),
+    (&["session", "--log"], 2),
+    (&["verify", "--log"], 2),
+    (&["stub", "--log"], 2),
+    (&["match", "--white", "x", "--black", "y", "--log=x"], 2),
+    (&["verify", "--quiet", "--help"], 0),
+    (&["--white", "x"], 2),
+    (&["--help"], 0),
+    (&["-h"], 0),
+    (&["match", "--help"], 0),
+    (&["stub", "e2e4", "--help"], 0),
+    (&["--version"], 0),
+    (&["-V"], 0),
+];
+
+// Arguments that are none of the program's forms, or ask for help: the status that `clap` gives them.
+#[test]
+fn other_arguments_are_refused(rt: HostRuntime) -> Result<(), Fail> {
+    for (words, status) in &OTHERS {
+        match read_words(rt.alloc(), words) {
+            Err(WordsFault::Words(error)) => assert_eq!(rt; error.exit_code(), *status),
+            _ => return Err(Fail::new("not clap's fault")),
+        }
+    }
+    Ok(())
+}
+
+// Arguments that ask for help, the beginning of a line in that text, and the arguments of the example on that line.
+const EXAMPLES: [(&[&str], &str, &[&str]); 15] = [
+    (&["--help"], "\n  arbiter     ", &[]),
+    (&["--help"], "\n  arbiter verify < games.pgn ", &["verify"]),
+    (
+        &["--help"],
+        "\n  arbiter match --white sjeng --black phalanx > a.txt ",
+        &["match", "--white", "sjeng", "--black", "phalanx"],
+    ),
+    (
+        &["--help"],
+        "\n  arbiter stub e2e4 g1f3 ",
+        &["stub", "e2e4", "g1f3"],
+    ),
+    (
+        &["session", "--help"],
+        "\n  printf 'e2e4\\nshowfen\\n' | arbiter session\n",
+        &["session"],
+    ),
+    (
+        &["verify", "--help"],
+        "\n  arbiter verify < games.pgn\n",
+        &["verify"],
+    ),
+    (
+        &["verify", "--help"],
+        "\n  arbiter verify --keep-going --quiet < games.pgn\n",
+        &["verify", "--keep-going", "--quiet"],
+    ),
+    (
+        &["verify", "--help"],
+        "\n  zcat games.pgn.gz | arbiter verify --keep-going --strict\n",
+        &["verify", "--keep-going", "--strict"],
+    ),
+    (
+        &["stub", "--help"],
+        "\n  arbiter stub e2e4 g1f3 offer resign\n",
+        &["stub", "e2e4", "g1f3", "offer", "resign"],
+    ),
+    (
+        &["stub", "--help"],
+        "\n  arbiter match --white \"arbiter stub f2f3 g2g4\" --black \"arbiter stub e7e5 d8h4\"\n",
+        &[
+            "match",
+            "--white",
+            "arbiter stub f2f3 g2g4",
+            "--black",
+            "arbiter stub e7e5 d8h4",
+        ],
+    ),
+    (
+        &["match", "--help"],
+        "\n  arbiter match --white sjeng --black phalanx\n",
+        &["match", "--white", "sjeng", "--black", "phalanx"],
+    ),
+    (
+        &["match", "--help"],
+        "\n  arbiter match --white sjeng --black phalanx --games 10 --level \"40 5 0\" --date 2026.11.23 > match.txt\n",
+        &[
+            "match",
+            "--white",
+            "sjeng",
+            "--black",
+            "phalanx",
+            "--games",
+            "10",
+            "--level",
+            "40 5 0",
+            "--date",
+            "2026.11.23",
+        ],
+    ),
+    (
+        &["match", "--help"],
+        "\n  arbiter match --white ./a --black \"./b -x\" --level \"0 0:30 1\" --fen \"4k3/8/8/8/8/8/4P3/4K3 w - - 0 1\"\n",
+        &[
+            "match",
+            "--white",
+            "./a",
+            "--black",
+            "./b -x",
+            "--level",
+            "0 0:30 1",
+            "--fen",
+            "4k3/8/8/8/8/8/4P3/4K3 w - - 0 1",
+        ],
+    ),
+    (
+        &["match", "--help"],
+        "\n  arbiter match --white ./a --black ./b --variant fischerandom\n",
+        &[
+            "match",
+            "--white",
+            "./a",
+            "--black",
+            "./b",
+            "--variant",
+            "fischerandom",
+        ],
+    ),
+    (
+        &["match", "--help"],
+        "\n  arbiter match --white ./a --black ./b --log 2> match.debug\n",
+        &["match", "--white", "./a", "--black", "./b", "--log"],
+    ),
+];
+
+// The examples in the texts of help ask for something.
+#[test]
+fn examples_in_help_are_accepted(rt: HostRuntime) -> Result<(), Fail> {
+    for (asked, line, arguments) in &EXAMPLES {
+        let Err(fault) = read_words(rt.alloc(), asked) else {
+            return Err(Fail::new("no help"));
+        };
+        let help = format!(in rt.alloc(); "{fault}")?;
+        assert!(rt; help.as_str().contains(*line));
+        assert!(rt; read_words(rt.alloc(), arguments).is_ok());
+    }
+    Ok(())
+}

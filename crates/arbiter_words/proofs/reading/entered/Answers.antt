@@ -1,5 +1,0 @@
-use Rattle.std.proofs.Common.{rules}
-use Rattle.arbiter_words.proofs.reading.entered.Goals as goal
-
-pub returns : goal.returns
-returns c = search rules

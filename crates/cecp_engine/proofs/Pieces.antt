@@ -1,0 +1,104 @@
+-- A text that is cut at commas, spaces and tabs, byte by byte.
+use Rattle.std.proofs.Common.{◌≡◌, ℕ, zero, suc, ◌+◌, ◌-◌, ◌<◌, ◌≤◌, Bool, true, false, ◌||◌, List, [], ◌∷◌, ◌++◌, length, take, drop, get_or, refl, ap, sym, ◌∙◌, arith, append_assoc, append-nil, cond}
+use mathlib.Core.Bool.{or-false}
+use Rattle.std.specs.List.{list_any, slice_split, onto_first}
+use Rattle.std.specs.Prelude.{if◌then◌else◌}
+use Rattle.std.specs.Str.{bytes_eq}
+use Rattle.std.proofs.Math.Seq.{take-suc}
+use Rattle.std.proofs.lemmas.List.{drop_more}
+use Rattle.cecp_engine.specs.Items.{is_comma_or_blank}
+
+-- the rest of a text after a piece is cut at commas, spaces and tabs, and one of the pieces is this word
+abbrev pub has_word_behind : List ℕ → List ℕ → List ℕ → Bool
+has_word_behind word piece [] = bytes_eq piece word
+has_word_behind word piece (c ∷ cs) =
+    if is_comma_or_blank c then bytes_eq piece word || has_word_behind word [] cs
+    else has_word_behind word (piece ++ c ∷ []) cs
+
+-- the pieces with a piece put before the first
+abbrev after_piece : List ℕ → List (List ℕ) → List (List ℕ)
+after_piece piece [] = piece ∷ []
+after_piece piece (first ∷ pieces) = (piece ++ first) ∷ pieces
+
+abbrev is_any : List ℕ → List (List ℕ) → Bool
+is_any word pieces = list_any (λ piece. bytes_eq piece word) pieces
+
+after_byte : (piece : List ℕ) (c : ℕ) (pieces : List (List ℕ))
+    → after_piece (piece ++ c ∷ []) pieces ≡ after_piece piece (onto_first c pieces)
+after_byte piece c [] = refl
+after_byte piece c (first ∷ pieces) = ap (λ (l : List ℕ). l ∷ pieces) (append_assoc piece (c ∷ []) first)
+
+after_none : (p : ℕ → Bool) (text : List ℕ) → after_piece [] (slice_split p text) ≡ slice_split p text
+after_none p [] = refl
+after_none p (c ∷ cs) = at (p c) (slice_split p cs)
+  where
+    at : (b : Bool) (pieces : List (List ℕ)) → after_piece [] (cond b ([] ∷ pieces) (onto_first c pieces))
+        ≡ cond b ([] ∷ pieces) (onto_first c pieces)
+    at true pieces = refl
+    at false [] = refl
+    at false (first ∷ pieces) = refl
+
+cut_at : (word piece : List ℕ) (c : ℕ) (cs : List ℕ) (b : Bool)
+    → ((p : List ℕ) → is_any word (after_piece p (slice_split is_comma_or_blank cs)) ≡ has_word_behind word p cs)
+    → is_any word (after_piece piece
+    (cond b ([] ∷ slice_split is_comma_or_blank cs) (onto_first c (slice_split is_comma_or_blank cs))))
+    ≡ (if b then bytes_eq piece word || has_word_behind word [] cs else has_word_behind word (piece ++ c ∷ []) cs)
+cut_at word piece c cs true rest =
+    ap (λ (l : List ℕ). bytes_eq l word || is_any word (slice_split is_comma_or_blank cs)) (append-nil piece)
+    ∙ ap (λ (b : Bool). bytes_eq piece word || b)
+    (sym (ap (is_any word) (after_none is_comma_or_blank cs)) ∙ rest [])
+cut_at word piece c cs false rest =
+    sym (ap (is_any word) (after_byte piece c (slice_split is_comma_or_blank cs))) ∙ rest (piece ++ c ∷ [])
+
+cut_behind : (word piece text : List ℕ)
+    → is_any word (after_piece piece (slice_split is_comma_or_blank text)) ≡ has_word_behind word piece text
+cut_behind word piece [] = rw (append-nil piece) (or-false (bytes_eq piece word))
+cut_behind word piece (c ∷ cs) = cut_at word piece c cs (is_comma_or_blank c) (λ p. cut_behind word p cs)
+
+-- a text that is cut before its first byte
+pub cut_at_once : (word text : List ℕ)
+    → list_any (λ piece. bytes_eq piece word) (slice_split is_comma_or_blank text) ≡ has_word_behind word [] text
+cut_at_once word text = sym (ap (is_any word) (after_none is_comma_or_blank text)) ∙ cut_behind word [] text
+
+piece_more : (text : List ℕ) (from at : ℕ) → from ≤ at → at < length text
+    → take (at + 1 - from) (drop from text) ≡ take (at - from) (drop from text) ++ get_or text at 0 ∷ []
+piece_more text zero at o h =
+    let more : at + 1 - 0 ≡ suc at = omega arith in
+    let less : at - 0 ≡ at = omega arith in
+    rw (more, less) (take-suc text at 0 h)
+piece_more [] (suc from) at o h = absurd (omega (arith, h))
+piece_more (c ∷ cs) (suc from) zero o h = absurd (omega (arith, o))
+piece_more (c ∷ cs) (suc from) (suc at) o h =
+    let more : suc at + 1 - suc from ≡ at + 1 - from = omega arith in
+    let less : suc at - suc from ≡ at - from = omega arith in
+    rw (more, less) (piece_more cs from at (omega (arith, o)) (omega (arith, h)))
+
+by_byte : (word piece : List ℕ) (c : ℕ) (cs : List ℕ) (b : Bool) → is_comma_or_blank c ≡ b
+    → has_word_behind word piece (c ∷ cs)
+    ≡ (if b then bytes_eq piece word || has_word_behind word [] cs else has_word_behind word (piece ++ c ∷ []) cs)
+by_byte word piece c cs b e = rw e refl
+
+-- a byte of a piece
+pub over_byte : (word text : List ℕ) (from at : ℕ) → from ≤ at → at < length text
+    → is_comma_or_blank (get_or text at 0) ≡ false
+    → has_word_behind word (take (at - from) (drop from text)) (drop at text) ≡ has_word_behind word
+    (take (at + 1 - from) (drop from text)) (drop (at + 1) text)
+over_byte word text from at o h e =
+    ap (λ (rest : List ℕ). has_word_behind word (take (at - from) (drop from text)) rest) (drop_more text at 0 h)
+    ∙ by_byte word (take (at - from) (drop from text)) (get_or text at 0) (drop (at + 1) text) false e
+    ∙ ap (λ (piece : List ℕ). has_word_behind word piece (drop (at + 1) text)) (sym (piece_more text from at o h))
+
+nothing_taken : (n : ℕ) (xs : List ℕ) → take (n - n) xs ≡ []
+nothing_taken n xs = let e : n - n ≡ 0 = omega arith in rw e refl
+
+-- a byte after a piece that isn't the word
+pub over_mark : (word text : List ℕ) (from at : ℕ) → at < length text → is_comma_or_blank (get_or text at 0) ≡ true
+    → bytes_eq (take (at - from) (drop from text)) word ≡ false
+    → has_word_behind word (take (at - from) (drop from text)) (drop at text) ≡ has_word_behind word
+    (take (at + 1 - (at + 1)) (drop (at + 1) text)) (drop (at + 1) text)
+over_mark word text from at h e other =
+    ap (λ (rest : List ℕ). has_word_behind word (take (at - from) (drop from text)) rest) (drop_more text at 0 h)
+    ∙ by_byte word (take (at - from) (drop from text)) (get_or text at 0) (drop (at + 1) text) true e
+    ∙ ap (λ b. b || has_word_behind word [] (drop (at + 1) text)) other
+    ∙ ap (λ (piece : List ℕ). has_word_behind word piece (drop (at + 1) text))
+    (sym (nothing_taken (at + 1) (drop (at + 1) text)))

@@ -1,0 +1,7 @@
+-- A quote that is not closed gives no value (ItemRuns.unclosed).
+use Rattle.cecp_engine.proofs.ItemRuns.{unclosed}
+use Rattle.cecp_engine.proofs.item.read_value.Goals as goal
+
+pub returns-else-at-behind : goal.returns-else-at-behind
+returns-else-at-behind c =
+    unclosed c.args.text.now c.quote_at-at.result c.if-first-eq34.true c.quote_at-at.ensures.value c.if-at-behind.false

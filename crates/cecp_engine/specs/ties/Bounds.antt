@@ -1,0 +1,16 @@
+-- How great the numbers of a level and of its clocks are.
+use Rattle.std.specs.Prelude.{◌≤◌}
+use Rattle.cecp_engine.specs.Levels.{LevelSeen, allotted}
+use Rattle.chess_game.specs.declared.game.TheConstants.{MOST_MOVES}
+use Rattle.cecp_engine.specs.Clocks.{Spent}
+
+-- the numbers of a time control are within what a text can denote: 999 moves, 999 minutes and 59 seconds, 999 seconds
+pub record IsLevel (level : LevelSeen) : Type 0 where
+  pub moves : level.moves ≤ 999
+  pub base : level.base ≤ 59999
+  pub increment : level.increment ≤ 999
+
+-- what a side used (`s`) is no more time than the time control gave it, and at most 20,000 moves
+pub record IsWithin (level : LevelSeen) (s : Spent) : Type 0 where
+  pub moves : s.moves ≤ MOST_MOVES
+  pub used : s.used ≤ allotted level s.moves

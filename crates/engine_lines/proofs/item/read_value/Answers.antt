@@ -1,7 +1,0 @@
--- A quote that is not closed gives no value (ItemRuns.unclosed).
-use Rattle.engine_lines.proofs.ItemRuns.{unclosed}
-use Rattle.engine_lines.proofs.item.read_value.Goals as goal
-
-pub returns-else-at-behind : goal.returns-else-at-behind
-returns-else-at-behind c =
-    unclosed c.args.text.now c.quote_at-at.result c.if-first-eq34.true c.quote_at-at.ensures.value c.if-at-behind.false
