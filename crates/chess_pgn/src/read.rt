@@ -14,6 +14,7 @@ ghost use Rattle.chess_pgn.specs.Tokens.{tokens_from};
 ghost use Rattle.chess_pgn.specs.ties.GameSteps.{refusal_kind, EndsIn, so_far, step_seen, IsWithin, IsReadOn, ReadsAlike};
 
 use crate::bytes::is_passed;
+use crate::last_tag::last_tag;
 use crate::skips::after_brace;
 use crate::tag::Tag;
 use crate::termination::Termination;
@@ -406,19 +407,9 @@ fn tagged_variant(text: &[u8], at: usize) -> Variant
     requires { at ≤ length text.now }
     ensures { result ≡ tagged_variant (tokens_from text.now at) }
 {
-    let mut offset = at;
-    let mut variant = Variant::Normal;
-    loop {
-        match next_token(text, offset) {
-            Ok(Some((token, behind))) => {
-                match variant_after(variant, &token) {
-                    Some(told) => variant = told,
-                    None => return variant,
-                }
-                offset = behind;
-            }
-            Ok(None) | Err(_) => return variant,
-        }
+    match last_tag(text, at, b"Variant") {
+        Some(tag) => variant_named(tag.text),
+        None => Variant::Normal,
     }
 }
 
