@@ -1,5 +1,5 @@
 -- Reading a game, token by token.
-use Rattle.std.proofs.Common.{◌≡◌, ℕ, suc, ◌+◌, ◌-◌, ◌≤◌, ◌<◌, ◌||◌, ◌==◌, eqb, Bool, true, false, List, [], ◌∷◌, arith, rules, length, get_or, take, drop, Some, None, is_some, Result, Ok, Err, refl, sym, ap, subst, ◌∙◌, Option, IsNone, OnErr}
+use Rattle.std.proofs.Common.{◌≡◌, ℕ, suc, ◌+◌, ◌-◌, ◌≤◌, ◌<◌, ◌||◌, ◌==◌, eqb, Bool, true, false, cond, List, [], ◌∷◌, arith, rules, length, get_or, take, drop, Some, None, is_some, Result, Ok, Err, refl, sym, ap, subst, ◌∙◌, Option, IsNone, OnErr}
 use Rattle.std.proofs.Math.Seq.{drop-cons}
 use Rattle.std.proofs.lemmas.Bool.Decides.{nat_tests}
 use Rattle.std.proofs.lemmas.List.{length-drop}
@@ -25,10 +25,10 @@ use Rattle.chess_text.specs.Moves.{reading}
 use Rattle.chess_pgn.specs.Words.{word_kind}
 use Rattle.chess_pgn.specs.Tokens.{Token, Skip, Tag, Word, Bad_tag, Unclosed_comment, Unclosed_variation, Bad, after_byte_order_mark, is_white_space, after_brace, token_at, begins_line, tokens_from}
 use Rattle.chess_pgn.specs.GameRead.{SoFar, Step, On, Stop, unless_full, move_step, word_step, fen_step, tag_step, step, go_on, game_of, nothing_read, tagged_variant, tokens_read, pgn_read}
-use Rattle.chess_pgn.specs.ties.TagSteps.{variant_after, variant_then, variant_from}
+use Rattle.chess_pgn.specs.LastTags.{may_precede_tags, named_tag}
 use Rattle.chess_pgn.specs.ties.GameSteps.{so_far, IsReadOn, ReadsAlike, step_seen}
 use Rattle.chess_pgn.proofs.Cuts.{pick}
-use Rattle.chess_pgn.proofs.TagScans.{variants_are}
+use Rattle.chess_pgn.proofs.TagScans.{variant_or, variant_told, variant_from, variants_are}
 use Rattle.chess_pgn.proofs.Walk.{NextToken, next_token, token_more}
 
 -- ---- nothing is declared before the game's end, and nothing after a fault
@@ -151,17 +151,18 @@ tells_begun text from h = record { offset = h; whole = variants_are (tokens_from
 
 pub told_more : (text : List ℕ) (from : ℕ) (v u : Variant) (here behind : ℕ) (t : Token) → Tells text from v here
     → tokens_from text here ≡ (length text - here, t) ∷ tokens_from text behind → behind ≤ length text
-    → Some u ≡ variant_after v t → Tells text from u behind
-told_more text from v u here behind t r is h told = record {
+    → true ≡ may_precede_tags t → u ≡ variant_told v t → Tells text from u behind
+told_more text from v u here behind t r is h may told = record {
   offset = h;
-  whole = ap (λ o. variant_then v o (λ w. variant_from w (tokens_from text behind))) told ∙ ap (variant_from v) (sym is)
-      ∙ r.whole;
+  whole = ap (λ w. variant_from w (tokens_from text behind)) told
+      ∙ ap (λ b. cond b (variant_from (variant_told v t) (tokens_from text behind)) v) may
+      ∙ ap (variant_from v) (sym is) ∙ r.whole;
 }
 
 pub told_last : (text : List ℕ) (from : ℕ) (v : Variant) (here : ℕ) (t : Token) (ts : List (ℕ × Token))
-    → Tells text from v here → tokens_from text here ≡ (length text - here, t) ∷ ts → None ≡ variant_after v t
+    → Tells text from v here → tokens_from text here ≡ (length text - here, t) ∷ ts → false ≡ may_precede_tags t
     → v ≡ tagged_variant (tokens_from text from)
-told_last text from v here t ts r is told = ap (λ o. variant_then v o (λ w. variant_from w ts)) told
+told_last text from v here t ts r is may = ap (λ b. cond b (variant_from (variant_told v t) ts) v) may
     ∙ ap (variant_from v) (sym is) ∙ r.whole
 
 -- a token: what its step gives is gone on with
@@ -220,14 +221,15 @@ first_normal old game start p text here restarted initial none h =
 
 -- one more tag, or what is passed over
 pub more_normal : (limit : ℕ) (text : List ℕ) (from : ℕ) (game new : Seen) (p q : Progress) (here behind : ℕ)
-    (t : Token) → ReadsNormal limit text from game p here
+    (t : Token) (found : Option (List ℕ × ℕ)) → ReadsNormal limit text from game p here
     → tokens_from text here ≡ (length text - here, t) ∷ tokens_from text behind → here < behind
-    → behind ≤ length text → Some Normal ≡ variant_after Normal t → new.limit ≡ game.limit
+    → behind ≤ length text → true ≡ may_precede_tags t → found ≡ named_tag (codes "Variant") t
+    → Normal ≡ variant_or Normal found → new.limit ≡ game.limit
     → On (so_far new.state q) ≡ step game.limit (length text) (so_far game.state p) (length text - here) t
     → ReadsNormal limit text from new q behind
-more_normal limit text from game new p q here behind t r is later h told same step_is = record {
+more_normal limit text from game new p q here behind t found r is later h may named told same step_is = record {
   behind = (let before = r.behind in omega (arith, before, later));
-  tells = told_more text from Normal Normal here behind t r.tells is h told;
+  tells = told_more text from Normal Normal here behind t r.tells is h may (told ∙ ap (variant_or Normal) named);
   undeclared = subst Undeclared (sym step_is)
       (keeps game.limit (length text) (so_far game.state p) (length text - here) t r.undeclared);
   same_limit = same ∙ r.same_limit;
@@ -240,14 +242,14 @@ more_normal limit text from game new p q here behind t r is later h told same st
 -- no more tags
 pub normal_begun : (limit : ℕ) (text : List ℕ) (from : ℕ) (game : Seen) (p : Progress) (here : ℕ) (t : Token)
     (ts : List (ℕ × Token)) → ReadsNormal limit text from game p here
-    → tokens_from text here ≡ (length text - here, t) ∷ ts → None ≡ variant_after Normal t
+    → tokens_from text here ≡ (length text - here, t) ∷ ts → false ≡ may_precede_tags t
     → IsReadOn limit text from game p here
-normal_begun limit text from game p here t ts r is told = record {
+normal_begun limit text from game p here t ts r is may = record {
   behind = r.behind;
   offset = r.tells.offset;
   undeclared = r.undeclared;
   whole = r.whole ∙ ap (λ u. game_of limit (length text) (nothing_read u) (tokens_from text from))
-      (told_last text from Normal here t ts r.tells is told);
+      (told_last text from Normal here t ts r.tells is may);
 }
 
 -- ---- white space and dots, at which nothing counts

@@ -6,6 +6,7 @@ pub mod FenVariants
 pub mod FilledLines
 pub mod GameReads
 pub mod GameTexts
+pub mod LastTagReads
 pub mod MoveBytes
 pub mod NormalGames
 pub mod OfTokens
@@ -15,7 +16,6 @@ pub mod PgnPieces
 pub mod PgnTags
 pub mod PgnWhole
 pub mod PgnWords
-pub mod ResultTagged
 pub mod ShortTokens
 pub mod Skipped
 pub mod Strings

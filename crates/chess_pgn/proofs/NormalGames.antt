@@ -16,12 +16,12 @@ use Rattle.chess_pgn.specs.declared.word.WordKind.{WordKind}
 use Rattle.chess_pgn.specs.declared.word.WordKind.TheVariants.{End, Number, Marks, Move}
 use Rattle.chess_pgn.specs.GameRead.{SoFar, Step, On, Stop, fails, fen_step, tag_step, move_step, word_step, step, unless_full, go_on, game_of, nothing_read, pgn_read, termination_after}
 use Rattle.chess_pgn.specs.GameText.{start_lines_in, last_lines}
-use Rattle.chess_pgn.specs.ties.TagSteps.{variant_after_word, variant_then, variant_from}
+use Rattle.chess_pgn.specs.LastTags.{is_marks}
 use Rattle.chess_pgn.specs.laws.Normal.{normal_tag_step, normal_step, normal_game_of, normal_read, is_mark_word, names_no_variant, NormalIsKept}
 use Rattle.chess_pgn.specs.Tokens.{Token, Skip, Tag, Word, Bad_tag, Unclosed_comment, Unclosed_variation, Bad, after_byte_order_mark, tokens_from}
 use Rattle.chess_pgn.specs.Words.{word_kind}
 use Rattle.chess_pgn.proofs.Cuts.{pick}
-use Rattle.chess_pgn.proofs.TagScans.{variants_are}
+use Rattle.chess_pgn.proofs.TagScans.{variant_from, variants_are}
 use Rattle.chess_pgn.proofs.FenVariants.{read_variant, initial_variant}
 
 -- ---- the variant that is named
@@ -40,7 +40,7 @@ normal_told ((left, Word word) ∷ ts) h = by_kind (λ e. normal_told ts e) (wor
   where
     by_kind : (names_no_variant ts ≡ true → variant_from Normal ts ≡ Normal) → (k : WordKind)
         → cond (not (is_mark_word k)) true (not false && names_no_variant ts) ≡ true
-        → variant_then Normal (variant_after_word Normal k) (λ u. variant_from u ts) ≡ Normal
+        → cond (is_marks k) (variant_from Normal ts) Normal ≡ Normal
     by_kind later (End o) e = refl
     by_kind later Number e = refl
     by_kind later Marks e = later e

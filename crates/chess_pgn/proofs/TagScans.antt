@@ -1,22 +1,16 @@
 -- The last tags, token by token, are those that the definitions give.
-use Rattle.std.proofs.Common.{◌≡◌, ℕ, suc, ◌+◌, ◌-◌, Bool, true, false, cond, List, [], ◌∷◌, take, Option, Some, None, refl, sym, ap, ◌∙◌, arith}
+use Rattle.std.proofs.Common.{◌≡◌, ℕ, suc, ◌+◌, Bool, true, false, cond, List, [], ◌∷◌, take, Option, Some, None, refl, sym, ap, ◌∙◌, arith}
 use Rattle.std.specs.List.{cons_option, filter_map, last_or, prefix_len, take_while}
-use Rattle.std.specs.Option.{option_map, option_map_or, option_or}
-use Rattle.std.specs.Prelude.{codes}
-use Rattle.std.specs.Str.{bytes_eq}
+use Rattle.std.specs.Option.{option_map_or, option_or}
+use Rattle.std.specs.Prelude.{if◌then◌else◌, codes}
 use Rattle.chess_base.specs.declared.man.Variant.{Variant}
 use Rattle.chess_base.specs.declared.man.Variant.TheVariants.{Normal}
-use Rattle.chess_pgn.specs.declared.results.ResultTag.{ResultTag}
-use Rattle.chess_pgn.specs.declared.word.WordKind.{WordKind}
-use Rattle.chess_pgn.specs.declared.word.WordKind.TheVariants.{End, Number, Marks, Move}
 use Rattle.chess_pgn.specs.GameRead.{variant_named, tagged_variant}
-use Rattle.chess_pgn.specs.LastTags.{is_marks, may_precede_tags, named_tag, last_tag}
-use Rattle.chess_pgn.specs.ties.TagSteps.{result_after, result_from, variant_after_word, variant_after, variant_then, variant_from}
-use Rattle.chess_pgn.specs.Tokens.{Token, Skip, Tag, Word, Bad_tag, Unclosed_comment, Unclosed_variation, Bad}
-use Rattle.chess_pgn.specs.Words.{outcome_of, word_kind}
+use Rattle.chess_pgn.specs.LastTags.{may_precede_tags, named_tag}
+use Rattle.chess_pgn.specs.Tokens.{Token}
 
 -- the last tag of a name among tokens, or the one before them
-abbrev last_from : List ℕ → Option (List ℕ × ℕ) → List (ℕ × Token) → Option (List ℕ × ℕ)
+abbrev pub last_from : List ℕ → Option (List ℕ × ℕ) → List (ℕ × Token) → Option (List ℕ × ℕ)
 last_from name before tokens =
     last_or before (filter_map (λ t. named_tag name t.1) (take_while (λ t. may_precede_tags t.1) tokens))
 
@@ -26,7 +20,7 @@ next_found before None others = refl
 next_found before (Some tag) others = refl
 
 -- one token more
-last_step : (name : List ℕ) (before : Option (List ℕ × ℕ)) (t : ℕ × Token) (ts : List (ℕ × Token))
+pub last_step : (name : List ℕ) (before : Option (List ℕ × ℕ)) (t : ℕ × Token) (ts : List (ℕ × Token))
     → last_from name before (t ∷ ts)
     ≡ cond (may_precede_tags t.1) (last_from name (option_or (named_tag name t.1) before) ts) before
 last_step name before t ts = by_test (may_precede_tags t.1)
@@ -41,84 +35,42 @@ last_step name before t ts = by_test (may_precede_tags t.1)
         rw next (next_found before (named_tag name t.1) (filter_map (λ u. named_tag name u.1) (take n ts)))
     by_test false = refl
 
--- ---- the tag Result
-
-abbrev result_of : ℕ → Option (List ℕ × ℕ) → Option ResultTag
-result_of total tag = option_map (λ t. record { outcome = outcome_of t.0; offset = total - t.1 }) tag
-
-result_after_is : (total : ℕ) (before : Option (List ℕ × ℕ)) (t : Token)
-    → result_after total (result_of total before) t ≡ result_of total (option_or (named_tag (codes "Result") t) before)
-result_after_is total before Skip = refl
-result_after_is total before (Tag name text left) = by_test (bytes_eq name (codes "Result"))
-  where
-    by_test : (b : Bool)
-        → cond b (Some (record { outcome = outcome_of text; offset = total - left })) (result_of total before)
-        ≡ result_of total (option_or (cond b (Some (text, left)) None) before)
-    by_test true = refl
-    by_test false = refl
-result_after_is total before (Word word) = refl
-result_after_is total before Bad_tag = refl
-result_after_is total before (Unclosed_comment left) = refl
-result_after_is total before Unclosed_variation = refl
-result_after_is total before Bad = refl
-
-result_from_is : (total : ℕ) (before : Option (List ℕ × ℕ)) (ts : List (ℕ × Token))
-    → result_from total (result_of total before) ts ≡ result_of total (last_from (codes "Result") before ts)
-result_from_is total before [] = refl
-result_from_is total before (t ∷ ts) =
-    by_test (may_precede_tags t.1) (result_from_is total (option_or (named_tag (codes "Result") t.1) before) ts)
-    ∙ ap (result_of total) (sym (last_step (codes "Result") before t ts))
-  where
-    by_test : (b : Bool) → result_from total (result_of total (option_or (named_tag (codes "Result") t.1) before)) ts
-        ≡ result_of total (last_from (codes "Result") (option_or (named_tag (codes "Result") t.1) before) ts)
-        → cond b (result_from total (result_after total (result_of total before) t.1) ts) (result_of total before)
-        ≡ result_of total
-        (cond b (last_from (codes "Result") (option_or (named_tag (codes "Result") t.1) before) ts) before)
-    by_test true later = ap (λ r. result_from total r ts) (result_after_is total before t.1) ∙ later
-    by_test false later = refl
-
-pub results_are : (total : ℕ) (ts : List (ℕ × Token)) → result_from total None ts
-    ≡ option_map (λ tag. record { outcome = outcome_of tag.0; offset = total - tag.1 }) (last_tag (codes "Result") ts)
-results_are total ts = result_from_is total None ts
-
 -- ---- the variant
 
-abbrev variant_of : Option (List ℕ × ℕ) → Variant
-variant_of tag = option_map_or (λ t. variant_named t.0) tag Normal
+-- the variant that a tag Variant names; `v` if there is none
+abbrev pub variant_or : Variant → Option (List ℕ × ℕ) → Variant
+variant_or v tag = option_map_or (λ t. variant_named t.0) tag v
+
+-- the variant told after one more token: what a tag Variant names, else `v`, the variant so far
+abbrev pub variant_told : Variant → Token → Variant
+variant_told v t = variant_or v (named_tag (codes "Variant") t)
+
+-- the variant that the last tag Variant of these tokens names, as far as they can be the game's tags; `v`, the variant
+-- so far, if there is none
+abbrev pub variant_from : Variant → List (ℕ × Token) → Variant
+variant_from v [] = v
+variant_from v (t ∷ ts) = if may_precede_tags t.1 then variant_from (variant_told v t.1) ts else v
+
+told_or : (found before : Option (List ℕ × ℕ))
+    → variant_or (variant_or Normal before) found ≡ variant_or Normal (option_or found before)
+told_or None before = refl
+told_or (Some tag) before = refl
 
 variant_from_is : (before : Option (List ℕ × ℕ)) (ts : List (ℕ × Token))
-    → variant_from (variant_of before) ts ≡ variant_of (last_from (codes "Variant") before ts)
+    → variant_from (variant_or Normal before) ts ≡ variant_or Normal (last_from (codes "Variant") before ts)
 variant_from_is before [] = refl
 variant_from_is before (t ∷ ts) =
-    by_token t.1 (λ o. variant_from_is o ts) ∙ ap variant_of (sym (last_step (codes "Variant") before t ts))
+    by_test (may_precede_tags t.1) (variant_from_is (option_or (named_tag (codes "Variant") t.1) before) ts)
+    ∙ ap (variant_or Normal) (sym (last_step (codes "Variant") before t ts))
   where
-    Later : Type 0
-    Later = (o : Option (List ℕ × ℕ)) → variant_from (variant_of o) ts ≡ variant_of (last_from (codes "Variant") o ts)
-
-    by_name : (text : List ℕ) (left : ℕ) (b : Bool) → Later → variant_from (cond b (variant_named text) (variant_of before)) ts
-        ≡ variant_of (last_from (codes "Variant") (option_or (cond b (Some (text, left)) None) before) ts)
-    by_name text left true later = later (Some (text, left))
-    by_name text left false later = later before
-
-    by_kind : (k : WordKind) → Later
-        → variant_then (variant_of before) (variant_after_word (variant_of before) k) (λ u. variant_from u ts)
-        ≡ variant_of (cond (is_marks k) (last_from (codes "Variant") before ts) before)
-    by_kind (End o) later = refl
-    by_kind Number later = refl
-    by_kind Marks later = later before
-    by_kind Move later = refl
-
-    by_token : (t : Token) → Later
-        → variant_then (variant_of before) (variant_after (variant_of before) t) (λ u. variant_from u ts)
-        ≡ variant_of (cond (may_precede_tags t)
-        (last_from (codes "Variant") (option_or (named_tag (codes "Variant") t) before) ts) before)
-    by_token Skip later = later before
-    by_token (Tag name text left) later = by_name text left (bytes_eq name (codes "Variant")) later
-    by_token (Word word) later = by_kind (word_kind word) later
-    by_token Bad_tag later = refl
-    by_token (Unclosed_comment left) later = refl
-    by_token Unclosed_variation later = refl
-    by_token Bad later = refl
+    by_test : (b : Bool) → variant_from (variant_or Normal (option_or (named_tag (codes "Variant") t.1) before)) ts
+        ≡ variant_or Normal (last_from (codes "Variant") (option_or (named_tag (codes "Variant") t.1) before) ts)
+        → cond b (variant_from (variant_told (variant_or Normal before) t.1) ts) (variant_or Normal before)
+        ≡ variant_or Normal
+        (cond b (last_from (codes "Variant") (option_or (named_tag (codes "Variant") t.1) before) ts) before)
+    by_test true later =
+        ap (λ v. variant_from v ts) (told_or (named_tag (codes "Variant") t.1) before) ∙ later
+    by_test false later = refl
 
 pub variants_are : (ts : List (ℕ × Token)) → variant_from Normal ts ≡ tagged_variant ts
 variants_are ts = variant_from_is None ts

@@ -1,5 +1,5 @@
 -- The variant that the tags of a written game name.
-use Rattle.std.proofs.Common.{◌≡◌, ℕ, ◌<◌, ◌≤◌, Bool, true, false, cond, eqb, List, [], ◌∷◌, ◌++◌, length, Some, None, refl, ap, subst, ◌∙◌, append_assoc, arith}
+use Rattle.std.proofs.Common.{◌≡◌, ℕ, ◌<◌, ◌≤◌, Bool, true, false, cond, eqb, List, [], ◌∷◌, ◌++◌, length, refl, ap, subst, ◌∙◌, append_assoc, arith}
 use Rattle.std.specs.List.{list_all}
 use Rattle.std.specs.Prelude.{codes, decimal}
 use Rattle.std.specs.Str.{bytes_eq}
@@ -20,7 +20,7 @@ use Rattle.chess_pgn.specs.declared.tags.Tags.{Tags}
 use Rattle.chess_pgn.specs.declared.word.WordKind.TheVariants.{Number}
 use Rattle.chess_pgn.specs.declared.termination.Termination.{Termination}
 use Rattle.chess_pgn.specs.Terminations.{termination_text, termination_of}
-use Rattle.chess_pgn.specs.ties.TagSteps.{variant_after_word, variant_after, variant_then, variant_from}
+use Rattle.chess_pgn.specs.LastTags.{is_marks, may_precede_tags}
 use Rattle.chess_pgn.specs.GameText.{is_initial, fen_lines, start_lines_in, last_lines, further_lines, tag_lines, number_token, move_tokens, game_tokens}
 use Rattle.chess_pgn.specs.laws.PgnLaw.{AreTagTexts}
 use Rattle.chess_text.specs.San.{san}
@@ -32,6 +32,7 @@ use Rattle.chess_pgn.proofs.PgnFen.{fen_bare}
 use Rattle.chess_pgn.proofs.PgnPieces.{termination_bare}
 use Rattle.chess_pgn.proofs.PgnTags.{is_in_line, bare_in_line, is_tag_name, tag_token, tag_line_bytes, tag_text_in_line}
 use Rattle.chess_pgn.proofs.PgnWords.{word_token, number_kind, decimal_digits, decimal_some, number_bytes}
+use Rattle.chess_pgn.proofs.TagScans.{variant_told, variant_from}
 use Rattle.chess_pgn.proofs.Walk.{enough, shorter}
 
 -- the variant named from a text on
@@ -39,30 +40,32 @@ abbrev pub told_on : Variant → Bool → List ℕ → Variant
 told_on v begins text = variant_from v (tokens_of (length text) begins text)
 
 behind : Variant → ℕ → Token × List ℕ → ℕ → Variant
-behind v c t most = variant_then v (variant_after v t.0) (λ u. variant_from u (tokens_of most (eqb c 10) t.1))
+behind v c t most =
+    cond (may_precede_tags t.0) (variant_from (variant_told v t.0) (tokens_of most (eqb c 10) t.1)) v
 
 token_tells : (v u : Variant) (begins : Bool) (c : ℕ) (rest : List ℕ) (token : Token) (more : List ℕ)
-    → token_at begins c rest ≡ (token, more) → variant_after v token ≡ Some u
+    → token_at begins c rest ≡ (token, more) → may_precede_tags token ≡ true → variant_told v token ≡ u
     → told_on v begins (c ∷ rest) ≡ told_on u (eqb c 10) more
 unfolding tokens_of behind
-token_tells v u begins c rest token more is told =
+token_tells v u begins c rest token more is may told =
     let few : length more ≤ length rest = subst (λ (t : Token × List ℕ). length t.1 ≤ length rest) is
     (shorter begins c rest) in
     ap (λ (t : Token × List ℕ). behind v c t (length rest)) is
-    ∙ ap (λ o. variant_then v o (λ w. variant_from w (tokens_of (length rest) (eqb c 10) more))) told
+    ∙ ap (λ b. cond b (variant_from (variant_told v token) (tokens_of (length rest) (eqb c 10) more)) v) may
+    ∙ ap (λ w. variant_from w (tokens_of (length rest) (eqb c 10) more)) told
     ∙ ap (variant_from u) (enough (length rest) (length more) (eqb c 10) more few (omega arith))
 
 token_stops : (v : Variant) (begins : Bool) (c : ℕ) (rest : List ℕ) (token : Token) (more : List ℕ)
-    → token_at begins c rest ≡ (token, more) → variant_after v token ≡ None → told_on v begins (c ∷ rest) ≡ v
+    → token_at begins c rest ≡ (token, more) → may_precede_tags token ≡ false → told_on v begins (c ∷ rest) ≡ v
 unfolding tokens_of behind
-token_stops v begins c rest token more is told =
+token_stops v begins c rest token more is may =
     ap (λ (t : Token × List ℕ). behind v c t (length rest)) is
-    ∙ ap (λ o. variant_then v o (λ w. variant_from w (tokens_of (length rest) (eqb c 10) more))) told
+    ∙ ap (λ b. cond b (variant_from (variant_told v token) (tokens_of (length rest) (eqb c 10) more)) v) may
 
 line_end_tells : (v : Variant) (begins : Bool) (rest : List ℕ) → told_on v begins (10 ∷ rest) ≡ told_on v true rest
 unfolding token_at
-line_end_tells v true rest = token_tells v v true 10 rest Skip rest refl refl
-line_end_tells v false rest = token_tells v v false 10 rest Skip rest refl refl
+line_end_tells v true rest = token_tells v v true 10 rest Skip rest refl refl refl
+line_end_tells v false rest = token_tells v v false 10 rest Skip rest refl refl refl
 
 -- ---- lines of tags
 
@@ -70,12 +73,12 @@ abbrev TellsLine : Variant → Variant → List ℕ → Type 0
 TellsLine v u line = (begins : Bool) (rest : List ℕ) → told_on v begins (line ++ 10 ∷ rest) ≡ told_on u true rest
 
 tag_tells : (v u : Variant) (name text : List ℕ) → is_tag_name name ≡ true → list_all is_in_line text ≡ true
-    → ((string : ℕ) → variant_after v (Tag name (escaped text) string) ≡ Some u) → TellsLine v u (tag_line name text)
+    → ((string : ℕ) → variant_told v (Tag name (escaped text) string) ≡ u) → TellsLine v u (tag_line name text)
 tag_tells v u name text named line next begins rest =
     let string : List ℕ = escaped text ++ 34 ∷ 93 ∷ 10 ∷ rest in
     ap (told_on v begins) (tag_line_bytes name text (10 ∷ rest))
     ∙ token_tells v u begins 91 (name ++ 32 ∷ 34 ∷ string) (Tag name (escaped text) (length string)) (10 ∷ rest)
-    (tag_token begins name text (10 ∷ rest) named line) (next (length string))
+    (tag_token begins name text (10 ∷ rest) named line) refl (next (length string))
     ∙ line_end_tells u false rest
 
 other_tag : (v : Variant) (name text : List ℕ) → is_tag_name name ≡ true → bytes_eq name (codes "Variant") ≡ false
@@ -203,7 +206,7 @@ digits_stop : (v : Variant) (word : List ℕ) (begins : Bool) (rest : List ℕ) 
     → list_all is_word_byte word ≡ true → word_kind word ≡ Number → told_on v begins (word ++ 46 ∷ rest) ≡ v
 digits_stop v [] begins rest some all kind = absurd (omega arith)
 digits_stop v (c ∷ cs) begins rest some all kind = token_stops v begins c (cs ++ 46 ∷ rest) (Word (c ∷ cs)) (46 ∷ rest)
-    (word_token begins c cs 46 rest all refl) (ap (variant_after_word v) kind)
+    (word_token begins c cs 46 rest all refl) (ap is_marks kind)
 
 number_stops : (v : Variant) (n : ℕ) (begins : Bool) (rest : List ℕ) → n ≤ 999999
     → told_on v begins (decimal n ++ 46 ∷ rest) ≡ v

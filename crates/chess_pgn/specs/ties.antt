@@ -1,7 +1,6 @@
 -- What only joins code to the definitions: no claim rests on it.
 pub mod Seen
 pub mod TagParts
-pub mod TagSteps
 pub mod VariationParts
 pub mod Waiting
 pub mod GameSteps

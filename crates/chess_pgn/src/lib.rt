@@ -13,6 +13,7 @@
 
 mod buffer;
 mod bytes;
+mod last_tag;
 mod laws;
 mod lines;
 mod read;

@@ -3,17 +3,18 @@
 ghost use Rattle.std.specs.Prelude.{◌≡◌, ℕ, ◌+◌, ◌-◌, ◌^◌, ◌≤◌, ◌<◌, true, false, length, None, IfOk, Err, is_some, IsNone, IsTrue, OnErr};
 ghost use Rattle.std.specs.Option.{IfSome, option_map_or};
 ghost use Rattle.chess_game.specs.Game.{State, with_state as left_at, with_declared, current, verdict_now, refusal_now};
+ghost use Rattle.chess_base.specs.declared.man.Variant.TheVariants.{Normal};
 ghost use Rattle.chess_base.specs.Moves.{is_legal};
 ghost use Rattle.chess_text.specs.Moves.{reading};
 ghost use Rattle.chess_text.specs.declared.reading.Reading.TheVariants as reads;
 ghost use Rattle.chess_pgn.specs.Words.{word_kind};
-ghost use Rattle.chess_pgn.specs.ties.Seen.{token_seen, fault_seen};
+ghost use Rattle.chess_pgn.specs.ties.Seen.{found_seen, token_seen, fault_seen};
 ghost use Rattle.chess_pgn.specs.GameRead.{declared_after, termination_after, move_step, word_step, tag_step, step, variant_named, tagged_variant, pgn_read};
-ghost use Rattle.chess_pgn.specs.ties.TagSteps.{variant_after};
 ghost use Rattle.chess_pgn.specs.Tokens.{tokens_from};
 ghost use Rattle.chess_pgn.specs.ties.GameSteps.{refusal_kind, EndsIn, so_far, step_seen, IsWithin, IsReadOn, ReadsAlike};
 
 use crate::bytes::is_passed;
+use crate::last_tag::{last_tag, may_precede_tags, named_tag};
 use crate::skips::after_brace;
 use crate::tag::Tag;
 use crate::termination::Termination;
@@ -379,24 +380,13 @@ fn variant_named(text: &[u8]) -> Variant
     }
 }
 
-// The variant after one more token: what a tag `Variant` names, else `variant`, the variant so far; `None` if no more
-// tags of the game may follow this token.
-pub(crate) fn variant_after(variant: Variant, token: &Token<'_>) -> Option<Variant>
-    ensures { result ≡ variant_after variant (token_seen token.now) }
+// The variant that a game's tag `Variant` names; normal chess where there is no such tag.
+fn variant_of(tag: Option<Tag<'_>>) -> Variant
+    ensures { result ≡ option_map_or (λ t. variant_named t.0) (found_seen tag.entry) Normal }
 {
-    match token {
-        Token::Skip => Some(variant),
-        Token::Tag(tag) => {
-            if let b"Variant" = tag.name {
-                Some(variant_named(tag.text))
-            } else {
-                Some(variant)
-            }
-        }
-        Token::Word(word) => match word_kind(word) {
-            WordKind::Marks => Some(variant),
-            _ => None,
-        },
+    match tag {
+        Some(tag) => variant_named(tag.text),
+        None => Variant::Normal,
     }
 }
 
@@ -406,6 +396,7 @@ fn tagged_variant(text: &[u8], at: usize) -> Variant
     requires { at ≤ length text.now }
     ensures { result ≡ tagged_variant (tokens_from text.now at) }
 {
+<<<<<<< HEAD
     let mut offset = at;
     let mut variant = Variant::Normal;
     loop {
@@ -420,6 +411,9 @@ fn tagged_variant(text: &[u8], at: usize) -> Variant
             Ok(None) | Err(_) => return variant,
         }
     }
+=======
+    variant_of(last_tag(text, at, b"Variant"))
+>>>>>>> 4f55c384a06e5df27f2967286ad22c83bf1c17b2
 }
 
 // Skips white space and dots from `at` on, and returns the offset after them. `next_token` would skip them one by one;
@@ -492,10 +486,12 @@ fn read_normal_tags<B: Board>(
         let Ok(Some((token, behind))) = next_token(text, offset) else {
             return None;
         };
-        match variant_after(Variant::Normal, &token) {
-            None => return Some((progress, offset)),
-            Some(Variant::Fischerandom) => return None,
-            Some(Variant::Normal) => {}
+        if !may_precede_tags(&token) {
+            return Some((progress, offset));
+        }
+        match variant_of(named_tag(b"Variant", &token)) {
+            Variant::Normal => {}
+            Variant::Fischerandom => return None,
         }
         match read_token(game, progress, text.len(), offset, &token) {
             Ok(Step::On(further)) => progress = further,

@@ -1,6 +1,7 @@
 -- What the reader of tokens answers, in the words of the definitions.
 use Rattle.std.specs.Prelude.{◌≡◌, ℕ, ◌-◌, ◌<◌, ◌≤◌, List, [], ◌∷◌, length, Option, Some, None, Result, Ok, Err}
 use Rattle.std.specs.Borrow.{Bor}
+use Rattle.std.specs.Option.{option_map}
 use Rattle.chess_pgn.specs.declared.tag.Tag.{Tag}
 use Rattle.chess_pgn.specs.declared.token.Token.{Token}
 use Rattle.chess_pgn.specs.declared.token.Token.TheVariants as token
@@ -14,6 +15,10 @@ use Rattle.chess_pgn.specs.Tokens.{tokens_from}
 abbrev pub tag_seen : Option (Tag × Bor (List ℕ)) → told.Token × List ℕ
 tag_seen None = (told.Bad_tag, [])
 tag_seen (Some r) = (told.Tag r.0.name.now r.0.text.now r.0.left, r.1.now)
+
+-- the tag that the code found, as the definitions have it: its text, and how many bytes are left where that begins
+abbrev pub found_seen : Option Tag → Option (List ℕ × ℕ)
+found_seen tag = option_map (λ t. (t.text.now, t.left)) tag
 
 -- the code's token as the definitions have it: with lists of bytes in place of borrows
 abbrev pub token_seen : Token → told.Token

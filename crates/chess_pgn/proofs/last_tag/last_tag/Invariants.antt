@@ -1,9 +1,9 @@
 use Rattle.std.proofs.Common.{length, ◌-◌}
-use Rattle.chess_pgn.proofs.GameReads.{Tells}
-use Rattle.chess_pgn.proofs.read.tagged_variant.Given as goal
+use Rattle.chess_pgn.proofs.LastTagReads.{Reads}
+use Rattle.chess_pgn.proofs.last_tag.last_tag.Given as goal
 
 abbrev pub invariant-loop-token : goal.invariant-loop-token
-invariant-loop-token l = Tells l.text l.at l.variant l.offset
+invariant-loop-token l = Reads l.text l.name l.at l.last l.offset
 
 abbrev pub decreases-loop-token : goal.decreases-loop-token
 decreases-loop-token l = length l.text - l.offset

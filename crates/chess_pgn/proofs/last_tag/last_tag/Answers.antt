@@ -1,0 +1,12 @@
+-- One more token keeps that what is left gives the whole (LastTagReads.one_more).
+use Rattle.std.proofs.Common.{sym, ◌∙◌}
+use Rattle.chess_pgn.specs.ties.Seen.{token_seen}
+use Rattle.chess_pgn.proofs.LastTagReads.{one_more}
+use Rattle.chess_pgn.proofs.last_tag.last_tag.Goals as goal
+
+pub loop-token-preserved : goal.loop-token-preserved
+loop-token-preserved c =
+    let next = rw c.in-Ok-Some.field-0-is at c.in-Ok-Some.ensures in
+    one_more c.args.text.now c.args.name.now c.args.at c.loop-token.last c.named_tag.result c.or-last.result
+    c.loop-token.offset c.in-Ok-Some.behind (token_seen c.in-Ok-Some.token) c.loop-token.invariant next.0 next.2
+    (sym c.if-not-may_precede_tags.false ∙ c.may_precede_tags.ensures) c.named_tag.ensures c.or-last.ensures

@@ -1,0 +1,57 @@
+//! The last tag of a name among a game's tags.
+
+ghost use Rattle.std.specs.Prelude.{◌≡◌, ◌≤◌, length};
+ghost use Rattle.std.specs.Option.{IfSome};
+ghost use Rattle.chess_pgn.specs.LastTags.{may_precede_tags, named_tag, last_tag};
+ghost use Rattle.chess_pgn.specs.Tokens.{tokens_from};
+ghost use Rattle.chess_pgn.specs.ties.Seen.{found_seen, token_seen};
+
+use crate::tag::Tag;
+use crate::token::{Token, next_token};
+use crate::word::{WordKind, word_kind};
+
+/// Whether more tags of the same game may come after this token: it is skipped, a tag, or marks such as `!?`.
+pub(crate) fn may_precede_tags(token: &Token<'_>) -> bool
+    ensures { result ≡ may_precede_tags (token_seen token.now) }
+{
+    match token {
+        Token::Skip | Token::Tag(_) => true,
+        Token::Word(word) => match word_kind(word) {
+            WordKind::Marks => true,
+            _ => false,
+        },
+    }
+}
+
+/// The token's tag, if it is a tag of this name.
+pub(crate) fn named_tag<'t>(name: &[u8], token: &Token<'t>) -> Option<Tag<'t>>
+    ensures { found_seen result ≡ named_tag name.now (token_seen token.now) }
+{
+    match token {
+        Token::Tag(tag) => { if tag.name == name { Some(*tag) } else { None } }
+        Token::Skip | Token::Word(_) => None,
+    }
+}
+
+/// The last tag of this name, of the game whose first token is at the offset `at`; `None` where it has none before its
+/// first number, move or outcome.
+pub(crate) fn last_tag<'t>(text: &'t [u8], at: usize, name: &[u8]) -> Option<Tag<'t>>
+    requires { at ≤ length text.now }
+    ensures tag { found_seen result ≡ last_tag name.now (tokens_from text.now at) }
+    ensures within { IfSome result (λ tag. tag.left ≤ length text.now) }
+{
+    let mut offset = at;
+    let mut last = None;
+    loop {
+        match next_token(text, offset) {
+            Ok(Some((token, behind))) => {
+                if !may_precede_tags(&token) {
+                    return last;
+                }
+                last = named_tag(name, &token).or(last);
+                offset = behind;
+            }
+            Ok(None) | Err(_) => return last,
+        }
+    }
+}
