@@ -396,24 +396,7 @@ fn tagged_variant(text: &[u8], at: usize) -> Variant
     requires { at ≤ length text.now }
     ensures { result ≡ tagged_variant (tokens_from text.now at) }
 {
-<<<<<<< HEAD
-    let mut offset = at;
-    let mut variant = Variant::Normal;
-    loop {
-        match next_token(text, offset) {
-            Ok(Some((token, behind))) => {
-                match variant_after(variant, &token) {
-                    Some(named) => variant = named,
-                    None => return variant,
-                }
-                offset = behind;
-            }
-            Ok(None) | Err(_) => return variant,
-        }
-    }
-=======
     variant_of(last_tag(text, at, b"Variant"))
->>>>>>> 4f55c384a06e5df27f2967286ad22c83bf1c17b2
 }
 
 // Skips white space and dots from `at` on, and returns the offset after them. `next_token` would skip them one by one;
