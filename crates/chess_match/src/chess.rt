@@ -15,6 +15,7 @@ use crate::block::Block;
 use crate::match_game::MatchGame;
 use crate::reason::DrawClaim;
 use crate::texts::MoveTexts;
+use byte_devices::append;
 use chess_base::{Colour, Kind, Man, Move, Position, Variant};
 use chess_fen::{FenText, write_fen};
 use chess_game::{Claims, Game, Verdict};

@@ -14,6 +14,7 @@ use crate::match_game::MatchGame;
 use crate::phase::Phase;
 use crate::reason::{MatchFault, Reason};
 use crate::state::{Actions, MatchState};
+use byte_devices::append;
 use cecp_engine::Features;
 use chess_base::{Colour, Variant, same_colour};
 

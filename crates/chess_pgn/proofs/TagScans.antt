@@ -41,7 +41,7 @@ last_step name before t ts = by_test (may_precede_tags t.1)
 abbrev pub variant_or : Variant → Option (List ℕ × ℕ) → Variant
 variant_or v tag = option_map_or (λ t. variant_named t.0) tag v
 
--- the variant told after one more token: what a tag Variant names, else `v`, the variant so far
+-- the variant after one more token: what a tag Variant names, else `v`, the variant so far
 abbrev pub variant_told : Variant → Token → Variant
 variant_told v t = variant_or v (named_tag (codes "Variant") t)
 

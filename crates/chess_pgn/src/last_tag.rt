@@ -27,10 +27,10 @@ pub(crate) fn may_precede_tags(token: &Token<'_>) -> bool
 pub(crate) fn named_tag<'t>(name: &[u8], token: &Token<'t>) -> Option<Tag<'t>>
     ensures { found_seen result ≡ named_tag name.now (token_seen token.now) }
 {
-    match token {
-        Token::Tag(tag) => { if tag.name == name { Some(*tag) } else { None } }
-        Token::Skip | Token::Word(_) => None,
-    }
+    let Token::Tag(tag) = token else {
+        return None;
+    };
+    if tag.name == name { Some(*tag) } else { None }
 }
 
 /// The last tag of this name, of the game whose first token is at the offset `at`; `None` where it has none before its

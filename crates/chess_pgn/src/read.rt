@@ -381,6 +381,7 @@ fn variant_named(text: &[u8]) -> Variant
 }
 
 // The variant that a game's tag `Variant` names; normal chess where there is no such tag.
+#[inline(always)]
 fn variant_of(tag: Option<Tag<'_>>) -> Variant
     ensures { result ≡ option_map_or (λ t. variant_named t.0) (found_seen tag.entry) Normal }
 {

@@ -7,8 +7,8 @@ returns-in-Game-clause-text c =
     rw (
       c.in-Game.is,
       c.write_termination.ensures.text,
-      c.write_text-in-Game.ensures.text,
+      c.append-in-Game.ensures.text,
       c.text.ensures.value,
-      c.write_text.ensures.text,
-      c.write_number.ensures.text,
+      c.append.ensures.text,
+      c.append_number.ensures.text,
     ) (simp append_assoc)

@@ -15,8 +15,8 @@ returns-in-Some-clause-text g c r p =
     c.in-Some.ensures.text ∙ ap fen_sent c.start.ensures ∙ ap (λ (x : Rules). x.start_fen) (sym p.1) in
     rw (
       ← told,
-      c.add-in-Some-2.ensures.text,
-      c.add-in-Some.ensures.text,
-      c.add.ensures.text,
+      c.append-in-Some-2.ensures.text,
+      c.append-in-Some.ensures.text,
+      c.append.ensures.text,
       c.as_slice.ensures.value,
     ) (in_parts c.args.block.now.items _ c.in-Some.text.items)
