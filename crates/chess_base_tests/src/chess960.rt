@@ -1,21 +1,7 @@
+use crate::playing::play;
 use chess_base::{Colour, ColourRights, Kind, Man, Move, Position, Rights, Setup, Square, Variant};
 use chess_fen::{read_fen_as, write_fen};
 use std::test::Fail;
-
-fn square(file: u8, rank: u8) -> Square {
-    Square::new(rank.wrapping_sub(b'1') % 8 * 8 + file.wrapping_sub(b'a') % 8)
-}
-
-fn play(position: Position, squares: &[u8; 4]) -> Option<Position> {
-    let [from_file, from_rank, to_file, to_rank] = *squares;
-    let m = Move {
-        from: square(from_file, from_rank),
-        to: square(to_file, to_rank),
-        promotion: None,
-    };
-    let again = m;
-    position.is_legal(m).then(|| position.after(again))
-}
 
 // A position, the squares of king and rook, and the FEN after castling; nothing where it is illegal. The king stays,
 // the rook stays, and they change places, on both sides; then out of, through and into attacked squares, with b1
@@ -69,7 +55,7 @@ fn castling_leaves_its_positions(rt: HostRuntime) -> Result<(), Fail> {
         let start = read_fen_as(Variant::Fischerandom, start)
             .ok()
             .ok_or("sound")?;
-        match play(start, squares) {
+        match play(start, squares, None) {
             Some(position) => assert_eq!(rt; write_fen(&position).as_slice(), *fen),
             None => assert!(rt; fen.is_empty(), "at {squares:?}"),
         }

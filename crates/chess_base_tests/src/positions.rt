@@ -1,8 +1,10 @@
+use crate::playing::play;
 use chess_base::{
     Colour, ColourRights, FenFault, Kind, Man, Move, Position, Rights, Setup, Square, Variant,
 };
 use chess_fen::{read_fen, write_fen};
 use perft_positions::{KIWIPETE, NORMAL, Perft};
+use std::alloc::Global;
 use std::process::Abort;
 use std::test::Fail;
 
@@ -57,29 +59,9 @@ const PROMOTIONS: [Option<Kind>; 5] = [
     Some(Kind::Knight),
 ];
 
-// How many legal moves a position has, asked for each of the 64 * 64 * 5 that can be written.
-fn legal_moves(position: &Position) -> u32 {
-    let mut count: u32 = 0;
-    for from in 0..64 {
-        for to in 0..64 {
-            for promotion in PROMOTIONS {
-                let m = Move {
-                    from: Square::new(from),
-                    to: Square::new(to),
-                    promotion,
-                };
-                if position.is_legal(m) {
-                    count = count.saturating_add(1);
-                }
-            }
-        }
-    }
-    count
-}
-
-// How many pairs of a legal move and a legal answer a position has.
-fn legal_pairs(position: &Position) -> u32 {
-    let mut count: u32 = 0;
+// The positions after each legal move, asked for each of the 64 * 64 * 5 that can be written.
+fn positions_after(alloc: Global, position: &Position) -> Result<Vec<Position>, Fail> {
+    let mut reached = Vec::new(alloc);
     for from in 0..64 {
         for to in 0..64 {
             for promotion in PROMOTIONS {
@@ -90,20 +72,35 @@ fn legal_pairs(position: &Position) -> u32 {
                 };
                 let again = m;
                 if position.is_legal(m) {
-                    count = count.saturating_add(legal_moves(&position.after(again)));
+                    reached.push(position.after(again))?;
                 }
             }
         }
     }
-    count
+    Ok(reached)
+}
+
+// How many legal moves a position has.
+fn legal_moves(alloc: Global, position: &Position) -> Result<usize, Fail> {
+    Ok(positions_after(alloc, position)?.len())
+}
+
+// How many pairs of a legal move and a legal answer a position has.
+fn legal_pairs(alloc: Global, position: &Position) -> Result<usize, Fail> {
+    let mut count: usize = 0;
+    let reached = positions_after(alloc, position)?;
+    for after in &reached {
+        count = count.saturating_add(legal_moves(alloc, after)?);
+    }
+    Ok(count)
 }
 
 // Counts the moves of the position of each row.
-fn count_moves(rt: &impl Abort, rows: &[Perft]) -> Result<(), Fail> {
+fn count_moves(rt: &impl Abort, alloc: Global, rows: &[Perft]) -> Result<(), Fail> {
     for row in rows {
         let position = read_fen(row.fen).ok().ok_or("sound")?;
         let wanted = row.lines[0];
-        assert_eq!(rt; u64::from(legal_moves(&position)), wanted);
+        assert_eq!(rt; legal_moves(alloc, &position)? as u64, wanted);
     }
     Ok(())
 }
@@ -120,36 +117,21 @@ fn initial_position_has_20_moves(rt: HostRuntime) -> Result<(), Fail> {
     assert!(rt; Position::new(setup(INITIAL, Colour::White)).ok() == Some(position));
     assert_eq!(rt; position.side(), Colour::White);
     assert_eq!(rt; position.setup().fullmove, 1);
-    assert_eq!(rt; legal_moves(&position), 20);
-    assert_eq!(rt; legal_pairs(&position), 400);
+    assert_eq!(rt; legal_moves(rt.alloc(), &position)?, 20);
+    assert_eq!(rt; legal_pairs(rt.alloc(), &position)?, 400);
     Ok(())
 }
 
 #[test]
 fn test_positions_have_their_moves(rt: HostRuntime) -> Result<(), Fail> {
-    count_moves(&rt, NORMAL.as_slice())
+    count_moves(&rt, rt.alloc(), NORMAL.as_slice())
 }
 
 #[test]
 fn a_test_position_has_its_pairs_of_moves(rt: HostRuntime) -> Result<(), Fail> {
     let kiwipete = read_fen(KIWIPETE).ok().ok_or("sound")?;
-    assert_eq!(rt; legal_pairs(&kiwipete), 2_039);
+    assert_eq!(rt; legal_pairs(rt.alloc(), &kiwipete)?, 2_039);
     Ok(())
-}
-
-fn square(file: u8, rank: u8) -> Square {
-    Square::new(rank.wrapping_sub(b'1') % 8 * 8 + file.wrapping_sub(b'a') % 8)
-}
-
-fn play(position: Position, squares: &[u8; 4], promotion: Option<Kind>) -> Option<Position> {
-    let [from_file, from_rank, to_file, to_rank] = *squares;
-    let m = Move {
-        from: square(from_file, from_rank),
-        to: square(to_file, to_rank),
-        promotion,
-    };
-    let again = m;
-    position.is_legal(m).then(|| position.after(again))
 }
 
 type Row = (

@@ -2,11 +2,12 @@ ghost use Rattle.std.specs.Prelude.{◌≤◌};
 
 use crate::hostile::{Way, check};
 use crate::rows::{CHESS960, COMMANDS, ENDS, LIMITED, LONG, MOVES, STARTS};
+use crate::running::{is_equal, run_on};
 use byte_devices::{Counted, PieceReader, PieceWriter};
 use chess_base::{Move, Position, Square};
 use chess_cecp::{
     Command, End, Fault, Line, Lines, Session, lines_are_pieces, normal_chess_keeps_its_rows,
-    read_command, refusals_change_nothing, run_session,
+    read_command, refusals_change_nothing,
 };
 use chess_fen::write_fen;
 use chess_moves::{Board, Plain};
@@ -34,8 +35,7 @@ fn ends_so<R: Read, W: Write>(
     writer: &mut Counted<W>,
     end: Result<End, Fault>,
 ) {
-    let ended = run_session(reader, writer, session);
-    assert_eq!(rt; ended, end);
+    is_equal(rt, &run_on(session, reader, writer), &end);
 }
 
 fn pieces(input: &[u8], cut: usize, fails_at: u64) -> Counted<PieceReader<'_>> {

@@ -1,45 +1,6 @@
-use chess_base::{FenFault, Position};
-use chess_fen::{FenText, read_fen, write_fen};
-use std::process::Abort;
-
-// What is to come of a text: it is what is written of its position, another text is, or it is refused.
-#[derive(Clone, Copy)]
-enum Wanted {
-    Same,
-    Written(&'static [u8]),
-    Refused(FenFault),
-}
-
-// What is read: what is written of its position, or the fault.
-fn reading(text: &[u8]) -> Result<FenText, FenFault> {
-    match read_fen(text) {
-        Ok(position) => Ok(write_fen(&position)),
-        Err(fault) => Err(fault),
-    }
-}
-
-fn is_wanted(found: &Result<FenText, FenFault>, text: &[u8], wanted: Wanted) -> bool {
-    match (found, wanted) {
-        (Ok(written), Wanted::Same) => written.as_slice() == text,
-        (Ok(written), Wanted::Written(other)) => written.as_slice() == other,
-        (Err(found), Wanted::Refused(fault)) => *found == fault,
-        _ => false,
-    }
-}
-
-fn check(rt: &impl Abort, text: &[u8], wanted: Wanted) {
-    let found = reading(text);
-    assert!(rt;
-        is_wanted(&found, text, wanted),
-        "{text:?} is read as {found:?}"
-    );
-}
-
-fn check_all(rt: &impl Abort, rows: &[(&[u8], Wanted)]) {
-    for (text, wanted) in rows {
-        check(rt, text, *wanted);
-    }
-}
+use crate::judging::{Wanted, check, check_all};
+use chess_base::{FenFault, Position, Variant};
+use chess_fen::write_fen;
 
 // Below are positions of well-known test suites and games, and some that each change one of them. Each table has a
 // test of its own, since a check's length grows with the square of the rows that one function names.
@@ -93,7 +54,7 @@ const USUAL: &[(&[u8], Wanted)] = &[
 
 #[test]
 fn usual_positions_are_judged(rt: HostRuntime) {
-    check_all(&rt, USUAL);
+    check_all(&rt, Variant::Normal, USUAL);
 }
 
 // En passant, and castling.
@@ -123,7 +84,7 @@ const SPECIAL: &[(&[u8], Wanted)] = &[
 
 #[test]
 fn positions_of_special_moves_are_judged(rt: HostRuntime) {
-    check_all(&rt, SPECIAL);
+    check_all(&rt, Variant::Normal, SPECIAL);
 }
 
 // Endgames, mates and stalemates; then Win at Chess, Bratko and Kopec: four fields.
@@ -168,7 +129,7 @@ const LATE: &[(&[u8], Wanted)] = &[
 
 #[test]
 fn late_positions_are_judged(rt: HostRuntime) {
-    check_all(&rt, LATE);
+    check_all(&rt, Variant::Normal, LATE);
 }
 
 // Each is one change away from one of those.
@@ -245,7 +206,7 @@ const CHANGED: &[(&[u8], Wanted)] = &[
 
 #[test]
 fn changed_positions_are_judged(rt: HostRuntime) {
-    check_all(&rt, CHANGED);
+    check_all(&rt, Variant::Normal, CHANGED);
 }
 
 // Below are texts in other forms than those that are written, and texts with each fault, and of several the
@@ -277,7 +238,7 @@ const SPELLINGS: &[(&[u8], Wanted)] = &[
 
 #[test]
 fn other_denotations_are_read(rt: HostRuntime) {
-    check_all(&rt, SPELLINGS);
+    check_all(&rt, Variant::Normal, SPELLINGS);
 }
 
 // Faults of one field.
@@ -368,7 +329,7 @@ const FIELDS: &[(&[u8], Wanted)] = &[
 
 #[test]
 fn faults_of_fields_are_named(rt: HostRuntime) {
-    check_all(&rt, FIELDS);
+    check_all(&rt, Variant::Normal, FIELDS);
 }
 
 // Faults of the position.
@@ -421,13 +382,23 @@ const POSITIONS: &[(&[u8], Wanted)] = &[
 
 #[test]
 fn faults_of_positions_are_named(rt: HostRuntime) {
-    check_all(&rt, POSITIONS);
+    check_all(&rt, Variant::Normal, POSITIONS);
 }
 
 #[test]
 fn long_texts_are_refused(rt: HostRuntime) {
-    check(&rt, &[b' '; 10_000], Wanted::Refused(FenFault::Fields));
-    check(&rt, &[b'8'; 10_000], Wanted::Refused(FenFault::Fields));
+    check(
+        &rt,
+        Variant::Normal,
+        &[b' '; 10_000],
+        Wanted::Refused(FenFault::Fields),
+    );
+    check(
+        &rt,
+        Variant::Normal,
+        &[b'8'; 10_000],
+        Wanted::Refused(FenFault::Fields),
+    );
 }
 
 // A sound position whose FEN is as long as one can be: no two empty squares are side by side.
@@ -440,5 +411,5 @@ fn positions_are_written(rt: HostRuntime) {
         write_fen(&Position::initial()).as_slice(),
         b"rnbqkbnr/pppppppp/8/8/8/8/PPPPPPPP/RNBQKBNR w KQkq - 0 1".as_slice()
     );
-    check(&rt, LONGEST, Wanted::Same);
+    check(&rt, Variant::Normal, LONGEST, Wanted::Same);
 }

@@ -5,3 +5,5 @@
 mod chess960;
 #[cfg(test)]
 mod fen;
+#[cfg(test)]
+mod judging;

@@ -1,5 +1,3 @@
-ghost use Rattle.chess_moves.specs.PositionWord.{position_word};
-
 use chess_base::{Colour, Kind, Move, Position, Saved, Setup, Square};
 use chess_bits::{AttackTables, Bits};
 use chess_fen::{read_fen, write_fen};
@@ -51,17 +49,18 @@ fn count_up(count: &Cell<u32>) {
     count.set(count.get().wrapping_add(1));
 }
 
-/// A board that counts the calls that change it, and those that ask for its hash.
+/// A board whose hashes are all 0, so that they distinguish no positions. It counts the calls that change it, and those
+/// that ask for its hash.
 #[derive(Drop)]
-struct Counting<'a> {
+struct ZeroHashBoard<'a> {
     plain: Plain,
     calls: &'a Calls,
 }
 
-impl Board for Counting<'_> {
+impl Board for ZeroHashBoard<'_> {
     ghost position = { λ b. b.plain };
 
-    ghost word_of = { position_word };
+    ghost word_of = { λ _ _ _. 0 };
 
     fn set(&mut self, to: &Position) {
         count_up(&self.calls.set);
@@ -110,7 +109,7 @@ impl Board for Counting<'_> {
 
     fn word(&self) -> u64 {
         count_up(&self.calls.word);
-        self.plain.word()
+        0
     }
 
     fn make(&mut self, m: Move) -> Saved {
@@ -124,78 +123,10 @@ impl Board for Counting<'_> {
     }
 }
 
-fn counting_board(calls: &Calls) -> Counting<'_> {
-    Counting {
+fn zero_hash_board(calls: &Calls) -> ZeroHashBoard<'_> {
+    ZeroHashBoard {
         plain: Plain::new(),
         calls,
-    }
-}
-
-/// A board whose hashes are all 0, so that they distinguish no positions.
-#[derive(Drop)]
-struct Wordless {
-    plain: Plain,
-}
-
-impl Board for Wordless {
-    ghost position = { λ b. b.plain };
-
-    ghost word_of = { λ _ _ _. 0 };
-
-    fn set(&mut self, to: &Position) {
-        self.plain.set(to);
-    }
-
-    fn position(&self) -> Position {
-        self.plain.position()
-    }
-
-    fn setup(&self) -> &Setup {
-        self.plain.setup()
-    }
-
-    fn legal_moves(&self) -> MoveList {
-        self.plain.legal_moves()
-    }
-
-    fn legal_move_count(&self) -> usize {
-        self.plain.legal_move_count()
-    }
-
-    fn has_legal_move(&self) -> bool {
-        self.plain.has_legal_move()
-    }
-
-    fn is_legal(&self, m: &Move) -> bool {
-        self.plain.is_legal(m)
-    }
-
-    fn origins(&self, kind: Kind, to: Square) -> SquareSet {
-        self.plain.origins(kind, to)
-    }
-
-    fn men_of(&self, colour: Colour, kind: Kind) -> SquareSet {
-        self.plain.men_of(colour, kind)
-    }
-
-    fn legal_starts(&self, kind: Kind, to: Square) -> SquareSet {
-        self.plain.legal_starts(kind, to)
-    }
-
-    fn in_check(&self) -> bool {
-        self.plain.in_check()
-    }
-
-    fn word(&self) -> u64 {
-        0
-    }
-
-    fn make(&mut self, m: Move) -> Saved {
-        self.plain.make(m)
-    }
-
-    fn take_back(&mut self, m: Move, saved: Saved) {
-        self.plain.take_back(m, saved);
     }
 }
 
@@ -513,12 +444,6 @@ fn all_go<B: Board>(rt: &impl Abort, game: &mut Game<B>, steps: &[Step]) -> Resu
     Ok(())
 }
 
-fn wordless_board() -> Wordless {
-    Wordless {
-        plain: Plain::new(),
-    }
-}
-
 // Opens a game of at most so many half-moves on a board, and takes these steps.
 fn game_goes_on<B: Board + Drop>(
     rt: &impl Abort,
@@ -536,7 +461,7 @@ fn game_goes(rt: &impl Abort, alloc: Global, limit: u32, steps: &[Step]) -> Resu
     game_goes_on(rt, alloc, Plain::new(), limit, steps)?;
     let tables = AttackTables::open(alloc)?;
     game_goes_on(rt, alloc, Bits::new(&tables), limit, steps)?;
-    game_goes_on(rt, alloc, wordless_board(), limit, steps)
+    game_goes_on(rt, alloc, zero_hash_board(&Calls::none()), limit, steps)
 }
 
 const INITIAL: &[u8] = b"rnbqkbnr/pppppppp/8/8/8/8/PPPPPPPP/RNBQKBNR w KQkq - 0 1";
@@ -971,7 +896,7 @@ fn ends_and_claims(rt: HostRuntime) -> Result<(), Fail> {
     ends_as_told(&rt, rt.alloc(), Plain::new())?;
     let tables = AttackTables::open(rt.alloc())?;
     ends_as_told(&rt, rt.alloc(), Bits::new(&tables))?;
-    ends_as_told(&rt, rt.alloc(), wordless_board())
+    ends_as_told(&rt, rt.alloc(), zero_hash_board(&Calls::none()))
 }
 
 const MATE: &[Step] = &[
@@ -1196,7 +1121,12 @@ fn is_refused_again<B: Board>(rt: &impl Abort, game: &mut Game<B>, squares: &[u8
 }
 
 // A move is made by one call; where it is refused, as it is at once again, nothing is called.
-fn is_made_once(rt: &impl Abort, game: &mut Game<Counting<'_>>, calls: &Calls, squares: &[u8; 4]) {
+fn is_made_once(
+    rt: &impl Abort,
+    game: &mut Game<ZeroHashBoard<'_>>,
+    calls: &Calls,
+    squares: &[u8; 4],
+) {
     is_played(rt, game, squares);
     were_called(rt, calls, (0, 1, 0));
     is_refused_again(rt, game, squares);
@@ -1205,7 +1135,7 @@ fn is_made_once(rt: &impl Abort, game: &mut Game<Counting<'_>>, calls: &Calls, s
 
 fn is_taken_back_once(
     rt: &impl Abort,
-    game: &mut Game<Counting<'_>>,
+    game: &mut Game<ZeroHashBoard<'_>>,
     calls: &Calls,
     squares: &[u8; 4],
 ) {
@@ -1215,7 +1145,7 @@ fn is_taken_back_once(
 
 fn are_made_once(
     rt: &impl Abort,
-    game: &mut Game<Counting<'_>>,
+    game: &mut Game<ZeroHashBoard<'_>>,
     calls: &Calls,
     moves: &[&[u8; 4]],
 ) {
@@ -1226,7 +1156,7 @@ fn are_made_once(
 
 fn are_taken_back_once(
     rt: &impl Abort,
-    game: &mut Game<Counting<'_>>,
+    game: &mut Game<ZeroHashBoard<'_>>,
     calls: &Calls,
     moves: &[&[u8; 4]],
 ) {
@@ -1255,7 +1185,7 @@ const MOVES: [&[u8; 4]; 9] = [
 #[test]
 fn each_move_is_made_once(rt: HostRuntime) -> Result<(), Fail> {
     let calls = Calls::none();
-    let mut game = opened(&rt, rt.alloc(), counting_board(&calls), 9)?;
+    let mut game = opened(&rt, rt.alloc(), zero_hash_board(&calls), 9)?;
     were_called(&rt, &calls, (1, 0, 0));
     restart(&mut game, INITIAL)?;
     were_called(&rt, &calls, (1, 0, 0));
@@ -1275,7 +1205,7 @@ fn was_asked(rt: &impl Abort, calls: &Calls, times: u32) {
 // The hash is asked for where a move is played, and not where it is refused.
 fn is_asked_for_its_word_once(
     rt: &impl Abort,
-    game: &mut Game<Counting<'_>>,
+    game: &mut Game<ZeroHashBoard<'_>>,
     calls: &Calls,
     squares: &[u8; 4],
 ) {
@@ -1287,7 +1217,7 @@ fn is_asked_for_its_word_once(
 
 fn are_asked_for_their_words_once(
     rt: &impl Abort,
-    game: &mut Game<Counting<'_>>,
+    game: &mut Game<ZeroHashBoard<'_>>,
     calls: &Calls,
     moves: &[&[u8; 4]],
 ) {
@@ -1314,7 +1244,7 @@ const NOT_ASKED: &[Step] = &[
 #[test]
 fn each_position_is_asked_for_its_hash_once(rt: HostRuntime) -> Result<(), Fail> {
     let calls = Calls::none();
-    let mut game = opened(&rt, rt.alloc(), counting_board(&calls), 9)?;
+    let mut game = opened(&rt, rt.alloc(), zero_hash_board(&calls), 9)?;
     was_asked(&rt, &calls, 1);
     restart(&mut game, INITIAL)?;
     was_asked(&rt, &calls, 1);

@@ -1,7 +1,8 @@
-use crate::plays::{BOARDS, Listed, On, is_text, is_told, play_over, setup_of};
-use byte_devices::{Counted, PieceReader, PieceWriter};
-use chess_base::{Colour, Position};
-use chess_fen::read_fen;
+use crate::plays::{
+    BOARDS, Listed, On, TestEnds, ends, is_text, is_told, play_over, position_of, setup_of,
+};
+use byte_devices::Counted;
+use chess_base::{Colour, Position, Variant};
 use chess_game::Outcome;
 use chess_match::{Ends, MatchFault, Moments};
 use std::alloc::Global;
@@ -160,16 +161,6 @@ const ROWS: &[Row] = &[
     },
 ];
 
-type TestEnds<'a> = Ends<Counted<PieceReader<'a>>, Counted<PieceWriter>>;
-
-// An engine's ends, with the numbers of the read and of the write that fail, 0 for none.
-fn ends(alloc: Global, bytes: &[u8], cut: usize, read: u64, write: u64) -> TestEnds<'_> {
-    Ends {
-        reader: Counted::reading(PieceReader::new(bytes, cut.max(1), read)),
-        writer: Counted::writing(PieceWriter::new(alloc, 1024, write)),
-    }
-}
-
 // What two engines were sent.
 fn are_sent(
     rt: &impl Abort,
@@ -301,10 +292,7 @@ fn start_of(rt: &impl Abort, fen: &[u8]) -> Position {
     if fen.is_empty() {
         return Position::initial();
     }
-    match read_fen(fen) {
-        Ok(start) => start,
-        Err(_) => panic!(rt; "start"),
-    }
+    position_of(rt, Variant::Normal, fen)
 }
 
 // Plays the match of a row on such a board, where the lines of the engines come in pieces of so many bytes: both are

@@ -1,9 +1,8 @@
 //! Engines that flood or fail, Chess960, and what is reported of an end.
 
-use crate::plays::{BOARDS, Listed, On, is_text, is_told, play_over, setup_of};
-use byte_devices::{Counted, PieceReader, PieceWriter};
+use crate::plays::{BOARDS, Listed, On, ends, is_text, is_told, play_over, position_of, setup_of};
+use byte_devices::{Counted, PieceReader};
 use chess_base::{Colour, Position, Variant};
-use chess_fen::read_fen_as;
 use chess_game::Outcome;
 use chess_match::{Ends, MatchEnd, MatchFault};
 use chess_pgn::HowEnded;
@@ -15,7 +14,7 @@ use std::test::Fail;
 
 /// What two engines say, the calls of their readers and writers that fail, 0 for none, and the moments.
 #[derive(Clone, Copy)]
-struct Said<'a> {
+struct MatchInput<'a> {
     white: &'a [u8],
     black: &'a [u8],
     white_read: u64,
@@ -25,9 +24,9 @@ struct Said<'a> {
     moments: &'a [u64],
 }
 
-impl<'a> Said<'a> {
+impl<'a> MatchInput<'a> {
     fn of(white: &'a [u8], black: &'a [u8]) -> Self {
-        Said {
+        MatchInput {
             white,
             black,
             white_read: 0,
@@ -53,18 +52,14 @@ fn play(
     alloc: Global,
     on: On,
     start: Position,
-    said: &Said<'_>,
+    input: &MatchInput<'_>,
 ) -> Result<Played, Fail> {
     let setup = setup_of(rt, b"0 0:10 0", start);
-    let mut white = Ends {
-        reader: Counted::reading(PieceReader::new(said.white, 9, said.white_read)),
-        writer: Counted::writing(PieceWriter::new(alloc, 1024, said.white_write)),
+    let mut white = ends(alloc, input.white, 9, input.white_read, input.white_write);
+    let mut black = ends(alloc, input.black, 9, input.black_read, input.black_write);
+    let mut moments = Listed {
+        rest: input.moments,
     };
-    let mut black = Ends {
-        reader: Counted::reading(PieceReader::new(said.black, 9, said.black_read)),
-        writer: Counted::writing(PieceWriter::new(alloc, 1024, said.black_write)),
-    };
-    let mut moments = Listed { rest: said.moments };
     let (end, moves) = play_over(alloc, on, 100, &mut white, &mut black, &mut moments, &setup)?;
     Ok(Played {
         end,
@@ -103,11 +98,11 @@ fn ends_so_on(
     rt: &impl Abort,
     alloc: Global,
     on: On,
-    said: &Said<'_>,
+    input: &MatchInput<'_>,
     ending: &Ending,
     moves: usize,
 ) -> Result<(), Fail> {
-    let played = play(rt, alloc, on, Position::initial(), said)?;
+    let played = play(rt, alloc, on, Position::initial(), input)?;
     is_end(rt, &played, ending);
     is_number(rt, played.moves, moves);
     Ok(())
@@ -117,12 +112,12 @@ fn ends_so_on(
 fn ends_so(
     rt: &impl Abort,
     alloc: Global,
-    said: &Said<'_>,
+    input: &MatchInput<'_>,
     ending: &Ending,
     moves: usize,
 ) -> Result<(), Fail> {
     for on in BOARDS {
-        ends_so_on(rt, alloc, *on, said, ending, moves)?;
+        ends_so_on(rt, alloc, *on, input, ending, moves)?;
     }
     Ok(())
 }
@@ -156,11 +151,11 @@ const WHITE_RESIGNS: Ending = Ending {
 };
 
 fn mates_with_names(rt: &impl Abort, alloc: Global, on: On) -> Result<(), Fail> {
-    let said = Said::of(
+    let input = MatchInput::of(
         b"feature ping=1 usermove=1 myname=\"first\" done=1\npong 1\nmove f2f3\npong 2\nmove g2g4\npong 3\n",
         BLACK,
     );
-    let played = play(rt, alloc, on, Position::initial(), &said)?;
+    let played = play(rt, alloc, on, Position::initial(), &input)?;
     is_end(rt, &played, &BLACK_MATES);
     is_text(rt, "White", played.end.white_name.as_bytes(), b"first");
     is_text(rt, "Black", played.end.black_name.as_bytes(), b"second");
@@ -192,9 +187,9 @@ const LATE: Ending = Ending {
 
 #[test]
 fn kinds_of_ends(rt: HostRuntime) -> Result<(), Fail> {
-    let illegal = Said::of(b"feature ping=1 done=1\npong 1\nmove e2e5\n", BLACK);
+    let illegal = MatchInput::of(b"feature ping=1 done=1\npong 1\nmove e2e5\n", BLACK);
     ends_so(&rt, rt.alloc(), &illegal, &ILLEGAL, 0)?;
-    let mut late = Said::of(b"feature ping=1 done=1\npong 1\nmove e2e4\n", BLACK);
+    let mut late = MatchInput::of(b"feature ping=1 done=1\npong 1\nmove e2e4\n", BLACK);
     late.moments = &[0, 0, 0, 0, 5000, 15001];
     ends_so(&rt, rt.alloc(), &late, &LATE, 0)
 }
@@ -210,7 +205,13 @@ const NO_DONE: Ending = Ending {
 fn hello_behind(rt: &impl Abort, alloc: Global, count: usize, ending: &Ending) -> Result<(), Fail> {
     let behind = b"feature ping=1 done=1\npong 1\nresign\n".as_slice();
     let white = repeated(alloc, &[(b"x\n", count), (behind, 1)])?;
-    ends_so(rt, alloc, &Said::of(white.as_slice(), BLACK), ending, 0)
+    ends_so(
+        rt,
+        alloc,
+        &MatchInput::of(white.as_slice(), BLACK),
+        ending,
+        0,
+    )
 }
 
 #[test]
@@ -236,8 +237,8 @@ fn flood(
 ) -> Result<(), Fail> {
     let front = b"feature ping=1 done=1\npong 1\n".as_slice();
     let white = repeated(alloc, &[(front, 1), (b"x\n", 9999), (behind, 1)])?;
-    let said = Said::of(white.as_slice(), BLACK);
-    ends_so_on(rt, alloc, on, &said, ending, 1)
+    let input = MatchInput::of(white.as_slice(), BLACK);
+    ends_so_on(rt, alloc, on, &input, ending, 1)
 }
 
 // The move after them is taken; with one more line there are too many.
@@ -266,8 +267,8 @@ const LONG_LINE: &[(&[u8], usize)] = &[
 #[test]
 fn lines_that_are_too_long(rt: HostRuntime) -> Result<(), Fail> {
     let white = repeated(rt.alloc(), LONG_LINE)?;
-    let said = Said::of(white.as_slice(), BLACK);
-    ends_so(&rt, rt.alloc(), &said, &WHITE_RESIGNS, 0)
+    let input = MatchInput::of(white.as_slice(), BLACK);
+    ends_so(&rt, rt.alloc(), &input, &WHITE_RESIGNS, 0)
 }
 
 const OUTPUT_ENDED: Ending = Ending {
@@ -279,21 +280,22 @@ const OUTPUT_ENDED: Ending = Ending {
 
 #[test]
 fn outputs_that_end(rt: HostRuntime) -> Result<(), Fail> {
-    let said = Said::of(
+    let input = MatchInput::of(
         b"feature ping=1 done=1\npong 1\nmove f2f3\npong 2\nmov",
         BLACK,
     );
-    ends_so(&rt, rt.alloc(), &said, &OUTPUT_ENDED, 2)
+    ends_so(&rt, rt.alloc(), &input, &OUTPUT_ENDED, 2)
 }
 
 const CASTLES: &[u8] =
     b"feature ping=1 setboard=1 usermove=1 variants=\"normal,fischerandom\" done=1\npong 1\nmove O-O-O\npong 2\n";
 
 fn castling_start(rt: &impl Abort) -> Position {
-    match read_fen_as(Variant::Fischerandom, b"4k3/8/8/8/8/8/8/RK5R w HA - 0 1") {
-        Ok(start) => start,
-        Err(_) => panic!(rt; "start"),
-    }
+    position_of(
+        rt,
+        Variant::Fischerandom,
+        b"4k3/8/8/8/8/8/8/RK5R w HA - 0 1",
+    )
 }
 
 const BLACK_RESIGNS: Ending = Ending {
@@ -304,11 +306,11 @@ const BLACK_RESIGNS: Ending = Ending {
 };
 
 fn castles(rt: &impl Abort, alloc: Global, on: On) -> Result<(), Fail> {
-    let said = Said::of(
+    let input = MatchInput::of(
         CASTLES,
         b"feature ping=1 setboard=1 done=1\npong 1\nresign\n",
     );
-    let played = play(rt, alloc, on, castling_start(rt), &said)?;
+    let played = play(rt, alloc, on, castling_start(rt), &input)?;
     is_end(rt, &played, &BLACK_RESIGNS);
     is_text(
         rt,
@@ -363,8 +365,8 @@ fn is_unfit(
     black: &[u8],
     ending: &Ending,
 ) -> Result<(), Fail> {
-    let said = Said::of(CASTLES, black);
-    let played = play(rt, alloc, on, castling_start(rt), &said)?;
+    let input = MatchInput::of(CASTLES, black);
+    let played = play(rt, alloc, on, castling_start(rt), &input)?;
     is_end(rt, &played, ending);
     Ok(())
 }
@@ -410,13 +412,13 @@ const BLACK_UNREAD: Ending = Ending {
 };
 
 // A game to its mate, in which this call of that side's reader fails.
-fn unread(side: Colour, call: u64) -> Said<'static> {
-    let mut said = Said::of(WHITE, BLACK);
+fn unread(side: Colour, call: u64) -> MatchInput<'static> {
+    let mut input = MatchInput::of(WHITE, BLACK);
     match side {
-        Colour::White => said.white_read = call,
-        Colour::Black => said.black_read = call,
+        Colour::White => input.white_read = call,
+        Colour::Black => input.black_read = call,
     }
-    said
+    input
 }
 
 // What comes of a read that failed: its end, and White is sent a beginning of the whole match and the end lines.
@@ -438,7 +440,13 @@ fn is_unread(rt: &impl Abort, side: Colour, played: &Played, whole: &Played) {
 
 // Each read of a side fails in turn, until the match ends without a fault: the number of the last that failed.
 fn unread_calls(rt: &impl Abort, alloc: Global, on: On, side: Colour) -> Result<u64, Fail> {
-    let whole = play(rt, alloc, on, Position::initial(), &Said::of(WHITE, BLACK))?;
+    let whole = play(
+        rt,
+        alloc,
+        on,
+        Position::initial(),
+        &MatchInput::of(WHITE, BLACK),
+    )?;
     let mut failures = 0;
     for call in 1..100 {
         let played = play(rt, alloc, on, Position::initial(), &unread(side, call))?;
@@ -575,9 +583,9 @@ fn is_unwritten_to_white(
     flush: bool,
     beside: &(usize, &[u8], &[u8]),
 ) -> Result<(), Fail> {
-    let mut said = Said::of(WHITE, BLACK);
-    said.white_write = call_of(number, flush);
-    let played = play(rt, alloc, on, Position::initial(), &said)?;
+    let mut input = MatchInput::of(WHITE, BLACK);
+    input.white_write = call_of(number, flush);
+    let played = play(rt, alloc, on, Position::initial(), &input)?;
     let ending = if number == 7 {
         &MATE_UNWRITTEN
     } else {
@@ -615,9 +623,9 @@ fn is_unwritten_to_black(
     flush: bool,
     beside: &(usize, &[u8], &[u8]),
 ) -> Result<(), Fail> {
-    let mut said = Said::of(WHITE, BLACK);
-    said.black_write = call_of(number, flush);
-    let played = play(rt, alloc, on, Position::initial(), &said)?;
+    let mut input = MatchInput::of(WHITE, BLACK);
+    input.black_write = call_of(number, flush);
+    let played = play(rt, alloc, on, Position::initial(), &input)?;
     let ending = if number == 6 {
         &MATE_UNWRITTEN_TO_BLACK
     } else {
@@ -678,15 +686,15 @@ fn writes_that_fail_in_turn(rt: HostRuntime) -> Result<(), Fail> {
 #[test]
 fn writes_that_fail_at_one_event(rt: HostRuntime) -> Result<(), Fail> {
     // White's answers are taken and the flush fails; then Black's end lines fail.
-    let mut said = Said::of(WHITE, BLACK);
-    said.white_write = 4;
-    said.black_write = 1;
-    ends_so(&rt, rt.alloc(), &said, &WHITE_UNWRITTEN, 0)?;
+    let mut input = MatchInput::of(WHITE, BLACK);
+    input.white_write = 4;
+    input.black_write = 1;
+    ends_so(&rt, rt.alloc(), &input, &WHITE_UNWRITTEN, 0)?;
     // Both end lines fail: the outcome is kept, and White's failure is the first.
-    let mut said = Said::of(WHITE, BLACK);
-    said.white_write = 15;
-    said.black_write = 13;
-    ends_so(&rt, rt.alloc(), &said, &MATE_UNWRITTEN, 4)
+    let mut input = MatchInput::of(WHITE, BLACK);
+    input.white_write = 15;
+    input.black_write = 13;
+    ends_so(&rt, rt.alloc(), &input, &MATE_UNWRITTEN, 4)
 }
 
 /// The calls of both engines' writers: how many, and the number of each one's last.
@@ -783,8 +791,8 @@ const MANY_ANSWERS: &[(&[u8], usize)] = &[
 fn feature_lines_of_many_items(rt: HostRuntime) -> Result<(), Fail> {
     let white = repeated(rt.alloc(), MANY_ITEMS)?;
     let sent = repeated(rt.alloc(), MANY_ANSWERS)?;
-    let said = Said::of(white.as_slice(), BLACK);
-    let played = play(&rt, rt.alloc(), On::Plain, Position::initial(), &said)?;
+    let input = MatchInput::of(white.as_slice(), BLACK);
+    let played = play(&rt, rt.alloc(), On::Plain, Position::initial(), &input)?;
     is_end(&rt, &played, &WHITE_RESIGNS);
     is_text(&rt, "to White", played.to_white.as_slice(), sent.as_slice());
     Ok(())

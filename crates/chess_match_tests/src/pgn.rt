@@ -1,9 +1,7 @@
 //! The PGN of a game after its match.
 
-use crate::plays::{BOARDS, On, is_text, pgn_over, setup_of};
-use byte_devices::{Counted, PieceReader, PieceWriter};
+use crate::plays::{BOARDS, On, ends, is_text, pgn_over, setup_of};
 use chess_base::Position;
-use chess_match::Ends;
 use std::alloc::Global;
 use std::process::Abort;
 use std::test::Fail;
@@ -16,19 +14,10 @@ const SAYS: [&[u8]; 2] = [
 const WRITTEN: &[u8] =
     b"[Event \"?\"]\n[Site \"?\"]\n[Date \"????.??.??\"]\n[Round \"?\"]\n[White \"?\"]\n[Black \"?\"]\n[Result \"0-1\"]\n[Termination \"rules infraction\"]\n\n0-1\n\n";
 
-type TestEnds<'a> = Ends<Counted<PieceReader<'a>>, Counted<PieceWriter>>;
-
-fn ends(alloc: Global, bytes: &[u8]) -> TestEnds<'_> {
-    Ends {
-        reader: Counted::reading(PieceReader::new(bytes, 1024, 0)),
-        writer: Counted::writing(PieceWriter::new(alloc, 1024, 0)),
-    }
-}
-
 fn writes(rt: &impl Abort, alloc: Global, on: On) -> Result<(), Fail> {
     let setup = setup_of(rt, b"0 0:10 0", Position::initial());
-    let mut white = ends(alloc, SAYS[0]);
-    let mut black = ends(alloc, SAYS[1]);
+    let mut white = ends(alloc, SAYS[0], 1024, 0, 0);
+    let mut black = ends(alloc, SAYS[1], 1024, 0, 0);
     let text = pgn_over(alloc, on, &mut white, &mut black, &setup)?;
     is_text(rt, "PGN", text.as_slice(), WRITTEN);
     Ok(())

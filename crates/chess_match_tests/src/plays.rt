@@ -1,9 +1,10 @@
 //! Matches on both boards, for tests.
 
-use byte_devices::{Counted, Input, Output, PieceWriter};
+use byte_devices::{Counted, Input, Output, PieceReader, PieceWriter};
 use cecp_engine::Level;
-use chess_base::{Colour, Position};
+use chess_base::{Colour, Position, Variant};
 use chess_bits::{AttackTables, Bits};
+use chess_fen::read_fen_as;
 use chess_game::{Game, Outcome};
 use chess_match::{Ends, MatchEnd, MatchFault, Moments, Setup, run_match};
 use chess_moves::{Board, Plain};
@@ -40,6 +41,32 @@ pub fn setup_of(rt: &impl Abort, level: &[u8], start: Position) -> Setup {
     match Level::read(level) {
         Some(level) => Setup { start, level },
         None => panic!(rt; "level"),
+    }
+}
+
+/// The position of a FEN of this variant.
+pub fn position_of(rt: &impl Abort, variant: Variant, fen: &[u8]) -> Position {
+    match read_fen_as(variant, fen) {
+        Ok(position) => position,
+        Err(_) => panic!(rt; "position"),
+    }
+}
+
+/// An engine over memory.
+pub type TestEnds<'a> = Ends<Counted<PieceReader<'a>>, Counted<PieceWriter>>;
+
+/// An engine that sends these bytes in pieces of so many, with the calls of its reader and of its writer that fail, 0
+/// for none.
+pub fn ends(
+    alloc: Global,
+    bytes: &[u8],
+    piece: usize,
+    read_fails: u64,
+    write_fails: u64,
+) -> TestEnds<'_> {
+    Ends {
+        reader: Counted::reading(PieceReader::new(bytes, piece.max(1), read_fails)),
+        writer: Counted::writing(PieceWriter::new(alloc, 1024, write_fails)),
     }
 }
 
