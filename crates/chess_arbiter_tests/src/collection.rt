@@ -91,19 +91,16 @@ const PIECES: [(&[u8], &[u8], u8); 15] = [
     (b"", b"games 0 half-moves 0 faults 0\n", 0),
 ];
 
-// What is wanted of a collection, with nothing on the error output.
-fn wanted<'a>(output: &'a [u8], status: u8) -> Wanted<'a> {
-    Wanted {
-        output,
-        errors: b"",
-        status,
-    }
-}
-
 #[test]
 fn collections_in_all_pieces(rt: HostRuntime) {
     for (text, lines, status) in &PIECES {
-        check_in_all_pieces(&rt, &rt, KEEP_GOING, text, wanted(lines, *status));
+        check_in_all_pieces(
+            &rt,
+            &rt,
+            KEEP_GOING,
+            text,
+            Wanted::without_errors(lines, *status),
+        );
     }
 }
 
@@ -138,8 +135,9 @@ fn check_each_cut(
     Ok(())
 }
 
-// Three pieces, the second with a fault. The end of the first is known after 32 bytes, that of the second after 57.
-const COLLECTION: &[u8] =
+/// Three pieces, the second with a fault; no line feed follows the last. The end of the first is known after 32 bytes,
+/// that of the second after 57.
+pub const COLLECTION: &[u8] =
     b"[Event \"a\"]\n\n1. e4 e5 *\n\n[Event \"b\"]\n\n1. e4 e4 *\n\n[Event \"c\"]\n\n1. d4 1-0";
 
 const FIRST_LINE: &[u8] = b"game 1: 2 half-moves, *\n";
@@ -158,8 +156,8 @@ const MIXED_LINES: &[u8] =
 
 #[test]
 fn collections_cut_at_each_byte(rt: HostRuntime) -> Result<(), Fail> {
-    check_each_cut(&rt, &rt, COLLECTION, wanted(ALL_LINES, 1))?;
-    check_each_cut(&rt, &rt, MIXED, wanted(MIXED_LINES, 1))
+    check_each_cut(&rt, &rt, COLLECTION, Wanted::without_errors(ALL_LINES, 1))?;
+    check_each_cut(&rt, &rt, MIXED, Wanted::without_errors(MIXED_LINES, 1))
 }
 
 // The lines of the pieces whose end is among so many bytes.

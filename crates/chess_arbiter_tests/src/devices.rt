@@ -96,11 +96,7 @@ const CALLS: u64 = 400;
 fn check_talk(rt: &impl Abort, host: &HostRuntime, talk: &Talk) -> Result<(), Fail> {
     let input = input_of(host.alloc(), talk.lines)?;
     let (answers, _) = answered(host.alloc(), talk.lines, input.len())?;
-    let wanted = Wanted {
-        output: answers.as_slice(),
-        errors: b"",
-        status: 0,
-    };
+    let wanted = Wanted::without_errors(answers.as_slice(), 0);
     check_in_all_pieces(rt, host, talk.words, input.as_slice(), wanted);
     Ok(())
 }
@@ -291,11 +287,7 @@ const LINES: &[u8] = b"game 1: 1 half-moves, *\ngame 2: 4 half-moves, 0-1\n";
 
 #[test]
 fn games_in_all_pieces(rt: HostRuntime) {
-    let wanted = Wanted {
-        output: LINES,
-        errors: b"",
-        status: 0,
-    };
+    let wanted = Wanted::without_errors(LINES, 0);
     check_in_all_pieces(&rt, &rt, &["verify"], BOTH, wanted);
 }
 

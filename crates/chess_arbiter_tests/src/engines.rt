@@ -1,6 +1,6 @@
 //! Matches between engines that run as processes: the program itself, as a stub.
 
-use crate::runs::{Devices, Outcome, SOUND, Wanted, run};
+use crate::runs::{Devices, Outcome, ProgramRun, SOUND, Wanted, is_text, run};
 use byte_devices::Counted;
 use chess_arbiter::{Log, SinceStart, run_program};
 use chess_match::Moments;
@@ -163,14 +163,8 @@ fn play(
 
 // Asserts that this came of a match.
 fn check_match(rt: &impl Abort, outcome: &Outcome, played: &Played) -> Result<(), Fail> {
-    assert_eq!(rt;
-        std::str::from_utf8(outcome.output.as_slice())?,
-        played.output
-    );
-    assert_eq!(rt;
-        std::str::from_utf8(outcome.errors.as_slice())?,
-        played.errors
-    );
+    is_text(rt, outcome.output.as_slice(), played.output)?;
+    is_text(rt, outcome.errors.as_slice(), played.errors)?;
     assert_eq!(rt; outcome.status, played.status);
     Ok(())
 }
@@ -231,10 +225,7 @@ fn a_log_over_processes(rt: HostRuntime) -> Result<(), Fail> {
     let played = &PLAYED[1];
     let others = &["--games", "2", "--date", "2026.11.23", "--log"];
     let outcome = play_logged(&rt, played, others, 0)?;
-    assert_eq!(rt;
-        std::str::from_utf8(outcome.output.as_slice())?,
-        played.output
-    );
+    is_text(&rt, outcome.output.as_slice(), played.output)?;
     assert_eq!(rt; outcome.status, 0);
     for text in LOGGED {
         is_in_log(&rt, outcome.errors.as_slice(), text)?;
@@ -248,10 +239,7 @@ fn a_log_on_a_failed_error_output(rt: HostRuntime) -> Result<(), Fail> {
     let played = &PLAYED[3];
     for errors_fail in [1, 2, 9] {
         let outcome = play_logged(&rt, played, &["--log"], errors_fail)?;
-        assert_eq!(rt;
-            std::str::from_utf8(outcome.output.as_slice())?,
-            played.output
-        );
+        is_text(&rt, outcome.output.as_slice(), played.output)?;
         assert_eq!(rt; outcome.status, 1);
     }
     Ok(())
@@ -441,11 +429,7 @@ const BY_NAMELESS: &str =
 fn an_engine_without_a_name(rt: HostRuntime) -> Result<(), Fail> {
     let white = stub(&rt, "")?;
     let words = words_of(rt.alloc(), white.as_str(), NAMELESS, &[])?;
-    let wanted = Wanted {
-        output: BY_NAMELESS.as_bytes(),
-        errors: b"",
-        status: 0,
-    };
+    let wanted = Wanted::without_errors(BY_NAMELESS.as_bytes(), 0);
     run(&rt, words.as_slice(), b"", SOUND).check(&rt, wanted);
     Ok(())
 }
@@ -476,18 +460,9 @@ fn moments_rise(rt: HostRuntime) {
     assert!(rt; false);
 }
 
-/// A stub over memory: its arguments, the input, where calls of the devices fail (0: nowhere), and what is said.
-struct Said {
-    words: &'static [&'static str],
-    input: &'static [u8],
-    fails: (u64, u64),
-    output: &'static [u8],
-    errors: &'static [u8],
-    status: u8,
-}
-
-const SAID: [Said; 13] = [
-    Said {
+// Runs of a stub over memory.
+const STUB_RUNS: [ProgramRun; 13] = [
+    ProgramRun {
         words: &["stub", "e2e4", "offer"],
         input: b"protover 2\nping 3\ngo\nusermove e7e5\n",
         fails: (0, 0),
@@ -495,7 +470,7 @@ const SAID: [Said; 13] = [
         errors: b"",
         status: 0,
     },
-    Said {
+    ProgramRun {
         words: &["stub"],
         input: b"xboard\nnew\nusermove e2e4\nforce\nlevel 40 5 0\ntime 3\ndraw\n\nping x\nusermove\nundo\n?\nresult * {x}\n",
         fails: (0, 0),
@@ -504,7 +479,7 @@ const SAID: [Said; 13] = [
         status: 0,
     },
     // It plays from `go` on, up to `new` or `force`.
-    Said {
+    ProgramRun {
         words: &["stub", "a", "b", "c"],
         input: b"usermove x\ngo\nusermove x\nforce\nusermove x\ngo\nnew\nusermove x\ngo\n",
         fails: (0, 0),
@@ -513,7 +488,7 @@ const SAID: [Said; 13] = [
         status: 0,
     },
     // `usermove` without a move is one of the other side too.
-    Said {
+    ProgramRun {
         words: &["stub", "a", "b"],
         input: b"usermove\ngo\nusermove\n usermove \nusermoves\nforce\nusermove\n",
         fails: (0, 0),
@@ -521,7 +496,7 @@ const SAID: [Said; 13] = [
         errors: b"",
         status: 0,
     },
-    Said {
+    ProgramRun {
         words: &[
             "stub", "e2e4", "claim", "offer", "claim", "offers", "resign", "offer",
         ],
@@ -531,7 +506,7 @@ const SAID: [Said; 13] = [
         errors: b"",
         status: 0,
     },
-    Said {
+    ProgramRun {
         words: &["stub", "end", "e2e4"],
         input: b"go\nping 1\n",
         fails: (0, 0),
@@ -539,7 +514,7 @@ const SAID: [Said; 13] = [
         errors: b"",
         status: 0,
     },
-    Said {
+    ProgramRun {
         words: &["stub", "e2e4"],
         input: b"quit\ngo\n",
         fails: (0, 0),
@@ -547,7 +522,7 @@ const SAID: [Said; 13] = [
         errors: b"",
         status: 0,
     },
-    Said {
+    ProgramRun {
         words: &["stub"],
         input: b"ping 007",
         fails: (0, 0),
@@ -556,7 +531,7 @@ const SAID: [Said; 13] = [
         status: 0,
     },
     // The first argument is played, whatever it is; it is longer than a line that is put together.
-    Said {
+    ProgramRun {
         words: &["stub", "0123456789012345678901234567890123456789"],
         input: b"go\n",
         fails: (0, 0),
@@ -564,7 +539,7 @@ const SAID: [Said; 13] = [
         errors: b"",
         status: 0,
     },
-    Said {
+    ProgramRun {
         words: &["stub", "offer"],
         input: b"go\n",
         fails: (0, 0),
@@ -572,7 +547,7 @@ const SAID: [Said; 13] = [
         errors: b"",
         status: 0,
     },
-    Said {
+    ProgramRun {
         words: &["stub", "e2e4"],
         input: b"ping 1\nping 2\ngo\n",
         fails: (2, 0),
@@ -580,7 +555,7 @@ const SAID: [Said; 13] = [
         errors: b"arbiter: read failed\n",
         status: 1,
     },
-    Said {
+    ProgramRun {
         words: &["stub", "e2e4"],
         input: b"ping 1\nping 2\ngo\n",
         fails: (0, 3),
@@ -588,7 +563,7 @@ const SAID: [Said; 13] = [
         errors: b"arbiter: write failed\n",
         status: 1,
     },
-    Said {
+    ProgramRun {
         words: &["stub", "e2e4"],
         input: b"ping 1\nping 2\ngo\n",
         fails: (0, 4),
@@ -598,24 +573,9 @@ const SAID: [Said; 13] = [
     },
 ];
 
-// Runs a stub, and asserts what comes of it.
-fn check_said(rt: &impl Abort, host: &HostRuntime, said: &Said) {
-    let devices = Devices {
-        read_fails: said.fails.0,
-        write_fails: said.fails.1,
-        ..SOUND
-    };
-    let wanted = Wanted {
-        output: said.output,
-        errors: said.errors,
-        status: said.status,
-    };
-    run(host, said.words, said.input, devices).check(rt, wanted);
-}
-
 #[test]
 fn stubs_say(rt: HostRuntime) {
-    for said in &SAID {
-        check_said(&rt, &rt, said);
+    for row in &STUB_RUNS {
+        row.check(&rt, &rt);
     }
 }

@@ -1,5 +1,6 @@
 //! The log of a match, over memory.
 
+use crate::runs::is_text;
 use byte_devices::{Counted, PieceReader, PieceWriter};
 use cecp_engine::Level;
 use chess_arbiter::{Log, run_match_logged};
@@ -37,7 +38,7 @@ impl Moments for Listed<'_> {
 /// What two engines send, the side of the first engine, the calls of the devices that fail, 0 for none, and the
 /// moments.
 #[derive(Clone, Copy)]
-struct Said<'a> {
+struct MatchInput<'a> {
     white: &'a [u8],
     black: &'a [u8],
     first: Colour,
@@ -47,9 +48,9 @@ struct Said<'a> {
     moments: &'a [u64],
 }
 
-impl<'a> Said<'a> {
+impl<'a> MatchInput<'a> {
     fn of(white: &'a [u8], black: &'a [u8]) -> Self {
-        Said {
+        MatchInput {
             white,
             black,
             first: Colour::White,
@@ -70,7 +71,7 @@ struct Logged {
     log: Vec<u8>,
 }
 
-fn play(rt: &impl Abort, alloc: Global, said: &Said<'_>) -> Result<Logged, Fail> {
+fn play(rt: &impl Abort, alloc: Global, input: &MatchInput<'_>) -> Result<Logged, Fail> {
     let Some(level) = Level::read(b"0 0:10 0") else {
         panic!(rt; "level");
     };
@@ -79,23 +80,25 @@ fn play(rt: &impl Abort, alloc: Global, said: &Said<'_>) -> Result<Logged, Fail>
         level,
     };
     let mut white = Ends {
-        reader: Counted::reading(PieceReader::new(said.white, 9, said.white_read)),
+        reader: Counted::reading(PieceReader::new(input.white, 9, input.white_read)),
         writer: Counted::writing(PieceWriter::new(alloc, 1024, 0)),
     };
     let mut black = Ends {
-        reader: Counted::reading(PieceReader::new(said.black, 9, 0)),
-        writer: Counted::writing(PieceWriter::new(alloc, 1024, said.black_write)),
+        reader: Counted::reading(PieceReader::new(input.black, 9, 0)),
+        writer: Counted::writing(PieceWriter::new(alloc, 1024, input.black_write)),
     };
-    let mut moments = Listed { rest: said.moments };
+    let mut moments = Listed {
+        rest: input.moments,
+    };
     let mut game = Game::open(alloc, Plain::new(), 100)?;
-    let mut log = Log::new(Counted::writing(PieceWriter::new(alloc, 1024, said.log_write)));
+    let mut log = Log::new(Counted::writing(PieceWriter::new(alloc, 1024, input.log_write)));
     let end = run_match_logged(
         &mut white,
         &mut black,
         &mut moments,
         &setup,
         &mut game,
-        said.first,
+        input.first,
         &mut log,
     );
     Ok(Logged {
@@ -119,16 +122,11 @@ const EACH_10: &[u64] = &[
 const FOOLS_MATE: &str =
     "0 >first : xboard\n0 >first : protover 2\n10 <first : feature ping=1 usermove=1 done=1\n10 >first : accepted ping\n10 >first : accepted usermove\n10 >first : accepted done\n10 >second: xboard\n10 >second: protover 2\n20 <second: feature ping=1 done=1\n20 >second: accepted ping\n20 >second: accepted done\n20 >first : new\n20 >first : level 0 0:10 0\n20 >first : nopost\n20 >first : easy\n20 >first : force\n20 >first : ping 1\n30 <first : pong 1\n30 >second: new\n30 >second: level 0 0:10 0\n30 >second: nopost\n30 >second: easy\n30 >second: force\n30 >second: ping 1\n40 <second: pong 1\n40 >first : time 1000\n40 >first : otim 1000\n40 >first : go\n60 <first : move f2f3\n60 >first : ping 2\n70 <first : pong 2\n70 >second: f2f3\n70 >second: time 1000\n70 >second: otim 999\n70 >second: go\n90 <second: move e7e5\n90 >second: ping 2\n100 <second: pong 2\n100 >first : time 999\n100 >first : otim 999\n100 >first : usermove e7e5\n120 <first : move g2g4\n120 >first : ping 3\n130 <first : pong 3\n130 >second: time 999\n130 >second: otim 998\n130 >second: g2g4\n150 <second: move d8h4\n150 >first : usermove d8h4\n150 >first : result 0-1 {Black mates}\n150 >first : quit\n150 >second: result 0-1 {Black mates}\n150 >second: quit\n";
 
-fn is_text(rt: &impl Abort, text: &[u8], wanted: &str) -> Result<(), Fail> {
-    assert_eq!(rt; std::str::from_utf8(text)?, wanted);
-    Ok(())
-}
-
 #[test]
 fn a_whole_log(rt: HostRuntime) -> Result<(), Fail> {
-    let mut said = Said::of(WHITE, BLACK);
-    said.moments = EACH_10;
-    let logged = play(&rt, rt.alloc(), &said)?;
+    let mut input = MatchInput::of(WHITE, BLACK);
+    input.moments = EACH_10;
+    let logged = play(&rt, rt.alloc(), &input)?;
     is_text(&rt, logged.log.as_slice(), FOOLS_MATE)
 }
 
@@ -138,10 +136,10 @@ const WITH_BLACK_FIRST: &str =
 
 #[test]
 fn the_first_engine_has_black(rt: HostRuntime) -> Result<(), Fail> {
-    let mut said = Said::of(WHITE, BLACK);
-    said.moments = EACH_10;
-    said.first = Colour::Black;
-    let logged = play(&rt, rt.alloc(), &said)?;
+    let mut input = MatchInput::of(WHITE, BLACK);
+    input.moments = EACH_10;
+    input.first = Colour::Black;
+    let logged = play(&rt, rt.alloc(), &input)?;
     is_text(&rt, logged.log.as_slice(), WITH_BLACK_FIRST)
 }
 
@@ -185,7 +183,7 @@ const ENDS: [After; 9] = [
         moments: &[],
         log: "0 <first : resign\n0 >first : result 0-1 {White resigns}\n0 >first : quit\n0 >second: result 0-1 {White resigns}\n0 >second: quit\n",
     },
-    // The move comes 10,001 milliseconds after the turn was given.
+    // The move comes 10,001 milliseconds after the turn was input.
     After {
         white: "move e2e4\n",
         black: "",
@@ -236,20 +234,20 @@ fn play_after(
     alloc: Global,
     white: &[u8],
     black: &[u8],
-    said: &Said<'_>,
+    input: &MatchInput<'_>,
 ) -> Result<Logged, Fail> {
     let white = joined(alloc, &[HANDSHAKE.as_bytes(), white])?;
     let black = joined(alloc, &[HANDSHAKE.as_bytes(), black])?;
-    let said = Said {
+    let input = MatchInput {
         white: white.as_slice(),
         black: black.as_slice(),
-        first: said.first,
-        white_read: said.white_read,
-        black_write: said.black_write,
-        log_write: said.log_write,
-        moments: said.moments,
+        first: input.first,
+        white_read: input.white_read,
+        black_write: input.black_write,
+        log_write: input.log_write,
+        moments: input.moments,
     };
-    play(rt, alloc, &said)
+    play(rt, alloc, &input)
 }
 
 // A log is that of the handshake and this.
@@ -259,14 +257,14 @@ fn is_log(rt: &impl Abort, alloc: Global, log: &[u8], after: &str) -> Result<(),
 }
 
 fn is_logged(rt: &impl Abort, alloc: Global, after: &After) -> Result<(), Fail> {
-    let mut said = Said::of(b"", b"");
-    said.moments = after.moments;
+    let mut input = MatchInput::of(b"", b"");
+    input.moments = after.moments;
     let logged = play_after(
         rt,
         alloc,
         after.white.as_bytes(),
         after.black.as_bytes(),
-        &said,
+        &input,
     )?;
     is_log(rt, alloc, logged.log.as_slice(), after.log)
 }
@@ -289,7 +287,13 @@ fn a_line_that_is_too_long(rt: HostRuntime) -> Result<(), Fail> {
         white.push(b'x')?;
     }
     white.extend_from_slice(b"\nresign\n")?;
-    let logged = play_after(&rt, rt.alloc(), white.as_slice(), b"", &Said::of(b"", b""))?;
+    let logged = play_after(
+        &rt,
+        rt.alloc(),
+        white.as_slice(),
+        b"",
+        &MatchInput::of(b"", b""),
+    )?;
     is_log(&rt, rt.alloc(), logged.log.as_slice(), TOO_LONG)
 }
 
@@ -311,7 +315,13 @@ fn a_flood_is_logged(rt: HostRuntime) -> Result<(), Fail> {
     for _ in 0..10_001 {
         white.extend_from_slice(b"x\n")?;
     }
-    let logged = play_after(&rt, rt.alloc(), white.as_slice(), b"", &Said::of(b"", b""))?;
+    let logged = play_after(
+        &rt,
+        rt.alloc(),
+        white.as_slice(),
+        b"",
+        &MatchInput::of(b"", b""),
+    )?;
     assert_eq!(rt; logged.log.as_slice(), flooded(rt.alloc())?.as_slice());
     Ok(())
 }
@@ -319,9 +329,9 @@ fn a_flood_is_logged(rt: HostRuntime) -> Result<(), Fail> {
 // A read that fails is a line of the log.
 #[test]
 fn a_failed_read_is_logged(rt: HostRuntime) -> Result<(), Fail> {
-    let mut said = Said::of(WHITE, BLACK);
-    said.white_read = 1;
-    let logged = play(&rt, rt.alloc(), &said)?;
+    let mut input = MatchInput::of(WHITE, BLACK);
+    input.white_read = 1;
+    let logged = play(&rt, rt.alloc(), &input)?;
     assert_eq!(rt; logged.fault, Some((Colour::White, MatchFault::Read)));
     is_text(
         &rt,
@@ -332,11 +342,11 @@ fn a_failed_read_is_logged(rt: HostRuntime) -> Result<(), Fail> {
 
 // A log whose output fails at a call is a beginning, and the match is played as without.
 fn is_beginning(rt: &impl Abort, alloc: Global, log_write: u64) -> Result<(), Fail> {
-    let mut said = Said::of(WHITE, BLACK);
-    said.moments = EACH_10;
-    let whole = play(rt, alloc, &said)?;
-    said.log_write = log_write;
-    let broken = play(rt, alloc, &said)?;
+    let mut input = MatchInput::of(WHITE, BLACK);
+    input.moments = EACH_10;
+    let whole = play(rt, alloc, &input)?;
+    input.log_write = log_write;
+    let broken = play(rt, alloc, &input)?;
     assert!(rt; FOOLS_MATE.as_bytes().starts_with(broken.log.as_slice()));
     assert!(rt; broken.log.len() < FOOLS_MATE.len());
     assert_eq!(rt; broken.fault, whole.fault);
@@ -356,9 +366,9 @@ fn logs_that_break_off(rt: HostRuntime) -> Result<(), Fail> {
 // A write to Black fails: the line that says so comes after what was to be written, and White is sent the end.
 #[test]
 fn a_failed_write_is_logged(rt: HostRuntime) -> Result<(), Fail> {
-    let mut said = Said::of(WHITE, BLACK);
-    said.black_write = 1;
-    let logged = play(&rt, rt.alloc(), &said)?;
+    let mut input = MatchInput::of(WHITE, BLACK);
+    input.black_write = 1;
+    let logged = play(&rt, rt.alloc(), &input)?;
     assert_eq!(rt; logged.fault, Some((Colour::Black, MatchFault::Write)));
     is_text(
         &rt,

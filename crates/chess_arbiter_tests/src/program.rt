@@ -1,23 +1,13 @@
 //! The program over memory: its arguments, its faults and its help.
 
-use crate::runs::{Devices, Outcome, SOUND, Wanted, run};
+use crate::runs::{Devices, Outcome, ProgramRun, SOUND, Wanted, run};
 use byte_devices::{Counted, PieceWriter};
 use chess_arbiter::{Log, ProgramFault, run_program};
 use std::process::{Abort, ExitCode};
 use std::test::Fail;
 
-/// A run of the program over memory, where a call of the input or of the output fails (0: none does).
-struct Case {
-    words: &'static [&'static str],
-    input: &'static [u8],
-    fails: (u64, u64),
-    output: &'static [u8],
-    errors: &'static [u8],
-    status: u8,
-}
-
-const CASES: [Case; 21] = [
-    Case {
+const RUNS: [ProgramRun; 21] = [
+    ProgramRun {
         words: &[],
         input: b"new\ne2e4\nping 7\nundo\nshowfen\nquit\nshowfen\n",
         fails: (0, 0),
@@ -25,7 +15,7 @@ const CASES: [Case; 21] = [
         errors: b"",
         status: 0,
     },
-    Case {
+    ProgramRun {
         words: &[],
         input: b"",
         fails: (0, 0),
@@ -33,7 +23,7 @@ const CASES: [Case; 21] = [
         errors: b"",
         status: 0,
     },
-    Case {
+    ProgramRun {
         words: &["session"],
         input: b"ping 7",
         fails: (0, 0),
@@ -41,7 +31,7 @@ const CASES: [Case; 21] = [
         errors: b"",
         status: 0,
     },
-    Case {
+    ProgramRun {
         words: &["session", "session"],
         input: b"ping 7\n",
         fails: (0, 0),
@@ -49,7 +39,7 @@ const CASES: [Case; 21] = [
         errors: b"error: unexpected argument 'session' found\n\nUsage: arbiter session\n\nFor more information, try '--help'.\n",
         status: 2,
     },
-    Case {
+    ProgramRun {
         words: &["help"],
         input: b"ping 7\n",
         fails: (0, 0),
@@ -57,7 +47,7 @@ const CASES: [Case; 21] = [
         errors: b"error: unrecognized subcommand 'help'\n\nUsage: arbiter [COMMAND]\n\nFor more information, try '--help'.\n",
         status: 2,
     },
-    Case {
+    ProgramRun {
         words: &["--version"],
         input: b"ping 7\n",
         fails: (0, 0),
@@ -65,7 +55,7 @@ const CASES: [Case; 21] = [
         errors: b"",
         status: 0,
     },
-    Case {
+    ProgramRun {
         words: &[""],
         input: b"ping 7\n",
         fails: (0, 0),
@@ -73,7 +63,7 @@ const CASES: [Case; 21] = [
         errors: b"error: unrecognized subcommand ''\n\nUsage: arbiter [COMMAND]\n\nFor more information, try '--help'.\n",
         status: 2,
     },
-    Case {
+    ProgramRun {
         words: &[],
         input: b"ping 1\nping 2",
         fails: (2, 0),
@@ -81,7 +71,7 @@ const CASES: [Case; 21] = [
         errors: b"arbiter: read failed\n",
         status: 1,
     },
-    Case {
+    ProgramRun {
         words: &[],
         input: b"ping 1\nping 2\n",
         fails: (0, 3),
@@ -89,7 +79,7 @@ const CASES: [Case; 21] = [
         errors: b"arbiter: write failed\n",
         status: 1,
     },
-    Case {
+    ProgramRun {
         words: &["verify"],
         input: b"1. e4 *",
         fails: (2, 0),
@@ -97,7 +87,7 @@ const CASES: [Case; 21] = [
         errors: b"arbiter: read failed\n",
         status: 1,
     },
-    Case {
+    ProgramRun {
         words: &["verify"],
         input: b"1. e4 *",
         fails: (0, 1),
@@ -106,7 +96,7 @@ const CASES: [Case; 21] = [
         status: 1,
     },
     // The second line's write, and the flush at the end.
-    Case {
+    ProgramRun {
         words: &["verify"],
         input: b"* *",
         fails: (0, 2),
@@ -114,7 +104,7 @@ const CASES: [Case; 21] = [
         errors: b"arbiter: write failed\n",
         status: 1,
     },
-    Case {
+    ProgramRun {
         words: &["verify"],
         input: b"1. e4 *",
         fails: (0, 2),
@@ -122,7 +112,7 @@ const CASES: [Case; 21] = [
         errors: b"arbiter: write failed\n",
         status: 1,
     },
-    Case {
+    ProgramRun {
         words: &["verify", "x"],
         input: b"*",
         fails: (0, 0),
@@ -131,7 +121,7 @@ const CASES: [Case; 21] = [
         status: 2,
     },
     // The line of the counts, and the flush after it.
-    Case {
+    ProgramRun {
         words: &["verify", "--keep-going", "--quiet"],
         input: b"1. e4 *",
         fails: (0, 1),
@@ -139,7 +129,7 @@ const CASES: [Case; 21] = [
         errors: b"arbiter: write failed\n",
         status: 1,
     },
-    Case {
+    ProgramRun {
         words: &["verify", "--keep-going", "--quiet"],
         input: b"1. e4 *",
         fails: (0, 2),
@@ -147,7 +137,7 @@ const CASES: [Case; 21] = [
         errors: b"arbiter: write failed\n",
         status: 1,
     },
-    Case {
+    ProgramRun {
         words: &["verify", "--keep-going"],
         input: b"1. e4 *",
         fails: (2, 0),
@@ -155,7 +145,7 @@ const CASES: [Case; 21] = [
         errors: b"arbiter: read failed\n",
         status: 1,
     },
-    Case {
+    ProgramRun {
         words: &["verify", "--strict"],
         input: b"* *",
         fails: (0, 2),
@@ -164,7 +154,7 @@ const CASES: [Case; 21] = [
         status: 1,
     },
     // The line of a fault, and the flush after the counts.
-    Case {
+    ProgramRun {
         words: &["verify", "--strict", "--quiet"],
         input: b"1. e5 *",
         fails: (0, 1),
@@ -172,7 +162,7 @@ const CASES: [Case; 21] = [
         errors: b"arbiter: write failed\n",
         status: 1,
     },
-    Case {
+    ProgramRun {
         words: &["verify", "--strict", "--keep-going"],
         input: b"1. e4 *",
         fails: (0, 3),
@@ -181,7 +171,7 @@ const CASES: [Case; 21] = [
         status: 1,
     },
     // The flush of the first answer.
-    Case {
+    ProgramRun {
         words: &["session"],
         input: b"ping 1\nping 2\n",
         fails: (0, 2),
@@ -191,27 +181,10 @@ const CASES: [Case; 21] = [
     },
 ];
 
-// Runs the program, and asserts what comes of it.
-fn check_case(rt: &impl Abort, host: &HostRuntime, case: &Case) {
-    let devices = Devices {
-        piece: 100,
-        read_fails: case.fails.0,
-        taken: 100,
-        write_fails: case.fails.1,
-        errors_fail: 0,
-    };
-    let wanted = Wanted {
-        output: case.output,
-        errors: case.errors,
-        status: case.status,
-    };
-    run(host, case.words, case.input, devices).check(rt, wanted);
-}
-
 #[test]
 fn runs_of_the_program(rt: HostRuntime) {
-    for case in &CASES {
-        check_case(&rt, &rt, case);
+    for row in &RUNS {
+        row.check(&rt, &rt);
     }
 }
 

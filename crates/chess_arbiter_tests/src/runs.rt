@@ -3,6 +3,7 @@
 use byte_devices::{Counted, PieceReader, PieceWriter};
 use chess_arbiter::{Log, run_program};
 use std::process::Abort;
+use std::test::Fail;
 
 /// How the devices of a run are cut, and at which call they fail (0: at none).
 #[derive(Clone, Copy)]
@@ -34,6 +35,17 @@ pub struct Wanted<'a> {
     pub output: &'a [u8],
     pub errors: &'a [u8],
     pub status: u8,
+}
+
+impl<'a> Wanted<'a> {
+    /// This output and status, with nothing on the error output.
+    pub fn without_errors(output: &'a [u8], status: u8) -> Self {
+        Wanted {
+            output,
+            errors: b"",
+            status,
+        }
+    }
 }
 
 /// What a run wrote, and its status.
@@ -76,6 +88,53 @@ impl Outcome {
         assert_eq!(rt; self.errors.as_slice(), wanted.errors);
         assert_eq!(rt; self.status, wanted.status);
     }
+}
+
+/// Runs the program over memory, and asserts its output and status, with nothing on the error output.
+pub fn check_output(
+    rt: &impl Abort,
+    host: &HostRuntime,
+    words: &[&str],
+    input: &[u8],
+    devices: Devices,
+    output: &[u8],
+    status: u8,
+) {
+    run(host, words, input, devices).check(rt, Wanted::without_errors(output, status));
+}
+
+/// A run of the program over memory: its arguments and its input, the calls of the input and of the output that fail (0:
+/// none does), what it is to write, and its status.
+pub struct ProgramRun {
+    pub words: &'static [&'static str],
+    pub input: &'static [u8],
+    pub fails: (u64, u64),
+    pub output: &'static [u8],
+    pub errors: &'static [u8],
+    pub status: u8,
+}
+
+impl ProgramRun {
+    /// Runs the program, and asserts what comes of it.
+    pub fn check(&self, rt: &impl Abort, host: &HostRuntime) {
+        let devices = Devices {
+            read_fails: self.fails.0,
+            write_fails: self.fails.1,
+            ..SOUND
+        };
+        let wanted = Wanted {
+            output: self.output,
+            errors: self.errors,
+            status: self.status,
+        };
+        run(host, self.words, self.input, devices).check(rt, wanted);
+    }
+}
+
+/// Asserts that a text is this one.
+pub fn is_text(rt: &impl Abort, text: &[u8], wanted: &str) -> Result<(), Fail> {
+    assert_eq!(rt; std::str::from_utf8(text)?, wanted);
+    Ok(())
 }
 
 /// Runs the program over memory that is read and written in pieces of each length, and asserts what comes of it.

@@ -1,8 +1,10 @@
 //! `verify --strict`: the result compared with the tag Result and the final position.
 
-use crate::runs::{SOUND, Wanted, run};
+use crate::runs::{SOUND, check_output};
 use std::process::Abort;
 use std::test::Fail;
+
+const STRICT: &[&str] = &["verify", "--strict"];
 
 // Games that end by a verdict, mate, stalemate, bare material, fivefold repetition and 75 moves: the text before the
 // termination, its half-moves, and the verdict's outcome.
@@ -32,23 +34,6 @@ const VERDICTS: [(&str, usize, &str); 5] = [
 
 const TERMINATIONS: [&str; 4] = ["1-0", "0-1", "1/2-1/2", "*"];
 
-// Runs `verify` and asserts what comes of it, with nothing on the error output.
-fn check(
-    rt: &impl Abort,
-    host: &HostRuntime,
-    words: &[&str],
-    text: &[u8],
-    output: &[u8],
-    status: u8,
-) {
-    let wanted = Wanted {
-        output,
-        errors: b"",
-        status,
-    };
-    run(host, words, text, SOUND).check(rt, wanted);
-}
-
 // Verifies a game with this termination, which contradicts the verdict unless the outcome is the same; without
 // `--strict` there is no fault.
 fn check_verdict(
@@ -63,19 +48,13 @@ fn check_verdict(
     let game = format!(in host.alloc(); "game 1: {plies} half-moves, {termination}\n")?;
     let fault = format!(in host.alloc(); "game 1: board says otherwise at byte {offset}\n")?;
     let bytes = text.as_bytes();
-    check(rt, host, &["verify"], bytes, game.as_bytes(), 0);
-    if termination == *outcome {
-        check(rt, host, &["verify", "--strict"], bytes, game.as_bytes(), 0);
+    check_output(rt, host, &["verify"], bytes, SOUND, game.as_bytes(), 0);
+    let (line, status) = if termination == *outcome {
+        (game.as_bytes(), 0)
     } else {
-        check(
-            rt,
-            host,
-            &["verify", "--strict"],
-            bytes,
-            fault.as_bytes(),
-            1,
-        );
-    }
+        (fault.as_bytes(), 1)
+    };
+    check_output(rt, host, STRICT, bytes, SOUND, line, status);
     Ok(())
 }
 
@@ -187,7 +166,7 @@ const RESULT_TAGS: [(&[u8], &[u8], u8); 18] = [
 #[test]
 fn result_tags_beside_terminations(rt: HostRuntime) {
     for (text, lines, status) in &RESULT_TAGS {
-        check(&rt, &rt, &["verify", "--strict"], text, lines, *status);
+        check_output(&rt, &rt, STRICT, text, SOUND, lines, *status);
     }
 }
 
@@ -218,6 +197,6 @@ const BY_WORDS: [(&[&str], &[u8]); 4] = [
 #[test]
 fn contradictions_end_their_piece(rt: HostRuntime) {
     for (words, lines) in &BY_WORDS {
-        check(&rt, &rt, words, COLLECTION, lines, 1);
+        check_output(&rt, &rt, words, COLLECTION, SOUND, lines, 1);
     }
 }

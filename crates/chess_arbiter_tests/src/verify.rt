@@ -1,7 +1,8 @@
 //! Games as `verify` reads them, by its arguments.
 
+use crate::collection::COLLECTION;
 use crate::readers::{Parts, Spaces, run_on};
-use crate::runs::{Devices, SOUND, Wanted, run};
+use crate::runs::{Devices, SOUND, Wanted, check_output};
 use byte_devices::{Counted, GatedWriter};
 use chess_arbiter::{Log, run_program};
 use std::cell::Cell;
@@ -64,24 +65,6 @@ const GAMES: [(&[u8], &[u8], u8); 16] = [
     (b"", b"", 0),
 ];
 
-// Verifies a text by these arguments: what is reported, with nothing on the error output, and the status.
-fn check_verified(
-    rt: &impl Abort,
-    host: &HostRuntime,
-    words: &[&str],
-    text: &[u8],
-    devices: Devices,
-    told: &[u8],
-    status: u8,
-) {
-    let wanted = Wanted {
-        output: told,
-        errors: b"",
-        status,
-    };
-    run(host, words, text, devices).check(rt, wanted);
-}
-
 #[test]
 fn games_are_verified(rt: HostRuntime) {
     let devices = Devices {
@@ -90,7 +73,7 @@ fn games_are_verified(rt: HostRuntime) {
         ..SOUND
     };
     for (text, told, status) in &GAMES {
-        check_verified(&rt, &rt, &["verify"], text, devices, told, *status);
+        check_output(&rt, &rt, &["verify"], text, devices, told, *status);
     }
 }
 
@@ -126,10 +109,6 @@ fn more_than_16_mebibytes_are_too_long(rt: HostRuntime) {
     };
     run_on(&rt, &["verify"], Spaces).check(&rt, wanted);
 }
-
-// The second of three games has a fault, and no line feed follows the last.
-const COLLECTION: &[u8] =
-    b"[Event \"a\"]\n\n1. e4 e5 *\n\n[Event \"b\"]\n\n1. e4 e4 *\n\n[Event \"c\"]\n\n1. d4 1-0";
 
 // Texts as they are verified by options of `verify`: what is reported, and the status.
 const BY_WORDS: [(&[&str], &[u8], &[u8], u8); 11] = [
@@ -204,7 +183,7 @@ fn games_verified_by_arguments(rt: HostRuntime) {
     for (words, text, told, status) in &BY_WORDS {
         for piece in [1, 7, 100] {
             let devices = Devices { piece, ..SOUND };
-            check_verified(&rt, &rt, words, text, devices, told, *status);
+            check_output(&rt, &rt, words, text, devices, told, *status);
         }
     }
 }
