@@ -183,7 +183,7 @@ const ENDS: [After; 9] = [
         moments: &[],
         log: "0 <first : resign\n0 >first : result 0-1 {White resigns}\n0 >first : quit\n0 >second: result 0-1 {White resigns}\n0 >second: quit\n",
     },
-    // The move comes 10,001 milliseconds after the turn was input.
+    // The move comes 10,001 milliseconds after the turn was given.
     After {
         white: "move e2e4\n",
         black: "",
