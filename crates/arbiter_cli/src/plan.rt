@@ -79,44 +79,44 @@ fn start_of(variant: Variant, fen: Option<&str>) -> Result<Position, FenFault>
     }
 }
 
-// The plan of the match that `words` asks for, if its level, FEN and date are valid; else the fault of the first of
+// The plan of the match that `request` asks for, if its level, FEN and date are valid; else the fault of the first of
 // them that is not.
-fn validate<'a>(words: &MatchRequest<'a>) -> Result<MatchPlan<'a>, WordsFault>
-    ensures plan { IfOk result (IsJudged words.now) }
-    ensures fault { IfErr result (IsJudgedFault words.now) }
+fn validate<'a>(request: &MatchRequest<'a>) -> Result<MatchPlan<'a>, WordsFault>
+    ensures plan { IfOk result (IsJudged request.now) }
+    ensures fault { IfErr result (IsJudgedFault request.now) }
 {
-    let Some(level) = Level::read(words.level.as_bytes()) else {
+    let Some(level) = Level::read(request.level.as_bytes()) else {
         return Err(WordsFault::BadLevel);
     };
-    let start = match start_of(words.variant, words.fen) {
+    let start = match start_of(request.variant, request.fen) {
         Ok(start) => start,
         Err(fault) => return Err(WordsFault::BadFen(fault)),
     };
-    if !is_date(words.date) {
+    if !is_date(request.date) {
         return Err(WordsFault::BadDate);
     }
     Ok(MatchPlan {
-        white: words.white,
-        black: words.black,
+        white: request.white,
+        black: request.black,
         level,
         start,
-        games: words.games,
-        date: words.date,
-        log: words.log,
+        games: request.games,
+        date: request.date,
+        log: request.log,
     })
 }
 
 // The plan of what the request asks for; of a match only if level, FEN and date are valid, else the fault of the first
 // of them that is not.
-pub(crate) fn planned<'a>(denoted: Request<'a>) -> Result<Plan<'a>, WordsFault>
-    ensures plan { IfOk result (IsPlanned denoted.entry) }
-    ensures fault { IfErr result (IsPlanFault denoted.entry) }
+pub(crate) fn planned<'a>(request: Request<'a>) -> Result<Plan<'a>, WordsFault>
+    ensures plan { IfOk result (IsPlanned request.entry) }
+    ensures fault { IfErr result (IsPlanFault request.entry) }
 {
-    match denoted {
+    match request {
         Request::Session => Ok(Plan::Session),
         Request::Verify(plan) => Ok(Plan::Verify(plan)),
         Request::Stub(words) => Ok(Plan::Stub(words)),
-        Request::Match(words) => match validate(&words) {
+        Request::Match(request) => match validate(&request) {
             Ok(plan) => Ok(Plan::Match(plan)),
             Err(fault) => Err(fault),
         },

@@ -31,12 +31,12 @@ pub fn read_words<'a>(alloc: Global, words: &'a [&'a str]) -> Result<Plan<'a>, W
         Ok(matches) => matches,
         Err(error) => return Err(refusal(error)),
     };
-    let denoted = match entered(&matches) {
+    let request = match entered(&matches) {
         None => Request::Session,
         Some((name, found)) => match request_in(alloc, name, found) {
-            Ok(denoted) => denoted,
+            Ok(request) => request,
             Err(AllocError) => return Err(WordsFault::NoMemory),
         },
     };
-    planned(denoted)
+    planned(request)
 }

@@ -262,8 +262,8 @@ fn faults_are_reported(rt: HostRuntime) -> Result<(), Fail> {
         let Err(fault) = read_words(rt.alloc(), words.as_slice()) else {
             return Err(Fail::new("a plan"));
         };
-        let told = format!(in rt.alloc(); "{fault}")?;
-        assert!(rt; told.as_str() == *wanted);
+        let shown = format!(in rt.alloc(); "{fault}")?;
+        assert!(rt; shown.as_str() == *wanted);
     }
     Ok(())
 }

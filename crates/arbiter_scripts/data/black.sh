@@ -1,12 +1,13 @@
 # The second engine of the stored match: the program as a stub, once two matches of it showed that each game is written
-# before the next one begins, and that an engine that is gone at a game's end ends the match.
+# before the next one begins and before its engines have ended, and that an engine that is gone at a game's end ends the
+# match.
 program=/proc/$PPID/exe
 
 same() {
     cmp "$1" "$2" >&2 || exit
 }
 
-# Each engine tells how many lines were written when it was started.
+# Each White tells how many lines were written when it was started, and waits for its game.
 : > seen
 "$program" match --white "sh looking.sh $program f2f3 g2g4" --black "$program stub e7e5 d8h4" --games 2 > written || exit
 same seen seen.txt

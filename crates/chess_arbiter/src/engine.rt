@@ -53,7 +53,7 @@ fn command_of(alloc: Global, text: &str) -> Result<Command, StartFault> {
 /// that of this process. A name without a slash is looked for on the path.
 ///
 /// # Errors
-/// If the command is empty, there is no such program, or memory runs out.
+/// If the command is empty, the system can't start the program, or memory runs out.
 pub(crate) fn start<R: Processes>(
     rt: &R,
     alloc: Global,
@@ -98,12 +98,49 @@ fn give_grace<C: Clock, P: OpenProcess>(rt: &C, child: &mut Child<P>) {
     }
 }
 
-/// Closes an engine's input, gives it half a second to end by itself, closes its output and waits for its end.
-pub(crate) fn finish<C: Clock, P: OpenProcess + Drop>(rt: &C, engine: Engine<P>) {
-    let Engine { mut child, ends } = engine;
-    let Ends { reader, writer } = ends;
-    drop(writer);
+// Gives an engine whose input is closed half a second to end by itself, closes its output and waits for its end.
+fn await_end<C: Clock, P: OpenProcess + Drop>(
+    rt: &C,
+    mut child: Child<P>,
+    reader: Counted<P::Stdout>,
+) {
     give_grace(rt, &mut child);
     drop(reader);
     let _ = child.wait();
+}
+
+/// Closes an engine's input, gives it half a second to end by itself, closes its output and waits for its end.
+pub(crate) fn finish<C: Clock, P: OpenProcess + Drop>(rt: &C, engine: Engine<P>) {
+    let Engine { child, ends } = engine;
+    let Ends { reader, writer } = ends;
+    drop(writer);
+    await_end(rt, child, reader);
+}
+
+/// Closes the inputs of both engines, and then waits for the end of each as [`finish`] does.
+pub(crate) fn finish_both<C: Clock, P: OpenProcess + Drop>(
+    rt: &C,
+    white: Engine<P>,
+    black: Engine<P>,
+) {
+    let Engine {
+        child: white_child,
+        ends: white_ends,
+    } = white;
+    let Engine {
+        child: black_child,
+        ends: black_ends,
+    } = black;
+    let Ends {
+        reader: white_reader,
+        writer: white_writer,
+    } = white_ends;
+    let Ends {
+        reader: black_reader,
+        writer: black_writer,
+    } = black_ends;
+    drop(white_writer);
+    drop(black_writer);
+    await_end(rt, white_child, white_reader);
+    await_end(rt, black_child, black_reader);
 }

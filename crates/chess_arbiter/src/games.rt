@@ -7,17 +7,17 @@ ghost use Rattle.chess_match.specs.Run.{Ports};
 ghost use Rattle.chess_match.specs.declared.reason.Reason.TheVariants.{Faulted};
 ghost use Rattle.chess_pgn.specs.GameText.{pgn};
 ghost use Rattle.chess_arbiter.specs.Games.{RanGames, engine_command, first_side, player_name, score_line, tags_of};
-ghost use Rattle.chess_arbiter.specs.ties.Playing.{FailsToStart, HasPlayed, IsMatchEndOf, PlayedOne, RanAndLogged, ReportsStart, logged_side};
+ghost use Rattle.chess_arbiter.specs.ties.Playing.{FailsToStart, HasPlayed, PlayedOne, RanAndLogged, ReportsStart, logged_side};
 ghost use Rattle.chess_arbiter.specs.Log.{log_seen};
 ghost use Rattle.chess_game.specs.declared.game.TheConstants.{MOST_MOVES};
 
-use crate::engine::{Engine, StartFault, finish, start};
+use crate::engine::{Engine, StartFault, finish, finish_both, start};
 use crate::fault::ProgramFault;
 use crate::log::{Log, run_match_logged};
 use crate::moments::SinceStart;
 use crate::score::Score;
 use arbiter_cli::MatchPlan;
-use byte_devices::{Counted, Input, Output, WriteFault, send};
+use byte_devices::{Input, Output, WriteFault, send};
 use chess_base::{Colour, same_colour};
 use chess_bits::{AttackTables, Bits};
 use chess_game::{Game, MOST_MOVES};
@@ -147,61 +147,6 @@ fn relay<'t, R: Input, W: Output, M: Moments, E: Output>(
     run_match_logged(white, black, moments, setup, game, first, log)
 }
 
-// Plays one game between two running engines, and ends both; logs it if `first`, the side of the engine of `--white`,
-// is given.
-fn play_game<'t, C: Clock, P: OpenProcess + Drop, M: Moments, E: Output>(
-    rt: &C,
-    white: Engine<P>,
-    black: Engine<P>,
-    first: Option<Colour>,
-    log: &mut Log<E>,
-    moments: &mut M,
-    setup: &Setup,
-    game: &mut Game<Bits<'t>>,
-) -> MatchEnd
-    ensures played { IsMatchEndOf first
-        (log_seen (E.seen log.old.output) log.old.pending) (log_seen (E.seen log.new.output) log.new.pending)
-        setup.now.start setup.now.level game.old game.new result
-        (record {
-          reader = by_colour (⟦<Counted<P::Stdout> as Input>⟧.seen white.ends.reader) (⟦<Counted<P::Stdout> as Input>⟧.seen black.ends.reader);
-          writer = by_colour (⟦<Counted<P::Stdin> as Output>⟧.seen white.ends.writer) (⟦<Counted<P::Stdin> as Output>⟧.seen black.ends.writer);
-        }) }
-    ensures limit { game.new.limit ≡ game.old.limit }
-{
-    let Engine {
-        child: white_child,
-        ends: mut white_ends,
-    } = white;
-    let Engine {
-        child: black_child,
-        ends: mut black_ends,
-    } = black;
-    let end = relay(
-        &mut white_ends,
-        &mut black_ends,
-        moments,
-        setup,
-        game,
-        first,
-        log,
-    );
-    finish(
-        rt,
-        Engine {
-            child: white_child,
-            ends: white_ends,
-        },
-    );
-    finish(
-        rt,
-        Engine {
-            child: black_child,
-            ends: black_ends,
-        },
-    );
-    end
-}
-
 // Writes a game's PGN to the output, and flushes; `scratch` is a board on which its moves are made again.
 fn write_game<'t, W: Output>(
     game: &Game<Bits<'t>>,
@@ -256,6 +201,67 @@ fn start_both<'a, P: Processes + Clock>(
     }
 }
 
+// Plays the game of this number between two running engines, logs it if the plan asks for that, writes and flushes its
+// PGN, and then ends both engines.
+fn play_game<'a, 't, C: Clock, P: OpenProcess + Drop, M: Moments, W: Output, E: Output>(
+    rt: &C,
+    white: Engine<P>,
+    black: Engine<P>,
+    plan: &MatchPlan<'a>,
+    number: u32,
+    moments: &mut M,
+    game: &mut Game<Bits<'t>>,
+    scratch: &mut Bits<'t>,
+    output: &mut W,
+    log: &mut Log<E>,
+) -> Result<MatchEnd, GamesFault<'a>>
+    requires limit { game.old.limit ≡ MOST_MOVES }
+    ensures limit { game.new.limit ≡ MOST_MOVES }
+    ensures played { PlayedOne plan.now number (W.seen output.old) (W.seen output.new)
+        (log_seen (E.seen log.old.output) log.old.pending) (log_seen (E.seen log.new.output) log.new.pending)
+        result }
+{
+    let Engine {
+        child: white_child,
+        ends: mut white_ends,
+    } = white;
+    let Engine {
+        child: black_child,
+        ends: mut black_ends,
+    } = black;
+    let setup = Setup {
+        start: plan.start,
+        level: plan.level,
+    };
+    let first = logged_side(plan, number);
+    let end = relay(
+        &mut white_ends,
+        &mut black_ends,
+        moments,
+        &setup,
+        game,
+        first,
+        log,
+    );
+    let tags = tags_of(plan, number, &end);
+    let written = write_game(game, scratch, &tags, output);
+    finish_both(
+        rt,
+        Engine {
+            child: white_child,
+            ends: white_ends,
+        },
+        Engine {
+            child: black_child,
+            ends: black_ends,
+        },
+    );
+    match written {
+        Ok(()) => Ok(end),
+        Err(_) => Err(GamesFault::WriteFailed),
+    }
+}
+
 // Plays the game of this number between the plan's two engines, which are started for it, logs it if the plan asks for
 // that, and writes and flushes its PGN. `game` and `scratch` are already allocated.
 fn play_one<'a, 't, P: Processes + Clock, M: Moments, W: Output, E: Output>(
@@ -275,25 +281,16 @@ fn play_one<'a, 't, P: Processes + Clock, M: Moments, W: Output, E: Output>(
         (log_seen (E.seen log.old.output) log.old.pending) (log_seen (E.seen log.new.output) log.new.pending)
         result }
 {
-    let (white, black) = match start_both(
+    match start_both(
         rt,
         alloc,
         command_of(plan, number, Colour::White),
         command_of(plan, number, Colour::Black),
     ) {
-        Ok(engines) => engines,
-        Err(fault) => return Err(fault),
-    };
-    let setup = Setup {
-        start: plan.start,
-        level: plan.level,
-    };
-    let first = logged_side(plan, number);
-    let end = play_game(rt, white, black, first, log, moments, &setup, game);
-    let tags = tags_of(plan, number, &end);
-    match write_game(game, scratch, &tags, output) {
-        Ok(()) => Ok(end),
-        Err(_) => Err(GamesFault::WriteFailed),
+        Ok((white, black)) => play_game(
+            rt, white, black, plan, number, moments, game, scratch, output, log,
+        ),
+        Err(fault) => Err(fault),
     }
 }
 

@@ -274,19 +274,19 @@ fn engines_leave_nothing_behind(rt: HostRuntime) -> Result<(), Fail> {
 }
 
 // Asserts that a match ends before a game, with that report.
-fn check_early_end(rt: &impl Abort, host: &HostRuntime, words: &[&str], told: &[u8], status: u8) {
+fn check_early_end(rt: &impl Abort, host: &HostRuntime, words: &[&str], errors: &[u8], status: u8) {
     let wanted = Wanted {
         output: b"",
-        errors: told,
+        errors,
         status,
     };
     run(host, words, b"", SOUND).check(rt, wanted);
 }
 
 // Asserts that a match between these commands can not start, with that report.
-fn check_no_start(rt: &impl Abort, host: &HostRuntime, white: &str, black: &str, told: &[u8]) {
+fn check_no_start(rt: &impl Abort, host: &HostRuntime, white: &str, black: &str, errors: &[u8]) {
     let words = ["match", "--white", white, "--black", black];
-    check_early_end(rt, host, &words, told, 1);
+    check_early_end(rt, host, &words, errors, 1);
 }
 
 #[test]
@@ -348,8 +348,8 @@ const OUT_OF_FORM: [(&[&str], &[u8]); 4] = [
 
 #[test]
 fn matches_out_of_form(rt: HostRuntime) {
-    for (words, told) in &OUT_OF_FORM {
-        check_early_end(&rt, &rt, words, told, 2);
+    for (words, errors) in &OUT_OF_FORM {
+        check_early_end(&rt, &rt, words, errors, 2);
     }
 }
 

@@ -320,8 +320,8 @@ const FAULTS: [(ProgramFault, &str, u8); 4] = [
 #[test]
 fn faults_have_texts(rt: HostRuntime) -> Result<(), Fail> {
     for (fault, text, status) in &FAULTS {
-        let told = format!(in rt.alloc(); "{fault}")?;
-        assert_eq!(rt; told.as_str(), *text);
+        let shown = format!(in rt.alloc(); "{fault}")?;
+        assert_eq!(rt; shown.as_str(), *text);
         assert_eq!(rt; fault.status(), *status);
     }
     Ok(())

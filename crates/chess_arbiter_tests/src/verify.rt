@@ -9,7 +9,7 @@ use std::cell::Cell;
 use std::process::Abort;
 
 // Games as they are verified: the text, what is reported, and the status.
-const GAMES: [(&[u8], &[u8], u8); 16] = [
+const GAMES: [(&[u8], &[u8], u8); 17] = [
     (
         b"1.e4 {a} e5 (1...c5 2.Nf3) 2.Nf3 $1 *",
         b"game 1: 3 half-moves, *\n",
@@ -62,6 +62,12 @@ const GAMES: [(&[u8], &[u8], u8); 16] = [
         b"game 1: 0 half-moves, 1/2-1/2, rules infraction\ngame 2: 1 half-moves, *\ngame 3: 0 half-moves, 0-1, abandoned\n",
         0,
     ),
+    // Chess960, by its tag Variant.
+    (
+        b"[Variant \"Chess960\"] [FEN \"4k3/8/8/8/8/8/8/RK5R w HA - 0 1\"] 1. O-O-O *",
+        b"game 1: 1 half-moves, *\n",
+        0,
+    ),
     (b"", b"", 0),
 ];
 
@@ -72,8 +78,8 @@ fn games_are_verified(rt: HostRuntime) {
         taken: 5,
         ..SOUND
     };
-    for (text, told, status) in &GAMES {
-        check_output(&rt, &rt, &["verify"], text, devices, told, *status);
+    for (text, output, status) in &GAMES {
+        check_output(&rt, &rt, &["verify"], text, devices, output, *status);
     }
 }
 
@@ -180,10 +186,10 @@ const BY_WORDS: [(&[&str], &[u8], &[u8], u8); 11] = [
 
 #[test]
 fn games_verified_by_arguments(rt: HostRuntime) {
-    for (words, text, told, status) in &BY_WORDS {
+    for (words, text, output, status) in &BY_WORDS {
         for piece in [1, 7, 100] {
             let devices = Devices { piece, ..SOUND };
-            check_output(&rt, &rt, words, text, devices, told, *status);
+            check_output(&rt, &rt, words, text, devices, output, *status);
         }
     }
 }

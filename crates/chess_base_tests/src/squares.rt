@@ -19,8 +19,8 @@ fn squares_have_their_names(rt: HostRuntime) -> Result<(), Fail> {
     for (name, number) in &NAMES {
         let square = Square::new(*number);
         assert!(rt; Square::named(name) == Some(square));
-        let told = format!(in rt.alloc(); "{square}")?;
-        assert_eq!(rt; told.as_bytes(), *name);
+        let shown = format!(in rt.alloc(); "{square}")?;
+        assert_eq!(rt; shown.as_bytes(), *name);
     }
     Ok(())
 }
@@ -34,9 +34,9 @@ fn other_texts_name_no_square(rt: HostRuntime) {
 
 #[test]
 fn values_are_shown(rt: HostRuntime) -> Result<(), Fail> {
-    let told = format!(in rt.alloc(); "{} {}: {}", Colour::White, Kind::Knight, FenFault::Men)?;
+    let shown = format!(in rt.alloc(); "{} {}: {}", Colour::White, Kind::Knight, FenFault::Men)?;
     assert_eq!(rt;
-        told.as_bytes(),
+        shown.as_bytes(),
         b"white knight: a colour has more than 16 pieces".as_slice()
     );
     Ok(())
@@ -59,17 +59,17 @@ fn moves_are_shown_by_their_squares(rt: HostRuntime) -> Result<(), Fail> {
             to,
             promotion: *promotion,
         };
-        let told = format!(in rt.alloc(); "{m}")?;
-        assert_eq!(rt; told.as_bytes(), *text);
+        let shown = format!(in rt.alloc(); "{m}")?;
+        assert_eq!(rt; shown.as_bytes(), *text);
     }
     Ok(())
 }
 
 #[test]
 fn positions_are_shown_by_their_setups(rt: HostRuntime) -> Result<(), Fail> {
-    let told = format!(in rt.alloc(); "{:?}", Position::initial())?;
+    let shown = format!(in rt.alloc(); "{:?}", Position::initial())?;
     assert!(rt;
-        told.as_bytes()
+        shown.as_bytes()
             .starts_with(b"Position { setup: Setup { variant: Normal,")
     );
     Ok(())

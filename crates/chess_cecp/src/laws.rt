@@ -20,7 +20,7 @@ pub fn lines_are_pieces()
         stream_lines n at_end (piece ++ new_line ∷ rest) ≡ line_of n true piece ∷ stream_lines n at_end rest }
     ensures last { (n : ℕ) (piece : List ℕ) → HasNoEnd piece → 0 < length piece →
         stream_lines n true piece ≡ line_of n false piece ∷ [] }
-    ensures not_told { (n : ℕ) (piece : List ℕ) → HasNoEnd piece → stream_lines n false piece ≡ [] }
+    ensures not_at_end { (n : ℕ) (piece : List ℕ) → HasNoEnd piece → stream_lines n false piece ≡ [] }
 {}
 
 /// States a law and does nothing: a line that is refused (`Error ..`, `Illegal move ..`, `tellusererror ..`) leaves

@@ -550,8 +550,8 @@ const BOTH: Claims = Claims {
     fifty_moves: true,
 };
 
-/// A start, moves from there, and what is returned of the game then.
-struct Told {
+/// A start, moves from there, and what the game returns after them.
+struct PlayedLine {
     start: &'static [u8],
     moves: &'static [u8],
     verdict: Option<Verdict>,
@@ -560,9 +560,9 @@ struct Told {
     claims: Claims,
 }
 
-const LINES: [Told; 27] = [
+const LINES: [PlayedLine; 27] = [
     // The third, the fourth and the fifth time.
-    Told {
+    PlayedLine {
         start: b"rnbqkbnr/pppppppp/8/8/8/8/PPPPPPPP/RNBQKBNR w KQkq - 0 1",
         moves: b"g1f3 g8f6 f3g1 f6g8 g1f3 g8f6 f3g1 f6g8",
         verdict: None,
@@ -570,7 +570,7 @@ const LINES: [Told; 27] = [
         halfmove: 8,
         claims: THREEFOLD,
     },
-    Told {
+    PlayedLine {
         start: b"rnbqkbnr/pppppppp/8/8/8/8/PPPPPPPP/RNBQKBNR w KQkq - 0 1",
         moves: b"g1f3 g8f6 f3g1 f6g8 g1f3 g8f6 f3g1 f6g8 g1f3 g8f6 f3g1 f6g8",
         verdict: None,
@@ -578,7 +578,7 @@ const LINES: [Told; 27] = [
         halfmove: 12,
         claims: THREEFOLD,
     },
-    Told {
+    PlayedLine {
         start: b"rnbqkbnr/pppppppp/8/8/8/8/PPPPPPPP/RNBQKBNR w KQkq - 0 1",
         moves: b"g1f3 g8f6 f3g1 f6g8 g1f3 g8f6 f3g1 f6g8 g1f3 g8f6 f3g1 f6g8 g1f3 g8f6 f3g1",
         verdict: None,
@@ -586,7 +586,7 @@ const LINES: [Told; 27] = [
         halfmove: 15,
         claims: THREEFOLD,
     },
-    Told {
+    PlayedLine {
         start: b"rnbqkbnr/pppppppp/8/8/8/8/PPPPPPPP/RNBQKBNR w KQkq - 0 1",
         moves: b"g1f3 g8f6 f3g1 f6g8 g1f3 g8f6 f3g1 f6g8 g1f3 g8f6 f3g1 f6g8 g1f3 g8f6 f3g1 f6g8",
         verdict: Some(Verdict::FivefoldRepetition),
@@ -595,7 +595,7 @@ const LINES: [Told; 27] = [
         claims: THREEFOLD,
     },
     // The clock goes on from the start's; the fifth time before 75 moves, and the fourth.
-    Told {
+    PlayedLine {
         start: b"rnbqkbnr/pppppppp/8/8/8/8/PPPPPPPP/RNBQKBNR w KQkq - 92 50",
         moves: b"g1f3 g8f6 f3g1 f6g8 g1f3 g8f6 f3g1 f6g8",
         verdict: None,
@@ -603,7 +603,7 @@ const LINES: [Told; 27] = [
         halfmove: 100,
         claims: BOTH,
     },
-    Told {
+    PlayedLine {
         start: b"rnbqkbnr/pppppppp/8/8/8/8/PPPPPPPP/RNBQKBNR w KQkq - 134 80",
         moves: b"g1f3 g8f6 f3g1 f6g8 g1f3 g8f6 f3g1 f6g8 g1f3 g8f6 f3g1 f6g8 g1f3 g8f6 f3g1 f6g8",
         verdict: Some(Verdict::FivefoldRepetition),
@@ -611,7 +611,7 @@ const LINES: [Told; 27] = [
         halfmove: 150,
         claims: BOTH,
     },
-    Told {
+    PlayedLine {
         start: b"rnbqkbnr/pppppppp/8/8/8/8/PPPPPPPP/RNBQKBNR w KQkq - 135 80",
         moves: b"g1f3 g8f6 f3g1 f6g8 g1f3 g8f6 f3g1 f6g8 g1f3 g8f6 f3g1 f6g8 g1f3 g8f6 f3g1",
         verdict: Some(Verdict::SeventyFiveMoves),
@@ -621,7 +621,7 @@ const LINES: [Told; 27] = [
     },
     // A target on which nobody may capture makes no difference: no pawn is beside it, also after a move that set it; a
     // pin.
-    Told {
+    PlayedLine {
         start: b"rnbqkbnr/pppppppp/8/8/4P3/8/PPPP1PPP/RNBQKBNR b KQkq e3 0 1",
         moves: b"g8f6 g1f3 f6g8 f3g1",
         verdict: None,
@@ -629,7 +629,7 @@ const LINES: [Told; 27] = [
         halfmove: 4,
         claims: NONE,
     },
-    Told {
+    PlayedLine {
         start: b"rnbqkbnr/pppppppp/8/8/8/8/PPPPPPPP/RNBQKBNR w KQkq - 0 1",
         moves: b"e2e4 g8f6 g1f3 f6g8 f3g1",
         verdict: None,
@@ -637,7 +637,7 @@ const LINES: [Told; 27] = [
         halfmove: 4,
         claims: NONE,
     },
-    Told {
+    PlayedLine {
         start: b"3k4/8/8/8/3pP3/8/8/3RK3 b - e3 0 1",
         moves: b"d8c8 e1e2 c8d8 e2e1",
         verdict: None,
@@ -647,7 +647,7 @@ const LINES: [Told; 27] = [
     },
     // Games on which programs differ: the third time counts the position after a double advance that nobody could
     // answer en passant; the capturing pawn would uncover its king along the rank.
-    Told {
+    PlayedLine {
         start: b"rnbqkbnr/pppppppp/8/8/8/8/PPPPPPPP/RNBQKBNR w KQkq - 0 1",
         moves: b"a2a4 b7b5 h2h3 g8h6 b1c3 h6g8 e2e3 g8h6 d2d4 g7g6 a4a5 e7e5 d1f3 b8a6 f3d1 a6b8 d1f3 h6f5 f3d1 f5h6",
         verdict: None,
@@ -655,7 +655,7 @@ const LINES: [Told; 27] = [
         halfmove: 8,
         claims: THREEFOLD,
     },
-    Told {
+    PlayedLine {
         start: b"7k/8/8/K2pP2r/8/8/8/8 w - d6 0 1",
         moves: b"a5a4 h8g8 a4a5 g8h8 a5a4 h8g8 a4a5 g8h8",
         verdict: None,
@@ -664,7 +664,7 @@ const LINES: [Told; 27] = [
         claims: THREEFOLD,
     },
     // A capture on the target was possible once, and never again.
-    Told {
+    PlayedLine {
         start: b"4k3/8/8/8/3pP3/8/8/4K3 b - e3 0 1",
         moves: b"e8d8 e1d1 d8e8 d1e1",
         verdict: None,
@@ -672,7 +672,7 @@ const LINES: [Told; 27] = [
         halfmove: 4,
         claims: NONE,
     },
-    Told {
+    PlayedLine {
         start: b"4k3/8/8/8/3pP3/8/8/4K3 b - e3 0 1",
         moves: b"e8d8 e1d1 d8e8 d1e1 e8d8 e1d1 d8e8 d1e1",
         verdict: None,
@@ -681,7 +681,7 @@ const LINES: [Told; 27] = [
         claims: NONE,
     },
     // A right that is lost makes another position.
-    Told {
+    PlayedLine {
         start: b"4k3/8/8/8/8/8/8/R3K3 w Q - 0 1",
         moves: b"a1a2 e8e7 a2a1 e7e8",
         verdict: None,
@@ -689,7 +689,7 @@ const LINES: [Told; 27] = [
         halfmove: 4,
         claims: NONE,
     },
-    Told {
+    PlayedLine {
         start: b"4k3/8/8/8/8/8/8/R3K3 w Q - 0 1",
         moves: b"a1a2 e8e7 a2a1 e7e8 a1a2 e8e7 a2a1 e7e8",
         verdict: None,
@@ -698,7 +698,7 @@ const LINES: [Told; 27] = [
         claims: NONE,
     },
     // The same pieces with the other side on move are another position; like pieces on each other's squares are not.
-    Told {
+    PlayedLine {
         start: b"4k3/8/8/8/8/8/8/R3K3 w - - 0 1",
         moves: b"e1d1 e8d8 d1d2 d8e8 d2e1",
         verdict: None,
@@ -706,7 +706,7 @@ const LINES: [Told; 27] = [
         halfmove: 5,
         claims: NONE,
     },
-    Told {
+    PlayedLine {
         start: b"4k3/8/8/8/8/8/8/RR2K3 w - - 0 1",
         moves: b"a1a2 e8e7 b1a1 e7e8 a2b2 e8e7 b2b1 e7e8",
         verdict: None,
@@ -715,7 +715,7 @@ const LINES: [Told; 27] = [
         claims: NONE,
     },
     // 50 and 75 moves; mate comes first, a pawn move and a capture begin anew.
-    Told {
+    PlayedLine {
         start: b"4k3/8/8/8/8/8/8/R3K3 w - - 99 80",
         moves: b"",
         verdict: None,
@@ -723,7 +723,7 @@ const LINES: [Told; 27] = [
         halfmove: 99,
         claims: NONE,
     },
-    Told {
+    PlayedLine {
         start: b"4k3/8/8/8/8/8/8/R3K3 w - - 99 80",
         moves: b"a1a2",
         verdict: None,
@@ -731,7 +731,7 @@ const LINES: [Told; 27] = [
         halfmove: 100,
         claims: FIFTY_MOVES,
     },
-    Told {
+    PlayedLine {
         start: b"4k3/8/8/8/8/8/8/R3K3 w - - 148 80",
         moves: b"a1a2",
         verdict: None,
@@ -739,7 +739,7 @@ const LINES: [Told; 27] = [
         halfmove: 149,
         claims: FIFTY_MOVES,
     },
-    Told {
+    PlayedLine {
         start: b"4k3/8/8/8/8/8/8/R3K3 w - - 149 80",
         moves: b"a1a2",
         verdict: Some(Verdict::SeventyFiveMoves),
@@ -747,7 +747,7 @@ const LINES: [Told; 27] = [
         halfmove: 150,
         claims: FIFTY_MOVES,
     },
-    Told {
+    PlayedLine {
         start: b"7k/8/6K1/8/8/8/8/R7 w - - 149 200",
         moves: b"a1a8",
         verdict: Some(Verdict::WhiteMates),
@@ -755,7 +755,7 @@ const LINES: [Told; 27] = [
         halfmove: 150,
         claims: FIFTY_MOVES,
     },
-    Told {
+    PlayedLine {
         start: b"4k3/8/8/8/8/8/4P3/4K3 w - - 149 80",
         moves: b"e2e3",
         verdict: None,
@@ -763,7 +763,7 @@ const LINES: [Told; 27] = [
         halfmove: 0,
         claims: NONE,
     },
-    Told {
+    PlayedLine {
         start: b"4k3/8/8/8/8/8/4p3/4K3 w - - 149 80",
         moves: b"e1e2",
         verdict: Some(Verdict::InsufficientMaterial),
@@ -772,7 +772,7 @@ const LINES: [Told; 27] = [
         claims: NONE,
     },
     // Mate by Black, and by White: 1. e4 e5 2. Bc4 Nc6 3. Qh5 Nf6 4. Qxf7#.
-    Told {
+    PlayedLine {
         start: b"rnbqkbnr/pppppppp/8/8/8/8/PPPPPPPP/RNBQKBNR w KQkq - 0 1",
         moves: b"f2f3 e7e5 g2g4 d8h4",
         verdict: Some(Verdict::BlackMates),
@@ -780,7 +780,7 @@ const LINES: [Told; 27] = [
         halfmove: 1,
         claims: NONE,
     },
-    Told {
+    PlayedLine {
         start: b"rnbqkbnr/pppppppp/8/8/8/8/PPPPPPPP/RNBQKBNR w KQkq - 0 1",
         moves: b"e2e4 e7e5 f1c4 b8c6 d1h5 g8f6 h5f7",
         verdict: Some(Verdict::WhiteMates),
@@ -828,7 +828,7 @@ fn ends_by<B: Board>(
 }
 
 // A start, and why the game is over there.
-fn starts_as_told<B: Board>(
+fn check_start<B: Board>(
     rt: &impl Abort,
     game: &mut Game<B>,
     start: &[u8],
@@ -855,48 +855,48 @@ fn may_claim<B: Board>(
     );
 }
 
-fn goes_as_told<B: Board>(rt: &impl Abort, game: &mut Game<B>, told: &Told) -> Result<(), Fail> {
-    restart(game, told.start)?;
-    play_all(game, told.moves)?;
-    ends_by(rt, game, told.moves, told.verdict, told.repetitions);
-    may_claim(rt, game, told.moves, told.halfmove, told.claims);
+fn check_line<B: Board>(rt: &impl Abort, game: &mut Game<B>, line: &PlayedLine) -> Result<(), Fail> {
+    restart(game, line.start)?;
+    play_all(game, line.moves)?;
+    ends_by(rt, game, line.moves, line.verdict, line.repetitions);
+    may_claim(rt, game, line.moves, line.halfmove, line.claims);
     Ok(())
 }
 
-fn all_start_as_told<B: Board>(
+fn check_starts<B: Board>(
     rt: &impl Abort,
     game: &mut Game<B>,
     starts: &[(&[u8], Option<Verdict>)],
 ) -> Result<(), Fail> {
     for start in starts {
-        starts_as_told(rt, game, start.0, start.1)?;
+        check_start(rt, game, start.0, start.1)?;
     }
     Ok(())
 }
 
-fn all_go_as_told<B: Board>(
+fn check_lines<B: Board>(
     rt: &impl Abort,
     game: &mut Game<B>,
-    lines: &[Told],
+    lines: &[PlayedLine],
 ) -> Result<(), Fail> {
-    for told in lines {
-        goes_as_told(rt, game, told)?;
+    for line in lines {
+        check_line(rt, game, line)?;
     }
     Ok(())
 }
 
-fn ends_as_told<B: Board + Drop>(rt: &impl Abort, alloc: Global, board: B) -> Result<(), Fail> {
+fn check_ends<B: Board + Drop>(rt: &impl Abort, alloc: Global, board: B) -> Result<(), Fail> {
     let mut game = opened(rt, alloc, board, 100)?;
-    all_start_as_told(rt, &mut game, &STARTS)?;
-    all_go_as_told(rt, &mut game, &LINES)
+    check_starts(rt, &mut game, &STARTS)?;
+    check_lines(rt, &mut game, &LINES)
 }
 
 #[test]
 fn ends_and_claims(rt: HostRuntime) -> Result<(), Fail> {
-    ends_as_told(&rt, rt.alloc(), Plain::new())?;
+    check_ends(&rt, rt.alloc(), Plain::new())?;
     let tables = AttackTables::open(rt.alloc())?;
-    ends_as_told(&rt, rt.alloc(), Bits::new(&tables))?;
-    ends_as_told(&rt, rt.alloc(), zero_hash_board(&Calls::none()))
+    check_ends(&rt, rt.alloc(), Bits::new(&tables))?;
+    check_ends(&rt, rt.alloc(), zero_hash_board(&Calls::none()))
 }
 
 const MATE: &[Step] = &[
@@ -1318,12 +1318,12 @@ fn shown_refusals(alloc: Global) -> Result<String, Fail> {
 
 #[test]
 fn results_are_shown(rt: HostRuntime) -> Result<(), Fail> {
-    let told = shown_result(rt.alloc())?;
-    is_equal(&rt, &told.as_str(), &"1-0 {White mates}");
-    let told = shown_refusals(rt.alloc())?;
+    let shown = shown_result(rt.alloc())?;
+    is_equal(&rt, &shown.as_str(), &"1-0 {White mates}");
+    let shown = shown_refusals(rt.alloc())?;
     is_equal(
         &rt,
-        &told.as_str(),
+        &shown.as_str(),
         &"the move is not legal, there is no move to take back",
     );
     Ok(())

@@ -63,7 +63,7 @@ text_of_last as_san p [] = []
 text_of_last as_san p (m ∷ []) = if as_san then san p m else shown_move p m
 text_of_last as_san p (m ∷ n ∷ ms) = text_of_last as_san (after p m) (n ∷ ms)
 
--- whether a square (`man` is what stands on it) is empty, or has a king or a piece of the other colour than `c`
+-- whether a square (`man` is what is on it) is empty, or has a king or a piece of the other colour than `c`
 abbrev pub is_king_or_other : Colour → Option Man → Bool
 is_king_or_other c man = option_map_or (λ (x : Man). not (same_colour x.colour c) || same_kind x.kind King) man true
 

@@ -25,7 +25,7 @@ use chess_text::{
     Reading, add_check_mark, move_text, read_move, read_moves_are_legal, unmarked_san,
 };
 
-// Whether a square (`man` is what stands on it) is empty, or has a king or a piece of the other colour than `colour`.
+// Whether a square (`man` is what is on it) is empty, or has a king or a piece of the other colour than `colour`.
 fn is_king_or_other(colour: Colour, man: Option<Man>) -> bool
     ensures { result ≡ is_king_or_other colour man }
 {

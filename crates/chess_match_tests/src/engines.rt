@@ -1,5 +1,5 @@
 use crate::plays::{
-    BOARDS, Listed, On, TestEnds, ends, is_text, is_told, play_over, position_of, setup_of,
+    BOARDS, Listed, On, TestEnds, check_end, ends, is_text, play_over, position_of, setup_of,
 };
 use byte_devices::Counted;
 use chess_base::{Colour, Position, Variant};
@@ -272,7 +272,7 @@ fn breaks(rt: &impl Abort, alloc: Global, on: On, broken: &Broken) -> Result<(),
         &mut moments,
         &setup,
     )?;
-    is_told(rt, &end, broken.outcome, broken.comment, Some(broken.fault));
+    check_end(rt, &end, broken.outcome, broken.comment, Some(broken.fault));
     are_sent(rt, &white, &black, broken.to_white, broken.to_black);
     Ok(())
 }
@@ -504,7 +504,7 @@ fn blocks_are_flushed_and_moments_asked_in_time(rt: HostRuntime) -> Result<(), F
         &mut moments,
         &setup,
     )?;
-    is_told(&rt, &end, Outcome::BlackWins, b"Black mates", None);
+    check_end(&rt, &end, Outcome::BlackWins, b"Black mates", None);
     is_text(
         &rt,
         "to White",

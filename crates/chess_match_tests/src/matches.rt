@@ -1,6 +1,6 @@
 //! Engines that flood or fail, Chess960, and what is reported of an end.
 
-use crate::plays::{BOARDS, Listed, On, ends, is_text, is_told, play_over, position_of, setup_of};
+use crate::plays::{BOARDS, Listed, On, check_end, ends, is_text, play_over, position_of, setup_of};
 use byte_devices::{Counted, PieceReader};
 use chess_base::{Colour, Position, Variant};
 use chess_game::Outcome;
@@ -78,7 +78,7 @@ struct Ending {
 }
 
 fn is_end(rt: &impl Abort, played: &Played, ending: &Ending) {
-    is_told(
+    check_end(
         rt,
         &played.end,
         ending.outcome,
@@ -201,23 +201,31 @@ const NO_DONE: Ending = Ending {
     fault: Some((Colour::White, MatchFault::NoDone)),
 };
 
-// So many lines `x` before the handshake.
-fn hello_behind(rt: &impl Abort, alloc: Global, count: usize, ending: &Ending) -> Result<(), Fail> {
-    let behind = b"feature ping=1 done=1\npong 1\nresign\n".as_slice();
-    let white = repeated(alloc, &[(b"x\n", count), (behind, 1)])?;
-    ends_so(
-        rt,
-        alloc,
-        &MatchInput::of(white.as_slice(), BLACK),
-        ending,
-        0,
-    )
+// White's text after so many lines `x`.
+fn white_behind(alloc: Global, count: usize) -> Result<Vec<u8>, Fail> {
+    repeated(alloc, &[(b"x\n", count), (WHITE, 1)])
+}
+
+// 999 lines before the handshake change nothing in a game to its mate.
+fn long_hello_on(rt: &impl Abort, alloc: Global, on: On) -> Result<(), Fail> {
+    let start = Position::initial();
+    let white = white_behind(alloc, 999)?;
+    let played = play(rt, alloc, on, start, &MatchInput::of(white.as_slice(), BLACK))?;
+    let whole = play(rt, alloc, on, start, &MatchInput::of(WHITE, BLACK))?;
+    is_end(rt, &played, &BLACK_MATES);
+    is_text(rt, "to White", played.to_white.as_slice(), whole.to_white.as_slice());
+    is_text(rt, "to Black", played.to_black.as_slice(), whole.to_black.as_slice());
+    Ok(())
 }
 
 #[test]
 fn hellos_of_many_lines(rt: HostRuntime) -> Result<(), Fail> {
-    hello_behind(&rt, rt.alloc(), 999, &WHITE_RESIGNS)?;
-    hello_behind(&rt, rt.alloc(), 1000, &NO_DONE)
+    for on in BOARDS {
+        long_hello_on(&rt, rt.alloc(), *on)?;
+    }
+    let white = white_behind(rt.alloc(), 1000)?;
+    let input = MatchInput::of(white.as_slice(), BLACK);
+    ends_so(&rt, rt.alloc(), &input, &NO_DONE, 0)
 }
 
 const FLOOD: Ending = Ending {

@@ -20,9 +20,9 @@ pub struct Listed<'a> {
 }
 
 impl Moments for Listed<'_> {
-    ghost use Rattle.std.specs.Prelude.{None};
+    ghost use Rattle.std.specs.Prelude.{Some, get_or};
 
-    ghost coming = { λ m n. None };
+    ghost coming = { λ m n. Some (get_or m.rest.now n 0) };
 
     fn now(&mut self) -> u64 {
         match self.rest {
@@ -178,7 +178,7 @@ pub fn is_text(rt: &impl Abort, name: &str, text: &[u8], wanted: &[u8]) {
 }
 
 /// An end has this outcome and comment, and this fault or none.
-pub fn is_told(
+pub fn check_end(
     rt: &impl Abort,
     end: &MatchEnd,
     outcome: Outcome,

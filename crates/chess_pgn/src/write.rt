@@ -22,7 +22,7 @@ use chess_game::{Game, Outcome};
 use chess_moves::Board;
 use chess_text::{san, san_is_a_word};
 
-// The token of a move number: at most 20 digits, and three dots.
+// The token of a move number, with room for 20 digits and three dots.
 type NumberText = ArrayVec<u8, 23>;
 
 /// Writes a game's text (PGN standard of 1994, section 3.2, the form for exchange): its tags, an empty line, its moves

@@ -142,7 +142,7 @@ fn verify_all<R: Input, W: Output>(
 ///
 /// # Errors
 /// If a read fails, memory runs out, or nearly 2^63 bytes were read: the lines of the pieces whose end was read were
-/// written. If a write or the flush fails: a beginning of the lines was written.
+/// written, but not flushed. If a write or the flush fails: a beginning of the lines was written.
 pub fn verify_collection<R: Input, W: Output>(
     alloc: Global,
     options: VerifyOptions,

@@ -1,7 +1,7 @@
 //! Whether a game's result contradicts its text or the board.
 
 ghost use Rattle.std.specs.Prelude.{◌≡◌, ◌≤◌, length, Some};
-ghost use Rattle.std.specs.Option.{IfSome, option_eq, option_or};
+ghost use Rattle.std.specs.Option.{IfSome, option_eq};
 ghost use Rattle.chess_game.specs.Game.{contradicts_verdict, verdict_now};
 ghost use Rattle.chess_pgn.specs.LastTags.{result_tag_of};
 ghost use Rattle.chess_game.specs.Results.{same_outcome};
@@ -61,16 +61,6 @@ fn board_says_otherwise(verdict: Option<Verdict>, end: PgnEnd) -> Option<GameFau
     })
 }
 
-// The first fault if there is one, else the second, if there is one.
-fn first_fault(first: Option<GameFault>, second: Option<GameFault>) -> Option<GameFault>
-    ensures { result ≡ option_or first second }
-{
-    match first {
-        Some(fault) => Some(fault),
-        None => second,
-    }
-}
-
 // What is wrong with the outcome (`end`) of the game that was read from `at` on: it differs from its tag `Result`, or
 // else from the board's verdict. `None` if it agrees, or if it isn't compared (`strict` is false).
 pub(crate) fn contradiction<B: Board>(
@@ -88,8 +78,5 @@ pub(crate) fn contradiction<B: Board>(
     if !strict {
         return None;
     }
-    first_fault(
-        result_differs(result_tag(text, at), end),
-        board_says_otherwise(game.verdict(), end),
-    )
+    result_differs(result_tag(text, at), end).or(board_says_otherwise(game.verdict(), end))
 }

@@ -23,7 +23,7 @@ pub(crate) enum FaultKind {
 pub(crate) struct GameFault {
     /// What is wrong.
     pub kind: FaultKind,
-    /// The byte at which it is, from the text's first byte on.
+    /// The byte at which it is, counted from the text's first byte; from the input's, once it is reported.
     pub offset: usize,
 }
 

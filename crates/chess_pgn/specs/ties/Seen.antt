@@ -7,41 +7,41 @@ use Rattle.chess_pgn.specs.declared.token.Token.{Token}
 use Rattle.chess_pgn.specs.declared.token.Token.TheVariants as token
 use Rattle.chess_pgn.specs.declared.token.TokenFault.{TokenFault}
 use Rattle.chess_pgn.specs.declared.token.TokenFault.TheVariants as fault
-use Rattle.chess_pgn.specs.Tokens as told
+use Rattle.chess_pgn.specs.Tokens as tokens
 use Rattle.chess_pgn.specs.Tokens.{tokens_from}
 
 -- what the code's `read_tag` returned, as the definitions have it: the tag's token and the text after it, or `Bad_tag`
 -- and an empty text
-abbrev pub tag_seen : Option (Tag × Bor (List ℕ)) → told.Token × List ℕ
-tag_seen None = (told.Bad_tag, [])
-tag_seen (Some r) = (told.Tag r.0.name.now r.0.text.now r.0.left, r.1.now)
+abbrev pub tag_seen : Option (Tag × Bor (List ℕ)) → tokens.Token × List ℕ
+tag_seen None = (tokens.Bad_tag, [])
+tag_seen (Some r) = (tokens.Tag r.0.name.now r.0.text.now r.0.left, r.1.now)
 
 -- the tag that the code found, as the definitions have it: its text, and how many bytes are left where that begins
 abbrev pub found_seen : Option Tag → Option (List ℕ × ℕ)
 found_seen tag = option_map (λ t. (t.text.now, t.left)) tag
 
 -- the code's token as the definitions have it: with lists of bytes in place of borrows
-abbrev pub token_seen : Token → told.Token
-token_seen token.Skip = told.Skip
-token_seen (token.Tag t) = told.Tag t.name.now t.text.now t.left
-token_seen (token.Word word) = told.Word word.now
+abbrev pub token_seen : Token → tokens.Token
+token_seen token.Skip = tokens.Skip
+token_seen (token.Tag t) = tokens.Tag t.name.now t.text.now t.left
+token_seen (token.Word word) = tokens.Word word.now
 
 -- the code's fault as the definitions have it: there what can't be read is a token too
-abbrev pub fault_seen : TokenFault → told.Token
-fault_seen fault.BadTag = told.Bad_tag
-fault_seen (fault.UnclosedComment left) = told.Unclosed_comment left
-fault_seen fault.UnclosedVariation = told.Unclosed_variation
-fault_seen fault.BadByte = told.Bad
+abbrev pub fault_seen : TokenFault → tokens.Token
+fault_seen fault.BadTag = tokens.Bad_tag
+fault_seen (fault.UnclosedComment left) = tokens.Unclosed_comment left
+fault_seen fault.UnclosedVariation = tokens.Unclosed_variation
+fault_seen fault.BadByte = tokens.Bad
 
 -- what the code's `after_variation` returned, as the definitions have it: `Skip` and the text after the variation, or
 -- the token of the fault and an empty text
-abbrev pub variation_seen : Result (Bor (List ℕ)) TokenFault → told.Token × List ℕ
-variation_seen (Ok rest) = (told.Skip, rest.now)
+abbrev pub variation_seen : Result (Bor (List ℕ)) TokenFault → tokens.Token × List ℕ
+variation_seen (Ok rest) = (tokens.Skip, rest.now)
 variation_seen (Err f) = (fault_seen f, [])
 
 -- what the code's `read_token` returned, as the definitions have it: the token and the text after it, or the token of
 -- the fault and an empty text
-abbrev pub first_seen : Result (Token × Bor (List ℕ)) TokenFault → told.Token × List ℕ
+abbrev pub first_seen : Result (Token × Bor (List ℕ)) TokenFault → tokens.Token × List ℕ
 first_seen (Ok r) = (token_seen r.0, r.1.now)
 first_seen (Err f) = (fault_seen f, [])
 

@@ -41,16 +41,16 @@ returns c =
     let texts = map (λ w. w.now) c.args.words.now in
     let m = c.in-Ok.matches in
     let parsed : IsParsed texts (Ok m) = c.in-Ok.ensures.parsed in
-    let denoted : IsRequestOf (asked parsed.0 texts) c.match-entered.denoted = elim c.match-entered.branch [
+    let denoted : IsRequestOf (asked parsed.0 texts) c.match-entered.request = elim c.match-entered.branch [
       | in-None w ↦
           let is : c.entered.result ≡ None = search rules in
-          subst (IsRequestOf (asked parsed.0 texts)) (sym w.denoted-is)
+          subst (IsRequestOf (asked parsed.0 texts)) (sym w.request-is)
           (ap (λ p. p.0) (none_asked texts m parsed c.entered.result c.entered.ensures is))
       | in-Some+in-Ok-request_in w ↦
           let is : c.entered.result ≡ Some (w.in-Some.name, w.in-Some.found) = search rules in
           let e = some_asked texts m parsed c.entered.result c.entered.ensures (w.in-Some.name, w.in-Some.found) is in
-          subst (IsRequestOf (asked parsed.0 texts)) (sym w.denoted-is)
-          (subst (λ p. IsRequestOf p w.in-Ok-request_in.denoted) (sym e) w.in-Ok-request_in.ensures)
+          subst (IsRequestOf (asked parsed.0 texts)) (sym w.request-is)
+          (subst (λ p. IsRequestOf p w.in-Ok-request_in.request) (sym e) w.in-Ok-request_in.ensures)
     ] in
-    planned_reading parsed.0 texts parsed.1 parsed.2.0 c.match-entered.denoted denoted c.planned.result
+    planned_reading parsed.0 texts parsed.1 parsed.2.0 c.match-entered.request denoted c.planned.result
     c.planned.ensures.plan c.planned.ensures.fault

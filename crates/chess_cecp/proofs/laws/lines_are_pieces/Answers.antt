@@ -1,5 +1,5 @@
-use Rattle.chess_cecp.proofs.Reading.{law_ended, law_last, law_not_told, nothing_left}
+use Rattle.chess_cecp.proofs.Reading.{law_ended, law_last, law_not_at_end, nothing_left}
 use Rattle.chess_cecp.proofs.laws.lines_are_pieces.Goals as goal
 
 pub returns : goal.returns
-returns c = record { empty = nothing_left; ended = law_ended; last = law_last; not_told = law_not_told }
+returns c = record { empty = nothing_left; ended = law_ended; last = law_last; not_at_end = law_not_at_end }
