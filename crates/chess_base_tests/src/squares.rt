@@ -69,7 +69,8 @@ fn moves_are_shown_by_their_squares(rt: HostRuntime) -> Result<(), Fail> {
 fn positions_are_shown_by_their_setups(rt: HostRuntime) -> Result<(), Fail> {
     let shown = format!(in rt.alloc(); "{:?}", Position::initial())?;
     assert!(rt;
-        shown.as_bytes()
+        shown
+            .as_bytes()
             .starts_with(b"Position { setup: Setup { variant: Normal,")
     );
     Ok(())

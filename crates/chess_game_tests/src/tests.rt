@@ -855,7 +855,11 @@ fn may_claim<B: Board>(
     );
 }
 
-fn check_line<B: Board>(rt: &impl Abort, game: &mut Game<B>, line: &PlayedLine) -> Result<(), Fail> {
+fn check_line<B: Board>(
+    rt: &impl Abort,
+    game: &mut Game<B>,
+    line: &PlayedLine,
+) -> Result<(), Fail> {
     restart(game, line.start)?;
     play_all(game, line.moves)?;
     ends_by(rt, game, line.moves, line.verdict, line.repetitions);

@@ -1,6 +1,8 @@
 //! Engines that flood or fail, Chess960, and what is reported of an end.
 
-use crate::plays::{BOARDS, Listed, On, check_end, ends, is_text, play_over, position_of, setup_of};
+use crate::plays::{
+    BOARDS, Listed, On, check_end, ends, is_text, play_over, position_of, setup_of,
+};
 use byte_devices::{Counted, PieceReader};
 use chess_base::{Colour, Position, Variant};
 use chess_game::Outcome;
@@ -210,11 +212,27 @@ fn white_behind(alloc: Global, count: usize) -> Result<Vec<u8>, Fail> {
 fn long_hello_on(rt: &impl Abort, alloc: Global, on: On) -> Result<(), Fail> {
     let start = Position::initial();
     let white = white_behind(alloc, 999)?;
-    let played = play(rt, alloc, on, start, &MatchInput::of(white.as_slice(), BLACK))?;
+    let played = play(
+        rt,
+        alloc,
+        on,
+        start,
+        &MatchInput::of(white.as_slice(), BLACK),
+    )?;
     let whole = play(rt, alloc, on, start, &MatchInput::of(WHITE, BLACK))?;
     is_end(rt, &played, &BLACK_MATES);
-    is_text(rt, "to White", played.to_white.as_slice(), whole.to_white.as_slice());
-    is_text(rt, "to Black", played.to_black.as_slice(), whole.to_black.as_slice());
+    is_text(
+        rt,
+        "to White",
+        played.to_white.as_slice(),
+        whole.to_white.as_slice(),
+    );
+    is_text(
+        rt,
+        "to Black",
+        played.to_black.as_slice(),
+        whole.to_black.as_slice(),
+    );
     Ok(())
 }
 
