@@ -7,9 +7,9 @@ same() {
     cmp "$1" "$2" >&2 || exit
 }
 
-# Each White tells how many lines were written when it was started, and waits for its game.
+# The engine of `--white` tells, in each game, how many lines were written when it was started, and waits for its game.
 : > seen
-"$program" match --white "sh looking.sh $program f2f3 g2g4" --black "$program stub e7e5 d8h4" --games 2 > written || exit
+"$program" match --white "sh looking.sh $program f2f3 g2g4" --black "$program stub e7e5 d8h4" --games 2 > match_output || exit
 same seen seen.txt
 
 "$program" match --white "$program stub f2f3 g2g4" --black "sh leaving.sh" --games 2 > left 2> fault

@@ -1,13 +1,13 @@
 //! The games of a match, one after another.
 
-ghost use Rattle.std.specs.Prelude.{◌≡◌, ◌≤◌, ◌⊎◌, [], IfErr};
+ghost use Rattle.std.specs.Prelude.{◌≡◌, ◌≤◌, ◌⊎◌, [], IfErr, IfOk};
 ghost use Rattle.byte_devices.specs.Devices.{Sends};
 ghost use Rattle.chess_match.specs.Reasons.{by_colour, comment_of};
 ghost use Rattle.chess_match.specs.Run.{Ports};
 ghost use Rattle.chess_match.specs.declared.reason.Reason.TheVariants.{Faulted};
 ghost use Rattle.chess_pgn.specs.GameText.{pgn};
 ghost use Rattle.chess_arbiter.specs.Games.{RanGames, engine_command, first_side, player_name, score_line, tags_of};
-ghost use Rattle.chess_arbiter.specs.ties.Playing.{FailsToStart, HasPlayed, PlayedOne, RanAndLogged, ReportsStart, logged_side};
+ghost use Rattle.chess_arbiter.specs.ties.Playing.{FailsToStart, HasPlayed, IsMatchEndOf, PlayedOne, RanAndLogged, ReportsStart, logged_side};
 ghost use Rattle.chess_arbiter.specs.Log.{log_seen};
 ghost use Rattle.chess_game.specs.declared.game.TheConstants.{MOST_MOVES};
 
@@ -17,7 +17,7 @@ use crate::log::{Log, run_match_logged};
 use crate::moments::SinceStart;
 use crate::score::Score;
 use arbiter_cli::MatchPlan;
-use byte_devices::{Input, Output, WriteFault, send};
+use byte_devices::{Counted, Input, Output, WriteFault, send};
 use chess_base::{Colour, same_colour};
 use chess_bits::{AttackTables, Bits};
 use chess_game::{Game, MOST_MOVES};
@@ -220,6 +220,13 @@ fn play_game<'a, 't, C: Clock, P: OpenProcess + Drop, M: Moments, W: Output, E: 
     ensures played { PlayedOne plan.now number (W.seen output.old) (W.seen output.new)
         (log_seen (E.seen log.old.output) log.old.pending) (log_seen (E.seen log.new.output) log.new.pending)
         result }
+    ensures ran { IfOk result (λ end. IsMatchEndOf (logged_side plan.now number)
+        (log_seen (E.seen log.old.output) log.old.pending) (log_seen (E.seen log.new.output) log.new.pending)
+        plan.now.start plan.now.level game.old game.new end
+        (record {
+          reader = by_colour (⟦<Counted<P::Stdout> as Input>⟧.seen white.ends.reader) (⟦<Counted<P::Stdout> as Input>⟧.seen black.ends.reader);
+          writer = by_colour (⟦<Counted<P::Stdin> as Output>⟧.seen white.ends.writer) (⟦<Counted<P::Stdin> as Output>⟧.seen black.ends.writer);
+        })) }
 {
     let Engine {
         child: white_child,

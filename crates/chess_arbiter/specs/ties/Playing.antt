@@ -65,6 +65,15 @@ abbrev pub RanAndLogged : Option Colour → LogSeen → LogSeen → Setup → Le
 RanAndLogged first l l' start level g g' end w w' coming coming' =
     (notes : List Note) × RanNoted notes start level g g' end w w' coming coming' × LogsGame first l l' notes
 
+-- `end` is the reported end of a game from the position `start` with the time control `level`, between engines whose
+-- devices were `w` before; it was logged if `log`, the side of the engine of `--white`, is given. `l` and `g` are the
+-- log and the game before, `l'` and `g'` after
+abbrev pub IsMatchEndOf : Option Colour → LogSeen → LogSeen → Setup → LevelSeen → Seen → Seen → MatchEnd → Ports
+    → Type 0
+IsMatchEndOf log l l' start level g g' end w =
+    (notes : List Note) × (w' : Ports) × (coming : ℕ → Option ℕ) × (coming' : ℕ → Option ℕ)
+    × RanNoted notes start level g g' end w w' coming coming' × LogsGame log l l' notes
+
 -- the fault says that an engine of this command could not be started, or that there was no memory
 abbrev pub FailsToStart : List ℕ → GamesFault → Type 0
 FailsToStart command NoMemory = ⊤

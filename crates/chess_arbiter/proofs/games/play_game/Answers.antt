@@ -30,6 +30,19 @@ returns-in-Ok-clause-played g c =
       subst (λ (first : Option Colour). LogsGame first l l' r.0) c.logged_side-first.ensures r.2,
     )
 
+pub returns-in-Ok-clause-ran : goal.returns-in-Ok-clause-ran
+returns-in-Ok-clause-ran g c =
+    let l = log_seen (g.E.Output.seen c.args.log.now.output) c.args.log.now.pending in
+    let l' = log_seen (g.E.Output.seen c.relay-end.new.log.output) c.relay-end.new.log.pending in
+    let r = c.relay-end.ensures.ran in (
+      r.0,
+      _,
+      _,
+      _,
+      r.1,
+      subst (λ (first : Option Colour). LogsGame first l l' r.0) c.logged_side-first.ensures r.2,
+    )
+
 pub returns-in-Err-clause-limit : goal.returns-in-Err-clause-limit
 returns-in-Err-clause-limit g c =
     let r = c.relay-end.ensures.ran in
