@@ -37,12 +37,7 @@ returns-in-Ok-clause-ran g c =
     let r = c.relay-end.ensures.ran in (
       c.relay-end.result,
       refl,
-      r.0,
-      _,
-      _,
-      _,
-      r.1,
-      subst (λ (first : Option Colour). LogsGame first l l' r.0) c.logged_side-first.ensures r.2,
+      (r.0, _, _, _, r.1, subst (λ (first : Option Colour). LogsGame first l l' r.0) c.logged_side-first.ensures r.2),
     )
 
 pub returns-in-Err-clause-limit : goal.returns-in-Err-clause-limit
@@ -72,10 +67,5 @@ returns-in-Err-clause-ran g c =
     let r = c.relay-end.ensures.ran in (
       c.relay-end.result,
       tt,
-      r.0,
-      _,
-      _,
-      _,
-      r.1,
-      subst (λ (first : Option Colour). LogsGame first l l' r.0) c.logged_side-first.ensures r.2,
+      (r.0, _, _, _, r.1, subst (λ (first : Option Colour). LogsGame first l l' r.0) c.logged_side-first.ensures r.2),
     )
