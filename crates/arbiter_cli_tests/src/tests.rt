@@ -1,9 +1,16 @@
 //! What the arguments of the command line ask for, and which are refused.
 
-use arbiter_cli::{Plan, VerifyPlan, WordsFault, read_words};
+use arbiter_cli::{MatchPlan, Plan, VerifyPlan, WordsFault, read_words};
 use chess_base::Variant;
 use chess_fen::write_fen;
+use std::fmt::Debug;
+use std::process::Abort;
 use std::test::Fail;
+
+// For all types: an assertion of each type's own is dear to prove.
+fn is_equal<T: PartialEq + Debug>(rt: &impl Abort, found: &T, wanted: &T) {
+    assert_eq!(rt; *found, *wanted);
+}
 
 #[test]
 fn plans_without_arguments(rt: HostRuntime) -> Result<(), Fail> {
@@ -73,13 +80,14 @@ fn verify_by_its_options(rt: HostRuntime) -> Result<(), Fail> {
         let Plan::Verify(plan) = read_words(rt.alloc(), words)? else {
             return Err(Fail::new("another plan"));
         };
-        assert_eq!(rt;
-            plan,
-            VerifyPlan {
+        is_equal(
+            &rt,
+            &plan,
+            &VerifyPlan {
                 keep_going: *keep_going,
                 quiet: *quiet,
                 strict: *strict,
-            }
+            },
         );
     }
     Ok(())
@@ -98,101 +106,159 @@ fn a_stub_keeps_its_arguments(rt: HostRuntime) -> Result<(), Fail> {
         let Plan::Stub(found) = read_words(rt.alloc(), words)? else {
             return Err(Fail::new("another plan"));
         };
-        assert_eq!(rt; found.len(), *count);
+        is_equal(&rt, &found.len(), count);
         assert!(rt; words.ends_with(found.as_slice()));
     }
     Ok(())
 }
 
-#[test]
-fn a_match_by_default(rt: HostRuntime) -> Result<(), Fail> {
-    let words = ["match", "--white", "a b", "--black=c"];
-    let Plan::Match(plan) = read_words(rt.alloc(), words.as_slice())? else {
-        return Err(Fail::new("another plan"));
-    };
-    assert!(rt; plan.white == "a b" && plan.black == "c");
-    assert!(rt;
-        plan.level.moves() == 40 && plan.level.base() == 300 && plan.level.increment() == 0
-    );
-    assert_eq!(rt;
-        write_fen(&plan.start).as_slice(),
-        b"rnbqkbnr/pppppppp/8/8/8/8/PPPPPPPP/RNBQKBNR w KQkq - 0 1".as_slice()
-    );
-    assert_eq!(rt; plan.games, 1);
-    assert!(rt; plan.date == "????.??.??");
-    assert!(rt; !plan.log);
-    Ok(())
+// Arguments of `match`, and what they ask for; `level` is the moves per session, and the base and the increment in seconds.
+struct MatchRow {
+    words: &'static [&'static str],
+    white: &'static str,
+    black: &'static str,
+    level: [u32; 3],
+    variant: Variant,
+    fen: &'static [u8],
+    games: u16,
+    date: &'static str,
+    log: bool,
 }
 
-#[test]
-fn a_match_with_all_options(rt: HostRuntime) -> Result<(), Fail> {
-    let words = [
-        "match",
-        "--date",
-        "2026.11.23",
-        "--games",
-        "1000",
-        "--fen",
-        "4k3/8/8/8/8/8/8/RK5R w KQ - 0 1",
-        "--level=0 0:30 1",
-        "--variant",
-        "fischerandom",
-        "--log",
-        "--black",
-        "y",
-        "--white=-x",
-    ];
-    let Plan::Match(plan) = read_words(rt.alloc(), words.as_slice())? else {
-        return Err(Fail::new("another plan"));
-    };
-    assert!(rt; plan.white == "-x" && plan.black == "y");
-    assert!(rt; plan.level.moves() == 0 && plan.level.base() == 30 && plan.level.increment() == 1);
-    assert_eq!(rt; plan.start.variant(), Variant::Fischerandom);
-    assert_eq!(rt;
-        write_fen(&plan.start).as_slice(),
-        b"4k3/8/8/8/8/8/8/RK5R w HA - 0 1".as_slice()
-    );
-    assert_eq!(rt; plan.games, 1000);
-    assert!(rt; plan.date == "2026.11.23");
-    assert!(rt; plan.log);
-    Ok(())
-}
-
-const VARIANTS: [(&str, &[u8]); 2] = [
-    (
-        "normal",
-        b"rnbqkbnr/pppppppp/8/8/8/8/PPPPPPPP/RNBQKBNR w KQkq - 0 1",
-    ),
-    (
-        "fischerandom",
-        b"rnbqkbnr/pppppppp/8/8/8/8/PPPPPPPP/RNBQKBNR w HAha - 0 1",
-    ),
+const MATCHES: [MatchRow; 4] = [
+    MatchRow {
+        words: &["match", "--white", "a b", "--black=c"],
+        white: "a b",
+        black: "c",
+        level: [40, 300, 0],
+        variant: Variant::Normal,
+        fen: b"rnbqkbnr/pppppppp/8/8/8/8/PPPPPPPP/RNBQKBNR w KQkq - 0 1",
+        games: 1,
+        date: "????.??.??",
+        log: false,
+    },
+    MatchRow {
+        words: &[
+            "match",
+            "--date",
+            "2026.11.23",
+            "--games",
+            "1000",
+            "--fen",
+            "4k3/8/8/8/8/8/8/RK5R w KQ - 0 1",
+            "--level=0 0:30 1",
+            "--variant",
+            "fischerandom",
+            "--log",
+            "--black",
+            "y",
+            "--white=-x",
+        ],
+        white: "-x",
+        black: "y",
+        level: [0, 30, 1],
+        variant: Variant::Fischerandom,
+        fen: b"4k3/8/8/8/8/8/8/RK5R w HA - 0 1",
+        games: 1000,
+        date: "2026.11.23",
+        log: true,
+    },
+    MatchRow {
+        words: &[
+            "match",
+            "--white",
+            "x",
+            "--black",
+            "y",
+            "--variant",
+            "normal",
+        ],
+        white: "x",
+        black: "y",
+        level: [40, 300, 0],
+        variant: Variant::Normal,
+        fen: b"rnbqkbnr/pppppppp/8/8/8/8/PPPPPPPP/RNBQKBNR w KQkq - 0 1",
+        games: 1,
+        date: "????.??.??",
+        log: false,
+    },
+    MatchRow {
+        words: &[
+            "match",
+            "--white",
+            "x",
+            "--black",
+            "y",
+            "--variant",
+            "fischerandom",
+        ],
+        white: "x",
+        black: "y",
+        level: [40, 300, 0],
+        variant: Variant::Fischerandom,
+        fen: b"rnbqkbnr/pppppppp/8/8/8/8/PPPPPPPP/RNBQKBNR w HAha - 0 1",
+        games: 1,
+        date: "????.??.??",
+        log: false,
+    },
 ];
 
+fn check_setup(rt: &impl Abort, plan: &MatchPlan<'_>, row: &MatchRow) {
+    let level = [
+        plan.level.moves(),
+        plan.level.base(),
+        plan.level.increment(),
+    ];
+    is_equal(rt, &level, &row.level);
+    is_equal(rt, &plan.start.variant(), &row.variant);
+    is_equal(rt, &write_fen(&plan.start).as_slice(), &row.fen);
+}
+
+fn check_match(rt: &impl Abort, plan: &MatchPlan<'_>, row: &MatchRow) {
+    is_equal(
+        rt,
+        &[plan.white, plan.black, plan.date],
+        &[row.white, row.black, row.date],
+    );
+    is_equal(rt, &plan.games, &row.games);
+    is_equal(rt, &plan.log, &row.log);
+    check_setup(rt, plan, row);
+}
+
 #[test]
-fn a_variant_has_its_initial_position(rt: HostRuntime) -> Result<(), Fail> {
-    for (name, fen) in &VARIANTS {
-        let words = ["match", "--white", "x", "--black", "y", "--variant", *name];
-        let Plan::Match(plan) = read_words(rt.alloc(), words.as_slice())? else {
+fn a_match_by_its_options(rt: HostRuntime) -> Result<(), Fail> {
+    for row in &MATCHES {
+        let Plan::Match(plan) = read_words(rt.alloc(), row.words)? else {
             return Err(Fail::new("another plan"));
         };
-        assert_eq!(rt; write_fen(&plan.start).as_slice(), *fen);
+        check_match(&rt, &plan, row);
     }
     Ok(())
 }
 
 // Arguments of a match, and what is reported of them.
-const FAULTS: [([&str; 6], &str); 8] = [
+const FAULTS: [(&[&str], &str); 8] = [
     (
-        ["--level", "40 5", "--fen", "x", "--date", "\u{7f}"],
+        &[
+            "match", "--white", "x", "--black", "y", "--level", "40 5", "--fen", "x", "--date",
+            "\u{7f}",
+        ],
         "bad level",
     ),
     (
-        ["--level", "0 0:60 0", "--fen", "x", "--date", "x"],
+        &[
+            "match", "--white", "x", "--black", "y", "--level", "0 0:60 0", "--fen", "x", "--date",
+            "x",
+        ],
         "bad level",
     ),
     (
-        [
+        &[
+            "match",
+            "--white",
+            "x",
+            "--black",
+            "y",
             "--level",
             "40 5 0",
             "--fen",
@@ -203,11 +269,28 @@ const FAULTS: [([&str; 6], &str); 8] = [
         "illegal position (kings)",
     ),
     (
-        ["--level", "40 5 0", "--fen", "4k3/8 w - -", "--date", "x"],
+        &[
+            "match",
+            "--white",
+            "x",
+            "--black",
+            "y",
+            "--level",
+            "40 5 0",
+            "--fen",
+            "4k3/8 w - -",
+            "--date",
+            "x",
+        ],
         "illegal position (placement)",
     ),
     (
-        [
+        &[
+            "match",
+            "--white",
+            "x",
+            "--black",
+            "y",
             "--level",
             "0 1 0",
             "--fen",
@@ -218,7 +301,12 @@ const FAULTS: [([&str; 6], &str); 8] = [
         "bad date",
     ),
     (
-        [
+        &[
+            "match",
+            "--white",
+            "x",
+            "--black",
+            "y",
             "--level",
             "0 1 0",
             "--fen",
@@ -229,7 +317,12 @@ const FAULTS: [([&str; 6], &str); 8] = [
         "bad date",
     ),
     (
-        [
+        &[
+            "match",
+            "--white",
+            "x",
+            "--black",
+            "y",
             "--games",
             "1",
             "--variant",
@@ -240,7 +333,12 @@ const FAULTS: [([&str; 6], &str); 8] = [
         "bad date",
     ),
     (
-        [
+        &[
+            "match",
+            "--white",
+            "x",
+            "--black",
+            "y",
             "--games",
             "1",
             "--variant",
@@ -255,11 +353,8 @@ const FAULTS: [([&str; 6], &str); 8] = [
 // Arguments that ask for nothing: what is reported of them.
 #[test]
 fn faults_are_reported(rt: HostRuntime) -> Result<(), Fail> {
-    for ([a, b, c, d, e, f], wanted) in &FAULTS {
-        let words = [
-            "match", "--white", "x", "--black", "y", *a, *b, *c, *d, *e, *f,
-        ];
-        let Err(fault) = read_words(rt.alloc(), words.as_slice()) else {
+    for (words, wanted) in &FAULTS {
+        let Err(fault) = read_words(rt.alloc(), words) else {
             return Err(Fail::new("a plan"));
         };
         let shown = format!(in rt.alloc(); "{fault}")?;
@@ -349,7 +444,7 @@ const OTHERS: [(&[&str], i32); 39] = [
 fn other_arguments_are_refused(rt: HostRuntime) -> Result<(), Fail> {
     for (words, status) in &OTHERS {
         match read_words(rt.alloc(), words) {
-            Err(WordsFault::Words(error)) => assert_eq!(rt; error.exit_code(), *status),
+            Err(WordsFault::Words(error)) => is_equal(&rt, &error.exit_code(), status),
             _ => return Err(Fail::new("not clap's fault")),
         }
     }

@@ -36,6 +36,10 @@ AreVariants names = map (λ n. n.now) names.now ≡ codes "normal" ∷ codes "fi
 abbrev pub variant_rule : Lent → Rule
 variant_rule names = record (option_rule (codes "variant")) { parser = Some (Names names) }
 
+-- the subcommand `session`, which has no options
+abbrev pub session_app : App
+session_app = new_app (codes "session")
+
 -- the subcommand `match` with its options; `--white` and `--black` are required. `names` are those that `--variant`
 -- takes
 abbrev pub match_app : Lent → App
@@ -67,7 +71,7 @@ bare_app = let a = new_app (codes "arbiter") in
 -- `--variant` takes
 abbrev pub arbiter_app : Lent → App
 arbiter_app names = fold with_subcommand bare_app
-    ((new_app (codes "session")).top ∷ verify_app.top ∷ stub_app.top ∷ (match_app names).top ∷ [])
+    (session_app.top ∷ verify_app.top ∷ stub_app.top ∷ (match_app names).top ∷ [])
 
 -- what the arguments (`words`) ask for, as `clap` matches them: the subcommand, and what each of its options was
 -- given. Without a subcommand it is `session`. `names` are those that `--variant` takes

@@ -4,7 +4,7 @@ ghost use Rattle.std.specs.Prelude.{◌≡◌, IfOk, Some, false};
 ghost use Rattle.clap.specs.Words.{app_of, new_app, rule_of};
 ghost use Rattle.clap.specs.declared.builder.texts.Texts.TheVariants.{One};
 ghost use Rattle.clap.specs.declared.builder.command.Command.TheViews.{out-Command as fields_of};
-ghost use Rattle.arbiter_grammar.specs.Grammar.{AreVariants, flag_rule, games_rule, needed, option_rule, stub_app, variant_rule, verify_app};
+ghost use Rattle.arbiter_grammar.specs.Grammar.{AreVariants, bare_app, flag_rule, games_rule, needed, option_rule, session_app, stub_app, variant_rule, verify_app};
 ghost use Rattle.arbiter_grammar.specs.ties.Grammars.{GivesMatchApp, GivesArbiterApp};
 
 use clap::builder::ValueParser;
@@ -250,27 +250,40 @@ fn stub_command<'a>(alloc: Global) -> Result<Command<'a>, AllocError>
     .arg(words)
 }
 
+// The program without its subcommands.
+fn bare_command<'a>(alloc: Global) -> Result<Command<'a>, AllocError>
+    ensures app { IfOk result (λ c. app_of c ≡ bare_app) }
+{
+    Ok(
+        command(alloc, "arbiter", ABOUT, EXAMPLES)
+            .bin_name("arbiter")?
+            .version(VERSION)
+            .no_binary_name(true)
+            .disable_help_subcommand(true),
+    )
+}
+
+// The subcommand `session`.
+fn session_command<'a>(alloc: Global) -> Command<'a>
+    ensures app { app_of result ≡ session_app }
+    ensures local { (fields_of result).has_globals ≡ false }
+{
+    command(
+        alloc,
+        "session",
+        "Answer commands on standard input (the default)",
+        SESSION_EXAMPLES,
+    )
+}
+
 // The whole grammar of the command line: the program `arbiter` with the subcommands `session`, `verify`, `stub` and
 // `match`.
 pub(crate) fn arbiter_command<'a>(alloc: Global) -> Result<Command<'a>, AllocError>
     ensures { IfOk result (λ c. GivesArbiterApp (app_of c)) }
 {
-    let session = command(
-        alloc,
-        "session",
-        "Answer commands on standard input (the default)",
-        SESSION_EXAMPLES,
-    );
-    let verify = verify_command(alloc)?;
-    let stub = stub_command(alloc)?;
-    let matches = match_command(alloc)?;
-    command(alloc, "arbiter", ABOUT, EXAMPLES)
-        .bin_name("arbiter")?
-        .version(VERSION)
-        .no_binary_name(true)
-        .disable_help_subcommand(true)
-        .subcommand(session)?
-        .subcommand(verify)?
-        .subcommand(stub)?
-        .subcommand(matches)
+    bare_command(alloc)?
+        .subcommand(session_command(alloc))?
+        .subcommand(verify_command(alloc)?)?
+        .subcommand(stub_command(alloc)?)?
+        .subcommand(match_command(alloc)?)
 }

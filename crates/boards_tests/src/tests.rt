@@ -5,8 +5,14 @@ use chess_bits::{AttackTables, Bits};
 use chess_fen::{read_fen, read_fen_as};
 use chess_moves::{Board, Plain, make_then_take_back};
 use perft_positions::{FISCHERANDOM, KIWIPETE, NORMAL, Perft};
+use std::fmt::Debug;
 use std::process::Abort;
 use std::test::Fail;
+
+// For all types: an assertion of each type's own is dear to prove.
+fn is_equal<T: PartialEq + Debug>(rt: &impl Abort, found: &T, wanted: &T) {
+    assert_eq!(rt; *found, *wanted);
+}
 
 const LEFT_ELSEWHERE: &str = "taking back left another position";
 
@@ -44,7 +50,7 @@ fn count<B: Board>(
         let start = read_fen_as(variant, row.fen).ok().ok_or("sound")?;
         board.set(&start);
         for (depth, wanted) in (1..=most).zip(row.lines) {
-            assert_eq!(rt; lines(board, depth)?, wanted);
+            is_equal(rt, &lines(board, depth)?, &wanted);
         }
         assert!(rt; board.position() == start);
     }
@@ -147,9 +153,9 @@ fn tells_words_on_the_way<B: Board>(rt: &impl Abort, board: &mut B) -> Result<()
         return Err("e4 is legal".into());
     }
     let saved = board.make(m);
-    assert_eq!(rt; board.word(), WORDS[1].1);
+    is_equal(rt, &board.word(), &WORDS[1].1);
     board.take_back(again, saved);
-    assert_eq!(rt; board.word(), WORDS[0].1);
+    is_equal(rt, &board.word(), &WORDS[0].1);
     Ok(())
 }
 

@@ -1,6 +1,6 @@
 //! The program over devices that are cut and that fail.
 
-use crate::runs::{Devices, Outcome, SOUND, Wanted, check_in_all_pieces, run};
+use crate::runs::{Devices, Outcome, SOUND, Wanted, check_in_all_pieces, is_equal, run};
 use std::alloc::Global;
 use std::process::Abort;
 use std::test::Fail;
@@ -123,8 +123,8 @@ fn check_beginning(
         .ok_or("the answers to whole lines")?;
     let lines = behind.iter().filter(|byte| **byte == b'\n').count();
     assert!(rt; lines <= 2 && (is_cut || behind.is_empty()));
-    assert_eq!(rt; outcome.errors.as_slice(), b"".as_slice());
-    assert_eq!(rt; outcome.status, 0);
+    is_equal(rt, &outcome.errors.as_slice(), &b"".as_slice());
+    is_equal(rt, &outcome.status, &0);
     Ok(())
 }
 
@@ -206,8 +206,8 @@ fn reads_that_fail_at_each_call(rt: HostRuntime) -> Result<(), Fail> {
 fn check_taken(rt: &impl Abort, outcome: &Outcome, answers: &[u8]) {
     assert!(rt; answers.starts_with(outcome.output.as_slice()));
     if outcome.status != 0 {
-        assert_eq!(rt; outcome.errors.as_slice(), WRITE_FAILED);
-        assert_eq!(rt; outcome.status, 1);
+        is_equal(rt, &outcome.errors.as_slice(), &WRITE_FAILED);
+        is_equal(rt, &outcome.status, &1);
     }
 }
 
@@ -234,7 +234,7 @@ fn check_each_write(
             break;
         }
     }
-    assert_eq!(rt; taken_before, answers.len());
+    is_equal(rt, &taken_before, &answers.len());
 }
 
 // Runs a session whose output fails at each call in turn.
@@ -297,11 +297,11 @@ fn check_front(rt: &impl Abort, outcome: &Outcome, given: usize) {
         || given == FIRST.len() - 1
         || given == FIRST.len()
         || given >= BOTH.len() - 1;
-    assert_eq!(rt; outcome.status == 0, is_whole);
+    is_equal(rt, &(outcome.status == 0), &is_whole);
     if given >= FIRST.len() - 1 {
         assert!(rt; outcome.output.starts_with(FIRST_LINE));
     }
-    assert_eq!(rt; outcome.errors.as_slice(), b"".as_slice());
+    is_equal(rt, &outcome.errors.as_slice(), &b"".as_slice());
 }
 
 // Verifies that many bytes of both games.

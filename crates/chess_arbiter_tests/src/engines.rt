@@ -1,6 +1,6 @@
 //! Matches between engines that run as processes: the program itself, as a stub.
 
-use crate::runs::{Devices, Outcome, ProgramRun, SOUND, Wanted, is_text, run};
+use crate::runs::{Devices, Outcome, ProgramRun, SOUND, Wanted, is_equal, is_text, run};
 use byte_devices::Counted;
 use chess_arbiter::{Log, SinceStart, run_program};
 use chess_match::Moments;
@@ -165,7 +165,7 @@ fn play(
 fn check_match(rt: &impl Abort, outcome: &Outcome, played: &Played) -> Result<(), Fail> {
     is_text(rt, outcome.output.as_slice(), played.output)?;
     is_text(rt, outcome.errors.as_slice(), played.errors)?;
-    assert_eq!(rt; outcome.status, played.status);
+    is_equal(rt, &outcome.status, &played.status);
     Ok(())
 }
 
@@ -226,7 +226,7 @@ fn a_log_over_processes(rt: HostRuntime) -> Result<(), Fail> {
     let others = &["--games", "2", "--date", "2026.11.23", "--log"];
     let outcome = play_logged(&rt, played, others, 0)?;
     is_text(&rt, outcome.output.as_slice(), played.output)?;
-    assert_eq!(rt; outcome.status, 0);
+    is_equal(&rt, &outcome.status, &0);
     for text in LOGGED {
         is_in_log(&rt, outcome.errors.as_slice(), text)?;
     }
@@ -240,7 +240,7 @@ fn a_log_on_a_failed_error_output(rt: HostRuntime) -> Result<(), Fail> {
     for errors_fail in [1, 2, 9] {
         let outcome = play_logged(&rt, played, &["--log"], errors_fail)?;
         is_text(&rt, outcome.output.as_slice(), played.output)?;
-        assert_eq!(rt; outcome.status, 1);
+        is_equal(&rt, &outcome.status, &1);
     }
     Ok(())
 }
@@ -253,8 +253,8 @@ fn held(rt: &HostRuntime) -> Result<(usize, Vec<u8>), Fail> {
 
 // Asserts that a process holds what it held.
 fn check_held(rt: &impl Abort, now: &(usize, Vec<u8>), before: &(usize, Vec<u8>)) {
-    assert_eq!(rt; now.0, before.0);
-    assert_eq!(rt; now.1.as_slice(), before.1.as_slice());
+    is_equal(rt, &now.0, &before.0);
+    is_equal(rt, &now.1.as_slice(), &before.1.as_slice());
 }
 
 // Plays a match, after which this process holds what it held.
@@ -356,11 +356,12 @@ fn matches_out_of_form(rt: HostRuntime) {
 // Asserts that a match whose whole output this is ended at a failed write.
 fn check_broken(rt: &impl Abort, broken: &Outcome, whole: &[u8]) {
     assert!(rt; whole.starts_with(broken.output.as_slice()));
-    assert_eq!(rt;
-        broken.errors.as_slice(),
-        b"arbiter: write failed\n".as_slice()
+    is_equal(
+        rt,
+        &broken.errors.as_slice(),
+        &b"arbiter: write failed\n".as_slice(),
     );
-    assert_eq!(rt; broken.status, 1);
+    is_equal(rt, &broken.status, &1);
 }
 
 // Plays a match whose output fails at that call.
@@ -392,7 +393,7 @@ fn a_match_on_a_failed_output(rt: HostRuntime) -> Result<(), Fail> {
     let stub = stub(&rt, "")?;
     let words = words_of(rt.alloc(), stub.as_str(), stub.as_str(), &["--games", "2"])?;
     let whole = run(&rt, words.as_slice(), b"", SOUND);
-    assert_eq!(rt; whole.status, 0);
+    is_equal(&rt, &whole.status, &0);
     play_broken(&rt, &rt, words.as_slice(), whole.output.as_slice());
     Ok(())
 }

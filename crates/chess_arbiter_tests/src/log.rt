@@ -1,6 +1,6 @@
 //! The log of a match, over memory.
 
-use crate::runs::is_text;
+use crate::runs::{is_equal, is_text};
 use byte_devices::{Counted, PieceReader, PieceWriter};
 use cecp_engine::Level;
 use chess_arbiter::{Log, run_match_logged};
@@ -322,7 +322,11 @@ fn a_flood_is_logged(rt: HostRuntime) -> Result<(), Fail> {
         b"",
         &MatchInput::of(b"", b""),
     )?;
-    assert_eq!(rt; logged.log.as_slice(), flooded(rt.alloc())?.as_slice());
+    is_equal(
+        &rt,
+        &logged.log.as_slice(),
+        &flooded(rt.alloc())?.as_slice(),
+    );
     Ok(())
 }
 
@@ -332,7 +336,7 @@ fn a_failed_read_is_logged(rt: HostRuntime) -> Result<(), Fail> {
     let mut input = MatchInput::of(WHITE, BLACK);
     input.white_read = 1;
     let logged = play(&rt, rt.alloc(), &input)?;
-    assert_eq!(rt; logged.fault, Some((Colour::White, MatchFault::Read)));
+    is_equal(&rt, &logged.fault, &Some((Colour::White, MatchFault::Read)));
     is_text(
         &rt,
         logged.log.as_slice(),
@@ -349,9 +353,9 @@ fn is_beginning(rt: &impl Abort, alloc: Global, log_write: u64) -> Result<(), Fa
     let broken = play(rt, alloc, &input)?;
     assert!(rt; FOOLS_MATE.as_bytes().starts_with(broken.log.as_slice()));
     assert!(rt; broken.log.len() < FOOLS_MATE.len());
-    assert_eq!(rt; broken.fault, whole.fault);
-    assert_eq!(rt; broken.to_white.as_slice(), whole.to_white.as_slice());
-    assert_eq!(rt; broken.to_black.as_slice(), whole.to_black.as_slice());
+    is_equal(rt, &broken.fault, &whole.fault);
+    is_equal(rt, &broken.to_white.as_slice(), &whole.to_white.as_slice());
+    is_equal(rt, &broken.to_black.as_slice(), &whole.to_black.as_slice());
     Ok(())
 }
 
@@ -369,7 +373,11 @@ fn a_failed_write_is_logged(rt: HostRuntime) -> Result<(), Fail> {
     let mut input = MatchInput::of(WHITE, BLACK);
     input.black_write = 1;
     let logged = play(&rt, rt.alloc(), &input)?;
-    assert_eq!(rt; logged.fault, Some((Colour::Black, MatchFault::Write)));
+    is_equal(
+        &rt,
+        &logged.fault,
+        &Some((Colour::Black, MatchFault::Write)),
+    );
     is_text(
         &rt,
         logged.log.as_slice(),

@@ -1,6 +1,6 @@
 //! The program over memory: its arguments, its faults and its help.
 
-use crate::runs::{Devices, Outcome, ProgramRun, SOUND, Wanted, run};
+use crate::runs::{Devices, Outcome, ProgramRun, SOUND, Wanted, is_equal, run};
 use byte_devices::{Counted, PieceWriter};
 use chess_arbiter::{Log, ProgramFault, run_program};
 use std::process::{Abort, ExitCode};
@@ -202,8 +202,8 @@ fn a_failed_error_output_changes_no_status(rt: HostRuntime) {
         &mut errors,
     );
     let errors = errors.into_output();
-    assert_eq!(rt; errors.writer().bytes.as_slice(), b"err".as_slice());
-    assert_eq!(rt; status, 2);
+    is_equal(&rt, &errors.writer().bytes.as_slice(), &b"err".as_slice());
+    is_equal(&rt, &status, &2);
 }
 
 // Asserts that a run was refused since this argument is missing, with nothing on the output.
@@ -281,8 +281,8 @@ fn check_help(rt: &impl Abort, outcome: &Outcome, named: &[&str]) -> Result<(), 
     for name in named {
         assert!(rt; help.contains(*name));
     }
-    assert_eq!(rt; outcome.errors.as_slice(), b"".as_slice());
-    assert_eq!(rt; outcome.status, 0);
+    is_equal(rt, &outcome.errors.as_slice(), &b"".as_slice());
+    is_equal(rt, &outcome.status, &0);
     Ok(())
 }
 
@@ -321,8 +321,8 @@ const FAULTS: [(ProgramFault, &str, u8); 4] = [
 fn faults_have_texts(rt: HostRuntime) -> Result<(), Fail> {
     for (fault, text, status) in &FAULTS {
         let shown = format!(in rt.alloc(); "{fault}")?;
-        assert_eq!(rt; shown.as_str(), *text);
-        assert_eq!(rt; fault.status(), *status);
+        is_equal(&rt, &shown.as_str(), text);
+        is_equal(&rt, &fault.status(), status);
     }
     Ok(())
 }

@@ -2,8 +2,14 @@
 
 use byte_devices::{Counted, PieceReader, PieceWriter};
 use chess_arbiter::{Log, run_program};
+use std::fmt::Debug;
 use std::process::Abort;
 use std::test::Fail;
+
+/// For all types: an assertion of each type's own is dear to prove.
+pub fn is_equal<T: PartialEq + Debug>(rt: &impl Abort, found: &T, wanted: &T) {
+    assert_eq!(rt; *found, *wanted);
+}
 
 /// How the devices of a run are cut, and at which call they fail (0: at none).
 #[derive(Clone, Copy)]
@@ -84,9 +90,9 @@ pub fn run(rt: &HostRuntime, words: &[&str], input: &[u8], devices: Devices) -> 
 impl Outcome {
     /// Asserts that it is what was wanted.
     pub fn check(&self, rt: &impl Abort, wanted: Wanted<'_>) {
-        assert_eq!(rt; self.output.as_slice(), wanted.output);
-        assert_eq!(rt; self.errors.as_slice(), wanted.errors);
-        assert_eq!(rt; self.status, wanted.status);
+        is_equal(rt, &self.output.as_slice(), &wanted.output);
+        is_equal(rt, &self.errors.as_slice(), &wanted.errors);
+        is_equal(rt, &self.status, &wanted.status);
     }
 }
 
@@ -133,7 +139,7 @@ impl ProgramRun {
 
 /// Asserts that a text is this one.
 pub fn is_text(rt: &impl Abort, text: &[u8], wanted: &str) -> Result<(), Fail> {
-    assert_eq!(rt; std::str::from_utf8(text)?, wanted);
+    is_equal(rt, &std::str::from_utf8(text)?, &wanted);
     Ok(())
 }
 

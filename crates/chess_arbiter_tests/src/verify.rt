@@ -2,7 +2,7 @@
 
 use crate::collection::COLLECTION;
 use crate::readers::{Parts, Spaces, run_on};
-use crate::runs::{Devices, SOUND, Wanted, check_output};
+use crate::runs::{Devices, SOUND, Wanted, check_output, is_equal};
 use byte_devices::{Counted, GatedWriter};
 use chess_arbiter::{Log, run_program};
 use std::cell::Cell;
@@ -98,10 +98,11 @@ fn lines_on_games_are_flushed(rt: HostRuntime) {
         &mut output,
         &mut errors,
     );
-    assert_eq!(rt; status, 0);
-    assert_eq!(rt;
-        output.writer().bytes.as_slice(),
-        b"game 1: 0 half-moves, *\ngame 2: 1 half-moves, *\n".as_slice()
+    is_equal(&rt, &status, &0);
+    is_equal(
+        &rt,
+        &output.writer().bytes.as_slice(),
+        &b"game 1: 0 half-moves, *\ngame 2: 1 half-moves, *\n".as_slice(),
     );
     assert!(rt; open.get());
 }

@@ -1,6 +1,6 @@
-use crate::playing::play;
+use crate::playing::{is_equal, leaves};
 use chess_base::{Colour, ColourRights, Kind, Man, Move, Position, Rights, Setup, Square, Variant};
-use chess_fen::{read_fen_as, write_fen};
+use chess_fen::read_fen_as;
 use std::test::Fail;
 
 // A position, the squares of king and rook, and the FEN after castling; nothing where it is illegal. The king stays,
@@ -55,10 +55,7 @@ fn castling_leaves_its_positions(rt: HostRuntime) -> Result<(), Fail> {
         let start = read_fen_as(Variant::Fischerandom, start)
             .ok()
             .ok_or("sound")?;
-        match play(start, squares, None) {
-            Some(position) => assert_eq!(rt; write_fen(&position).as_slice(), *fen),
-            None => assert!(rt; fen.is_empty(), "at {squares:?}"),
-        }
+        leaves(&rt, start, squares, None, fen);
     }
     Ok(())
 }
@@ -180,26 +177,32 @@ fn castles(position: Position, king: u8, rook: u8, ends: (u8, u8)) -> Result<boo
     Ok(true)
 }
 
+// Whether castling to the king's side and to the queen's side is legal from the start with that number, its other pieces
+// gone.
+fn castlings_from(number: usize) -> Result<(bool, bool), Fail> {
+    let rank = start_rank(number);
+    let king = place_of(&rank, b'k').ok_or("a king")?;
+    let left = place_of(&rank, b'r').ok_or("a rook")?;
+    let right = last_place_of(&rank, b'r').ok_or("a rook")?;
+    let position = Position::new(start(king, left, right)).ok().ok_or("sound")?;
+    Ok((
+        castles(position, king, right, (6, 5))?,
+        castles(position, king, left, (2, 3))?,
+    ))
+}
+
 // From each of the 960 starts with its other pieces gone. How often each castling is legal was counted by Stockfish.
 #[test]
 fn kings_castle_from_every_start(rt: HostRuntime) -> Result<(), Fail> {
     let mut king_side: u32 = 0;
     let mut queen_side: u32 = 0;
     for number in 0..960 {
-        let rank = start_rank(number);
-        let king = place_of(&rank, b'k').ok_or("a king")?;
-        let left = place_of(&rank, b'r').ok_or("a rook")?;
-        let right = last_place_of(&rank, b'r').ok_or("a rook")?;
-        let position = Position::new(start(king, left, right)).ok().ok_or("sound")?;
-        if castles(position, king, right, (6, 5))? {
-            king_side = king_side.saturating_add(1);
-        }
-        if castles(position, king, left, (2, 3))? {
-            queen_side = queen_side.saturating_add(1);
-        }
+        let legal = castlings_from(number)?;
+        king_side = king_side.saturating_add(legal.0.into());
+        queen_side = queen_side.saturating_add(legal.1.into());
     }
-    assert_eq!(rt; start_rank(518).as_slice(), b"rnbqkbnr".as_slice());
-    assert_eq!(rt; (king_side, queen_side), (942, 888));
+    is_equal(&rt, &start_rank(518).as_slice(), &b"rnbqkbnr".as_slice());
+    is_equal(&rt, &(king_side, queen_side), &(942, 888));
     Ok(())
 }
 

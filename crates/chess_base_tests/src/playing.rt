@@ -1,6 +1,14 @@
-//! Moves by their squares, for tests.
+//! Moves by their squares, and comparisons, for tests.
 
 use chess_base::{Kind, Move, Position, Square};
+use chess_fen::write_fen;
+use std::fmt::Debug;
+use std::process::Abort;
+
+/// For all types: an assertion of each type's own is dear to prove.
+pub fn is_equal<T: PartialEq + Debug>(rt: &impl Abort, found: &T, wanted: &T) {
+    assert_eq!(rt; *found, *wanted);
+}
 
 fn square(file: u8, rank: u8) -> Square {
     Square::new(rank.wrapping_sub(b'1') % 8 * 8 + file.wrapping_sub(b'a') % 8)
@@ -16,4 +24,18 @@ pub fn play(position: Position, squares: &[u8; 4], promotion: Option<Kind>) -> O
     };
     let again = m;
     position.is_legal(m).then(|| position.after(again))
+}
+
+/// The position after a move has this FEN, which is empty where the move is illegal.
+pub fn leaves(
+    rt: &impl Abort,
+    start: Position,
+    squares: &[u8; 4],
+    promotion: Option<Kind>,
+    fen: &[u8],
+) {
+    match play(start, squares, promotion) {
+        Some(position) => is_equal(rt, &write_fen(&position).as_slice(), &fen),
+        None => assert!(rt; fen.is_empty(), "at {squares:?}"),
+    }
 }

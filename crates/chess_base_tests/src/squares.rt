@@ -1,5 +1,6 @@
 //! Names of squares, pieces and faults.
 
+use crate::playing::is_equal;
 use chess_base::{Colour, FenFault, Kind, Move, Position, Square};
 use std::test::Fail;
 
@@ -20,7 +21,7 @@ fn squares_have_their_names(rt: HostRuntime) -> Result<(), Fail> {
         let square = Square::new(*number);
         assert!(rt; Square::named(name) == Some(square));
         let shown = format!(in rt.alloc(); "{square}")?;
-        assert_eq!(rt; shown.as_bytes(), *name);
+        is_equal(&rt, &shown.as_bytes(), name);
     }
     Ok(())
 }
@@ -35,9 +36,10 @@ fn other_texts_name_no_square(rt: HostRuntime) {
 #[test]
 fn values_are_shown(rt: HostRuntime) -> Result<(), Fail> {
     let shown = format!(in rt.alloc(); "{} {}: {}", Colour::White, Kind::Knight, FenFault::Men)?;
-    assert_eq!(rt;
-        shown.as_bytes(),
-        b"white knight: a colour has more than 16 pieces".as_slice()
+    is_equal(
+        &rt,
+        &shown.as_bytes(),
+        &b"white knight: a colour has more than 16 pieces".as_slice(),
     );
     Ok(())
 }
@@ -60,7 +62,7 @@ fn moves_are_shown_by_their_squares(rt: HostRuntime) -> Result<(), Fail> {
             promotion: *promotion,
         };
         let shown = format!(in rt.alloc(); "{m}")?;
-        assert_eq!(rt; shown.as_bytes(), *text);
+        is_equal(&rt, &shown.as_bytes(), text);
     }
     Ok(())
 }

@@ -2,7 +2,7 @@
 
 ghost use Rattle.std.specs.Prelude.{◌≤◌};
 
-use crate::running::{came_to, ended_line, front, is_equal, run, run_gated};
+use crate::running::{Outcome, came_to, ended_line, front, is_equal, run, run_gated};
 use crate::transcript::Transcript;
 use byte_devices::{PieceReader, PieceWriter};
 use chess_bits::{AttackTables, Bits};
@@ -52,6 +52,19 @@ pub fn check(
 {
     let mut plain = Session::open(alloc, Plain::new(), Plain::new(), Tags::default(), limit)?;
     check_rows(rt, alloc, way, &mut plain, rows)?;
+    check_on_bits(rt, alloc, way, rows, limit)
+}
+
+fn check_on_bits(
+    rt: &impl Abort,
+    alloc: Global,
+    way: Way,
+    rows: &[&[u8]],
+    limit: u32,
+) -> Result<(), Fail>
+    requires some { 1 ≤ limit }
+    requires few { limit ≤ 20000 }
+{
     let tables = AttackTables::open(alloc)?;
     let board = Bits::new(&tables);
     let scratch = Bits::new(&tables);
@@ -92,6 +105,16 @@ fn check_row<B: Board>(
     Ok(())
 }
 
+// What a session comes to that is read and written in long pieces.
+fn run_whole<B: Board>(alloc: Global, session: &mut Session<B>, input: &[u8]) -> Outcome {
+    run(
+        alloc,
+        session,
+        PieceReader::new(input, 1024, 0),
+        PieceWriter::new(alloc, 1024, 0),
+    )
+}
+
 fn in_pieces<B: Board>(rt: &impl Abort, alloc: Global, session: &mut Session<B>, row: &Transcript) {
     for cut in [1, 2, 3, 7, 1024] {
         in_pieces_of(rt, alloc, session, row, cut);
@@ -123,8 +146,7 @@ fn cut_after_each_byte<B: Board>(
     Ok(())
 }
 
-// A last line is answered as with the byte 10 that it lacks, after the answers to the whole lines. Where it lacks that
-// byte alone, or is empty, the row has its answer.
+// A last line is answered as with the byte 10 that it lacks, after the answers to the whole lines.
 fn cut_after<B: Board>(
     rt: &impl Abort,
     alloc: Global,
@@ -133,32 +155,28 @@ fn cut_after<B: Board>(
     read: usize,
 ) -> Result<(), Fail> {
     let input = front(row.input.as_slice(), read);
-    let outcome = run(
-        alloc,
-        session,
-        PieceReader::new(input, 1024, 0),
-        PieceWriter::new(alloc, 1024, 0),
-    );
+    let outcome = run_whole(alloc, session, input);
     let line = ended_line(alloc, input)?;
-    let ended = run(
-        alloc,
-        session,
-        PieceReader::new(line.as_slice(), 1024, 0),
-        PieceWriter::new(alloc, 1024, 0),
-    );
+    let ended = run_whole(alloc, session, line.as_slice());
     came_to(rt, &outcome, Ok(row.end_at(read)), ended.written.as_slice());
+    begins_as_the_row(rt, ended.written.as_slice(), row, read);
+    Ok(())
+}
+
+// What was written of a row that is cut and ended after so many bytes. Where the last line lacks byte 10 alone, or is
+// empty, the row has its answer.
+fn begins_as_the_row(rt: &impl Abort, written: &[u8], row: &Transcript, read: usize) {
     let begun = row.at_byte(read);
-    let whole = front(row.answers.as_slice(), begun.written);
-    is_equal(rt, &front(ended.written.as_slice(), begun.written), &whole);
+    let answers = row.answers.as_slice();
+    is_equal(
+        rt,
+        &front(written, begun.written),
+        &front(answers, begun.written),
+    );
     if begun.read == read || row.input.get(read) == Some(&b'\n') {
         let next = row.at_byte(read.saturating_add(1));
-        is_equal(
-            rt,
-            &ended.written.as_slice(),
-            &front(row.answers.as_slice(), next.written),
-        );
+        is_equal(rt, &written, &front(answers, next.written));
     }
-    Ok(())
 }
 
 fn failing_reads<B: Board>(
@@ -269,8 +287,7 @@ fn gated<B: Board>(rt: &impl Abort, alloc: Global, session: &mut Session<B>, row
 }
 
 fn begun<B: Board>(rt: &impl Abort, alloc: Global, session: &mut Session<B>, row: &Transcript) {
-    let reader = PieceReader::new(row.input.as_slice(), 1024, 0);
-    let outcome = run(alloc, session, reader, PieceWriter::new(alloc, 1024, 0));
+    let outcome = run_whole(alloc, session, row.input.as_slice());
     let answers = row.answers.as_slice();
     is_equal(
         rt,

@@ -3,7 +3,7 @@ ghost use Rattle.std.specs.Prelude.{◌≤◌};
 use crate::hostile::{Way, check};
 use crate::rows::{CHESS960, COMMANDS, ENDS, LIMITED, LONG, MOVES, STARTS};
 use crate::running::{is_equal, run_on};
-use byte_devices::{Counted, PieceReader, PieceWriter};
+use byte_devices::{Counted, PieceReader, PieceWriter, ReadFault};
 use chess_base::{Move, Position, Square};
 use chess_cecp::{
     Command, End, Fault, Line, Lines, Session, lines_are_pieces, normal_chess_keeps_its_rows,
@@ -121,10 +121,11 @@ fn rows_by_a_gate_that_each_flush_opens(rt: HostRuntime) -> Result<(), Fail> {
 
 // A position is that after 1. e4.
 fn is_after_e4(rt: &impl Abort, position: &Position) {
-    assert_eq!(rt; position.at(Square::new(12)), None);
-    assert_eq!(rt;
-        write_fen(position).as_slice(),
-        b"rnbqkbnr/pppppppp/8/8/4P3/8/PPPP1PPP/RNBQKBNR b KQkq e3 0 1".as_slice()
+    is_equal(rt, &position.at(Square::new(12)), &None);
+    is_equal(
+        rt,
+        &write_fen(position).as_slice(),
+        &b"rnbqkbnr/pppppppp/8/8/4P3/8/PPPP1PPP/RNBQKBNR b KQkq e3 0 1".as_slice(),
     );
 }
 
@@ -140,7 +141,7 @@ fn a_move_is_kept_where_writing_fails(rt: HostRuntime) -> Result<(), Fail> {
         &mut writer,
         Err(Fault::Write),
     );
-    assert_eq!(rt; writer.writer().bytes.as_slice(), b"# f".as_slice());
+    is_equal(&rt, &writer.writer().bytes.as_slice(), &b"# f".as_slice());
     is_after_e4(&rt, &session.position());
     Ok(())
 }
@@ -159,7 +160,7 @@ fn the_flush_after_a_game_may_fail(rt: HostRuntime) -> Result<(), Fail> {
         Err(Fault::Write),
     );
     assert!(rt; writer.writer().bytes.ends_with(b"# *\n# \n"));
-    assert_eq!(rt; writer.writer().calls, 2);
+    is_equal(&rt, &writer.writer().calls, &2);
     Ok(())
 }
 
@@ -175,7 +176,7 @@ fn next_is(
     let Ok(Some(line)) = lines.next(reader) else {
         return Err(Fail::from(name));
     };
-    assert_eq!(rt; line.text(), text);
+    is_equal(rt, &line.text(), &text);
     assert!(rt; line.is_ended() == is_ended && !line.is_too_long());
     Ok(())
 }
@@ -191,17 +192,18 @@ fn what_was_read_stays_after_a_fault(rt: HostRuntime) -> Result<(), Fail> {
     Ok(())
 }
 
-// The next line, read over the one before, is this one: its text, and whether it was too long.
-fn next_over(
+// Reads the next line over the one before, which is answered so and then has this text, too long or not.
+fn read_over(
     rt: &impl Abort,
     lines: &mut Lines<64>,
     reader: &mut Counted<PieceReader<'_>>,
     line: &mut Line<64>,
+    answer: Result<bool, ReadFault>,
     text: &[u8],
     is_too_long: bool,
 ) {
-    assert!(rt; matches!(&lines.read_line(reader, line), Ok(true)));
-    assert_eq!(rt; line.text(), text);
+    is_equal(rt, &lines.read_line(reader, line), &answer);
+    is_equal(rt, &line.text(), &text);
     assert!(rt; line.is_ended() && line.is_too_long() == is_too_long);
 }
 
@@ -211,32 +213,56 @@ const LONG_THEN_SHORT: &[u8] =
 
 // A read that fails, and the end, leave the line as it was.
 #[test]
-fn a_line_is_read_over_the_one_before(rt: HostRuntime) -> Result<(), Fail> {
+fn a_line_is_read_over_the_one_before(rt: HostRuntime) {
     let mut reader = pieces(LONG_THEN_SHORT, 7, 13);
     let mut lines: Lines<64> = Lines::new();
     let mut line = Line::new();
-    next_over(
+    let long = &LONG_THEN_SHORT[..64];
+    read_over(
         &rt,
         &mut lines,
         &mut reader,
         &mut line,
-        &LONG_THEN_SHORT[..64],
+        Ok(true),
+        long,
         true,
     );
-    assert!(rt; lines.read_line(&mut reader, &mut line).is_err());
-    assert_eq!(rt; line.text(), &LONG_THEN_SHORT[..64]);
-    next_over(
+    read_over(
         &rt,
         &mut lines,
         &mut reader,
         &mut line,
+        Err(ReadFault),
+        long,
+        true,
+    );
+    read_over(
+        &rt,
+        &mut lines,
+        &mut reader,
+        &mut line,
+        Ok(true),
         b"usermove e4",
         false,
     );
-    next_over(&rt, &mut lines, &mut reader, &mut line, b"cd", false);
-    assert!(rt; matches!(&lines.read_line(&mut reader, &mut line), Ok(false)));
-    assert_eq!(rt; line.text(), b"cd".as_slice());
-    Ok(())
+    read_over(
+        &rt,
+        &mut lines,
+        &mut reader,
+        &mut line,
+        Ok(true),
+        b"cd",
+        false,
+    );
+    read_over(
+        &rt,
+        &mut lines,
+        &mut reader,
+        &mut line,
+        Ok(false),
+        b"cd",
+        false,
+    );
 }
 
 const NAMED: &[(&[u8], Command)] = &[
@@ -262,7 +288,7 @@ const NAMED: &[(&[u8], Command)] = &[
 #[test]
 fn commands_are_named_by_their_first_word(rt: HostRuntime) {
     for (text, command) in NAMED {
-        assert_eq!(rt; read_command(text), *command);
+        is_equal(&rt, &read_command(text), command);
     }
 }
 

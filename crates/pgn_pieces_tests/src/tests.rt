@@ -2,8 +2,14 @@ ghost use Rattle.std.specs.Prelude.{◌<◌};
 
 use byte_devices::{Counted, Input, PieceReader};
 use pgn_pieces::{PIECE_LEN, PgnPieces, PieceFault};
+use std::fmt::Debug;
 use std::process::Abort;
 use std::test::Fail;
+
+// For all types: an assertion of each type's own is dear to prove.
+fn is_equal<T: PartialEq + Debug>(rt: &impl Abort, found: &T, wanted: &T) {
+    assert_eq!(rt; *found, *wanted);
+}
 
 // The pieces go on to one that begins at an offset and has these bytes; `None` where it is too long.
 fn gives<R: Input>(
@@ -14,7 +20,7 @@ fn gives<R: Input>(
     wanted: Option<&[u8]>,
 ) {
     assert_eq!(rt; pieces.next(input), Ok(true), "a piece at {offset}");
-    assert_eq!(rt; pieces.offset(), offset);
+    is_equal(rt, &pieces.offset(), &offset);
     assert!(rt; pieces.text() == wanted, "the piece at {offset}");
 }
 
@@ -25,7 +31,7 @@ fn ends<R: Input>(
     input: &mut R,
     answer: Result<bool, PieceFault>,
 ) {
-    assert_eq!(rt; pieces.next(input), answer);
+    is_equal(rt, &pieces.next(input), &answer);
 }
 
 // A text that is read by at most `cut` bytes at a time has pieces of these lengths.
@@ -101,7 +107,7 @@ fn check_long(rt: &impl Abort, host: &HostRuntime, len: usize, is_short: bool) -
     text.extend_from_slice(b"[Event ")?;
     let mut input = Counted::reading(text.as_slice());
     let mut pieces = PgnPieces::open(host.alloc())?;
-    assert_eq!(rt; pieces.next(&mut input), Ok(true));
+    is_equal(rt, &pieces.next(&mut input), &Ok(true));
     assert_eq!(rt; pieces.text().is_some(), is_short, "a piece of {len} bytes");
     gives(rt, &mut pieces, &mut input, len, Some(b"[Event "));
     ends(rt, &mut pieces, &mut input, Ok(false));
@@ -111,7 +117,7 @@ fn check_long(rt: &impl Abort, host: &HostRuntime, len: usize, is_short: bool) -
 // A piece has at most 16,777,216 bytes, or it has no text; the next one comes at its offset.
 #[test]
 fn long_pieces_have_no_text(rt: HostRuntime) -> Result<(), Fail> {
-    assert_eq!(rt; PIECE_LEN, 16_777_216);
+    is_equal(&rt, &PIECE_LEN, &16_777_216);
     check_long(&rt, &rt, PIECE_LEN, true)?;
     check_long(&rt, &rt, 16_777_217, false)
 }
