@@ -49,6 +49,17 @@ fn command_of(alloc: Global, text: &str) -> Result<Command, StartFault> {
     Ok(command)
 }
 
+// Starts a program by its command, with pipes at its input and output.
+fn spawn<R: Processes>(rt: &R, alloc: Global, text: &str) -> Result<Child<R::Started>, StartFault> {
+    let mut command = command_of(alloc, text)?;
+    command.stdin(Stdio::piped());
+    command.stdout(Stdio::piped());
+    match command.spawn(rt) {
+        Ok(child) => Ok(child),
+        Err(error) => Err(start_fault(&error)),
+    }
+}
+
 /// Starts an engine by its command, split at spaces and tabs, with pipes at its input and output; its error output is
 /// that of this process. A name without a slash is looked for on the path.
 ///
@@ -59,13 +70,7 @@ pub(crate) fn start<R: Processes>(
     alloc: Global,
     text: &str,
 ) -> Result<Engine<R::Started>, StartFault> {
-    let mut command = command_of(alloc, text)?;
-    command.stdin(Stdio::piped());
-    command.stdout(Stdio::piped());
-    let mut child = match command.spawn(rt) {
-        Ok(child) => child,
-        Err(error) => return Err(start_fault(&error)),
-    };
+    let mut child = spawn(rt, alloc, text)?;
     match (child.stdin.take(), child.stdout.take()) {
         (Some(input), Some(output)) => Ok(Engine {
             child,
