@@ -7,7 +7,7 @@ use std::fmt::Debug;
 use std::process::Abort;
 use std::test::Fail;
 
-// For all types: an assertion of each type's own is dear to prove.
+// Asserts that two values are equal. One function for all types, since an assertion for each costs much to prove.
 fn is_equal<T: PartialEq + Debug>(rt: &impl Abort, found: &T, wanted: &T) {
     assert_eq!(rt; *found, *wanted);
 }
@@ -112,7 +112,8 @@ fn a_stub_keeps_its_arguments(rt: HostRuntime) -> Result<(), Fail> {
     Ok(())
 }
 
-// Arguments of `match`, and what they ask for; `level` is the moves per session, and the base and the increment in seconds.
+// Arguments of `match`, and what they ask for; `level` is the moves per session, the base and the increment, both in
+// seconds.
 struct MatchRow {
     words: &'static [&'static str],
     white: &'static str,

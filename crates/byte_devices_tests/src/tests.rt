@@ -11,7 +11,7 @@ use std::process::Abort;
 
 const TEXT: &[u8] = b"new\ne2e4\n";
 
-// For all types: an assertion of each type's own is dear to prove.
+// Asserts that two values are equal. One function for all types, since an assertion for each costs much to prove.
 fn is_equal<T: PartialEq + Debug>(rt: &impl Abort, found: &T, wanted: &T) {
     assert_eq!(rt; *found, *wanted);
 }

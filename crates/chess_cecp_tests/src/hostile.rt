@@ -105,7 +105,7 @@ fn check_row<B: Board>(
     Ok(())
 }
 
-// What a session comes to that is read and written in long pieces.
+// Runs a session whose input and output go in pieces of 1,024 bytes.
 fn run_whole<B: Board>(alloc: Global, session: &mut Session<B>, input: &[u8]) -> Outcome {
     run(
         alloc,
@@ -163,8 +163,8 @@ fn cut_after<B: Board>(
     Ok(())
 }
 
-// What was written of a row that is cut and ended after so many bytes. Where the last line lacks byte 10 alone, or is
-// empty, the row has its answer.
+// What was written for a row that is cut and ended after so many bytes begins with the answers to its whole lines.
+// Where the last line lacks byte 10 alone, or is empty, the row has its answer too.
 fn begins_as_the_row(rt: &impl Abort, written: &[u8], row: &Transcript, read: usize) {
     let begun = row.at_byte(read);
     let answers = row.answers.as_slice();

@@ -192,7 +192,8 @@ fn what_was_read_stays_after_a_fault(rt: HostRuntime) -> Result<(), Fail> {
     Ok(())
 }
 
-// Reads the next line over the one before, which is answered so and then has this text, too long or not.
+// Reads the next line over the one before, with this answer: the line is then an ended one with this text, too long or
+// not.
 fn read_over(
     rt: &impl Abort,
     lines: &mut Lines<64>,
