@@ -6,7 +6,7 @@ use std::fmt::Debug;
 use std::process::Abort;
 use std::test::Fail;
 
-/// For all types: an assertion of each type's own is dear to prove.
+/// Asserts that two values are equal. One function for all types, since an assertion for each costs much to prove.
 pub fn is_equal<T: PartialEq + Debug>(rt: &impl Abort, found: &T, wanted: &T) {
     assert_eq!(rt; *found, *wanted);
 }

@@ -46,7 +46,7 @@ fn taking(alloc: Global, cut: usize, fails_at: u64) -> Counted<PieceWriter> {
     Counted::writing(PieceWriter::new(alloc, cut, fails_at))
 }
 
-// A table in a function of its own, since several named in one body are dear to prove.
+// A table in a function of its own, since several named in one body cost much to prove.
 
 fn check_commands(rt: &impl Abort, alloc: Global, way: Way) -> Result<(), Fail> {
     check(rt, alloc, way, COMMANDS, 100)

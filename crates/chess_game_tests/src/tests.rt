@@ -145,7 +145,7 @@ fn by_squares(squares: &[u8; 4]) -> Move {
 }
 
 // The calls of a game whose contracts are big, without clauses: the facts stay in here, and tests compare values. So do
-// the loops and the comparisons below, each in a function of its own: a long body is dear to prove.
+// the loops and the comparisons below, each in a function of its own: a long body costs much to prove.
 
 fn opened<B: Board + Drop>(
     rt: &impl Abort,
@@ -216,7 +216,7 @@ fn said<B: Board>(game: &Game<B>) -> Option<(Outcome, &[u8])> {
     Some((declared.outcome, declared.comment.as_bytes()))
 }
 
-// The comparisons are in these two, for all types: an assertion of each type's own is dear to prove.
+// Assert that two values are equal. Functions for all types, since an assertion for each costs much to prove.
 
 fn is_equal<T: PartialEq + Debug>(rt: &impl Abort, found: &T, wanted: &T) {
     assert_eq!(rt; *found, *wanted);

@@ -1,7 +1,7 @@
 use std::fmt::Debug;
 use std::process::Abort;
 
-// The comparisons are in these two, for all types: an assertion of each type's own is dear to prove.
+// Assert that two values are equal. Functions for all types, since an assertion for each costs much to prove.
 
 pub fn is_equal<T: PartialEq + Debug>(rt: &impl Abort, found: &T, wanted: &T) {
     assert_eq!(rt; *found, *wanted);

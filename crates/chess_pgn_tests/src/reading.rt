@@ -539,7 +539,7 @@ const ROWS: [Row; 77] = [
 ];
 
 // Reads a game, without clauses: what its contract says stays in here, and tests compare values. So does what a loop
-// below does in each round: a loop in a long body is dear to prove.
+// below does in each round: a loop in a long body costs much to prove.
 fn read<B: Board>(
     rt: &impl Abort,
     text: &[u8],
