@@ -80,7 +80,6 @@ fn measure_lines(rt: &HostRuntime, depth: u8, fen: &[u8]) -> io::Result<ExitCode
     Ok(ExitCode::SUCCESS)
 }
 
-// An empty game on a bitboard that uses these tables.
 // Reads all games of a PGN text, and prints how many games and half-moves it has, and on standard error how many
 // half-moves were read a second; or the place of its first fault.
 fn measure_games(rt: &HostRuntime, text: &[u8]) -> io::Result<ExitCode> {

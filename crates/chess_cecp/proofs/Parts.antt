@@ -1,11 +1,12 @@
 -- What has come of a line.
-use Rattle.std.proofs.Common.{◌≡◌, ℕ, ◌+◌, ◌-◌, ◌<◌, ◌≤◌, ◌==◌, ◌&&◌, nat_lt, nat_eq, min, ◌≢◌, Some, None, Bool, true, false, List, [], ◌∷◌, ◌++◌, length, take, get_or, refl, sym, ap, ◌∙◌, arith, if◌then◌else◌}
-use Rattle.std.specs.List.{list_all}
+use Rattle.std.proofs.Common.{◌≡◌, ℕ, ◌+◌, ◌-◌, ◌<◌, ◌≤◌, ◌==◌, ◌&&◌, nat_lt, nat_eq, min, ◌≢◌, Some, None, Bool, true, false, List, [], ◌∷◌, ◌++◌, length, take, get_or, refl, sym, ap, ◌∙◌, arith, append_assoc, append-nil, if◌then◌else◌}
+use Rattle.std.specs.List.{list_all, onto_first}
+use Rattle.std.proofs.lemmas.List.Splits.{slice_split-cons_yes, slice_split-cons_no}
 use Rattle.std.proofs.lemmas.List.{take-append-le, take_min, take_all, length-take}
 use Rattle.std.proofs.Math.Nat.{min-le_right}
 use Rattle.std.proofs.lemmas.Grind.{common_steps}
 use Rattle.chess_cecp.specs.ties.Kept.{kept_part, SameLines, HeldLine}
-use Rattle.chess_cecp.specs.Lines.{LineSeen, Held, line_of, lines_from, lines_held, trimmed, is_blank, without_front_blanks, without_end_blanks, without_return}
+use Rattle.chess_cecp.specs.Lines.{LineSeen, Held, line_of, lines_from, lines_held, parts, lines_of_parts, with_front, trimmed, is_blank, without_front_blanks, without_end_blanks, without_return}
 
 lt_true : (m n : ℕ) → m < n → nat_lt m n ≡ true
 lt_true m n h = grind arith
@@ -42,22 +43,109 @@ line_long : (n : ℕ) (e : Bool) (x y : List ℕ) → n < length x → n < lengt
 unfolding line_of shown_len
 line_long n e x y h k t = rw (lt_true n (length x) h, lt_true n (length y) k, t) refl
 
+-- ---- the parts of a text, of which the first has come in part
+
+-- a list of at least one part
+record SomeParts (all : List (List ℕ)) : Type 0 where
+  first : List ℕ
+  more : List (List ℕ)
+  is : all ≡ first ∷ more
+
+some_more : (c : ℕ) (all : List (List ℕ)) → SomeParts (onto_first c all)
+some_more c [] = record { first = c ∷ []; more = []; is = refl }
+some_more c (part ∷ more) = record { first = c ∷ part; more = more; is = refl }
+
+-- every text has a part
+some_parts : (bytes : List ℕ) → SomeParts (parts bytes)
+some_parts [] = record { first = []; more = []; is = refl }
+some_parts (c ∷ cs) = at (c == 10) refl
+  where
+    at : (b : Bool) → (c == 10) ≡ b → SomeParts (parts (c ∷ cs))
+    at true e = record { first = []; more = parts cs; is = slice_split-cons_yes (λ b. b == 10) c cs e }
+    at false e =
+        let s = some_more c (parts cs) in
+        record { first = s.first; more = s.more; is = slice_split-cons_no (λ b. b == 10) c cs e ∙ s.is }
+
+-- what has come is put before the first part
+front_of : (front part : List ℕ) (more : List (List ℕ)) → with_front front (part ∷ more) ≡ (front ++ part) ∷ more
+front_of [] part more = refl
+front_of (b ∷ front) part more = ap (onto_first b) (front_of front part more)
+
+ended_first : (n : ℕ) (at_end : Bool) (part : List ℕ) (all : List (List ℕ)) → SomeParts all
+    → lines_of_parts n at_end (part ∷ all) ≡ line_of n true part ∷ lines_of_parts n at_end all
+unfolding lines_of_parts
+ended_first n at_end part all s = rw s.is refl
+
+pub ten_step : (n : ℕ) (at_end : Bool) (part : List ℕ) (b : ℕ) (bs : List ℕ) → b ≡ 10
+    → lines_from n at_end part (b ∷ bs) ≡ line_of n true part ∷ lines_from n at_end [] bs
+ten_step n at_end part b bs h =
+    let e : nat_eq b 10 ≡ true = grind arith in
+    ap (λ all. lines_of_parts n at_end (with_front part all)) (slice_split-cons_yes (λ c. c == 10) b bs e)
+    ∙ ap (lines_of_parts n at_end) (front_of part [] (parts bs) ∙ ap (λ v. v ∷ parts bs) (append-nil part))
+    ∙ ended_first n at_end part (parts bs) (some_parts bs)
+
+pub byte_step : (n : ℕ) (at_end : Bool) (part : List ℕ) (b : ℕ) (bs : List ℕ) → b ≢ 10
+    → lines_from n at_end part (b ∷ bs) ≡ lines_from n at_end (part ++ b ∷ []) bs
+byte_step n at_end part b bs h =
+    let e : nat_eq b 10 ≡ false = grind arith in
+    let s = some_parts bs in
+    ap (lines_of_parts n at_end) (
+    ap (with_front part) (slice_split-cons_no (λ c. c == 10) b bs e ∙ ap (onto_first b) s.is)
+    ∙ front_of part (b ∷ s.first) s.more
+    ∙ ap (λ v. v ∷ s.more) (sym (append_assoc part (b ∷ []) s.first))
+    ∙ sym (front_of (part ++ b ∷ []) s.first s.more)
+    ∙ ap (with_front (part ++ b ∷ [])) (sym s.is)
+    )
+
+-- what has come, where nothing follows it
+alone : (part : List ℕ) → with_front part (parts []) ≡ part ∷ []
+alone part = front_of part [] [] ∙ ap (λ v. v ∷ []) (append-nil part)
+
+last_of : (n : ℕ) (part : List ℕ) → lines_of_parts n false (part ∷ []) ≡ []
+unfolding lines_of_parts
+last_of n part = refl
+
+pub none_from : (n : ℕ) (part : List ℕ) → lines_from n false part [] ≡ []
+none_from n part = ap (lines_of_parts n false) (alone part) ∙ last_of n part
+
+last_at_end : (n : ℕ) (part : List ℕ) → 0 < length part → lines_of_parts n true (part ∷ []) ≡ line_of n false part ∷ []
+unfolding lines_of_parts
+last_at_end n part h = rw (lt_true 0 (length part) h) refl
+
+pub last_left : (n : ℕ) (part : List ℕ) → 0 < length part → lines_from n true part [] ≡ line_of n false part ∷ []
+last_left n part h = ap (lines_of_parts n true) (alone part) ∙ last_at_end n part h
+
+pub nothing_left : (n : ℕ) (at_end : Bool) → lines_from n at_end [] [] ≡ []
+unfolding lines_of_parts
+nothing_left n true = refl
+nothing_left n false = refl
+
 -- lines that are too long are alike where the bytes are that show
 long_same : (n : ℕ) (x y : List ℕ) → n < length x → n < length y → take (shown_len n) x ≡ take (shown_len n) y
     → SameLines n x y
-unfolding lines_from
-long_same n x y h k t told [] =
-    rw (lt_true 0 (length x) (omega arith), lt_true 0 (length y) (omega arith), line_long n false x y h k t) refl
-long_same n x y h k t told (c ∷ cs) =
+long_same n x y h k t true [] =
+    last_left n x (omega arith) ∙ ap (λ line. line ∷ []) (line_long n false x y h k t)
+    ∙ sym (last_left n y (omega arith))
+long_same n x y h k t false [] = none_from n x ∙ sym (none_from n y)
+long_same n x y h k t at_end (c ∷ cs) =
     let len_x : length (x ++ c ∷ []) ≡ length x + 1 = grind (arith, common_steps) in
     let len_y : length (y ++ c ∷ []) ≡ length y + 1 = grind (arith, common_steps) in
     let few : shown_len n ≤ n = shown_le n in
-    rw (
-      line_long n true x y h k t,
-      long_same n (x ++ c ∷ []) (y ++ c ∷ []) (omega arith) (omega arith)
-          (take-append-le (shown_len n) x (c ∷ []) (omega arith) ∙ t
-          ∙ sym (take-append-le (shown_len n) y (c ∷ []) (omega arith))) told cs,
-    ) refl
+    at (c == 10) refl (
+    long_same n (x ++ c ∷ []) (y ++ c ∷ []) (omega arith) (omega arith)
+    (take-append-le (shown_len n) x (c ∷ []) (omega arith) ∙ t
+    ∙ sym (take-append-le (shown_len n) y (c ∷ []) (omega arith))) at_end cs
+    )
+  where
+    at : (b : Bool) → (c == 10) ≡ b → lines_from n at_end (x ++ c ∷ []) cs ≡ lines_from n at_end (y ++ c ∷ []) cs
+        → lines_from n at_end x (c ∷ cs) ≡ lines_from n at_end y (c ∷ cs)
+    at true e on =
+        let ten : c ≡ 10 = grind arith in
+        ten_step n at_end x c cs ten ∙ ap (λ line. line ∷ lines_from n at_end [] cs) (line_long n true x y h k t)
+        ∙ sym (ten_step n at_end y c cs ten)
+    at false e on =
+        let other : c ≢ 10 = grind arith in
+        byte_step n at_end x c cs other ∙ on ∙ sym (byte_step n at_end y c cs other)
 
 -- a byte past the last that is kept
 pub overflow_same : (n : ℕ) (items : List ℕ) (long : Bool) (byte : ℕ) → length items ≡ n
@@ -154,22 +242,8 @@ trimmed_short xs =
 
 -- what is held, as a part and a window
 abbrev pub Denoted : ℕ → Held → List ℕ → List ℕ → Type 0
-Denoted n held part window = (told : Bool) (rest : List ℕ)
-    → lines_held n told held rest ≡ lines_from n told part (window ++ rest)
-
-pub ten_step : (n : ℕ) (told : Bool) (part : List ℕ) (b : ℕ) (bs : List ℕ) → b ≡ 10
-    → lines_from n told part (b ∷ bs) ≡ line_of n true part ∷ lines_from n told [] bs
-unfolding lines_from
-ten_step n told part b bs h = rw h refl
-
-pub byte_step : (n : ℕ) (told : Bool) (part : List ℕ) (b : ℕ) (bs : List ℕ) → b ≢ 10
-    → lines_from n told part (b ∷ bs) ≡ lines_from n told (part ++ b ∷ []) bs
-unfolding lines_from
-byte_step n told part b bs h = let e : nat_eq b 10 ≡ false = grind arith in rw e refl
-
-pub none_from : (n : ℕ) (part : List ℕ) → lines_from n false part [] ≡ []
-unfolding lines_from
-none_from n part = refl
+Denoted n held part window = (at_end : Bool) (rest : List ℕ)
+    → lines_held n at_end held rest ≡ lines_from n at_end part (window ++ rest)
 
 pub line_ended : (n : ℕ) (e : Bool) (piece : List ℕ) → (line_of n e piece).ended ≡ e
 unfolding line_of
@@ -182,22 +256,23 @@ pub found_line : (n : ℕ) (held : Held) (part part' window window' : List ℕ) 
 found_line n held part part' window window' b line same fewer w ten is empty = (
   ap (λ (l : LineSeen). l.ended) is ∙ line_ended n true part,
   omega (arith, ap length w),
-  λ told rest. same told rest ∙ ap (λ v. lines_from n told part (v ++ rest)) w
-      ∙ ten_step n told part b (window' ++ rest) ten
-      ∙ ap (λ v. v ∷ lines_from n told [] (window' ++ rest)) (sym is)
-      ∙ ap (λ v. line ∷ lines_from n told v (window' ++ rest)) (sym empty),
+  λ at_end rest. same at_end rest ∙ ap (λ v. lines_from n at_end part (v ++ rest)) w
+      ∙ ten_step n at_end part b (window' ++ rest) ten
+      ∙ ap (λ v. v ∷ lines_from n at_end [] (window' ++ rest)) (sym is)
+      ∙ ap (λ v. line ∷ lines_from n at_end v (window' ++ rest)) (sym empty),
 )
 
 pub one_byte : (n : ℕ) (held : Held) (part part' window window' : List ℕ) (b : ℕ) → Denoted n held part window
     → window ≡ b ∷ window' → b ≢ 10 → SameLines n (part ++ b ∷ []) part' → Denoted n held part' window'
-one_byte n held part part' window window' b same w ten add told rest =
-    same told rest ∙ ap (λ v. lines_from n told part (v ++ rest)) w ∙ byte_step n told part b (window' ++ rest) ten
-    ∙ add told (window' ++ rest)
+one_byte n held part part' window window' b same w ten add at_end rest =
+    same at_end rest ∙ ap (λ v. lines_from n at_end part (v ++ rest)) w
+    ∙ byte_step n at_end part b (window' ++ rest) ten
+    ∙ add at_end (window' ++ rest)
 
 pub no_line : (n : ℕ) (held : Held) (part window window' : List ℕ) → Denoted n held part window → window ≡ []
     → window' ≡ [] → HeldLine n held (record { part = part; coming = window' }) None
 no_line n held part window window' same w w' = (
   same false [] ∙ ap (λ v. lines_from n false part (v ++ [])) w ∙ none_from n part,
   w',
-  λ told rest. same told rest ∙ ap (λ v. lines_from n told part (v ++ rest)) (w ∙ sym w'),
+  λ at_end rest. same at_end rest ∙ ap (λ v. lines_from n at_end part (v ++ rest)) (w ∙ sym w'),
 )

@@ -1,7 +1,7 @@
 -- The reads of one call for the next line.
-use Rattle.std.proofs.Common.{◌≡◌, ℕ, ◌+◌, ◌-◌, ◌<◌, ◌≤◌, inl, inr, Bool, true, false, List, [], ◌∷◌, ◌++◌, length, take, Some, None, Ok, refl, sym, ap, ◌∙◌, arith, append_assoc, append-nil, length-append, nat_eq, nat_lt}
+use Rattle.std.proofs.Common.{◌≡◌, ℕ, ◌+◌, ◌-◌, ◌<◌, ◌≤◌, inl, inr, Bool, true, false, List, [], ◌∷◌, ◌++◌, length, take, Some, None, Ok, refl, sym, ap, ◌∙◌, arith, append_assoc, append-nil, length-append, nat_eq}
 use Rattle.std.proofs.Math.Seq.{take-append_seam}
-use Rattle.chess_cecp.proofs.Parts.{line_ended, ten_step, byte_step, none_from}
+use Rattle.chess_cecp.proofs.Parts.{line_ended, ten_step, byte_step, none_from, last_left, nothing_left}
 use Rattle.std.specs.Io.KnownBytes.{Consumes}
 use Rattle.std.specs.Bool.{MatchBool}
 use Rattle.byte_devices.specs.Devices.{InputState, GavePiece, risen}
@@ -16,7 +16,8 @@ use Rattle.chess_cecp.specs.declared.lines.TheConstants.{PIECE_LEN}
 pub record SoFar (n : ℕ) (r r' : InputState) (held held' : Held) (given : List ℕ) : Type 0 where
   pub bytes : Consumes r.known_bytes r'.known_bytes given
   pub waits : Waits n r r' held given
-  pub lines : (told : Bool) (rest : List ℕ) → lines_held n told held (given ++ rest) ≡ lines_held n told held' rest
+  pub lines : (at_end : Bool) (rest : List ℕ)
+      → lines_held n at_end held (given ++ rest) ≡ lines_held n at_end held' rest
   pub failures : r'.failure_count ≡ r.failure_count
   pub ends : r'.end_count ≡ r.end_count
   pub work : work r' held' ≤ work r held
@@ -32,11 +33,12 @@ whole_so_far n r r' h h' h'' given s f = ap (lines_held n false h) (sym (append-
 
 -- what is held after a piece
 lines_on : (n : ℕ) (r r' : InputState) (h h' h'' : Held) (given piece : List ℕ) → SoFar n r r' h h' given
-    → HeldLine n h' h'' None → (told : Bool) (rest : List ℕ)
-    → lines_held n told h ((given ++ piece) ++ rest) ≡ lines_from n told h''.part (piece ++ rest)
-lines_on n r r' h h' h'' given piece s f told rest =
-    ap (lines_held n told h) (append_assoc given piece rest) ∙ s.lines told (piece ++ rest) ∙ f.2 told (piece ++ rest)
-    ∙ ap (λ v. lines_from n told h''.part (v ++ (piece ++ rest))) f.1
+    → HeldLine n h' h'' None → (at_end : Bool) (rest : List ℕ)
+    → lines_held n at_end h ((given ++ piece) ++ rest) ≡ lines_from n at_end h''.part (piece ++ rest)
+lines_on n r r' h h' h'' given piece s f at_end rest =
+    ap (lines_held n at_end h) (append_assoc given piece rest) ∙ s.lines at_end (piece ++ rest)
+    ∙ f.2 at_end (piece ++ rest)
+    ∙ ap (λ v. lines_from n at_end h''.part (v ++ (piece ++ rest))) f.1
 
 before_last : (given piece : List ℕ) (last : ℕ) → last ≡ length piece → before_piece last (given ++ piece) ≡ given
 before_last given piece last e =
@@ -59,7 +61,7 @@ pub start : (n : ℕ) (r : InputState) (h : Held) → SoFar n r r h h []
 start n r h = record {
   bytes = consumes_none r.known_bytes;
   waits = inl (refl, refl);
-  lines = λ told rest. refl;
+  lines = λ at_end rest. refl;
   failures = refl;
   ends = refl;
   work = omega arith;
@@ -77,24 +79,16 @@ piece_on n r r' r'' h h' h'' given piece s f p some few = record {
   work = (let a = p.falls in let b = s.work in omega arith);
 }
 
-told_end : (r r' : InputState) (piece : List ℕ) → GavePiece r r' piece → piece ≡ [] → r'.end_count ≡ risen r.end_count
-told_end r r' piece p e = p.ends ∙ rw e refl
-
-pub nothing_left : (n : ℕ) (told : Bool) → lines_from n told [] [] ≡ []
-unfolding lines_from
-nothing_left n true = refl
-nothing_left n false = refl
-
-last_left : (n : ℕ) (part : List ℕ) → 0 < length part → lines_from n true part [] ≡ line_of n false part ∷ []
-unfolding lines_from
-last_left n part h = let e : nat_lt 0 (length part) ≡ true = grind arith in rw e refl
+reported_end : (r r' : InputState) (piece : List ℕ) → GavePiece r r' piece → piece ≡ []
+    → r'.end_count ≡ risen r.end_count
+reported_end r r' piece p e = p.ends ∙ rw e refl
 
 lines_end : (n : ℕ) (r r' : InputState) (h h' h'' : Held) (given piece : List ℕ) → SoFar n r r' h h' given
-    → HeldLine n h' h'' None → piece ≡ [] → (told : Bool)
-    → lines_held n told h (given ++ piece) ≡ lines_from n told h''.part []
-lines_end n r r' h h' h'' given piece s f e told =
-    ap (lines_held n told h) (sym (append-nil (given ++ piece))) ∙ lines_on n r r' h h' h'' given piece s f told []
-    ∙ ap (λ v. lines_from n told h''.part (v ++ [])) e
+    → HeldLine n h' h'' None → piece ≡ [] → (at_end : Bool)
+    → lines_held n at_end h (given ++ piece) ≡ lines_from n at_end h''.part []
+lines_end n r r' h h' h'' given piece s f e at_end =
+    ap (lines_held n at_end h) (sym (append-nil (given ++ piece))) ∙ lines_on n r r' h h' h'' given piece s f at_end []
+    ∙ ap (λ v. lines_from n at_end h''.part (v ++ [])) e
 
 pub both_empty : (a b : List ℕ) → a ≡ [] → b ≡ [] → record { part = a; coming = b } ≡ nothing_held
 both_empty a b e f = ap (λ (v : List ℕ). let h : Held = record { part = v; coming = b } in h) e
@@ -109,12 +103,12 @@ end_none E n r r' r'' h h' h'' h3 given piece s f p e empty left = (
   consumes_more r.known_bytes r'.known_bytes r''.known_bytes given piece s.bytes p.bytes,
   waits_on n r r' r'' h h' h'' given piece s f p,
   record {
-    lines = λ told. lines_end n r r' h h' h'' given piece s f e told ∙ ap (λ v. lines_from n told v []) empty
-        ∙ nothing_left n told;
+    lines = λ at_end. lines_end n r r' h h' h'' given piece s f e at_end ∙ ap (λ v. lines_from n at_end v []) empty
+        ∙ nothing_left n at_end;
     rest = left;
     at_end = p.at_end (ap length e);
     failures = p.failures ∙ s.failures;
-    ends = told_end r' r'' piece p e ∙ ap risen s.ends;
+    ends = reported_end r' r'' piece p e ∙ ap risen s.ends;
   },
 )
 
@@ -134,20 +128,20 @@ end_last E n r r' r'' h h' h'' h3 given piece line s f p e some is left =
         rest = left;
         at_end = p.at_end (ap length e);
         failures = p.failures ∙ s.failures;
-        ends = told_end r' r'' piece p e ∙ ap risen s.ends;
+        ends = reported_end r' r'' piece p e ∙ ap risen s.ends;
       }),
     )
 
-piece_on_part : (n : ℕ) (told : Bool) (part piece rest : List ℕ) → HasNoEnd piece
-    → lines_from n told part (piece ++ rest) ≡ lines_from n told (part ++ piece) rest
-piece_on_part n told part [] rest h = ap (λ v. lines_from n told v rest) (sym (append-nil part))
-piece_on_part n told part (c ∷ cs) rest h =
-    byte_step n told part c (cs ++ rest) h.0 ∙ piece_on_part n told (part ++ c ∷ []) cs rest h.1
-    ∙ ap (λ v. lines_from n told v rest) (append_assoc part (c ∷ []) cs)
+piece_on_part : (n : ℕ) (at_end : Bool) (part piece rest : List ℕ) → HasNoEnd piece
+    → lines_from n at_end part (piece ++ rest) ≡ lines_from n at_end (part ++ piece) rest
+piece_on_part n at_end part [] rest h = ap (λ v. lines_from n at_end v rest) (sym (append-nil part))
+piece_on_part n at_end part (c ∷ cs) rest h =
+    byte_step n at_end part c (cs ++ rest) h.0 ∙ piece_on_part n at_end (part ++ c ∷ []) cs rest h.1
+    ∙ ap (λ v. lines_from n at_end v rest) (append_assoc part (c ∷ []) cs)
 
-pub law_ended : (n : ℕ) (told : Bool) (piece rest : List ℕ) → HasNoEnd piece
-    → lines_from n told [] (piece ++ 10 ∷ rest) ≡ line_of n true piece ∷ lines_from n told [] rest
-law_ended n told piece rest h = piece_on_part n told [] piece (10 ∷ rest) h ∙ ten_step n told piece 10 rest refl
+pub law_ended : (n : ℕ) (at_end : Bool) (piece rest : List ℕ) → HasNoEnd piece
+    → lines_from n at_end [] (piece ++ 10 ∷ rest) ≡ line_of n true piece ∷ lines_from n at_end [] rest
+law_ended n at_end piece rest h = piece_on_part n at_end [] piece (10 ∷ rest) h ∙ ten_step n at_end piece 10 rest refl
 
 pub law_last : (n : ℕ) (piece : List ℕ) → HasNoEnd piece → 0 < length piece
     → lines_from n true [] piece ≡ line_of n false piece ∷ []

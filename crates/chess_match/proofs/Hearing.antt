@@ -15,8 +15,8 @@ use Rattle.chess_match.specs.declared.run.TheConstants.{ENGINE_LINE_LEN}
 pub record Hearing (old new : InputState) (held : Held) (given : List ℕ) (texts : List (Option (List ℕ))) : Type 0 where
   pub bytes : Consumes old.known_bytes new.known_bytes given
   pub lines : (heard : List LineSeen) × (map text_read heard ≡ texts)
-      × ((told : Bool) (rest : List ℕ) → stream_lines ENGINE_LINE_LEN told (given ++ rest) ≡ heard
-      ++ lines_held ENGINE_LINE_LEN told held rest)
+      × ((at_end : Bool) (rest : List ℕ) → stream_lines ENGINE_LINE_LEN at_end (given ++ rest) ≡ heard
+      ++ lines_held ENGINE_LINE_LEN at_end held rest)
   pub ends : new.end_count ≡ old.end_count
   pub failures : new.failure_count ≡ old.failure_count
 

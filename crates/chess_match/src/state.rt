@@ -52,6 +52,12 @@ pub(crate) struct MatchState {
     pub opened: u64,
 }
 
+/// So many ignored lines in one setup or turn end the match.
+pub(crate) const FLOOD_LEN: u32 = 10_000;
+
+/// So many lines in one handshake without `done=1` end the match.
+pub(crate) const HELLO_LEN: u32 = 1_000;
+
 /// Nothing is sent.
 pub(crate) const NOTHING: Actions = Actions {
     draw: None,

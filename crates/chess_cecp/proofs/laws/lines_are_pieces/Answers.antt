@@ -1,4 +1,5 @@
-use Rattle.chess_cecp.proofs.Reading.{law_ended, law_last, law_not_at_end, nothing_left}
+use Rattle.chess_cecp.proofs.Parts.{nothing_left}
+use Rattle.chess_cecp.proofs.Reading.{law_ended, law_last, law_not_at_end}
 use Rattle.chess_cecp.proofs.laws.lines_are_pieces.Goals as goal
 
 pub returns : goal.returns

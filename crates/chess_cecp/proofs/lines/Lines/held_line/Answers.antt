@@ -11,12 +11,13 @@ returns-then-byte-eq10-clause-held g c =
 
 pub loop-byte-preserved : goal.loop-byte-preserved
 loop-byte-preserved g c = record {
-  same = one_byte g.row.N c.args.self.now _ _ _ _ c.in-Some.byte c.loop-byte.invariant.same c.in-Some.ensures
+  same = one_byte g.row.N c.args.self.now c.loop-byte.self-inside.part c.add.new.self _ _ c.in-Some.byte
+      c.loop-byte.invariant.same c.in-Some.ensures
       c.if-byte-eq10.false c.add.ensures;
   fewer = omega (arith, ap length c.in-Some.ensures, c.loop-byte.invariant.fewer);
   kept = c.loop-byte.invariant.kept;
 }
 
 pub returns-clause-held : goal.returns-clause-held
-returns-clause-held g c = no_line g.row.N c.args.self.now _ _ _ c.loop-byte.invariant.same c.in_default.ensures.0
-    c.in_default.ensures.1
+returns-clause-held g c = no_line g.row.N c.args.self.now c.loop-byte.self-inside.part _ _ c.loop-byte.invariant.same
+    c.in_default.ensures.0 c.in_default.ensures.1

@@ -28,9 +28,9 @@ returns-then-done-clause-goes g c r m p at s =
     rw (done, on) (hello_goes r c.hear-done.new.self _ _ c.args.side (items_of_line (seen c.args.line))
     c.after_hello-self.result 0 false m st differs refl)
 
-pub returns-then-self-ge1000-clause-goes : goal.returns-then-self-ge1000-clause-goes
+pub returns-then-self-ge-HELLO_LEN-clause-goes : goal.returns-then-self-ge-HELLO_LEN-clause-goes
 unfolding hello_line
-returns-then-self-ge1000-clause-goes g c r m p at s =
+returns-then-self-ge-HELLO_LEN-clause-goes g c r m p at s =
     let st : Represents r c.hear-done.new.self (g.G.MatchGame.played c.args.game.now)
     (take_items c.args.side (items_of_line (seen c.args.line)) m) = c.hear-done.ensures.heard r _ m s in
     let done : has_done (items_of_line (seen c.args.line)) ≡ false = sym c.hear-done.ensures.done ∙ c.if-done.false in
@@ -42,14 +42,14 @@ returns-then-self-ge1000-clause-goes g c r m p at s =
     differs
     (one_core c.hear-done.new.self _ _ _ _ refl st.count))
 
-pub returns-else-self-ge1000-clause-goes : goal.returns-else-self-ge1000-clause-goes
+pub returns-else-self-ge-HELLO_LEN-clause-goes : goal.returns-else-self-ge-HELLO_LEN-clause-goes
 unfolding hello_line
-returns-else-self-ge1000-clause-goes g c r m p at s =
+returns-else-self-ge-HELLO_LEN-clause-goes g c r m p at s =
     let st : Represents r c.hear-done.new.self (g.G.MatchGame.played c.args.game.now)
     (take_items c.args.side (items_of_line (seen c.args.line)) m) = c.hear-done.ensures.heard r _ m s in
     let done : has_done (items_of_line (seen c.args.line)) ≡ false = sym c.hear-done.ensures.done ∙ c.if-done.false in
     let few : nat_le 1000 (m.count + 1) ≡ false =
-    lt-leb 1000 (m.count + 1) (omega (arith, s.count, c.hear-done.ensures.count, c.if-self-ge1000.false)) in
+    lt-leb 1000 (m.count + 1) (omega (arith, s.count, c.hear-done.ensures.count, c.if-self-ge-HELLO_LEN.false)) in
     let stays : is_same_phase m.phase (take_items c.args.side (items_of_line (seen c.args.line)) m).phase ≡ true =
     rw (hear_phase c.args.side (items_of_line (seen c.args.line)) m, at) (same_colour-self c.args.side) in
     let more : c.hear-done.new.self.count + 1 ≡ m.count + 1 = omega (arith, s.count, c.hear-done.ensures.count) in

@@ -4,8 +4,8 @@ use Rattle.std.proofs.Common.{◌+◌, ◌<◌, ◌≤◌, refl, arith}
 use Rattle.chess_match.proofs.Going.{is_flood, is_counted, counted_goes, reads_on}
 use Rattle.chess_match.proofs.state.MatchState.ignore.Goals as goal
 
-pub returns-then-self-ge10000 : goal.returns-then-self-ge10000
-returns-then-self-ge10000 c r played m on s =
+pub returns-then-self-ge-FLOOD_LEN : goal.returns-then-self-ge-FLOOD_LEN
+returns-then-self-ge-FLOOD_LEN c r played m on s =
     let flood : 10000 ≤ m.count + 1 = omega (arith, s.count) in
     rw (is_flood r c.args.side m flood) (c.finish.ensures r played m (reads_on m.phase c.args.side on) s)
 
