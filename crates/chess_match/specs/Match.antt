@@ -13,7 +13,6 @@ use Rattle.chess_match.specs.Reasons.{by_colour}
 use Rattle.chess_match.specs.Rules.{Rules, is_fischerandom}
 use Rattle.chess_match.specs.declared.phase.Phase.{Phase}
 use Rattle.chess_match.specs.declared.phase.Phase.TheVariants.{Hello, Setup, SendTurn, AwaitMove, AwaitPong, Over}
-use Rattle.chess_match.specs.declared.state.TheConstants.{FLOOD_LEN, HELLO_LEN}
 use Rattle.chess_match.specs.declared.reason.DrawClaim.{DrawClaim}
 use Rattle.chess_match.specs.declared.reason.MatchFault.{MatchFault}
 use Rattle.chess_match.specs.declared.reason.MatchFault.TheVariants.{Ended, Read, Write, NoDone, NoPing, NoSetboard, Flood, NoVariant}
@@ -94,7 +93,7 @@ open_turn S m = record m { phase = SendTurn S; count = 0; unsent_to = None }
 
 -- the match `m` after a line of the side `S` that is ignored; the 10,000th in one setup or turn ends it
 abbrev pub ignore : Colour → Match → Match
-ignore S m = if nat_le FLOOD_LEN (m.count + 1) then over (Faulted S Flood) m else record m { count = m.count + 1 }
+ignore S m = if nat_le 10000 (m.count + 1) then over (Faulted S Flood) m else record m { count = m.count + 1 }
 
 -- ---- handshake
 
@@ -134,7 +133,7 @@ greeted r Black m = after_handshakes (lack r m.white.items) (lack r m.black.item
 unfoldable pub hello_line : Rules → Colour → List Item → Match → Match
 hello_line r S items m =
     if has_done items then greeted r S (take_items S items m)
-    else if nat_le HELLO_LEN (m.count + 1) then over (Faulted S NoDone) (take_items S items m)
+    else if nat_le 1000 (m.count + 1) then over (Faulted S NoDone) (take_items S items m)
     else let m' = take_items S items m in record m' { count = m.count + 1 }
 
 -- ---- setup
