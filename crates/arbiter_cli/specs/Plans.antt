@@ -48,6 +48,7 @@ verify_plan_of rows = record {
   keep_going = is_set (codes "keep-going") rows;
   quiet = is_set (codes "quiet") rows;
   strict = is_set (codes "strict") rows;
+  explain = is_set (codes "explain") rows;
 }
 
 -- ---- what it means

@@ -3,7 +3,6 @@
 ghost use Rattle.arbiter_cli.specs.ties.Requests.{Refuses};
 
 use chess_base::FenFault;
-use chess_cecp::fen_fault_name;
 use clap::Error;
 use clap::error::ErrorKind;
 
@@ -20,7 +19,7 @@ pub enum WordsFault {
     #[error("bad level")]
     BadLevel,
     /// The text of a match's start denotes no sound position.
-    #[error("illegal position ({})", fen_fault_name(*.0))]
+    #[error("illegal position ({})", .0.name())]
     BadFen(FenFault),
     /// The date of a match has more than 60 bytes, or one outside 32 to 126.
     #[error("bad date")]

@@ -33,13 +33,14 @@ pub struct MatchPlan<'a> {
 /// How the games on the standard input are verified.
 #[derive(Clone, Copy, Debug, PartialEq, Eq)]
 pub struct VerifyPlan {
-    /// Whether verifying continues after a fault, with the next line that begins with `[Event `, and writes totals
-    /// at the end.
+    /// Whether verifying continues after a fault, with the next piece, and writes totals at the end.
     pub keep_going: bool,
     /// Whether only games with a fault are written.
     pub quiet: bool,
     /// Whether the result is also checked against the tag Result and the final position.
     pub strict: bool,
+    /// Whether each fault is followed by a line that says where it is and why.
+    pub explain: bool,
 }
 
 /// What the arguments ask for.

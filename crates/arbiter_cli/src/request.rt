@@ -58,6 +58,7 @@ fn verify_plan(found: &ArgMatches<'_>) -> VerifyPlan
         keep_going: is_set(found, "keep-going"),
         quiet: is_set(found, "quiet"),
         strict: is_set(found, "strict"),
+        explain: is_set(found, "explain"),
     }
 }
 

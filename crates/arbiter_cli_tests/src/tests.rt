@@ -25,58 +25,63 @@ fn plans_without_arguments(rt: HostRuntime) -> Result<(), Fail> {
     Ok(())
 }
 
-// Arguments of `verify`, and the flags that they set: keep-going, quiet, strict.
-const VERIFY: [(&[&str], bool, bool, bool); 14] = [
-    (&["verify"], false, false, false),
-    (&["verify", "--keep-going"], true, false, false),
-    (&["verify", "--quiet"], false, true, false),
-    (&["verify", "--strict"], false, false, true),
-    (&["verify", "--keep-going", "--quiet"], true, true, false),
-    (&["verify", "--quiet", "--keep-going"], true, true, false),
-    (&["verify", "--strict", "--quiet"], false, true, true),
-    (&["verify", "--keep-going", "--strict"], true, false, true),
+// Arguments of `verify`, and the flags that they set: keep-going, quiet, strict, explain.
+const VERIFY: [(&[&str], [bool; 4]); 16] = [
+    (&["verify"], [false, false, false, false]),
+    (&["verify", "--keep-going"], [true, false, false, false]),
+    (&["verify", "--quiet"], [false, true, false, false]),
+    (&["verify", "--strict"], [false, false, true, false]),
+    (&["verify", "--explain"], [false, false, false, true]),
+    (
+        &["verify", "--keep-going", "--quiet"],
+        [true, true, false, false],
+    ),
+    (
+        &["verify", "--quiet", "--keep-going"],
+        [true, true, false, false],
+    ),
+    (
+        &["verify", "--strict", "--quiet"],
+        [false, true, true, false],
+    ),
+    (
+        &["verify", "--keep-going", "--strict"],
+        [true, false, true, false],
+    ),
+    (
+        &["verify", "--explain", "--keep-going"],
+        [true, false, false, true],
+    ),
+    (
+        &["verify", "--quiet", "--explain"],
+        [false, true, false, true],
+    ),
     (
         &["verify", "--strict", "--keep-going", "--quiet"],
-        true,
-        true,
-        true,
-    ),
-    (
-        &["verify", "--strict", "--quiet", "--keep-going"],
-        true,
-        true,
-        true,
-    ),
-    (
-        &["verify", "--keep-going", "--strict", "--quiet"],
-        true,
-        true,
-        true,
+        [true, true, true, false],
     ),
     (
         &["verify", "--quiet", "--strict", "--keep-going"],
-        true,
-        true,
-        true,
+        [true, true, true, false],
     ),
     (
-        &["verify", "--keep-going", "--quiet", "--strict"],
-        true,
-        true,
-        true,
+        &["verify", "--explain", "--strict", "--quiet"],
+        [false, true, true, true],
     ),
     (
-        &["verify", "--quiet", "--keep-going", "--strict"],
-        true,
-        true,
-        true,
+        &["verify", "--keep-going", "--quiet", "--strict", "--explain"],
+        [true, true, true, true],
+    ),
+    (
+        &["verify", "--explain", "--strict", "--quiet", "--keep-going"],
+        [true, true, true, true],
     ),
 ];
 
 // The arguments of `verify` go together in any order.
 #[test]
 fn verify_by_its_options(rt: HostRuntime) -> Result<(), Fail> {
-    for (words, keep_going, quiet, strict) in &VERIFY {
+    for (words, [keep_going, quiet, strict, explain]) in &VERIFY {
         let Plan::Verify(plan) = read_words(rt.alloc(), words)? else {
             return Err(Fail::new("another plan"));
         };
@@ -87,6 +92,7 @@ fn verify_by_its_options(rt: HostRuntime) -> Result<(), Fail> {
                 keep_going: *keep_going,
                 quiet: *quiet,
                 strict: *strict,
+                explain: *explain,
             },
         );
     }
@@ -453,7 +459,7 @@ fn other_arguments_are_refused(rt: HostRuntime) -> Result<(), Fail> {
 }
 
 // Arguments that ask for help, the beginning of a line in that text, and the arguments of the example on that line.
-const EXAMPLES: [(&[&str], &str, &[&str]); 15] = [
+const EXAMPLES: [(&[&str], &str, &[&str]); 16] = [
     (&["--help"], "\n  arbiter     ", &[]),
     (&["--help"], "\n  arbiter verify < games.pgn ", &["verify"]),
     (
@@ -475,6 +481,11 @@ const EXAMPLES: [(&[&str], &str, &[&str]); 15] = [
         &["verify", "--help"],
         "\n  arbiter verify < games.pgn\n",
         &["verify"],
+    ),
+    (
+        &["verify", "--help"],
+        "\n  arbiter verify --explain < games.pgn\n",
+        &["verify", "--explain"],
     ),
     (
         &["verify", "--help"],

@@ -563,7 +563,15 @@ subs_need names =
                     (λ f. absurd (true≢false (sym f))),
                     (λ f. absurd (true≢false (sym f))),
                   ),
-                  tt,
+                  (
+                    (
+                      refl,
+                      (λ f. absurd (true≢false (sym f))),
+                      (λ f. absurd (true≢false (sym f))),
+                      (λ f. absurd (true≢false (sym f))),
+                    ),
+                    tt,
+                  ),
                 ),
               ),
             ),

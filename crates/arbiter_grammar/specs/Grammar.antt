@@ -48,10 +48,11 @@ match_app names = fold with_rule (new_app (codes "match")) (
     ∷ option_rule (codes "fen") ∷ games_rule ∷ option_rule (codes "date") ∷ variant_rule names
     ∷ flag_rule (codes "log") ∷ [])
 
--- the subcommand `verify` with its flags `--keep-going`, `--quiet` and `--strict`
+-- the subcommand `verify` with its flags `--keep-going`, `--quiet`, `--strict` and `--explain`
 abbrev pub verify_app : App
 verify_app = fold with_rule (new_app (codes "verify"))
-    (flag_rule (codes "keep-going") ∷ flag_rule (codes "quiet") ∷ flag_rule (codes "strict") ∷ [])
+    (flag_rule (codes "keep-going") ∷ flag_rule (codes "quiet") ∷ flag_rule (codes "strict")
+    ∷ flag_rule (codes "explain") ∷ [])
 
 -- the rule `words` of `stub`: any number of arguments without an option's name
 abbrev pub words_rule : Rule

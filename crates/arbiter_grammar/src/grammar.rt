@@ -1,6 +1,6 @@
 //! The grammar of the command line, and its texts of help.
 
-ghost use Rattle.std.specs.Prelude.{◌≡◌, IfOk, Some, false};
+ghost use Rattle.std.specs.Prelude.{◌≡◌, IfOk, Some, codes, false};
 ghost use Rattle.clap.specs.Words.{app_of, new_app, rule_of};
 ghost use Rattle.clap.specs.declared.builder.texts.Texts.TheVariants.{One};
 ghost use Rattle.clap.specs.declared.builder.command.Command.TheViews.{out-Command as fields_of};
@@ -53,12 +53,17 @@ const VERIFY_EXAMPLES: &str = "\
 Prints one line per game: `game 1: 40 half-moves, 1-0`, or its first fault: `game 1: illegal move at byte 6`. Bytes are
 counted from 0. The exit status is 1 if a game has a fault.
 
-Without --keep-going the first fault ends the run, and the input may have at most 16,777,216 bytes. With --keep-going it
-may have any size, but at most 16,777,216 bytes from one line that begins with `[Event ` to the next. The totals are
-`games 2 half-moves 91 faults 1`: the games without a fault, their half-moves, and the faults.
+Without --keep-going the first fault ends the run, and the input may have at most 16,777,216 bytes. For longer input
+use --keep-going: it reads piece by piece. A piece begins at a tag line after a line of moves, or at a second Event tag,
+and may have 16,777,216 bytes. The totals are `games 2 half-moves 91 faults 1`: the games without a fault, their
+half-moves, and the faults.
+
+With --explain each fault is followed by its line, its column, the text there, the position, and the reason if there is
+one: `# line 2 column 4 Ke3 | rnbqkbnr/pppp1ppp/8/4p3/4P3/8/PPPP1PPP/RNBQKBNR w KQkq e6 0 2`.
 
 Examples:
   arbiter verify < games.pgn
+  arbiter verify --explain < games.pgn
   arbiter verify --keep-going --quiet < games.pgn
   zcat games.pgn.gz | arbiter verify --keep-going --strict";
 
@@ -208,10 +213,10 @@ fn match_command<'a>(alloc: Global) -> Result<Command<'a>, AllocError>
     ))
 }
 
-// The subcommand `verify` with its flags `--keep-going`, `--quiet` and `--strict`.
-fn verify_command<'a>(alloc: Global) -> Result<Command<'a>, AllocError>
-    ensures app { IfOk result (λ c. app_of c ≡ verify_app) }
-    ensures local { IfOk result (λ c. (fields_of c).has_globals ≡ false) }
+// The subcommand `verify` without its flags. Its usage shows that the games come from standard input.
+fn bare_verify_command<'a>(alloc: Global) -> Command<'a>
+    ensures app { app_of result ≡ new_app (codes "verify") }
+    ensures local { (fields_of result).has_globals ≡ false }
 {
     command(
         alloc,
@@ -219,16 +224,30 @@ fn verify_command<'a>(alloc: Global) -> Result<Command<'a>, AllocError>
         "Check the games of a PGN file on standard input",
         VERIFY_EXAMPLES,
     )
+    .override_usage("arbiter verify [OPTIONS] < FILE")
+}
+
+// The subcommand `verify` with its flags `--keep-going`, `--quiet`, `--strict` and `--explain`.
+fn verify_command<'a>(alloc: Global) -> Result<Command<'a>, AllocError>
+    ensures app { IfOk result (λ c. app_of c ≡ verify_app) }
+    ensures local { IfOk result (λ c. (fields_of c).has_globals ≡ false) }
+{
+    bare_verify_command(alloc)
     .arg(flag(
         alloc,
         "keep-going",
-        "Continue after a fault, with the next line that begins with `[Event `, and print totals at the end",
+        "Continue after a fault with the next piece, and print totals at the end; for input of any size",
     ))?
     .arg(flag(alloc, "quiet", "Leave out games without a fault"))?
     .arg(flag(
         alloc,
         "strict",
         "Also check the result against the Result tag and the final position",
+    ))?
+    .arg(flag(
+        alloc,
+        "explain",
+        "After each fault print a line with its line, its column, the text there, the position and the reason",
     ))
 }
 

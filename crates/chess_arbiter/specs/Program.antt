@@ -58,7 +58,7 @@ RanSession r r' w w' status =
 
 -- the options of verifying that the flags of `verify` ask for
 abbrev pub options_of : VerifyPlan → VerifyOptions
-options_of plan = record { quiet = plan.quiet; strict = plan.strict }
+options_of plan = record { quiet = plan.quiet; strict = plan.strict; explain = plan.explain }
 
 -- what verifying the input's PGN does, by the flag `--keep-going`: with it (true) piece by piece, so that a fault ends
 -- only its piece; else as one text up to its first fault

@@ -120,6 +120,7 @@ fn options_of(plan: VerifyPlan) -> VerifyOptions
     VerifyOptions {
         quiet: plan.quiet,
         strict: plan.strict,
+        explain: plan.explain,
     }
 }
 

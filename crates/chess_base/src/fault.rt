@@ -1,5 +1,8 @@
 //! What is wrong with the setup of a position, or with its text, which chess_fen reads.
 
+ghost use Rattle.std.specs.Prelude.{◌≡◌, ◌≤◌, length};
+ghost use Rattle.chess_base.specs.Faults.{fen_fault_name};
+
 /// Why a text is no FEN of a position, or a `Setup` is no `Position`: the first fault in the order number of fields,
 /// placement, side, form of the castling rights, form of the en passant target, counters, kings, pawns, number of
 /// pieces, king and rook of each right, pieces around the target, check.
@@ -37,4 +40,25 @@ pub enum FenFault {
     /// The text has neither four nor six fields.
     #[error("there are neither four nor six fields")]
     Fields,
+}
+
+impl FenFault {
+    /// The fault's short name, such as `kings`, by which refusals and reports of games name it.
+    pub fn name(self) -> &'static str
+        ensures value { result.now ≡ fen_fault_name self }
+        ensures short { length result.now ≤ 10 }
+    {
+        match self {
+            FenFault::Fields => "fields",
+            FenFault::Placement => "placement",
+            FenFault::Side => "side",
+            FenFault::Castling => "castling",
+            FenFault::EnPassant => "en passant",
+            FenFault::Counters => "counters",
+            FenFault::Kings => "kings",
+            FenFault::Pawns => "pawns",
+            FenFault::Men => "men",
+            FenFault::Check => "check",
+        }
+    }
 }

@@ -4,7 +4,7 @@ use Rattle.std.specs.Option.{option_map_or}
 use Rattle.chess_base.specs.Letters.{byte}
 use Rattle.chess_game.specs.Ends.{verdict_outcome, verdict_comment, claims}
 use Rattle.chess_game.specs.Game.{State, current, verdict_now}
-use Rattle.chess_game.specs.Results.{outcome_text, cut_comment}
+use Rattle.chess_game.specs.Results.{result_text, cut_comment}
 use Rattle.chess_game.specs.Same.{repetition_count}
 use Rattle.chess_game.specs.declared.ends.Claims.{Claims}
 use Rattle.chess_game.specs.declared.ends.Verdict.{Verdict}
@@ -30,10 +30,6 @@ read_result argument = do
   outcome ← outcome_of (word_of argument)
   comment ← result_comment (argument_of argument)
   Some (record { outcome = outcome; comment = cut_comment comment })
-
--- a result as it is written, an outcome with its comment in braces, such as `1-0 {White mates}`
-unfoldable pub result_text : Outcome → List ℕ → List ℕ
-result_text o comment = outcome_text o ++ (codes " {" ++ (comment ++ codes "}"))
 
 -- the board's verdict as `showstate` writes it, such as `1-0 {White mates}`; `none` without one
 abbrev pub verdict_text : Option Verdict → List ℕ

@@ -4,7 +4,7 @@ use Rattle.chess_base.specs.Letters.{new_line, space}
 use Rattle.std.specs.Str.{bytes_eq}
 use Rattle.byte_devices.specs.Devices.{Begins}
 use Rattle.chess_base.specs.declared.fault.FenFault.{FenFault}
-use Rattle.chess_base.specs.declared.fault.FenFault.TheVariants.{Fields, Placement, Side, Castling, EnPassant, Counters, Kings, Pawns, Men, Check}
+use Rattle.chess_base.specs.Faults.{fen_fault_name}
 use Rattle.chess_base.specs.declared.man.Move.{Move}
 use Rattle.chess_base.specs.declared.man.Variant.{Variant as Rules}
 use Rattle.chess_base.specs.declared.man.Variant.TheVariants.{Normal, Fischerandom}
@@ -26,7 +26,8 @@ use Rattle.chess_text.specs.San.{shown_move}
 use Rattle.chess_text.specs.declared.reading.Reading.{Reading}
 use Rattle.chess_text.specs.declared.reading.Reading.TheVariants as reads
 use Rattle.chess_cecp.specs.Commands.{command_of, argument_of}
-use Rattle.chess_cecp.specs.Declaring.{read_result, result_text, state_text}
+use Rattle.chess_game.specs.Results.{result_text}
+use Rattle.chess_cecp.specs.Declaring.{read_result, state_text}
 use Rattle.chess_game.specs.Ends.{verdict_outcome, verdict_comment, claims}
 use Rattle.chess_game.specs.Game.{State, from_start, played, taken_back, with_declared, current, verdict_now, is_over, contradicts_verdict}
 use Rattle.chess_game.specs.declared.ends.Claims.{Claims}
@@ -67,19 +68,6 @@ becomes_judged s = says s (verdict_line (verdict_now s))
 -- the line that lists these moves of the position `p`, with their number first: `# moves 20 b1a3 b1c3 ..`
 unfoldable pub moves_line : Setup → List Move → List ℕ
 moves_line p ms = joined_line (codes "# moves ") (decimal (length ms) ++ flat_map (λ m. space ∷ shown_move p m) ms)
-
--- the word that names a fault of a FEN in an answer
-abbrev pub fen_fault_name : FenFault → List ℕ
-fen_fault_name Fields = codes "fields"
-fen_fault_name Placement = codes "placement"
-fen_fault_name Side = codes "side"
-fen_fault_name Castling = codes "castling"
-fen_fault_name EnPassant = codes "en passant"
-fen_fault_name Counters = codes "counters"
-fen_fault_name Kings = codes "kings"
-fen_fault_name Pawns = codes "pawns"
-fen_fault_name Men = codes "men"
-fen_fault_name Check = codes "check"
 
 -- the answer to `setboard`, by how its FEN was read: the game starts anew from that position, and the answer is the
 -- board's verdict on it, if there is one; or the FEN's fault is, as `tellusererror Illegal position (kings)`

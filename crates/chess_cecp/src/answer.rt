@@ -7,8 +7,10 @@ ghost use Rattle.arrayvec.specs.ArrayVec.{array_vec_len};
 ghost use Rattle.std.specs.Option.{option_map};
 ghost use Rattle.chess_base.specs.Letters.{space};
 ghost use Rattle.chess_text.specs.San.{shown_move};
-ghost use Rattle.chess_cecp.specs.Declaring.{result_text, verdict_text, declared_text, state_text};
-ghost use Rattle.chess_cecp.specs.Session.{moves_line, result_line, verdict_line, fen_fault_name, feature_text, joined_line};
+ghost use Rattle.chess_base.specs.Faults.{fen_fault_name};
+ghost use Rattle.chess_game.specs.Results.{result_text};
+ghost use Rattle.chess_cecp.specs.Declaring.{verdict_text, declared_text, state_text};
+ghost use Rattle.chess_cecp.specs.Session.{moves_line, result_line, verdict_line, feature_text, joined_line};
 
 use crate::declaring::claims_text;
 use arrayvec::ArrayVec;
@@ -58,25 +60,6 @@ pub(crate) fn write_features(answer: &mut Answer)
     write_line(answer, FEATURES, b"");
 }
 
-/// The word that names a fault of a FEN in a refusal.
-pub fn fen_fault_name(fault: FenFault) -> &'static str
-    ensures value { result.now ≡ fen_fault_name fault }
-    ensures short { length result.now ≤ 10 }
-{
-    match fault {
-        FenFault::Fields => "fields",
-        FenFault::Placement => "placement",
-        FenFault::Side => "side",
-        FenFault::Castling => "castling",
-        FenFault::EnPassant => "en passant",
-        FenFault::Counters => "counters",
-        FenFault::Kings => "kings",
-        FenFault::Pawns => "pawns",
-        FenFault::Men => "men",
-        FenFault::Check => "check",
-    }
-}
-
 // Puts the answer together that refuses a FEN for this fault: `tellusererror Illegal position (kings)`.
 pub(crate) fn write_illegal_position(answer: &mut Answer, fault: FenFault)
     requires { answer.old.items ≡ [] }
@@ -84,7 +67,7 @@ pub(crate) fn write_illegal_position(answer: &mut Answer, fault: FenFault)
         ≡ joined_line (codes "tellusererror Illegal position (") (fen_fault_name fault ++ codes ")") }
 {
     append(answer, b"tellusererror Illegal position (");
-    write_line(answer, fen_fault_name(fault).as_bytes(), b")");
+    write_line(answer, fault.name().as_bytes(), b")");
 }
 
 // Appends the line of the board's verdict to the answer, such as `1-0 {White mates}`; nothing without a verdict.
@@ -98,7 +81,7 @@ pub(crate) fn write_verdict(answer: &mut Answer, verdict: Option<Verdict>)
 }
 
 // Appends a result with its comment to the answer, such as `1-0 {White mates}`, without `\n`.
-#[tactic(auto, unfolding(crate::specs::Declaring::result_text))]
+#[tactic(auto, unfolding(chess_game::specs::Results::result_text))]
 fn write_result_text(answer: &mut Answer, outcome: Outcome, comment: &[u8])
     requires { array_vec_len answer.old + length comment.now + 10 ≤ ANSWER_LEN }
     ensures text { answer.new.items ≡ answer.old.items ++ result_text outcome comment.now }

@@ -16,7 +16,6 @@ mod run;
 mod session;
 mod trim;
 
-pub use answer::fen_fault_name;
 pub use command::{Command, argument, first_word, read_command, read_number};
 pub use laws::{lines_are_pieces, normal_chess_keeps_its_rows, refusals_change_nothing};
 pub use lines::{Line, Lines};

@@ -4,7 +4,7 @@ use Rattle.std.specs.Option.{option_map_or}
 use Rattle.chess_base.specs.Letters.{new_line}
 use Rattle.chess_base.specs.declared.man.Colour.{Colour}
 use Rattle.chess_base.specs.Men.{other, same_colour}
-use Rattle.chess_cecp.specs.Declaring.{result_text}
+use Rattle.chess_game.specs.Results.{result_text}
 use Rattle.cecp_engine.specs.Items.{Item, takes, is_known}
 use Rattle.cecp_engine.specs.Levels.{level_text}
 use Rattle.chess_match.specs.Match.{Match, Seat, seat, clock, ping_number}

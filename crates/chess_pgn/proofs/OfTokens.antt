@@ -289,7 +289,7 @@ module _ (limit total : ℕ) (v : Variant) where
 
     fen_leaves : is_fen name ≡ true → (r : Result Setup FenFault) → fen_reading_as v text ≡ r
         → Leaves done (left, Tag name text string) (fen_step g (total - string) r)
-    fen_leaves e (Err fault) f = fault_leaves done left (Tag name text string) g BadFen (total - string) s
+    fen_leaves e (Err fault) f = fault_leaves done left (Tag name text string) g (BadFen fault) (total - string) s
         (rw (open_yet, e, f) refl)
     fen_leaves e (Ok start) f =
         let none : move_words done ++ [] ≡ [] = append-nil (move_words done) ∙ (s.fresh open_yet).1 in

@@ -97,11 +97,11 @@ word_step limit g offset word Move = move_step limit g offset (reading (current 
 
 -- ---- tags
 
--- what follows from a tag FEN, by how its text was read: the game starts from that position, or the fault is BadFen;
--- `offset` is that of its string
+-- what follows from a tag FEN, from how its text was read: the game starts at that position, or the fault is BadFen
+-- with the FEN's own fault; `offset` is the offset of the tag's string
 abbrev pub fen_step : SoFar → ℕ → Result Setup FenFault → Step
 fen_step g offset (Ok start) = On (record g { state = from_start start; is_met = true })
-fen_step g offset (Err fault) = fails g BadFen offset
+fen_step g offset (Err fault) = fails g (BadFen fault) offset
 
 -- what the last tag Termination read so far says, once a tag with this name and text is read: what that tag says, if
 -- its name is Termination, else `before`, what was known before it

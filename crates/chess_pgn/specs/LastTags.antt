@@ -34,7 +34,8 @@ abbrev pub last_tag : List ℕ → List (ℕ × Token) → Option (List ℕ × �
 last_tag name tokens = last_or None (filter_map (λ t. named_tag name t.1) (take_while (λ t. may_precede_tags t.1) tokens))
 
 -- the last tag Result of the game that is read from the offset `at` on: the outcome that it names, if any, and the
--- offset of its string; none if the game has no tag Result
+-- offset and the length of its string; none if the game has no tag Result
 abbrev pub result_tag_of : List ℕ → ℕ → Option ResultTag
-result_tag_of text at = option_map (λ tag. record { outcome = outcome_of tag.0; offset = length text - tag.1 })
+result_tag_of text at =
+    option_map (λ tag. record { outcome = outcome_of tag.0; offset = length text - tag.1; len = length tag.0 })
     (last_tag (codes "Result") (tokens_from text (after_byte_order_mark text at)))

@@ -20,7 +20,7 @@ use crate::tag::Tag;
 use crate::termination::Termination;
 use crate::token::{Token, TokenFault, after_byte_order_mark, next_token};
 use crate::word::{WordKind, word_kind};
-use chess_base::{Move, Position, Variant};
+use chess_base::{FenFault, Move, Position, Variant};
 use chess_fen::read_fen_as;
 use chess_game::{Comment, Game, Outcome, PlayRefusal};
 use chess_moves::Board;
@@ -44,9 +44,9 @@ pub enum PgnFaultKind {
     /// A bracket that begins no tag.
     #[error("a bracket begins no tag")]
     BadTag,
-    /// A FEN that denotes no sound position; the offset is that of the first byte of its string.
-    #[error("the FEN denotes no position")]
-    BadFen,
+    /// A FEN that denotes no sound position, and why; the offset is that of the first byte of its string.
+    #[error("the FEN denotes no position: {0}")]
+    BadFen(FenFault),
     /// A byte that begins no token, or a word that is no move, number or termination.
     #[error("this is no token, move, number or termination")]
     BadToken,
@@ -293,9 +293,9 @@ fn read_tag<B: Board>(
     if let b"FEN" = tag.name {
         match read_fen_as(game.start().variant(), tag.text) {
             Ok(start) => game.restart(&start),
-            Err(_) => {
+            Err(fault) => {
                 return Err(PgnFault {
-                    kind: PgnFaultKind::BadFen,
+                    kind: PgnFaultKind::BadFen(fault),
                     offset,
                 });
             }

@@ -16,6 +16,8 @@ pub struct ResultTag {
     pub outcome: Option<Outcome>,
     /// The first byte of its string, from the text's first byte on.
     pub offset: usize,
+    /// How many bytes its string has, without its quotes.
+    pub len: usize,
 }
 
 /// The last tag `Result` of the game that begins at the offset `at`; `None` where it has none before its first number,
@@ -29,5 +31,6 @@ pub fn result_tag(text: &[u8], at: usize) -> Option<ResultTag>
     Some(ResultTag {
         outcome: outcome_of(tag.text),
         offset: text.len() - tag.left,
+        len: tag.text.len(),
     })
 }

@@ -1,5 +1,5 @@
 use crate::equal::{is_equal, is_equal_at};
-use chess_base::Position;
+use chess_base::{FenFault, Position};
 use chess_bits::{AttackTables, Bits};
 use chess_fen::write_fen;
 use chess_game::{Game, Outcome, Verdict};
@@ -92,7 +92,7 @@ const ROWS: [Row; 77] = [
     },
     Row {
         text: b"[FEN \"8/8/8/8/8/8/8/8 w - - 0 1\"] *",
-        wanted: Wanted::Fault(PgnFaultKind::BadFen, 6),
+        wanted: Wanted::Fault(PgnFaultKind::BadFen(FenFault::Kings), 6),
         ply: 0,
         declared: None,
     },
@@ -111,7 +111,7 @@ const ROWS: [Row; 77] = [
     // The offset of a bad FEN is that after the quote, whatever is around it.
     Row {
         text: b"\n[ FEN \n\"x\"  ]*",
-        wanted: Wanted::Fault(PgnFaultKind::BadFen, 9),
+        wanted: Wanted::Fault(PgnFaultKind::BadFen(FenFault::Fields), 9),
         ply: 0,
         declared: None,
     },
@@ -623,7 +623,7 @@ const VARIANTS: [Row; 14] = [
     },
     Row {
         text: b"[Variant \"fischerandom\"] [Variant \"x\"] [FEN \"4k3/8/8/8/8/8/8/RK5R w HA - 0 1\"] *",
-        wanted: Wanted::Fault(PgnFaultKind::BadFen, 45),
+        wanted: Wanted::Fault(PgnFaultKind::BadFen(FenFault::Castling), 45),
         ply: 0,
         declared: None,
     },
@@ -789,7 +789,7 @@ fn games_are_read_one_after_the_other(rt: HostRuntime) -> Result<(), Fail> {
 fn bad_fen_is_read<B: Board + Drop>(rt: &impl Abort, alloc: Global, board: B) -> Result<(), Fail> {
     let mut game = Game::open(alloc, board, 100)?;
     let text = b"[FEN \"4k3/8/8/8/8/8/4P3/4K3 w - - 0 1\"]\n[FEN \"x\"] e4 *";
-    let fault = Wanted::Fault(PgnFaultKind::BadFen, 46);
+    let fault = Wanted::Fault(PgnFaultKind::BadFen(FenFault::Fields), 46);
     is_read_on(rt, text, &mut game, 0, fault, 0);
     let fen = b"4k3/8/8/8/8/8/4P3/4K3 w - - 0 1";
     has_fen(rt, &game.start(), fen);

@@ -1,8 +1,11 @@
-pub mod Cuts
-pub mod Finds
+pub mod CutLines
+pub mod InPlace
 pub mod Inputs
-pub mod Longs
+pub mod Kept
+pub mod LineEnds
+pub mod LineKinds
+pub mod Runs
+pub mod Seens
 pub mod Shards
 pub mod Steps
 pub mod Views
-pub mod Whole

@@ -1,4 +1,5 @@
 pub mod Pieces
+pub mod Places
 pub mod Stream
 pub mod laws
 pub mod ties

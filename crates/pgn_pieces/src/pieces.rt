@@ -5,9 +5,11 @@ ghost use Rattle.std.specs.Option.{option_map};
 ghost use Rattle.byte_devices.specs.Devices.{InputState};
 ghost use Rattle.pgn_pieces.specs.declared.pieces.TheConstants.{PIECE_LEN};
 ghost use Rattle.pgn_pieces.specs.Stream.{State, unread, past_piece, current, IsStateOf, Next};
-ghost use Rattle.pgn_pieces.specs.ties.Held.{passed, SamePieces, Keeps, FindsEnd, Adds};
+ghost use Rattle.pgn_pieces.specs.ties.Held.{passed, FindsEnd, LetGo, Adds};
 
-use crate::ends::{EVENT_LEN, first_end};
+use crate::ends::Seen;
+use crate::gone::{BEGINNING_LEN, Gone};
+use crate::lines::line_ends;
 use byte_devices::Input;
 use std::alloc::{AllocError, Global};
 use std::marker::Model;
@@ -47,8 +49,8 @@ pub struct PgnPieces {
     at: usize,
     // How many bytes are held of it.
     len: usize,
-    // How many bytes of it were let go: none, unless it is too long.
-    gone: usize,
+    // What was let go of it: nothing, unless it is too long.
+    gone: Gone,
     // Where in the input it begins.
     offset: usize,
     // Whether the input has ended.
@@ -64,15 +66,15 @@ impl Model for PgnPieces {
 
     ghost view = { λ s. record {
       offset = s.offset;
-      part = replicate s.gone 0 ++ take s.len (drop s.at s.held.items);
+      part = s.gone ++ take s.len (drop s.at s.held.items);
       coming = drop (s.at + s.len) s.held.items;
       ended = s.ended;
     } };
 
     ghost invariant = { λ s. (length s.chunk.items ≡ CHUNK_LEN) × (vec_len s.chunk ≡ CHUNK_LEN)
         × (vec_len s.held ≡ length s.held.items)
-        × (s.at + s.len ≤ length s.held.items) × (0 < s.gone → PIECE_LEN < s.gone)
-        × (s.offset + s.gone + length s.held.items < s.at + 2 ^ 63) };
+        × (s.at + s.len ≤ length s.held.items) × (0 < length s.gone → PIECE_LEN < length s.gone)
+        × (s.offset + length s.gone + length s.held.items < s.at + 2 ^ 63) };
 }
 
 impl PgnPieces {
@@ -89,7 +91,7 @@ impl PgnPieces {
             chunk,
             at: 0,
             len: 0,
-            gone: 0,
+            gone: Gone::none(),
             offset: 0,
             ended: false,
         })
@@ -107,38 +109,49 @@ impl PgnPieces {
     pub fn text(&self) -> Option<&[u8]>
         ensures { option_map (λ text. text.now) result ≡ (current self.now).bytes }
     {
-        if self.len > PIECE_LEN || self.gone > 0 {
+        if self.len > PIECE_LEN || !self.gone.is_empty() {
             return None;
         }
         Some(&self.held[self.at..self.at + self.len])
+    }
+
+    /// The piece's first bytes, at most 40, even if it is too long.
+    pub fn beginning(&self) -> &[u8]
+        ensures { result.now ≡ (current self.now).beginning }
+    {
+        if self.gone.is_empty() {
+            let len = self.len.min(BEGINNING_LEN);
+            return &self.held[self.at..self.at + len];
+        }
+        self.gone.beginning()
+    }
+
+    /// How many lines end in the piece: the number of its bytes 10.
+    pub fn line_ends(&self) -> usize
+        ensures value { result ≡ (current self.now).line_ends }
+        ensures within { result ≤ length self.now.part }
+    {
+        self.gone.line_ends() + line_ends(&self.held[self.at..self.at + self.len])
     }
 
     // Goes past the piece: the next one begins at its end, and has no bytes so far.
     fn pass_piece(&mut self)
         ensures { self.new ≡ past_piece self.old }
     {
-        self.offset += self.gone + self.len;
+        self.offset += self.gone.len() + self.len;
         self.at += self.len;
-        self.gone = 0;
+        self.gone = Gone::none();
         self.len = 0;
     }
 
     // Looks for the current piece's end in the bytes that were read after it, and adds the bytes up to there to the
-    // piece. Returns whether the end was found; if not, all but the last seven bytes are added.
-    fn find_end(&mut self) -> bool
-        ensures { FindsEnd self.old self.new result }
+    // piece. Returns whether the end was found; if not, all but those of a line whose kind is not known yet are added.
+    fn find_end(&mut self, seen: &mut Seen) -> bool
+        ensures { FindsEnd self.old self.new seen.old seen.new result }
     {
-        let coming = &self.held[self.at + self.len..];
-        match first_end(coming) {
-            Some(count) => {
-                self.len += count;
-                true
-            }
-            None => {
-                self.len += coming.len().saturating_sub(EVENT_LEN);
-                false
-            }
-        }
+        let (is_found, count) = seen.find_end(&self.held[self.at + self.len..]);
+        self.len += count;
+        is_found
     }
 
     // Adds all bytes that were read to the current piece, the input's last, and returns whether the piece has any byte.
@@ -147,17 +160,15 @@ impl PgnPieces {
         ensures some { result ≡ nat_lt 0 (length self.new.part) }
     {
         self.len = self.held.len() - self.at;
-        self.len > 0 || self.gone > 0
+        self.len > 0 || !self.gone.is_empty()
     }
 
-    // Forgets the bytes of the current piece if it is too long (over `PIECE_LEN` bytes), and only counts them.
+    // Lets the bytes of the current piece go if it is too long (over `PIECE_LEN` bytes).
     fn let_go(&mut self)
-        ensures same { SamePieces self.old self.new }
-        ensures keeps { Keeps self.old self.new }
-        ensures coming { self.new.coming ≡ self.old.coming }
+        ensures { LetGo self.old self.new }
     {
-        if self.gone > 0 || self.len > PIECE_LEN {
-            self.gone += self.len;
+        if !self.gone.is_empty() || self.len > PIECE_LEN {
+            self.gone.add(&self.held[self.at..self.at + self.len]);
             self.at += self.len;
             self.len = 0;
         }
@@ -180,7 +191,7 @@ impl PgnPieces {
     fn read_more<R: Input>(&mut self, input: &mut R) -> Result<(), PieceFault>
         ensures { Adds self.old self.new (R.seen input.old) (R.seen input.new) result }
     {
-        if self.offset + self.gone + (self.held.len() - self.at) > MOST_READ {
+        if self.offset + self.gone.len() + (self.held.len() - self.at) > MOST_READ {
             return Err(PieceFault::InputTooLong);
         }
         if self.held.reserve(CHUNK_LEN).is_err() {
@@ -208,8 +219,9 @@ impl PgnPieces {
         ensures some { IfOk result (λ more. more ≡ true → 0 < length self.new.part) }
     {
         self.pass_piece();
+        let mut seen = Seen::nothing();
         loop {
-            if self.find_end() {
+            if self.find_end(&mut seen) {
                 return Ok(true);
             }
             if self.ended {

@@ -1,7 +1,10 @@
 -- The games of a collection, piece by piece.
 use Rattle.std.proofs.Common.{◌≡◌, ℕ, ◌+◌, ◌*◌, ◌≤◌, ◌<◌, ◌^◌, Bool, true, false, List, [], ◌∷◌, ◌++◌, length, Ok, Err, refl, sym, ap, subst, ◌∙◌, append_assoc, append-nil, arith}
 use Rattle.std.specs.Prelude.{if◌then◌else◌}
+use Rattle.std.specs.List.{sum_by}
 use Rattle.std.proofs.lemmas.List.Concat.{flat_map-append}
+use Rattle.std.proofs.lemmas.List.Sums.{sum_by_push}
+use Rattle.byte_devices.specs.declared.traits.WriteFault.{WriteFault}
 use Rattle.byte_devices.specs.Devices.{InputState, OutputState, Took, BreaksOff}
 use Rattle.byte_devices.proofs.DeviceLaws.{breaks_longer}
 use Rattle.pgn_pieces.specs.Pieces.{Piece, pieces, IsCause}
@@ -9,14 +12,16 @@ use Rattle.pgn_pieces.specs.declared.pieces.PieceFault.{PieceFault}
 use Rattle.pgn_pieces.specs.declared.pieces.PieceFault.TheVariants as piece
 use Rattle.pgn_pieces.specs.Stream.{State, IsStateOf, Next, MayFollow, past_piece, current, unread, pieces_after_part, pieces_held}
 use Rattle.pgn_pieces.specs.laws.HandedOut.{PiecesAreCut}
+use Rattle.pgn_pieces.specs.laws.Places.{PiecesAreInPlace}
 use Rattle.pgn_pieces.proofs.Inputs.{nothing_read}
 use Rattle.pgn_verifier.specs.declared.options.VerifyOptions.{VerifyOptions}
 use Rattle.pgn_verifier.specs.declared.tally.Tally.{Tally}
 use Rattle.pgn_verifier.specs.declared.fault.VerifyFault.TheVariants.{WriteFailed}
 use Rattle.pgn_verifier.specs.Reports.{reports_in, report_lines, counts_line, counts_of}
 use Rattle.pgn_verifier.specs.Collection.{collection_reports, collection_lines, VerifiesCollection}
-use Rattle.pgn_verifier.specs.ties.OnTheWay.{WritesCollection, next_number, GrowsBy, reports_of, counted}
+use Rattle.pgn_verifier.specs.ties.OnTheWay.{WritesCollection, Writes, PieceStandsIf, next_number, GrowsBy, reports_of, counted}
 use Rattle.pgn_verifier.specs.ties.Faults.{piece_fault}
+use Rattle.pgn_verifier.proofs.Placed.{piece_there}
 use Rattle.pgn_verifier.proofs.LinesWritten.{took_after, broke_after, lines_after, wrote_none, counted_after}
 
 abbrev pub none : Tally
@@ -24,26 +29,34 @@ none = record { games = 0; half_moves = 0; faults = 0 }
 
 -- ---- the pieces up to here were reported
 
-pub record SoFar (options : VerifyOptions) (r r' : InputState) (w w' : OutputState) (s : State) (tally : Tally)
+-- the line after these pieces
+abbrev line_after : List Piece → ℕ
+line_after done = sum_by (λ (p : Piece). p.line_ends) done + 1
+
+pub record SoFar (options : VerifyOptions) (r r' : InputState) (w w' : OutputState) (s : State) (tally : Tally) (line : ℕ)
     : Type 0 where
   pub text : List ℕ
   pub done : List Piece
   pub stands : IsStateOf s r r' text
   pub due : (ended : Bool) (rest : List ℕ) → MayFollow s.ended ended rest
       → pieces_after_part ended 0 [] (text ++ rest) ≡ done ++ pieces_held ended (past_piece s) rest
-  pub took : Took w w' (report_lines options.quiet 1 (reports_of options.strict done))
+  pub took : (more : List ℕ) → Took w w' (report_lines options (text ++ more) 1 (reports_of options.strict done))
   pub is : tally ≡ counted none (reports_of options.strict done)
   pub few : tally.games + tally.faults ≤ 2 * (s.offset + length s.part)
   pub few_moves : tally.half_moves ≤ s.offset + length s.part
   pub small : s.offset + length s.part ≤ 2 ^ 63
+  pub lines : options.explain ≡ true → line ≡ line_after done
+  pub few_lines : line ≤ s.offset + length s.part + 1
 
-pub begun : (options : VerifyOptions) (r : InputState) (w : OutputState) → SoFar options r r w w unread none
+pub begun : (options : VerifyOptions) (r : InputState) (w : OutputState) → SoFar options r r w w unread none 1
 begun options r w = record {
   text = [];
   done = [];
   stands = record { read = nothing_read r; all = refl };
   due = λ ended rest follows. refl;
-  took = wrote_none options.quiet none w;
+  took = λ more. wrote_none options ([] ++ more) none w;
+  lines = λ h. refl;
+  few_lines = omega arith;
   is = refl;
   few = omega arith;
   few_moves = omega arith;
@@ -59,8 +72,8 @@ follows_on true b' ended more rest h f =
     (t.0, ap (λ xs. xs ++ rest) k.1 ∙ t.1)
 
 -- what has come of a collection once its next piece has
-module _ (options : VerifyOptions) (r r' r'' : InputState) (w w' : OutputState) (s s' : State) (tally : Tally)
-    (so : SoFar options r r' w w' s tally) where
+module _ (options : VerifyOptions) (r r' r'' : InputState) (w w' : OutputState) (s s' : State) (tally : Tally) (line : ℕ)
+    (so : SoFar options r r' w w' s tally line) where
   -- the pieces that are known when the next has come
   come : (next : Next s s' r r'' so.text (Ok true)) → (ended : Bool) (rest : List ℕ) → MayFollow s'.ended ended rest
       → pieces_after_part ended 0 [] ((so.text ++ next.0) ++ rest)
@@ -88,49 +101,73 @@ module _ (options : VerifyOptions) (r r' r'' : InputState) (w w' : OutputState) 
   reports_more = flat_map-append (λ p. reports_in options.strict p) so.done (current s' ∷ [])
       ∙ ap (λ xs. reports_of options.strict so.done ++ xs) (append-nil (reports_in options.strict (current s')))
 
-  pub written_on : (w'' : OutputState) (after : Tally) → Next s s' r r'' so.text (Ok true)
+  -- the current piece is in its place, whatever follows what was read
+  stands_there : PiecesAreCut × PiecesAreInPlace → (next : Next s s' r r'' so.text (Ok true)) → (more : List ℕ)
+      → PieceStandsIf options.explain line ((so.text ++ next.0) ++ more) (current s')
+  stands_there law next more explain =
+      let all = next.1.all in
+      piece_there (so.text ++ next.0) more so.done (current s') line
+      (law.1 s'.ended (so.text ++ next.0) so.done (current s') (pieces_held s'.ended (past_piece s') [])
+      (all_known law.0 next ∙ append_assoc so.done (current s' ∷ []) (pieces_held s'.ended (past_piece s') [])))
+      (omega (arith, all)) (so.lines explain)
+
+  pub written_on : PiecesAreCut × PiecesAreInPlace → (w'' : OutputState) (after : Tally) (line' : ℕ)
+      → Next s s' r r'' so.text (Ok true)
       → s'.offset ≡ s.offset + length s.part → 0 < length s'.part → s'.offset + length s'.part ≤ 2 ^ 63
-      → Took w' w'' (report_lines options.quiet (next_number tally) (reports_in options.strict (current s')))
-      → after ≡ counted tally (reports_in options.strict (current s')) → GrowsBy (length s'.part) tally after
-      → SoFar options r r'' w w'' s' after
-  written_on w'' after next offset some small took is grown =
+      → ((input : List ℕ) → PieceStandsIf options.explain line input (current s')
+      → Writes {E = WriteFault} options input tally w' w'' (Ok after) (reports_in options.strict (current s')))
+      → GrowsBy (length s'.part) tally after → (options.explain ≡ true → line' ≡ line + (current s').line_ends)
+      → line' ≤ line + length s'.part → SoFar options r r'' w w'' s' after line'
+  written_on law w'' after line' next offset some small wrote grown counted_lines few_more =
       let few = so.few in
       let few_moves = so.few_moves in
+      let few_lines = so.few_lines in
       let grown_reports = grown.reports in
-      let grown_moves = grown.half_moves in record {
+      let grown_moves = grown.half_moves in
+      let is = (wrote ((so.text ++ next.0) ++ []) (stands_there law next [])).1 in record {
         text = so.text ++ next.0;
         done = so.done ++ current s' ∷ [];
         stands = next.1;
         due = come next;
-        took = subst (λ xs. Took w w'' (report_lines options.quiet 1 xs)) (sym reports_more)
-            (took_after options.quiet none tally w w' w'' (reports_of options.strict so.done) so.took so.is
-            (reports_in options.strict (current s')) took);
+        took = λ more. subst (λ xs. Took w w'' (report_lines options ((so.text ++ next.0) ++ more) 1 xs)) (sym reports_more)
+            (took_after options ((so.text ++ next.0) ++ more) none tally w w' w'' (reports_of options.strict so.done)
+            (subst (λ xs. Took w w' (report_lines options xs 1 (reports_of options.strict so.done)))
+            (sym (append_assoc so.text next.0 more)) (so.took (next.0 ++ more))) so.is
+            (reports_in options.strict (current s'))
+            (wrote ((so.text ++ next.0) ++ more) (stands_there law next more)).0);
         is = is ∙ ap (λ (t : Tally). counted t (reports_in options.strict (current s'))) so.is
             ∙ counted_after none (reports_of options.strict so.done) (reports_in options.strict (current s')) ∙ ap
             (counted none) (sym reports_more);
         few = omega (arith, few, grown_reports, offset, some);
         few_moves = omega (arith, few_moves, grown_moves, offset);
         small = small;
+        lines = λ explain. (let n = sum_by_push (λ (p : Piece). p.line_ends) so.done (current s') in
+            let so_far = so.lines explain in
+            let one_more = counted_lines explain in omega (arith, n, so_far, one_more));
+        few_lines = omega (arith, few_lines, few_more, offset);
       }
 
-  pub write_failed : (law : PiecesAreCut) (w'' : OutputState) → Next s s' r r'' so.text (Ok true)
-      → BreaksOff w' w'' (report_lines options.quiet (next_number tally) (reports_in options.strict (current s')))
+  pub write_failed : PiecesAreCut × PiecesAreInPlace → (w'' : OutputState) (fault : WriteFault)
+      → Next s s' r r'' so.text (Ok true)
+      → ((input : List ℕ) → PieceStandsIf options.explain line input (current s')
+      → Writes options input tally w' w'' (Err fault) (reports_in options.strict (current s')))
       → VerifiesCollection options r r'' w w'' (Err WriteFailed)
-  write_failed law w'' next broke =
+  write_failed law w'' fault next wrote =
       let later = pieces_held s'.ended (past_piece s') [] in
       let text = so.text ++ next.0 in
       let all : collection_reports options.strict s'.ended text ≡
       (reports_of options.strict so.done ++ reports_in options.strict (current s')) ++ reports_of options.strict
       later =
-      ap (reports_of options.strict) (all_known law next)
+      ap (reports_of options.strict) (all_known law.0 next)
       ∙ flat_map-append (λ p. reports_in options.strict p) (so.done ++ current s' ∷ []) later
       ∙ ap (λ xs. xs ++ reports_of options.strict later) reports_more in
-      let first = broke_after options.quiet none tally w w' w'' (reports_of options.strict so.done) so.took so.is
-      (reports_in options.strict (current s'))
-      broke in
-      let lines = breaks_longer w w'' (report_lines options.quiet 1
+      let stands = subst (λ xs. PieceStandsIf options.explain line xs (current s')) (append-nil text)
+      (stands_there law next []) in
+      let first = broke_after options text none tally w w' w'' (reports_of options.strict so.done) (so.took next.0) so.is
+      (reports_in options.strict (current s')) (wrote text stands) in
+      let lines = breaks_longer w w'' (report_lines options text 1
       (reports_of options.strict so.done ++ reports_in options.strict (current s')))
-      (report_lines options.quiet (1 + length
+      (report_lines options text (1 + length
       (reports_of options.strict so.done ++ reports_in options.strict (current s')))
       (reports_of options.strict later)) first in (
         s'.ended,
@@ -138,10 +175,10 @@ module _ (options : VerifyOptions) (r r' r'' : InputState) (w w' : OutputState) 
         next.1.read,
         breaks_longer w w'' (collection_lines options s'.ended text)
             (if s'.ended then counts_line (counts_of (collection_reports options.strict s'.ended text)) else [])
-            (subst (BreaksOff w w'') (sym (lines_after options.quiet 1
+            (subst (BreaksOff w w'') (sym (lines_after options text 1
             (reports_of options.strict so.done ++ reports_in options.strict (current s'))
             (reports_of options.strict later))
-            ∙ ap (report_lines options.quiet 1) (sym all)) lines),
+            ∙ ap (report_lines options text 1) (sym all)) lines),
       )
 
   pub all_written : (law : PiecesAreCut) → Next s s' r r'' so.text (Ok false)
@@ -156,7 +193,7 @@ module _ (options : VerifyOptions) (r r' r'' : InputState) (w w' : OutputState) 
       append-nil so.done) in (
         text,
         next.1,
-        subst (λ xs. Took w w' (report_lines options.quiet 1 xs)) (sym all) so.took,
+        subst (λ xs. Took w w' (report_lines options text 1 xs)) (sym all) (so.took more),
         so.is ∙ ap (counted none) (sym all),
       )
 
@@ -169,7 +206,7 @@ module _ (options : VerifyOptions) (r r' r'' : InputState) (w w' : OutputState) 
       ap (reports_of options.strict) (law false text ∙ so.due false more
       (subst (λ b. MayFollow b false more) (sym next.2) tt)
       ∙ ap (λ ps. so.done ++ ps) next.3 ∙ append-nil so.done) in
-      let told = subst (λ xs. Took w w' (report_lines options.quiet 1 xs)) (sym all) so.took in
+      let told = subst (λ xs. Took w w' (report_lines options text 1 xs)) (sym all) (so.took more) in
       by_fault fault next.1 told
     where
       by_fault : (e : PieceFault) → IsCause r r'' (so.text ++ next.0) e

@@ -1,5 +1,6 @@
 -- What was written is flushed, or a write or the flush failed.
-use Rattle.std.proofs.Common.{◌≡◌, ℕ, Bool, true, false, List, [], ◌++◌, Ok, Err, ap, subst, ◌∙◌, append-nil}
+use Rattle.std.proofs.Common.{◌≡◌, ℕ, Bool, true, false, List, [], ◌++◌, Ok, Err, refl, ap, subst, ◌∙◌, append-nil}
+use Rattle.std.proofs.Math.Seq.{take-length}
 use Rattle.byte_devices.specs.Devices.{InputState, OutputState, Took, Sent, BreaksOff, TookThenFailed}
 use Rattle.byte_devices.proofs.DeviceLaws.{appends_more, took_none, breaks_more, failed_more}
 use Rattle.pgn_pieces.specs.Pieces.{pieces}
@@ -10,7 +11,7 @@ use Rattle.pgn_verifier.specs.declared.fault.VerifyFault.TheVariants.{WriteFaile
 use Rattle.pgn_verifier.specs.Reports.{reports_on, report_lines, counts_line, counts_of, verified}
 use Rattle.pgn_verifier.specs.Verify.{text_lines}
 use Rattle.pgn_verifier.specs.Collection.{collection_reports, collection_lines, VerifiesCollection}
-use Rattle.pgn_verifier.specs.ties.OnTheWay.{WritesCollection, next_number, counted}
+use Rattle.pgn_verifier.specs.ties.OnTheWay.{WritesCollection, StandsIf, next_number, counted}
 
 abbrev pub none : Tally
 none = record { games = 0; half_moves = 0; faults = 0 }
@@ -27,10 +28,13 @@ sent_more a b c x y h k = record {
 }
 
 -- a text that is read as a whole begins with the input
+pub whole_there : (explain : Bool) (text : List ℕ) → StandsIf explain (record { offset = 0; line = 1 }) text text
+whole_there explain text h = record { bytes = take-length text; line = refl; column = refl }
+
 pub whole_lines : (options : VerifyOptions) (t : Tally) (text : List ℕ) → t ≡ none
-    → report_lines options.quiet (next_number t) (reports_on options.strict 0 text) ≡ text_lines options text
+    → report_lines options text (next_number t) (reports_on options.strict 0 text) ≡ text_lines options text
 whole_lines options t text is =
-    ap (λ (u : Tally). report_lines options.quiet (next_number u) (reports_on options.strict 0 text)) is
+    ap (λ (u : Tally). report_lines options text (next_number u) (reports_on options.strict 0 text)) is
 
 pub whole_counted : (strict : Bool) (t u : Tally) (text : List ℕ) (v : Verified) → t ≡ none
     → u ≡ counted t (reports_on strict 0 text) → v ≡ verified u → v ≡ verified (counts_of (reports_on strict 0 text))

@@ -61,11 +61,9 @@ pub answered : (limit : ℕ) (text : List ℕ) (at : ℕ) (r : Result (Option Pg
     → r ≡ (pgn_read limit text at).answer → (read_at text at).answer ≡ r
 answered limit text at r few is = sym (is ∙ ap (λ n. (pgn_read n text at).answer) few)
 
-pub moves_are : (text : List ℕ) (at : ℕ) (old new : Seen) → old.limit ≡ MOST_MOVES
-    → new ≡ left_at old (pgn_read old.limit text at).state
-    → length new.state.moves ≡ length (read_at text at).state.moves
-moves_are text at old new few is = ap (λ g. length g.state.moves) is
-    ∙ ap (λ n. length (pgn_read n text at).state.moves) few
+pub game_is : (text : List ℕ) (at : ℕ) (old new : Seen) → old.limit ≡ MOST_MOVES
+    → new ≡ left_at old (pgn_read old.limit text at).state → new.state ≡ (read_at text at).state
+game_is text at old new few is = ap (λ g. g.state) is ∙ ap (λ n. (pgn_read n text at).state) few
 
 verdict_is : (text : List ℕ) (at : ℕ) (old new : Seen) → old.limit ≡ MOST_MOVES
     → new ≡ left_at old (pgn_read old.limit text at).state

@@ -3,4 +3,5 @@ pub mod Finished
 pub mod GamesJudged
 pub mod InputRead
 pub mod LinesWritten
+pub mod Placed
 pub mod TextVerified

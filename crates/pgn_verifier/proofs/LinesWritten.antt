@@ -2,22 +2,21 @@
 use Rattle.std.proofs.Common.{◌≡◌, ℕ, ◌+◌, Bool, List, [], ◌∷◌, ◌++◌, length, Result, Ok, Err, refl, sym, ap, subst, ◌∙◌, append_assoc, append-nil, arith}
 use Rattle.byte_devices.specs.Devices.{OutputState, Took, BreaksOff}
 use Rattle.byte_devices.proofs.DeviceLaws.{took_none, took_more, breaks_more, breaks_longer}
-use Rattle.pgn_verifier.specs.declared.report.Report.{Report}
-use Rattle.pgn_verifier.specs.declared.report.Report.TheVariants.{Game, Faulty}
+use Rattle.pgn_verifier.specs.declared.options.VerifyOptions.{VerifyOptions}
 use Rattle.pgn_verifier.specs.declared.tally.Tally.{Tally}
-use Rattle.pgn_verifier.specs.Reports.{written_line, report_lines, with_report}
+use Rattle.pgn_verifier.specs.Reports.{Report, Game, Faulty, written_line, report_lines, with_report}
 use Rattle.pgn_verifier.specs.ties.OnTheWay.{next_number, Writes, counted}
 
 -- ---- reports and those after them
 
-pub lines_after : (quiet : Bool) (number : ℕ) (xs ys : List Report)
-    → report_lines quiet number (xs ++ ys) ≡ report_lines quiet number xs ++ report_lines quiet (number + length xs) ys
-lines_after quiet number [] ys = ap (λ n. report_lines quiet n ys) (omega arith)
-lines_after quiet number (x ∷ xs) ys =
-    ap (λ t. written_line quiet number x ++ t) (lines_after quiet (number + 1) xs ys)
-    ∙ sym (append_assoc (written_line quiet number x) (report_lines quiet (number + 1) xs)
-    (report_lines quiet (number + 1 + length xs) ys))
-    ∙ ap (λ n. (written_line quiet number x ++ report_lines quiet (number + 1) xs) ++ report_lines quiet n ys) (omega arith)
+pub lines_after : (options : VerifyOptions) (input : List ℕ) (number : ℕ) (xs ys : List Report)
+    → report_lines options input number (xs ++ ys) ≡ report_lines options input number xs ++ report_lines options input (number + length xs) ys
+lines_after options input number [] ys = ap (λ n. report_lines options input n ys) (omega arith)
+lines_after options input number (x ∷ xs) ys =
+    ap (λ t. written_line options input number x ++ t) (lines_after options input (number + 1) xs ys)
+    ∙ sym (append_assoc (written_line options input number x) (report_lines options input (number + 1) xs)
+    (report_lines options input (number + 1 + length xs) ys))
+    ∙ ap (λ n. (written_line options input number x ++ report_lines options input (number + 1) xs) ++ report_lines options input n ys) (omega arith)
 
 -- ---- counts
 
@@ -27,7 +26,7 @@ counted_after t (x ∷ xs) ys = counted_after (with_report t x) xs ys
 
 next_after : (t : Tally) (x : Report) → next_number (with_report t x) ≡ next_number t + 1
 next_after t (Game plies o e) = omega arith
-next_after t (Faulty fault) = omega arith
+next_after t (Faulty fault e) = omega arith
 
 -- each report is counted
 numbers_after : (t : Tally) (xs : List Report) → next_number (counted t xs) ≡ next_number t + length xs
@@ -42,37 +41,37 @@ number_after t u xs h = ap next_number h ∙ numbers_after t xs
 
 -- ---- writing
 
-pub wrote_none : (quiet : Bool) (t : Tally) (w : OutputState) → Took w w (report_lines quiet (next_number t) [])
-wrote_none quiet t w = took_none w
+pub wrote_none : (options : VerifyOptions) (input : List ℕ) (t : Tally) (w : OutputState) → Took w w (report_lines options input (next_number t) [])
+wrote_none options input t w = took_none w
 
-module _ (quiet : Bool) (t u : Tally) (w w' w'' : OutputState) (xs : List Report)
-    (took : Took w w' (report_lines quiet (next_number t) xs)) (is : u ≡ counted t xs) where
-  lines_are : (ys : List Report) → report_lines quiet (next_number t) (xs ++ ys)
-      ≡ report_lines quiet (next_number t) xs ++ report_lines quiet (next_number u) ys
-  lines_are ys = lines_after quiet (next_number t) xs ys
-      ∙ ap (λ n. report_lines quiet (next_number t) xs ++ report_lines quiet n ys) (sym (number_after t u xs is))
+module _ (options : VerifyOptions) (input : List ℕ) (t u : Tally) (w w' w'' : OutputState) (xs : List Report)
+    (took : Took w w' (report_lines options input (next_number t) xs)) (is : u ≡ counted t xs) where
+  lines_are : (ys : List Report) → report_lines options input (next_number t) (xs ++ ys)
+      ≡ report_lines options input (next_number t) xs ++ report_lines options input (next_number u) ys
+  lines_are ys = lines_after options input (next_number t) xs ys
+      ∙ ap (λ n. report_lines options input (next_number t) xs ++ report_lines options input n ys) (sym (number_after t u xs is))
 
-  pub took_after : (ys : List Report) → Took w' w'' (report_lines quiet (next_number u) ys)
-      → Took w w'' (report_lines quiet (next_number t) (xs ++ ys))
+  pub took_after : (ys : List Report) → Took w' w'' (report_lines options input (next_number u) ys)
+      → Took w w'' (report_lines options input (next_number t) (xs ++ ys))
   took_after ys h = subst (Took w w'') (sym (lines_are ys))
-      (took_more w w' w'' (report_lines quiet (next_number t) xs) (report_lines quiet (next_number u) ys) took h)
+      (took_more w w' w'' (report_lines options input (next_number t) xs) (report_lines options input (next_number u) ys) took h)
 
-  pub broke_after : (ys : List Report) → BreaksOff w' w'' (report_lines quiet (next_number u) ys)
-      → BreaksOff w w'' (report_lines quiet (next_number t) (xs ++ ys))
+  pub broke_after : (ys : List Report) → BreaksOff w' w'' (report_lines options input (next_number u) ys)
+      → BreaksOff w w'' (report_lines options input (next_number t) (xs ++ ys))
   broke_after ys h = subst (BreaksOff w w'') (sym (lines_are ys))
-      (breaks_more w w' w'' (report_lines quiet (next_number t) xs) (report_lines quiet (next_number u) ys) took h)
+      (breaks_more w w' w'' (report_lines options input (next_number t) xs) (report_lines options input (next_number u) ys) took h)
 
-  pub writes_after : {E : Type 0} (result : Result Tally E) (ys : List Report) → Writes quiet u w' w'' result ys
-      → Writes quiet t w w'' result (xs ++ ys)
+  pub writes_after : {E : Type 0} (result : Result Tally E) (ys : List Report) → Writes options input u w' w'' result ys
+      → Writes options input t w w'' result (xs ++ ys)
   writes_after (Ok v) ys h =
       (took_after ys h.0, h.1 ∙ ap (λ (x : Tally). counted x ys) is ∙ counted_after t xs ys)
   writes_after (Err e) ys h = broke_after ys h
 
 -- one line
-pub one_line : (quiet : Bool) (number : ℕ) (r : Report) → written_line quiet number r ≡ report_lines quiet number (r ∷ [])
-one_line quiet number r = sym (append-nil (written_line quiet number r))
+pub one_line : (options : VerifyOptions) (input : List ℕ) (number : ℕ) (r : Report) → written_line options input number r ≡ report_lines options input number (r ∷ [])
+one_line options input number r = sym (append-nil (written_line options input number r))
 
-pub first_broke : (quiet : Bool) (number : ℕ) (w w' : OutputState) (r : Report) (rest : List Report)
-    → BreaksOff w w' (written_line quiet number r) → BreaksOff w w' (report_lines quiet number (r ∷ rest))
-first_broke quiet number w w' r rest h =
-    breaks_longer w w' (written_line quiet number r) (report_lines quiet (number + 1) rest) h
+pub first_broke : (options : VerifyOptions) (input : List ℕ) (number : ℕ) (w w' : OutputState) (r : Report) (rest : List Report)
+    → BreaksOff w w' (written_line options input number r) → BreaksOff w w' (report_lines options input number (r ∷ rest))
+first_broke options input number w w' r rest h =
+    breaks_longer w w' (written_line options input number r) (report_lines options input (number + 1) rest) h

@@ -1,28 +1,29 @@
 -- The games of a text, one after another.
-use Rattle.std.proofs.Common.{◌≡◌, ℕ, zero, suc, ◌+◌, ◌≤◌, ◌<◌, Bool, List, [], ◌∷◌, ◌++◌, length, Option, Some, None, Result, Ok, Err, refl, sym, ap, subst, ◌∙◌, append_assoc, append-nil, arith}
+use Rattle.std.proofs.Common.{◌≡◌, ℕ, zero, suc, ◌+◌, ◌≤◌, ◌<◌, Bool, List, [], ◌∷◌, ◌++◌, length, drop, Option, Some, None, Result, Ok, Err, refl, sym, ap, subst, ◌∙◌, append_assoc, append-nil, arith}
+use Rattle.std.specs.Prelude.{if◌then◌else◌}
 use Rattle.byte_devices.specs.Devices.{OutputState, Took, BreaksOff}
+use Rattle.chess_game.specs.Game.{State}
 use Rattle.chess_pgn.specs.declared.read.PgnEnd.{PgnEnd}
 use Rattle.pgn_verifier.specs.GameFaults.{read_at, judged_at}
 use Rattle.pgn_verifier.specs.declared.game_fault.GameFault.{GameFault}
 use Rattle.pgn_verifier.specs.declared.options.VerifyOptions.{VerifyOptions}
-use Rattle.pgn_verifier.specs.declared.report.Report.{Report}
-use Rattle.pgn_verifier.specs.declared.report.Report.TheVariants.{Game, Faulty}
 use Rattle.pgn_verifier.specs.declared.tally.Tally.{Tally}
-use Rattle.pgn_verifier.specs.Reports.{report_then, reports_from, reports_on, written_line, report_lines, with_report}
+use Rattle.pgn_verifier.specs.Explanations.{explained}
+use Rattle.pgn_verifier.specs.Reports.{Report, Game, Faulty, report_then, reports_from, reports_on, game_line, written_line, report_lines, with_report}
 use Rattle.pgn_verifier.specs.ties.OnTheWay.{next_number, Writes, GrowsBy, moved, counted}
 use Rattle.pgn_verifier.proofs.LinesWritten.{wrote_none, took_after, broke_after, writes_after, one_line, first_broke, counted_after}
 
 -- ---- the reports that are left
 
 -- what is left of a text has no more games than bytes
-left : (strict : Bool) (start n : ℕ) (text : List ℕ) (at : ℕ) (answer : Result (Option PgnEnd) GameFault) (plies : ℕ)
-    → judged_at strict text at ≡ answer → plies ≡ length (read_at text at).state.moves
+left : (strict : Bool) (start n : ℕ) (text : List ℕ) (at : ℕ) (answer : Result (Option PgnEnd) GameFault) (s : State)
+    → judged_at strict text at ≡ answer → s ≡ (read_at text at).state
     → reports_from strict start (suc n) text at
-    ≡ report_then start answer plies (λ next. reports_from strict start n text next)
+    ≡ report_then start text answer s (λ next. reports_from strict start n text next)
 unfolding reports_from
-left strict start n text at answer plies h k =
-    ap (λ r. report_then start r (length (read_at text at).state.moves) (λ next. reports_from strict start n text next)) h
-    ∙ ap (λ m. report_then start answer m (λ next. reports_from strict start n text next)) (sym k)
+left strict start n text at answer s h k =
+    ap (λ r. report_then start text r (read_at text at).state (λ next. reports_from strict start n text next)) h
+    ∙ ap (λ g. report_then start text answer g (λ next. reports_from strict start n text next)) (sym k)
 
 -- ---- the games before an offset were reported
 
@@ -31,7 +32,7 @@ pub record SoFar (options : VerifyOptions) (start : ℕ) (text : List ℕ) (befo
   pub within : at ≤ length text
   pub few : tally.games + tally.faults ≤ before.games + before.faults + at
   pub few_moves : tally.half_moves ≤ before.half_moves + at
-  pub took : Took w w' (report_lines options.quiet (next_number before) done)
+  pub took : (input : List ℕ) → Took w w' (report_lines options input (next_number before) done)
   pub is : tally ≡ counted before done
   pub n : ℕ
   pub enough : length text < at + suc n
@@ -43,7 +44,7 @@ begun options start text before w = record {
   within = omega arith;
   few = omega arith;
   few_moves = omega arith;
-  took = wrote_none options.quiet before w;
+  took = λ input. wrote_none options input before w;
   is = refl;
   n = length text;
   enough = omega arith;
@@ -54,19 +55,18 @@ module _ (options : VerifyOptions) (start : ℕ) (text : List ℕ) (before : Tal
     (tally : Tally)
     (done : List Report) (s : SoFar options start text before w w' at tally done) where
   -- the report that comes, with those after it
-  due : (answer : Result (Option PgnEnd) GameFault) (plies : ℕ) → judged_at options.strict text at ≡ answer
-      → plies ≡ length (read_at text at).state.moves
+  due : (answer : Result (Option PgnEnd) GameFault) (g : State) → judged_at options.strict text at ≡ answer
+      → g ≡ (read_at text at).state
       → reports_on options.strict start text
-      ≡ done ++ report_then start answer plies (λ next. reports_from options.strict start s.n text next)
-  due answer plies h k =
-      s.all ∙ ap (λ xs. done ++ xs) (left options.strict start s.n text at answer plies h k)
+      ≡ done ++ report_then start text answer g (λ next. reports_from options.strict start s.n text next)
+  due answer g h k = s.all ∙ ap (λ xs. done ++ xs) (left options.strict start s.n text at answer g h k)
 
-  pub all_written : (E : Type 0) → judged_at options.strict text at ≡ Ok None
-      → Writes {E = E} options.quiet before w w' (Ok tally) (reports_on options.strict start text)
-  all_written E h =
+  pub all_written : (E : Type 0) (input : List ℕ) → judged_at options.strict text at ≡ Ok None
+      → Writes {E = E} options input before w w' (Ok tally) (reports_on options.strict start text)
+  all_written E input h =
       let whole : reports_on options.strict start text ≡ done =
-      due (Ok None) (length (read_at text at).state.moves) h refl ∙ append-nil done in
-      subst (Writes {E = E} options.quiet before w w' (Ok tally)) (sym whole) (s.took, s.is)
+      due (Ok None) (read_at text at).state h refl ∙ append-nil done in
+      subst (Writes {E = E} options input before w w' (Ok tally)) (sym whole) (s.took input, s.is)
 
   pub all_grown : GrowsBy (length text) before tally
   all_grown =
@@ -75,37 +75,31 @@ module _ (options : VerifyOptions) (start : ℕ) (text : List ℕ) (before : Tal
       let within = s.within in
       record { reports = omega (arith, few, within); half_moves = omega (arith, moves, within) }
 
-  pub game_written : (end : PgnEnd) (plies : ℕ) → judged_at options.strict text at ≡ Ok (Some end)
-      → plies ≡ length (read_at text at).state.moves → plies + at ≤ end.offset → at < end.offset
-      → end.offset ≤ length text
-      → Took w' w'' (written_line options.quiet (next_number tally) (Game plies end.outcome end.termination))
+  pub game_written : (end : PgnEnd) (g : State) → judged_at options.strict text at ≡ Ok (Some end)
+      → g ≡ (read_at text at).state → length g.moves + at ≤ end.offset → at < end.offset → end.offset ≤ length text
+      → Took w' w'' (if options.quiet then [] else game_line (next_number tally) (length g.moves) end.outcome end.termination)
       → SoFar options start text before w w'' end.offset
-      (record { games = tally.games + 1; half_moves = tally.half_moves + plies; faults = tally.faults })
-      (done ++ Game plies end.outcome end.termination ∷ [])
-  game_written end plies h k moves further within took =
-      let few = s.few in
-      let few_moves = s.few_moves in
-      let enough = s.enough in
-      let r = Game plies end.outcome end.termination in
-      let longer = due (Ok (Some end)) plies h k in
-      more s.n enough longer
+      (record { games = tally.games + 1; half_moves = tally.half_moves + length g.moves; faults = tally.faults })
+      (done ++ Game (length g.moves) end.outcome end.termination ∷ [])
+  game_written end g h k moves further within took =
+      let enough = s.enough in more s.n enough (due (Ok (Some end)) g h k)
     where
       more : (n : ℕ) → length text < at + suc n
-          → reports_on options.strict start text ≡ done ++ report_then start (Ok (Some end)) plies
+          → reports_on options.strict start text ≡ done ++ report_then start text (Ok (Some end)) g
           (λ next. reports_from options.strict start n text next)
           → SoFar options start text before w w'' end.offset
-          (record { games = tally.games + 1; half_moves = tally.half_moves + plies; faults = tally.faults })
-          (done ++ Game plies end.outcome end.termination ∷ [])
+          (record { games = tally.games + 1; half_moves = tally.half_moves + length g.moves; faults = tally.faults })
+          (done ++ Game (length g.moves) end.outcome end.termination ∷ [])
       more zero enough longer = absurd (omega (arith, enough, further, within))
       more (suc m) enough longer =
           let few = s.few in
           let few_moves = s.few_moves in
-          let r = Game plies end.outcome end.termination in record {
+          let r = Game (length g.moves) end.outcome end.termination in record {
             within = within;
             few = omega (arith, few, further);
             few_moves = omega (arith, few_moves, moves);
-            took = took_after options.quiet before tally w w' w'' done s.took s.is (r ∷ [])
-                (subst (Took w' w'') (one_line options.quiet (next_number tally) r) took);
+            took = λ input. took_after options input before tally w w' w'' done (s.took input) s.is (r ∷ [])
+                (subst (Took w' w'') (one_line options input (next_number tally) r) took);
             is = ap (λ (t : Tally). with_report t r) s.is ∙ counted_after before done (r ∷ []);
             n = m;
             enough = omega (arith, enough, further);
@@ -113,31 +107,36 @@ module _ (options : VerifyOptions) (start : ℕ) (text : List ℕ) (before : Tal
                 ∙ sym (append_assoc done (r ∷ []) (reports_from options.strict start (suc m) text end.offset));
           }
 
-  pub game_broke : {E : Type 0} (e : E) (end : PgnEnd) (plies : ℕ) → judged_at options.strict text at ≡ Ok (Some end)
-      → plies ≡ length (read_at text at).state.moves
-      → BreaksOff w' w'' (written_line options.quiet (next_number tally) (Game plies end.outcome end.termination))
-      → Writes options.quiet before w w'' (Err e) (reports_on options.strict start text)
-  game_broke e end plies h k broke =
-      let r = Game plies end.outcome end.termination in
+  pub game_broke : {E : Type 0} (e : E) (input : List ℕ) (end : PgnEnd) (g : State)
+      → judged_at options.strict text at ≡ Ok (Some end) → g ≡ (read_at text at).state
+      → BreaksOff w' w'' (if options.quiet then [] else game_line (next_number tally) (length g.moves) end.outcome end.termination)
+      → Writes options input before w w'' (Err e) (reports_on options.strict start text)
+  game_broke e input end g h k broke =
+      let r = Game (length g.moves) end.outcome end.termination in
       let rest = reports_from options.strict start s.n text end.offset in
-      subst (λ xs. BreaksOff w w'' (report_lines options.quiet (next_number before) xs))
-      (sym (due (Ok (Some end)) plies h k))
-      (broke_after options.quiet before tally w w' w'' done s.took s.is (r ∷ rest)
-      (first_broke options.quiet (next_number tally) w' w'' r rest broke))
+      subst (λ xs. BreaksOff w w'' (report_lines options input (next_number before) xs))
+      (sym (due (Ok (Some end)) g h k))
+      (broke_after options input before tally w w' w'' done (s.took input) s.is (r ∷ rest)
+      (first_broke options input (next_number tally) w' w'' r rest broke))
 
-  pub fault_written : (E : Type 0) (fault : GameFault) → judged_at options.strict text at ≡ Err fault
-      → Took w' w'' (written_line options.quiet (next_number tally) (Faulty (moved start fault)))
-      → Writes {E = E} options.quiet before w w''
+  -- the report on a fault of the game `g`
+  abbrev report : GameFault → State → Report
+  report fault g = Faulty (moved start fault) (explained g (drop fault.offset text) fault.kind)
+
+  pub fault_written : (E : Type 0) (input : List ℕ) (fault : GameFault) (g : State)
+      → judged_at options.strict text at ≡ Err fault → g ≡ (read_at text at).state
+      → Took w' w'' (written_line options input (next_number tally) (report fault g))
+      → Writes {E = E} options input before w w''
       (Ok (record { games = tally.games; half_moves = tally.half_moves; faults = tally.faults + 1 }))
       (reports_on options.strict start text)
-  fault_written E fault h took =
-      let r = Faulty (moved start fault) in
-      subst (Writes {E = E} options.quiet before w w''
+  fault_written E input fault g h k took =
+      subst (Writes {E = E} options input before w w''
       (Ok (record { games = tally.games; half_moves = tally.half_moves; faults = tally.faults + 1 })))
-      (sym (due (Err fault) (length (read_at text at).state.moves) h refl))
-      (writes_after options.quiet before tally w w' w'' done s.took s.is {E = E}
-      (Ok (record { games = tally.games; half_moves = tally.half_moves; faults = tally.faults + 1 })) (r ∷ [])
-      (subst (Took w' w'') (one_line options.quiet (next_number tally) r) took, refl))
+      (sym (due (Err fault) g h k))
+      (writes_after options input before tally w w' w'' done (s.took input) s.is {E = E}
+      (Ok (record { games = tally.games; half_moves = tally.half_moves; faults = tally.faults + 1 }))
+      (report fault g ∷ [])
+      (subst (Took w' w'') (one_line options input (next_number tally) (report fault g)) took, refl))
 
   pub fault_grown : GrowsBy (length text) before
       (record { games = tally.games; half_moves = tally.half_moves; faults = tally.faults + 1 })
@@ -147,12 +146,11 @@ module _ (options : VerifyOptions) (start : ℕ) (text : List ℕ) (before : Tal
       let within = s.within in
       record { reports = omega (arith, few, within); half_moves = omega (arith, moves, within) }
 
-  pub fault_broke : {E : Type 0} (e : E) (fault : GameFault) → judged_at options.strict text at ≡ Err fault
-      → BreaksOff w' w'' (written_line options.quiet (next_number tally) (Faulty (moved start fault)))
-      → Writes options.quiet before w w'' (Err e) (reports_on options.strict start text)
-  fault_broke e fault h broke =
-      let r = Faulty (moved start fault) in
-      subst (λ xs. BreaksOff w w'' (report_lines options.quiet (next_number before) xs))
-      (sym (due (Err fault) (length (read_at text at).state.moves) h refl))
-      (broke_after options.quiet before tally w w' w'' done s.took s.is (r ∷ [])
-      (first_broke options.quiet (next_number tally) w' w'' r [] broke))
+  pub fault_broke : {E : Type 0} (e : E) (input : List ℕ) (fault : GameFault) (g : State)
+      → judged_at options.strict text at ≡ Err fault → g ≡ (read_at text at).state
+      → BreaksOff w' w'' (written_line options input (next_number tally) (report fault g))
+      → Writes options input before w w'' (Err e) (reports_on options.strict start text)
+  fault_broke e input fault g h k broke =
+      subst (λ xs. BreaksOff w w'' (report_lines options input (next_number before) xs)) (sym (due (Err fault) g h k))
+      (broke_after options input before tally w w' w'' done (s.took input) s.is (report fault g ∷ [])
+      (first_broke options input (next_number tally) w' w'' (report fault g) [] broke))

@@ -7,9 +7,8 @@ use Rattle.pgn_pieces.specs.Pieces.{pieces, HasRead, BrokeOff}
 use Rattle.pgn_verifier.specs.declared.fault.VerifyFault.{VerifyFault}
 use Rattle.pgn_verifier.specs.declared.fault.VerifyFault.TheVariants.{ReadFailed, WriteFailed, NoMemory, InputTooLong}
 use Rattle.pgn_verifier.specs.declared.options.VerifyOptions.{VerifyOptions}
-use Rattle.pgn_verifier.specs.declared.report.Report.{Report}
 use Rattle.pgn_verifier.specs.declared.tally.Verified.{Verified}
-use Rattle.pgn_verifier.specs.Reports.{reports_in, report_lines, counts_line, counts_of, verified}
+use Rattle.pgn_verifier.specs.Reports.{Report, reports_in, report_lines, counts_line, counts_of, verified}
 
 -- the reports on the games of a collection of which this text was read: on all its pieces, if the text is all of it
 -- (`ended`), else on all but the last. `strict`: results are compared
@@ -18,9 +17,9 @@ collection_reports strict ended text = flat_map (reports_in strict) (pieces ende
 
 -- the lines that report the games of a collection of which this text was read, numbered from 1: `game 1: 4 half-moves,
 -- 0-1`. `ended`: the text is all of it; if not, its last piece isn't reported. `options` say whether results are
--- compared, and whether only faults have a line
+-- compared, whether only faults have a line, and whether faults are explained
 abbrev pub collection_lines : VerifyOptions → Bool → List ℕ → List ℕ
-collection_lines options ended text = report_lines options.quiet 1 (collection_reports options.strict ended text)
+collection_lines options ended text = report_lines options text 1 (collection_reports options.strict ended text)
 
 -- all that is written of a collection of which this text was read: the lines of its games, and if the text is all of it
 -- (`ended`) the line of counts

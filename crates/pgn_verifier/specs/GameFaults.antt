@@ -23,7 +23,7 @@ use Rattle.pgn_verifier.specs.declared.game_fault.GameFault.{GameFault}
 abbrev pub result_differs : Option ResultTag → PgnEnd → Option GameFault
 result_differs None end = None
 result_differs (Some tag) end = if option_eq same_outcome tag.outcome (Some end.outcome) then None
-    else Some (record { kind = ResultDiffers; offset = tag.offset })
+    else Some (record { kind = ResultDiffers tag.len end.outcome; offset = tag.offset })
 
 -- the fault of a game whose text ends with another outcome (`end`) than the board's verdict, such as mate; none without
 -- a verdict. Its offset is that of the text's outcome mark
@@ -62,7 +62,7 @@ judged_at strict text at =
 -- the words by which a line names a fault of reading a game's text, as `illegal move`
 abbrev pub pgn_fault_name : PgnFaultKind → List ℕ
 pgn_fault_name BadTag = codes "bad tag"
-pgn_fault_name BadFen = codes "bad FEN"
+pgn_fault_name (BadFen fault) = codes "bad FEN"
 pgn_fault_name BadToken = codes "bad token"
 pgn_fault_name IllegalMove = codes "illegal move"
 pgn_fault_name AmbiguousMove = codes "ambiguous move"
@@ -75,5 +75,5 @@ pgn_fault_name NoResult = codes "no result"
 -- the words by which a line names a game's fault, as in `game 2: illegal move at byte 39`
 abbrev pub fault_name : FaultKind → List ℕ
 fault_name (Pgn kind) = pgn_fault_name kind
-fault_name ResultDiffers = codes "result differs"
+fault_name (ResultDiffers tag_len outcome) = codes "result differs"
 fault_name BoardSaysOtherwise = codes "board says otherwise"

@@ -1,39 +1,50 @@
 -- The reports on the games of a text and of pieces, their lines and their counts.
-use Rattle.std.specs.Prelude.{ℕ, zero, suc, ◌+◌, ◌==◌, Bool, true, not, if◌then◌else◌, List, [], ◌∷◌, ◌++◌, length, codes, decimal, Option, Some, None, Result, Ok, Err}
+use Rattle.std.specs.Prelude.{ℕ, zero, suc, ◌+◌, ◌==◌, Bool, if◌then◌else◌, List, [], ◌∷◌, ◌++◌, length, drop, codes, decimal, Option, Some, None, Result, Ok, Err}
 use Rattle.std.specs.List.{fold}
 use Rattle.std.specs.Option.{option_map_or}
 use Rattle.chess_base.specs.Letters.{new_line}
+use Rattle.chess_game.specs.Game.{State}
 use Rattle.chess_game.specs.Results.{outcome_text}
+use Rattle.chess_game.specs.declared.results.Outcome.{Outcome}
 use Rattle.chess_pgn.specs.declared.read.PgnEnd.{PgnEnd}
 use Rattle.chess_pgn.specs.declared.read.PgnFaultKind.TheVariants.{TooLong}
 use Rattle.chess_pgn.specs.declared.termination.Termination.{Termination}
 use Rattle.chess_pgn.specs.Terminations.{termination_text}
 use Rattle.pgn_pieces.specs.Pieces.{Piece}
+use Rattle.pgn_verifier.specs.Explanations.{Explanation, explained, too_long_explained, explanation_line}
 use Rattle.pgn_verifier.specs.GameFaults.{read_at, judged_at, fault_name}
 use Rattle.pgn_verifier.specs.declared.game_fault.FaultKind.TheVariants.{Pgn}
 use Rattle.pgn_verifier.specs.declared.game_fault.GameFault.{GameFault}
-use Rattle.pgn_verifier.specs.declared.report.Report.{Report}
-use Rattle.pgn_verifier.specs.declared.report.Report.TheVariants.{Game, Faulty}
+use Rattle.pgn_verifier.specs.declared.options.VerifyOptions.{VerifyOptions}
 use Rattle.pgn_verifier.specs.declared.tally.Tally.{Tally}
 use Rattle.pgn_verifier.specs.declared.tally.Verified.{Verified}
 use Rattle.pgn_verifier.specs.declared.tally.Verified.TheVariants.{EachGame, FaultReported}
 
+-- ---- a report
+
+-- a report on a game: how many half-moves it has and how its text says that it ended; or its fault, with the offset
+-- from the input's first byte, and what explains it
+pub data Report : Type 0 where
+  Game : (plies : ℕ) (outcome : Outcome) (termination : Option Termination) → Report
+  Faulty : (fault : GameFault) (explanation : Explanation) → Report
+
 -- ---- the reports on the games of a text
 
--- the report on a game, from how it was judged and its number of half-moves (`plies`), and then what `later` gives for
--- the offset of its end; a fault is the last. `start` is the input's offset at which the text begins
-abbrev pub report_then : ℕ → Result (Option PgnEnd) GameFault → ℕ → (ℕ → List Report) → List Report
-report_then start (Ok None) plies later = []
-report_then start (Ok (Some end)) plies later = Game plies end.outcome end.termination ∷ later end.offset
-report_then start (Err fault) plies later = Faulty (record fault { offset = start + fault.offset }) ∷ []
+-- the report on a game of a text, from how it was judged and the game that was read (`s`), and then what `later` gives
+-- for the offset of its end; a fault is the last. `start` is the input's offset at which the text begins
+abbrev pub report_then : ℕ → List ℕ → Result (Option PgnEnd) GameFault → State → (ℕ → List Report) → List Report
+report_then start text (Ok None) s later = []
+report_then start text (Ok (Some end)) s later =
+    Game (length s.moves) end.outcome end.termination ∷ later end.offset
+report_then start text (Err fault) s later =
+    Faulty (record fault { offset = start + fault.offset }) (explained s (drop fault.offset text) fault.kind) ∷ []
 
 -- the reports on at most n games (the third argument) of a text from its offset `at` on, up to its first fault. The
 -- text begins at the offset `start` of the input; `strict`: results are compared
 unfoldable pub reports_from : Bool → ℕ → ℕ → List ℕ → ℕ → List Report
 reports_from strict start zero text at = []
 reports_from strict start (suc n) text at =
-    report_then start (judged_at strict text at) (length (read_at text at).state.moves)
-    (λ next. reports_from strict start n text next)
+    report_then start text (judged_at strict text at) (read_at text at).state (λ next. reports_from strict start n text next)
 
 -- the reports on all games of a text up to its first fault. The text begins at the offset `start` of the input;
 -- `strict`: results are compared. Each game has at least a byte, so there are at most as many reports as bytes, and one
@@ -43,11 +54,15 @@ reports_on strict start text = reports_from strict start (length text + 1) text 
 
 -- ---- the reports on the games of pieces
 
+-- the report on a piece that is too long: the fault TooLong at its first byte
+abbrev pub too_long_report : Piece → Report
+too_long_report piece =
+    Faulty (record { kind = Pgn TooLong; offset = piece.offset }) (too_long_explained piece.beginning)
+
 -- the reports on the games of a piece, which is read as a text of its own; a piece that is too long, which has no bytes
--- here, has one report, the fault TooLong. `strict`: results are compared
+-- here, has one report. `strict`: results are compared
 abbrev pub reports_in : Bool → Piece → List Report
-reports_in strict piece = option_map_or (reports_on strict piece.offset) piece.bytes
-    (Faulty (record { kind = Pgn TooLong; offset = piece.offset }) ∷ [])
+reports_in strict piece = option_map_or (reports_on strict piece.offset) piece.bytes (too_long_report piece ∷ [])
 
 -- ---- their lines
 
@@ -55,30 +70,31 @@ reports_in strict piece = option_map_or (reports_on strict piece.offset) piece.b
 abbrev pub termination_part : Option Termination → List ℕ
 termination_part termination = option_map_or (λ t. codes ", " ++ termination_text t) termination []
 
--- a report's text: `4 half-moves, 0-1`, or `illegal move at byte 39`
-abbrev pub report_text : Report → List ℕ
-report_text (Game plies outcome termination) = decimal plies
-    ++ (codes " half-moves, " ++ (outcome_text outcome ++ termination_part termination))
-report_text (Faulty fault) = fault_name fault.kind ++ (codes " at byte " ++ decimal fault.offset)
+-- the line of a game without a fault, such as `game 3: 4 half-moves, 0-1`; `number` is the game's number, `plies` how
+-- many half-moves it has
+unfoldable pub game_line : ℕ → ℕ → Outcome → Option Termination → List ℕ
+game_line number plies outcome termination =
+    codes "game " ++ (decimal number ++ (codes ": " ++ (decimal plies ++ (codes " half-moves, " ++ (outcome_text outcome
+    ++ (termination_part termination ++ new_line ∷ []))))))
 
--- a report's line, such as `game 2: illegal move at byte 39`; `number` is the game's number
-unfoldable pub report_line : ℕ → Report → List ℕ
-report_line number report = codes "game " ++ (decimal number ++ (codes ": " ++ (report_text report ++ new_line ∷ [])))
+-- the line of a fault, such as `game 2: illegal move at byte 39`; `number` is the game's number
+unfoldable pub fault_line : ℕ → GameFault → List ℕ
+fault_line number fault = codes "game " ++ (decimal number ++ (codes ": " ++ (fault_name fault.kind ++ (codes " at byte "
+    ++ (decimal fault.offset ++ new_line ∷ [])))))
 
--- whether a report is written: with `quiet` only faults are
-abbrev pub is_written : Bool → Report → Bool
-is_written quiet (Game plies outcome termination) = not quiet
-is_written quiet (Faulty fault) = true
+-- what is written of a report on a game of the input: the game's line, unless `quiet` leaves it out; or the fault's
+-- line, and with `explain` the line that explains it. `number` is the game's number
+abbrev pub written_line : VerifyOptions → List ℕ → ℕ → Report → List ℕ
+written_line options input number (Game plies outcome termination) =
+    if options.quiet then [] else game_line number plies outcome termination
+written_line options input number (Faulty fault explanation) = fault_line number fault
+    ++ (if options.explain then explanation_line input fault.offset explanation else [])
 
--- a report's line, such as `game 2: illegal move at byte 39`; nothing for a game without a fault if `quiet`. `number`
--- is the game's number
-abbrev pub written_line : Bool → ℕ → Report → List ℕ
-written_line quiet number report = if is_written quiet report then report_line number report else []
-
--- the lines of reports, whose games are numbered from `number` on; with `quiet` only those of faults
-abbrev pub report_lines : Bool → ℕ → List Report → List ℕ
-report_lines quiet number [] = []
-report_lines quiet number (report ∷ rest) = written_line quiet number report ++ report_lines quiet (number + 1) rest
+-- the lines of reports on games of the input, which are numbered from `number` on
+abbrev pub report_lines : VerifyOptions → List ℕ → ℕ → List Report → List ℕ
+report_lines options input number [] = []
+report_lines options input number (report ∷ rest) =
+    written_line options input number report ++ report_lines options input (number + 1) rest
 
 -- ---- the counts
 
@@ -86,7 +102,7 @@ report_lines quiet number (report ∷ rest) = written_line quiet number report +
 abbrev pub with_report : Tally → Report → Tally
 with_report t (Game plies outcome termination) =
     record t { games = t.games + 1; half_moves = t.half_moves + plies }
-with_report t (Faulty fault) = record t { faults = t.faults + 1 }
+with_report t (Faulty fault explanation) = record t { faults = t.faults + 1 }
 
 -- the counts of these reports: games without a fault, their half-moves, and faults
 abbrev pub counts_of : List Report → Tally

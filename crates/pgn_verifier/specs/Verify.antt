@@ -14,9 +14,9 @@ abbrev pub IsAll : InputState → InputState → List ℕ → Type 0
 IsAll r r' text = HasRead true r r' text × (length text ≤ PIECE_LEN)
 
 -- all that is written of a text: the lines of its games up to the first fault, numbered from 1. `options` say whether
--- results are compared, and whether only faults have a line
+-- results are compared, whether only faults have a line, and whether faults are explained
 abbrev pub text_lines : VerifyOptions → List ℕ → List ℕ
-text_lines options text = report_lines options.quiet 1 (reports_on options.strict 0 text)
+text_lines options text = report_lines options text 1 (reports_on options.strict 0 text)
 
 -- what verifying a text does, from the input's state `r` to `r'` and the output's `w` to `w'`. It read all of the
 -- input, wrote the lines and flushed them; or a write failed, and a beginning was written; or the input failed, was

@@ -9,6 +9,7 @@ ghost use Rattle.pgn_pieces.specs.declared.pieces.TheConstants.{PIECE_LEN};
 use crate::fault::VerifyFault;
 use crate::games::{open_game, verify_text};
 use crate::options::VerifyOptions;
+use crate::start::TextStart;
 use crate::tally::{Tally, Verified};
 use byte_devices::{Input, Output, WriteFault};
 use chess_bits::{AttackTables, Bits};
@@ -54,7 +55,8 @@ fn finish<W: Output>(
     requires limit { game.old.limit ≡ MOST_MOVES }
     ensures { WritesText options text.now (W.seen output.old) (W.seen output.new) result }
 {
-    let tally = match verify_text(options, 0, text, game, output, Tally::none()) {
+    let start = TextStart { offset: 0, line: 1 };
+    let tally = match verify_text(options, start, text, game, output, Tally::none()) {
         Ok(tally) => tally,
         Err(fault) => return Err(fault),
     };
@@ -66,8 +68,8 @@ fn finish<W: Output>(
 
 /// Reads all games of the input and writes a line for each: `game 1: 4 half-moves, 0-1`, and after that
 /// `, time forfeit` or the like if its last tag `Termination` has a known text. A game with a fault has the line
-/// `game 2: illegal move at byte 39` and is the last. `options` say which lines are left out, and whether results are
-/// compared. If it returns `Ok`, all lines were flushed.
+/// `game 2: illegal move at byte 39` and is the last. `options` say which lines are left out, whether results are
+/// compared, and whether a line follows that explains the fault. If it returns `Ok`, all lines were flushed.
 ///
 /// # Errors
 /// If a device fails, memory runs out, or the input has more than 16,777,216 bytes. Nothing was written then, unless it

@@ -1,25 +1,25 @@
 //! A collection of any length verified: each of its pieces is read as a text of its own.
 
-ghost use Rattle.std.specs.Prelude.{◌≡◌, ◌≤◌, ◌<◌, ◌+◌, ◌*◌, ◌^◌, length, IfOk};
+ghost use Rattle.std.specs.Prelude.{◌≡◌, ◌≤◌, ◌<◌, ◌+◌, ◌*◌, ◌^◌, true, List, ℕ, length, IfOk};
 ghost use Rattle.byte_devices.specs.Devices.{Sends};
 ghost use Rattle.pgn_pieces.specs.Stream.{unread, current};
 ghost use Rattle.pgn_verifier.specs.Reports.{reports_in, counts_line};
 ghost use Rattle.pgn_verifier.specs.Collection.{VerifiesCollection};
-ghost use Rattle.pgn_verifier.specs.ties.OnTheWay.{WritesCollection, Writes, GrowsBy};
+ghost use Rattle.pgn_verifier.specs.ties.OnTheWay.{WritesCollection, PieceStandsIf, Writes, GrowsBy};
 ghost use Rattle.pgn_verifier.specs.ties.Faults.{piece_fault};
 ghost use Rattle.chess_game.specs.declared.game.TheConstants.{MOST_MOVES};
 
 use crate::fault::VerifyFault;
-use crate::game_fault::{FaultKind, GameFault};
+use crate::explanation::too_long_lines;
 use crate::games::{open_game, verify_text};
 use crate::options::VerifyOptions;
-use crate::report::{Report, write_counts, write_line};
+use crate::report::write_counts;
+use crate::start::TextStart;
 use crate::tally::{Tally, Verified};
-use byte_devices::{Input, Output, WriteFault};
+use byte_devices::{Input, Output, WriteFault, put};
 use chess_bits::{AttackTables, Bits};
 use chess_game::Game;
-use chess_pgn::PgnFaultKind;
-use pgn_pieces::{PgnPieces, PieceFault, pieces_are_cut};
+use pgn_pieces::{PgnPieces, PieceFault, pieces_are_cut, pieces_are_in_place};
 use std::alloc::Global;
 
 // The fault of verifying a collection if cutting the input into pieces failed with this fault: the one of the same
@@ -35,35 +35,53 @@ fn piece_fault(fault: PieceFault) -> VerifyFault
 }
 
 // Reads the games of the current piece and writes their lines; returns the counts, `before` with these reports added. A
-// piece that is too long is one fault. `game` is only room for the games that are read.
+// piece that is too long is one fault. The piece begins on the line `line`; `game` is only room for the games that are
+// read.
 fn verify_piece<W: Output>(
     options: VerifyOptions,
+    line: usize,
     pieces: &PgnPieces,
     game: &mut Game<Bits<'_>>,
     output: &mut W,
     before: Tally,
 ) -> Result<Tally, WriteFault>
+    requires few_lines { line + length pieces.now.part < 2 ^ 64 }
     requires reports { before.games + before.faults + length pieces.now.part + 1 < 2 ^ 64 }
     requires half_moves { before.half_moves + length pieces.now.part < 2 ^ 64 }
     requires limit { game.old.limit ≡ MOST_MOVES }
-    ensures written { Writes options.quiet before (W.seen output.old) (W.seen output.new) result
+    ensures written { (input : List ℕ) → PieceStandsIf options.explain line input (current pieces.now)
+        → Writes options input before (W.seen output.old) (W.seen output.new) result
         (reports_in options.strict (current pieces.now)) }
     ensures grown { IfOk result (λ after. GrowsBy (length pieces.now.part) before after) }
     ensures limit { game.new.limit ≡ MOST_MOVES }
 {
-    let start = pieces.offset();
+    let start = TextStart {
+        offset: pieces.offset(),
+        line,
+    };
     match pieces.text() {
         Some(text) => verify_text(options, start, text, game, output, before),
         None => {
-            let report = Report::Faulty(GameFault {
-                kind: FaultKind::Pgn(PgnFaultKind::TooLong),
-                offset: start,
-            });
-            match write_line(options.quiet, output, before.next_number(), &report) {
+            let number = before.next_number();
+            let lines = too_long_lines(options.explain, number, start, pieces.beginning());
+            match put(output, lines.as_slice()) {
                 Ok(()) => Ok(before.with_fault()),
                 Err(fault) => Err(fault),
             }
         }
+    }
+}
+
+// The line after the current piece, which begins on the line `line`. Lines are counted only if faults are explained.
+fn line_after(explain: bool, line: usize, pieces: &PgnPieces) -> usize
+    requires { line + length pieces.now.part < 2 ^ 64 }
+    ensures counted { explain ≡ true → result ≡ line + (current pieces.now).line_ends }
+    ensures few { result ≤ line + length pieces.now.part }
+{
+    if explain {
+        line + pieces.line_ends()
+    } else {
+        line
     }
 }
 
@@ -81,9 +99,11 @@ fn verify_pieces<R: Input, W: Output>(
     ensures { WritesCollection options (R.seen input.old) (R.seen input.new) (W.seen output.old) (W.seen output.new)
         result }
 {
-    // The prover wants this law: the pieces of a text are those that are returned.
+    // The prover wants these laws: the pieces of a text are those that are returned, and where they are.
     pieces_are_cut();
+    pieces_are_in_place();
     let mut tally = Tally::none();
+    let mut line = 1;
     loop {
         match pieces.next(input) {
             Ok(true) => {}
@@ -91,10 +111,11 @@ fn verify_pieces<R: Input, W: Output>(
             Err(fault) => return Err(piece_fault(fault)),
         }
         let _offset = pieces.offset();
-        match verify_piece(options, pieces, game, output, tally) {
+        match verify_piece(options, line, pieces, game, output, tally) {
             Ok(after) => tally = after,
             Err(_) => return Err(VerifyFault::WriteFailed),
         }
+        line = line_after(options.explain, line, pieces);
     }
 }
 
@@ -131,8 +152,8 @@ fn verify_all<R: Input, W: Output>(
 }
 
 /// Reads the games of an input of any length and writes a line for each, as `verify` does. The input is cut into
-/// pieces, each from its first byte or a line that begins with `[Event ` up to the next such line, and each is read as
-/// a text of its own: a fault ends its piece alone. A piece with more than 16,777,216 bytes is one fault, `too long` at
+/// pieces, and each is read as a text of its own: a fault ends its piece alone. A piece begins at the input's first
+/// byte, at each tag line after a line of moves, and at each second Event tag line. A piece with more than 16,777,216 bytes is one fault, `too long` at
 /// its first byte. Offsets count from the input's first byte. Last comes the line `games G half-moves H faults F`: how
 /// many games have no fault, how many half-moves these have, and how many faults there are. However the input is cut
 /// into reads, the lines are those of its pieces.

@@ -32,7 +32,10 @@ fn result_differs(tag: Option<ResultTag>, end: PgnEnd) -> Option<GameFault>
         return None;
     }
     Some(GameFault {
-        kind: FaultKind::ResultDiffers,
+        kind: FaultKind::ResultDiffers {
+            tag_len: tag.len,
+            outcome: end.outcome,
+        },
         offset: tag.offset,
     })
 }

@@ -5,6 +5,7 @@ ghost use Rattle.pgn_verifier.specs.declared.game_fault.FaultKind.TheVariants.{P
 ghost use Rattle.pgn_verifier.specs.GameFaults.{pgn_fault_name, fault_name};
 ghost use Rattle.pgn_verifier.specs.ties.OnTheWay.{moved};
 
+use chess_game::Outcome;
 use chess_pgn::{PgnFault, PgnFaultKind};
 
 /// What is wrong with a game.
@@ -12,8 +13,8 @@ use chess_pgn::{PgnFault, PgnFaultKind};
 pub(crate) enum FaultKind {
     /// Its text can't be read or played.
     Pgn(PgnFaultKind),
-    /// Its tag `Result` has another text than its termination.
-    ResultDiffers,
+    /// Its tag `Result`, whose text has `tag_len` bytes, differs from its termination, which names `outcome`.
+    ResultDiffers { tag_len: usize, outcome: Outcome },
     /// The board has a verdict with another outcome than its termination.
     BoardSaysOtherwise,
 }
@@ -57,7 +58,7 @@ fn pgn_fault_name(kind: PgnFaultKind) -> &'static [u8]
 {
     match kind {
         PgnFaultKind::BadTag => b"bad tag",
-        PgnFaultKind::BadFen => b"bad FEN",
+        PgnFaultKind::BadFen(_) => b"bad FEN",
         PgnFaultKind::BadToken => b"bad token",
         PgnFaultKind::IllegalMove => b"illegal move",
         PgnFaultKind::AmbiguousMove => b"ambiguous move",
@@ -76,7 +77,7 @@ pub(crate) fn fault_name(kind: FaultKind) -> &'static [u8]
 {
     match kind {
         FaultKind::Pgn(kind) => pgn_fault_name(kind),
-        FaultKind::ResultDiffers => b"result differs",
+        FaultKind::ResultDiffers { .. } => b"result differs",
         FaultKind::BoardSaysOtherwise => b"board says otherwise",
     }
 }

@@ -1,18 +1,20 @@
 //! The games of a text, one after another, up to the first fault.
 
-ghost use Rattle.std.specs.Prelude.{◌≡◌, ◌≤◌, ◌<◌, ◌+◌, ◌^◌, length, IfOk, IfErr};
+ghost use Rattle.std.specs.Prelude.{◌≡◌, ◌≤◌, ◌<◌, ◌+◌, ◌^◌, List, ℕ, length, IfOk, IfErr};
 ghost use Rattle.std.specs.Option.{IfSome};
 ghost use Rattle.chess_game.specs.declared.game.TheConstants.{MOST_MOVES};
 ghost use Rattle.pgn_verifier.specs.GameFaults.{read_at, judged_at};
 ghost use Rattle.pgn_verifier.specs.Reports.{reports_on};
-ghost use Rattle.pgn_verifier.specs.ties.OnTheWay.{Writes, GrowsBy};
+ghost use Rattle.pgn_verifier.specs.ties.OnTheWay.{StandsIf, Writes, GrowsBy};
 
 use crate::contradiction::contradiction;
+use crate::explanation::fault_lines;
 use crate::game_fault::GameFault;
 use crate::options::VerifyOptions;
-use crate::report::{Report, write_line};
+use crate::report::write_game;
+use crate::start::TextStart;
 use crate::tally::Tally;
-use byte_devices::{Output, WriteFault};
+use byte_devices::{Output, WriteFault, put};
 use chess_bits::{AttackTables, Bits};
 use chess_game::{Game, MOST_MOVES};
 use chess_pgn::{PgnEnd, faults_have_offsets, half_moves_have_bytes, read_pgn};
@@ -39,7 +41,7 @@ fn judge_game(
     requires at { at ≤ length text.now }
     requires limit { game.old.limit ≡ MOST_MOVES }
     ensures judged { result ≡ judged_at strict text.now at }
-    ensures moves { length game.new.state.moves ≡ length (read_at text.now at).state.moves }
+    ensures game { game.new.state ≡ (read_at text.now at).state }
     ensures further { IfOk result (λ end. IfSome end (λ e. at < e.offset)) }
     ensures within { IfOk result (λ end. IfSome end (λ e. e.offset ≤ length text.now)) }
     ensures few { IfOk result (λ end. IfSome end (λ e. length game.new.state.moves + at ≤ e.offset)) }
@@ -60,21 +62,23 @@ fn judge_game(
 }
 
 // Reads the games of a text up to its first fault, writes their lines, and returns the counts, `before` with these
-// reports added. The text begins at the offset `start` of the input; `game` is only room for the games that are read.
+// reports added. The text begins at `start` in the input; `game` is only room for the games that are read.
 pub(crate) fn verify_text<W: Output>(
     options: VerifyOptions,
-    start: usize,
+    start: TextStart,
     text: &[u8],
     game: &mut Game<Bits<'_>>,
     output: &mut W,
     before: Tally,
 ) -> Result<Tally, WriteFault>
-    requires few { start + length text.now ≤ 2 ^ 63 }
+    requires few { start.offset + length text.now ≤ 2 ^ 63 }
+    requires few_lines { start.line + length text.now < 2 ^ 64 }
     requires reports { before.games + before.faults + length text.now + 1 < 2 ^ 64 }
     requires half_moves { before.half_moves + length text.now < 2 ^ 64 }
     requires limit { game.old.limit ≡ MOST_MOVES }
-    ensures written { Writes options.quiet before (W.seen output.old) (W.seen output.new) result
-        (reports_on options.strict start text.now) }
+    ensures written { (input : List ℕ) → StandsIf options.explain start input text.now
+        → Writes options input before (W.seen output.old) (W.seen output.new) result
+        (reports_on options.strict start.offset text.now) }
     ensures grown { IfOk result (λ after. GrowsBy (length text.now) before after) }
     ensures limit { game.new.limit ≡ MOST_MOVES }
 {
@@ -86,12 +90,7 @@ pub(crate) fn verify_text<W: Output>(
             Ok(None) => return Ok(tally),
             Ok(Some(end)) => {
                 let plies = game.ply();
-                let report = Report::Game {
-                    plies,
-                    outcome: end.outcome,
-                    termination: end.termination,
-                };
-                match write_line(options.quiet, output, number, &report) {
+                match write_game(options.quiet, output, number, plies, end) {
                     Ok(()) => {}
                     Err(fault) => return Err(fault),
                 }
@@ -99,8 +98,8 @@ pub(crate) fn verify_text<W: Output>(
                 at = end.offset;
             }
             Err(fault) => {
-                let report = Report::Faulty(fault.moved(start));
-                return match write_line(options.quiet, output, number, &report) {
+                let lines = fault_lines(options.explain, number, start, text, fault, game);
+                return match put(output, lines.as_slice()) {
                     Ok(()) => Ok(tally.with_fault()),
                     Err(fault) => Err(fault),
                 };

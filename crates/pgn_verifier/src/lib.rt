@@ -3,7 +3,7 @@
 //! ```
 //! let mut input = Counted::reading(b"1. e4 *".as_slice());
 //! let mut output = Counted::writing(Vec::<u8>::new(alloc));
-//! let options = VerifyOptions { quiet: false, strict: false };
+//! let options = VerifyOptions { quiet: false, strict: false, explain: false };
 //! match verify(alloc, options, &mut input, &mut output)? {
 //!     Verified::EachGame => println!(rt; "each game was read")?,
 //!     Verified::FaultReported => println!(rt; "a game has a fault")?,
@@ -17,11 +17,14 @@
 mod buffered;
 mod collection;
 mod contradiction;
+mod explanation;
 mod fault;
 mod game_fault;
 mod games;
 mod options;
 mod report;
+mod shown;
+mod start;
 mod tally;
 
 pub use buffered::verify;

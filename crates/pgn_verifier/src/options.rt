@@ -8,4 +8,7 @@ pub struct VerifyOptions {
     /// Takes a contradiction about the result for a fault: a tag `Result` with another text than the termination, or a
     /// verdict of the board with another outcome.
     pub strict: bool,
+    /// Follows each fault by a line that explains it: its line, its column, the text there, the position and the
+    /// reason.
+    pub explain: bool,
 }

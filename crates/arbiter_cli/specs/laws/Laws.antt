@@ -38,7 +38,7 @@ AreRefused words kinds = (names : Lent) → faults_in names words ≡ kinds
 
 -- the plan of `verify` without flags
 abbrev pub bare_plan : VerifyPlan
-bare_plan = record { keep_going = false; quiet = false; strict = false }
+bare_plan = record { keep_going = false; quiet = false; strict = false; explain = false }
 
 -- the options of these arguments make the plan of `verify` without flags
 abbrev pub VerifyAsBare : List Text → Type 0

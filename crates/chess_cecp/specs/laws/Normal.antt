@@ -21,7 +21,8 @@ use Rattle.chess_cecp.specs.declared.command.Command.{Command}
 use Rattle.chess_cecp.specs.declared.command.Command.TheVariants.{New, SetBoard, UserMove, BareMove, Undo, Remove, Declare, Claim, Ping, Protover, Variant, Go, ShowFen, ShowMoves, ShowState, ShowPgn, Quit, Silent, BadNumber, Unknown}
 use Rattle.chess_cecp.specs.Declaring.{read_result, claims_text, verdict_text, declared_text}
 use Rattle.chess_cecp.specs.Serving.{Response}
-use Rattle.chess_cecp.specs.Session.{says, refuses, becomes, verdict_line, fen_fault_name, claimed, joined_line, back_row}
+use Rattle.chess_base.specs.Faults.{fen_fault_name}
+use Rattle.chess_cecp.specs.Session.{says, refuses, becomes, verdict_line, claimed, joined_line, back_row}
 use Rattle.chess_cecp.specs.laws.NormalGame.{normal_initial, normal_current, normal_rep, normal_claims, normal_verdict_now, normal_is_over}
 use Rattle.chess_cecp.specs.laws.NormalPgn.{normal_pgn}
 

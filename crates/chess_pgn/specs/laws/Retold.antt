@@ -186,6 +186,11 @@ word_fault limit s word Move = move_fault limit s (reading (current s) word)
 abbrev pub fault_at : ℕ → Option PgnFaultKind → Option PgnFault
 fault_at offset kind = option_map (λ k. record { kind = k; offset = offset }) kind
 
+-- the fault of a tag FEN whose text was read with this result; none if it denotes a position
+abbrev pub fen_fault : Result Setup FenFault → Option PgnFaultKind
+fen_fault (Ok start) = None
+fen_fault (Err fault) = Some (BadFen fault)
+
 -- why a token can't be taken in the game `s` of the variant `v`, with the fault's offset; none if it can. `limit` is
 -- the most half-moves of a game, `total` the text's length, `left` how many bytes are left from the token on; `begun`:
 -- a number or move came before it
@@ -193,7 +198,7 @@ abbrev pub token_fault : ℕ → ℕ → Variant → Bool → State → ℕ → 
 token_fault limit total v begun s left Skip = None
 token_fault limit total v begun s left (Tag name text string) =
     if begun then fault_at (total - left) (Some NoResult)
-    else (if is_fen name && not (is_ok (fen_reading_as v text)) then fault_at (total - string) (Some BadFen) else None)
+    else (if is_fen name then fault_at (total - string) (fen_fault (fen_reading_as v text)) else None)
 token_fault limit total v begun s left (Word word) = fault_at (total - left) (word_fault limit s word (word_kind word))
 token_fault limit total v begun s left Bad_tag = fault_at (total - left) (Some (if begun then NoResult else BadTag))
 token_fault limit total v begun s left (Unclosed_comment brace) = fault_at (total - brace) (Some UnclosedComment)

@@ -1,9 +1,10 @@
 -- What becomes of verifying on the way: of a text that is read as a whole, and of pieces before their counts are
 -- written.
-use Rattle.std.specs.Prelude.{◌≡◌, ◌<◌, ℕ, true, false, List, length, Result, Ok, Err, ◌≤◌, ◌+◌, Bool}
+use Rattle.std.specs.Prelude.{◌≡◌, ◌<◌, ℕ, true, false, List, length, take, drop, Some, Result, Ok, Err, ◌≤◌, ◌+◌, Bool}
 use Rattle.std.specs.List.{flat_map, fold}
 use Rattle.byte_devices.specs.Devices.{InputState, OutputState, Took, Sent, BreaksOff}
 use Rattle.pgn_pieces.specs.Pieces.{Piece, HasRead, BrokeOff}
+use Rattle.pgn_pieces.specs.Places.{line_of, column_of}
 use Rattle.pgn_pieces.specs.declared.pieces.TheConstants.{PIECE_LEN}
 use Rattle.pgn_verifier.specs.declared.fault.VerifyFault.{VerifyFault}
 use Rattle.pgn_verifier.specs.declared.fault.VerifyFault.TheVariants.{ReadFailed, WriteFailed, NoMemory, InputTooLong}
@@ -11,10 +12,10 @@ use Rattle.pgn_verifier.specs.declared.game_fault.GameFault.{GameFault}
 use Rattle.pgn_verifier.specs.declared.options.VerifyOptions.{VerifyOptions}
 use Rattle.pgn_verifier.specs.declared.tally.Tally.{Tally}
 use Rattle.pgn_verifier.specs.declared.tally.Verified.{Verified}
-use Rattle.pgn_verifier.specs.Reports.{reports_on, reports_in, with_report, counts_of, verified, report_lines}
+use Rattle.pgn_verifier.specs.Reports.{Report, reports_on, reports_in, with_report, counts_of, verified, report_lines}
 use Rattle.pgn_verifier.specs.Verify.{text_lines}
 use Rattle.pgn_verifier.specs.Collection.{collection_reports, collection_lines, VerifiesCollection}
-use Rattle.pgn_verifier.specs.declared.report.Report.{Report}
+use Rattle.pgn_verifier.specs.declared.start.TextStart.{TextStart}
 
 -- why, between the input's states `r` and `r'`, not all of it was read: a read failed, memory ran out, or it has more
 -- than 16,777,216 bytes
@@ -56,13 +57,34 @@ counted t reports = fold with_report t reports
 abbrev pub next_number : Tally → ℕ
 next_number before = before.games + before.faults + 1
 
--- between the output's states `w` and `w'` the lines of these reports were written, and `after` counts them on top of
--- `before`, the counts so far; or a write failed, and a beginning of the lines was written. `quiet`: only faults have a
--- line
-abbrev pub Writes : {E : Type 0} → Bool → Tally → OutputState → OutputState → Result Tally E → List Report → Type 0
-Writes quiet before w w' (Ok after) reports =
-    Took w w' (report_lines quiet (next_number before) reports) × (after ≡ counted before reports)
-Writes quiet before w w' (Err e) reports = BreaksOff w w' (report_lines quiet (next_number before) reports)
+-- between the output's states `w` and `w'` the lines of these reports on games of the input were written, and `after`
+-- counts them on top of `before`, the counts so far; or a write failed, and a beginning of the lines was written
+abbrev pub Writes : {E : Type 0} → VerifyOptions → List ℕ → Tally → OutputState → OutputState → Result Tally E → List Report
+    → Type 0
+Writes options input before w w' (Ok after) reports =
+    Took w w' (report_lines options input (next_number before) reports) × (after ≡ counted before reports)
+Writes options input before w w' (Err e) reports =
+    BreaksOff w w' (report_lines options input (next_number before) reports)
+
+-- the text is in the input where it begins: at the beginning of a line, whose number is known
+pub record StandsAt (start : TextStart) (input text : List ℕ) : Type 0 where
+  pub bytes : take (length text) (drop start.offset input) ≡ text
+  pub line : line_of input start.offset ≡ start.line
+  pub column : column_of input start.offset ≡ 1
+
+-- the text stands there, if faults are explained
+abbrev pub StandsIf : Bool → TextStart → List ℕ → List ℕ → Type 0
+StandsIf explain start input text = explain ≡ true → StandsAt start input text
+
+-- the piece is in the input at its offset, at the beginning of the line with this number
+pub record PieceStandsAt (number : ℕ) (input : List ℕ) (piece : Piece) : Type 0 where
+  pub bytes : (text : List ℕ) → piece.bytes ≡ Some text → take (length text) (drop piece.offset input) ≡ text
+  pub line : line_of input piece.offset ≡ number
+  pub column : column_of input piece.offset ≡ 1
+
+-- the piece stands there, if faults are explained
+abbrev pub PieceStandsIf : Bool → ℕ → List ℕ → Piece → Type 0
+PieceStandsIf explain number input piece = explain ≡ true → PieceStandsAt number input piece
 
 -- a text of `len` bytes adds at most as many half-moves to the counts, and at most one report more than it has bytes
 pub record GrowsBy (len : ℕ) (before after : Tally) : Type 0 where

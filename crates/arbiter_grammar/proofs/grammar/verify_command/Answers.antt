@@ -11,13 +11,16 @@ returns-clause-app c =
     let keep : rule_of c.flag.result ≡ flag_rule (codes "keep-going") = search rules in
     let quiet : rule_of c.flag-2.result ≡ flag_rule (codes "quiet") = search rules in
     let strict : rule_of c.flag-3.result ≡ flag_rule (codes "strict") = search rules in
-    let e1 = c.in_ok-arg.ensures.shape c.flag.ensures.local ∙ ap₂ with_rule c.command.ensures.app keep in
+    let e1 = c.in_ok-arg.ensures.shape c.flag.ensures.local ∙ ap₂ with_rule c.bare_verify_command.ensures.app keep in
+    let explain : rule_of c.flag-4.result ≡ flag_rule (codes "explain") = search rules in
     let e2 = c.in_ok-arg-2.ensures.shape c.flag-2.ensures.local ∙ ap₂ with_rule e1 quiet in
-    IfOk-weaker c.arg-3.result _ _ (λ r h. h.shape c.flag-3.ensures.local ∙ ap₂ with_rule e2 strict) c.arg-3.ensures
+    let e3 = c.in_ok-arg-3.ensures.shape c.flag-3.ensures.local ∙ ap₂ with_rule e2 strict in
+    IfOk-weaker c.arg-4.result _ _ (λ r h. h.shape c.flag-4.ensures.local ∙ ap₂ with_rule e3 explain) c.arg-4.ensures
 
 pub returns-clause-local : goal.returns-clause-local
 returns-clause-local c =
     let or : Bool → Bool → Bool = λ a b. a || b in
-    let e1 = c.in_ok-arg.ensures.globals ∙ ap₂ or c.command.ensures.local c.flag.ensures.local in
+    let e1 = c.in_ok-arg.ensures.globals ∙ ap₂ or c.bare_verify_command.ensures.local c.flag.ensures.local in
     let e2 = c.in_ok-arg-2.ensures.globals ∙ ap₂ or e1 c.flag-2.ensures.local in
-    IfOk-weaker c.arg-3.result _ _ (λ r h. h.globals ∙ ap₂ or e2 c.flag-3.ensures.local) c.arg-3.ensures
+    let e3 = c.in_ok-arg-3.ensures.globals ∙ ap₂ or e2 c.flag-3.ensures.local in
+    IfOk-weaker c.arg-4.result _ _ (λ r h. h.globals ∙ ap₂ or e3 c.flag-4.ensures.local) c.arg-4.ensures

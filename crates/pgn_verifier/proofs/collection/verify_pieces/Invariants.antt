@@ -7,7 +7,7 @@ use Rattle.chess_game.specs.declared.game.TheConstants.{MOST_MOVES}
 abbrev pub invariant-loop-fault : goal.invariant-loop-fault
 invariant-loop-fault g l = (l.game.limit ≡ MOST_MOVES)
     × SoFar l.options (g.R.Input.seen l.fn.input) (g.R.Input.seen l.input) (g.W.Output.seen l.fn.output)
-    (g.W.Output.seen l.output) l.pieces l.tally
+    (g.W.Output.seen l.output) l.pieces l.tally l.line
 
 abbrev pub decreases-loop-fault : goal.decreases-loop-fault
 decreases-loop-fault g l = 2 ^ 63 - (l.pieces.offset + length l.pieces.part)

@@ -1,8 +1,8 @@
 -- What was read is judged (GamesJudged).
-use Rattle.std.proofs.Common.{◌≤◌, length, Ok, Err, Some, None, refl, sym, subst}
-use Rattle.chess_game.specs.Game.{verdict_now}
+use Rattle.std.proofs.Common.{◌≤◌, length, Ok, Err, Some, None, refl, sym, ap, subst}
+use Rattle.chess_game.specs.Game.{State, verdict_now}
 use Rattle.pgn_verifier.specs.declared.game_fault.GameFault.{GameFault}
-use Rattle.pgn_verifier.proofs.GamesJudged.{answered, moves_are, none_judged, fault_judged, end_judged, few_moves, fault_within}
+use Rattle.pgn_verifier.proofs.GamesJudged.{answered, game_is, none_judged, fault_judged, end_judged, few_moves, fault_within}
 use Rattle.pgn_verifier.proofs.games.judge_game.Goals as goal
 
 pub returns-in-Ok-None-clause-judged : goal.returns-in-Ok-None-clause-judged
@@ -11,8 +11,8 @@ returns-in-Ok-None-clause-judged c =
     (answered c.args.game.now.limit c.args.text.now c.args.at (Ok None) c.requires.limit
     (rw c.in-Ok-None.field-0-is at c.in-Ok-None.ensures.answer))
 
-pub returns-in-Ok-None-clause-moves : goal.returns-in-Ok-None-clause-moves
-returns-in-Ok-None-clause-moves c = moves_are c.args.text.now c.args.at c.args.game.now c.read_pgn.new.game
+pub returns-in-Ok-None-clause-game : goal.returns-in-Ok-None-clause-game
+returns-in-Ok-None-clause-game c = game_is c.args.text.now c.args.at c.args.game.now c.read_pgn.new.game
     c.requires.limit c.in-Ok-None.ensures.game
 
 pub returns-in-Some-clause-judged : goal.returns-in-Some-clause-judged
@@ -23,8 +23,8 @@ returns-in-Some-clause-judged c =
     (answered c.args.game.now.limit c.args.text.now c.args.at (Ok (Some c.in-Ok-Some.end)) c.requires.limit
     (rw c.in-Ok-Some.field-0-is at c.in-Ok-Some.ensures.answer))
 
-pub returns-in-Some-clause-moves : goal.returns-in-Some-clause-moves
-returns-in-Some-clause-moves c = moves_are c.args.text.now c.args.at c.args.game.now c.read_pgn.new.game
+pub returns-in-Some-clause-game : goal.returns-in-Some-clause-game
+returns-in-Some-clause-game c = game_is c.args.text.now c.args.at c.args.game.now c.read_pgn.new.game
     c.requires.limit c.in-Ok-Some.ensures.game
 
 pub returns-in-None-clause-judged : goal.returns-in-None-clause-judged
@@ -35,8 +35,8 @@ returns-in-None-clause-judged c =
     (answered c.args.game.now.limit c.args.text.now c.args.at (Ok (Some c.in-Ok-Some.end)) c.requires.limit
     (rw c.in-Ok-Some.field-0-is at c.in-Ok-Some.ensures.answer))
 
-pub returns-in-None-clause-moves : goal.returns-in-None-clause-moves
-returns-in-None-clause-moves c = moves_are c.args.text.now c.args.at c.args.game.now c.read_pgn.new.game
+pub returns-in-None-clause-game : goal.returns-in-None-clause-game
+returns-in-None-clause-game c = game_is c.args.text.now c.args.at c.args.game.now c.read_pgn.new.game
     c.requires.limit c.in-Ok-Some.ensures.game
 
 pub returns-in-None-clause-further : goal.returns-in-None-clause-further
@@ -51,8 +51,8 @@ returns-in-None-clause-few c =
     (length c.read_pgn.new.game.state.moves) c.requires.at
     (answered c.args.game.now.limit c.args.text.now c.args.at (Ok (Some c.in-Ok-Some.end)) c.requires.limit
     (rw c.in-Ok-Some.field-0-is at c.in-Ok-Some.ensures.answer))
-    (moves_are c.args.text.now c.args.at c.args.game.now c.read_pgn.new.game c.requires.limit
-    c.in-Ok-Some.ensures.game)
+    (ap (λ (s : State). length s.moves) (game_is c.args.text.now c.args.at c.args.game.now c.read_pgn.new.game
+    c.requires.limit c.in-Ok-Some.ensures.game))
 
 pub returns-in-Err-clause-judged : goal.returns-in-Err-clause-judged
 returns-in-Err-clause-judged c =
@@ -60,8 +60,8 @@ returns-in-Err-clause-judged c =
     (answered c.args.game.now.limit c.args.text.now c.args.at (Err c.in-Err.fault) c.requires.limit
     c.in-Err.ensures.answer)
 
-pub returns-in-Err-clause-moves : goal.returns-in-Err-clause-moves
-returns-in-Err-clause-moves c = moves_are c.args.text.now c.args.at c.args.game.now c.read_pgn.new.game
+pub returns-in-Err-clause-game : goal.returns-in-Err-clause-game
+returns-in-Err-clause-game c = game_is c.args.text.now c.args.at c.args.game.now c.read_pgn.new.game
     c.requires.limit c.in-Err.ensures.game
 
 pub returns-in-Err-clause-fault : goal.returns-in-Err-clause-fault

@@ -1,12 +1,12 @@
 -- The games up to here were reported (TextVerified.SoFar). A game more keeps that; no game, a fault and a failed write
 -- each end it by one lemma.
-use Rattle.std.proofs.Common.{◌≤◌, ◌+◌, ◌∙◌, ◌++◌, ◌∷◌, [], Ok, sym, subst, arith}
+use Rattle.std.proofs.Common.{◌≡◌, ◌≤◌, ◌+◌, ◌∙◌, ◌++◌, ◌∷◌, [], Ok, length, drop, sym, ap, subst, arith}
+use Rattle.std.specs.Prelude.{if◌then◌else◌}
 use Rattle.byte_devices.specs.Devices.{Took, BreaksOff}
 use Rattle.byte_devices.specs.declared.traits.WriteFault.{WriteFault}
-use Rattle.pgn_verifier.specs.declared.game_fault.GameFault.{GameFault}
-use Rattle.pgn_verifier.specs.declared.report.Report.TheVariants.{Game, Faulty}
 use Rattle.pgn_verifier.specs.declared.tally.Tally.{Tally}
-use Rattle.pgn_verifier.specs.Reports.{written_line, reports_on}
+use Rattle.pgn_verifier.specs.Explanations.{explained, explanation_line}
+use Rattle.pgn_verifier.specs.Reports.{Game, game_line, fault_line, reports_on}
 use Rattle.pgn_verifier.specs.ties.OnTheWay.{Writes, moved}
 use Rattle.pgn_verifier.proofs.TextVerified.{SoFar, begun, all_written, game_written, game_broke, fault_written, fault_broke}
 use Rattle.pgn_verifier.proofs.games.verify_text.Goals as goal
@@ -14,79 +14,101 @@ use Rattle.pgn_verifier.proofs.games.verify_text.Goals as goal
 pub loop-end-init : goal.loop-end-init
 loop-end-init g c = (
   c.requires.limit,
-  ([], begun c.args.options c.args.start c.args.text.now c.args.before (g.W.Output.seen c.args.output.now)),
+  ([], begun c.args.options c.args.start.offset c.args.text.now c.args.before (g.W.Output.seen c.args.output.now)),
 )
 
 pub returns-in-Ok-None-clause-written : goal.returns-in-Ok-None-clause-written
-returns-in-Ok-None-clause-written g c =
+returns-in-Ok-None-clause-written g c input stands =
     let judged = sym (rw c.in-Ok-None.field-0-is at c.in-Ok-None.ensures.judged) in
-    all_written c.args.options c.args.start c.args.text.now c.args.before (g.W.Output.seen c.args.output.now)
+    all_written c.args.options c.args.start.offset c.args.text.now c.args.before (g.W.Output.seen c.args.output.now)
     (g.W.Output.seen c.loop-end.output) (g.W.Output.seen c.loop-end.output) c.loop-end.at c.loop-end.tally
-    c.loop-end.invariant.1.0 c.loop-end.invariant.1.1 WriteFault judged
+    c.loop-end.invariant.1.0 c.loop-end.invariant.1.1 WriteFault input judged
 
-pub returns-in-Err-write_line-clause-written : goal.returns-in-Err-write_line-clause-written
-returns-in-Err-write_line-clause-written g c =
+pub returns-in-Err-write_game-clause-written : goal.returns-in-Err-write_game-clause-written
+returns-in-Err-write_game-clause-written g c input stands =
     let end = c.in-Ok-Some.end in
+    let s = c.judge_game.new.game.state in
+    let w' = g.W.Output.seen c.loop-end.output in
+    let w'' = g.W.Output.seen c.write_game.new.output in
     let judged = sym (rw c.in-Ok-Some.field-0-is at c.in-Ok-Some.ensures.judged) in
-    let count = c.ply-plies.ensures ∙ c.in-Ok-Some.ensures.moves in
-    game_broke c.args.options c.args.start c.args.text.now c.args.before (g.W.Output.seen c.args.output.now)
-    (g.W.Output.seen c.loop-end.output) (g.W.Output.seen c.write_line.new.output) c.loop-end.at c.loop-end.tally
-    c.loop-end.invariant.1.0 c.loop-end.invariant.1.1 c.in-Err-write_line.fault end c.ply-plies.result judged count
-    (subst (λ n. BreaksOff (g.W.Output.seen c.loop-end.output) (g.W.Output.seen c.write_line.new.output)
-    (written_line c.args.options.quiet n (Game c.ply-plies.result end.outcome end.termination)))
-    c.next_number-number.ensures c.in-Err-write_line.ensures)
+    game_broke c.args.options c.args.start.offset c.args.text.now c.args.before (g.W.Output.seen c.args.output.now) w' w''
+    c.loop-end.at c.loop-end.tally c.loop-end.invariant.1.0 c.loop-end.invariant.1.1 c.in-Err-write_game.fault input end s
+    judged c.in-Ok-Some.ensures.game
+    (subst (λ n. BreaksOff w' w'' (if c.args.options.quiet then [] else game_line n (length s.moves) end.outcome end.termination))
+    c.next_number-number.ensures
+    (subst (λ k. BreaksOff w' w'' (if c.args.options.quiet then [] else
+    game_line c.next_number-number.result k end.outcome end.termination)) c.ply-plies.ensures c.in-Err-write_game.ensures))
 
 pub loop-end-preserved : goal.loop-end-preserved
 loop-end-preserved g c =
     let end = c.in-Ok-Some.end in
-    let plies = c.ply-plies.result in
+    let s = c.judge_game.new.game.state in
+    let w = g.W.Output.seen c.args.output.now in
+    let w' = g.W.Output.seen c.loop-end.output in
+    let w'' = g.W.Output.seen c.write_game.new.output in
+    let plies = c.ply-plies.ensures in
     let judged = sym (rw c.in-Ok-Some.field-0-is at c.in-Ok-Some.ensures.judged) in
-    let counted = c.ply-plies.ensures in
-    let count = counted ∙ c.in-Ok-Some.ensures.moves in
     let further = rw c.in-Ok-Some.field-0-is at c.in-Ok-Some.ensures.further in
     let within = rw c.in-Ok-Some.field-0-is at c.in-Ok-Some.ensures.within in
     let few = rw c.in-Ok-Some.field-0-is at c.in-Ok-Some.ensures.few in
-    let moves : plies + c.loop-end.at ≤ end.offset = omega (arith, few, counted) in
-    let done = c.loop-end.invariant.1.0 ++ Game plies end.outcome end.termination ∷ [] in (
+    let done = c.loop-end.invariant.1.0 ++ Game (length s.moves) end.outcome end.termination ∷ [] in
+    let counts : c.with_game-tally.result ≡ record {
+      games = c.loop-end.tally.games + 1;
+      half_moves = c.loop-end.tally.half_moves + length s.moves;
+      faults = c.loop-end.tally.faults;
+    } = c.with_game-tally.ensures ∙ ap (λ k. record {
+      games = c.loop-end.tally.games + 1;
+      half_moves = c.loop-end.tally.half_moves + k;
+      faults = c.loop-end.tally.faults;
+    }) plies in (
       c.in-Ok-Some.ensures.limit,
       (
         done,
-        subst (λ (t : Tally). SoFar c.args.options c.args.start c.args.text.now c.args.before
-            (g.W.Output.seen c.args.output.now) (g.W.Output.seen c.write_line.new.output) end.offset t done)
-            (sym c.with_game-tally.ensures)
-            (game_written c.args.options c.args.start c.args.text.now c.args.before (g.W.Output.seen c.args.output.now)
-            (g.W.Output.seen c.loop-end.output) (g.W.Output.seen c.write_line.new.output) c.loop-end.at c.loop-end.tally
-            c.loop-end.invariant.1.0 c.loop-end.invariant.1.1 end plies judged count moves further within
-            (subst (λ n. Took (g.W.Output.seen c.loop-end.output) (g.W.Output.seen c.write_line.new.output)
-            (written_line c.args.options.quiet n (Game plies end.outcome end.termination))) c.next_number-number.ensures
-            c.in-Ok.ensures)),
+        subst (λ (t : Tally). SoFar c.args.options c.args.start.offset c.args.text.now c.args.before w w'' end.offset t done)
+            (sym counts)
+            (game_written c.args.options c.args.start.offset c.args.text.now c.args.before w w' w'' c.loop-end.at
+            c.loop-end.tally c.loop-end.invariant.1.0 c.loop-end.invariant.1.1 end s judged c.in-Ok-Some.ensures.game few
+            further within
+            (subst (λ n. Took w' w''
+            (if c.args.options.quiet then [] else game_line n (length s.moves) end.outcome end.termination))
+            c.next_number-number.ensures
+            (subst (λ k. Took w' w'' (if c.args.options.quiet then [] else
+            game_line c.next_number-number.result k end.outcome end.termination)) plies c.in-Ok.ensures))),
       ),
     )
 
-pub returns-in-Ok-write_line-clause-written : goal.returns-in-Ok-write_line-clause-written
-returns-in-Ok-write_line-clause-written g c =
+pub returns-in-Ok-put-clause-written : goal.returns-in-Ok-put-clause-written
+returns-in-Ok-put-clause-written g c input stands =
     let w = g.W.Output.seen c.args.output.now in
     let w' = g.W.Output.seen c.loop-end.output in
-    let w'' = g.W.Output.seen c.write_line-in-Err.new.output in
-    subst (λ (t : Tally). Writes {E = WriteFault} c.args.options.quiet c.args.before w w'' (Ok t)
-    (reports_on c.args.options.strict c.args.start c.args.text.now)) (sym c.with_fault.ensures)
-    (fault_written c.args.options c.args.start c.args.text.now c.args.before w w' w'' c.loop-end.at c.loop-end.tally
-    c.loop-end.invariant.1.0 c.loop-end.invariant.1.1 WriteFault c.in-Err.fault (sym c.in-Err.ensures.judged)
-    (subst (λ n. Took w' w'' (written_line c.args.options.quiet n (Faulty (moved c.args.start c.in-Err.fault))))
-    c.next_number-number.ensures
-    (subst (λ (f : GameFault). Took w' w'' (written_line c.args.options.quiet c.next_number-number.result (Faulty f)))
-    c.moved.ensures c.in-Ok-write_line.ensures)))
+    let w'' = g.W.Output.seen c.put.new.writer in
+    let start = c.args.start.offset in
+    let text = c.args.text.now in
+    let fault = c.in-Err.fault in
+    let s = c.judge_game.new.game.state in
+    let more = if c.args.options.explain then explanation_line input (start + fault.offset)
+    (explained s (drop fault.offset text) fault.kind) else [] in
+    let lines = c.as_slice.ensures.value ∙ c.fault_lines-lines.ensures input stands
+    ∙ ap (λ n. fault_line n (moved start fault) ++ more) c.next_number-number.ensures in
+    subst (λ (t : Tally). Writes {E = WriteFault} c.args.options input c.args.before w w'' (Ok t)
+    (reports_on c.args.options.strict start text)) (sym c.with_fault.ensures)
+    (fault_written c.args.options start text c.args.before w w' w'' c.loop-end.at c.loop-end.tally
+    c.loop-end.invariant.1.0 c.loop-end.invariant.1.1 WriteFault input fault s (sym c.in-Err.ensures.judged)
+    c.in-Err.ensures.game (subst (Took w' w'') lines c.in-Ok-put.ensures))
 
-pub returns-in-Err-write_line-2-clause-written : goal.returns-in-Err-write_line-2-clause-written
-returns-in-Err-write_line-2-clause-written g c =
+pub returns-in-Err-put-clause-written : goal.returns-in-Err-put-clause-written
+returns-in-Err-put-clause-written g c input stands =
     let w = g.W.Output.seen c.args.output.now in
     let w' = g.W.Output.seen c.loop-end.output in
-    let w'' = g.W.Output.seen c.write_line-in-Err.new.output in
-    fault_broke c.args.options c.args.start c.args.text.now c.args.before w w' w'' c.loop-end.at c.loop-end.tally
-    c.loop-end.invariant.1.0 c.loop-end.invariant.1.1 c.in-Err-write_line-2.fault c.in-Err.fault
-    (sym c.in-Err.ensures.judged)
-    (subst (λ n. BreaksOff w' w'' (written_line c.args.options.quiet n (Faulty (moved c.args.start c.in-Err.fault))))
-    c.next_number-number.ensures
-    (subst (λ (f : GameFault). BreaksOff w' w''
-    (written_line c.args.options.quiet c.next_number-number.result (Faulty f))) c.moved.ensures
-    c.in-Err-write_line-2.ensures))
+    let w'' = g.W.Output.seen c.put.new.writer in
+    let start = c.args.start.offset in
+    let text = c.args.text.now in
+    let fault = c.in-Err.fault in
+    let s = c.judge_game.new.game.state in
+    let more = if c.args.options.explain then explanation_line input (start + fault.offset)
+    (explained s (drop fault.offset text) fault.kind) else [] in
+    let lines = c.as_slice.ensures.value ∙ c.fault_lines-lines.ensures input stands
+    ∙ ap (λ n. fault_line n (moved start fault) ++ more) c.next_number-number.ensures in
+    fault_broke c.args.options start text c.args.before w w' w'' c.loop-end.at c.loop-end.tally
+    c.loop-end.invariant.1.0 c.loop-end.invariant.1.1 c.in-Err-put.fault input fault s (sym c.in-Err.ensures.judged)
+    c.in-Err.ensures.game (subst (BreaksOff w' w'') lines c.in-Err-put.ensures)

@@ -1,18 +1,23 @@
--- The piece is too long, so that only its length matters (Longs.let_gone).
-use Rattle.std.proofs.Common.{◌<◌, ◌+◌, sym, ap, ◌∙◌, arith}
-use Rattle.pgn_pieces.specs.Stream.{State, pieces_held}
-use Rattle.pgn_pieces.proofs.Longs.{let_gone}
+-- The piece is too long, so that only its counts matter (Views.let_gone).
+use Rattle.std.proofs.Common.{◌≡◌, ◌<◌, ◌+◌, ◌==◌, length, sym, ap, subst, ◌∙◌, arith}
+use Rattle.std.proofs.lemmas.Bool.Decides.{nat_tests}
+use Rattle.pgn_pieces.specs.Stream.{State}
+use Rattle.pgn_pieces.specs.ties.Held.{LetGo}
+use Rattle.pgn_pieces.proofs.Views.{viewed, let_gone}
 use Rattle.pgn_pieces.proofs.pieces.PgnPieces.let_go.Goals as goal
-use Rattle.pgn_pieces.proofs.pieces.PgnPieces.let_go.Goals.{then-self-gt0-via-then-self-gt0, then-self-gt0-via-else-self-gt0+then-self-gt-PIECE_LEN}
+use Rattle.pgn_pieces.proofs.pieces.PgnPieces.let_go.Goals.{then-not-is_empty-via-then-not-is_empty, then-not-is_empty-via-else-not-is_empty+then-self-gt-PIECE_LEN}
 
-pub returns-then-self-gt0-clause-same : goal.returns-then-self-gt0-clause-same
-returns-then-self-gt0-clause-same c ended rest =
+pub returns-then-not-is_empty : goal.returns-then-not-is_empty
+returns-then-not-is_empty c =
     let s = c.self.inside in
-    let within = c.self.invariant.3 in
     let long = c.self.invariant.4 in
-    let many : 16777216 < s.gone + s.len = elim c.then-self-gt0.branch [
-      | then-self-gt0-via-then-self-gt0 w ↦ omega (arith, long)
-      | then-self-gt0-via-else-self-gt0+then-self-gt-PIECE_LEN w ↦ omega arith
+    let test = c.is_empty.ensures in
+    let many : 16777216 < length s.gone + s.len = elim c.then-not-is_empty.branch [
+      | then-not-is_empty-via-then-not-is_empty w ↦ (let not = w.if-not-is_empty.true in
+          let some : 0 < length s.gone = grind (arith, nat_tests, test, not) in
+          let l = long some in omega (arith, l))
+      | then-not-is_empty-via-else-not-is_empty+then-self-gt-PIECE_LEN w ↦ (let l = w.if-self-gt-PIECE_LEN.true in omega (arith, l))
     ] in
-    ap (λ (t : State). pieces_held ended t rest) (sym c.self.view_is)
-    ∙ let_gone s.held.items s.at s.len s.gone s.offset s.ended ended rest within many
+    subst (λ (t : State). LetGo t (viewed s.held.items (s.at + s.len) 0 c.add.new.self s.offset s.ended)) c.self.view_is
+    (let_gone s.held.items c.deref.result.now s.at s.len s.gone c.add.new.self s.offset s.ended c.deref.ensures.value
+    c.self.invariant.3 many c.add.ensures)

@@ -1,0 +1,6 @@
+-- The law itself is InPlace.in_place.
+use Rattle.pgn_pieces.proofs.InPlace.{in_place}
+use Rattle.pgn_pieces.proofs.laws.pieces_are_in_place.Goals as goal
+
+pub returns : goal.returns
+returns c = in_place

@@ -1,0 +1,28 @@
+-- The first bytes are those that are held, or those that were kept of what was let go.
+use Rattle.std.proofs.Common.{◌≡◌, ◌≤◌, ◌<◌, ◌+◌, ◌-◌, ◌==◌, ◌++◌, [], true, false, length, take, drop, sym, ap, ◌∙◌, arith}
+use Rattle.std.proofs.lemmas.Bool.Decides.{nat_tests}
+use Rattle.std.proofs.lemmas.List.{take-append-le}
+use Rattle.pgn_pieces.specs.Stream.{State}
+use Rattle.pgn_pieces.proofs.Kept.{no_bytes, first_held}
+use Rattle.pgn_pieces.proofs.pieces.PgnPieces.beginning.Goals as goal
+
+pub returns-then-is_empty : goal.returns-then-is_empty
+returns-then-is_empty c =
+    let s = c.self.inside in
+    let test = c.is_empty.ensures in
+    let is = c.if-is_empty.true in
+    let none : s.gone ≡ [] = no_bytes s.gone (grind (arith, nat_tests, test, is)) in
+    first_held s.held.items c.deref.result.now s.at s.len c.min-len.result c.deref.ensures.value c.min-len.ensures
+    ∙ ap (λ xs. take 40 (xs ++ take s.len (drop s.at s.held.items))) (sym none)
+    ∙ ap (λ (t : State). take 40 t.part) c.self.view_is
+
+pub returns : goal.returns
+returns c =
+    let s = c.self.inside in
+    let test = c.is_empty.ensures in
+    let not = c.if-is_empty.false in
+    let long = c.self.invariant.4 in
+    let some : 0 < length s.gone = grind (arith, nat_tests, test, not) in
+    let many = long some in
+    c.beginning.ensures ∙ sym (take-append-le 40 s.gone (take s.len (drop s.at s.held.items)) (omega (arith, many)))
+    ∙ ap (λ (t : State). take 40 t.part) c.self.view_is

@@ -1,0 +1,23 @@
+-- Where a byte of a text is: its line and its column, both counted from 1 as editors count them.
+use Rattle.std.specs.Prelude.{ℕ, ◌+◌, ◌==◌, Bool, not, List, take}
+use Rattle.std.specs.List.{count_by, suffix_len}
+
+-- whether a byte ends a line: it is `\n`
+abbrev pub ends_line : ℕ → Bool
+ends_line c = c == 10
+
+-- how many lines end in a text
+abbrev pub line_ends : List ℕ → ℕ
+line_ends text = count_by ends_line text
+
+-- how many bytes a text has after its last line end; all of them, if no line ends in it
+abbrev pub last_line_len : List ℕ → ℕ
+last_line_len text = suffix_len (λ c. not (ends_line c)) text
+
+-- the line of the byte at this offset of a text: one more than the number of line ends before it
+abbrev pub line_of : List ℕ → ℕ → ℕ
+line_of text offset = line_ends (take offset text) + 1
+
+-- its column: one more than the number of bytes between it and the last line end before it, or the text's beginning
+abbrev pub column_of : List ℕ → ℕ → ℕ
+column_of text offset = last_line_len (take offset text) + 1

@@ -1,0 +1,18 @@
+-- The parts were put one after the other, and the definition groups them to the right.
+use Rattle.std.proofs.Common.{append_assoc}
+use Rattle.pgn_verifier.specs.Explanations.{explanation_at}
+use Rattle.pgn_verifier.proofs.explanation.append_explanation.Goals as goal
+
+pub returns : goal.returns
+unfolding explanation_at
+returns g c =
+    rw (
+      c.push.ensures.items,
+      c.append_reason.ensures.text,
+      c.verdict.ensures,
+      c.append_position.ensures.text,
+      c.append.ensures.text,
+      c.as_slice.ensures.value,
+      c.shown.ensures,
+      c.append_place.ensures.text,
+    ) (simp append_assoc)

@@ -1,0 +1,19 @@
+-- The parts were put one after the other, and the definition groups them to the right.
+use Rattle.std.proofs.Common.{append_assoc}
+use Rattle.chess_game.specs.Results.{result_text}
+use Rattle.pgn_verifier.proofs.explanation.append_verdict.Goals as goal
+
+pub returns-in-Some-clause-text : goal.returns-in-Some-clause-text
+unfolding result_text
+returns-in-Some-clause-text c =
+    rw (
+      c.in-Some.is,
+      c.append-in-Some-4.ensures.text,
+      c.append-in-Some-3.ensures.text,
+      c.comment.ensures.value,
+      c.append-in-Some-2.ensures.text,
+      c.append-in-Some.ensures.text,
+      c.text.ensures.value,
+      c.outcome.ensures,
+      c.append.ensures.text,
+    ) (simp append_assoc)

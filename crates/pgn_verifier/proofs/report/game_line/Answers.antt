@@ -1,0 +1,20 @@
+-- The parts were put one after the other, and the definition groups them to the right.
+use Rattle.std.proofs.Common.{append_assoc}
+use Rattle.pgn_verifier.specs.Reports.{game_line}
+use Rattle.pgn_verifier.proofs.report.game_line.Goals as goal
+
+pub returns : goal.returns
+unfolding game_line
+returns c =
+    rw (
+      c.push.ensures.items,
+      c.append_termination.ensures.text,
+      c.append-4.ensures.text,
+      c.text.ensures.value,
+      c.append-3.ensures.text,
+      c.append_number-2.ensures.text,
+      c.append-2.ensures.text,
+      c.append_number.ensures.text,
+      c.append.ensures.text,
+      c.new-line.ensures,
+    ) (simp append_assoc)

@@ -1,0 +1,102 @@
+-- What explains a fault: where it is, what stands there, the position and the reason.
+use Rattle.std.specs.Prelude.{ℕ, ◌==◌, nat_le, ◌&&◌, Bool, true, false, not, if◌then◌else◌, List, [], ◌∷◌, ◌++◌, length, take, take_while, map, codes, decimal, Option, Some, None}
+use Rattle.std.specs.Option.{option_map, option_map_or}
+use Rattle.chess_base.specs.Faults.{fen_fault_name}
+use Rattle.chess_base.specs.Letters.{byte, new_line}
+use Rattle.chess_base.specs.declared.setup.Setup.{Setup}
+use Rattle.chess_fen.specs.Writing.{fen}
+use Rattle.chess_game.specs.Ends.{verdict_outcome, verdict_comment}
+use Rattle.chess_game.specs.Game.{State, current, verdict_now}
+use Rattle.chess_game.specs.Results.{outcome_text, result_text}
+use Rattle.chess_game.specs.declared.ends.Verdict.{Verdict}
+use Rattle.chess_pgn.specs.Tokens.{is_white_space}
+use Rattle.chess_pgn.specs.declared.read.PgnFaultKind.{PgnFaultKind}
+use Rattle.chess_pgn.specs.declared.read.PgnFaultKind.TheVariants.{BadTag, BadFen, AfterEnd}
+use Rattle.pgn_pieces.specs.Places.{line_of, column_of}
+use Rattle.pgn_verifier.specs.declared.game_fault.FaultKind.{FaultKind}
+use Rattle.pgn_verifier.specs.declared.game_fault.FaultKind.TheVariants.{Pgn, ResultDiffers, BoardSaysOtherwise}
+
+-- ---- the text at a fault
+
+-- a byte as an explanation shows it: a question mark in place of one that is no visible character (33 to 126)
+abbrev pub shown_byte : ℕ → ℕ
+shown_byte c = if nat_le 33 c && nat_le c 126 then c else byte "?"
+
+-- the first word of a text: its bytes before the first white space, at most 40
+abbrev pub first_word : List ℕ → List ℕ
+first_word text = take_while (λ c. not (is_white_space c)) (take 40 text)
+
+-- a word as an explanation shows it; `(end)` in place of an empty one
+abbrev pub shown_word : List ℕ → List ℕ
+shown_word word = if length word == 0 then codes "(end)" else map shown_byte word
+
+-- what an explanation shows of a text: its first word
+abbrev pub shown : List ℕ → List ℕ
+shown text = shown_word (first_word text)
+
+-- ---- the reason
+
+-- the board's verdict as a session writes it, such as `0-1 {Black mates}`; none without one
+abbrev pub verdict_reason : Option Verdict → Option (List ℕ)
+verdict_reason verdict = option_map (λ v. result_text (verdict_outcome v) (verdict_comment v)) verdict
+
+-- the reason for a fault of reading a game's text, if there is one to give: what is wrong with a FEN, or the verdict
+-- that ended the game before the move
+abbrev pub pgn_reason : PgnFaultKind → Option Verdict → Option (List ℕ)
+pgn_reason (BadFen fault) verdict = Some (fen_fault_name fault)
+pgn_reason AfterEnd verdict = verdict_reason verdict
+pgn_reason _ verdict = None
+
+-- the reason for a fault, if there is one to give: as above; or the text of the tag Result and the outcome that ends
+-- the game's text; or the verdict that the outcome contradicts. `text` is what stands from the fault's byte on, and
+-- `verdict` is the board's where reading stopped
+abbrev pub reason : FaultKind → List ℕ → Option Verdict → Option (List ℕ)
+reason (Pgn kind) text verdict = pgn_reason kind verdict
+reason (ResultDiffers tag_len outcome) text verdict =
+    Some (codes "Result " ++ (shown (take tag_len text) ++ (codes ", ended " ++ outcome_text outcome)))
+reason BoardSaysOtherwise text verdict = verdict_reason verdict
+
+-- ---- the explanation
+
+-- whether a position is known at a fault: not if a tag or a FEN could not be read
+abbrev pub has_position : FaultKind → Bool
+has_position (Pgn BadTag) = false
+has_position (Pgn (BadFen fault)) = false
+has_position _ = true
+
+-- what explains a fault: the text there as it is shown, the position in which reading stopped, and the reason
+pub record Explanation : Type 0 where
+  pub text : List ℕ
+  pub position : Option Setup
+  pub reason : Option (List ℕ)
+
+-- what explains a fault of this kind in the game `s`, where `text` is what stands from the fault's byte on
+abbrev pub explained : State → List ℕ → FaultKind → Explanation
+explained s text kind = record {
+  text = shown text;
+  position = if has_position kind then Some (current s) else None;
+  reason = reason kind text (verdict_now s);
+}
+
+-- what explains that a piece which begins with these bytes is too long
+abbrev pub too_long_explained : List ℕ → Explanation
+too_long_explained beginning = record { text = shown beginning; position = None; reason = None }
+
+-- ---- its line
+
+-- a part of the line that is not always there: ` | ` and its text
+abbrev pub part : Option (List ℕ) → List ℕ
+part text = option_map_or (λ t. codes " | " ++ t) text []
+
+-- the line without its place: the text there, the FEN of the position, and the reason
+abbrev pub explanation_text : Explanation → List ℕ
+explanation_text e = e.text ++ (part (option_map fen e.position) ++ (part e.reason ++ new_line ∷ []))
+
+-- the line that explains a fault on this line and in this column, such as `# line 2 column 4 Ke3 | ` and a FEN
+unfoldable pub explanation_at : ℕ → ℕ → Explanation → List ℕ
+explanation_at line column e = codes "# line " ++ (decimal line ++ (codes " column " ++ (decimal column
+    ++ (codes " " ++ explanation_text e))))
+
+-- the line that explains a fault at this offset of the input
+abbrev pub explanation_line : List ℕ → ℕ → Explanation → List ℕ
+explanation_line input offset e = explanation_at (line_of input offset) (column_of input offset) e

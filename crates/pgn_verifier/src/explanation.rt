@@ -1,0 +1,249 @@
+//! The lines on a fault: its own, and the one that explains it.
+
+ghost use Rattle.std.specs.Prelude.{◌≡◌, ◌≤◌, ◌<◌, ◌+◌, ◌^◌, ◌++◌, ◌∷◌, [], true, if◌then◌else◌, List, ℕ, length, take, drop, decimal, codes, Some, None};
+ghost use Rattle.std.specs.List.{count_by};
+ghost use Rattle.std.specs.Option.{option_map};
+ghost use Rattle.arrayvec.specs.ArrayVec.{array_vec_len};
+ghost use Rattle.chess_base.specs.Letters.{new_line};
+ghost use Rattle.chess_fen.specs.Writing.{fen};
+ghost use Rattle.chess_game.specs.Game.{current, verdict_now};
+ghost use Rattle.chess_pgn.specs.declared.read.PgnFaultKind.TheVariants.{TooLong};
+ghost use Rattle.pgn_pieces.specs.Places.{line_ends, last_line_len, line_of, column_of};
+ghost use Rattle.pgn_verifier.specs.Explanations.{has_position, verdict_reason, pgn_reason, reason, part, explained, explanation_text, explanation_at, explanation_line, too_long_explained, shown};
+ghost use Rattle.chess_game.specs.Results.{outcome_text};
+ghost use Rattle.pgn_verifier.specs.Reports.{fault_line};
+ghost use Rattle.pgn_verifier.specs.declared.game_fault.FaultKind.TheVariants.{Pgn};
+ghost use Rattle.pgn_verifier.specs.ties.OnTheWay.{StandsIf, moved};
+ghost use Rattle.pgn_verifier.specs.declared.explanation.TheConstants.{FAULT_LINES_LEN};
+
+use crate::game_fault::{FaultKind, GameFault, fault_name};
+use crate::shown::shown;
+use crate::start::TextStart;
+use arrayvec::ArrayVec;
+use byte_devices::{append, append_number};
+use chess_fen::write_fen;
+use chess_game::{Game, Outcome, Verdict};
+use chess_moves::Board;
+use chess_pgn::PgnFaultKind;
+
+// The most bytes of the lines on a fault: of its own 100, and of the one that explains it 300.
+const FAULT_LINES_LEN: usize = 400;
+
+/// The lines on a fault.
+pub(crate) type FaultLines = ArrayVec<u8, FAULT_LINES_LEN>;
+
+// The line of a fault, such as `game 2: illegal move at byte 39`; `number` is the game's number.
+#[tactic(auto, unfolding(crate::specs::Reports::fault_line))]
+fn fault_line(number: usize, fault: GameFault) -> FaultLines
+    ensures text { result.items ≡ fault_line number fault }
+    ensures len { array_vec_len result ≤ 100 }
+{
+    let mut lines = FaultLines::new();
+    append(&mut lines, b"game ");
+    append_number(&mut lines, number as u64);
+    append(&mut lines, b": ");
+    append(&mut lines, fault_name(fault.kind));
+    append(&mut lines, b" at byte ");
+    append_number(&mut lines, fault.offset as u64);
+    lines.push(b'\n');
+    lines
+}
+
+// How many lines end in a text.
+fn line_ends(text: &[u8]) -> usize
+    ensures value { result ≡ line_ends text.now }
+    ensures within { result ≤ length text.now }
+{
+    text.iter().filter(|byte| **byte == b'\n').count()
+}
+
+// How many bytes a text has after its last line end.
+fn last_line_len(text: &[u8]) -> usize
+    ensures value { result ≡ last_line_len text.now }
+    ensures within { result ≤ length text.now }
+{
+    text.iter()
+        .rev()
+        .take_while(|byte| **byte != b'\n')
+        .count()
+}
+
+// Appends ` | ` and the board's verdict, such as `0-1 {Black mates}`; nothing without one.
+fn append_verdict(lines: &mut FaultLines, verdict: Option<Verdict>)
+    requires { array_vec_len lines.old + 80 ≤ FAULT_LINES_LEN }
+    ensures text { lines.new.items ≡ lines.old.items ++ part (verdict_reason verdict) }
+    ensures len { array_vec_len lines.new ≤ array_vec_len lines.old + 80 }
+{
+    if let Some(verdict) = verdict {
+        append(lines, b" | ");
+        append(lines, verdict.outcome().text());
+        append(lines, b" {");
+        append(lines, verdict.comment());
+        append(lines, b"}");
+    }
+}
+
+// Appends ` | ` and the reason for a fault of reading a game's text; nothing if there is none.
+fn append_pgn_reason(lines: &mut FaultLines, kind: PgnFaultKind, verdict: Option<Verdict>)
+    requires { array_vec_len lines.old + 80 ≤ FAULT_LINES_LEN }
+    ensures text { lines.new.items ≡ lines.old.items ++ part (pgn_reason kind verdict) }
+    ensures len { array_vec_len lines.new ≤ array_vec_len lines.old + 80 }
+{
+    match kind {
+        PgnFaultKind::BadFen(fault) => {
+            append(lines, b" | ");
+            append(lines, fault.name().as_bytes());
+        }
+        PgnFaultKind::AfterEnd => append_verdict(lines, verdict),
+        _ => {}
+    }
+}
+
+// Appends ` | Result TEXT, ended OUTCOME`: the text of the tag `Result` and the outcome that ends the game's text.
+fn append_results(lines: &mut FaultLines, tag: &[u8], outcome: Outcome)
+    requires { array_vec_len lines.old + 80 ≤ FAULT_LINES_LEN }
+    ensures text { lines.new.items ≡ lines.old.items ++ (codes " | " ++ (codes "Result " ++ (shown tag.now
+        ++ (codes ", ended " ++ outcome_text outcome)))) }
+    ensures len { array_vec_len lines.new ≤ array_vec_len lines.old + 80 }
+{
+    append(lines, b" | ");
+    append(lines, b"Result ");
+    append(lines, shown(tag).as_slice());
+    append(lines, b", ended ");
+    append(lines, outcome.text());
+}
+
+// Appends ` | ` and the reason for a fault; nothing if there is none. `text` is what stands from its byte on.
+fn append_reason(lines: &mut FaultLines, kind: FaultKind, text: &[u8], verdict: Option<Verdict>)
+    requires { array_vec_len lines.old + 80 ≤ FAULT_LINES_LEN }
+    ensures text { lines.new.items ≡ lines.old.items ++ part (reason kind text.now verdict) }
+    ensures len { array_vec_len lines.new ≤ array_vec_len lines.old + 80 }
+{
+    match kind {
+        FaultKind::Pgn(kind) => append_pgn_reason(lines, kind, verdict),
+        FaultKind::ResultDiffers { tag_len, outcome } => {
+            append_results(lines, &text[..tag_len.min(text.len())], outcome)
+        }
+        FaultKind::BoardSaysOtherwise => append_verdict(lines, verdict),
+    }
+}
+
+// Whether a position is known at a fault: not if a tag or a FEN could not be read.
+fn has_position(kind: FaultKind) -> bool
+    ensures { result ≡ has_position kind }
+{
+    !matches!(
+        kind,
+        FaultKind::Pgn(PgnFaultKind::BadTag) | FaultKind::Pgn(PgnFaultKind::BadFen(_))
+    )
+}
+
+// Appends ` | ` and the FEN of the position in which reading stopped; nothing if none is known.
+fn append_position<B: Board>(lines: &mut FaultLines, kind: FaultKind, game: &Game<B>)
+    requires { array_vec_len lines.old + 98 ≤ FAULT_LINES_LEN }
+    ensures text { lines.new.items ≡ lines.old.items
+        ++ part (option_map fen (if has_position kind then Some (current game.now.state) else None)) }
+    ensures len { array_vec_len lines.new ≤ array_vec_len lines.old + 98 }
+{
+    if has_position(kind) {
+        append(lines, b" | ");
+        append(lines, write_fen(&game.position()).as_slice());
+    }
+}
+
+// Appends `# line 2 column 4 `.
+fn append_place(lines: &mut FaultLines, line: usize, column: usize)
+    requires { array_vec_len lines.old + 60 ≤ FAULT_LINES_LEN }
+    ensures text { lines.new.items ≡ lines.old.items
+        ++ (codes "# line " ++ (decimal line ++ (codes " column " ++ (decimal column ++ codes " ")))) }
+    ensures len { array_vec_len lines.new ≤ array_vec_len lines.old + 60 }
+{
+    append(lines, b"# line ");
+    append_number(lines, line as u64);
+    append(lines, b" column ");
+    append_number(lines, column as u64);
+    append(lines, b" ");
+}
+
+// Appends the line that explains a fault of the game, on this line and in this column; `text` is what stands from its
+// byte on.
+fn append_explanation<B: Board>(
+    lines: &mut FaultLines,
+    line: usize,
+    column: usize,
+    text: &[u8],
+    kind: FaultKind,
+    game: &Game<B>,
+)
+    requires { array_vec_len lines.old ≤ 100 }
+    ensures { lines.new.items
+        ≡ lines.old.items ++ explanation_at line column (explained game.now.state text.now kind) }
+{
+    append_place(lines, line, column);
+    append(lines, shown(text).as_slice());
+    append_position(lines, kind, game);
+    append_reason(lines, kind, text, game.verdict());
+    lines.push(b'\n');
+}
+
+/// The lines on a fault of the game: its own, and with `explain` the one that explains it. The fault is in a text that
+/// begins at `start`; `number` is the game's number.
+pub(crate) fn fault_lines<B: Board>(
+    explain: bool,
+    number: usize,
+    start: TextStart,
+    text: &[u8],
+    fault: GameFault,
+    game: &Game<B>,
+) -> FaultLines
+    requires within { fault.offset ≤ length text.now }
+    requires few { start.offset + length text.now ≤ 2 ^ 63 }
+    requires few_lines { start.line + length text.now < 2 ^ 64 }
+    ensures { (input : List ℕ) → StandsIf explain start input text.now
+        → result.items ≡ fault_line number (moved start.offset fault)
+        ++ (if explain then explanation_line input (start.offset + fault.offset)
+        (explained game.now.state (drop fault.offset text.now) fault.kind) else []) }
+{
+    let mut lines = fault_line(number, fault.moved(start.offset));
+    if explain {
+        let before = &text[..fault.offset];
+        let line = start.line + line_ends(before);
+        let column = last_line_len(before) + 1;
+        append_explanation(
+            &mut lines,
+            line,
+            column,
+            &text[fault.offset..],
+            fault.kind,
+            game,
+        );
+    }
+    lines
+}
+
+/// The lines on a piece that is too long: the fault at its first byte, and with `explain` the line that explains it.
+/// `beginning` has the piece's first 40 bytes; `number` is the game's number.
+pub(crate) fn too_long_lines(
+    explain: bool,
+    number: usize,
+    start: TextStart,
+    beginning: &[u8],
+) -> FaultLines
+    ensures { (input : List ℕ) → StandsIf explain start input []
+        → result.items ≡ fault_line number (record { kind = Pgn TooLong; offset = start.offset })
+        ++ (if explain then explanation_line input start.offset (too_long_explained beginning.now) else []) }
+{
+    let mut lines = fault_line(
+        number,
+        GameFault {
+            kind: FaultKind::Pgn(PgnFaultKind::TooLong),
+            offset: start.offset,
+        },
+    );
+    if explain {
+        append_place(&mut lines, start.line, 1);
+        append(&mut lines, shown(beginning).as_slice());
+        lines.push(b'\n');
+    }
+    lines
+}
