@@ -233,22 +233,22 @@ fn verify_command<'a>(alloc: Global) -> Result<Command<'a>, AllocError>
     ensures local { IfOk result (λ c. (fields_of c).has_globals ≡ false) }
 {
     bare_verify_command(alloc)
-    .arg(flag(
-        alloc,
-        "keep-going",
-        "Continue after a fault with the next piece, and print totals at the end; for input of any size",
-    ))?
-    .arg(flag(alloc, "quiet", "Leave out games without a fault"))?
-    .arg(flag(
-        alloc,
-        "strict",
-        "Also check the result against the Result tag and the final position",
-    ))?
-    .arg(flag(
-        alloc,
-        "explain",
-        "After each fault print a line with its line, its column, the text there, the position and the reason",
-    ))
+        .arg(flag(
+            alloc,
+            "keep-going",
+            "Continue after a fault with the next piece, and print totals at the end; for input of any size",
+        ))?
+        .arg(flag(alloc, "quiet", "Leave out games without a fault"))?
+        .arg(flag(
+            alloc,
+            "strict",
+            "Also check the result against the Result tag and the final position",
+        ))?
+        .arg(flag(
+            alloc,
+            "explain",
+            "After each fault print a line with its line, its column, the text there, the position and the reason",
+        ))
 }
 
 // The subcommand `stub`, which takes any number of arguments.

@@ -28,24 +28,24 @@ pub rest_is : (k : ℕ) (text : List ℕ) → take (length text - k) (drop k tex
 rest_is k text = take_all (length text - k) (drop k text) (let l = length-drop k text in omega (arith, l))
 
 module _ (start : TextStart) (input text : List ℕ) (k : ℕ) (within : k ≤ length text) (stands : StandsAt start input text)
-    where
-  bytes_before : take (start.offset + k) input ≡ take start.offset input ++ take k text
-  bytes_before =
-      take-add start.offset k input
-      ∙ ap (λ xs. take start.offset input ++ xs)
-      (sym (take-take k (length text) (drop start.offset input) within) ∙ ap (take k) stands.bytes)
+  where
+    bytes_before : take (start.offset + k) input ≡ take start.offset input ++ take k text
+    bytes_before =
+        take-add start.offset k input
+        ∙ ap (λ xs. take start.offset input ++ xs)
+        (sym (take-take k (length text) (drop start.offset input) within) ∙ ap (take k) stands.bytes)
 
-  pub line_there : line_of input (start.offset + k) ≡ start.line + line_ends (take k text)
-  line_there =
-      let a = ap line_ends bytes_before in
-      let b = line_ends_after (take start.offset input) (take k text) in
-      let c = stands.line in omega (arith, a, b, c)
+    pub line_there : line_of input (start.offset + k) ≡ start.line + line_ends (take k text)
+    line_there =
+        let a = ap line_ends bytes_before in
+        let b = line_ends_after (take start.offset input) (take k text) in
+        let c = stands.line in omega (arith, a, b, c)
 
-  pub column_there : column_of input (start.offset + k) ≡ last_line_len (take k text) + 1
-  column_there =
-      let here = stands.column in
-      ap (λ xs. last_line_len xs + 1) bytes_before
-      ∙ ap (λ n. n + 1) (last_line_after (take start.offset input) (take k text) (omega (arith, here)))
+    pub column_there : column_of input (start.offset + k) ≡ last_line_len (take k text) + 1
+    column_there =
+        let here = stands.column in
+        ap (λ xs. last_line_len xs + 1) bytes_before
+        ∙ ap (λ n. n + 1) (last_line_after (take start.offset input) (take k text) (omega (arith, here)))
 
 -- ---- pieces
 

@@ -9,8 +9,8 @@ ghost use Rattle.pgn_verifier.specs.ties.OnTheWay.{WritesCollection, PieceStands
 ghost use Rattle.pgn_verifier.specs.ties.Faults.{piece_fault};
 ghost use Rattle.chess_game.specs.declared.game.TheConstants.{MOST_MOVES};
 
-use crate::fault::VerifyFault;
 use crate::explanation::too_long_lines;
+use crate::fault::VerifyFault;
 use crate::games::{open_game, verify_text};
 use crate::options::VerifyOptions;
 use crate::report::write_counts;

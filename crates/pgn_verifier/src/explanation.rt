@@ -62,10 +62,7 @@ fn last_line_len(text: &[u8]) -> usize
     ensures value { result ≡ last_line_len text.now }
     ensures within { result ≤ length text.now }
 {
-    text.iter()
-        .rev()
-        .take_while(|byte| **byte != b'\n')
-        .count()
+    text.iter().rev().take_while(|byte| **byte != b'\n').count()
 }
 
 // Appends ` | ` and the board's verdict, such as `0-1 {Black mates}`; nothing without one.

@@ -34,7 +34,9 @@ fn word_len(text: &[u8]) -> usize
     ensures value { result ≡ prefix_len (λ c. not (is_white_space c)) text.now }
     ensures within { result ≤ length text.now }
 {
-    text.iter().take_while(|byte| !is_white_space(**byte)).count()
+    text.iter()
+        .take_while(|byte| !is_white_space(**byte))
+        .count()
 }
 
 // The bytes of a text before its first white space, at most 40.
