@@ -1,8 +1,8 @@
-pub mod Cuts
-pub mod Finds
+pub mod CutLines
 pub mod Inputs
-pub mod Longs
+pub mod LineKinds
+pub mod Runs
+pub mod Seens
 pub mod Shards
 pub mod Steps
 pub mod Views
-pub mod Whole

@@ -1,116 +1,108 @@
 -- A call for the next piece: what was looked through, and what it comes to.
-use Rattle.std.proofs.Common.{◌≡◌, ◌≤◌, ◌<◌, ℕ, ◌+◌, ◌^◌, ◌==◌, nat_lt, Bool, true, false, List, [], ◌∷◌, ◌++◌, length, take, Ok, Err, refl, sym, ap, subst, ◌∙◌, append_assoc, append-nil, length-append, arith}
-use Rattle.std.specs.Prelude.{if◌then◌else◌, codes}
-use Rattle.std.specs.Str.{bytes_eq}
-use Rattle.std.proofs.lemmas.Bool.{and_parts}
+use Rattle.std.proofs.Common.{◌≡◌, ◌≤◌, ◌<◌, ℕ, suc, ◌+◌, ◌-◌, ◌^◌, ◌==◌, nat_lt, Bool, true, false, List, [], ◌∷◌, ◌++◌, length, take, drop, Some, None, Ok, Err, refl, sym, ap, subst, ◌∙◌, append_assoc, append-nil, length-append, arith}
+use Rattle.std.specs.Prelude.{if◌then◌else◌, nat_le}
+use Rattle.std.proofs.lemmas.Bool.Decides.{nat_tests}
 use Rattle.std.proofs.Math.Seq.{take-length, drop-length}
-use Rattle.std.proofs.lemmas.List.{length-take}
-use Rattle.std.proofs.lemmas.Slice.Eq.{bytes_eq-Decides}
+use Rattle.std.proofs.lemmas.List.{take-append-drop}
 use Rattle.byte_devices.specs.Devices.{InputState, GavePiece}
+use Rattle.pgn_pieces.specs.declared.ends.Seen.{Seen}
 use Rattle.pgn_pieces.specs.declared.pieces.PieceFault.{PieceFault}
 use Rattle.pgn_pieces.specs.declared.pieces.PieceFault.TheVariants.{ReadFailed, NoMemory, InputTooLong}
-use Rattle.pgn_pieces.specs.Pieces.{piece_at, ends_piece, HasRead, IsCause}
-use Rattle.pgn_pieces.specs.Stream.{State, IsStateOf, Next, MayFollow, past_piece, current, pieces_after_part, pieces_held}
-use Rattle.pgn_pieces.specs.ties.Held.{Keeps, SamePieces, FindsEnd, Adds, passed, with_more}
-use Rattle.pgn_pieces.proofs.Cuts.{goes_on}
+use Rattle.pgn_pieces.specs.Pieces.{piece_at, with_offsets, pieces_from, piece_of, cut, HasRead, IsCause}
+use Rattle.pgn_pieces.specs.Stream.{State, IsStateOf, Next, MayFollow, past_piece, current, pieces_held}
+use Rattle.pgn_pieces.specs.ties.Held.{HasSeen, Ends, FindsEnd, IsLike, LetGo, Adds, passed, with_more}
+use Rattle.pgn_pieces.proofs.CutLines.{has_piece, piece_of_some}
 use Rattle.pgn_pieces.proofs.Inputs.{read_on, broke_off}
 
--- ---- the last bytes
+-- ---- what is held of a piece
 
-short_end : (c : ℕ) (cs : List ℕ) → length cs < 7 → ends_piece c cs ≡ false
-short_end c cs h = by_test (ends_piece c cs) refl
+like_more : (p q more : List ℕ) → IsLike p q → IsLike (p ++ more) (q ++ more)
+like_more p q more (len, is) =
+    let a = length-append p more in
+    let b = length-append q more in (omega (arith, a, b, len), λ few. ap (λ xs. xs ++ more) (is (omega (arith, a, few))))
+
+like_on : (p q r : List ℕ) → IsLike p q → IsLike q r → IsLike p r
+like_on p q r (len, is) (len', is') = (len' ∙ len, λ few. is' (omega (arith, len, few)) ∙ is few)
+
+-- the piece that is told is the one whose bytes these are
+told_right : (offset : ℕ) (p q : List ℕ) → IsLike p q → piece_at offset p ≡ piece_at offset q
+told_right offset p q (len, is) = by_test (nat_le (length p) 16777216) refl
   where
-    by_test : (b : Bool) → ends_piece c cs ≡ b → ends_piece c cs ≡ false
-    by_test true e =
-        let name = (and_parts (c == 10) (bytes_eq (take 7 cs) (codes "[Event ")) e).1 in
-        let is : length (take 7 cs) ≡ 7 = ap length ((bytes_eq-Decides (take 7 cs) (codes "[Event ")).0 name) in
-        let some = length-take 7 cs in
-        absurd (omega (arith, is, some, h))
-    by_test false e = e
+    by_test : (b : Bool) → nat_le (length p) 16777216 ≡ b → piece_at offset p ≡ piece_at offset q
+    by_test true e = ap (piece_at offset) (sym (is (grind (arith, nat_tests, e))))
+    by_test false e =
+        ap (λ b. record { offset = offset; bytes = if b then Some p else None }) e
+        ∙ sym (ap (λ n. record { offset = offset; bytes = if nat_le n 16777216 then Some q else None }) len
+        ∙ ap (λ b. record { offset = offset; bytes = if b then Some q else None }) e)
 
--- no piece ends in so few bytes
-pub short_rest : (ended : Bool) (offset : ℕ) (part xs : List ℕ) → length xs ≤ 7
-    → pieces_after_part ended offset part xs ≡ pieces_after_part ended offset (part ++ xs) []
-short_rest ended offset part [] h = ap (λ p. pieces_after_part ended offset p []) (sym (append-nil part))
-short_rest ended offset part (c ∷ cs) h =
-    goes_on ended offset part c cs (short_end c cs (omega (arith, h)))
-    ∙ short_rest ended offset (part ++ c ∷ []) cs (omega (arith, h))
-    ∙ ap (λ p. pieces_after_part ended offset p []) (append_assoc part (c ∷ []) cs)
+-- ---- the pieces of what comes
 
-last_piece : (offset : ℕ) (part : List ℕ) → nat_lt 0 (length part) ≡ true
-    → pieces_after_part true offset part [] ≡ piece_at offset part ∷ []
-unfolding pieces_after_part
-last_piece offset part h = ap (λ b. if b then piece_at offset part ∷ [] else []) h
+-- all pieces but the last, of a list that goes on after its first
+but_last : {A : Type 0} (x : A) (all : List A) (y : A) (ys : List A) → all ≡ y ∷ ys
+    → take (length (x ∷ all) - 1) (x ∷ all) ≡ x ∷ take (length all - 1) all
+but_last x all y ys e =
+    let l = ap length e in
+    let n : length (x ∷ all) - 1 ≡ suc (length all - 1) = omega (arith, l) in ap (λ k. take k (x ∷ all)) n
 
-no_piece : (offset : ℕ) (part : List ℕ) → nat_lt 0 (length part) ≡ false → pieces_after_part true offset part [] ≡ []
-unfolding pieces_after_part
-no_piece offset part h = ap (λ b. if b then piece_at offset part ∷ [] else []) h
+-- a text whose first piece is known
+first_known : (ended : Bool) (offset : ℕ) (text piece rest : List ℕ) → cut text ≡ piece ∷ cut rest → 0 < length rest
+    → pieces_from ended offset text ≡ piece_at offset piece ∷ pieces_from ended (offset + length piece) rest
+first_known true offset text piece rest e some = ap (with_offsets offset) e
+first_known false offset text piece rest e some =
+    let more = has_piece rest some in
+    ap (λ all. with_offsets offset (take (length all - 1) all)) e
+    ∙ ap (with_offsets offset) (but_last piece (cut rest) more.0 more.1 more.2)
 
-not_whole : (offset : ℕ) (part : List ℕ) → pieces_after_part false offset part [] ≡ []
-unfolding pieces_after_part
-not_whole offset part = refl
-
-nothing : (ended : Bool) (offset : ℕ) → pieces_after_part ended offset [] [] ≡ []
-unfolding pieces_after_part
-nothing true offset = refl
-nothing false offset = refl
-
--- ---- what was looked through holds no piece's end
-
-abbrev pub Looked : State → State → InputState → InputState → Type 0
-Looked s s' r1 r2 = (r : InputState) (text : List ℕ) → IsStateOf s r r1 text
-    → (more : List ℕ) × IsStateOf s' r r2 (text ++ more) × (s.ended ≡ true → (s'.ended ≡ true) × (more ≡ []))
-    × ((ended : Bool) (rest : List ℕ) → pieces_held ended (past_piece s) (more ++ rest) ≡ pieces_held ended s' rest)
-
-pub looked_none : (s : State) (r1 : InputState) → Looked s (past_piece s) r1 r1
-looked_none s r1 r text stands =
-    let all = stands.all in (
-      [],
-      record {
-        read = subst (HasRead s.ended r r1) (sym (append-nil text)) stands.read;
-        all = subst (λ xs. s.offset + length s.part + (0 + length s.coming) ≡ length xs) (sym (append-nil text))
-            (omega (arith, all));
-      },
-      λ h. (h, refl),
-      λ ended rest. refl,
-    )
-
-still_going : (s s1 : State) (more : List ℕ) → (s.ended ≡ true → (s1.ended ≡ true) × (more ≡ []))
-    → s1.ended ≡ false → s.ended ≡ false
-still_going s s1 more h going = by_test s.ended refl
+-- a text that is one piece, which may go on
+none_known : (offset : ℕ) (text : List ℕ) → cut text ≡ piece_of text → pieces_from false offset text ≡ []
+none_known offset text e = ap (λ all. with_offsets offset (take (length all - 1) all)) e ∙ none text
   where
-    by_test : (b : Bool) → s.ended ≡ b → s.ended ≡ false
-    by_test true e = let k = (h e).0 in cc
-    by_test false e = e
+    none : (xs : List ℕ) → with_offsets offset (take (length (piece_of xs) - 1) (piece_of xs)) ≡ []
+    none [] = refl
+    none (x ∷ xs) = refl
 
--- the end is not in what is held, what is too long was let go, and a read gave more
-pub looked_on : (s s1 s2 s3 : State) (r1 r2 r3 : InputState) (gave : List ℕ) → Looked s s1 r1 r2 → s1.ended ≡ false
-    → FindsEnd s1 s2 false → SamePieces s2 s3 → Keeps s2 s3 → GavePiece r2 r3 gave
-    → Looked s (with_more gave s3) r1 r3
-looked_on s s1 s2 s3 r1 r2 r3 gave looked going (kept, same, few) same' kept' read r text stands =
-    let found = looked r text stands in
-    let m = found.0 in
-    let all = found.1.all in
-    let k1 = kept.all in
-    let k2 = kept'.all in
-    let p1 = kept.offset in
-    let p2 = kept'.offset in
-    let l1 = length-append (text ++ m) gave in
-    let l2 = length-append s3.coming gave in
-    let front = subst (λ b. HasRead b r r2 (text ++ m)) going found.1.read in (
-      m ++ gave,
-      subst (λ xs. IsStateOf (with_more gave s3) r r3 xs) (append_assoc text m gave) (record {
-        read = read_on (length gave == 0) r r2 r3 (text ++ m) gave refl front read;
-        all = omega (arith, all, k1, k2, p1, p2, l1, l2);
-      }),
-      λ h. (let k = still_going s s1 m found.2 going in absurd (cc)),
-      λ ended rest.
-          ap (λ xs. pieces_held ended (past_piece s) xs) (append_assoc m gave rest)
-          ∙ found.3 ended (gave ++ rest) ∙ same ended (gave ++ rest) ∙ same' ended (gave ++ rest)
-          ∙ ap (pieces_after_part ended s3.offset s3.part) (sym (append_assoc s3.coming gave rest)),
-    )
+last_known : (offset : ℕ) (text : List ℕ) → cut text ≡ piece_of text → 0 < length text
+    → pieces_from true offset text ≡ piece_at offset text ∷ []
+last_known offset text e some = ap (with_offsets offset) (e ∙ piece_of_some text some)
 
--- ---- what the call comes to
+no_bytes : (xs : List ℕ) → length xs ≡ 0 → xs ≡ []
+no_bytes [] h = refl
+no_bytes (x ∷ xs) h = absurd (omega (arith, h))
+
+-- ---- what was looked through
+
+-- from the state `s` on, these bytes of a piece were seen, after `more` was read; they are held in `s'`
+pub record Looked (s s' : State) (seen : Seen) (r1 r2 : InputState) : Type 0 where
+  pub piece : List ℕ
+  pub more : List ℕ
+  pub lines : HasSeen seen piece
+  pub like : IsLike piece s'.part
+  pub same : s.coming ++ more ≡ piece ++ s'.coming
+  pub begins : s'.offset ≡ s.offset + length s.part
+  pub over : s.ended ≡ true → (s'.ended ≡ true) × (more ≡ [])
+  pub stands : (r : InputState) (text : List ℕ) → IsStateOf s r r1 text → IsStateOf s' r r2 (text ++ more)
+
+pub looked_none : (s : State) (seen : Seen) (r1 : InputState) → HasSeen seen [] → Looked s (past_piece s) seen r1 r1
+looked_none s seen r1 lines = record {
+  piece = [];
+  more = [];
+  lines = lines;
+  like = (refl, λ few. refl);
+  same = append-nil s.coming;
+  begins = refl;
+  over = λ h. (h, refl);
+  stands = λ r text stands. (let all = stands.all in record {
+    read = subst (HasRead s.ended r r1) (sym (append-nil text)) stands.read;
+    all = subst (λ xs. s.offset + length s.part + (0 + length s.coming) ≡ length xs) (sym (append-nil text))
+        (omega (arith, all));
+  });
+}
+
+-- a step changed neither the piece's offset nor how many bytes are held
+pub record Keeps (s s' : State) : Type 0 where
+  pub offset : s'.offset ≡ s.offset
+  pub ended : s'.ended ≡ s.ended
+  pub all : length s'.part + length s'.coming ≡ length s.part + length s.coming
 
 stands_on : (s s' : State) (r r' : InputState) (text : List ℕ) → IsStateOf s r r' text → Keeps s s'
     → IsStateOf s' r r' text
@@ -123,91 +115,212 @@ stands_on s s' r r' text stands kept =
       all = omega (arith, all, k, p);
     }
 
-pub next_found : (s s1 s2 : State) (r1 r2 : InputState) → Looked s s1 r1 r2 → FindsEnd s1 s2 true
-    → (r : InputState) (text : List ℕ) → IsStateOf s r r1 text → Next s s2 r r2 text (Ok true)
-next_found s s1 s2 r1 r2 looked (kept, next, some) r text stands =
-    let found = looked r text stands in (
-      found.0,
-      stands_on s1 s2 r r2 (text ++ found.0) found.1 kept,
-      λ h. (let k = found.2 h in (kept.ended ∙ k.0, k.1)),
-      λ ended rest follows. found.3 ended rest ∙ next ended rest,
-    )
+keeps_passed : (n : ℕ) (s : State) → Keeps s (passed n s)
+keeps_passed n s =
+    let front = length-append s.part (take n s.coming) in
+    let all = length-append (take n s.coming) (drop n s.coming) in
+    let same = ap length (take-append-drop n s.coming) in
+    record { offset = refl; ended = refl; all = omega (arith, front, all, same) }
 
-held_last : (s1 s2 : State) (ended : Bool) → SamePieces s1 s2 → length s2.coming ≤ 7
-    → pieces_held ended s1 [] ≡ pieces_after_part ended s2.offset (s2.part ++ s2.coming) []
-held_last s1 s2 ended same few = same ended []
-    ∙ ap (pieces_after_part ended s2.offset s2.part) (append-nil s2.coming)
-    ∙ short_rest ended s2.offset s2.part s2.coming few
+keeps_by : (s s' : State) (n : ℕ) → s' ≡ passed n s → Keeps s s'
+keeps_by s s' n is = subst (Keeps s) (sym is) (keeps_passed n s)
 
-pub next_last : (s s1 s2 s3 : State) (r1 r2 : InputState) (b : Bool) → Looked s s1 r1 r2 → FindsEnd s1 s2 false
-    → s2.ended ≡ true → Keeps s2 s3 → s3 ≡ passed (length s2.coming) s2 → b ≡ nat_lt 0 (length s3.part)
-    → (r : InputState) (text : List ℕ) → IsStateOf s r r1 text → Next s s3 r r2 text (Ok b)
-next_last s s1 s2 s3 r1 r2 true looked (kept, same, few) over kept' is e r text stands =
-    let found = looked r text stands in
-    let m = found.0 in
-    let part : s3.part ≡ s2.part ++ s2.coming = ap (λ (t : State). t.part) is
-    ∙ ap (λ xs. s2.part ++ xs) (take-length s2.coming) in
-    let coming : s3.coming ≡ [] = ap (λ (t : State). t.coming) is ∙ drop-length s2.coming in
-    let ended' : s3.ended ≡ true = kept'.ended ∙ over in
-    let all : pieces_held true (past_piece s) (m ++ []) ≡ current s3 ∷ pieces_held true (past_piece s3) [] =
-    found.3 true [] ∙ held_last s1 s2 true same few
-    ∙ ap (λ xs. pieces_after_part true s2.offset xs []) (sym part)
-    ∙ ap (λ n. pieces_after_part true n s3.part []) (sym kept'.offset)
-    ∙ last_piece s3.offset s3.part (sym e)
-    ∙ ap (λ xs. piece_at s3.offset s3.part ∷ xs) (sym
-    (ap (λ xs. pieces_after_part true (s3.offset + length s3.part) [] (xs ++ []))
-    coming ∙ nothing true (s3.offset + length s3.part))) in (
-      m,
-      stands_on s2 s3 r r2 (text ++ m) (stands_on s1 s2 r r2 (text ++ m) found.1 kept) kept',
-      λ h. (ended', (found.2 h).1),
-      λ ended rest follows.
-          (let (t, none) = subst (λ b. MayFollow b ended rest) ended' follows in
-          subst (λ xs. pieces_held ended (past_piece s) (m ++ xs) ≡ current s3 ∷ pieces_held ended (past_piece s3) xs)
-          (sym none)
-          (subst (λ b. pieces_held b (past_piece s) (m ++ []) ≡ current s3 ∷ pieces_held b (past_piece s3) []) (sym t)
-          all)),
-    )
-next_last s s1 s2 s3 r1 r2 false looked (kept, same, few) over kept' is e r text stands =
-    let found = looked r text stands in
-    let m = found.0 in
-    let part : s3.part ≡ s2.part ++ s2.coming = ap (λ (t : State). t.part) is
-    ∙ ap (λ xs. s2.part ++ xs) (take-length s2.coming) in (
-      m,
-      subst (λ b. HasRead b r r2 (text ++ m)) over (stands_on s1 s2 r r2 (text ++ m) found.1 kept).read,
-      λ h. (found.2 h).1,
-      ap (λ xs. pieces_held true (past_piece s) xs) (sym (append-nil m))
-          ∙ found.3 true [] ∙ held_last s1 s2 true same few
-          ∙ ap (λ xs. pieces_after_part true s2.offset xs []) (sym part)
-          ∙ no_piece s2.offset s3.part (sym e),
-    )
+keeps_let_go : (s s' s'' : State) → Keeps s s' → LetGo s' s'' → Keeps s s''
+keeps_let_go s s' s'' kept gone =
+    let all = kept.all in
+    let part = gone.part.0 in
+    let coming = ap length gone.coming in record {
+      offset = gone.offset ∙ kept.offset;
+      ended = gone.ended ∙ kept.ended;
+      all = omega (arith, all, part, coming);
+    }
 
-pub next_stopped : (s s1 s2 s3 s4 s5 : State) (r1 r2 r3 : InputState) (fault : PieceFault) → Looked s s1 r1 r2
-    → s1.ended ≡ false → FindsEnd s1 s2 false → Keeps s2 s3 → s4 ≡ s3
-    → Adds {A = Unit {0}} s4 s5 r2 r3 (Err fault)
-    → (r : InputState) (text : List ℕ) → IsStateOf s r r1 text → Next s s5 r r3 text (Err fault)
-next_stopped s s1 s2 s3 s4 s5 r1 r2 r3 fault looked going (kept, same, few) kept' slid added r text stands =
-    let found = looked r text stands in
-    let m = found.0 in
-    let front = subst (λ b. HasRead b r r2 (text ++ m)) going found.1.read in (
-      m,
-      cause fault front added,
-      still_going s s1 m found.2 going,
-      ap (λ xs. pieces_held false (past_piece s) xs) (sym (append-nil m))
-          ∙ found.3 false [] ∙ held_last s1 s2 false same few ∙ not_whole s2.offset (s2.part ++ s2.coming),
-    )
+still_going : (s s1 : State) (more : List ℕ) → (s.ended ≡ true → (s1.ended ≡ true) × (more ≡ []))
+    → s1.ended ≡ false → s.ended ≡ false
+still_going s s1 more h going = by_test s.ended refl
   where
-    cause : (e : PieceFault) → HasRead false r r2 (text ++ (looked r text stands).0) → Adds {A = Unit {0}} s4 s5 r2 r3 (Err e)
-        → IsCause r r3 (text ++ (looked r text stands).0) e
-    cause ReadFailed front (failed, is) = broke_off r r2 r3 (text ++ (looked r text stands).0) front failed
-    cause NoMemory front (is, same) = subst (λ x. HasRead false r x (text ++ (looked r text stands).0)) (sym is) front
-    cause InputTooLong front (is, same, many) = (
-      subst (λ x. HasRead false r x (text ++ (looked r text stands).0)) (sym is) front,
-      (let all = (looked r text stands).1.all in
-          let k1 = kept.all in
-          let k2 = kept'.all in
-          let p1 = kept.offset in
-          let p2 = kept'.offset in
-          let many' : 2 ^ 63 ≤ s3.offset + (length s3.part + length s3.coming) + 2 ^ 16 =
-          subst (λ (t : State). 2 ^ 63 ≤ t.offset + (length t.part + length t.coming) + 2 ^ 16) slid many in
-          omega (arith, all, k1, k2, p1, p2, many')),
-    )
+    by_test : (b : Bool) → s.ended ≡ b → s.ended ≡ false
+    by_test true e = let k = (h e).0 in cc
+    by_test false e = e
+
+-- what was found in the bytes that are held
+module _ (s s1 s2 : State) (seen seen' : Seen) (r1 r2 : InputState) (looked : Looked s s1 seen r1 r2) where
+  -- the piece, with `n` bytes more
+  abbrev piece_to : ℕ → List ℕ
+  piece_to n = looked.piece ++ take n s1.coming
+
+  like_to : (n : ℕ) → s2 ≡ passed n s1 → IsLike (piece_to n) s2.part
+  like_to n is =
+      subst (λ (t : State). IsLike (piece_to n) t.part) (sym is)
+      (like_more looked.piece s1.part (take n s1.coming) looked.like)
+
+  coming_to : (n : ℕ) → s2 ≡ passed n s1 → drop n s1.coming ≡ s2.coming
+  coming_to n is = ap (λ (t : State). t.coming) (sym is)
+
+  -- all bytes from the piece's first one on
+  split : (n : ℕ) → s2 ≡ passed n s1 → s.coming ++ looked.more ≡ piece_to n ++ s2.coming
+  split n is =
+      looked.same ∙ ap (λ xs. looked.piece ++ xs) (sym (take-append-drop n s1.coming))
+      ∙ sym (append_assoc looked.piece (take n s1.coming) (drop n s1.coming)) ∙ ap (λ xs. piece_to n ++ xs) (coming_to n is)
+
+  -- the end is not in what is held, what is too long was let go, and a read gave more
+  pub looked_on : (s3 : State) (r3 : InputState) (gave : List ℕ) → s1.ended ≡ false → FindsEnd s1 s2 seen seen' false
+      → LetGo s2 s3 → GavePiece r2 r3 gave → Looked s (with_more gave s3) seen' r1 r3
+  looked_on s3 r3 gave going (n, is, (within, found)) gone read =
+      let kept = keeps_let_go s1 s2 s3 (keeps_by s1 s2 n is) gone in
+      let m = looked.more in record {
+        piece = piece_to n;
+        more = m ++ gave;
+        lines = (found looked.piece looked.lines).0;
+        like = like_on (piece_to n) s2.part s3.part (like_to n is) gone.part;
+        same = sym (append_assoc s.coming m gave) ∙ ap (λ xs. xs ++ gave) (split n is)
+            ∙ append_assoc (piece_to n) s2.coming gave
+            ∙ ap (λ xs. piece_to n ++ (xs ++ gave)) (sym gone.coming);
+        begins = kept.offset ∙ looked.begins;
+        over = λ h. (let k = still_going s s1 m looked.over going in absurd (cc));
+        stands = λ r text stands.
+            (let so = stands_on s1 s3 r r2 (text ++ m) (looked.stands r text stands) kept in
+            let all = so.all in
+            let l1 = length-append (text ++ m) gave in
+            let l2 = length-append s3.coming gave in
+            let front = subst (λ b. HasRead b r r2 (text ++ m)) (kept.ended ∙ going) so.read in
+            subst (λ xs. IsStateOf (with_more gave s3) r r3 xs) (append_assoc text m gave) (record {
+              read = read_on (length gave == 0) r r2 r3 (text ++ m) gave refl front read;
+              all = omega (arith, all, l1, l2);
+            }));
+      }
+
+  pub next_found : FindsEnd s1 s2 seen seen' true → (r : InputState) (text : List ℕ) → IsStateOf s r r1 text
+      → Next s s2 r r2 text (Ok true)
+  next_found (n, is, (within, found)) r text stands =
+      let kept = keeps_by s1 s2 n is in
+      let m = looked.more in
+      let ends = subst (Ends (piece_to n)) (coming_to n is) (found looked.piece looked.lines) in
+      let begins : s.offset + length s.part ≡ s2.offset = sym (kept.offset ∙ looked.begins) in
+      let like = like_to n is in (
+        m,
+        stands_on s1 s2 r r2 (text ++ m) (looked.stands r text stands) kept,
+        λ h. (let k = looked.over h in (kept.ended ∙ k.0, k.1)),
+        λ ended rest follows.
+            (let l = length-append s2.coming rest in
+            let some = ends.more in
+            let text_is : s.coming ++ (m ++ rest) ≡ piece_to n ++ (s2.coming ++ rest) =
+            sym (append_assoc s.coming m rest) ∙ ap (λ xs. xs ++ rest) (split n is)
+            ∙ append_assoc (piece_to n) s2.coming rest in
+            ap (pieces_from ended (s.offset + length s.part)) text_is
+            ∙ first_known ended (s.offset + length s.part) (piece_to n ++ (s2.coming ++ rest)) (piece_to n)
+            (s2.coming ++ rest) (ends.cuts rest) (omega (arith, l, some))
+            ∙ ap (λ o. piece_at o (piece_to n) ∷ pieces_from ended (o + length (piece_to n)) (s2.coming ++ rest)) begins
+            ∙ ap (λ x. x ∷ pieces_from ended (s2.offset + length (piece_to n)) (s2.coming ++ rest))
+            (told_right s2.offset (piece_to n) s2.part like)
+            ∙ ap (λ k. current s2 ∷ pieces_from ended (s2.offset + k) (s2.coming ++ rest)) (sym like.0)),
+      )
+
+  -- all bytes are one piece
+  whole_piece : (n : ℕ) → s2 ≡ passed n s1 → cut (looked.piece ++ s1.coming) ≡ piece_of (looked.piece ++ s1.coming)
+      → cut (s.coming ++ looked.more) ≡ piece_of (s.coming ++ looked.more)
+  whole_piece n is one = subst (λ xs. cut xs ≡ piece_of xs) (sym looked.same) one
+
+  pub found_some : FindsEnd s1 s2 seen seen' true → 0 < length s2.part
+  found_some (n, is, (within, found)) =
+      let some = (found looked.piece looked.lines).some in
+      let l = (like_to n is).0 in omega (arith, some, l)
+
+  pub kept_on : (b : Bool) → FindsEnd s1 s2 seen seen' b → (s2.offset ≡ s.offset + length s.part) × (s2.ended ≡ s1.ended)
+  kept_on true (n, is, found) = let kept = keeps_by s1 s2 n is in (kept.offset ∙ looked.begins, kept.ended)
+  kept_on false (n, is, found) = let kept = keeps_by s1 s2 n is in (kept.offset ∙ looked.begins, kept.ended)
+
+  -- at the input's end
+  module _ (s3 : State) (n : ℕ) (is : s2 ≡ passed n s1) (is' : s3 ≡ passed (length s2.coming) s2) where
+    abbrev all : List ℕ
+    all = s.coming ++ looked.more
+
+    like_all : IsLike all s3.part
+    like_all =
+        subst (λ (t : State). IsLike all t.part) (sym is')
+        (subst (λ xs. IsLike xs (s2.part ++ take (length s2.coming) s2.coming))
+        (ap (λ xs. piece_to n ++ xs) (take-length s2.coming) ∙ sym (split n is))
+        (like_more (piece_to n) s2.part (take (length s2.coming) s2.coming) (like_to n is)))
+
+    none_coming : s3.coming ≡ []
+    none_coming = ap (λ (t : State). t.coming) is' ∙ drop-length s2.coming
+
+    kept_all : Keeps s1 s3
+    kept_all =
+        let k = keeps_by s1 s2 n is in
+        let k' = keeps_by s2 s3 (length s2.coming) is' in
+        let a = k.all in
+        let a' = k'.all in
+        record { offset = k'.offset ∙ k.offset; ended = k'.ended ∙ k.ended; all = omega (arith, a, a') }
+
+    last_piece : cut all ≡ piece_of all → 0 < length all
+        → pieces_held true (past_piece s) (looked.more ++ []) ≡ current s3 ∷ pieces_held true (past_piece s3) []
+    last_piece one some =
+        ap (λ xs. pieces_from true (s.offset + length s.part) (s.coming ++ xs)) (append-nil looked.more)
+        ∙ last_known (s.offset + length s.part) all one some
+        ∙ ap (λ o. piece_at o all ∷ []) (sym (kept_all.offset ∙ looked.begins))
+        ∙ ap (λ x. x ∷ []) (told_right s3.offset all s3.part like_all)
+        ∙ ap (λ xs. current s3 ∷ xs)
+        (sym (ap (λ xs. pieces_from true (s3.offset + length s3.part) (xs ++ [])) none_coming))
+
+    pub last : (b : Bool) → cut all ≡ piece_of all → s2.ended ≡ true → b ≡ nat_lt 0 (length s3.part)
+        → (r : InputState) (text : List ℕ) → IsStateOf s r r1 text → Next s s3 r r2 text (Ok b)
+    last true one over e r text stands =
+        let len = like_all.0 in
+        let some : 0 < length all = grind (arith, nat_tests, e, len) in
+        let ended' : s3.ended ≡ true = kept_all.ended ∙ sym (keeps_by s1 s2 n is).ended ∙ over in (
+          looked.more,
+          stands_on s1 s3 r r2 (text ++ looked.more) (looked.stands r text stands) kept_all,
+          λ h. (ended', (looked.over h).1),
+          λ ended rest follows.
+              (let (t, none) = subst (λ b. MayFollow b ended rest) ended' follows in
+              subst (λ xs. pieces_held ended (past_piece s) (looked.more ++ xs) ≡ current s3 ∷ pieces_held ended (past_piece s3) xs)
+              (sym none)
+              (subst (λ b. pieces_held b (past_piece s) (looked.more ++ []) ≡ current s3 ∷ pieces_held b (past_piece s3) [])
+              (sym t) (last_piece one some))),
+        )
+    last false one over e r text stands =
+        let len = like_all.0 in
+        let none : length all ≡ 0 = grind (arith, nat_tests, e, len) in (
+          looked.more,
+          subst (λ b. HasRead b r r2 (text ++ looked.more)) (sym (keeps_by s1 s2 n is).ended ∙ over)
+              (looked.stands r text stands).read,
+          λ h. (looked.over h).1,
+          ap (pieces_from true (s.offset + length s.part)) (no_bytes all none),
+        )
+
+  pub next_last : (s3 : State) (b : Bool) → FindsEnd s1 s2 seen seen' false → s2.ended ≡ true
+      → s3 ≡ passed (length s2.coming) s2 → b ≡ nat_lt 0 (length s3.part)
+      → (r : InputState) (text : List ℕ) → IsStateOf s r r1 text → Next s s3 r r2 text (Ok b)
+  next_last s3 b (n, is, (within, found)) over is' e r text stands =
+      last s3 n is is' b (whole_piece n is (found looked.piece looked.lines).1) over e r text stands
+
+  pub next_stopped : (s3 s4 s5 : State) (r3 : InputState) (fault : PieceFault) → s1.ended ≡ false
+      → FindsEnd s1 s2 seen seen' false → LetGo s2 s3 → s4 ≡ s3 → Adds {A = Unit {0}} s4 s5 r2 r3 (Err fault)
+      → (r : InputState) (text : List ℕ) → IsStateOf s r r1 text → Next s s5 r r3 text (Err fault)
+  next_stopped s3 s4 s5 r3 fault going (n, is, (within, found)) gone slid added r text stands =
+      let m = looked.more in
+      let so = looked.stands r text stands in
+      let kept = keeps_let_go s1 s2 s3 (keeps_by s1 s2 n is) gone in
+      let front = subst (λ b. HasRead b r r2 (text ++ m)) going so.read in (
+        m,
+        cause r text fault so front kept added,
+        still_going s s1 m looked.over going,
+        none_known (s.offset + length s.part) (s.coming ++ m) (whole_piece n is (found looked.piece looked.lines).1),
+      )
+    where
+      cause : (r : InputState) (text : List ℕ) (e : PieceFault) → IsStateOf s1 r r2 (text ++ looked.more)
+          → HasRead false r r2 (text ++ looked.more) → Keeps s1 s3
+          → Adds {A = Unit {0}} s4 s5 r2 r3 (Err e) → IsCause r r3 (text ++ looked.more) e
+      cause r text ReadFailed so front kept (failed, same) = broke_off r r2 r3 (text ++ looked.more) front failed
+      cause r text NoMemory so front kept (same, same') =
+          subst (λ x. HasRead false r x (text ++ looked.more)) (sym same) front
+      cause r text InputTooLong so front kept (same, same', many) = (
+        subst (λ x. HasRead false r x (text ++ looked.more)) (sym same) front,
+        (let all = so.all in
+            let k = kept.all in
+            let p = kept.offset in
+            let many' : 2 ^ 63 ≤ s3.offset + (length s3.part + length s3.coming) + 2 ^ 16 =
+            subst (λ (t : State). 2 ^ 63 ≤ t.offset + (length t.part + length t.coming) + 2 ^ 16) slid many in
+            omega (arith, all, k, p, many')),
+      )

@@ -1,7 +1,8 @@
 -- What is held, as the bytes come to the piece.
-use Rattle.std.proofs.Common.{◌≡◌, ℕ, ◌+◌, Bool, List, ◌++◌, take, drop, sym, ap, ◌∙◌, append_assoc, arith}
+use Rattle.std.proofs.Common.{◌≡◌, ℕ, ◌+◌, ◌-◌, Bool, List, ◌++◌, length, take, drop, sym, ap, ◌∙◌, append_assoc, arith}
 use Rattle.std.specs.Prelude.{replicate}
 use Rattle.std.proofs.Math.Seq.{take-add}
+use Rattle.std.proofs.lemmas.Grind.{common_steps}
 use Rattle.std.proofs.lemmas.List.{drop-drop}
 use Rattle.pgn_pieces.specs.Stream.{State}
 use Rattle.pgn_pieces.specs.ties.Held.{passed}
@@ -27,3 +28,9 @@ passed_on held at len n gone offset ended =
       coming = xs;
       ended = ended;
     }) (ap (λ k. drop k held) (omega arith) ∙ sym (drop-drop n (at + len) held))
+
+pub slice_is : (xs ys : List ℕ) (k : ℕ) → xs ≡ ys → take (length xs - k) (drop k xs) ≡ drop k ys
+slice_is xs ys k e = whole xs k ∙ ap (drop k) e
+  where
+    whole : (zs : List ℕ) (k : ℕ) → take (length zs - k) (drop k zs) ≡ drop k zs
+    whole zs k = grind (arith, common_steps)

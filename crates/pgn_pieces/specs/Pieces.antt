@@ -1,27 +1,95 @@
 -- A collection of games is cut into pieces: each is read as a text of its own.
-use Rattle.std.specs.Prelude.{◌≡◌, ◌≤◌, ◌^◌, ℕ, ◌+◌, ◌-◌, Bool, true, false, ◌&&◌, ◌==◌, nat_le, if◌then◌else◌, List, [], ◌∷◌, length, take, codes, Option, Some, None}
+use Rattle.std.specs.Prelude.{◌≡◌, ◌≤◌, ◌^◌, ℕ, ◌+◌, ◌-◌, Bool, true, false, ◌&&◌, ◌||◌, not, ◌==◌, nat_le, nat_lt, if◌then◌else◌, List, [], ◌∷◌, ◌++◌, length, take, drop, codes, Option, Some, None}
+use Rattle.std.specs.Char.{is_ascii_alphanumeric}
 use Rattle.std.specs.Io.KnownBytes.{Consumes, IsAtEnd}
-use Rattle.std.specs.List.{onto_first}
+use Rattle.std.specs.List.{onto_first, take_while, prefix_len, list_any, list_all, concat}
 use Rattle.std.specs.Str.{bytes_eq}
 use Rattle.byte_devices.specs.Devices.{InputState, risen}
 use Rattle.pgn_pieces.specs.declared.pieces.PieceFault.{PieceFault}
 use Rattle.pgn_pieces.specs.declared.pieces.PieceFault.TheVariants.{ReadFailed, NoMemory, InputTooLong}
 use Rattle.pgn_pieces.specs.declared.pieces.TheConstants.{PIECE_LEN}
 
--- ---- the pieces of a text (PGN standard of 1994, section 8.1.1: the tag Event comes first)
+-- ---- the lines of a text
 
--- whether a text begins with `[Event `, as the first tag of a game does
-abbrev pub begins_event : List ℕ → Bool
-begins_event text = bytes_eq (take 7 text) (codes "[Event ")
+-- the lines of a text: each up to and with its `\n`, the last one perhaps without
+abbrev pub lines_of : List ℕ → List (List ℕ)
+lines_of [] = []
+lines_of (c ∷ cs) = if c == 10 then (c ∷ []) ∷ lines_of cs else onto_first c (lines_of cs)
 
--- whether a piece ends with the byte `c`, which is followed by `rest`: `c` is `\n`, and `[Event ` follows
-abbrev pub ends_piece : ℕ → List ℕ → Bool
-ends_piece c rest = (c == 10) && begins_event rest
+-- a text without the bytes EF BB BF at its front
+abbrev pub without_mark : List ℕ → List ℕ
+without_mark text = if bytes_eq (take 3 text) (239 ∷ 187 ∷ 191 ∷ []) then drop 3 text else text
 
--- the pieces that a text is cut into: each ends with a `\n` that is followed by `[Event `, or at the text's end
+-- what tells the kind of a line: its first 256 bytes, without a byte order mark
+abbrev pub front_of : List ℕ → List ℕ
+front_of line = without_mark (take 256 line)
+
+-- whether a byte is a letter, a digit or an underscore
+abbrev pub is_name_byte : ℕ → Bool
+is_name_byte c = is_ascii_alphanumeric c || (c == 95)
+
+-- whether a byte is a space or a tab
+abbrev pub is_blank : ℕ → Bool
+is_blank c = (c == 32) || (c == 9)
+
+-- whether a byte is a space, a tab, `\r` or `\n`
+abbrev pub is_white : ℕ → Bool
+is_white c = is_blank c || (c == 13) || (c == 10)
+
+-- the name of the tag with which a line begins: the letters, digits and underscores after its first byte
+abbrev pub tag_name : List ℕ → List ℕ
+tag_name front = take_while is_name_byte (drop 1 front)
+
+-- what stands after that name, and after any spaces and tabs that follow it
+abbrev pub after_name : List ℕ → List ℕ
+after_name front =
+    let rest = drop (length (tag_name front)) (drop 1 front) in drop (prefix_len is_blank rest) rest
+
+-- whether it begins with `[`, a name of one byte or more, any spaces and tabs, and `"`
+abbrev pub begins_tag : List ℕ → Bool
+begins_tag front = bytes_eq (take 1 front) (codes "[") && nat_lt 0 (length (tag_name front))
+    && bytes_eq (take 1 (after_name front)) (codes "\"")
+
+-- whether it has nothing but spaces, tabs, `\r` and `\n`, or begins with `%` or `;`
+abbrev pub is_nothing : List ℕ → Bool
+is_nothing front = bytes_eq (take 1 front) (codes "%") || bytes_eq (take 1 front) (codes ";")
+    || list_all is_white front
+
+-- a line is a tag line, and perhaps an Event line; or empty; or else a line of moves
+abbrev pub is_tag_line : List ℕ → Bool
+is_tag_line line = begins_tag (front_of line)
+
+abbrev pub is_event_line : List ℕ → Bool
+is_event_line line = is_tag_line line && bytes_eq (tag_name (front_of line)) (codes "Event")
+
+abbrev pub is_empty_line : List ℕ → Bool
+is_empty_line line = is_nothing (front_of line)
+
+abbrev pub is_moves_line : List ℕ → Bool
+is_moves_line line = not (is_tag_line line || is_empty_line line)
+
+-- ---- the pieces of a text
+
+-- whether a piece begins at `line`, where `before` are the lines since the piece before it began: at a tag line after a
+-- line of moves, and at an Event line after an Event line
+abbrev pub begins_piece : List (List ℕ) → List ℕ → Bool
+begins_piece before line = is_tag_line line
+    && (list_any is_moves_line before || (is_event_line line && list_any is_event_line before))
+
+-- the piece that has these bytes; none, if there are none
+abbrev pub piece_of : List ℕ → List (List ℕ)
+piece_of [] = []
+piece_of (c ∷ cs) = (c ∷ cs) ∷ []
+
+-- the pieces of lines, of which `before` belong to the first piece
+abbrev pub cut_lines : List (List ℕ) → List (List ℕ) → List (List ℕ)
+cut_lines before [] = piece_of (concat before)
+cut_lines before (line ∷ lines) =
+    if begins_piece before line then concat before ∷ cut_lines (line ∷ []) lines else cut_lines (before ++ line ∷ []) lines
+
+-- the pieces that a text is cut into
 abbrev pub cut : List ℕ → List (List ℕ)
-cut [] = []
-cut (c ∷ cs) = if ends_piece c cs then (c ∷ []) ∷ cut cs else onto_first c (cut cs)
+cut text = cut_lines [] (lines_of text)
 
 -- a piece: the offset of its first byte in the input, and its bytes, or `None` if it has more than 16,777,216
 pub record Piece : Type 0 where
@@ -38,10 +106,14 @@ abbrev pub with_offsets : ℕ → List (List ℕ) → List Piece
 with_offsets offset [] = []
 with_offsets offset (bytes ∷ rest) = piece_at offset bytes ∷ with_offsets (offset + length bytes) rest
 
--- the pieces that are known of an input whose first bytes are this text: all pieces, if the text is all of the input
--- (`ended`), else all but the last, which may go on
+-- the pieces that are known of an input from this offset on, where a piece begins, if this text follows there: all
+-- pieces, if the input ends after the text (`ended`), else all but the last, which may go on
+abbrev pub pieces_from : Bool → ℕ → List ℕ → List Piece
+pieces_from ended offset text = let all = cut text in with_offsets offset (if ended then all else take (length all - 1) all)
+
+-- the pieces that are known of an input whose first bytes are this text
 unfoldable pub pieces : Bool → List ℕ → List Piece
-pieces ended text = let all = cut text in with_offsets 0 (if ended then all else take (length all - 1) all)
+pieces ended text = pieces_from ended 0 text
 
 -- ---- what was read of an input
 

@@ -1,8 +1,8 @@
 -- The pieces of an input, returned one after another.
-use Rattle.std.specs.Prelude.{◌≡◌, ℕ, ◌+◌, Bool, true, false, ◌&&◌, nat_lt, if◌then◌else◌, List, [], ◌∷◌, ◌++◌, length, Result, Ok, Err}
+use Rattle.std.specs.Prelude.{◌≡◌, ℕ, ◌+◌, Bool, true, false, List, [], ◌∷◌, ◌++◌, length, Result, Ok, Err}
 use Rattle.byte_devices.specs.Devices.{InputState}
 use Rattle.pgn_pieces.specs.declared.pieces.PieceFault.{PieceFault}
-use Rattle.pgn_pieces.specs.Pieces.{Piece, piece_at, ends_piece, HasRead, IsCause}
+use Rattle.pgn_pieces.specs.Pieces.{Piece, piece_at, pieces_from, HasRead, IsCause}
 
 -- how far an input is cut: the offset at which the current piece begins, its bytes so far, the bytes that were read
 -- after these, and whether the input has ended. Of a piece that is too long only the number of its bytes counts
@@ -26,11 +26,8 @@ current s = piece_at s.offset s.part
 
 -- the pieces that are still to come of a text: the first of them begins at that offset, `part` is what was read of it,
 -- and the last argument is the text after that part. `ended`: the input ends there; if not, the last piece is left out
-unfoldable pub pieces_after_part : Bool → ℕ → List ℕ → List ℕ → List Piece
-pieces_after_part ended offset part [] = if ended && nat_lt 0 (length part) then piece_at offset part ∷ [] else []
-pieces_after_part ended offset part (c ∷ cs) =
-    if ends_piece c cs then piece_at offset (part ++ c ∷ []) ∷ pieces_after_part ended (offset + (length part + 1)) [] cs
-    else pieces_after_part ended offset (part ++ c ∷ []) cs
+abbrev pub pieces_after_part : Bool → ℕ → List ℕ → List ℕ → List Piece
+pieces_after_part ended offset part text = pieces_from ended offset (part ++ text)
 
 -- the pieces that are still to come in the state `s`, the current one first, if the bytes `rest` follow those that were
 -- read. `ended`: the input ends after them; if not, the last piece may go on and is left out

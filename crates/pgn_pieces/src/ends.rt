@@ -1,99 +1,130 @@
 //! Where a piece ends.
 
-ghost use Rattle.std.specs.Prelude.{◌≡◌, ◌<◌, ◌≤◌, ◌+◌, length, slice_index, take, drop, codes, ◌-◌, true, false};
-ghost use Rattle.std.specs.Str.{bytes_eq};
-ghost use Rattle.pgn_pieces.specs.Pieces.{ends_piece};
-ghost use Rattle.pgn_pieces.specs.ties.Held.{EndsAfter, Passes, has_line_end};
+ghost use Rattle.std.specs.Prelude.{◌≡◌, ◌<◌, ◌++◌, ◌∷◌, ◌&&◌, ◌||◌, List, ℕ, [], length, take, drop, true, false};
+ghost use Rattle.pgn_pieces.specs.ties.Held.{HasSeen, Steps, SeesWhole, Looks, has_line_end};
 
-// The length of `[Event `.
-pub(crate) const EVENT_LEN: usize = 7;
+use crate::lines::{FRONT_LEN, Kind, kind_of, plain_len};
 
-// Whether a text begins with `[Event `.
-fn begins_event(text: &[u8]) -> bool
-    ensures { result ≡ bytes_eq (take 7 text.now) (codes "[Event ") }
-{
-    text.starts_with(b"[Event ")
+// What is known of the lines that a piece has so far.
+#[derive(Clone, Copy)]
+pub(crate) struct Seen {
+    // Whether a line of moves is among them.
+    pub(crate) moves: bool,
+    // Whether an Event line is among them.
+    pub(crate) event: bool,
+    // Whether the last of them may go on. Its kind is told already.
+    pub(crate) inside: bool,
 }
 
-// Whether a piece ends right before `offset`: `\n` comes before it, and `[Event ` begins there.
-fn ends_before(text: &[u8], offset: usize) -> bool
-    requires some { 0 < offset }
-    requires within { offset ≤ length text.now }
-    ensures { result ≡ ends_piece (slice_index text.now (offset - 1)) (drop offset text.now) }
-{
-    text[offset - 1] == b'\n' && begins_event(&text[offset..])
+// What is found of the line that comes next.
+pub(crate) enum Step {
+    // A piece begins there.
+    Begins,
+    // Its kind can't be told before more is read.
+    Waits,
+    // So many bytes of it belong to the piece.
+    Belongs(usize),
 }
 
-// Whether `\n` is among these bytes. It looks at all of them, so that the compiler can use vector instructions.
-#[inline(always)]
-fn has_line_end(bytes: &[u8]) -> bool
-    ensures { result ≡ has_line_end bytes.now }
-{
-    let mut any = false;
-    for byte in bytes {
-        any |= *byte == b'\n';
-    }
-    any
-}
-
-// Whether the 16 bytes from `offset` on have no `\n`, and seven more follow them.
-#[inline(always)]
-fn is_plain(text: &[u8], offset: usize) -> bool
-    requires { offset ≤ length text.now }
-    ensures { result ≡ true
-        → (offset + 23 ≤ length text.now) × (has_line_end (take 16 (drop offset text.now)) ≡ false) }
-{
-    if text.len() - offset < 23 {
-        return false;
-    }
-    !has_line_end(&text[offset..offset + 16])
-}
-
-// Skips 16 bytes at a time from `at` on as long as they have no `\n`, and returns the offset after them: no piece ends
-// there. The text's last seven bytes are never skipped.
-#[inline(always)]
-fn behind_plain(text: &[u8], at: usize) -> usize
-    requires { at + 7 ≤ length text.now }
-    ensures passed { Passes text.now at result }
-    ensures behind { at ≤ result }
-    ensures within { result + 7 ≤ length text.now }
-{
-    let mut offset = at;
-    while is_plain(text, offset) {
-        offset += 16;
-    }
-    offset
-}
-
-// The offset from which to look on for a piece's end, where none ends at `at`. After a `\n` bytes are skipped by
-// sixteens as long as they have no `\n`, since a piece ends only where a line does; else it is `at`.
-#[inline(always)]
-fn further(text: &[u8], at: usize) -> usize
-    requires some { 0 < at }
-    requires within { at + 7 ≤ length text.now }
-    ensures passed { Passes text.now at result }
-    ensures behind { at ≤ result }
-    ensures within { result + 7 ≤ length text.now }
-{
-    if text[at - 1] != b'\n' {
-        return at;
-    }
-    behind_plain(text, at)
-}
-
-// How many bytes the first piece of a text has, if its end can be seen; else `None`. An end is seen by the `[Event `
-// after it, so not in the text's last seven bytes.
-pub(crate) fn first_end(text: &[u8]) -> Option<usize>
-    ensures { EndsAfter text.now result }
-{
-    let last = text.len().saturating_sub(EVENT_LEN);
-    let mut offset = 0;
-    while offset < last {
-        offset += 1;
-        if ends_before(text, offset) {
-            return Some(offset);
+impl Seen {
+    // Of a piece that has no bytes so far.
+    pub(crate) fn nothing() -> Self
+        ensures { HasSeen result [] }
+    {
+        Seen {
+            moves: false,
+            event: false,
+            inside: false,
         }
-        offset = further(text, offset);
     }
-    None
+
+    // Whether a piece begins at a line of this kind.
+    #[inline(always)]
+    fn ends_at(&self, kind: Kind) -> bool
+        ensures { result ≡ (kind.is_tag && (self.now.moves || (kind.is_event && self.now.event))) }
+    {
+        kind.is_tag && (self.moves || (kind.is_event && self.event))
+    }
+
+    // Adds a line of this kind.
+    #[inline(always)]
+    fn add(&mut self, kind: Kind, goes_on: bool)
+        ensures moves { self.new.moves ≡ (self.old.moves || kind.is_moves) }
+        ensures event { self.new.event ≡ (self.old.event || kind.is_event) }
+        ensures inside { self.new.inside ≡ goes_on }
+    {
+        self.moves |= kind.is_moves;
+        self.event |= kind.is_event;
+        self.inside = goes_on;
+    }
+
+    // Looks at what comes next: the rest of a line, with its `\n`.
+    #[inline(always)]
+    fn see_whole(&mut self, line: &[u8]) -> bool
+        requires whole { (body : List ℕ) × (line.now ≡ body ++ 10 ∷ []) × (has_line_end body ≡ false) }
+        ensures { SeesWhole self.old self.new line.now result }
+    {
+        if self.inside {
+            self.inside = false;
+            return false;
+        }
+        let kind = kind_of(line);
+        if self.ends_at(kind) {
+            return true;
+        }
+        self.add(kind, false);
+        false
+    }
+
+    // Looks at what comes next: bytes of a line that may go on.
+    #[inline(always)]
+    fn see_open(&mut self, line: &[u8]) -> Step
+        requires plain { (0 < length line.now) × (has_line_end line.now ≡ false) }
+        ensures { Steps self.old self.new line.now result }
+    {
+        if self.inside {
+            return Step::Belongs(line.len());
+        }
+        let kind = kind_of(line);
+        if self.ends_at(kind) {
+            return Step::Begins;
+        }
+        if !kind.is_tag && line.len() < FRONT_LEN {
+            return Step::Waits;
+        }
+        self.add(kind, true);
+        Step::Belongs(line.len())
+    }
+
+    // Looks at the line with which a text begins.
+    #[inline(always)]
+    fn step(&mut self, text: &[u8]) -> Step
+        requires { 0 < length text.now }
+        ensures { Steps self.old self.new text.now result }
+    {
+        let len = plain_len(text);
+        if len == text.len() {
+            return self.see_open(text);
+        }
+        if self.see_whole(&text[..len + 1]) {
+            return Step::Begins;
+        }
+        Step::Belongs(len + 1)
+    }
+
+    // Looks for the end of the piece in the text that comes after what was seen. `(true, n)`: it ends after `n` bytes.
+    // `(false, n)`: `n` bytes belong to it, and of the others it is not known yet.
+    pub(crate) fn find_end(&mut self, text: &[u8]) -> (bool, usize)
+        ensures { Looks self.old self.new text.now result.0 result.1 }
+    {
+        let mut offset = 0;
+        while offset < text.len() {
+            match self.step(&text[offset..]) {
+                Step::Belongs(len) => offset += len,
+                Step::Begins => return (true, offset),
+                Step::Waits => return (false, offset),
+            }
+        }
+        (false, offset)
+    }
 }

@@ -8,8 +8,9 @@ pub fn pieces_are_cut()
     ensures { PiecesAreCut }
 {}
 
-/// States a law and does nothing: a text that is cut in two where `[Event ` follows a `\n` has the pieces of the
-/// one part and then those of the other. So shards that are cut at such lines have the pieces of the whole.
+/// States a law and does nothing: a text that is cut in two after a line of moves and any empty lines, before a tag
+/// line, has the pieces of the one part and then those of the other. So shards that are cut at such lines have the
+/// pieces of the whole.
 pub fn shards_are_cut()
     ensures { ShardsAreCut }
 {}

@@ -5,9 +5,9 @@ ghost use Rattle.std.specs.Option.{option_map};
 ghost use Rattle.byte_devices.specs.Devices.{InputState};
 ghost use Rattle.pgn_pieces.specs.declared.pieces.TheConstants.{PIECE_LEN};
 ghost use Rattle.pgn_pieces.specs.Stream.{State, unread, past_piece, current, IsStateOf, Next};
-ghost use Rattle.pgn_pieces.specs.ties.Held.{passed, SamePieces, Keeps, FindsEnd, Adds};
+ghost use Rattle.pgn_pieces.specs.ties.Held.{passed, FindsEnd, LetGo, Adds};
 
-use crate::ends::{EVENT_LEN, first_end};
+use crate::ends::Seen;
 use byte_devices::Input;
 use std::alloc::{AllocError, Global};
 use std::marker::Model;
@@ -124,21 +124,13 @@ impl PgnPieces {
     }
 
     // Looks for the current piece's end in the bytes that were read after it, and adds the bytes up to there to the
-    // piece. Returns whether the end was found; if not, all but the last seven bytes are added.
-    fn find_end(&mut self) -> bool
-        ensures { FindsEnd self.old self.new result }
+    // piece. Returns whether the end was found; if not, all but those of a line whose kind is not known yet are added.
+    fn find_end(&mut self, seen: &mut Seen) -> bool
+        ensures { FindsEnd self.old self.new seen.old seen.new result }
     {
-        let coming = &self.held[self.at + self.len..];
-        match first_end(coming) {
-            Some(count) => {
-                self.len += count;
-                true
-            }
-            None => {
-                self.len += coming.len().saturating_sub(EVENT_LEN);
-                false
-            }
-        }
+        let (is_found, count) = seen.find_end(&self.held[self.at + self.len..]);
+        self.len += count;
+        is_found
     }
 
     // Adds all bytes that were read to the current piece, the input's last, and returns whether the piece has any byte.
@@ -152,9 +144,7 @@ impl PgnPieces {
 
     // Forgets the bytes of the current piece if it is too long (over `PIECE_LEN` bytes), and only counts them.
     fn let_go(&mut self)
-        ensures same { SamePieces self.old self.new }
-        ensures keeps { Keeps self.old self.new }
-        ensures coming { self.new.coming ≡ self.old.coming }
+        ensures { LetGo self.old self.new }
     {
         if self.gone > 0 || self.len > PIECE_LEN {
             self.gone += self.len;
@@ -208,8 +198,9 @@ impl PgnPieces {
         ensures some { IfOk result (λ more. more ≡ true → 0 < length self.new.part) }
     {
         self.pass_piece();
+        let mut seen = Seen::nothing();
         loop {
-            if self.find_end() {
+            if self.find_end(&mut seen) {
                 return Ok(true);
             }
             if self.ended {

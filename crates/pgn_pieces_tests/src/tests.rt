@@ -58,25 +58,43 @@ fn check_cut(
     Ok(())
 }
 
-// Texts, and the lengths of their pieces: each ends with byte 10 before `[Event `, or with the text.
-const CUTS: [(&[u8], &[usize]); 8] = [
+// Texts, and the lengths of their pieces.
+const CUTS: [(&[u8], &[usize]); 16] = [
     (b"", &[]),
     (b"1. e4 *", &[7]),
     (b"[Event \"a\"]\n1. e4 *\n\n[Event \"b\"]\n*", &[21, 13]),
-    (b"\n[Event \"a\"]\n", &[1, 12]),
-    (b"a\n[Event \n[Event ", &[2, 8, 7]),
-    // In the middle of a line no piece begins, nor after another byte than 10.
+    (b"\n[Event \"a\"]\n", &[13]),
+    (b"a\n[Event \n[Event \"", &[10, 8]),
     (b"x [Event \"a\"]\r[Event \"b\"]\n", &[26]),
-    // Nor where the line begins in another way.
     (
         b"*\n [Event \"a\"]\n[Events \"b\"]\n[event \"c\"]\n[Event",
-        &[46],
+        &[15, 31],
     ),
     (b"1. e4 {x\r\n[Event \"a\"]\r\n*\r\n", &[10, 16]),
+    (
+        b"[Site \"a\"]\n[Event \"b\"]\n\n*\n\n[Site \"c\"]\n[Event \"d\"]\n*\n",
+        &[27, 25],
+    ),
+    (
+        b"[Event \"a\"]\n[Site \"b\"]\n[Event \"c\"]\n\n*\n",
+        &[23, 15],
+    ),
+    (b"[Site \"a\"]\n; x\n% y\n \t\r\n[Round \"1\"]\n*\n", &[37]),
+    (b"*\n[%clk 1]\n[a 1]\n[] \"\n[\"\n", &[25]),
+    (b"*\n\xef\xbb\xbf[Event \"a\"]\n*\n\xef\xbb\xbf\n", &[2, 21]),
+    (
+        b"[Event \"a\"] 1. e4 *\n[Event \"b\"] *\n[Site \"c\"] *\n",
+        &[20, 27],
+    ),
+    (b"*\n[A_1 \t\"x\"]\n\xef\xbb\xbf% y\n[b\"", &[2, 21]),
+    (
+        b"\xef\xbb\xbf*\n\xef\xbb[a \"b\"]\n\xef\xbb\xbf\xef\xbb\xbf[a \"b\"]\n",
+        &[29],
+    ),
 ];
 
 #[test]
-fn pieces_begin_at_events(rt: HostRuntime) -> Result<(), Fail> {
+fn pieces_begin_at_tags(rt: HostRuntime) -> Result<(), Fail> {
     for (text, lens) in &CUTS {
         for cut in 1..50 {
             check_cut(&rt, &rt, text, cut, lens)?;
@@ -90,28 +108,52 @@ const COLLECTION: &[u8] = b"[Event \"a\"]\n*\n[Event \"b\"]\n*";
 // After a read that failed there is no piece whose end was not read.
 #[test]
 fn failed_reads_end_the_pieces(rt: HostRuntime) -> Result<(), Fail> {
-    let mut input = Counted::reading(PieceReader::new(COLLECTION, 21, 2));
+    let mut input = Counted::reading(PieceReader::new(COLLECTION, 22, 2));
     let mut pieces = PgnPieces::open(rt.alloc())?;
     gives(&rt, &mut pieces, &mut input, 0, Some(b"[Event \"a\"]\n*\n"));
     ends(&rt, &mut pieces, &mut input, Err(PieceFault::ReadFailed));
-    let mut short = Counted::reading(PieceReader::new(COLLECTION, 20, 2));
+    let mut short = Counted::reading(PieceReader::new(COLLECTION, 21, 2));
     let mut none = PgnPieces::open(rt.alloc())?;
     ends(&rt, &mut none, &mut short, Err(PieceFault::ReadFailed));
     Ok(())
 }
 
-// A piece of so many bytes before one of 7 bytes.
+// A piece of so many bytes before one of 8 bytes.
 fn check_long(rt: &impl Abort, host: &HostRuntime, len: usize, is_short: bool) -> Result<(), Fail> {
     let mut text = vec![in host.alloc(); b'x'; len.saturating_sub(1)]?;
     text.push(b'\n')?;
-    text.extend_from_slice(b"[Event ")?;
+    text.extend_from_slice(b"[Event \"")?;
     let mut input = Counted::reading(text.as_slice());
     let mut pieces = PgnPieces::open(host.alloc())?;
     is_equal(rt, &pieces.next(&mut input), &Ok(true));
     assert_eq!(rt; pieces.text().is_some(), is_short, "a piece of {len} bytes");
-    gives(rt, &mut pieces, &mut input, len, Some(b"[Event "));
+    gives(rt, &mut pieces, &mut input, len, Some(b"[Event \""));
     ends(rt, &mut pieces, &mut input, Ok(false));
     Ok(())
+}
+
+// Of a line 256 bytes tell its kind: a tag's name of so many bytes begins a piece after a line of moves, or doesn't.
+fn check_name(rt: &impl Abort, host: &HostRuntime, len: usize, begins: bool) -> Result<(), Fail> {
+    let mut text = vec![in host.alloc(); b'a'; len]?;
+    text.insert(0, b'[')?;
+    text.insert(0, b'\n')?;
+    text.insert(0, b'*')?;
+    text.push(b'"')?;
+    let mut input = Counted::reading(text.as_slice());
+    let mut pieces = PgnPieces::open(host.alloc())?;
+    is_equal(rt, &pieces.next(&mut input), &Ok(true));
+    assert_eq!(rt;
+        pieces.text() == Some(b"*\n".as_slice()),
+        begins,
+        "a name of {len} bytes"
+    );
+    Ok(())
+}
+
+#[test]
+fn names_have_at_most_254_bytes(rt: HostRuntime) -> Result<(), Fail> {
+    check_name(&rt, &rt, 254, true)?;
+    check_name(&rt, &rt, 255, false)
 }
 
 // A piece has at most 16,777,216 bytes, or it has no text; the next one comes at its offset.

@@ -1,60 +1,100 @@
 -- What the steps of cutting do to the bytes that are held.
-use Rattle.std.specs.Prelude.{◌≡◌, ◌≤◌, ◌<◌, ◌^◌, ℕ, ◌+◌, ◌-◌, Bool, true, false, ◌==◌, List, [], ◌∷◌, ◌++◌, length, take, drop, Option, Some, None, Result, Ok, Err}
-use Rattle.std.specs.List.{list_any}
+use Rattle.std.specs.Prelude.{◌≡◌, ◌≤◌, ◌<◌, ◌^◌, ℕ, ◌+◌, Bool, true, false, ◌||◌, ◌==◌, List, [], ◌∷◌, ◌++◌, length, take, drop, Result, Ok, Err}
+use Rattle.std.specs.List.{list_any, concat}
 use Rattle.byte_devices.specs.Devices.{InputState, GavePiece, FailedToRead}
+use Rattle.pgn_pieces.specs.declared.ends.Seen.{Seen}
+use Rattle.pgn_pieces.specs.declared.ends.Step.{Step}
+use Rattle.pgn_pieces.specs.declared.ends.Step.TheVariants.{Begins, Waits, Belongs}
 use Rattle.pgn_pieces.specs.declared.pieces.PieceFault.{PieceFault}
 use Rattle.pgn_pieces.specs.declared.pieces.PieceFault.TheVariants.{ReadFailed, NoMemory, InputTooLong}
-use Rattle.pgn_pieces.specs.Pieces.{piece_at}
-use Rattle.pgn_pieces.specs.Stream.{State, past_piece, current, pieces_after_part, pieces_held}
+use Rattle.pgn_pieces.specs.declared.pieces.TheConstants.{PIECE_LEN}
+use Rattle.pgn_pieces.specs.Pieces.{lines_of, is_tag_line, is_event_line, is_moves_line, begins_piece, cut_lines, cut, piece_of}
+use Rattle.pgn_pieces.specs.Stream.{State}
 
 -- the state s with the next `n` of the bytes that were read (`coming`) added to the current piece
 abbrev pub passed : ℕ → State → State
 passed n s =
     record { offset = s.offset; part = s.part ++ take n s.coming; coming = drop n s.coming; ended = s.ended }
 
--- both states, `s` before a step and `s'` after it, have the same pieces to come, however the input goes on
-abbrev pub SamePieces : State → State → Type 0
-SamePieces s s' = (ended : Bool) (rest : List ℕ) → pieces_held ended s rest ≡ pieces_held ended s' rest
-
--- the current piece of `s'` is the first of those that `s` has to come, however the input goes on
-abbrev pub IsNext : State → State → Type 0
-IsNext s s' = (ended : Bool) (rest : List ℕ)
-    → pieces_held ended s rest ≡ current s' ∷ pieces_held ended (past_piece s') rest
-
 -- whether `\n` is among these bytes
 abbrev pub has_line_end : List ℕ → Bool
 has_line_end = list_any (λ c. c == 10)
 
--- between the offsets `a` and `b` of a text no piece ends: taking the bytes up to `b` into the current piece gives the
--- same pieces as taking those up to `a`, however the text goes on
-abbrev pub Passes : List ℕ → ℕ → ℕ → Type 0
-Passes text a b = (ended : Bool) (offset : ℕ) (part rest : List ℕ)
-    → pieces_after_part ended offset (part ++ take a text) (drop a text ++ rest)
-    ≡ pieces_after_part ended offset (part ++ take b text) (drop b text ++ rest)
+-- ---- the lines of a piece
 
--- what looking for a piece's end in a text found: the piece ends after `n` bytes (`Some n`); or `None`: no end is seen,
--- and all bytes but the last seven, which may begin a cut `[Event `, belong to the piece
-abbrev pub EndsAfter : List ℕ → Option ℕ → Type 0
-EndsAfter text (Some n) = (0 < n) × (n ≤ length text)
-    × ((ended : Bool) (offset : ℕ) (part rest : List ℕ)
-    → pieces_after_part ended offset part (text ++ rest)
-    ≡ piece_at offset (part ++ take n text)
-    ∷ pieces_after_part ended (offset + length (part ++ take n text)) [] (drop n text ++ rest))
-EndsAfter text None = (ended : Bool) (offset : ℕ) (part rest : List ℕ)
-    → pieces_after_part ended offset part (text ++ rest)
-    ≡ pieces_after_part ended offset (part ++ take (length text - 7) text) (drop (length text - 7) text ++ rest)
+-- both lines are of the same kind
+pub record SameKind (line line' : List ℕ) : Type 0 where
+  pub tag : is_tag_line line ≡ is_tag_line line'
+  pub event : is_event_line line ≡ is_event_line line'
+  pub moves : is_moves_line line ≡ is_moves_line line'
 
--- a step from the state `s` to `s'` changed neither the piece's offset nor how many bytes are held
-pub record Keeps (s s' : State) : Type 0 where
+-- the kind of a line that begins with these bytes is told, however it goes on
+abbrev pub Told : List ℕ → Type 0
+Told line = (more : List ℕ) → SameKind (line ++ more) line
+
+-- whether the last line of a piece may go on (true); then its kind is told
+abbrev pub MayGoOn : Bool → List ℕ → Type 0
+MayGoOn false line = line ≡ []
+MayGoOn true line = Told line
+
+-- `seen` is what is known of the lines of a piece that has the bytes `piece` so far: the lines `before`, and then the
+-- beginning of one more, `line`
+pub record HasSeen (seen : Seen) (piece : List ℕ) : Type 0 where
+  pub before : List (List ℕ)
+  pub line : List ℕ
+  pub all : piece ≡ concat before ++ line
+  pub plain : has_line_end line ≡ false
+  pub cuts : (rest : List ℕ) → cut (piece ++ rest) ≡ cut_lines before (lines_of (line ++ rest))
+  pub belongs : begins_piece before line ≡ false
+  pub inside : MayGoOn seen.inside line
+  pub moves : seen.moves ≡ (list_any is_moves_line before || is_moves_line line)
+  pub event : seen.event ≡ (list_any is_event_line before || is_event_line line)
+
+-- the piece ends before this text, however that goes on
+pub record Ends (piece text : List ℕ) : Type 0 where
+  pub cuts : (rest : List ℕ) → cut (piece ++ (text ++ rest)) ≡ piece ∷ cut (text ++ rest)
+  pub some : 0 < length piece
+  pub more : 0 < length text
+
+-- what was found of a line, which ends with `\n`, after what was seen of a piece: the piece ends before it (true), or the
+-- line belongs to it
+abbrev pub SeesWhole : Seen → Seen → List ℕ → Bool → Type 0
+SeesWhole seen seen' line true = (piece more : List ℕ) → HasSeen seen piece → Ends piece (line ++ more)
+SeesWhole seen seen' line false = (piece : List ℕ) → HasSeen seen piece → HasSeen seen' (piece ++ line)
+
+-- what was found of the line with which a text begins; what was seen of a piece before is `seen`, and then `seen'`
+abbrev pub Steps : Seen → Seen → List ℕ → Step → Type 0
+Steps seen seen' text Begins = (piece : List ℕ) → HasSeen seen piece → Ends piece text
+Steps seen seen' text Waits =
+    (seen' ≡ seen) × ((piece : List ℕ) → HasSeen seen piece → cut (piece ++ text) ≡ piece_of (piece ++ text))
+Steps seen seen' text (Belongs n) = (0 < n) × (n ≤ length text)
+    × ((piece : List ℕ) → HasSeen seen piece → HasSeen seen' (piece ++ take n text))
+
+-- what was found of a text that comes after what was seen of a piece: the piece ends after `n` bytes of it (true); or
+-- it goes on after these, and of the other bytes no more is known
+abbrev pub Looks : Seen → Seen → List ℕ → Bool → ℕ → Type 0
+Looks seen seen' text true n = (n ≤ length text)
+    × ((piece : List ℕ) → HasSeen seen piece → Ends (piece ++ take n text) (drop n text))
+Looks seen seen' text false n = (n ≤ length text)
+    × ((piece : List ℕ) → HasSeen seen piece → HasSeen seen' (piece ++ take n text)
+    × (cut (piece ++ text) ≡ piece_of (piece ++ text)))
+
+-- ---- the bytes that are held
+
+-- what looking for the piece's end does to the state, from `s` to `s'`
+abbrev pub FindsEnd : State → State → Seen → Seen → Bool → Type 0
+FindsEnd s s' seen seen' found = (n : ℕ) × (s' ≡ passed n s) × Looks seen seen' s.coming found n
+
+-- these are the bytes of a piece, of which `part` is held: if that is too long, only its length is right
+abbrev pub IsLike : List ℕ → List ℕ → Type 0
+IsLike piece part = (length part ≡ length piece) × (length piece ≤ PIECE_LEN → part ≡ piece)
+
+-- a step from `s` to `s'` changed nothing but the bytes of a piece that is too long
+pub record LetGo (s s' : State) : Type 0 where
+  pub part : IsLike s.part s'.part
   pub offset : s'.offset ≡ s.offset
+  pub coming : s'.coming ≡ s.coming
   pub ended : s'.ended ≡ s.ended
-  pub all : length s'.part + length s'.coming ≡ length s.part + length s.coming
-
--- what looking for the piece's end does to the state, from `s` to `s'`: if `true`, `s'` has the whole piece; if
--- `false`, the piece goes on, and at most seven bytes are not yet part of it
-abbrev pub FindsEnd : State → State → Bool → Type 0
-FindsEnd s s' true = Keeps s s' × IsNext s s' × (0 < length s'.part)
-FindsEnd s s' false = Keeps s s' × SamePieces s s' × (length s'.coming ≤ 7)
 
 -- the state `s` after a read that gave the bytes `more`; if there are none, the input has ended
 abbrev pub with_more : List ℕ → State → State

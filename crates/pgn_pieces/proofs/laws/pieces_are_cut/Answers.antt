@@ -1,6 +1,8 @@
--- The law itself is Whole.pieces_are_cut.
-use Rattle.pgn_pieces.proofs.Whole.{pieces_are_cut}
+-- Both sides are one value.
+use Rattle.std.proofs.Common.{refl}
+use Rattle.pgn_pieces.specs.Pieces.{pieces}
 use Rattle.pgn_pieces.proofs.laws.pieces_are_cut.Goals as goal
 
 pub returns : goal.returns
-returns c = pieces_are_cut
+unfolding pieces
+returns c ended text = refl

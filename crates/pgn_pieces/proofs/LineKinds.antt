@@ -1,0 +1,177 @@
+-- The kind of a line that may go on.
+use Rattle.std.proofs.Common.{◌≡◌, ◌≤◌, ◌<◌, ℕ, zero, suc, ◌+◌, eqb, leb, Bool, true, false, List, [], ◌∷◌, ◌++◌, length, take, drop, cond, refl, sym, ap, ◌∙◌, length-drop, append_assoc, arith}
+use Rattle.std.specs.Prelude.{if◌then◌else◌, ◌&&◌, ◌||◌, not, nat_lt, codes}
+use Rattle.std.specs.List.{prefix_len, take_while}
+use Rattle.std.specs.Str.{bytes_eq}
+use Rattle.std.proofs.lemmas.Bool.{and_parts, leb-true}
+use Rattle.std.proofs.lemmas.Bool.Decides.{nat_tests}
+use Rattle.std.proofs.lemmas.Grind.{common_steps}
+use Rattle.std.proofs.lemmas.List.{take-append-le, drop-append-le}
+use Rattle.std.proofs.lemmas.List.Folds.{prefix_len-append, length-prefix_len}
+use Rattle.std.proofs.lemmas.List.Sums.{prefix_len-le-length}
+use Rattle.pgn_pieces.specs.Pieces.{without_mark, front_of, is_name_byte, is_blank, tag_name, after_name, begins_tag, is_nothing, is_tag_line, is_event_line, is_moves_line}
+use Rattle.pgn_pieces.specs.ties.Held.{SameKind, Told}
+
+-- ---- a line of 256 bytes or more
+
+same_front : (a b : List ℕ) → front_of a ≡ front_of b → SameKind a b
+same_front a b h = record {
+  tag = ap begins_tag h;
+  event = ap (λ f. begins_tag f && bytes_eq (tag_name f) (codes "Event")) h;
+  moves = ap (λ f. not (begins_tag f || is_nothing f)) h;
+}
+
+pub told_long : (line : List ℕ) → 256 ≤ length line → Told line
+told_long line h more = same_front (line ++ more) line (ap without_mark (take-append-le 256 line more h))
+
+-- ---- a shorter tag line
+
+-- bytes that stop a run go on to stop it
+run_kept : (p : ℕ → Bool) (xs ys : List ℕ) → prefix_len p xs < length xs → prefix_len p (xs ++ ys) ≡ prefix_len p xs
+run_kept p xs ys h =
+    let no : eqb (prefix_len p xs) (length xs) ≡ false = grind (arith, nat_tests, h) in
+    prefix_len-append p xs ys ∙ ap (λ b. cond b (length xs + prefix_len p ys) (prefix_len p xs)) no
+
+some_first : (xs : List ℕ) (c : ℕ) → bytes_eq (take 1 xs) (c ∷ []) ≡ true → 0 < length xs
+some_first [] c h = absurd (cc)
+some_first (x ∷ xs) c h = omega arith
+
+module _ (front : List ℕ) (tag : begins_tag front ≡ true) where
+  abbrev rest : List ℕ
+  rest = drop 1 front
+
+  abbrev after : List ℕ
+  after = drop (length (tag_name front)) rest
+
+  parts : ((bytes_eq (take 1 front) (codes "[") && nat_lt 0 (length (tag_name front))) ≡ true)
+      × (bytes_eq (take 1 (after_name front)) (codes "\"") ≡ true)
+  parts = and_parts (bytes_eq (take 1 front) (codes "[") && nat_lt 0 (length (tag_name front)))
+      (bytes_eq (take 1 (after_name front)) (codes "\"")) tag
+
+  some_name : nat_lt 0 (length (tag_name front)) ≡ true
+  some_name = (and_parts (bytes_eq (take 1 front) (codes "[")) (nat_lt 0 (length (tag_name front))) parts.0).1
+
+  quoted : 0 < length (after_name front)
+  quoted = some_first (after_name front) 34 parts.1
+
+  named : 0 < length (tag_name front)
+  named = let h = some_name in grind (arith, nat_tests, h)
+
+  -- three bytes or more
+  pub tag_len : 3 ≤ length front
+  tag_len =
+      let a = length-drop 1 front in
+      let b = length-drop (length (tag_name front)) rest in
+      let c = length-drop (prefix_len is_blank after) after in
+      omega (arith, a, b, c, quoted, named)
+
+  name_ends : prefix_len is_name_byte rest < length rest
+  name_ends =
+      let n = length-prefix_len is_name_byte rest in
+      let b = length-drop (length (tag_name front)) rest in
+      let c = length-drop (prefix_len is_blank after) after in
+      omega (arith, n, b, c, quoted)
+
+  blanks_end : prefix_len is_blank after < length after
+  blanks_end = let c = length-drop (prefix_len is_blank after) after in omega (arith, c, quoted)
+
+  module _ (more : List ℕ) where
+    rest_more : drop 1 (front ++ more) ≡ rest ++ more
+    rest_more = let three = tag_len in drop-append-le 1 front more (omega (arith, three))
+
+    pub name_kept : tag_name (front ++ more) ≡ tag_name front
+    name_kept =
+        ap (take_while is_name_byte) rest_more
+        ∙ ap (λ n. take n (rest ++ more)) (run_kept is_name_byte rest more name_ends)
+        ∙ take-append-le (prefix_len is_name_byte rest) rest more (prefix_len-le-length is_name_byte rest)
+
+    after_more : drop (length (tag_name (front ++ more))) (drop 1 (front ++ more)) ≡ after ++ more
+    after_more =
+        let n = length-prefix_len is_name_byte rest in
+        let l = name_ends in
+        ap (λ xs. drop (length xs) (drop 1 (front ++ more))) name_kept ∙ ap (drop (length (tag_name front))) rest_more
+        ∙ drop-append-le (length (tag_name front)) rest more (omega (arith, n, l))
+
+    after_kept : after_name (front ++ more) ≡ after_name front ++ more
+    after_kept =
+        ap (λ xs. drop (prefix_len is_blank xs) xs) after_more
+        ∙ ap (λ n. drop n (after ++ more)) (run_kept is_blank after more blanks_end)
+        ∙ drop-append-le (prefix_len is_blank after) after more (prefix_len-le-length is_blank after)
+
+    pub tag_kept : begins_tag (front ++ more) ≡ true
+    tag_kept =
+        let q = quoted in
+        let three = tag_len in
+        let first : take 1 (front ++ more) ≡ take 1 front = take-append-le 1 front more (omega (arith, three)) in
+        let quote : take 1 (after_name (front ++ more)) ≡ take 1 (after_name front) =
+        ap (take 1) after_kept ∙ take-append-le 1 (after_name front) more (omega (arith, q)) in
+        ap (λ xs. bytes_eq xs (codes "[") && nat_lt 0 (length (tag_name (front ++ more)))
+        && bytes_eq (take 1 (after_name (front ++ more))) (codes "\"")) first
+        ∙ ap (λ xs. bytes_eq (take 1 front) (codes "[") && nat_lt 0 (length xs)
+        && bytes_eq (take 1 (after_name (front ++ more))) (codes "\"")) name_kept
+        ∙ ap (λ xs. bytes_eq (take 1 front) (codes "[") && nat_lt 0 (length (tag_name front))
+        && bytes_eq xs (codes "\"")) quote ∙ tag
+
+mark_kept : (text more : List ℕ) → 3 ≤ length text → without_mark (text ++ more) ≡ without_mark text ++ more
+mark_kept text more h =
+    ap (λ xs. if bytes_eq xs (239 ∷ 187 ∷ 191 ∷ []) then drop 3 (text ++ more) else text ++ more) (take-append-le 3 text more h)
+    ∙ ap (λ xs. if bytes_eq (take 3 text) (239 ∷ 187 ∷ 191 ∷ []) then xs else text ++ more) (drop-append-le 3 text more h)
+    ∙ apart (bytes_eq (take 3 text) (239 ∷ 187 ∷ 191 ∷ []))
+  where
+    apart : (b : Bool) → (if b then drop 3 text ++ more else text ++ more) ≡ (if b then drop 3 text else text) ++ more
+    apart true = refl
+    apart false = refl
+
+unmarked_le : (text : List ℕ) → length (without_mark text) ≤ length text
+unmarked_le text = by_test (bytes_eq (take 3 text) (239 ∷ 187 ∷ 191 ∷ []))
+  where
+    by_test : (b : Bool) → length (if b then drop 3 text else text) ≤ length text
+    by_test true = omega (arith, length-drop 3 text)
+    by_test false = omega arith
+
+-- a text taken whole, with what follows it as far as that is taken
+taken : (n : ℕ) (xs ys : List ℕ) → length xs ≤ n → (zs : List ℕ) × (take n (xs ++ ys) ≡ xs ++ zs)
+taken n [] ys h = (take n ys, refl)
+taken zero (x ∷ xs) ys h = absurd (omega (arith, h))
+taken (suc n) (x ∷ xs) ys h = let w = taken n xs ys (omega (arith, h)) in (w.0, ap (λ zs. x ∷ zs) w.1)
+
+pub whole : (n : ℕ) (xs : List ℕ) → length xs ≤ n → take n xs ≡ xs
+whole n xs h = grind (arith, common_steps, h)
+
+told_short : (line : List ℕ) → length line ≤ 256 → is_tag_line line ≡ true → Told line
+told_short line h tag more =
+    let f = without_mark line in
+    let front : front_of line ≡ f = ap without_mark (whole 256 line h) in
+    let tag' : begins_tag f ≡ true = ap begins_tag (sym front) ∙ tag in
+    let few = unmarked_le line in
+    let three = tag_len f tag' in
+    let long = taken 256 line more h in
+    let front' : front_of (line ++ more) ≡ f ++ long.0 =
+    ap without_mark long.1 ∙ mark_kept line long.0 (omega (arith, few, three)) in
+    let tags : is_tag_line (line ++ more) ≡ is_tag_line line =
+    ap begins_tag front' ∙ tag_kept f tag' long.0 ∙ sym tag in
+    let names : tag_name (front_of (line ++ more)) ≡ tag_name (front_of line) =
+    ap tag_name front' ∙ name_kept f tag' long.0 ∙ ap tag_name (sym front) in record {
+      tag = tags;
+      event = ap (λ b. b && bytes_eq (tag_name (front_of (line ++ more))) (codes "Event")) tags
+          ∙ ap (λ xs. is_tag_line line && bytes_eq xs (codes "Event")) names;
+      moves = ap (λ b. not (b || is_nothing (front_of (line ++ more)))) (tags ∙ tag)
+          ∙ sym (ap (λ b. not (b || is_nothing (front_of line))) tag);
+    }
+
+pub told_tag : (line : List ℕ) → is_tag_line line ≡ true → Told line
+told_tag line tag = by_test (leb 256 (length line)) refl
+  where
+    by_test : (b : Bool) → leb 256 (length line) ≡ b → Told line
+    by_test true e = told_long line (leb-true 256 (length line) e)
+    by_test false e = told_short line (grind (arith, nat_tests, e)) tag
+
+-- what a line that is told goes on with is no matter
+pub told_on : (line more : List ℕ) → Told line → Told (line ++ more)
+told_on line more told rest =
+    let far = told (more ++ rest) in
+    let near = told more in record {
+      tag = ap is_tag_line (append_assoc line more rest) ∙ far.tag ∙ sym near.tag;
+      event = ap is_event_line (append_assoc line more rest) ∙ far.event ∙ sym near.event;
+      moves = ap is_moves_line (append_assoc line more rest) ∙ far.moves ∙ sym near.moves;
+    }

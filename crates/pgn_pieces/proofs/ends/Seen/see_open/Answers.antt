@@ -1,0 +1,42 @@
+-- Each way out is a lemma of proofs/Seens.
+use Rattle.std.proofs.Common.{refl, sym, ◌∙◌, arith}
+use Rattle.std.proofs.lemmas.Bool.{not-true, not-false}
+use Rattle.pgn_pieces.specs.ties.Held.{Told}
+use Rattle.pgn_pieces.proofs.LineKinds.{told_long, told_tag}
+use Rattle.pgn_pieces.proofs.Seens.{open_inside, open_ends, open_waits, open_comes}
+use Rattle.pgn_pieces.proofs.ends.Seen.see_open.Goals as goal
+use Rattle.pgn_pieces.proofs.ends.Seen.see_open.Goals.{else-not-kind-via-then-not-kind+else-line-lt-FRONT_LEN, else-not-kind-via-else-not-kind}
+
+pub returns-then-self : goal.returns-then-self
+returns-then-self c = (
+  c.requires.plain.0,
+  omega arith,
+  open_inside c.args.self.now c.args.line.now c.requires.plain.1 c.if-self.true,
+)
+
+pub returns-then-ends_at : goal.returns-then-ends_at
+returns-then-ends_at c =
+    let k = c.kind_of-kind.ensures in
+    open_ends c.args.self.now c.args.line.now c.requires.plain.0 c.requires.plain.1 c.if-self.false
+    c.kind_of-kind.result.is_tag c.kind_of-kind.result.is_event k.tag k.event (sym c.ends_at.ensures ∙ c.if-ends_at.true)
+
+pub returns-then-line-lt-FRONT_LEN : goal.returns-then-line-lt-FRONT_LEN
+returns-then-line-lt-FRONT_LEN c = (
+  refl,
+  open_waits c.args.self.now c.args.line.now c.requires.plain.1 c.if-self.false c.kind_of-kind.result.is_tag
+      c.kind_of-kind.ensures.tag (not-true c.kind_of-kind.result.is_tag c.if-not-kind.true),
+)
+
+pub returns : goal.returns
+returns c =
+    let k = c.kind_of-kind.ensures in
+    let told : Told c.args.line.now = elim c.else-not-kind.branch [
+      | else-not-kind-via-then-not-kind+else-line-lt-FRONT_LEN w ↦ let long = w.if-line-lt-FRONT_LEN.false in told_long c.args.line.now (omega (arith, long))
+      | else-not-kind-via-else-not-kind w ↦ told_tag c.args.line.now (sym k.tag ∙ not-false c.kind_of-kind.result.is_tag w.if-not-kind.false)
+    ] in (
+      c.requires.plain.0,
+      omega arith,
+      open_comes c.args.self.now c.add.new.self c.args.line.now c.requires.plain.1 c.if-self.false told
+          c.kind_of-kind.result.is_tag c.kind_of-kind.result.is_event c.kind_of-kind.result.is_moves k.tag k.event k.moves
+          (sym c.ends_at.ensures ∙ c.if-ends_at.false) c.add.ensures.moves c.add.ensures.event c.add.ensures.inside,
+    )
