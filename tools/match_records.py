@@ -57,15 +57,10 @@ class LoggedGame:
     def seat(self, side):
         return self.white if side == "White" else SEATS[self.white == "first"]
 
-    @property
-    def comment(self):
-        """Returns the reason that the engines were sent with the result; None if they were sent no result."""
+    def end(self):
+        """Returns the result and the reason that the engines were sent; (None, None) if the game did not end."""
         results = (RESULT_LINE.fullmatch(line.text) for line in self.lines if line.mark == ">")
-        return next((result[2] for result in results if result), None)
-
-    def ended(self):
-        """Says whether the engines were sent `quit`."""
-        return any(line.mark == ">" and line.text == "quit" for line in self.lines)
+        return next(((found[1], found[2]) for found in results if found), (None, None))
 
     def awaited(self):
         """Returns the line after which the match waited for an answer at the end of this log."""

@@ -242,7 +242,7 @@ class Try:
         if not self.logged:
             return
         number, game = len(self.logged), self.logged[-1]
-        if game.ended():
+        if game.end()[0]:
             running = [STILL_RUNNING.fullmatch(line) for line in self.errors.splitlines()]
             running = [line[1].split() for line in running if line]
             left = [match.engine(seat) for seat in match_records.SEATS]
@@ -261,7 +261,7 @@ class Try:
         """Returns how each game ended, in the words that the engines were sent."""
         found = []
         for number, game in enumerate(self.games):
-            comment = self.logged[number].comment if number < len(self.logged) else None
+            comment = self.logged[number].end()[1] if number < len(self.logged) else None
             found.append(kind_of_end(game, comment))
         return found + ["unfinished"] * (len(self.logged) - len(self.games))
 
