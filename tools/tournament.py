@@ -238,7 +238,7 @@ class Try:
 
     def judge_timed_out(self, match):
         """Finds the engine that a match waited for when its time was over."""
-        self.fault = "the match was not over in time"
+        self.fault = "not over in time"
         if not self.logged:
             return
         number, game = len(self.logged), self.logged[-1]
@@ -253,9 +253,11 @@ class Try:
         asked = game.awaited()
         clock = game.clock(asked)
         waited = last_moment(self.errors) - asked.moment
-        if asked.text.startswith(("ping ", "protover ", "xboard")) or not clock or waited > int(clock.text[5:]) * 10:
+        self.fault = f"game {number}: {game.side(asked.seat)} did not answer '{asked.text}'"
+        if asked.text.startswith(("ping ", "protover ", "xboard")) or not clock or waited > clock_time(clock):
             self.at_fault = [match.engine(asked.seat)]
-            self.fault = f"game {number}: {game.side(asked.seat)} did not answer '{asked.text}'"
+        else:
+            self.fault = f"not over in time, in game {number}: {game.side(asked.seat)} had more time to answer '{asked.text}'"
 
     def ends(self):
         """Returns how each game ended, in the words that the engines were sent."""
@@ -272,6 +274,11 @@ def is_command(engine, words):
     if len(words) < len(parts) or words[len(words) - len(parts) + 1 :] != parts[1:]:
         return False
     return Path(words[len(words) - len(parts)]).name == Path(parts[0]).name
+
+
+def clock_time(line):
+    """Returns the milliseconds that a line `time N` gives."""
+    return int(line.text.removeprefix("time ")) * 10
 
 
 def last_moment(errors):
