@@ -29,7 +29,7 @@ class WrittenGame:
 
 
 class LoggedLine:
-    """A line of a log: its moment in milliseconds, its mark (`<` received, `>` sent, `!` report), the engine, the text."""
+    """A line of a log: its moment in milliseconds, its mark (`<` received, `>` sent, `!` report), engine and text."""
 
     def __init__(self, fields):
         self.moment, self.mark, self.seat, self.text = int(fields[0]), fields[1], fields[2], fields[3]

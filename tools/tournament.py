@@ -222,7 +222,7 @@ class Try:
 
     def counts(self):
         """Says whether the match was played, or ended by a fault or the time limit. Otherwise its host had trouble."""
-        return self.status == 0 or self.fault is not None
+        return (self.status == 0 and "\nscore " in self.text) or self.fault is not None
 
     def judge_failed(self, match):
         """Finds the engine that `arbiter match` names."""
@@ -257,7 +257,8 @@ class Try:
         if asked.text.startswith(("ping ", "protover ", "xboard")) or not clock or waited > clock_time(clock):
             self.at_fault = [match.engine(asked.seat)]
         else:
-            self.fault = f"not over in time, in game {number}: {game.side(asked.seat)} had more time to answer '{asked.text}'"
+            had_time = f"{game.side(asked.seat)} had more time to answer '{asked.text}'"
+            self.fault = f"not over in time, in game {number}: {had_time}"
 
     def ends(self):
         """Returns how each game ended, in the words that the engines were sent."""
@@ -329,24 +330,33 @@ def collect(folder):
     signal.signal(signal.SIGINT, signal.SIG_IGN)
     matches = {match.number: match for match in read_matches(folder)}
     for name in sys.stdin:
-        match = matches[Path(name.strip()).name]
-        path = folder / "running" / match.number
-        errors = path.with_name(path.name + ".err")
-        ended = Try(match, path)
-        if not ended.counts():
-            said = [line for line in ended.errors.splitlines() if not match_records.LOG_LINE.match(line)]
-            reason = said[-1] if said else "its host or parallel ended it"
-            report(f"match {match.number}: not played: {reason}")
-            continue
-        place = folder / "games" / match.number
-        number = len(tries(folder, match)) + 1
-        if place.exists():
-            place.rename(folder / "faults" / f"{match.number}.{number - 1}")
-            place.with_name(place.name + ".err").rename(folder / "faults" / f"{match.number}.{number - 1}.err")
-        errors.rename(place.with_name(place.name + ".err"))
-        path.rename(place)
-        if ended.fault:
-            report(f"match {match.number}, try {number}: {fault_line(ended)}")
+        collect_match(folder, matches[Path(name.strip()).name])
+    for number, match in matches.items():
+        path = folder / "running" / number
+        if path.exists() and Try(match, path).counts():
+            collect_match(folder, match)
+
+
+def collect_match(folder, match):
+    """Moves a match from running/ to games/, and an earlier try from there to faults/."""
+    path = folder / "running" / match.number
+    errors = path.with_name(path.name + ".err")
+    ended = Try(match, path)
+    if not ended.counts():
+        said = [line for line in ended.errors.splitlines() if not match_records.LOG_LINE.match(line)]
+        reason = said[-1] if said else "its host or parallel ended it"
+        report(f"match {match.number}: not played: {reason}")
+        return
+    place = folder / "games" / match.number
+    number = len(tries(folder, match)) + 1
+    if place.exists():
+        earlier = folder / "faults" / f"{match.number}.{number - 1}"
+        place.rename(earlier)
+        place.with_name(place.name + ".err").rename(earlier.with_name(earlier.name + ".err"))
+    errors.rename(place.with_name(place.name + ".err"))
+    path.rename(place)
+    if ended.fault:
+        report(f"match {match.number}, try {number}: {fault_line(ended)}")
 
 
 def report(text):
@@ -403,7 +413,8 @@ def table_text(rows):
     text = [f"{'':>3} {'engine':{width}} {'points':>7} {'faults':>7} {'time':>5} {'rules':>6}{head}"]
     for number, (row, row_cells) in enumerate(zip(ordered, cells), 1):
         counts = f"{row.points:>7g} {row.faults:>7} {row.time:>5} {row.rules:>6}"
-        text.append(f"{number:>3} {row.engine:{width}} {counts}" + "".join(f"{cell:>{cell_width}}" for cell in row_cells))
+        against = "".join(f"{cell:>{cell_width}}" for cell in row_cells)
+        text.append(f"{number:>3} {row.engine:{width}} {counts}{against}")
     return text
 
 
@@ -411,7 +422,7 @@ def table(folder, most_tries):
     """Writes games.pgn and table.txt, prints the table, and returns the status of the tournament."""
     matches = read_matches(folder)
     rows = {engine: Row(engine) for engine in lines(folder / "engines.txt")}
-    ends, faults, failed, unplayed, games = Counter(), [], [], [], []
+    ends, faults, failed, unplayed, again, games = Counter(), [], [], [], [], []
     for match in matches:
         tried = tries(folder, match)
         for ended in tried:
@@ -421,10 +432,12 @@ def table(folder, most_tries):
                 faults.append(f"match {match.number}: {fault_line(ended)} ({ended.path.relative_to(folder)}.err)")
         if not tried:
             unplayed.append(match.number)
+            again.append(match.number)
             continue
         last = tried[-1]
         if last.status != 0:
             failed.append(match.number)
+            again += [match.number] if len(tried) < most_tries else []
         games.append(re.sub(r"(?m)^score .*\n", "", last.text))
         ends.update(last.ends())
         for number, game in enumerate(last.games, 1):
@@ -438,7 +451,6 @@ def table(folder, most_tries):
     print("\n".join(text), flush=True)
     if failed:
         report(f"ended by a fault: {len(failed)} of {len(matches)} matches: {' '.join(failed)}")
-    again = unplayed + [match.number for match in matches if match.number in failed and len(tries(folder, match)) < most_tries]
     if again:
         report(f"the same command plays {len(again)} of {len(matches)} matches: {' '.join(again)}")
     return 1 if failed or unplayed else 0
@@ -465,6 +477,7 @@ def forget(folder):
 
 def main():
     words = sys.argv[1:]
+    sys.argv[0] = "tournament"
     if len(words) < 2:
         needed.stop("tools/tournament calls this script")
     folder = Path(words[1])
