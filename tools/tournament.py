@@ -27,8 +27,9 @@ import needed
 LISTS = ("engines.txt", "openings.txt", "options.txt", "matches.tsv")
 MADE = (*LISTS, "games.pgn", "table.txt", "jobs.tsv", "running.tsv")
 GIVEN = ("--white", "--black", "--games", "--fen", "--log")
-STATUS = re.compile(r"tournament: status (\d+)")
-STILL_RUNNING = re.compile(r"tournament: still running: (.*)")
+STATUS = re.compile(r"(?m)^tournament: status (\d+)$")
+STILL_RUNNING = re.compile(r"(?m)^tournament: still running: (.*)$")
+ENDS = re.compile(r"(?m)^\d+ >(?:first|second) ?: (?:xboard|result .*)$")
 TIMED_OUT = 124
 
 
@@ -85,7 +86,8 @@ def read_openings(path, variant):
     commands = []
     for number, line in found:
         commands += session_commands(line, variant) + ["showfen", f"ping {number}"]
-    run = subprocess.run(["arbiter"], input="\n".join(commands) + "\n", stdout=subprocess.PIPE, encoding="utf-8")
+    text = "\n".join(commands) + "\n"
+    run = subprocess.run(["arbiter"], input=text, stdout=subprocess.PIPE, encoding="utf-8", errors="replace")
     if run.returncode != 0:
         needed.stop(f"arbiter ended with status {run.returncode}")
     fens, refusals, answers = [], [], []
@@ -209,11 +211,8 @@ class Try:
         self.text = path.read_text(encoding="latin-1") if path.exists() else ""
         errors = path.with_name(path.name + ".err")
         self.errors = errors.read_text(encoding="latin-1") if errors.exists() else ""
-        self.games = match_records.written_games(self.text)
-        self.logged = match_records.logged_games(self.errors)
-        found = [STATUS.fullmatch(line) for line in self.errors.splitlines() if line.startswith("tournament: ")]
-        found = [status for status in found if status]
-        self.status = int(found[-1][1]) if found else None
+        found = STATUS.findall(self.errors)
+        self.status = int(found[-1]) if found else None
         self.at_fault, self.fault = [], None
         if self.status == 1:
             self.judge_failed(match)
@@ -239,12 +238,12 @@ class Try:
     def judge_timed_out(self, match):
         """Finds the engine that a match waited for when its time was over."""
         self.fault = "not over in time"
-        if not self.logged:
+        logged = match_records.logged_games(self.errors)
+        if not logged:
             return
-        number, game = len(self.logged), self.logged[-1]
+        number, game = len(logged), logged[-1]
         if game.end()[0]:
-            running = [STILL_RUNNING.fullmatch(line) for line in self.errors.splitlines()]
-            running = [line[1].split() for line in running if line]
+            running = [words.split() for words in STILL_RUNNING.findall(self.errors)]
             left = [match.engine(seat) for seat in match_records.SEATS]
             left = [engine for engine in left if any(is_command(engine, words) for words in running)]
             if left:
@@ -260,13 +259,18 @@ class Try:
             had_time = f"{game.side(asked.seat)} had more time to answer '{asked.text}'"
             self.fault = f"not over in time, in game {number}: {had_time}"
 
+    def games(self):
+        """Returns the games that were written."""
+        return match_records.written_games(self.text)
+
     def ends(self):
         """Returns how each game ended, in the words that the engines were sent."""
-        found = []
-        for number, game in enumerate(self.games):
-            comment = self.logged[number].end()[1] if number < len(self.logged) else None
-            found.append(kind_of_end(game, comment))
-        return found + ["unfinished"] * (len(self.logged) - len(self.games))
+        games, found = self.games(), []
+        # A log is long: only the lines in which games begin and end are looked at.
+        logged = match_records.logged_games("\n".join(ENDS.findall(self.errors)))
+        for number, game in enumerate(games):
+            found.append(kind_of_end(game, logged[number].end()[1] if number < len(logged) else None))
+        return found + ["unfinished"] * (len(logged) - len(games))
 
 
 def is_command(engine, words):
@@ -440,7 +444,7 @@ def table(folder, most_tries):
             again += [match.number] if len(tried) < most_tries else []
         games.append(re.sub(r"(?m)^score .*\n", "", last.text))
         ends.update(last.ends())
-        for number, game in enumerate(last.games, 1):
+        for number, game in enumerate(last.games(), 1):
             if game.result != "*":
                 add_game(rows, match.first, match.second, number, game)
     count = f"{len(matches) - len(unplayed)} of {len(matches)} matches, {sum(ends.values())} games"
