@@ -2,7 +2,8 @@
 #   CRATE       its stamp: the crates that it uses and its files, each with its size and time, as its proof began
 #   CRATE.rlib  its library: what the crates above it can cite, without proofs
 #   CRATE.log   what the toolchain printed
-# A crate is made again where its stamp differs from what is there now, or is older than that of a crate that it uses.
+# A crate is made again where its stamp differs from what is there now, or is older than that of a crate that it uses, and where
+# its library, or the program, is missing.
 
 SHELL := bash
 .ONESHELL:
@@ -16,6 +17,9 @@ crates := $(notdir $(wildcard $(top)/crates/*))
 uses = $(shell sed -n 's/^$1: *//p' $(top)/crates.txt)
 now = { echo '$(call uses,$1)'; find $(top)/crates/$1/{src,specs,proofs} '$(kit)/WHAT' -type f \
     \( -name '*.rt' -o -name '*.antt' -o -name WHAT \) -printf '%p %s %T@\n' 2>/dev/null | LC_ALL=C sort; }
+
+# What the build of a crate leaves for others.
+output = $(if $(wildcard $(top)/crates/$1/src/main.rt),$(top)/crates/$1/out/$1,$1.rlib)
 
 # A second process for a crate costs a fifth of a processor's time more than one process alone, and four cost half more. So a crate
 # that little waits for gets one process, on the processors that the others leave, and those that are proved beside each other two.
@@ -40,7 +44,7 @@ changed: ;
 
 # Where a crate is not proved, `kill 0` ends this make and all that it runs.
 $(crates): %: $$(filter $$(crates),$$(call uses,$$*)) \
-    $$(shell ($$(call now,$$*) | cmp -s - $$*) 2>/dev/null || echo changed)
+    $$(shell ($$(call now,$$*) | cmp -s - $$* && test -e $$(call output,$$*)) 2>/dev/null || echo changed)
 	@rm -f $@
 	$(call now,$@) >$@.new
 	if (cd $(top)/crates/$@ && $(if $(wildcard $(top)/crates/$@/src/main.rt),$(program),$(library))) >$@.log 2>&1; then

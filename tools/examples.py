@@ -3,12 +3,12 @@
 
     python3 tools/examples.py [--arbiter PROGRAM] [FILE..]      README.md and docs/*.md if no file is named
 
-An example is an indented block whose first line begins with `$ `: a command, continued on lines that begin with `> `, and
-then what it prints on standard output. An indented block after the line `<!-- runs -->` is an example too: all of it is one
-command, which must end with status 0. The examples of a document are run by bash, in their order, in one new temporary
-folder; `arbiter` is PROGRAM there, or else the launcher, and the engines of ENGINES are stubs that resign. An example is
-skipped if it, or an example before it in its block, names a program of NEEDED that isn't installed. The exit status is 1 if an
-example goes otherwise."""
+An example is an indented block whose first line begins with `$ `: a command, continued on lines that begin with `> `,
+and then what it prints on standard output. An indented block after the line `<!-- runs -->` is an example too: all of
+it is one command, which must end with status 0. The examples of a document are run by bash, in their order, in one new
+temporary folder; `arbiter` is PROGRAM there, or else the launcher, `tools` is the folder of this script, and the
+engines of ENGINES are stubs that resign. An example is skipped if it, or an example before it in its block, names a
+program of NEEDED that isn't installed. The exit status is 1 if an example goes otherwise."""
 
 import argparse
 import os
@@ -103,6 +103,7 @@ def main():
             (Path(programs) / engine).chmod(0o755)
         for name, text in texts.items():
             with tempfile.TemporaryDirectory() as folder:
+                (Path(folder) / "tools").symlink_to(TOP / "tools")
                 left_out = None
                 for line, block, command, expected in examples(text):
                     if block == left_out or any(re.search(rf"\b{needed}\b", command) for needed in missing):

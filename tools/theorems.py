@@ -45,9 +45,9 @@ def read(page):
     return (TOP / page).read_text(encoding="utf-8")
 
 
-# ---- short links: `[base/Moves]`, `[base/position.rt]`
+# ---- short links: `[base/Moves]`, `[base/position.rt]`; `[pieces/laws/Places]` if the crate has another file of that name
 
-SHORT_LINK = re.compile(r"\[([a-z_]+/[\w.]+)\](?!\(|:)")
+SHORT_LINK = re.compile(r"\[([a-z_]+/(?:laws/|ties/)?[\w.]+)\](?!\(|:)")
 
 
 def links_of(page, text):
@@ -71,7 +71,7 @@ def slug(heading):
     return text.replace(" ", "-")
 
 
-READ = re.compile(r"\[([a-z_]+/\w+)\](?: \(([^)]*)\))?")
+READ = re.compile(r"\[([a-z_]+/(?:laws/|ties/)?\w+)\](?: \(([^)]*)\))?")
 
 
 class Claim:
@@ -301,8 +301,10 @@ def check_graph(text):
 def label_of(path):
     """The short link to a file of specs/ or src/."""
     crate, folder, file = re.match(r"crates/(\w+)/(specs|src)/(.*)$", path).groups()
-    name = file.split("/")[-1]
-    return f"{next(short for short, whole in SHORT.items() if whole == crate)}/{name if folder == 'src' else name[: -len('.antt')]}"
+    short = next(short for short, whole in SHORT.items() if whole == crate)
+    whole = f"{short}/{file.removesuffix('.antt')}"
+    label = f"{short}/{whole.split('/')[-1]}"
+    return label if target_of(label) == path else whole
 
 
 def with_reading(claims, reached, place):

@@ -56,16 +56,19 @@ abbrev pub is_nothing : List ℕ → Bool
 is_nothing front = bytes_eq (take 1 front) (codes "%") || bytes_eq (take 1 front) (codes ";")
     || list_all is_white front
 
--- a line is a tag line, and perhaps an Event line; or empty; or else a line of moves
+-- whether a line is a tag line; each line is a tag line, or empty, or a line of moves
 abbrev pub is_tag_line : List ℕ → Bool
 is_tag_line line = begins_tag (front_of line)
 
+-- whether it is a tag line of the tag Event
 abbrev pub is_event_line : List ℕ → Bool
 is_event_line line = is_tag_line line && bytes_eq (tag_name (front_of line)) (codes "Event")
 
+-- whether a line is empty
 abbrev pub is_empty_line : List ℕ → Bool
 is_empty_line line = is_nothing (front_of line)
 
+-- whether it is a line of moves: neither a tag line nor empty
 abbrev pub is_moves_line : List ℕ → Bool
 is_moves_line line = not (is_tag_line line || is_empty_line line)
 
