@@ -19,7 +19,7 @@ use Rattle.pgn_verifier.specs.declared.tally.Tally.{Tally}
 use Rattle.pgn_verifier.specs.declared.fault.VerifyFault.TheVariants.{WriteFailed}
 use Rattle.pgn_verifier.specs.Reports.{reports_in, report_lines, counts_line, counts_of}
 use Rattle.pgn_verifier.specs.Collection.{collection_reports, collection_lines, VerifiesCollection}
-use Rattle.pgn_verifier.specs.ties.OnTheWay.{WritesCollection, Writes, PieceStandsIf, next_number, GrowsBy, reports_of, counted}
+use Rattle.pgn_verifier.specs.ties.OnTheWay.{WritesCollection, Writes, PieceStandsIf, GrowsBy, reports_of, counted}
 use Rattle.pgn_verifier.specs.ties.Faults.{piece_fault}
 use Rattle.pgn_verifier.proofs.Placed.{piece_there}
 use Rattle.pgn_verifier.proofs.LinesWritten.{took_after, broke_after, lines_after, wrote_none, counted_after}

@@ -1,5 +1,5 @@
 -- Reports that are written one after the other, and counted.
-use Rattle.std.proofs.Common.{◌≡◌, ℕ, ◌+◌, Bool, List, [], ◌∷◌, ◌++◌, length, Result, Ok, Err, refl, sym, ap, subst, ◌∙◌, append_assoc, append-nil, arith}
+use Rattle.std.proofs.Common.{◌≡◌, ℕ, ◌+◌, List, [], ◌∷◌, ◌++◌, length, Result, Ok, Err, refl, sym, ap, subst, ◌∙◌, append_assoc, append-nil, arith}
 use Rattle.byte_devices.specs.Devices.{OutputState, Took, BreaksOff}
 use Rattle.byte_devices.proofs.DeviceLaws.{took_none, took_more, breaks_more, breaks_longer}
 use Rattle.pgn_verifier.specs.declared.options.VerifyOptions.{VerifyOptions}

@@ -1,6 +1,6 @@
 -- Where a fault is: counted from the text's beginning, and from the input's.
-use Rattle.std.proofs.Common.{◌≡◌, ◌≤◌, ℕ, ◌+◌, ◌-◌, Bool, true, false, not, cond, List, [], ◌∷◌, ◌++◌, length, take, drop, refl, sym, ap, ◌∙◌, length-drop, arith}
-use Rattle.std.specs.Prelude.{if◌then◌else◌, Some, reverse, min}
+use Rattle.std.proofs.Common.{◌≡◌, ◌≤◌, ℕ, ◌+◌, ◌-◌, Bool, not, cond, List, [], ◌∷◌, ◌++◌, length, take, drop, refl, sym, ap, ◌∙◌, length-drop, arith}
+use Rattle.std.specs.Prelude.{if◌then◌else◌, Some, reverse}
 use Rattle.std.specs.List.{prefix_len}
 use Rattle.std.proofs.Math.Seq.{take-add}
 use Rattle.std.proofs.lemmas.List.{take-take, take_all, take-append-le, drop-append-le, length-take, reverse-append}

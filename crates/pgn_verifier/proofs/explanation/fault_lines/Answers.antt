@@ -1,8 +1,7 @@
 -- The place counted from the text's beginning is the one in the input (Placed).
-use Rattle.std.proofs.Common.{◌≡◌, ◌+◌, ◌++◌, [], length, take, drop, sym, ap, ◌∙◌}
+use Rattle.std.proofs.Common.{◌+◌, ◌++◌, [], drop, sym, ap, ◌∙◌}
 use Rattle.std.specs.Prelude.{if◌then◌else◌}
 use Rattle.std.proofs.Math.Path.{ap₂}
-use Rattle.pgn_pieces.specs.Places.{line_of, column_of}
 use Rattle.pgn_verifier.specs.Explanations.{explained, explanation_at, explanation_line}
 use Rattle.pgn_verifier.specs.Reports.{fault_line}
 use Rattle.pgn_verifier.specs.ties.OnTheWay.{moved}

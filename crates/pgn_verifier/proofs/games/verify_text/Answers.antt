@@ -1,6 +1,6 @@
 -- The games up to here were reported (TextVerified.SoFar). A game more keeps that; no game, a fault and a failed write
 -- each end it by one lemma.
-use Rattle.std.proofs.Common.{◌≡◌, ◌≤◌, ◌+◌, ◌∙◌, ◌++◌, ◌∷◌, [], Ok, length, drop, sym, ap, subst, arith}
+use Rattle.std.proofs.Common.{◌≡◌, ◌+◌, ◌∙◌, ◌++◌, ◌∷◌, [], Ok, length, drop, sym, ap, subst}
 use Rattle.std.specs.Prelude.{if◌then◌else◌}
 use Rattle.byte_devices.specs.Devices.{Took, BreaksOff}
 use Rattle.byte_devices.specs.declared.traits.WriteFault.{WriteFault}
