@@ -65,6 +65,21 @@ fn last_line_len(text: &[u8]) -> usize
     text.iter().rev().take_while(|byte| **byte != b'\n').count()
 }
 
+// The line of the byte after these, which begin on the line `start`.
+fn line_after(start: usize, before: &[u8]) -> usize
+    requires { start + length before.now < 2 ^ 64 }
+    ensures { result ≡ start + line_ends before.now }
+{
+    start + line_ends(before)
+}
+
+// The column of the byte after these, which begin where a line begins.
+fn column_after(before: &[u8]) -> usize
+    ensures { result ≡ last_line_len before.now + 1 }
+{
+    last_line_len(before) + 1
+}
+
 // Appends ` | ` and the board's verdict, such as `0-1 {Black mates}`; nothing without one.
 fn append_verdict(lines: &mut FaultLines, verdict: Option<Verdict>)
     requires { array_vec_len lines.old + 80 ≤ FAULT_LINES_LEN }
@@ -204,8 +219,8 @@ pub(crate) fn fault_lines<B: Board>(
     let mut lines = fault_line(number, fault.moved(start.offset));
     if explain {
         let before = &text[..fault.offset];
-        let line = start.line + line_ends(before);
-        let column = last_line_len(before) + 1;
+        let line = line_after(start.line, before);
+        let column = column_after(before);
         append_explanation(
             &mut lines,
             line,

@@ -18,11 +18,10 @@ returns-then-explain g c input stands =
     let s = c.args.game.now.state in
     let own = fault_line c.args.number (moved start.offset c.args.fault) in
     let first = c.fault_line-lines.ensures.text ∙ ap (fault_line c.args.number) c.moved.ensures in
-    let line = ap (λ n. start.line + n) c.line_ends.ensures.value ∙ sym (line_there start input text at c.requires.within here) in
-    let column = ap (λ n. n + 1) c.last_line_len-column.ensures.value
-    ∙ sym (column_there start input text at c.requires.within here) in
+    let line = c.line_after-line.ensures ∙ sym (line_there start input text at c.requires.within here) in
+    let column = c.column_after-column.ensures ∙ sym (column_there start input text at c.requires.within here) in
     c.append_explanation.ensures
-    ∙ ap₂ (λ xs t. xs ++ explanation_at (start.line + c.line_ends.result) (c.last_line_len-column.result + 1)
+    ∙ ap₂ (λ xs t. xs ++ explanation_at c.line_after-line.result c.column_after-column.result
     (explained s t kind)) first (rest_is at text)
     ∙ ap₂ (λ l k. own ++ explanation_at l k (explained s (drop at text) kind)) line column
     ∙ sym (ap (λ b. own ++ (if b then explanation_line input (start.offset + at) (explained s (drop at text) kind) else []))
