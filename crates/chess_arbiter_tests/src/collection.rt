@@ -8,7 +8,7 @@ use std::test::Fail;
 const KEEP_GOING: &[&str] = &["verify", "--keep-going"];
 
 // Collections, what is written of them, and the status.
-const PIECES: [(&[u8], &[u8], u8); 15] = [
+const PIECES: [(&[u8], &[u8], u8); 16] = [
     // Tags without a game.
     (
         b"[Event \"a\"]\n[Site \"b\"]\n",
@@ -21,7 +21,7 @@ const PIECES: [(&[u8], &[u8], u8); 15] = [
         b"game 1: no result at byte 20\ngame 2: 1 half-moves, *\ngames 1 half-moves 1 faults 1\n",
         1,
     ),
-    // Text before the first `[Event `: a game, or none.
+    // Text before the first tag: a game, or none.
     (
         b"1. e4 *\n\n[Event \"a\"]\n1. d4 *",
         b"game 1: 1 half-moves, *\ngame 2: 1 half-moves, *\ngames 2 half-moves 2 faults 0\n",
@@ -49,8 +49,14 @@ const PIECES: [(&[u8], &[u8], u8); 15] = [
         1,
     ),
     (
-        b"[Site \"x\n[Event \"b\"]\n1. d4 *",
+        b"[Site \"x\n*\n[Event \"b\"]\n1. d4 *",
         b"game 1: bad tag at byte 0\ngame 2: 1 half-moves, *\ngames 1 half-moves 1 faults 1\n",
+        1,
+    ),
+    // Without moves between them tags stay together.
+    (
+        b"[Site \"x\n[Event \"b\"]\n1. d4 *",
+        b"game 1: bad tag at byte 0\ngames 0 half-moves 0 faults 1\n",
         1,
     ),
     // In the middle of a line no piece begins.
@@ -59,10 +65,10 @@ const PIECES: [(&[u8], &[u8], u8); 15] = [
         b"game 1: 1 half-moves, *\ngame 2: illegal move at byte 61\ngames 1 half-moves 1 faults 1\n",
         1,
     ),
-    // Nor where the line begins with other bytes.
+    // Nor after a space, but before any name.
     (
         b"1. e4 e4 *\n [Event \"b\"] *\n[Events \"c\"] *\n[event \"d\"] *",
-        b"game 1: illegal move at byte 6\ngames 0 half-moves 0 faults 1\n",
+        b"game 1: illegal move at byte 6\ngame 2: 0 half-moves, *\ngame 3: 0 half-moves, *\ngames 2 half-moves 0 faults 1\n",
         1,
     ),
     // Lines that end with bytes 13 and 10, and with 13 alone.
@@ -135,8 +141,8 @@ fn check_each_cut(
     Ok(())
 }
 
-/// Three pieces, the second with a fault; no line feed follows the last. The end of the first is known after 32 bytes,
-/// that of the second after 57.
+/// Three pieces, the second with a fault; no line feed follows the last. The end of the first is known after 33 bytes,
+/// that of the second after 58: with the `"` that makes a line a tag line.
 pub const COLLECTION: &[u8] =
     b"[Event \"a\"]\n\n1. e4 e5 *\n\n[Event \"b\"]\n\n1. e4 e4 *\n\n[Event \"c\"]\n\n1. d4 1-0";
 
@@ -162,9 +168,9 @@ fn collections_cut_at_each_byte(rt: HostRuntime) -> Result<(), Fail> {
 
 // The lines of the pieces whose end is among so many bytes.
 fn lines_known(given: usize) -> &'static [u8] {
-    if given < 32 {
+    if given < 33 {
         b""
-    } else if given < 57 {
+    } else if given < 58 {
         FIRST_LINE
     } else {
         TWO_LINES

@@ -7,11 +7,13 @@ use std::process::Abort;
 const ALL: VerifyOptions = VerifyOptions {
     quiet: false,
     strict: false,
+    explain: false,
 };
 
 const STRICT: VerifyOptions = VerifyOptions {
     quiet: true,
     strict: true,
+    explain: false,
 };
 
 // A text that is read by at most `cut` bytes at a time, and of which the read numbered `fails_at` fails.
