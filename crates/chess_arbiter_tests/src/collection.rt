@@ -114,6 +114,7 @@ fn collections_in_all_pieces(rt: HostRuntime) {
 fn check_two_reads(
     rt: &impl Abort,
     host: &HostRuntime,
+    words: &[&str],
     text: &'static [u8],
     at: usize,
     wanted: Wanted<'_>,
@@ -124,19 +125,20 @@ fn check_two_reads(
         inner: 0,
         back,
     };
-    run_on(host, KEEP_GOING, parts).check(rt, wanted);
+    run_on(host, words, parts).check(rt, wanted);
     Ok(())
 }
 
-// Verifies a collection that comes in two reads, cut after each byte.
-fn check_each_cut(
+/// Verifies a collection that comes in two reads, cut after each byte.
+pub fn check_each_cut(
     rt: &impl Abort,
     host: &HostRuntime,
+    words: &[&str],
     text: &'static [u8],
     wanted: Wanted<'_>,
 ) -> Result<(), Fail> {
     for at in 0..=text.len() {
-        check_two_reads(rt, host, text, at, wanted)?;
+        check_two_reads(rt, host, words, text, at, wanted)?;
     }
     Ok(())
 }
@@ -162,8 +164,20 @@ const MIXED_LINES: &[u8] =
 
 #[test]
 fn collections_cut_at_each_byte(rt: HostRuntime) -> Result<(), Fail> {
-    check_each_cut(&rt, &rt, COLLECTION, Wanted::without_errors(ALL_LINES, 1))?;
-    check_each_cut(&rt, &rt, MIXED, Wanted::without_errors(MIXED_LINES, 1))
+    check_each_cut(
+        &rt,
+        &rt,
+        KEEP_GOING,
+        COLLECTION,
+        Wanted::without_errors(ALL_LINES, 1),
+    )?;
+    check_each_cut(
+        &rt,
+        &rt,
+        KEEP_GOING,
+        MIXED,
+        Wanted::without_errors(MIXED_LINES, 1),
+    )
 }
 
 // The lines of the pieces whose end is among so many bytes.
@@ -177,49 +191,65 @@ fn lines_known(given: usize) -> &'static [u8] {
     }
 }
 
-// Verifies the collection where a read fails after so many bytes.
-fn check_failed_read(rt: &impl Abort, host: &HostRuntime, given: usize) {
+/// Verifies a text where a read fails after so many bytes, by when these lines are known.
+pub fn check_failed_read(
+    rt: &impl Abort,
+    host: &HostRuntime,
+    words: &[&str],
+    text: &[u8],
+    given: usize,
+    lines: &[u8],
+) {
     let devices = Devices {
         piece: 1,
         read_fails: (given as u64).saturating_add(1),
         ..SOUND
     };
     let wanted = Wanted {
-        output: lines_known(given),
+        output: lines,
         errors: b"arbiter: read failed\n",
         status: 1,
     };
-    run(host, KEEP_GOING, COLLECTION, devices).check(rt, wanted);
+    run(host, words, text, devices).check(rt, wanted);
 }
 
 // Exactly the lines of the pieces whose end was read are written, also where the read of the input's end fails.
 #[test]
 fn collections_whose_reads_fail(rt: HostRuntime) {
     for given in 0..=COLLECTION.len() {
-        check_failed_read(&rt, &rt, given);
+        let lines = lines_known(given);
+        check_failed_read(&rt, &rt, KEEP_GOING, COLLECTION, given, lines);
     }
 }
 
-// Verifies the collection where a write, or the flush after all of them, fails after so many bytes.
-fn check_failed_write(rt: &impl Abort, host: &HostRuntime, taken: usize) -> Result<(), Fail> {
+/// Verifies a text, of which these lines are written, where a write, or the flush after all of them, fails after so many
+/// bytes.
+pub fn check_failed_write(
+    rt: &impl Abort,
+    host: &HostRuntime,
+    words: &[&str],
+    text: &[u8],
+    taken: usize,
+    lines: &[u8],
+) -> Result<(), Fail> {
     let devices = Devices {
         taken: 1,
         write_fails: (taken as u64).saturating_add(1),
         ..SOUND
     };
     let wanted = Wanted {
-        output: ALL_LINES.get(..taken).ok_or("a beginning")?,
+        output: lines.get(..taken).ok_or("a beginning")?,
         errors: b"arbiter: write failed\n",
         status: 1,
     };
-    run(host, KEEP_GOING, COLLECTION, devices).check(rt, wanted);
+    run(host, words, text, devices).check(rt, wanted);
     Ok(())
 }
 
 #[test]
 fn collections_whose_writes_fail(rt: HostRuntime) -> Result<(), Fail> {
     for taken in 0..=ALL_LINES.len() {
-        check_failed_write(&rt, &rt, taken)?;
+        check_failed_write(&rt, &rt, KEEP_GOING, COLLECTION, taken, ALL_LINES)?;
     }
     Ok(())
 }
