@@ -108,25 +108,24 @@ fn collections_go_on_after_a_fault(rt: HostRuntime) {
     );
 }
 
+// With its `"` a tag's beginning ends the piece before it; without, it may be a line of moves.
 #[test]
 fn failed_reads_leave_the_lines_that_are_known(rt: HostRuntime) {
     let given = Given {
         text: b"1. e4 *\n[Event \"a\"]\n1. d4 *",
+        cut: 16,
+        fails_at: 2,
+    };
+    let short = Given {
+        text: given.text,
         cut: 15,
         fails_at: 2,
     };
     let failed = Err(VerifyFault::ReadFailed);
     check(&rt, &rt, false, ALL, given, failed, b"");
+    check(&rt, &rt, true, ALL, short, failed, b"");
     let line = b"game 1: 1 half-moves, *\n";
-    check(
-        &rt,
-        &rt,
-        true,
-        ALL,
-        given,
-        Err(VerifyFault::ReadFailed),
-        line,
-    );
+    check(&rt, &rt, true, ALL, given, failed, line);
 }
 
 #[test]
