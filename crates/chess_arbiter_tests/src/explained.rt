@@ -302,41 +302,20 @@ fn places_in_all_pieces(rt: HostRuntime) {
 
 // Collections with a piece that is too long: the text before its bytes `a`, how many these are, the text after them, and
 // what is written.
-const LONG: [(&[u8], usize, &[u8], &[u8]); 5] = [
+const LONG: [(&[u8], usize, &[u8], &[u8]); 2] = [
     // Line ends in it, and after it, count.
     (
         b"{first word\nx\n",
-        16777216,
+        16_777_216,
         b"\n} *\n[Event \"b\"]\n1. e4\n e4 *",
         b"game 1: too long at byte 0\n# line 1 column 1 {first\ngame 2: illegal move at byte 16777254\n# line 7 column 2 e4 | rnbqkbnr/pppppppp/8/8/4P3/8/PPPP1PPP/RNBQKBNR b KQkq e3 0 1\ngames 0 half-moves 0 faults 2\n",
     ),
     // The second piece.
     (
         b"1. e4 *\n\n[Site \"x\"]\n{",
-        16777216,
+        16_777_216,
         b"\n[Event \"c\"]\r\n* & *",
         b"game 1: 1 half-moves, *\ngame 2: too long at byte 9\n# line 3 column 1 [Site\ngame 3: 0 half-moves, *\ngame 4: bad token at byte 16777253\n# line 6 column 3 & | rnbqkbnr/pppppppp/8/8/8/8/PPPPPPPP/RNBQKBNR w KQkq - 0 1\ngames 2 half-moves 1 faults 2\n",
-    ),
-    // A word of more than 40 bytes.
-    (
-        b"",
-        16777217,
-        b"",
-        b"game 1: too long at byte 0\n# line 1 column 1 aaaaaaaaaaaaaaaaaaaaaaaaaaaaaaaaaaaaaaaa\ngames 0 half-moves 0 faults 1\n",
-    ),
-    // A line end before anything else.
-    (
-        b"\n",
-        16777216,
-        b"\n[Site \"",
-        b"game 1: too long at byte 0\n# line 1 column 1 (end)\ngame 2: bad tag at byte 16777218\n# line 3 column 1 [Site\ngames 0 half-moves 0 faults 2\n",
-    ),
-    // Bytes that are no visible characters.
-    (
-        b"\xef\xff",
-        16777216,
-        b"\n[Site \"x\"]\n*",
-        b"game 1: too long at byte 0\n# line 1 column 1 ??aaaaaaaaaaaaaaaaaaaaaaaaaaaaaaaaaaaaaa\ngame 2: 0 half-moves, *\ngames 1 half-moves 0 faults 1\n",
     ),
 ];
 
@@ -348,6 +327,36 @@ fn check_long(rt: &impl Abort, host: &HostRuntime, text: Parts, lines: &[u8]) {
 #[test]
 fn pieces_that_are_too_long_are_explained(rt: HostRuntime) {
     for (front, inner, back, lines) in &LONG {
+        let text = Parts {
+            front,
+            inner: *inner,
+            back,
+        };
+        check_long(&rt, &rt, text, lines);
+    }
+}
+
+// The same, by the word that is shown of the piece: none, and one of more than 40 bytes.
+const LONG_WORDS: [(&[u8], usize, &[u8], &[u8]); 2] = [
+    // A line end comes first.
+    (
+        b"\n",
+        16_777_216,
+        b"\n[Site \"",
+        b"game 1: too long at byte 0\n# line 1 column 1 (end)\ngame 2: bad tag at byte 16777218\n# line 3 column 1 [Site\ngames 0 half-moves 0 faults 2\n",
+    ),
+    // Bytes that are no visible characters.
+    (
+        b"\xef\xff",
+        16_777_216,
+        b"\n[Site \"x\"]\n*",
+        b"game 1: too long at byte 0\n# line 1 column 1 ??aaaaaaaaaaaaaaaaaaaaaaaaaaaaaaaaaaaaaa\ngame 2: 0 half-moves, *\ngames 1 half-moves 0 faults 1\n",
+    ),
+];
+
+#[test]
+fn words_of_pieces_that_are_too_long(rt: HostRuntime) {
+    for (front, inner, back, lines) in &LONG_WORDS {
         let text = Parts {
             front,
             inner: *inner,
