@@ -222,8 +222,8 @@ fn collections_whose_reads_fail(rt: HostRuntime) {
     }
 }
 
-/// Verifies a text, of which these lines are written, where a write, or the flush after all of them, fails after so many
-/// bytes.
+/// Verifies a text, of which these lines are written, where a write, or the flush after all of them, fails after so
+/// many bytes.
 pub fn check_failed_write(
     rt: &impl Abort,
     host: &HostRuntime,

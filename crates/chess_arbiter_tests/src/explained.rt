@@ -300,10 +300,10 @@ fn places_in_all_pieces(rt: HostRuntime) {
     }
 }
 
-// Collections with a piece that is too long: the text before its bytes `a`, how many these are, the text after them, and
-// what is written.
+// Collections with a piece that is too long: the text before its bytes `a`, how many these are, the text after them,
+// and what is written.
 const LONG: [(&[u8], usize, &[u8], &[u8]); 2] = [
-    // Line ends in it, and after it, count.
+    // Line ends count, in it and after it.
     (
         b"{first word\nx\n",
         16_777_216,
