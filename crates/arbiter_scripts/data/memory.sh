@@ -50,4 +50,5 @@ runs() {
 runs 0 session.txt answers.txt session
 runs 1 games.pgn plain.txt verify
 runs 1 games.pgn verified.txt verify --keep-going
+runs 1 games.pgn explained.txt verify --keep-going --explain
 runs 0 stubbed.txt stub.txt stub e2e4 offer

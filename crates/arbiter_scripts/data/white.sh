@@ -1,6 +1,6 @@
 # The first engine of the stored match: the program as a stub, after a session of it, arguments that it refuses, the
-# verification of 66 games, one of them with a fault, a game of 20,000 half-moves, and the same with less and less memory
-# came out as they must.
+# verification of 66 games, one of them with a fault, a game of 20,000 half-moves, a collection of 64 MiB, and the same
+# with less and less memory came out as they must.
 # (stockfish played 64 of the games, and pgn-extract wrote them.)
 program=/proc/$PPID/exe
 
@@ -22,8 +22,13 @@ same plain plain.txt
 [ $? -eq 1 ] || exit
 same verified verified.txt
 
+"$program" verify --keep-going --explain < games.pgn > explained
+[ $? -eq 1 ] || exit
+same explained explained.txt
+
 # The scripts of each game run this one: once is enough.
 [ -e counts ] || sh long.sh "$program" || exit
+[ -e counts ] || sh large.sh "$program" || exit
 [ -e counts ] || sh memory.sh "$program" || exit
 
 exec "$program" stub f2f3 g2g4

@@ -8,7 +8,7 @@ use std::test::Fail;
 const KEEP_GOING: &[&str] = &["verify", "--keep-going"];
 
 // Collections, what is written of them, and the status.
-const PIECES: [(&[u8], &[u8], u8); 15] = [
+const PIECES: [(&[u8], &[u8], u8); 16] = [
     // Tags without a game.
     (
         b"[Event \"a\"]\n[Site \"b\"]\n",
@@ -21,7 +21,7 @@ const PIECES: [(&[u8], &[u8], u8); 15] = [
         b"game 1: no result at byte 20\ngame 2: 1 half-moves, *\ngames 1 half-moves 1 faults 1\n",
         1,
     ),
-    // Text before the first `[Event `: a game, or none.
+    // Text before the first tag: a game, or none.
     (
         b"1. e4 *\n\n[Event \"a\"]\n1. d4 *",
         b"game 1: 1 half-moves, *\ngame 2: 1 half-moves, *\ngames 2 half-moves 2 faults 0\n",
@@ -49,8 +49,14 @@ const PIECES: [(&[u8], &[u8], u8); 15] = [
         1,
     ),
     (
-        b"[Site \"x\n[Event \"b\"]\n1. d4 *",
+        b"[Site \"x\n*\n[Event \"b\"]\n1. d4 *",
         b"game 1: bad tag at byte 0\ngame 2: 1 half-moves, *\ngames 1 half-moves 1 faults 1\n",
+        1,
+    ),
+    // Without moves between them tags stay together.
+    (
+        b"[Site \"x\n[Event \"b\"]\n1. d4 *",
+        b"game 1: bad tag at byte 0\ngames 0 half-moves 0 faults 1\n",
         1,
     ),
     // In the middle of a line no piece begins.
@@ -59,10 +65,10 @@ const PIECES: [(&[u8], &[u8], u8); 15] = [
         b"game 1: 1 half-moves, *\ngame 2: illegal move at byte 61\ngames 1 half-moves 1 faults 1\n",
         1,
     ),
-    // Nor where the line begins with other bytes.
+    // Nor after a space, but before any name.
     (
         b"1. e4 e4 *\n [Event \"b\"] *\n[Events \"c\"] *\n[event \"d\"] *",
-        b"game 1: illegal move at byte 6\ngames 0 half-moves 0 faults 1\n",
+        b"game 1: illegal move at byte 6\ngame 2: 0 half-moves, *\ngame 3: 0 half-moves, *\ngames 2 half-moves 0 faults 1\n",
         1,
     ),
     // Lines that end with bytes 13 and 10, and with 13 alone.
@@ -108,6 +114,7 @@ fn collections_in_all_pieces(rt: HostRuntime) {
 fn check_two_reads(
     rt: &impl Abort,
     host: &HostRuntime,
+    words: &[&str],
     text: &'static [u8],
     at: usize,
     wanted: Wanted<'_>,
@@ -118,25 +125,26 @@ fn check_two_reads(
         inner: 0,
         back,
     };
-    run_on(host, KEEP_GOING, parts).check(rt, wanted);
+    run_on(host, words, parts).check(rt, wanted);
     Ok(())
 }
 
-// Verifies a collection that comes in two reads, cut after each byte.
-fn check_each_cut(
+/// Verifies a collection that comes in two reads, cut after each byte.
+pub fn check_each_cut(
     rt: &impl Abort,
     host: &HostRuntime,
+    words: &[&str],
     text: &'static [u8],
     wanted: Wanted<'_>,
 ) -> Result<(), Fail> {
     for at in 0..=text.len() {
-        check_two_reads(rt, host, text, at, wanted)?;
+        check_two_reads(rt, host, words, text, at, wanted)?;
     }
     Ok(())
 }
 
-/// Three pieces, the second with a fault; no line feed follows the last. The end of the first is known after 32 bytes,
-/// that of the second after 57.
+/// Three pieces, the second with a fault; no line feed follows the last. The end of the first is known after 33 bytes,
+/// that of the second after 58: with the `"` that makes a line a tag line.
 pub const COLLECTION: &[u8] =
     b"[Event \"a\"]\n\n1. e4 e5 *\n\n[Event \"b\"]\n\n1. e4 e4 *\n\n[Event \"c\"]\n\n1. d4 1-0";
 
@@ -156,64 +164,92 @@ const MIXED_LINES: &[u8] =
 
 #[test]
 fn collections_cut_at_each_byte(rt: HostRuntime) -> Result<(), Fail> {
-    check_each_cut(&rt, &rt, COLLECTION, Wanted::without_errors(ALL_LINES, 1))?;
-    check_each_cut(&rt, &rt, MIXED, Wanted::without_errors(MIXED_LINES, 1))
+    check_each_cut(
+        &rt,
+        &rt,
+        KEEP_GOING,
+        COLLECTION,
+        Wanted::without_errors(ALL_LINES, 1),
+    )?;
+    check_each_cut(
+        &rt,
+        &rt,
+        KEEP_GOING,
+        MIXED,
+        Wanted::without_errors(MIXED_LINES, 1),
+    )
 }
 
 // The lines of the pieces whose end is among so many bytes.
 fn lines_known(given: usize) -> &'static [u8] {
-    if given < 32 {
+    if given < 33 {
         b""
-    } else if given < 57 {
+    } else if given < 58 {
         FIRST_LINE
     } else {
         TWO_LINES
     }
 }
 
-// Verifies the collection where a read fails after so many bytes.
-fn check_failed_read(rt: &impl Abort, host: &HostRuntime, given: usize) {
+/// Verifies a text where a read fails after so many bytes, by when these lines are known.
+pub fn check_failed_read(
+    rt: &impl Abort,
+    host: &HostRuntime,
+    words: &[&str],
+    text: &[u8],
+    given: usize,
+    lines: &[u8],
+) {
     let devices = Devices {
         piece: 1,
         read_fails: (given as u64).saturating_add(1),
         ..SOUND
     };
     let wanted = Wanted {
-        output: lines_known(given),
+        output: lines,
         errors: b"arbiter: read failed\n",
         status: 1,
     };
-    run(host, KEEP_GOING, COLLECTION, devices).check(rt, wanted);
+    run(host, words, text, devices).check(rt, wanted);
 }
 
 // Exactly the lines of the pieces whose end was read are written, also where the read of the input's end fails.
 #[test]
 fn collections_whose_reads_fail(rt: HostRuntime) {
     for given in 0..=COLLECTION.len() {
-        check_failed_read(&rt, &rt, given);
+        let lines = lines_known(given);
+        check_failed_read(&rt, &rt, KEEP_GOING, COLLECTION, given, lines);
     }
 }
 
-// Verifies the collection where a write, or the flush after all of them, fails after so many bytes.
-fn check_failed_write(rt: &impl Abort, host: &HostRuntime, taken: usize) -> Result<(), Fail> {
+/// Verifies a text, of which these lines are written, where a write, or the flush after all of them, fails after so
+/// many bytes.
+pub fn check_failed_write(
+    rt: &impl Abort,
+    host: &HostRuntime,
+    words: &[&str],
+    text: &[u8],
+    taken: usize,
+    lines: &[u8],
+) -> Result<(), Fail> {
     let devices = Devices {
         taken: 1,
         write_fails: (taken as u64).saturating_add(1),
         ..SOUND
     };
     let wanted = Wanted {
-        output: ALL_LINES.get(..taken).ok_or("a beginning")?,
+        output: lines.get(..taken).ok_or("a beginning")?,
         errors: b"arbiter: write failed\n",
         status: 1,
     };
-    run(host, KEEP_GOING, COLLECTION, devices).check(rt, wanted);
+    run(host, words, text, devices).check(rt, wanted);
     Ok(())
 }
 
 #[test]
 fn collections_whose_writes_fail(rt: HostRuntime) -> Result<(), Fail> {
     for taken in 0..=ALL_LINES.len() {
-        check_failed_write(&rt, &rt, taken)?;
+        check_failed_write(&rt, &rt, KEEP_GOING, COLLECTION, taken, ALL_LINES)?;
     }
     Ok(())
 }

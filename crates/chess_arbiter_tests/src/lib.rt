@@ -8,6 +8,8 @@ mod devices;
 #[cfg(test)]
 mod engines;
 #[cfg(test)]
+mod explained;
+#[cfg(test)]
 mod log;
 #[cfg(test)]
 mod program;
@@ -15,6 +17,8 @@ mod program;
 mod readers;
 #[cfg(test)]
 mod runs;
+#[cfg(test)]
+mod sections;
 #[cfg(test)]
 mod strict;
 #[cfg(test)]

@@ -117,7 +117,7 @@ const RUNS: [ProgramRun; 21] = [
         input: b"*",
         fails: (0, 0),
         output: b"",
-        errors: b"error: unexpected argument 'x' found\n\nUsage: arbiter verify [OPTIONS]\n\nFor more information, try '--help'.\n",
+        errors: b"error: unexpected argument 'x' found\n\nUsage: arbiter verify [OPTIONS] < FILE\n\nFor more information, try '--help'.\n",
         status: 2,
     },
     // The line of the counts, and the flush after it.
@@ -259,6 +259,8 @@ const HELP: [(&[&str], &[&str]); 4] = [
             "--keep-going --quiet",
             "faults 1",
             "--strict",
+            "--explain",
+            "# line 2 column 4 Ke3 | rnbqkbnr/pppp1ppp/8/4p3/4P3/8/PPPP1PPP/RNBQKBNR w KQkq e6 0 2",
             "16,777,216 bytes",
         ],
     ),

@@ -118,7 +118,7 @@ fn more_than_16_mebibytes_are_too_long(rt: HostRuntime) {
 }
 
 // Texts as they are verified by options of `verify`: what is reported, and the status.
-const BY_WORDS: [(&[&str], &[u8], &[u8], u8); 11] = [
+const BY_WORDS: [(&[&str], &[u8], &[u8], u8); 13] = [
     (
         &["verify", "--keep-going"],
         COLLECTION,
@@ -156,11 +156,11 @@ const BY_WORDS: [(&[&str], &[u8], &[u8], u8); 11] = [
         b"games 0 half-moves 0 faults 0\n",
         0,
     ),
-    // A line that begins with another tag begins no game, nor does a bracket within a line.
+    // A line that begins with any tag begins a piece after moves, and a bracket within a line does not.
     (
         &["verify", "--keep-going"],
         b"1. e4 e4 *\n[Site \"x\"]\n *\n [Event \"y\"] *",
-        b"game 1: illegal move at byte 6\ngames 0 half-moves 0 faults 1\n",
+        b"game 1: illegal move at byte 6\ngame 2: 0 half-moves, *\ngame 3: 0 half-moves, *\ngames 2 half-moves 0 faults 1\n",
         1,
     ),
     // The second piece has a tag and no game.
@@ -173,14 +173,27 @@ const BY_WORDS: [(&[&str], &[u8], &[u8], u8); 11] = [
     // The last piece is no whole tag.
     (
         &["verify", "--keep-going"],
-        b"1. e4\n[Event ",
+        b"1. e4\n[Event \"",
         b"game 1: no result at byte 6\ngame 2: bad tag at byte 6\ngames 0 half-moves 0 faults 2\n",
         1,
     ),
     (
         &["verify", "--keep-going"],
-        b"1. e4 & *\n[Event ",
+        b"1. e4 & *\n[Event \"",
         b"game 1: bad token at byte 6\ngame 2: bad tag at byte 10\ngames 0 half-moves 0 faults 2\n",
+        1,
+    ),
+    // Without its `"` a tag's beginning is a line of moves, and no piece begins there.
+    (
+        &["verify", "--keep-going"],
+        b"1. e4\n[Event ",
+        b"game 1: no result at byte 6\ngames 0 half-moves 0 faults 1\n",
+        1,
+    ),
+    (
+        &["verify", "--keep-going"],
+        b"1. e4 & *\n[Event ",
+        b"game 1: bad token at byte 6\ngames 0 half-moves 0 faults 1\n",
         1,
     ),
 ];

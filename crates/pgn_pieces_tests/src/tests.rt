@@ -3,6 +3,8 @@ ghost use Rattle.std.specs.Prelude.{◌<◌};
 use byte_devices::{Counted, Input, PieceReader};
 use pgn_pieces::{PIECE_LEN, PgnPieces, PieceFault};
 use std::fmt::Debug;
+use std::fs;
+use std::io::{self, Read};
 use std::process::Abort;
 use std::test::Fail;
 
@@ -162,4 +164,180 @@ fn long_pieces_have_no_text(rt: HostRuntime) -> Result<(), Fail> {
     is_equal(&rt, &PIECE_LEN, &16_777_216);
     check_long(&rt, &rt, PIECE_LEN, true)?;
     check_long(&rt, &rt, 16_777_217, false)
+}
+
+// The pieces go on to one that has this beginning, and in which so many lines end.
+fn begins<R: Input>(
+    rt: &impl Abort,
+    pieces: &mut PgnPieces,
+    input: &mut R,
+    beginning: &[u8],
+    line_ends: usize,
+) {
+    is_equal(rt, &pieces.next(input), &Ok(true));
+    is_equal(rt, &pieces.beginning(), &beginning);
+    is_equal(rt, &pieces.line_ends(), &line_ends);
+}
+
+// A text that is read by at most `cut` bytes at a time has pieces with these beginnings, in which so many lines end.
+fn check_beginnings(
+    rt: &impl Abort,
+    host: &HostRuntime,
+    text: &'static [u8],
+    cut: usize,
+    wanted: &[(&[u8], usize)],
+) -> Result<(), Fail>
+    requires { 0 < cut }
+{
+    let mut input = Counted::reading(PieceReader::new(text, cut, 0));
+    let mut pieces = PgnPieces::open(host.alloc())?;
+    is_equal(rt, &pieces.beginning(), &b"".as_slice());
+    is_equal(rt, &pieces.line_ends(), &0);
+    for (beginning, line_ends) in wanted {
+        begins(rt, &mut pieces, &mut input, beginning, *line_ends);
+    }
+    ends(rt, &mut pieces, &mut input, Ok(false));
+    Ok(())
+}
+
+// Texts, and of each piece its first 40 bytes and how many lines end in it.
+const BEGINNINGS: [(&[u8], &[(&[u8], usize)]); 9] = [
+    (b"*", &[(b"*", 0)]),
+    (b"\n", &[(b"\n", 1)]),
+    (
+        b"[Event \"a\"]\n\n1. e4 *\n\n[Event \"b\"]\r\n\r[Site \"c\"]",
+        &[
+            (b"[Event \"a\"]\n\n1. e4 *\n\n", 4),
+            (b"[Event \"b\"]\r\n\r[Site \"c\"]", 1),
+        ],
+    ),
+    // 39, 40 and 41 bytes.
+    (
+        b"123456789 123456789 123456789 123456789",
+        &[(b"123456789 123456789 123456789 123456789", 0)],
+    ),
+    (
+        b"123456789 123456789 123456789 123456789\n",
+        &[(b"123456789 123456789 123456789 123456789\n", 1)],
+    ),
+    (
+        b"123456789 123456789 123456789 123456789 \n",
+        &[(b"123456789 123456789 123456789 123456789 ", 1)],
+    ),
+    // Lines that end among the first 40 bytes, and after them.
+    (
+        b"\n\n3456789 123456789 123456789 12345678\n\n2\n\n[Site \"x\"]\n*",
+        &[
+            (b"\n\n3456789 123456789 123456789 12345678\n\n", 6),
+            (b"[Site \"x\"]\n*", 1),
+        ],
+    ),
+    (
+        b"*\n[Event \"a\"]\n[Event \"b\"]\n*\n[Site \"c\"]",
+        &[
+            (b"*\n", 1),
+            (b"[Event \"a\"]\n", 1),
+            (b"[Event \"b\"]\n*\n", 2),
+            (b"[Site \"c\"]", 0),
+        ],
+    ),
+    (b"", &[]),
+];
+
+#[test]
+fn pieces_have_beginnings_and_line_ends(rt: HostRuntime) -> Result<(), Fail> {
+    for (text, wanted) in &BEGINNINGS {
+        for cut in 1..50 {
+            check_beginnings(&rt, &rt, text, cut, wanted)?;
+        }
+    }
+    Ok(())
+}
+
+// Of a piece that is too long the beginning is known and the number of lines, wherever they end in it; and of the next.
+#[test]
+fn long_pieces_have_beginnings_and_line_ends(rt: HostRuntime) -> Result<(), Fail> {
+    let mut text = vec![in rt.alloc(); b'x'; 17_000_000]?;
+    for at in [
+        1, 39, 40, 65_535, 65_536, 16_777_215, 16_777_216, 16_777_217, 16_842_752, 16_999_999,
+    ] {
+        let byte = text.get_mut(at).ok_or("an offset")?;
+        *byte = b'\n';
+    }
+    text.extend_from_slice(b"[Event \"a\"]\n*")?;
+    let mut input = Counted::reading(text.as_slice());
+    let mut pieces = PgnPieces::open(rt.alloc())?;
+    let beginning = b"x\nxxxxxxxxxxxxxxxxxxxxxxxxxxxxxxxxxxxxx\n".as_slice();
+    begins(&rt, &mut pieces, &mut input, beginning, 10);
+    is_equal(&rt, &pieces.text().is_some(), &false);
+    begins(&rt, &mut pieces, &mut input, b"[Event \"a\"]\n*", 1);
+    ends(&rt, &mut pieces, &mut input, Ok(false));
+    Ok(())
+}
+
+// After the last piece there is none, however often one is asked for.
+#[test]
+fn after_the_last_piece_there_is_none(rt: HostRuntime) -> Result<(), Fail> {
+    let mut input = Counted::reading(COLLECTION);
+    let mut pieces = PgnPieces::open(rt.alloc())?;
+    gives(&rt, &mut pieces, &mut input, 0, Some(b"[Event \"a\"]\n*\n"));
+    gives(&rt, &mut pieces, &mut input, 14, Some(b"[Event \"b\"]\n*"));
+    for _ in 0..3 {
+        ends(&rt, &mut pieces, &mut input, Ok(false));
+    }
+    Ok(())
+}
+
+// Gives so many pieces, each by one read.
+#[derive(Drop)]
+struct Sections {
+    left: usize,
+}
+
+impl Read for Sections {
+    ghost use Rattle.std.specs.Prelude.{None};
+
+    ghost remaining = { λ b. None };
+
+    fn read(&mut self, buf: &mut [u8]) -> io::Result<usize> {
+        if self.left == 0 {
+            return Ok(0);
+        }
+        self.left -= 1;
+        buf.fill(b'x');
+        if let Some(front) = buf.get_mut(..12) {
+            front.copy_from_slice(b"[Event \"a\"]\n");
+        }
+        if let Some(last) = buf.last_mut() {
+            *last = b'\n';
+        }
+        Ok(buf.len())
+    }
+}
+
+// How many pages of memory the process has.
+fn pages(host: &HostRuntime) -> Result<usize, Fail> {
+    let text = fs::read_to_string(host, "/proc/self/statm")?;
+    let count = text.split(' ').next().ok_or("a number")?;
+    Ok(count.parse::<usize>()?)
+}
+
+// What is held does not grow with what was read: of 64 MiB in pieces of 64 KiB no 16 MiB are held at the end.
+#[test]
+fn pieces_are_let_go(rt: HostRuntime) -> Result<(), Fail> {
+    let before = pages(&rt)?;
+    let mut input = Counted::reading(Sections { left: 1024 });
+    let mut pieces = PgnPieces::open(rt.alloc())?;
+    for _ in 0..1023 {
+        is_equal(&rt, &pieces.next(&mut input), &Ok(true));
+    }
+    is_equal(&rt, &pieces.offset(), &66_977_792);
+    let after = pages(&rt)?;
+    assert!(rt;
+        after < before.saturating_add(4096),
+        "{before} pages, then {after}"
+    );
+    is_equal(&rt, &pieces.next(&mut input), &Ok(true));
+    ends(&rt, &mut pieces, &mut input, Ok(false));
+    Ok(())
 }

@@ -7,11 +7,19 @@ use std::process::Abort;
 const ALL: VerifyOptions = VerifyOptions {
     quiet: false,
     strict: false,
+    explain: false,
 };
 
 const STRICT: VerifyOptions = VerifyOptions {
     quiet: true,
     strict: true,
+    explain: false,
+};
+
+const EXPLAINED: VerifyOptions = VerifyOptions {
+    quiet: true,
+    strict: true,
+    explain: true,
 };
 
 // A text that is read by at most `cut` bytes at a time, and of which the read numbered `fails_at` fails.
@@ -100,23 +108,81 @@ fn collections_go_on_after_a_fault(rt: HostRuntime) {
     );
 }
 
+// With its `"` a tag's beginning ends the piece before it; without, it may be a line of moves.
 #[test]
 fn failed_reads_leave_the_lines_that_are_known(rt: HostRuntime) {
     let given = Given {
         text: b"1. e4 *\n[Event \"a\"]\n1. d4 *",
+        cut: 16,
+        fails_at: 2,
+    };
+    let short = Given {
+        text: given.text,
         cut: 15,
         fails_at: 2,
     };
     let failed = Err(VerifyFault::ReadFailed);
     check(&rt, &rt, false, ALL, given, failed, b"");
+    check(&rt, &rt, true, ALL, short, failed, b"");
     let line = b"game 1: 1 half-moves, *\n";
-    check(
+    check(&rt, &rt, true, ALL, given, failed, line);
+}
+
+#[test]
+fn faults_are_explained(rt: HostRuntime) {
+    check_cuts(
+        &rt,
+        &rt,
+        false,
+        EXPLAINED,
+        b"1. e4 *",
+        Verified::EachGame,
+        b"",
+    );
+    check_cuts(
+        &rt,
+        &rt,
+        false,
+        EXPLAINED,
+        b"1. f3 e5 2. g4 Qh4# 0-1\n\n1. e4 e4 *",
+        Verified::FaultReported,
+        b"game 2: illegal move at byte 31\n# line 3 column 7 e4 | rnbqkbnr/pppppppp/8/8/4P3/8/PPPP1PPP/RNBQKBNR b KQkq e3 0 1\n",
+    );
+    check_cuts(
+        &rt,
+        &rt,
+        false,
+        EXPLAINED,
+        b"[Result \"1-0\"]\n1. e4 0-1",
+        Verified::FaultReported,
+        b"game 1: result differs at byte 9\n# line 1 column 10 1-0\"] | rnbqkbnr/pppppppp/8/8/4P3/8/PPPP1PPP/RNBQKBNR b KQkq e3 0 1 | Result 1-0, ended 0-1\n",
+    );
+}
+
+#[test]
+fn faults_in_pieces_are_explained(rt: HostRuntime) {
+    check_cuts(
         &rt,
         &rt,
         true,
-        ALL,
-        given,
-        Err(VerifyFault::ReadFailed),
-        line,
+        EXPLAINED,
+        b"[Site \"s\"]\r\n[Event \"a\"]\r\n1. e4\r\n[Site \"t\"]\n[Event \"b\"]\n1. d4 *\n[Event \"c\"]\n1. f3 e5 2. g4\nQh4 a3 0-1",
+        Verified::FaultReported,
+        b"game 1: no result at byte 32\n# line 4 column 1 (end) | rnbqkbnr/pppppppp/8/8/4P3/8/PPPP1PPP/RNBQKBNR b KQkq e3 0 1\ngame 3: move after the end at byte 94\n# line 9 column 5 a3 | rnb1kbnr/pppp1ppp/8/4p3/6Pq/5P2/PPPPP2P/RNBQKBNR w KQkq - 1 3 | 0-1 {Black mates}\ngames 1 half-moves 1 faults 2\n",
     );
+}
+
+// What is known before a read fails is explained.
+#[test]
+fn failed_reads_leave_the_explanations_that_are_known(rt: HostRuntime) {
+    let given = Given {
+        text: b"1. e4 e4\n[Site \"a\"]\n[Event \"b\"]\n1. d4 *",
+        cut: 17,
+        fails_at: 2,
+    };
+    let failed = Err(VerifyFault::ReadFailed);
+    check(&rt, &rt, false, EXPLAINED, given, failed, b"");
+    let lines =
+        b"game 1: illegal move at byte 6\n# line 1 column 7 e4 | rnbqkbnr/pppppppp/8/8/4P3/8/PPPP1PPP/RNBQKBNR b KQkq e3 0 1\n";
+    check(&rt, &rt, true, EXPLAINED, given, failed, lines);
 }
