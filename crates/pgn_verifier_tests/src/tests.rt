@@ -186,3 +186,30 @@ fn failed_reads_leave_the_explanations_that_are_known(rt: HostRuntime) {
         b"game 1: illegal move at byte 6\n# line 1 column 7 e4 | rnbqkbnr/pppppppp/8/8/4P3/8/PPPP1PPP/RNBQKBNR b KQkq e3 0 1\n";
     check(&rt, &rt, true, EXPLAINED, given, failed, lines);
 }
+
+// Tags in any order, comments and variations, and a game without tags, none of them with a fault.
+const SOUND: &[u8] =
+    b"[Site \"s\"]\n[Event \"a\"]\n1. e4 {x} *\n\n% x\n[Event \"b\"]\n; y\n\n[Round \"1\"]\n1. d4 d5 (1... e5) 1-0\n\n1. c4 *\n";
+
+// A text without a fault, with its tags one to a line, has the same games as a whole and piece by piece.
+#[test]
+fn texts_without_a_fault_have_the_same_games(rt: HostRuntime) {
+    check_cuts(
+        &rt,
+        &rt,
+        false,
+        ALL,
+        SOUND,
+        Verified::EachGame,
+        b"game 1: 1 half-moves, *\ngame 2: 2 half-moves, 1-0\ngame 3: 1 half-moves, *\n",
+    );
+    check_cuts(
+        &rt,
+        &rt,
+        true,
+        ALL,
+        SOUND,
+        Verified::EachGame,
+        b"game 1: 1 half-moves, *\ngame 2: 2 half-moves, 1-0\ngame 3: 1 half-moves, *\ngames 3 half-moves 4 faults 0\n",
+    );
+}
