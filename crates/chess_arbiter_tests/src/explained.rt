@@ -1,4 +1,4 @@
-//! `verify --explain`: where a fault is, what stands there, the position and the reason.
+//! `verify --explain`: where a fault is, the text there, the position and the reason.
 
 use crate::collection::{check_each_cut, check_failed_read, check_failed_write};
 use crate::readers::{Parts, run_on};
@@ -170,7 +170,7 @@ const PLACES: [(&[&str], &[u8], &[u8], u8); 23] = [
         b"game 1: illegal move at byte 9\n# line 1 column 10 e4 | rnbqkbnr/pppppppp/8/8/4P3/8/PPPP1PPP/RNBQKBNR b KQkq e3 0 1\ngames 0 half-moves 0 faults 1\n",
         1,
     ),
-    // Without an end a game ends at its piece's end, where nothing stands.
+    // Without a result a game ends at its piece's end, where there is no text.
     (
         &["verify", "--keep-going", "--explain"],
         b"1. e4 e5\n\n[Event \"b\"]\n*\n[Event \"c\"]\n",

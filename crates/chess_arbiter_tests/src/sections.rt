@@ -93,7 +93,7 @@ const SECTIONS: [(&[u8], &[u8], u8); 20] = [
         b"game 1: unclosed comment at byte 6\ngame 2: bad token at byte 19\ngame 3: 0 half-moves, *\ngames 1 half-moves 0 faults 2\n",
         1,
     ),
-    // Between a tag's name and its `"` spaces and tabs may stand, and no line end.
+    // Between a tag's name and its `"` there may be spaces and tabs, but no line end.
     (
         b"*\n[A_1 \t\"x\"]\n1. e5 *\n[b\"y\"]\n*\n",
         b"game 1: 0 half-moves, *\ngame 2: illegal move at byte 16\ngame 3: 0 half-moves, *\ngames 2 half-moves 0 faults 1\n",

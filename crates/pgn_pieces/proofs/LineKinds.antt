@@ -166,7 +166,7 @@ told_tag line tag = by_test (leb 256 (length line)) refl
     by_test true e = told_long line (leb-true 256 (length line) e)
     by_test false e = told_short line (grind (arith, nat_tests, e)) tag
 
--- what a line that is told goes on with is no matter
+-- how a line of a known kind continues does not matter
 pub told_on : (line more : List ℕ) → Told line → Told (line ++ more)
 told_on line more told rest =
     let far = told (more ++ rest) in

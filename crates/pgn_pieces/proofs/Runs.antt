@@ -1,4 +1,4 @@
--- How many bytes stand before the first byte 10.
+-- How many bytes come before the first byte 10.
 use Rattle.std.proofs.Common.{◌≡◌, ◌≤◌, ◌<◌, ℕ, zero, suc, ◌+◌, eqb, Bool, true, false, List, [], ◌∷◌, ◌++◌, length, take, drop, add-one, refl, sym, ap, ◌∙◌, arith}
 use Rattle.std.specs.Prelude.{cond, not, ◌==◌}
 use Rattle.std.specs.List.{position_or_len}

@@ -30,7 +30,7 @@ same_begin before a b h =
     ap (λ t. t && (list_any is_moves_line before || (is_event_line a && list_any is_event_line before))) h.tag
     ∙ ap (λ e. is_tag_line b && (list_any is_moves_line before || (e && list_any is_event_line before))) h.event
 
--- what is known of the lines tells whether a piece begins
+-- what is known of the lines decides whether a piece begins
 pub test_is : (seen : Seen) (piece : List ℕ) (h : HasSeen seen piece) → h.line ≡ [] → (line : List ℕ) (t e : Bool)
     → t ≡ is_tag_line line → e ≡ is_event_line line
     → (t && (seen.moves || (e && seen.event))) ≡ begins_piece h.before line
@@ -112,7 +112,7 @@ add_whole seen seen' piece h body line is plain belongs out moves event =
         ∙ sym (or_false (list_any p (h.before ++ whole ∷ [])))
         ∙ ap (λ b. list_any p (h.before ++ whole ∷ []) || b) (sym none)
 
--- bytes of a line that may go on, and whose kind is told
+-- bytes of a line that may continue, and whose kind is known
 pub add_open : (seen seen' : Seen) (piece : List ℕ) (h : HasSeen seen piece) (text : List ℕ) → has_line_end text ≡ false
     → Told (h.line ++ text) → begins_piece h.before (h.line ++ text) ≡ false → seen'.inside ≡ true
     → seen'.moves ≡ (list_any is_moves_line h.before || is_moves_line (h.line ++ text))
@@ -158,7 +158,7 @@ joined p none before line text b b' k is e new kind =
 out_of : (seen : Seen) (piece : List ℕ) (h : HasSeen seen piece) → seen.inside ≡ false → h.line ≡ []
 out_of seen piece h out = subst (λ b. MayGoOn b h.line) out h.inside
 
--- the rest of a line whose kind is told
+-- the rest of a line whose kind is known
 pub whole_inside : (seen seen' : Seen) (body line : List ℕ) → line ≡ body ++ 10 ∷ [] → has_line_end body ≡ false
     → seen.inside ≡ true → seen'.inside ≡ false → seen'.moves ≡ seen.moves → seen'.event ≡ seen.event
     → (piece : List ℕ) → HasSeen seen piece → HasSeen seen' (piece ++ line)

@@ -47,7 +47,7 @@ like_on p q r (counts, is) (counts', is') =
       λ few. is' (omega (arith, len, few)) ∙ is few,
     )
 
--- the piece that is told is the one whose bytes these are
+-- the piece that is returned is the one with these bytes
 told_right : (offset : ℕ) (p q : List ℕ) → IsLike p q → piece_at offset p ≡ piece_at offset q
 told_right offset p q (counts, is) =
     ap₂ (λ xs n. record { offset = offset; beginning = xs; line_ends = n; bytes = bytes_of p }) (sym counts.beginning)

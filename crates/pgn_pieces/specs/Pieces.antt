@@ -21,7 +21,7 @@ lines_of (c ∷ cs) = if c == 10 then (c ∷ []) ∷ lines_of cs else onto_first
 abbrev pub without_mark : List ℕ → List ℕ
 without_mark text = if bytes_eq (take 3 text) (239 ∷ 187 ∷ 191 ∷ []) then drop 3 text else text
 
--- what tells the kind of a line: its first 256 bytes, without a byte order mark
+-- the bytes that decide a line's kind: its first 256, without a byte order mark
 abbrev pub front_of : List ℕ → List ℕ
 front_of line = without_mark (take 256 line)
 
@@ -41,7 +41,7 @@ is_white c = is_blank c || (c == 13) || (c == 10)
 abbrev pub tag_name : List ℕ → List ℕ
 tag_name front = take_while is_name_byte (drop 1 front)
 
--- what stands after that name, and after any spaces and tabs that follow it
+-- the text after that name, and after any spaces and tabs that follow it
 abbrev pub after_name : List ℕ → List ℕ
 after_name front =
     let rest = drop (length (tag_name front)) (drop 1 front) in drop (prefix_len is_blank rest) rest

@@ -12,7 +12,7 @@ pub(crate) struct Seen {
     pub(crate) moves: bool,
     // Whether an Event line is among them.
     pub(crate) event: bool,
-    // Whether the last of them may go on. Its kind is told already.
+    // Whether the last of them may go on. Its kind is known already.
     pub(crate) inside: bool,
 }
 
@@ -20,7 +20,7 @@ pub(crate) struct Seen {
 pub(crate) enum Step {
     // A piece begins there.
     Begins,
-    // Its kind can't be told before more is read.
+    // Its kind isn't known before more is read.
     Waits,
     // So many bytes of it belong to the piece.
     Belongs(usize),

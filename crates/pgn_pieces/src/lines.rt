@@ -7,7 +7,7 @@ ghost use Rattle.pgn_pieces.specs.Pieces.{without_mark, front_of, after_name, is
 ghost use Rattle.pgn_pieces.specs.Places.{line_ends};
 ghost use Rattle.pgn_pieces.specs.ties.Held.{has_line_end};
 
-// The most bytes of a line that are looked at to tell its kind.
+// The most bytes of a line that decide its kind.
 pub(crate) const FRONT_LEN: usize = 256;
 
 // What kind of line a line is. One of moves is neither a tag line nor empty.
@@ -60,7 +60,7 @@ fn first_bytes(line: &[u8]) -> &[u8]
     line
 }
 
-// The bytes of a line that tell its kind.
+// The bytes of a line that decide its kind.
 #[inline(always)]
 fn front_of(line: &[u8]) -> &[u8]
     ensures { result.now ≡ front_of line.now }
@@ -68,7 +68,7 @@ fn front_of(line: &[u8]) -> &[u8]
     without_mark(first_bytes(line))
 }
 
-// Whether a byte may stand in a tag's name.
+// Whether a byte may be part of a tag's name.
 #[inline(always)]
 fn is_name_byte(byte: u8) -> bool
     ensures { result ≡ is_name_byte byte }
@@ -127,7 +127,7 @@ fn without_blanks(text: &[u8]) -> &[u8]
     &text[blank_len(text)..]
 }
 
-// What stands after the name of the tag with which a line's front begins, and after blanks.
+// The text after the tag name at a line's front, and after any spaces and tabs.
 #[inline(always)]
 fn after_name<'t>(front: &'t [u8], name: &[u8]) -> &'t [u8]
     requires { name.now ≡ tag_name front.now }
@@ -146,7 +146,7 @@ fn begins_tag(front: &[u8], name: &[u8]) -> bool
     front.starts_with(b"[") && !name.is_empty() && after_name(front, name).starts_with(b"\"")
 }
 
-// Whether a byte may stand in an empty line.
+// Whether a byte may be in an empty line.
 #[inline(always)]
 fn is_white(byte: u8) -> bool
     ensures { result ≡ is_white byte }
@@ -154,7 +154,7 @@ fn is_white(byte: u8) -> bool
     is_blank(byte) || byte == b'\r' || byte == b'\n'
 }
 
-// Whether all these bytes may stand in an empty line.
+// Whether all these bytes may be in an empty line.
 #[inline(always)]
 fn is_all_white(bytes: &[u8]) -> bool
     ensures { result ≡ list_all is_white bytes.now }
@@ -216,7 +216,7 @@ fn plain_blocks(text: &[u8]) -> usize
     offset
 }
 
-// How many bytes stand before a text's first `\n`; all, if there is none.
+// How many bytes a text has before its first `\n`; all, if it has none.
 #[inline(always)]
 pub(crate) fn plain_len(text: &[u8]) -> usize
     ensures count { result ≡ position_or_len (λ c. c == 10) text.now }

@@ -48,7 +48,7 @@ pgn_reason AfterEnd verdict = verdict_reason verdict
 pgn_reason _ verdict = None
 
 -- the reason for a fault, if there is one to give: as above; or the text of the tag Result and the outcome that ends
--- the game's text; or the verdict that the outcome contradicts. `text` is what stands from the fault's byte on, and
+-- the game's text; or the verdict that the outcome contradicts. `text` is the text from the fault's byte on, and
 -- `verdict` is the board's where reading stopped
 abbrev pub reason : FaultKind → List ℕ → Option Verdict → Option (List ℕ)
 reason (Pgn kind) text verdict = pgn_reason kind verdict
@@ -70,7 +70,7 @@ pub record Explanation : Type 0 where
   pub position : Option Setup
   pub reason : Option (List ℕ)
 
--- what explains a fault of this kind in the game `s`, where `text` is what stands from the fault's byte on
+-- what explains a fault of this kind in the game `s`, where `text` is the text from the fault's byte on
 abbrev pub explained : State → List ℕ → FaultKind → Explanation
 explained s text kind = record {
   text = shown text;

@@ -125,7 +125,7 @@ fn append_results(lines: &mut FaultLines, tag: &[u8], outcome: Outcome)
     append(lines, outcome.text());
 }
 
-// Appends ` | ` and the reason for a fault; nothing if there is none. `text` is what stands from its byte on.
+// Appends ` | ` and the reason for a fault; nothing if there is none. `text` is the text from its byte on.
 fn append_reason(lines: &mut FaultLines, kind: FaultKind, text: &[u8], verdict: Option<Verdict>)
     requires { array_vec_len lines.old + 80 ≤ FAULT_LINES_LEN }
     ensures text { lines.new.items ≡ lines.old.items ++ part (reason kind text.now verdict) }
@@ -177,7 +177,7 @@ fn append_place(lines: &mut FaultLines, line: usize, column: usize)
     append(lines, b" ");
 }
 
-// Appends the line that explains a fault of the game, on this line and in this column; `text` is what stands from its
+// Appends the line that explains a fault of the game, on this line and in this column; `text` is the text from its
 // byte on.
 fn append_explanation<B: Board>(
     lines: &mut FaultLines,

@@ -29,11 +29,11 @@ pub record SameKind (line line' : List ℕ) : Type 0 where
   pub event : is_event_line line ≡ is_event_line line'
   pub moves : is_moves_line line ≡ is_moves_line line'
 
--- the kind of a line that begins with these bytes is told, however it goes on
+-- the kind of a line that begins with these bytes is known, however it continues
 abbrev pub Told : List ℕ → Type 0
 Told line = (more : List ℕ) → SameKind (line ++ more) line
 
--- whether the last line of a piece may go on (true); then its kind is told
+-- whether the last line of a piece may continue (true); then its kind is known
 abbrev pub MayGoOn : Bool → List ℕ → Type 0
 MayGoOn false line = line ≡ []
 MayGoOn true line = Told line

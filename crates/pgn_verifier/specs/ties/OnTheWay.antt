@@ -72,7 +72,7 @@ pub record StandsAt (start : TextStart) (input text : List ℕ) : Type 0 where
   pub line : line_of input start.offset ≡ start.line
   pub column : column_of input start.offset ≡ 1
 
--- the text stands there, if faults are explained
+-- the text is there, if faults are explained
 abbrev pub StandsIf : Bool → TextStart → List ℕ → List ℕ → Type 0
 StandsIf explain start input text = explain ≡ true → StandsAt start input text
 
@@ -82,7 +82,7 @@ pub record PieceStandsAt (number : ℕ) (input : List ℕ) (piece : Piece) : Typ
   pub line : line_of input piece.offset ≡ number
   pub column : column_of input piece.offset ≡ 1
 
--- the piece stands there, if faults are explained
+-- the piece is there, if faults are explained
 abbrev pub PieceStandsIf : Bool → ℕ → List ℕ → Piece → Type 0
 PieceStandsIf explain number input piece = explain ≡ true → PieceStandsAt number input piece
 

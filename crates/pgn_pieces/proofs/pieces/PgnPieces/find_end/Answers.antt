@@ -1,4 +1,4 @@
--- The bytes up to the piece's end come to it, or those whose lines are told (Views.passed_on).
+-- The bytes up to the piece's end are added to it, or those of lines whose kind is known (Views.passed_on).
 use Rattle.std.proofs.Common.{◌+◌, ap, subst, ◌∙◌}
 use Rattle.pgn_pieces.specs.Stream.{State}
 use Rattle.pgn_pieces.specs.ties.Held.{Looks, passed}
