@@ -134,7 +134,7 @@ fn check_long(rt: &impl Abort, host: &HostRuntime, len: usize, is_short: bool) -
     Ok(())
 }
 
-// A line's first 256 bytes decide its kind: a tag's name of so many bytes begins a piece after a line of moves, or doesn't.
+// A line's first 256 bytes decide its kind: a tag's name of so many bytes begins a piece after moves, or doesn't.
 fn check_name(rt: &impl Abort, host: &HostRuntime, len: usize, begins: bool) -> Result<(), Fail> {
     let mut text = vec![in host.alloc(); b'a'; len]?;
     text.insert(0, b'[')?;
