@@ -2,8 +2,8 @@
 #   CRATE       its stamp: the crates that it uses and its files, each with its size and time, as its proof began
 #   CRATE.rlib  its library: what the crates above it can cite, without proofs
 #   CRATE.log   what the toolchain printed
-# A crate is made again where its stamp differs from what is there now, or is older than that of a crate that it uses, and where
-# its library, or the program, is missing.
+# A crate is made again if its stamp differs from what is there now or is older than the stamp of a crate that it uses,
+# or if its library, or the program, is missing.
 
 SHELL := bash
 .ONESHELL:
@@ -21,8 +21,9 @@ now = { echo '$(call uses,$1)'; find $(top)/crates/$1/{src,specs,proofs} '$(kit)
 # What the build of a crate leaves for others.
 output = $(if $(wildcard $(top)/crates/$1/src/main.rt),$(top)/crates/$1/out/$1,$1.rlib)
 
-# A second process for a crate costs a fifth of a processor's time more than one process alone, and four cost half more. So a crate
-# that little waits for gets one process, on the processors that the others leave, and those that are proved beside each other two.
+# A second process for a crate costs a fifth more of a processor's time than one process alone, and four cost half more.
+# So a crate that few others wait for gets one process, on the processors that the others leave, and crates that are
+# proved beside each other get two.
 at_leisure := arbiter_grammar arbiter_cli chess_bits pgn_pieces pgn_verifier
 side_by_side := chess_fen chess_game chess_text
 processes = $(if $(filter $@,$(at_leisure)),1,$(if $(filter $@,$(side_by_side)),$(if $(filter 1,$(jobs)),1,2),$(jobs)))

@@ -1,4 +1,5 @@
-"""Counts what a test of the tools checks. Its last line is `N passed, M failed`; what can't be tried here is named before it."""
+"""Counts what a test of the tools checks. Its last line is `N passed, M failed`; before it, it names what can't be tried
+here."""
 
 import sys
 

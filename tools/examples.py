@@ -31,8 +31,8 @@ RUNS = "<!-- runs -->"
 
 
 def examples(text):
-    """Yields (line number, line number of its block, command, expected lines) for each example of a Markdown text; None where only
-    the status counts."""
+    """Yields (line number, line number of its block, command, expected lines) for each example of a Markdown text; the
+    expected lines are None if only the status counts."""
     lines = text.split("\n")
     number = block = end = 0
     while number < len(lines):
