@@ -5,8 +5,8 @@ use Rattle.pgn_pieces.specs.declared.pieces.PieceFault.{PieceFault}
 use Rattle.pgn_pieces.specs.Pieces.{Piece, piece_at, pieces_from, HasRead, IsCause}
 
 -- how far an input is cut: the offset at which the current piece begins, its bytes so far, the bytes that were read
--- after these, and whether the input has ended. Of a piece that is too long only its length, its first 40 bytes and
--- its number of line ends are right
+-- after these, and whether the input has ended. If the piece is too long, `part` is only some bytes with the same
+-- length, the same first 40 bytes and the same number of line ends
 pub record State : Type 0 where
   pub offset : ℕ
   pub part : List ℕ
@@ -35,8 +35,8 @@ pieces_after_part ended offset part text = pieces_from ended offset (part ++ tex
 abbrev pub pieces_held : Bool → State → List ℕ → List Piece
 pieces_held ended s rest = pieces_after_part ended s.offset s.part (s.coming ++ rest)
 
--- what may still be read, `rest` and then the end or not (`ended`), fits the first flag: if that says that the input
--- has ended already, `rest` is empty and `ended` true
+-- whether the input may still continue with the bytes `rest`, and end after them if `ended` says so. If it has ended
+-- already (the first flag), only with no bytes and the end
 abbrev pub MayFollow : Bool → Bool → List ℕ → Type 0
 MayFollow false ended rest = Unit {0}
 MayFollow true ended rest = (ended ≡ true) × (rest ≡ [])
@@ -48,8 +48,9 @@ pub record IsStateOf (s : State) (r r' : InputState) (text : List ℕ) : Type 0 
   pub all : s.offset + (length s.part + length s.coming) ≡ length text
 
 -- a call for the next piece takes the state `s` to `s'` and the input from `r` to `r'`; this text was read before,
--- and the call may read `more`. It returned true: `s'` has that piece, and the others follow it, however the input
--- goes on; false: no piece is left; or a fault
+-- and the call may read `more`. `Ok true`: `s'` has the next piece, and the pieces still to come before the call are
+-- this one and then those still to come, however the input continues. `Ok false`: the input has ended, and no piece is
+-- left. A fault: what was read contains the end of no further piece
 abbrev pub Next : State → State → InputState → InputState → List ℕ → Result Bool PieceFault → Type 0
 Next s s' r r' text (Ok true) = (more : List ℕ) × IsStateOf s' r r' (text ++ more)
     × (s.ended ≡ true → (s'.ended ≡ true) × (more ≡ []))

@@ -1,5 +1,5 @@
-//! The pieces of a collection of games of any length, one after another: each begins at the first byte, or at a tag line
-//! after a line of moves, or at an Event line after an Event line, and ends where the next one begins.
+//! The pieces of a collection of games of any length, one after another: each begins at the first byte, or at a tag
+//! line after a line of moves, or at an Event line after an Event line, and ends where the next one begins.
 //!
 //! ```
 //! let mut pieces = PgnPieces::open(alloc)?;

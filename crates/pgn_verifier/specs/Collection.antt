@@ -28,8 +28,8 @@ collection_text options ended text = collection_lines options ended text
     ++ (if ended then counts_line (counts_of (collection_reports options.strict ended text)) else [])
 
 -- what verifying a collection does, from the input's state `r` to `r'` and the output's `w` to `w'`. It read all of
--- the input, wrote the text and flushed it; or a write failed, and a beginning was written; or the input failed, and
--- the lines of the pieces read by then were written
+-- the input, wrote the text and flushed it; or a write failed, and a beginning was written; or a read failed, memory
+-- ran out or the input was too long, and the lines of the pieces whose end was read were written
 abbrev pub VerifiesCollection : VerifyOptions → InputState → InputState → OutputState → OutputState
     → Result Verified VerifyFault → Type 0
 VerifiesCollection options r r' w w' (Ok verdict) =

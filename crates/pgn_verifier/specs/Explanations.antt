@@ -47,9 +47,9 @@ pgn_reason (BadFen fault) verdict = Some (fen_fault_name fault)
 pgn_reason AfterEnd verdict = verdict_reason verdict
 pgn_reason _ verdict = None
 
--- the reason for a fault, if there is one to give: as above; or the text of the tag Result and the outcome that ends
--- the game's text; or the verdict that the outcome contradicts. `text` is the text from the fault's byte on, and
--- `verdict` is the board's where reading stopped
+-- the reason for a fault, if there is one to give: for a fault of reading as above; for `result differs` the text of
+-- the tag Result and the outcome that ends the game's text; for `board says otherwise` the verdict. `text` is the text
+-- from the fault's byte on, and `verdict` is the board's where reading stopped
 abbrev pub reason : FaultKind → List ℕ → Option Verdict → Option (List ℕ)
 reason (Pgn kind) text verdict = pgn_reason kind verdict
 reason (ResultDiffers tag_len outcome) text verdict =
@@ -88,7 +88,7 @@ too_long_explained beginning = record { text = shown beginning; position = None;
 abbrev pub part : Option (List ℕ) → List ℕ
 part text = option_map_or (λ t. codes " | " ++ t) text []
 
--- the line without its place: the text there, the FEN of the position, and the reason
+-- the line after its column: the text at the fault, the FEN of the position, and the reason
 abbrev pub explanation_text : Explanation → List ℕ
 explanation_text e = e.text ++ (part (option_map fen e.position) ++ (part e.reason ++ new_line ∷ []))
 

@@ -47,8 +47,7 @@ reports_from strict start (suc n) text at =
     report_then start text (judged_at strict text at) (read_at text at).state (λ next. reports_from strict start n text next)
 
 -- the reports on all games of a text up to its first fault. The text begins at the offset `start` of the input;
--- `strict`: results are compared. Each game has at least a byte, so there are at most as many reports as bytes, and one
--- more
+-- `strict`: results are compared. Each game has at least one byte, so `length text + 1` games are enough
 abbrev pub reports_on : Bool → ℕ → List ℕ → List Report
 reports_on strict start text = reports_from strict start (length text + 1) text 0
 
@@ -108,8 +107,8 @@ with_report t (Faulty fault explanation) = record t { faults = t.faults + 1 }
 abbrev pub counts_of : List Report → Tally
 counts_of reports = fold with_report (record { games = 0; half_moves = 0; faults = 0 }) reports
 
--- how verifying ended, by the counts of all reports: `EachGame` if each game is without a fault, `FaultReported` if a fault
--- was reported
+-- how verifying ended, from the counts of all reports: `EachGame` if each game is without a fault, `FaultReported` if a
+-- fault was reported
 abbrev pub verified : Tally → Verified
 verified t = if t.faults == 0 then EachGame else FaultReported
 

@@ -9,7 +9,8 @@ use Rattle.pgn_verifier.specs.declared.options.VerifyOptions.{VerifyOptions}
 use Rattle.pgn_verifier.specs.declared.tally.Verified.{Verified}
 use Rattle.pgn_verifier.specs.Reports.{reports_on, report_lines, counts_of, verified}
 
--- between the input's states `r` and `r'` all that was left of it was read, this text, of at most 16,777,216 bytes
+-- between the input's states `r` and `r'` all that was left of the input was read: this text, which has at most
+-- 16,777,216 bytes
 abbrev pub IsAll : InputState → InputState → List ℕ → Type 0
 IsAll r r' text = HasRead true r r' text × (length text ≤ PIECE_LEN)
 

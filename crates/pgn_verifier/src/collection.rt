@@ -152,14 +152,14 @@ fn verify_all<R: Input, W: Output>(
 }
 
 /// Reads the games of an input of any length and writes a line for each, as `verify` does. The input is cut into
-/// pieces, and each is read as a text of its own: a fault ends only its piece. A piece begins at the input's first byte,
-/// at each tag line after a line of moves, and at an Event tag line if the piece so far already has one. A piece with
-/// more than 16,777,216 bytes is one fault, `too long` at its first byte. Offsets count from the input's first byte. The
-/// last line is `games G half-moves H faults F`: how many games have no fault, how many half-moves these have, and how
-/// many faults there are. However the input is cut into reads, the lines are those of its pieces.
+/// pieces, and each is read as a text of its own: a fault ends only its piece. A piece begins at the input's first
+/// byte, at each tag line after a line of moves, and at an Event tag line if the piece so far already has one. A piece
+/// with more than 16,777,216 bytes is one fault, `too long` at its first byte. Offsets count from the input's first
+/// byte. The last line is `games G half-moves H faults F`: how many games have no fault, how many half-moves these
+/// have, and how many faults there are. However the input is cut into reads, the lines are those of its pieces.
 ///
-/// No clause says when a line is written, nor how much memory is used. By the code what is held is a piece and the
-/// bytes of one read, and a piece's lines are written before more is read than shows its end.
+/// No clause says when a line is written, nor how much memory is used. The code holds one piece and the bytes of one
+/// read, and writes a piece's lines as soon as its end is known.
 ///
 /// # Errors
 /// If a read fails, memory runs out, or nearly 2^63 bytes were read: the lines of the pieces whose end was read were

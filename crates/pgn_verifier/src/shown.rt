@@ -67,8 +67,8 @@ fn shown_bytes(word: &[u8]) -> Shown
     shown
 }
 
-/// The first word of a text as it is shown, at most 40 bytes: bytes outside 33 to 126 are `?`, and `(end)` is in place of
-/// an empty word.
+/// The first word of a text as it is shown, at most 40 bytes: bytes outside 33 to 126 are `?`, and an empty word is
+/// `(end)`.
 pub(crate) fn shown(text: &[u8]) -> Shown
     ensures { result.items ≡ shown text.now }
 {

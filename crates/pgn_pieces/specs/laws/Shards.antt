@@ -14,7 +14,7 @@ begins_in_tag [] = false
 begins_in_tag (line ∷ lines) = is_tag_line line
 
 -- a text cut in two between two lines, after a line of moves and any empty lines, and before a tag line, has the pieces
--- of its first part and then those of the other
+-- of its first part and then those of its second part
 abbrev pub ShardsAreCut : Type 0
 ShardsAreCut = (front rest : List ℕ) → ends_in_moves (lines_of (front ++ 10 ∷ [])) ≡ true
     → begins_in_tag (lines_of rest) ≡ true → cut ((front ++ 10 ∷ []) ++ rest) ≡ cut (front ++ 10 ∷ []) ++ cut rest

@@ -57,8 +57,8 @@ pub record Ends (piece text : List ℕ) : Type 0 where
   pub some : 0 < length piece
   pub more : 0 < length text
 
--- what was found of a line, which ends with `\n`, after what was seen of a piece: the piece ends before it (true), or the
--- line belongs to it
+-- what was found of a line, which ends with `\n`, after what was seen of a piece: the piece ends before it (true), or
+-- the line belongs to it
 abbrev pub SeesWhole : Seen → Seen → List ℕ → Bool → Type 0
 SeesWhole seen seen' line true = (piece more : List ℕ) → HasSeen seen piece → Ends piece (line ++ more)
 SeesWhole seen seen' line false = (piece : List ℕ) → HasSeen seen piece → HasSeen seen' (piece ++ line)
