@@ -26,62 +26,89 @@ fn plans_without_arguments(rt: HostRuntime) -> Result<(), Fail> {
 }
 
 // Arguments of `verify`, and the flags that they set: keep-going, quiet, strict, explain.
-const VERIFY: [(&[&str], [bool; 4]); 16] = [
-    (&["verify"], [false, false, false, false]),
-    (&["verify", "--keep-going"], [true, false, false, false]),
-    (&["verify", "--quiet"], [false, true, false, false]),
-    (&["verify", "--strict"], [false, false, true, false]),
-    (&["verify", "--explain"], [false, false, false, true]),
+const VERIFY: [(&[&str], bool, bool, bool, bool); 16] = [
+    (&["verify"], false, false, false, false),
+    (&["verify", "--keep-going"], true, false, false, false),
+    (&["verify", "--quiet"], false, true, false, false),
+    (&["verify", "--strict"], false, false, true, false),
+    (&["verify", "--explain"], false, false, false, true),
     (
         &["verify", "--keep-going", "--quiet"],
-        [true, true, false, false],
+        true,
+        true,
+        false,
+        false,
     ),
     (
         &["verify", "--quiet", "--keep-going"],
-        [true, true, false, false],
+        true,
+        true,
+        false,
+        false,
     ),
-    (
-        &["verify", "--strict", "--quiet"],
-        [false, true, true, false],
-    ),
+    (&["verify", "--strict", "--quiet"], false, true, true, false),
     (
         &["verify", "--keep-going", "--strict"],
-        [true, false, true, false],
+        true,
+        false,
+        true,
+        false,
     ),
     (
         &["verify", "--explain", "--keep-going"],
-        [true, false, false, true],
+        true,
+        false,
+        false,
+        true,
     ),
     (
         &["verify", "--quiet", "--explain"],
-        [false, true, false, true],
+        false,
+        true,
+        false,
+        true,
     ),
     (
         &["verify", "--strict", "--keep-going", "--quiet"],
-        [true, true, true, false],
+        true,
+        true,
+        true,
+        false,
     ),
     (
         &["verify", "--quiet", "--strict", "--keep-going"],
-        [true, true, true, false],
+        true,
+        true,
+        true,
+        false,
     ),
     (
         &["verify", "--explain", "--strict", "--quiet"],
-        [false, true, true, true],
+        false,
+        true,
+        true,
+        true,
     ),
     (
         &["verify", "--keep-going", "--quiet", "--strict", "--explain"],
-        [true, true, true, true],
+        true,
+        true,
+        true,
+        true,
     ),
     (
         &["verify", "--explain", "--strict", "--quiet", "--keep-going"],
-        [true, true, true, true],
+        true,
+        true,
+        true,
+        true,
     ),
 ];
 
 // The arguments of `verify` go together in any order.
 #[test]
 fn verify_by_its_options(rt: HostRuntime) -> Result<(), Fail> {
-    for (words, [keep_going, quiet, strict, explain]) in &VERIFY {
+    for (words, keep_going, quiet, strict, explain) in &VERIFY {
         let Plan::Verify(plan) = read_words(rt.alloc(), words)? else {
             return Err(Fail::new("another plan"));
         };
