@@ -1,0 +1,153 @@
+//! Inputs that are awkward: the shortest pieces, what is opened and never closed, long games, many queens.
+
+use crate::boards::ask_position;
+use crate::collections::{CAREFUL, QUIET, verify_text};
+use crate::digest::Digest;
+use crate::random::Random;
+use crate::sessions::answer_lines;
+use crate::starts::{QUEENS, start_of};
+use crate::texts::{Record, add, add_number, add_plain, add_tag};
+use crate::walk::{Style, walk_on};
+use chess_base::Position;
+use chess_bits::{AttackTables, Bits};
+use chess_game::{Game, MOST_MOVES};
+use std::alloc::{AllocError, Global};
+
+// Pieces of a collection that are no games.
+const SHORT: [&[u8]; 4] = [
+    b"x\n[a\"\n",
+    b"x\n[a \"b\"]\n",
+    b"1\n[Event \"\n",
+    b"*\n[b\n",
+];
+
+const UNCLOSED: [&[u8]; 4] = [b"1. e4 (", b"1. d4 {", b"(((((((((", b"1. e4 e5 [x \"y"];
+
+// Adds so many of the shortest pieces.
+fn short_pieces(alloc: Global, count: usize, random: &mut Random) -> Result<Vec<u8>, AllocError> {
+    let mut text = Vec::new(alloc);
+    for _ in 0..count {
+        add(&mut text, random.one_of(&SHORT))?;
+    }
+    Ok(text)
+}
+
+// Adds so many pieces in which something is opened that is never closed.
+fn unclosed_pieces(
+    alloc: Global,
+    count: usize,
+    random: &mut Random,
+) -> Result<Vec<u8>, AllocError> {
+    let mut text = Vec::new(alloc);
+    for number in 0..count {
+        add_tag(&mut text, b"Event", b"")?;
+        add(&mut text, random.one_of(&UNCLOSED))?;
+        add_number(&mut text, number)?;
+        add(&mut text, b"\n")?;
+    }
+    Ok(text)
+}
+
+// One piece whose comment, variation or string goes on for so many lines.
+fn long_piece(alloc: Global, lines: usize, random: &mut Random) -> Result<Vec<u8>, AllocError> {
+    let mut text = Vec::new(alloc);
+    add(&mut text, random.one_of(&UNCLOSED))?;
+    for number in 0..lines {
+        add_number(&mut text, number)?;
+        add(
+            &mut text,
+            b" and so on, without an end or a move in sight, ",
+        )?;
+        add(
+            &mut text,
+            random.one_of(&[b"[a]\n", b"\n", b"\t \n", b"(x) {\n"]),
+        )?;
+    }
+    Ok(text)
+}
+
+// Long games without captures or moves of pawns for long: as a text, and as lines of a session that plays the last of
+// them, asks for its text and takes all back.
+fn long_games(
+    alloc: Global,
+    games: usize,
+    random: &mut Random,
+    digest: &mut Digest,
+) -> Result<(), AllocError> {
+    let tables = AttackTables::open(alloc)?;
+    let mut game = Game::open(alloc, Bits::new(&tables), MOST_MOVES)?;
+    let mut texts = Vec::new(alloc);
+    let mut text = Vec::new(alloc);
+    let mut lines = Vec::new(alloc);
+    for number in 0..games {
+        game.restart(&Position::initial());
+        texts.clear();
+        walk_on(&mut game, Style::Long, 8_000, random, &mut texts)?;
+        let record = Record {
+            number,
+            texts: &texts,
+            outcome: game.outcome().text(),
+            has_fault: false,
+        };
+        add_plain(&mut text, &record, random)?;
+        add(&mut lines, b"new\n")?;
+        for san in texts.as_slice() {
+            add(&mut lines, san.as_slice())?;
+            add(&mut lines, b"\n")?;
+        }
+        add(&mut lines, b"showpgn\n")?;
+        for _ in 0..game.ply() {
+            add(&mut lines, b"undo\n")?;
+        }
+        add(&mut lines, b"showstate\n")?;
+    }
+    verify_text(alloc, CAREFUL, text.as_slice(), digest)?;
+    answer_lines(alloc, lines.as_slice(), digest)
+}
+
+// Walks through positions with many queens, and asks some of them all that a board answers.
+fn many_queens(
+    alloc: Global,
+    walks: usize,
+    random: &mut Random,
+    digest: &mut Digest,
+) -> Result<(), AllocError> {
+    let tables = AttackTables::open(alloc)?;
+    let mut game = Game::open(alloc, Bits::new(&tables), MOST_MOVES)?;
+    let mut board = Bits::new(&tables);
+    let mut texts = Vec::new(alloc);
+    for _ in 0..walks {
+        game.restart(&start_of(random.one_of(&QUEENS)));
+        texts.clear();
+        walk_on(
+            &mut game,
+            Style::Lively,
+            1 + random.below(6),
+            random,
+            &mut texts,
+        )?;
+        ask_position(&mut board, &game.position(), 2, random, digest);
+    }
+    Ok(())
+}
+
+/// Asks for what is awkward, so many times of each kind.
+///
+/// # Errors
+/// If memory runs out.
+pub fn ask_awkward(
+    alloc: Global,
+    times: usize,
+    random: &mut Random,
+    digest: &mut Digest,
+) -> Result<(), AllocError> {
+    let count = times.min(1000).saturating_mul(20_000);
+    let short = short_pieces(alloc, count, random)?;
+    verify_text(alloc, QUIET, short.as_slice(), digest)?;
+    let unclosed = unclosed_pieces(alloc, count, random)?;
+    verify_text(alloc, CAREFUL, unclosed.as_slice(), digest)?;
+    let long = long_piece(alloc, count, random)?;
+    verify_text(alloc, QUIET, long.as_slice(), digest)?;
+    long_games(alloc, times, random, digest)?;
+    many_queens(alloc, times.saturating_mul(4), random, digest)
+}

@@ -1,0 +1,84 @@
+//! Positions from which walks start.
+
+ghost use Rattle.std.specs.Prelude.{◌<◌};
+
+use crate::random::Random;
+use arrayvec::ArrayVec;
+use byte_devices::append;
+use chess_base::{Position, Variant};
+use chess_fen::{read_fen, read_fen_as};
+
+// The ranks of a FEN in a starting position of Chess960 between the first and the last.
+const MIDDLE: &[u8] = b"/pppppppp/8/8/8/8/PPPPPPPP/";
+
+// The first empty square of a rank from this one on, going round.
+fn free_from(rank: &[u8; 8], from: usize) -> usize
+    ensures { result < 8 }
+{
+    for step in 0..8 {
+        let at = (from % 8 + step) % 8;
+        if rank[at] == b' ' {
+            return at;
+        }
+    }
+    0
+}
+
+// Puts a piece on an empty square of the rank, at random.
+fn put(rank: &mut [u8; 8], letter: u8, random: &mut Random) {
+    let at = free_from(rank, random.below(8) % 8);
+    rank[at] = letter;
+}
+
+// The first rank of a starting position of Chess960: bishops on squares of both colours, the king between the rooks.
+fn first_rank(random: &mut Random) -> [u8; 8] {
+    let mut rank = [b' '; 8];
+    rank[random.below(4) % 4 * 2] = b'b';
+    rank[random.below(4) % 4 * 2 + 1] = b'b';
+    put(&mut rank, b'q', random);
+    put(&mut rank, b'n', random);
+    put(&mut rank, b'n', random);
+    for letter in b"rkr" {
+        let at = free_from(&rank, 0);
+        rank[at] = *letter;
+    }
+    rank
+}
+
+// The letters of a rank as capitals.
+fn in_capitals(rank: &[u8; 8]) -> [u8; 8] {
+    let mut capitals = [b' '; 8];
+    for at in 0..8 {
+        capitals[at] = rank[at].to_ascii_uppercase();
+    }
+    capitals
+}
+
+/// A starting position of Chess960.
+pub fn fischerandom_start(random: &mut Random) -> Position {
+    let rank = first_rank(random);
+    let mut fen: ArrayVec<u8, 80> = ArrayVec::new();
+    append(&mut fen, &rank);
+    append(&mut fen, MIDDLE);
+    append(&mut fen, &in_capitals(&rank));
+    append(&mut fen, b" w KQkq - 0 1");
+    match read_fen_as(Variant::Fischerandom, fen.as_slice()) {
+        Ok(position) => position,
+        Err(_) => Position::initial_of(Variant::Fischerandom),
+    }
+}
+
+/// Positions with as many queens as pawns can become.
+pub const QUEENS: [&[u8]; 3] = [
+    b"qqqq4/qqqqq2k/8/8/8/8/2QQQQQ1/K2QQQQ1 w - - 0 1",
+    b"R6R/3Q4/1Q4Q1/4Q3/2Q4Q/Q4Q2/pp1Q4/kBNN1KB1 w - - 0 1",
+    b"q3k2q/1q4q1/2q2q2/8/8/2Q2Q2/1Q4Q1/Q3K2Q w - - 0 1",
+];
+
+/// The position of a FEN of normal chess; the initial one if the text is no FEN.
+pub fn start_of(fen: &[u8]) -> Position {
+    match read_fen(fen) {
+        Ok(position) => position,
+        Err(_) => Position::initial(),
+    }
+}
