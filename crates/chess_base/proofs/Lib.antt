@@ -1,4 +1,6 @@
 pub mod OverSquares
+pub mod Geometry
+pub mod ClearLines
 pub mod Counts
 pub mod MenAfter
 pub mod MenFacts

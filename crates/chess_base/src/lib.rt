@@ -16,6 +16,7 @@ mod fault;
 mod initial;
 mod laws;
 mod legality;
+mod line;
 mod man;
 mod pawns;
 mod position;

@@ -1,0 +1,192 @@
+-- Walking along a line from square to square, and what is then known of the squares between two of its squares.
+use Rattle.std.proofs.Common.{◌≡◌, ℕ, ◌+◌, ◌-◌, ◌<◌, ◌≤◌, inl, inr, Bool, true, false, ◌&&◌, ◌||◌, not, ◌==◌, is_none, refl, sym, ap, ◌∙◌, arith}
+use Rattle.std.proofs.lemmas.Bool.{and_parts, and_from, cases_order, eqb-true, eq-eqb}
+use Rattle.std.proofs.lemmas.Bool.Decides.{nat_tests}
+use Rattle.chess_base.specs.declared.line.Line.{Line}
+use Rattle.chess_base.specs.declared.line.Line.TheVariants.{Rank, File, Diagonal, Antidiagonal}
+use Rattle.chess_base.specs.Squares.{file, rank, gap, lies_inside, share_diagonal, is_between, is_between_on_file, is_between_on_rank, is_between_on_diagonal}
+use Rattle.chess_base.specs.Men.{Men, man_at}
+use Rattle.chess_base.specs.Attacks.{is_clear}
+use Rattle.chess_base.specs.ties.Lines.{line_number, same_line, step_of}
+use Rattle.chess_base.proofs.OverSquares.{each_square-all, each_square-fails, each_square_same}
+use Rattle.chess_base.proofs.Geometry.{between_on_line}
+
+-- ---- which squares are between two does not depend on their order
+
+gap_back : (m n : ℕ) → gap m n ≡ gap n m
+gap_back m n = omega arith
+
+inside_back : (m n x : ℕ) → lies_inside m n x ≡ lies_inside n m x
+inside_back m n x = grind (arith, nat_tests)
+
+swap_first : (p q r : Bool) → (p && q && r) ≡ (q && p && r)
+swap_first true true r = refl
+swap_first true false r = refl
+swap_first false true r = refl
+swap_first false false r = refl
+
+back_on_file : (a b x : ℕ) → is_between_on_file a b x ≡ is_between_on_file b a x
+unfolding is_between_on_file
+back_on_file a b x = rw (inside_back (rank a) (rank b) (rank x))
+    (swap_first (file x == file a) (file x == file b) (lies_inside (rank b) (rank a) (rank x)))
+
+back_on_rank : (a b x : ℕ) → is_between_on_rank a b x ≡ is_between_on_rank b a x
+unfolding is_between_on_rank
+back_on_rank a b x = rw (inside_back (file a) (file b) (file x))
+    (swap_first (rank x == rank a) (rank x == rank b) (lies_inside (file b) (file a) (file x)))
+
+diagonal_back : (a b : ℕ) → share_diagonal a b ≡ share_diagonal b a
+diagonal_back a b = rw (gap_back (file a) (file b), gap_back (rank a) (rank b)) refl
+
+back_on_diagonal : (a b x : ℕ) → is_between_on_diagonal a b x ≡ is_between_on_diagonal b a x
+unfolding is_between_on_diagonal
+back_on_diagonal a b x =
+    let e = inside_back (rank a) (rank b) (rank x) in
+    let f = inside_back (file a) (file b) (file x) in
+    grind (arith, e, f, diagonal_back a x, diagonal_back x b)
+
+pub between_back : (a b x : ℕ) → is_between a b x ≡ is_between b a x
+unfolding is_between
+between_back a b x = rw (back_on_file a b x, back_on_rank a b x, back_on_diagonal a b x) refl
+
+pub is_clear_back : (men : Men) (a b : ℕ) → is_clear men a b ≡ is_clear men b a
+unfolding is_clear
+is_clear_back men a b =
+    each_square_same _ _ (λ x l. ap (λ t. not t || is_none (man_at men x)) (between_back a b x))
+
+-- ---- from square to square
+
+-- the next square of the line is not past a further one
+pub step_fits : (l : Line) (x k : ℕ) → x < k → k < 64 → same_line l x k ≡ true → x + step_of l ≤ k
+step_fits Rank x k h low e = omega arith
+step_fits File x k h low e = let same = eqb-true (file x) (file k) e in omega (arith, same)
+step_fits Diagonal x k h low e =
+    let same = eqb-true (rank x + 7 - file x) (rank k + 7 - file k) e in omega (arith, same)
+step_fits Antidiagonal x k h low e = let same = eqb-true (rank x + file x) (rank k + file k) e in omega (arith, same)
+
+-- and it is on the line
+pub step_stays : (l : Line) (x k : ℕ) → x < k → k < 64 → same_line l x k ≡ true → same_line l (x + step_of l) k ≡ true
+step_stays Rank x k h low e =
+    let same = eqb-true (rank x) (rank k) e in eq-eqb (rank (x + 1)) (rank k) (omega (arith, same))
+step_stays File x k h low e =
+    let same = eqb-true (file x) (file k) e in eq-eqb (file (x + 8)) (file k) (omega (arith, same))
+step_stays Diagonal x k h low e =
+    let same = eqb-true (rank x + 7 - file x) (rank k + 7 - file k) e in
+    eq-eqb (rank (x + 9) + 7 - file (x + 9)) (rank k + 7 - file k) (omega (arith, same))
+step_stays Antidiagonal x k h low e =
+    let same = eqb-true (rank x + file x) (rank k + file k) e in
+    eq-eqb (rank (x + 7) + file (x + 7)) (rank k + file k) (omega (arith, same))
+
+pub line_back : (l : Line) (a b : ℕ) → same_line l a b ≡ true → same_line l b a ≡ true
+line_back l a b e = eq-eqb (line_number l b) (line_number l a) (sym (eqb-true (line_number l a) (line_number l b) e))
+
+pub line_on : (l : Line) (a b c : ℕ) → same_line l a b ≡ true → same_line l b c ≡ true → same_line l a c ≡ true
+line_on l a b c e f =
+    eq-eqb (line_number l a) (line_number l c)
+    (eqb-true (line_number l a) (line_number l b) e ∙ eqb-true (line_number l b) (line_number l c) f)
+
+-- ---- clear lines
+
+inside_rising : (low high k : ℕ) → low < high → lies_inside low high k ≡ true → (low < k) × (k < high)
+inside_rising low high k h e = (grind (arith, nat_tests), grind (arith, nat_tests))
+
+inside_of : (low high k : ℕ) → low < k → k < high → lies_inside low high k ≡ true
+inside_of low high k h g = grind (arith, nat_tests)
+
+passes_if : (p q : Bool) → (p ≡ true → q ≡ true) → (not p || q) ≡ true
+passes_if true q h = h refl
+passes_if false q h = refl
+
+fails_by : (p q : Bool) → p ≡ true → q ≡ false → (not p || q) ≡ false
+fails_by p q e f = rw (e, f) refl
+
+-- no piece between the two squares on their line
+pub clear_by : (men : Men) (l : Line) (low high : ℕ) → low < high → same_line l low high ≡ true
+    → ((k : ℕ) → low < k → k < high → same_line l low k ≡ true → is_none (man_at men k) ≡ true)
+    → is_clear men low high ≡ true
+unfolding is_clear
+clear_by men l low high rising on empty =
+    each_square-all _
+    (λ k _.
+    passes_if (is_between low high k) (is_none (man_at men k))
+    (λ e.
+    let both = and_parts (same_line l low k) (lies_inside low high k) (sym (between_on_line l low high k on) ∙ e) in
+    let inside = inside_rising low high k rising both.1 in
+    empty k inside.0 inside.1 both.0))
+
+-- one piece between them
+pub not_clear_by : (men : Men) (l : Line) (low high k : ℕ) → low < k → k < high → high ≤ 64
+    → same_line l low high ≡ true → same_line l low k ≡ true → is_none (man_at men k) ≡ false
+    → is_clear men low high ≡ false
+unfolding is_clear
+not_clear_by men l low high k h g in_board on there piece =
+    each_square-fails _ k (omega arith)
+    (fails_by (is_between low high k) (is_none (man_at men k))
+    (between_on_line l low high k on
+    ∙ and_from (same_line l low k) (lies_inside low high k) there (inside_of low high k h g)) piece)
+
+-- ---- a walk up a line
+
+-- walking up the line from `low` towards `high`, the next square to look at is number n, and all before it are empty
+pub record IsWalkedTo (men : Men) (l : Line) (low high n : ℕ) : Type 0 where
+  pub risen : low < n
+  pub fits : n ≤ high
+  pub on : same_line l n high ≡ true
+  pub empty : (k : ℕ) → low < k → k < n → same_line l low k ≡ true → is_none (man_at men k) ≡ true
+
+rises : (l : Line) (x : ℕ) → x < x + step_of l
+rises Rank x = omega arith
+rises File x = omega arith
+rises Diagonal x = omega arith
+rises Antidiagonal x = omega arith
+
+-- between a square and the next one of its line, no square is on the line
+none_between : (l : Line) (x k : ℕ) → x < k → k < x + step_of l → k < 64 → same_line l x k ≡ true → ⊥
+none_between l x k h g low e = let far = step_fits l x k h low e in omega (arith, far)
+
+pub walk_begins : (men : Men) (l : Line) (low high : ℕ) → low < high → high < 64 → same_line l low high ≡ true
+    → IsWalkedTo men l low high (low + step_of l)
+walk_begins men l low high rising in_board on =
+    let fit = step_fits l low high rising in_board on in
+    record {
+      risen = rises l low;
+      fits = fit;
+      on = step_stays l low high rising in_board on;
+      empty = λ k h g e. absurd (none_between l low k h g (omega (arith, fit)) e);
+    }
+
+step_empty : (men : Men) (l : Line) (low high n : ℕ) → IsWalkedTo men l low high n → n < high → high < 64
+    → same_line l low high ≡ true → is_none (man_at men n) ≡ true → (k : ℕ) → low < k → k < n + step_of l
+    → same_line l low k ≡ true → is_none (man_at men k) ≡ true
+step_empty men l low high n w more in_board on empty k h g e =
+    let fit = step_fits l n high more in_board w.on in
+    elim (cases_order k n) [
+      | inl same ↦ rw same empty
+      | inr apart ↦
+          elim apart [
+            | inl less ↦ w.empty k h less e
+            | inr past ↦
+                absurd (none_between l n k past g (omega (arith, fit))
+                (line_on l n high k w.on (line_on l high low k (line_back l low high on) e)))
+          ]
+    ]
+
+pub walk_goes_on : (men : Men) (l : Line) (low high n : ℕ) → IsWalkedTo men l low high n → n < high → high < 64
+    → same_line l low high ≡ true → is_none (man_at men n) ≡ true → IsWalkedTo men l low high (n + step_of l)
+walk_goes_on men l low high n w more in_board on empty = record {
+  risen = let more_risen = rises l n in omega (arith, more_risen, w.risen);
+  fits = step_fits l n high more in_board w.on;
+  on = step_stays l n high more in_board w.on;
+  empty = step_empty men l low high n w more in_board on empty;
+}
+
+pub walk_ends : (men : Men) (l : Line) (low high n : ℕ) → IsWalkedTo men l low high n → high ≤ n → low < high
+    → same_line l low high ≡ true → is_clear men low high ≡ true
+walk_ends men l low high n w past rising on =
+    clear_by men l low high rising on (λ k h g e. w.empty k h (omega (arith, past, g)) e)
+
+pub walk_stops : (men : Men) (l : Line) (low high n : ℕ) → IsWalkedTo men l low high n → n < high → high < 64
+    → same_line l low high ≡ true → is_none (man_at men n) ≡ false → is_clear men low high ≡ false
+walk_stops men l low high n w more in_board on piece =
+    not_clear_by men l low high n w.risen more (omega arith) on
+    (line_on l low high n on (line_back l n high w.on)) piece
