@@ -2,3 +2,4 @@
 pub mod Changes
 pub mod Splits
 pub mod Lines
+pub mod Tallies

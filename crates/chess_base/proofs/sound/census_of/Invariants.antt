@@ -1,0 +1,7 @@
+use Rattle.std.proofs.Common.{take}
+use Rattle.chess_base.specs.declared.man.Colour.TheVariants.{White, Black}
+use Rattle.chess_base.specs.ties.Tallies.{IsTally}
+use Rattle.chess_base.proofs.sound.census_of.Given as goal
+
+abbrev pub invariant-loop-man : goal.invariant-loop-man
+invariant-loop-man l = IsTally White (take l.man-index l.men) l.census.white × IsTally Black (take l.man-index l.men) l.census.black
