@@ -134,14 +134,14 @@ pub record IsWalkedTo (men : Men) (l : Line) (low high n : ℕ) : Type 0 where
   pub on : same_line l n high ≡ true
   pub empty : (k : ℕ) → low < k → k < n → same_line l low k ≡ true → is_none (man_at men k) ≡ true
 
-rises : (l : Line) (x : ℕ) → x < x + step_of l
+pub rises : (l : Line) (x : ℕ) → x < x + step_of l
 rises Rank x = omega arith
 rises File x = omega arith
 rises Diagonal x = omega arith
 rises Antidiagonal x = omega arith
 
 -- between a square and the next one of its line, no square is on the line
-none_between : (l : Line) (x k : ℕ) → x < k → k < x + step_of l → k < 64 → same_line l x k ≡ true → ⊥
+pub none_between : (l : Line) (x k : ℕ) → x < k → k < x + step_of l → k < 64 → same_line l x k ≡ true → ⊥
 none_between l x k h g low e = let far = step_fits l x k h low e in omega (arith, far)
 
 pub walk_begins : (men : Men) (l : Line) (low high : ℕ) → low < high → high < 64 → same_line l low high ≡ true

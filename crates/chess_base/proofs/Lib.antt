@@ -1,6 +1,8 @@
 pub mod OverSquares
 pub mod Geometry
 pub mod ClearLines
+pub mod Rays
+pub mod Knights
 pub mod Counts
 pub mod MenAfter
 pub mod MenFacts

@@ -1,6 +1,6 @@
 //! The lines of the board, and whether the squares between two squares of a line are empty.
 
-ghost use Rattle.std.specs.Prelude.{◌≡◌, ◌<◌, ◌≤◌, ◌||◌, IsTrue};
+ghost use Rattle.std.specs.Prelude.{◌≡◌, ℕ, true, ◌<◌, ◌≤◌, ◌||◌, IsTrue};
 ghost use Rattle.chess_base.specs.Squares.{share_rank_or_file, share_diagonal};
 ghost use Rattle.chess_base.specs.Attacks.{is_clear};
 ghost use Rattle.chess_base.specs.ties.Lines.{same_line, step_of};
@@ -19,7 +19,7 @@ pub(crate) enum Line {
 }
 
 // How much the number rises from a square of such a line to the next one.
-fn step_of(line: Line) -> u8
+pub(crate) fn step_of(line: Line) -> u8
     ensures value { result ≡ step_of line }
     ensures in_range { result ≤ 9 }
 {
@@ -44,6 +44,35 @@ pub(crate) fn shared_line(a: Square, b: Square) -> Line
         Line::Diagonal
     } else {
         Line::Antidiagonal
+    }
+}
+
+// The number of the last square of the line through `a` with a number not below a's.
+pub(crate) fn last_above(line: Line, a: Square) -> u8
+    ensures in_range { result < 64 }
+    ensures not_below { a ≤ result }
+    ensures on_line { IsTrue (same_line line a result) }
+    ensures last { (k : ℕ) → k < 64 → same_line line a k ≡ true → k ≤ result }
+{
+    match line {
+        Line::Rank => a.number() + (7 - a.file()),
+        Line::File => a.number() + 8 * (7 - a.rank()),
+        Line::Diagonal => a.number() + 9 * (7 - a.file()).min(7 - a.rank()),
+        Line::Antidiagonal => a.number() + 7 * a.file().min(7 - a.rank()),
+    }
+}
+
+// The number of the last square of the line through `a` with a number not above a's.
+pub(crate) fn last_below(line: Line, a: Square) -> u8
+    ensures not_above { result ≤ a }
+    ensures on_line { IsTrue (same_line line a result) }
+    ensures last { (k : ℕ) → k < 64 → same_line line a k ≡ true → result ≤ k }
+{
+    match line {
+        Line::Rank => a.number() - a.file(),
+        Line::File => a.number() - 8 * a.rank(),
+        Line::Diagonal => a.number() - 9 * a.file().min(a.rank()),
+        Line::Antidiagonal => a.number() - 7 * (7 - a.file()).min(a.rank()),
     }
 }
 

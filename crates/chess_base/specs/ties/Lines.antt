@@ -1,8 +1,12 @@
 -- The lines of the board: ranks, files, and the diagonals in both directions.
-use Rattle.std.specs.Prelude.{ℕ, ◌+◌, ◌-◌, ◌==◌, Bool}
+use Rattle.std.specs.Prelude.{ℕ, ◌+◌, ◌-◌, ◌*◌, ◌==◌, nat_le, nat_lt, Bool, ◌&&◌}
 use Rattle.chess_base.specs.declared.line.Line.{Line}
 use Rattle.chess_base.specs.declared.line.Line.TheVariants.{Rank, File, Diagonal, Antidiagonal}
-use Rattle.chess_base.specs.Squares.{file, rank}
+use Rattle.chess_base.specs.declared.man.Colour.{Colour}
+use Rattle.chess_base.specs.declared.man.Kind.TheVariants.{Knight}
+use Rattle.chess_base.specs.Squares.{file, rank, some_square}
+use Rattle.chess_base.specs.Men.{Men, man_at, is_of, is_man}
+use Rattle.chess_base.specs.Attacks.{attacks, could_capture}
 
 -- the number of the line of this kind on which square s is: squares of one line have the same number. The diagonal a1
 -- to h8 has 7
@@ -22,3 +26,39 @@ step_of Rank = 1
 step_of File = 8
 step_of Diagonal = 9
 step_of Antidiagonal = 7
+
+-- square a is on b's line of kind l, with a greater number than b
+abbrev pub is_above : Line → ℕ → ℕ → Bool
+is_above l b a = same_line l b a && nat_lt b a
+
+-- square a is on b's line of kind l, with a smaller number than b
+abbrev pub is_below : Line → ℕ → ℕ → Bool
+is_below l b a = same_line l b a && nat_lt a b
+
+-- ---- the attacks on a square, by where they come from
+
+-- on a is a piece of colour c that attacks b
+abbrev pub strikes : Men → Colour → ℕ → ℕ → Bool
+strikes men c b a = is_of c (man_at men a) && attacks men a b
+
+-- a piece of colour c above b on its line of kind l attacks b
+unfoldable pub struck_from_above : Men → Line → Colour → ℕ → Bool
+struck_from_above men l c b = some_square (λ a. is_above l b a && strikes men c b a)
+
+-- a piece of colour c below b on its line of kind l attacks b
+unfoldable pub struck_from_below : Men → Line → Colour → ℕ → Bool
+struck_from_below men l c b = some_square (λ a. is_below l b a && strikes men c b a)
+
+-- a piece of colour c on b's line of kind l attacks b
+unfoldable pub struck_along : Men → Line → Colour → ℕ → Bool
+struck_along men l c b = some_square (λ a. same_line l b a && strikes men c b a)
+
+-- a knight of colour c attacks b
+unfoldable pub struck_by_knight : Men → Colour → ℕ → Bool
+struck_by_knight men c b = some_square (λ a. is_man c Knight (man_at men a) && could_capture men c Knight a b)
+
+-- a knight of colour c is on the square of this file and rank, both counted from 2: so a knight's way from a square
+-- gives no number below 0. False for a square that is not on the board
+unfoldable pub has_knight : Men → Colour → ℕ → ℕ → Bool
+has_knight men c f r = nat_le 2 f && nat_lt f 10 && nat_le 2 r && nat_lt r 10
+    && is_man c Knight (man_at men (8 * (r - 2) + (f - 2)))

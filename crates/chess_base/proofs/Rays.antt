@@ -1,0 +1,555 @@
+-- The attacks along a line come from the first piece on it.
+use Rattle.std.proofs.Common.{◌≡◌, ℕ, ◌+◌, ◌-◌, ◌<◌, ◌≤◌, ◌⊎◌, inl, inr, Bool, true, false, ◌&&◌, ◌||◌, not, ◌==◌, nat_le, nat_lt, is_none, Option, Some, None, refl, sym, ap, ◌∙◌, arith}
+use Rattle.std.proofs.lemmas.Bool.{and_parts, and_from, and_right, cases_Bool, cases_order, eqb-true, eq-eqb, ltb-true, or_cases}
+use Rattle.std.proofs.Math.Bool.{and-false}
+use Rattle.std.proofs.lemmas.Bool.Decides.{nat_tests}
+use Rattle.chess_base.specs.declared.line.Line.{Line}
+use Rattle.chess_base.specs.declared.line.Line.TheVariants.{Rank, File, Diagonal, Antidiagonal}
+use Rattle.chess_base.specs.declared.man.Colour.{Colour}
+use Rattle.chess_base.specs.declared.man.Colour.TheVariants.{White, Black}
+use Rattle.chess_base.specs.declared.man.Kind.{Kind}
+use Rattle.chess_base.specs.declared.man.Kind.TheVariants.{King, Queen, Rook, Bishop, Knight, Pawn}
+use Rattle.chess_base.specs.declared.man.Man.{Man}
+use Rattle.chess_base.specs.Squares.{file, rank, gap, lies_inside, share_rank_or_file, share_diagonal, is_between, is_between_on_file, is_between_on_rank, is_between_on_diagonal, some_square}
+use Rattle.chess_base.specs.Men.{Men, man_at, is_of, is_man, same_colour, same_kind}
+use Rattle.chess_base.specs.Attacks.{is_clear, is_rank_ahead, could_capture, attacks, is_attacked}
+use Rattle.chess_base.specs.ties.Lines.{same_line, step_of, is_above, is_below, strikes, struck_from_above, struck_from_below, struck_along, struck_by_knight}
+use Rattle.chess_base.proofs.OverSquares.{each_square-fails, some_square-at, some_square-none, some_square_same, some_square-or}
+use Rattle.chess_base.proofs.Geometry.{between_on_line}
+use Rattle.chess_base.proofs.ClearLines.{step_fits, step_stays, none_between, rises, line_back, line_on}
+
+-- ---- what stands between hides the square
+
+not_near : (a b x : ℕ) → is_between a b x ≡ true
+    → (nat_le (gap (file a) (file b)) 1 && nat_le (gap (rank a) (rank b)) 1) ≡ false
+unfolding is_between is_between_on_file is_between_on_rank is_between_on_diagonal
+not_near a b x e = grind (arith, nat_tests, e)
+
+no_knight_on_file : (a b x : ℕ) → is_between_on_file a b x ≡ true
+    → (((gap (file a) (file b) == 1) && (gap (rank a) (rank b) == 2))
+    || ((gap (file a) (file b) == 2) && (gap (rank a) (rank b) == 1))) ≡ false
+unfolding is_between_on_file
+no_knight_on_file a b x e = grind (arith, nat_tests, e)
+
+no_knight_on_rank : (a b x : ℕ) → is_between_on_rank a b x ≡ true
+    → (((gap (file a) (file b) == 1) && (gap (rank a) (rank b) == 2))
+    || ((gap (file a) (file b) == 2) && (gap (rank a) (rank b) == 1))) ≡ false
+unfolding is_between_on_rank
+no_knight_on_rank a b x e = grind (arith, nat_tests, e)
+
+-- over files and ranks: from one square to the next on a diagonal, both change alike
+alike : (f h g r t q : ℕ) → gap f h ≡ gap r t → gap h g ≡ gap t q → lies_inside r q t ≡ true → lies_inside f g h ≡ true
+    → gap f g ≡ gap r q
+alike f h g r t q e1 e2 i1 i2 = grind (arith, nat_tests, i1, i2)
+
+no_knight_alike : (n m : ℕ) → n ≡ m → (((n == 1) && (m == 2)) || ((n == 2) && (m == 1))) ≡ false
+no_knight_alike n m e = grind (arith, nat_tests)
+
+no_knight_on_diagonal : (a b x : ℕ) → is_between_on_diagonal a b x ≡ true
+    → (((gap (file a) (file b) == 1) && (gap (rank a) (rank b) == 2))
+    || ((gap (file a) (file b) == 2) && (gap (rank a) (rank b) == 1))) ≡ false
+unfolding is_between_on_diagonal
+no_knight_on_diagonal a b x e =
+    let last = and_parts _ (lies_inside (file a) (file b) (file x)) e in
+    let next = and_parts _ (lies_inside (rank a) (rank b) (rank x)) last.0 in
+    let first = and_parts (share_diagonal a x) (share_diagonal x b) next.0 in
+    no_knight_alike (gap (file a) (file b)) (gap (rank a) (rank b))
+    (alike (file a) (file x) (file b) (rank a) (rank x) (rank b)
+    (eqb-true (gap (file a) (file x)) (gap (rank a) (rank x)) first.0)
+    (eqb-true (gap (file x) (file b)) (gap (rank x) (rank b)) first.1) next.1 last.1)
+
+no_knight_between : (a b x : ℕ) → is_between a b x ≡ true
+    → (((gap (file a) (file b) == 1) && (gap (rank a) (rank b) == 2))
+    || ((gap (file a) (file b) == 2) && (gap (rank a) (rank b) == 1))) ≡ false
+unfolding is_between
+no_knight_between a b x e =
+    elim (or_cases _ (is_between_on_diagonal a b x) e) [
+      | inl straight ↦
+          elim (or_cases (is_between_on_file a b x) (is_between_on_rank a b x) straight) [
+            | inl on_file ↦ no_knight_on_file a b x on_file
+            | inr on_rank ↦ no_knight_on_rank a b x on_rank
+          ]
+      | inr diagonal ↦ no_knight_on_diagonal a b x diagonal
+    ]
+
+no_pawn_between : (c : Colour) (a b x : ℕ) → is_between a b x ≡ true
+    → ((gap (file a) (file b) == 1) && is_rank_ahead c a b) ≡ false
+no_pawn_between White a b x e = let far = not_near a b x e in grind (arith, nat_tests, far)
+no_pawn_between Black a b x e = let far = not_near a b x e in grind (arith, nat_tests, far)
+
+shut : (men : Men) (a b x : ℕ) → x < 64 → is_between a b x ≡ true → is_none (man_at men x) ≡ false
+    → is_clear men a b ≡ false
+unfolding is_clear
+shut men a b x h e piece = each_square-fails _ x h (rw (e, piece) refl)
+
+last_two_fail : (p q r : Bool) → (q && r) ≡ false → (p && q && r) ≡ false
+last_two_fail true q r e = e
+last_two_fail false q r e = refl
+
+last_fails : (p q r : Bool) → r ≡ false → (p && q && r) ≡ false
+last_fails true true r e = e
+last_fails true false r e = refl
+last_fails false q r e = refl
+
+hidden : (men : Men) (c : Colour) (k : Kind) (a b x : ℕ) → x < 64 → is_between a b x ≡ true
+    → is_none (man_at men x) ≡ false → could_capture men c k a b ≡ false
+unfolding could_capture
+hidden men c King a b x h e piece =
+    last_two_fail (not (a == b)) (nat_le (gap (file a) (file b)) 1) (nat_le (gap (rank a) (rank b)) 1)
+    (not_near a b x e)
+hidden men c Queen a b x h e piece =
+    last_fails (not (a == b)) (share_rank_or_file a b || share_diagonal a b) (is_clear men a b)
+    (shut men a b x h e piece)
+hidden men c Rook a b x h e piece =
+    last_fails (not (a == b)) (share_rank_or_file a b) (is_clear men a b) (shut men a b x h e piece)
+hidden men c Bishop a b x h e piece =
+    last_fails (not (a == b)) (share_diagonal a b) (is_clear men a b) (shut men a b x h e piece)
+hidden men c Knight a b x h e piece = no_knight_between a b x e
+hidden men c Pawn a b x h e piece = no_pawn_between c a b x e
+
+none_strikes : (men : Men) (c : Colour) (b k : ℕ) → (o : Option Man) → man_at men k ≡ o → is_none o ≡ true
+    → strikes men c b k ≡ false
+unfolding is_of
+none_strikes men c b k None at e = rw at refl
+none_strikes men c b k (Some x) at e = absurd cc
+
+empty_strikes : (men : Men) (c : Colour) (b k : ℕ) → is_none (man_at men k) ≡ true → strikes men c b k ≡ false
+empty_strikes men c b k e = none_strikes men c b k (man_at men k) refl e
+
+hidden_attacks : (men : Men) (b k x : ℕ) → x < 64 → is_between k b x ≡ true → is_none (man_at men x) ≡ false
+    → (o : Option Man) → man_at men k ≡ o → attacks men k b ≡ false
+unfolding attacks
+hidden_attacks men b k x h e piece None at = rw at refl
+hidden_attacks men b k x h e piece (Some y) at = rw at (hidden men y.colour y.kind k b x h e piece)
+
+hidden_strikes : (men : Men) (c : Colour) (b k x : ℕ) → x < 64 → is_between k b x ≡ true
+    → is_none (man_at men x) ≡ false → strikes men c b k ≡ false
+hidden_strikes men c b k x h e piece =
+    and_right (is_of c (man_at men k)) (attacks men k b) (hidden_attacks men b k x h e piece (man_at men k) refl)
+
+-- ---- of the squares that pass a test, only the first piece counts
+
+-- square k is empty, or it is x, or x stands between it and b
+abbrev IsBehind : Men → ℕ → ℕ → ℕ → Type 0
+IsBehind men b x k = (is_none (man_at men k) ≡ true) ⊎ ((k ≡ x) ⊎ (is_between k b x ≡ true))
+
+all_behind : (p : ℕ → Bool) (men : Men) (c : Colour) (b x k : ℕ) → x < 64 → is_none (man_at men x) ≡ false
+    → strikes men c b x ≡ false → IsBehind men b x k → strikes men c b k ≡ false
+all_behind p men c b x k h piece fails (inl empty) = empty_strikes men c b k empty
+all_behind p men c b x k h piece fails (inr (inl same)) = rw same fails
+all_behind p men c b x k h piece fails (inr (inr between)) = hidden_strikes men c b k x h between piece
+
+guarded : (p q : Bool) → (p ≡ true → q ≡ false) → (p && q) ≡ false
+guarded true q h = h refl
+guarded false q h = refl
+
+pub first_decides : (p : ℕ → Bool) (men : Men) (c : Colour) (b x : ℕ) → x < 64 → p x ≡ true
+    → is_none (man_at men x) ≡ false → ((k : ℕ) → k < 64 → p k ≡ true → IsBehind men b x k)
+    → strikes men c b x ≡ some_square (λ a. p a && strikes men c b a)
+first_decides p men c b x h on piece behind =
+    elim (cases_Bool (strikes men c b x)) [
+      | inl passes ↦
+          passes ∙ sym (some_square-at (λ a. p a && strikes men c b a) x h
+          (and_from (p x) (strikes men c b x) on passes))
+      | inr fails ↦
+          fails ∙ sym (some_square-none (λ a. p a && strikes men c b a)
+          (λ k low. guarded (p k) (strikes men c b k)
+          (λ e. all_behind p men c b x k h piece fails (behind k low e))))
+    ]
+
+pub none_decides : (p : ℕ → Bool) (men : Men) (c : Colour) (b : ℕ)
+    → ((k : ℕ) → k < 64 → p k ≡ true → is_none (man_at men k) ≡ true)
+    → false ≡ some_square (λ a. p a && strikes men c b a)
+none_decides p men c b empty =
+    sym (some_square-none (λ a. p a && strikes men c b a)
+    (λ k low. guarded (p k) (strikes men c b k) (λ e. empty_strikes men c b k (empty k low e))))
+
+-- ---- up a line
+
+-- from b up its line, whose last square is `end`, all squares up to n were looked at and are empty
+pub record HasRisen (men : Men) (l : Line) (b end n : ℕ) : Type 0 where
+  pub begun : b ≤ n
+  pub fits : n ≤ end
+  pub on : same_line l n end ≡ true
+  pub empty : (k : ℕ) → b < k → k ≤ n → same_line l b k ≡ true → is_none (man_at men k) ≡ true
+
+pub rise_begins : (men : Men) (l : Line) (b end : ℕ) → b ≤ end → same_line l b end ≡ true → HasRisen men l b end b
+rise_begins men l b end h on = record {
+  begun = omega arith;
+  fits = h;
+  on = on;
+  empty = λ k above below e. absurd (omega (arith, above, below));
+}
+
+-- b and n are on one line
+line_of_rise : (men : Men) (l : Line) (b end n : ℕ) → same_line l b end ≡ true → HasRisen men l b end n
+    → same_line l b n ≡ true
+line_of_rise men l b end n on w = line_on l b end n on (line_back l n end w.on)
+
+-- what is on the line above b, but before the next square, is empty
+before_next : (men : Men) (l : Line) (b end n : ℕ) → same_line l b end ≡ true → HasRisen men l b end n → n < end
+    → end < 64 → (k : ℕ) → b < k → k < n + step_of l → same_line l b k ≡ true → is_none (man_at men k) ≡ true
+before_next men l b end n on w more in_board k above below e =
+    let fit = step_fits l n end more in_board w.on in
+    elim (cases_order k n) [
+      | inl same ↦ w.empty k above (omega (arith, same)) e
+      | inr apart ↦
+          elim apart [
+            | inl less ↦ w.empty k above (omega (arith, less)) e
+            | inr past ↦
+                absurd (none_between l n k past below (omega (arith, fit))
+                (line_on l n b k (line_back l b n (line_of_rise men l b end n on w)) e))
+          ]
+    ]
+
+before_or_there : (k x : ℕ) → k ≤ x → (k < x) ⊎ (k ≡ x)
+before_or_there k x h = grind arith
+
+up_to_next : (men : Men) (l : Line) (b end n : ℕ) → same_line l b end ≡ true → HasRisen men l b end n → n < end
+    → end < 64 → is_none (man_at men (n + step_of l)) ≡ true → (k : ℕ) → b < k → k ≤ n + step_of l
+    → same_line l b k ≡ true → is_none (man_at men k) ≡ true
+up_to_next men l b end n on w more in_board empty k above below e =
+    elim (before_or_there k (n + step_of l) below) [
+      | inl less ↦ before_next men l b end n on w more in_board k above less e
+      | inr same ↦ rw same empty
+    ]
+
+pub rise_goes_on : (men : Men) (l : Line) (b end n : ℕ) → same_line l b end ≡ true → HasRisen men l b end n → n < end
+    → end < 64 → is_none (man_at men (n + step_of l)) ≡ true → HasRisen men l b end (n + step_of l)
+rise_goes_on men l b end n on w more in_board empty = record {
+  begun = let more_begun = rises l n in omega (arith, more_begun, w.begun);
+  fits = step_fits l n end more in_board w.on;
+  on = step_stays l n end more in_board w.on;
+  empty = up_to_next men l b end n on w more in_board empty;
+}
+
+inside_falling : (k b x : ℕ) → b < x → x < k → lies_inside k b x ≡ true
+inside_falling k b x h g = grind (arith, nat_tests)
+
+inside_rising : (k b x : ℕ) → x < b → k < x → lies_inside k b x ≡ true
+inside_rising k b x h g = grind (arith, nat_tests)
+
+hides : (l : Line) (k b x : ℕ) → same_line l b k ≡ true → same_line l b x ≡ true → lies_inside k b x ≡ true
+    → is_between k b x ≡ true
+hides l k b x e f inside =
+    let back = line_back l b k e in
+    between_on_line l k b x back
+    ∙ and_from (same_line l k x) (lies_inside k b x) (line_on l k b x back f) inside
+
+above_parts : (l : Line) (b k : ℕ) → is_above l b k ≡ true → (same_line l b k ≡ true) × (b < k)
+above_parts l b k e =
+    let both = and_parts (same_line l b k) (nat_lt b k) e in (both.0, ltb-true b k both.1)
+
+above_from : (l : Line) (b k : ℕ) → same_line l b k ≡ true → b < k → is_above l b k ≡ true
+above_from l b k e h = and_from (same_line l b k) (nat_lt b k) e (grind (arith, nat_tests))
+
+behind_first : (men : Men) (l : Line) (b end n : ℕ) → same_line l b end ≡ true → HasRisen men l b end n → n < end
+    → end < 64 → same_line l b (n + step_of l) ≡ true → (k : ℕ) → b < k → same_line l b k ≡ true
+    → IsBehind men b (n + step_of l) k
+behind_first men l b end n on w more in_board there k above e =
+    elim (cases_order k (n + step_of l)) [
+      | inl same ↦ inr (inl same)
+      | inr apart ↦
+          elim apart [
+            | inl less ↦ inl (before_next men l b end n on w more in_board k above less e)
+            | inr past ↦ inr (inr (hides l k b (n + step_of l) e there
+                (inside_falling k b (n + step_of l)
+                (let far = rises l n in omega (arith, far, w.begun)) past)))
+          ]
+    ]
+
+pub rise_stops : (men : Men) (l : Line) (c : Colour) (b end n : ℕ) → same_line l b end ≡ true → HasRisen men l b end n
+    → n < end → end < 64 → is_none (man_at men (n + step_of l)) ≡ false
+    → strikes men c b (n + step_of l) ≡ struck_from_above men l c b
+unfolding struck_from_above
+rise_stops men l c b end n on w more in_board piece =
+    let fit = step_fits l n end more in_board w.on in
+    let far = rises l n in
+    let there : same_line l b (n + step_of l) ≡ true =
+    line_on l b end (n + step_of l) on (line_back l (n + step_of l) end (step_stays l n end more in_board w.on)) in
+    first_decides (λ a. is_above l b a) men c b (n + step_of l) (omega (arith, fit, in_board))
+    (above_from l b (n + step_of l) there (omega (arith, far, w.begun))) piece
+    (λ k low e.
+    let parts = above_parts l b k e in behind_first men l b end n on w more in_board there k parts.1 parts.0)
+
+pub rise_ends : (men : Men) (l : Line) (c : Colour) (b end n : ℕ) → HasRisen men l b end n → end ≤ n
+    → ((k : ℕ) → k < 64 → same_line l b k ≡ true → k ≤ end) → false ≡ struck_from_above men l c b
+unfolding struck_from_above
+rise_ends men l c b end n w past last =
+    none_decides (λ a. is_above l b a) men c b
+    (λ k low e.
+    let parts = above_parts l b k e in
+    let far = last k low parts.0 in w.empty k parts.1 (omega (arith, far, past)) parts.0)
+
+-- ---- down a line
+
+-- from b down its line, whose last square is `end`, all squares down to n were looked at and are empty
+pub record HasFallen (men : Men) (l : Line) (b end n : ℕ) : Type 0 where
+  pub begun : n ≤ b
+  pub fits : end ≤ n
+  pub on : same_line l end n ≡ true
+  pub empty : (k : ℕ) → k < b → n ≤ k → same_line l b k ≡ true → is_none (man_at men k) ≡ true
+
+pub fall_begins : (men : Men) (l : Line) (b end : ℕ) → end ≤ b → same_line l b end ≡ true → HasFallen men l b end b
+fall_begins men l b end h on = record {
+  begun = omega arith;
+  fits = h;
+  on = line_back l b end on;
+  empty = λ k below above e. absurd (omega (arith, above, below));
+}
+
+-- the square before one that is above `end` is on the line
+step_back_stays : (l : Line) (e x : ℕ) → e < x → x < 64 → same_line l e x ≡ true → same_line l e (x - step_of l) ≡ true
+step_back_stays Rank e x h low on =
+    let same = eqb-true (rank e) (rank x) on in eq-eqb (rank e) (rank (x - 1)) (omega (arith, same))
+step_back_stays File e x h low on =
+    let same = eqb-true (file e) (file x) on in eq-eqb (file e) (file (x - 8)) (omega (arith, same))
+step_back_stays Diagonal e x h low on =
+    let same = eqb-true (rank e + 7 - file e) (rank x + 7 - file x) on in
+    eq-eqb (rank e + 7 - file e) (rank (x - 9) + 7 - file (x - 9)) (omega (arith, same))
+step_back_stays Antidiagonal e x h low on =
+    let same = eqb-true (rank e + file e) (rank x + file x) on in
+    eq-eqb (rank e + file e) (rank (x - 7) + file (x - 7)) (omega (arith, same))
+
+line_of_fall : (men : Men) (l : Line) (b end n : ℕ) → same_line l b end ≡ true → HasFallen men l b end n
+    → same_line l b n ≡ true
+line_of_fall men l b end n on w = line_on l b end n on w.on
+
+-- what is on the line below b, but above the next square, is empty
+above_next : (men : Men) (l : Line) (b end n : ℕ) → b < 64 → same_line l b end ≡ true → HasFallen men l b end n
+    → (k : ℕ) → k < b → n < k + step_of l → same_line l b k ≡ true → is_none (man_at men k) ≡ true
+above_next men l b end n in_board on w k below above e =
+    elim (cases_order k n) [
+      | inl same ↦ w.empty k below (omega (arith, same)) e
+      | inr apart ↦
+          elim apart [
+            | inl less ↦
+                absurd (none_between l k n less above (omega (arith, w.begun, in_board))
+                (line_on l k b n (line_back l b k e) (line_of_fall men l b end n on w)))
+            | inr past ↦ w.empty k below (omega (arith, past)) e
+          ]
+    ]
+
+down_to_next : (men : Men) (l : Line) (b end n x : ℕ) → b < 64 → same_line l b end ≡ true → HasFallen men l b end n
+    → x + step_of l ≡ n → is_none (man_at men x) ≡ true → (k : ℕ) → k < b → x ≤ k
+    → same_line l b k ≡ true → is_none (man_at men k) ≡ true
+down_to_next men l b end n x in_board on w next empty k below above e =
+    elim (before_or_there x k above) [
+      | inl less ↦ above_next men l b end n in_board on w k below (omega (arith, less, next)) e
+      | inr same ↦ rw (sym same) empty
+    ]
+
+pub fall_fits : (men : Men) (l : Line) (b end n : ℕ) → b < 64 → HasFallen men l b end n → end < n → end + step_of l ≤ n
+fall_fits men l b end n in_board w more = step_fits l end n more (omega (arith, w.begun, in_board)) w.on
+
+pub fall_goes_on : (men : Men) (l : Line) (b end n : ℕ) → b < 64 → same_line l b end ≡ true → HasFallen men l b end n
+    → end < n → is_none (man_at men (n - step_of l)) ≡ true → HasFallen men l b end (n - step_of l)
+fall_goes_on men l b end n in_board on w more empty =
+    let fit = fall_fits men l b end n in_board w more in
+    record {
+      begun = omega (arith, w.begun);
+      fits = omega (arith, fit);
+      on = step_back_stays l end n more (omega (arith, w.begun, in_board)) w.on;
+      empty = down_to_next men l b end n (n - step_of l) in_board on w (omega (arith, fit)) empty;
+    }
+
+below_parts : (l : Line) (b k : ℕ) → is_below l b k ≡ true → (same_line l b k ≡ true) × (k < b)
+below_parts l b k e =
+    let both = and_parts (same_line l b k) (nat_lt k b) e in (both.0, ltb-true k b both.1)
+
+below_from : (l : Line) (b k : ℕ) → same_line l b k ≡ true → k < b → is_below l b k ≡ true
+below_from l b k e h = and_from (same_line l b k) (nat_lt k b) e (grind (arith, nat_tests))
+
+beyond_first : (men : Men) (l : Line) (b end n x : ℕ) → b < 64 → same_line l b end ≡ true → HasFallen men l b end n
+    → x + step_of l ≡ n → same_line l b x ≡ true → (k : ℕ) → k < b → same_line l b k ≡ true → IsBehind men b x k
+beyond_first men l b end n x in_board on w next there k below e =
+    elim (cases_order k x) [
+      | inl same ↦ inr (inl same)
+      | inr apart ↦
+          elim apart [
+            | inl less ↦
+                inr (inr (hides l k b x e there
+                (inside_rising k b x (let far = rises l x in omega (arith, far, next, w.begun)) less)))
+            | inr past ↦ inl (above_next men l b end n in_board on w k below (omega (arith, past, next)) e)
+          ]
+    ]
+
+pub fall_stops : (men : Men) (l : Line) (c : Colour) (b end n : ℕ) → b < 64 → same_line l b end ≡ true
+    → HasFallen men l b end n → end < n → is_none (man_at men (n - step_of l)) ≡ false
+    → strikes men c b (n - step_of l) ≡ struck_from_below men l c b
+unfolding struck_from_below
+fall_stops men l c b end n in_board on w more piece =
+    let fit = fall_fits men l b end n in_board w more in
+    let next : (n - step_of l) + step_of l ≡ n = omega (arith, fit) in
+    let far = rises l (n - step_of l) in
+    let there : same_line l b (n - step_of l) ≡ true =
+    line_on l b end (n - step_of l) on (step_back_stays l end n more (omega (arith, w.begun, in_board)) w.on) in
+    first_decides (λ a. is_below l b a) men c b (n - step_of l) (omega (arith, w.begun, in_board))
+    (below_from l b (n - step_of l) there (omega (arith, far, next, w.begun))) piece
+    (λ k low e.
+    let parts = below_parts l b k e in
+    beyond_first men l b end n (n - step_of l) in_board on w next there k parts.1 parts.0)
+
+pub fall_ends : (men : Men) (l : Line) (c : Colour) (b end n : ℕ) → HasFallen men l b end n → n ≤ end
+    → ((k : ℕ) → k < 64 → same_line l b k ≡ true → end ≤ k) → false ≡ struck_from_below men l c b
+unfolding struck_from_below
+fall_ends men l c b end n w past last =
+    none_decides (λ a. is_below l b a) men c b
+    (λ k low e.
+    let parts = below_parts l b k e in
+    let far = last k low parts.0 in w.empty k parts.1 (omega (arith, far, past)) parts.0)
+
+-- ---- both ways
+
+attacks_itself : (men : Men) (c : Colour) (k : Kind) (b : ℕ) → could_capture men c k b b ≡ false
+unfolding could_capture
+attacks_itself men c King b = grind (arith, nat_tests)
+attacks_itself men c Queen b = grind (arith, nat_tests)
+attacks_itself men c Rook b = grind (arith, nat_tests)
+attacks_itself men c Bishop b = grind (arith, nat_tests)
+attacks_itself men c Knight b = grind (arith, nat_tests)
+attacks_itself men White Pawn b = grind (arith, nat_tests)
+attacks_itself men Black Pawn b = grind (arith, nat_tests)
+
+no_attack_itself : (men : Men) (b : ℕ) → (o : Option Man) → man_at men b ≡ o → attacks men b b ≡ false
+unfolding attacks
+no_attack_itself men b None at = rw at refl
+no_attack_itself men b (Some y) at = rw at (attacks_itself men y.colour y.kind b)
+
+strikes_itself : (men : Men) (c : Colour) (b : ℕ) → strikes men c b b ≡ false
+strikes_itself men c b =
+    and_right (is_of c (man_at men b)) (attacks men b b) (no_attack_itself men b (man_at men b) refl)
+
+above_or_below : (e : Bool) (b k : ℕ) (s : Bool) → (b ≡ k → s ≡ false)
+    → (e && s) ≡ ((e && nat_lt b k && s) || (e && nat_lt k b && s))
+above_or_below false b k s h = refl
+above_or_below true b k false h = grind arith
+above_or_below true b k true h =
+    elim (cases_order b k) [
+      | inl same ↦ let no = h same in cc
+      | inr apart ↦ grind (arith, nat_tests)
+    ]
+
+pub along_is : (men : Men) (l : Line) (c : Colour) (b : ℕ)
+    → struck_along men l c b ≡ (struck_from_above men l c b || struck_from_below men l c b)
+unfolding struck_along struck_from_above struck_from_below
+along_is men l c b =
+    some_square_same (λ a. same_line l b a && strikes men c b a)
+    (λ a. (is_above l b a && strikes men c b a) || (is_below l b a && strikes men c b a))
+    (λ k low. above_or_below (same_line l b k) b k (strikes men c b k) (λ e. ap (λ t. strikes men c b t) (sym e) ∙ strikes_itself men c b))
+    ∙ some_square-or (λ a. is_above l b a && strikes men c b a) (λ a. is_below l b a && strikes men c b a)
+
+-- ---- all ways
+
+-- some line of the four is shared
+abbrev on_some_line : ℕ → ℕ → Bool
+on_some_line a b = same_line File b a || same_line Rank b a || same_line Diagonal b a || same_line Antidiagonal b a
+
+straight_line : (a b : ℕ) → share_rank_or_file a b ≡ true → on_some_line a b ≡ true
+straight_line a b e = grind (arith, nat_tests, e)
+
+diagonal_line : (a b : ℕ) → share_diagonal a b ≡ true → on_some_line a b ≡ true
+diagonal_line a b e = grind (arith, nat_tests, e)
+
+either_line : (a b : ℕ) → (share_rank_or_file a b || share_diagonal a b) ≡ true → on_some_line a b ≡ true
+either_line a b e =
+    elim (or_cases (share_rank_or_file a b) (share_diagonal a b) e) [
+      | inl straight ↦ straight_line a b straight
+      | inr diagonal ↦ diagonal_line a b diagonal
+    ]
+
+king_line : (a b : ℕ) → nat_le (gap (file a) (file b)) 1 ≡ true → nat_le (gap (rank a) (rank b)) 1 ≡ true
+    → (share_rank_or_file a b || share_diagonal a b) ≡ true
+king_line a b e f = grind (arith, nat_tests, e, f)
+
+pawn_line : (c : Colour) (a b : ℕ) → ((gap (file a) (file b) == 1) && is_rank_ahead c a b) ≡ true
+    → share_diagonal a b ≡ true
+pawn_line White a b e = grind (arith, nat_tests, e)
+pawn_line Black a b e = grind (arith, nat_tests, e)
+
+middle : (p q r : Bool) → (p && q && r) ≡ true → q ≡ true
+middle p q r e = (and_parts p q (and_parts (p && q) r e).0).1
+
+-- what captures goes along a line, or is a knight
+lined : (men : Men) (d : Colour) (k : Kind) (a b : ℕ) → could_capture men d k a b ≡ true
+    → (on_some_line a b ≡ true) ⊎ ((same_kind Knight k ≡ true) × (could_capture men d Knight a b ≡ true))
+unfolding could_capture
+lined men d King a b e =
+    inl (either_line a b (king_line a b
+    (middle (not (a == b)) (nat_le (gap (file a) (file b)) 1) (nat_le (gap (rank a) (rank b)) 1) e)
+    (and_parts _ (nat_le (gap (rank a) (rank b)) 1) e).1))
+lined men d Queen a b e =
+    inl (either_line a b (middle (not (a == b)) (share_rank_or_file a b || share_diagonal a b) (is_clear men a b) e))
+lined men d Rook a b e =
+    inl (straight_line a b (middle (not (a == b)) (share_rank_or_file a b) (is_clear men a b) e))
+lined men d Bishop a b e =
+    inl (diagonal_line a b (middle (not (a == b)) (share_diagonal a b) (is_clear men a b) e))
+lined men d Knight a b e = inr (refl, e)
+lined men d Pawn a b e = inl (diagonal_line a b (pawn_line d a b e))
+
+-- a knight of colour c on square a could capture on b
+abbrev knight_strikes : Men → Colour → ℕ → ℕ → Bool
+knight_strikes men c b a = is_man c Knight (man_at men a) && could_capture men c Knight a b
+
+lined_of : (men : Men) (c : Colour) (a b : ℕ) (o : Option Man) → man_at men a ≡ o → strikes men c b a ≡ true
+    → (on_some_line a b ≡ true) ⊎ (knight_strikes men c b a ≡ true)
+unfolding is_of is_man attacks could_capture
+lined_of men c a b None at e = let none = rw at at e in cc
+lined_of men c a b (Some x) at e =
+    let both = and_parts (same_colour c x.colour) (could_capture men x.colour x.kind a b) (rw at at e) in
+    elim (lined men x.colour x.kind a b both.1) [
+      | inl line ↦ inl line
+      | inr knight ↦
+          inr (rw at (and_from (same_colour c x.colour && same_kind Knight x.kind) (could_capture men c Knight a b)
+          (and_from (same_colour c x.colour) (same_kind Knight x.kind) both.0 knight.0) knight.1))
+    ]
+
+knight_by : (men : Men) (c d : Colour) (k : Kind) (a b : ℕ) → same_kind Knight k ≡ true
+    → could_capture men c Knight a b ≡ true → could_capture men d k a b ≡ true
+unfolding could_capture
+knight_by men c d King a b e f = cc
+knight_by men c d Queen a b e f = cc
+knight_by men c d Rook a b e f = cc
+knight_by men c d Bishop a b e f = cc
+knight_by men c d Knight a b e f = f
+knight_by men c d Pawn a b e f = cc
+
+knight_of : (men : Men) (c : Colour) (a b : ℕ) (o : Option Man) → man_at men a ≡ o → knight_strikes men c b a ≡ true
+    → strikes men c b a ≡ true
+unfolding is_of is_man attacks
+knight_of men c a b None at e = let none = rw at at e in cc
+knight_of men c a b (Some x) at e =
+    let both = and_parts (same_colour c x.colour && same_kind Knight x.kind) (could_capture men c Knight a b)
+    (rw at at e) in
+    let man = and_parts (same_colour c x.colour) (same_kind Knight x.kind) both.0 in
+    rw at (and_from (same_colour c x.colour) (could_capture men x.colour x.kind a b) man.0
+    (knight_by men c x.colour x.kind a b man.1 both.1))
+
+ways : (f r d t k s : Bool) → (s ≡ true → ((f || r || d || t) ≡ true) ⊎ (k ≡ true)) → (k ≡ true → s ≡ true)
+    → s ≡ ((f && s) || (r && s) || (d && s) || (t && s) || k)
+ways f r d t k true h g =
+    elim (h refl) [
+      | inl line ↦ grind (arith, line)
+      | inr knight ↦ grind (arith, knight)
+    ]
+ways f r d t true false h g = let no = g refl in cc
+ways f r d t false false h g = rw (and-false f, and-false r, and-false d, and-false t) refl
+
+pub attacked_is : (men : Men) (b : ℕ) (c : Colour)
+    → is_attacked men b c ≡ (struck_along men File c b || struck_along men Rank c b || struck_along men Diagonal c b
+    || struck_along men Antidiagonal c b || struck_by_knight men c b)
+unfolding is_attacked struck_along struck_by_knight
+attacked_is men b c =
+    let f : ℕ → Bool = λ a. same_line File b a && strikes men c b a in
+    let r : ℕ → Bool = λ a. same_line Rank b a && strikes men c b a in
+    let d : ℕ → Bool = λ a. same_line Diagonal b a && strikes men c b a in
+    let t : ℕ → Bool = λ a. same_line Antidiagonal b a && strikes men c b a in
+    let k : ℕ → Bool = λ a. knight_strikes men c b a in
+    some_square_same (λ a. strikes men c b a) (λ a. f a || r a || d a || t a || k a)
+    (λ a low. ways (same_line File b a) (same_line Rank b a) (same_line Diagonal b a) (same_line Antidiagonal b a)
+    (knight_strikes men c b a) (strikes men c b a) (lined_of men c a b (man_at men a) refl)
+    (knight_of men c a b (man_at men a) refl))
+    ∙ (some_square-or (λ a. f a || r a || d a || t a) k
+    ∙ ap (λ v. v || some_square k) (some_square-or (λ a. f a || r a || d a) t
+    ∙ ap (λ v. v || some_square t) (some_square-or (λ a. f a || r a) d
+    ∙ ap (λ v. v || some_square d) (some_square-or f r))))

@@ -1,0 +1,19 @@
+-- A walk up the line: the first piece decides, and where there is none nothing attacks from there (Rays).
+use Rattle.std.proofs.Common.{arith, ◌≡◌, ◌+◌, false, is_none}
+use Rattle.std.proofs.lemmas.Grind.{common_steps}
+use Rattle.chess_base.specs.Men.{man_at}
+use Rattle.chess_base.proofs.Rays.{rise_stops, rise_ends}
+use Rattle.chess_base.proofs.attack.is_struck_from_above.Goals as goal
+
+pub returns-then-is_some : goal.returns-then-is_some
+returns-then-is_some c =
+    let piece : is_none (man_at c.args.men.now (c.loop-number.number + c.step_of-step.result)) ≡ false =
+    grind (arith, common_steps) in
+    let decided = rise_stops c.args.men.now c.args.line c.args.colour c.args.b c.last_above-end.result
+    c.loop-number.number c.last_above-end.ensures.on_line c.loop-number.invariant (omega arith) (omega arith)
+    (rw c.step_of-step.ensures.value at piece) in
+    grind (arith, decided)
+
+pub returns : goal.returns
+returns c = rise_ends c.args.men.now c.args.line c.args.colour c.args.b c.last_above-end.result c.loop-number.number
+    c.loop-number.invariant (omega arith) c.last_above-end.ensures.last

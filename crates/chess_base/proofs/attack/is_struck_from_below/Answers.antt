@@ -1,0 +1,19 @@
+-- A walk down the line: the first piece decides, and where there is none nothing attacks from there (Rays).
+use Rattle.std.proofs.Common.{arith, ◌≡◌, ◌-◌, false, is_none}
+use Rattle.std.proofs.lemmas.Grind.{common_steps}
+use Rattle.chess_base.specs.Men.{man_at}
+use Rattle.chess_base.proofs.Rays.{fall_stops, fall_ends}
+use Rattle.chess_base.proofs.attack.is_struck_from_below.Goals as goal
+
+pub returns-then-is_some : goal.returns-then-is_some
+returns-then-is_some c =
+    let piece : is_none (man_at c.args.men.now (c.loop-number.number - c.step_of-step.result)) ≡ false =
+    grind (arith, common_steps) in
+    let decided = fall_stops c.args.men.now c.args.line c.args.colour c.args.b c.last_below-end.result
+    c.loop-number.number (omega arith) c.last_below-end.ensures.on_line c.loop-number.invariant (omega arith)
+    (rw c.step_of-step.ensures.value at piece) in
+    grind (arith, decided)
+
+pub returns : goal.returns
+returns c = fall_ends c.args.men.now c.args.line c.args.colour c.args.b c.last_below-end.result c.loop-number.number
+    c.loop-number.invariant (omega arith) c.last_below-end.ensures.last

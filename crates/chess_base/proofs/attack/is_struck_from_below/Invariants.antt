@@ -1,0 +1,9 @@
+use Rattle.std.proofs.Common.{◌-◌}
+use Rattle.chess_base.proofs.Rays.{HasFallen}
+use Rattle.chess_base.proofs.attack.is_struck_from_below.Given as goal
+
+abbrev pub invariant-loop-number : goal.invariant-loop-number
+invariant-loop-number l = HasFallen l.men l.fn.line l.b l.end l.number
+
+abbrev pub decreases-loop-number : goal.decreases-loop-number
+decreases-loop-number l = l.number - l.end
