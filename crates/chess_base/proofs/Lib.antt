@@ -7,6 +7,7 @@ pub mod Counts
 pub mod MenAfter
 pub mod MenFacts
 pub mod Kings
+pub mod KingChecks
 pub mod MoveKinds
 pub mod Landing
 pub mod Changes

@@ -1,0 +1,35 @@
+-- Where a colour has one king, the attacks on his square decide whether it is in check.
+use Rattle.std.proofs.Common.{◌≡◌, ℕ, ◌<◌, inl, inr, length, Bool, true, false, ◌&&◌, refl, sym, ap, ◌∙◌}
+use Rattle.std.proofs.lemmas.Bool.{and_from, cases_Bool}
+use Rattle.chess_base.specs.declared.man.Colour.{Colour}
+use Rattle.chess_base.specs.declared.man.Kind.TheVariants.{King}
+use Rattle.chess_base.specs.Men.{Men, man_at, is_man, other}
+use Rattle.chess_base.specs.Attacks.{is_attacked, is_in_check}
+use Rattle.chess_base.specs.Sound.{has_one_king}
+use Rattle.chess_base.proofs.OverSquares.{some_square-at, some_square-none}
+use Rattle.chess_base.proofs.Kings.{one_king}
+
+guarded : (p q : Bool) → (p ≡ true → q ≡ false) → (p && q) ≡ false
+guarded true q h = h refl
+guarded false q h = refl
+
+pub check_at_king : (men : Men) (c : Colour) (s : ℕ) → s < 64 → length men ≡ 64 → has_one_king men c ≡ true
+    → is_man c King (man_at men s) ≡ true → is_attacked men s (other c) ≡ is_in_check men c
+unfolding is_in_check
+check_at_king men c s low all one there =
+    elim (cases_Bool (is_attacked men s (other c))) [
+      | inl passes ↦
+          passes ∙ sym (some_square-at (λ k. is_man c King (man_at men k) && is_attacked men k (other c)) s low
+          (and_from (is_man c King (man_at men s)) (is_attacked men s (other c)) there passes))
+      | inr fails ↦
+          fails ∙ sym (some_square-none (λ k. is_man c King (man_at men k) && is_attacked men k (other c))
+          (λ k _. guarded (is_man c King (man_at men k)) (is_attacked men k (other c))
+          (λ e. ap (λ t. is_attacked men t (other c)) (one_king men c k s all one e there) ∙ fails)))
+    ]
+
+pub no_check_without_king : (men : Men) (c : Colour)
+    → ((k : ℕ) → k < 64 → is_man c King (man_at men k) ≡ false) → false ≡ is_in_check men c
+unfolding is_in_check
+no_check_without_king men c none =
+    sym (some_square-none (λ k. is_man c King (man_at men k) && is_attacked men k (other c))
+    (λ k low. ap (λ v. v && is_attacked men k (other c)) (none k low)))
