@@ -10,6 +10,7 @@ pub mod Kings
 pub mod KingChecks
 pub mod MoveKinds
 pub mod Landing
+pub mod KingsCastle
 pub mod Changes
 pub mod Castlings
 pub mod Writes
