@@ -1,5 +1,5 @@
 -- Sets of the pieces on the board, and of none.
-use Rattle.std.proofs.Common.{◌≡◌, ℕ, zero, suc, replicate, ◌<◌, true, false, not, ◌||◌, refl, sym, ◌∙◌, ap, Option, Some, None, is_none, List, [], ◌∷◌}
+use Rattle.std.proofs.Common.{◌≡◌, ◌≢◌, ◌⊎◌, ℕ, ◌<◌, inl, inr, Bool, true, false, not, ◌||◌, refl, sym, ◌∙◌, ap, arith, subst, Option, Some, None, is_none, List, [], ◌∷◌, length, length-set, set, get_or-set_same, get_or-set_other}
 use Rattle.chess_base.specs.declared.man.Colour.{Colour}
 use Rattle.chess_base.specs.declared.man.Colour.TheVariants.{White, Black}
 use Rattle.chess_base.specs.declared.man.Kind.{Kind}
@@ -8,12 +8,16 @@ use Rattle.chess_base.specs.declared.man.Man.{Man}
 use Rattle.std.specs.Prelude.{slice_index}
 use Rattle.chess_base.specs.Men.{Men, man_at, is_of, is_man, kind_number}
 use Rattle.chess_moves.specs.PositionWord.{square_keys, xor_of}
-use Rattle.chess_moves.specs.Sets.{contains}
+use Rattle.chess_moves.specs.Sets.{contains, members}
 use Rattle.chess_moves.proofs.Xored.{no_men_keys, same_men_keys}
 use Rattle.chess_bits.specs.ties.Occupancy.{IsOccupied}
 use Rattle.chess_bits.specs.declared.sets.Sets.{Sets}
 use Rattle.chess_bits.specs.ties.KindSets.{IsKinds}
 use Rattle.chess_bits.specs.ties.BoardSets.{IsSets}
+use Rattle.chess_bits.proofs.BoardSets.{set_twice, same_written}
+use Rattle.chess_bits.proofs.Starts.{first_gone, taken_first, none_left}
+use Rattle.std.proofs.lemmas.Bool.{cases_eq, eq-eqb, ne_eqb}
+use Rattle.std.specs.Prelude.{cond}
 
 pub kinds_same : (sets : List ℕ) (c : Colour) (a b : Men) → ((k : ℕ) → k < 64 → man_at a k ≡ man_at b k)
     → IsKinds sets c a → IsKinds sets c b
@@ -83,7 +87,44 @@ occupied_by s men w h union = record {
   of_men = λ k low. union k ∙ rw (h.all_white k low, h.all_black k low) (some_of (man_at men k));
 }
 
-pub none_at : (n k : ℕ) → man_at (replicate n None) k ≡ None
-none_at zero k = refl
-none_at (suc n) zero = refl
-none_at (suc n) (suc k) = none_at n k
+-- ---- one after another
+
+-- `part` is these pieces without those on squares of the set w
+abbrev pub IsWithout : ℕ → Men → Men → Type 0
+IsWithout w men part = (k : ℕ) → k < 64 → man_at part k ≡ cond (contains w k) None (man_at men k)
+
+pub none_placed : (w : ℕ) (men part : Men) → IsOccupied w men → IsWithout w men part → (k : ℕ) → k < 64
+    → man_at part k ≡ None
+none_placed w men part occupied without k low =
+    without k low ∙ by_case (contains w k) (man_at men k) (occupied.of_men k low)
+  where
+    by_case : (t : Bool) (o : Option Man) → t ≡ not (is_none o) → cond t None o ≡ None
+    by_case true o e = refl
+    by_case false None e = refl
+    by_case false (Some x) e = cc
+
+-- all are placed once none is left
+pub all_placed : (w : ℕ) (men : Men) → members w ≡ [] → IsWithout w men men
+all_placed w men e k low = rw (none_left w k low e) refl
+
+-- the piece on the first square that is left is placed
+pub one_placed : (old new : Sets) (men : Men) (w v s : ℕ) → s < 64 → members w ≡ s ∷ members v
+    → ((part : Men) → length part ≡ 64 → IsWithout w men part → IsSets old part)
+    → ((part : Men) → length part ≡ 64 → man_at part s ≡ None → IsSets old part → IsSets new (set part s (man_at men s)))
+    → (part : Men) → length part ≡ 64 → IsWithout v men part → IsSets new part
+one_placed old new men w v s low e before step part all without =
+    let inside : s < length part = omega (arith, all, low) in
+    let bare : Men = set part s None in
+    let long : length bare ≡ 64 = length-set part s None ∙ all in
+    let here : man_at bare s ≡ None = get_or-set_same part s None None inside in
+    let there : man_at part s ≡ man_at men s = without s low ∙ rw (first_gone w v s low e) refl in
+    subst (IsSets new) (set_twice part s None (man_at men s) ∙ same_written part s (man_at men s) there)
+    (step bare long here (before bare long (λ k l. at k l (cases_eq k s))))
+  where
+    at : (k : ℕ) → k < 64 → (k ≡ s) ⊎ (k ≢ s) → man_at (set part s None) k ≡ cond (contains w k) None (man_at men k)
+    at k l (inl same) =
+        let inside : s < length part = omega (arith, all, low) in
+        rw (same, get_or-set_same part s None None inside, taken_first w v s s low e, eq-eqb s s refl) refl
+    at k l (inr apart) =
+        rw (get_or-set_other part s k None None apart, taken_first w v s k l e, ne_eqb s k (λ h. apart (sym h)))
+        (without k l)

@@ -1,5 +1,5 @@
 -- The members of a set that pass a test, gathered one after another.
-use Rattle.std.proofs.Common.{◌≡◌, ◌⊎◌, ℕ, zero, suc, ◌<◌, ◌≤◌, ◌+◌, inl, inr, Bool, true, false, ◌&&◌, ◌||◌, ◌==◌, List, ◌∷◌, None, refl, sym, ap, ◌∙◌, arith}
+use Rattle.std.proofs.Common.{◌≡◌, ◌⊎◌, ℕ, zero, suc, ◌<◌, ◌≤◌, ◌+◌, inl, inr, Bool, true, false, ◌&&◌, ◌||◌, ◌==◌, List, [], ◌∷◌, None, refl, sym, ap, ◌∙◌, arith}
 use Rattle.std.specs.List.{filter, range_with_len}
 use Rattle.std.proofs.lemmas.Bool.{cases_Bool, cases_lt, eq-eqb, ne_eqb, eqb-true}
 use Rattle.chess_base.specs.declared.man.Kind.{Kind}
@@ -47,9 +47,50 @@ within p q k (suc n) a low high =
     last true = refl
     last false = refl
 
+head_once : (p : ℕ → Bool) (n a s : ℕ) (ns : List ℕ) → filter p (range_with_len a n) ≡ s ∷ ns
+    → passes (λ x. true) s ns ≡ false
+head_once p zero a s ns e = cc
+head_once p (suc n) a s ns e =
+    elim (cases_Bool (p a)) [
+      | inl here ↦
+          let two : (a ∷ filter p (range_with_len (a + 1) n)) ≡ (s ∷ ns) = rw here at e in
+          heads a s (filter p (range_with_len (a + 1) n)) ns two
+          (none_below p (λ x. true) a n (a + 1) (omega arith))
+      | inr away ↦ head_once p n (a + 1) s ns (rw away at e)
+    ]
+  where
+    heads : (x y : ℕ) (xs ys : List ℕ) → (x ∷ xs) ≡ (y ∷ ys) → passes (λ x. true) x xs ≡ false
+        → passes (λ x. true) y ys ≡ false
+    heads x y xs ys e h = cc
+
+with_true : (b : Bool) → (b && true) ≡ b
+with_true true = refl
+with_true false = refl
+
 pub passes_is : (w : ℕ) (q : ℕ → Bool) (k : ℕ) → k < 64 → passes q k (members w) ≡ (contains w k && q k)
 unfolding members squares
 passes_is w q k low = within (λ x. contains w x) q k 64 0 (omega arith) (omega (arith, low))
+
+-- the first member of a set comes once
+pub first_once : (w v s : ℕ) → members w ≡ s ∷ members v → passes (λ x. true) s (members v) ≡ false
+unfolding members squares
+first_once w v s e = head_once (λ x. contains w x) 64 0 s (members v) e
+
+-- which squares are left when the first is taken out of a set
+pub taken_first : (w v s k : ℕ) → k < 64 → members w ≡ s ∷ members v → contains w k ≡ ((s == k) || contains v k)
+taken_first w v s k low e =
+    sym (with_true (contains w k)) ∙ sym (passes_is w (λ x. true) k low) ∙ ap (passes (λ x. true) k) e
+    ∙ ap (λ t. ((s == k) && true) || t) (passes_is v (λ x. true) k low)
+    ∙ rw (with_true (s == k), with_true (contains v k)) refl
+
+pub first_gone : (w v s : ℕ) → s < 64 → members w ≡ s ∷ members v → contains v s ≡ false
+first_gone w v s low e =
+    sym (with_true (contains v s)) ∙ sym (passes_is v (λ x. true) s low) ∙ first_once w v s e
+
+-- no square is in a set without members
+pub none_left : (w k : ℕ) → k < 64 → members w ≡ [] → contains w k ≡ false
+none_left w k low e =
+    sym (with_true (contains w k)) ∙ sym (passes_is w (λ x. true) k low) ∙ ap (passes (λ x. true) k) e
 
 clash : (b : Bool) → b ≡ false → b ≡ true → ⊥
 clash true h g = cc

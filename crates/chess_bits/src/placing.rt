@@ -1,6 +1,6 @@
 //! A setup and its sets changed in place by a move, and back.
 
-ghost use Rattle.std.specs.Prelude.{◌≡◌, ◌&&◌, ◌||◌, length, IsTrue, Some, None, if◌then◌else◌};
+ghost use Rattle.std.specs.Prelude.{◌≡◌, ℕ, ◌==◌, ◌&&◌, ◌||◌, length, IsTrue, Some, None, if◌then◌else◌};
 ghost use Rattle.chess_base.specs.Before.{before, saved_of};
 ghost use Rattle.chess_base.specs.Men.{man_at};
 ghost use Rattle.chess_base.specs.ties.Changes.{with_man};
@@ -10,7 +10,9 @@ ghost use Rattle.chess_base.specs.Squares.{is_square};
 ghost use Rattle.chess_base.specs.Steps.{men_stepped};
 ghost use Rattle.chess_bits.specs.ties.BoardSets.{IsSets};
 ghost use Rattle.chess_bits.specs.ties.Changes.{clock_left, goes_plainly, has_no_right, is_king_or_rook, shifted, shifts};
+ghost use Rattle.chess_bits.specs.ties.Occupancy.{IsOccupied};
 ghost use Rattle.chess_moves.specs.Made.{IsMade};
+ghost use Rattle.chess_moves.specs.Sets.{contains};
 
 use crate::keys::KeyTable;
 use crate::sets::Sets;
@@ -20,6 +22,7 @@ use chess_base::rules::{
     steps_back, steps_of, target_after,
 };
 use chess_base::{COUNTER_LIMIT, Kind, Man, Move, Rights, Saved, Setup, Square};
+use chess_moves::SquareSet;
 
 // Puts the piece `man`, or none, on the given square in place of what is there, both in the list of pieces and in the
 // sets; does nothing if no square is given. `keys` keep the pieces' hash up to date.
@@ -41,22 +44,40 @@ fn place(
     }
 }
 
+// The set of the square a1 alone if `is_there`, else the empty set.
+#[inline(always)]
+fn a1_if(is_there: bool) -> SquareSet
+    ensures { (k : ℕ) → contains result k ≡ (is_there && (k == 0)) }
+{
+    if is_there {
+        SquareSet::single(Square::new(0))
+    } else {
+        SquareSet::empty()
+    }
+}
+
+// The squares that are not empty. From h8 down to a1 each one pushes up those before it, so that no branch is needed.
+fn occupied_by(men: &[Option<Man>; 64]) -> SquareSet
+    ensures { IsOccupied result men.now }
+{
+    let mut occupied = SquareSet::empty();
+    for number in 0..64 {
+        let square = Square::new(63 - number);
+        let here = a1_if(men[square.index()].is_some());
+        occupied = occupied.raised(1).union(here);
+    }
+    occupied
+}
+
 impl Sets {
     /// The sets of these pieces, computed from the list of them by squares; `keys` are for their hash.
     pub fn standing(keys: &KeyTable, men: &[Option<Man>; 64]) -> Sets
         ensures { IsSets result men.now }
     {
-        let mut placed = [None; 64];
         let mut sets = Sets::empty();
-        for number in 0..64 {
-            let square = Square::new(number);
-            place(
-                &mut placed,
-                &mut sets,
-                keys,
-                Some(square),
-                men[square.index()],
-            );
+        let mut rest = occupied_by(men);
+        while let Some(square) = rest.take_first() {
+            sets.fill(keys, square, men[square.index()]);
         }
         sets
     }

@@ -144,9 +144,9 @@ impl Sets {
         }
     }
 
-    // Puts `new`, a piece or nothing, on a square, which is empty; `keys` keep the hash up to date.
+    /// Puts `new`, a piece or nothing, on a square, which is empty; `keys` keep the hash up to date.
     #[inline(always)]
-    fn fill(&mut self, keys: &KeyTable, square: Square, new: Option<Man>)
+    pub fn fill(&mut self, keys: &KeyTable, square: Square, new: Option<Man>)
         ensures { (men : Men) → length men ≡ 64 → man_at men square ≡ None → IsSets self.old men
             → IsSets self.new (slice_set men square new) }
     {

@@ -1,5 +1,5 @@
 -- No legal move of a pawn begins outside the origins (starts_are of Starts).
-use Rattle.std.proofs.Common.{◌≡◌, true, ◌&&◌, None, sym, ap, ◌∙◌}
+use Rattle.std.proofs.Common.{◌≡◌, ◌&&◌, None, sym, ap, ◌∙◌}
 use Rattle.std.proofs.lemmas.Bool.{and_parts}
 use Rattle.chess_base.specs.Men.{is_man, man_at}
 use Rattle.chess_base.specs.MoveList.{move_of}

@@ -1,11 +1,13 @@
-use Rattle.std.proofs.Common.{◌≡◌, ℕ, ◌<◌}
-use Rattle.chess_base.specs.Men.{man_at}
+use Rattle.std.proofs.Common.{◌≡◌, length}
+use Rattle.chess_base.specs.Men.{Men}
 use Rattle.chess_bits.specs.ties.BoardSets.{IsSets}
+use Rattle.chess_bits.proofs.Standing.{IsWithout}
+use Rattle.chess_moves.specs.Sets.{members}
 use Rattle.chess_bits.proofs.sets.Sets.standing.Given as goal
 
--- the pieces so far are placed, and their sets are those of the placed pieces
-abbrev pub invariant-loop-number : goal.invariant-loop-number
-invariant-loop-number l = record {
-  sets : IsSets l.sets l.placed;
-  same : (k : ℕ) → k < l.number → man_at l.placed k ≡ man_at l.men k;
-}
+-- the sets are those of the pieces without the ones that are left
+abbrev pub invariant-loop-square : goal.invariant-loop-square
+invariant-loop-square l = (part : Men) → length part ≡ 64 → IsWithout l.rest l.men part → IsSets l.sets part
+
+abbrev pub decreases-loop-square : goal.decreases-loop-square
+decreases-loop-square l = length (members l.rest)
