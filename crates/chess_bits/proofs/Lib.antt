@@ -11,6 +11,7 @@ pub mod Reached
 pub mod OneKing
 pub mod Standing
 pub mod KingAfter
+pub mod KingListed
 pub mod Patterns
 pub mod TargetsOf
 pub mod Listed

@@ -3,16 +3,17 @@
 ghost use Rattle.std.specs.Prelude.{◌≡◌, ◌+◌, ◌≤◌, ◌<◌, ◌&&◌, ◌++◌, ℕ, length, get_or, true, false, Option, None, ◌∷◌};
 ghost use Rattle.arrayvec.specs.ArrayVec.{array_vec_len};
 ghost use Rattle.chess_base.specs.Men.{man_at, is_man};
-ghost use Rattle.chess_base.specs.MoveList.{moves, promotions};
-ghost use Rattle.chess_base.specs.Moves.{promotion_fits};
+ghost use Rattle.chess_base.specs.MoveList.{moves, move_of, promotions};
+ghost use Rattle.chess_base.specs.Moves.{is_legal, promotion_fits};
 ghost use Rattle.chess_base.specs.declared.man.Kind.{Kind as ManKind};
-ghost use Rattle.chess_base.specs.declared.man.Kind.TheVariants.{Pawn};
+ghost use Rattle.chess_base.specs.declared.man.Kind.TheVariants.{King, Pawn};
 ghost use Rattle.chess_bits.specs.ties.Goes.{goes, goes_unusually, IsFree};
 ghost use Rattle.chess_moves.specs.ties.Candidates.{moves_with, moves_between, moves_from};
 ghost use Rattle.chess_moves.specs.Promoting.{would_promote};
 ghost use Rattle.chess_moves.specs.Sets.{contains};
 
 use crate::bits::Bits;
+use chess_base::rules::is_man;
 use chess_base::{Kind, Move, Square};
 use chess_moves::{MoveList, SquareSet, would_promote};
 
@@ -115,6 +116,51 @@ impl Bits<'_> {
         }
     }
 
+    // The end squares of the legal moves of the king on `king`, by a step or by castling.
+    fn king_ends(&self, king: Square) -> SquareSet
+        requires { is_man (self.now).side King (man_at (self.now).men king) ≡ true }
+        ensures { (k : ℕ) → k < 64 → contains result k ≡ is_legal self.now (move_of king k None) }
+    {
+        // The prover wants this fact: the number of the king's square is below 64.
+        let _start = king.number();
+        let mut ends = self.castling_ends(king);
+        let mut steps = self.steps(Kind::King, king);
+        while let Some(to) = steps.take_first() {
+            if self.is_safe_step(king, to) {
+                ends = ends.union(SquareSet::single(to));
+            }
+        }
+        ends
+    }
+
+    // Appends to `list` the legal moves of the king on `king`.
+    fn add_king_moves(&self, king: Square, list: &mut MoveList)
+        requires king { is_man (self.now).side King (man_at (self.now).men king) ≡ true }
+        requires room { array_vec_len list.old + length (moves_from self.now king) ≤ 896 }
+        ensures { list.new.items ≡ list.old.items ++ moves_from self.now king }
+    {
+        let mut ends = self.king_ends(king);
+        while let Some(to) = ends.take_first() {
+            list.push(Move {
+                from: king,
+                to,
+                promotion: None,
+            });
+        }
+    }
+
+    // Appends to `list` the legal moves of the piece on `from`: the king, or a piece that may be bound to shield it.
+    fn add_bound_moves(&self, from: Square, list: &mut MoveList)
+        requires { array_vec_len list.old + length (moves_from self.now from) ≤ 896 }
+        ensures { list.new.items ≡ list.old.items ++ moves_from self.now from }
+    {
+        if is_man(self.setup.side, Kind::King, self.setup.men[from.index()]) {
+            self.add_king_moves(from, list);
+        } else {
+            self.add_moves_from(from, list);
+        }
+    }
+
     // Appends to `list` the legal moves of the piece on `from`. The pieces on squares of the set `free` are free: their
     // king is safe wherever they go.
     fn add_moves_of(&self, from: Square, free: SquareSet, list: &mut MoveList)
@@ -127,11 +173,12 @@ impl Bits<'_> {
         if free.contains(from) {
             self.add_free_moves(from, list);
         } else {
-            self.add_moves_from(from, list);
+            self.add_bound_moves(from, list);
         }
     }
 
     // All legal moves, rising by start square, end square and promotion.
+    #[inline(always)]
     pub(crate) fn moves(&self) -> MoveList
         ensures { result.items ≡ moves self.now }
     {

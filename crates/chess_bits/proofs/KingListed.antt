@@ -1,0 +1,62 @@
+-- The king's legal moves, listed.
+use mathlib.Core.Bool.{or-false}
+use Rattle.std.proofs.Common.{◌≡◌, ℕ, ◌<◌, inl, inr, Bool, true, false, ◌&&◌, ◌||◌, Option, Some, None, [], ◌∷◌, refl, sym, ◌∙◌}
+use Rattle.std.specs.List.{flat_map}
+use Rattle.std.proofs.lemmas.Bool.{cases_Bool}
+use Rattle.chess_base.specs.declared.castling.Castle.{Castle}
+use Rattle.chess_base.specs.declared.man.Kind.TheVariants.{King}
+use Rattle.chess_base.specs.declared.setup.Setup.{Setup}
+use Rattle.chess_base.specs.Castling.{castle_of}
+use Rattle.chess_base.specs.Men.{man_at, is_man}
+use Rattle.chess_base.specs.MoveList.{move_of}
+use Rattle.chess_base.specs.Moves.{is_legal, man_moves}
+use Rattle.chess_moves.specs.ties.Candidates.{moves_between, moves_from}
+use Rattle.chess_moves.specs.Promoting.{would_promote}
+use Rattle.chess_moves.specs.Sets.{contains, members}
+use Rattle.chess_moves.proofs.Members.{flat_map_members}
+use Rattle.chess_moves.proofs.Parts.{none_promotes}
+use Rattle.chess_bits.specs.ties.Goes.{legal_or}
+use Rattle.chess_bits.proofs.ByKind.{king_otherwise}
+use Rattle.chess_bits.proofs.Patterns.{not_promoting}
+use Rattle.chess_bits.proofs.TargetsOf.{man_told}
+
+-- a king's legal move is a legal castling, or a step that is legal
+pub steps_or_castles : (p : Setup) (a b : ℕ) (end step : Bool) → is_man p.side King (man_at p.men a) ≡ true → a < 64 → b < 64
+    → end ≡ legal_or p (move_of a b None) (castle_of p (move_of a b None)) false
+    → step ≡ man_moves p (move_of a b None)
+    → (end || (step && is_legal p (move_of a b None))) ≡ is_legal p (move_of a b None)
+steps_or_castles p a b end step king low high ends steps =
+    elim (cases_Bool step) [
+      | inl there ↦ rw (there, ends) (either (castle_of p (move_of a b None)) (is_legal p (move_of a b None)) refl)
+      | inr away ↦
+          rw (away, or-false end) (ends ∙ king_otherwise p a b king low high (sym steps ∙ away))
+    ]
+  where
+    either : (o : Option Castle) (t : Bool) → t ≡ is_legal p (move_of a b None)
+        → (legal_or p (move_of a b None) o false || (true && t)) ≡ t
+    either None t e = refl
+    either (Some castle) t e = rw (← e) (same t)
+      where
+        same : (s : Bool) → (s || s) ≡ s
+        same true = refl
+        same false = refl
+
+pub king_stays_king : (p : Setup) (a b : ℕ) → is_man p.side King (man_at p.men a) ≡ true → would_promote p a b ≡ false
+king_stays_king p a b king = not_promoting p a b _ (man_told p.side King (man_at p.men a) king) refl
+
+-- it promotes nothing, so there is one to each square where a legal one ends
+pub one_there : (p : Setup) (a b : ℕ) → is_man p.side King (man_at p.men a) ≡ true
+    → is_legal p (move_of a b None) ≡ true → moves_between p a b ≡ move_of a b None ∷ []
+one_there p a b king legal = none_promotes p a b (king_stays_king p a b king) ∙ rw legal refl
+
+none_there : (p : Setup) (a b : ℕ) → is_man p.side King (man_at p.men a) ≡ true
+    → is_legal p (move_of a b None) ≡ false → moves_between p a b ≡ []
+none_there p a b king stays = none_promotes p a b (king_stays_king p a b king) ∙ rw stays refl
+
+pub from_ends : (p : Setup) (a w : ℕ) → is_man p.side King (man_at p.men a) ≡ true
+    → ((k : ℕ) → k < 64 → contains w k ≡ is_legal p (move_of a k None))
+    → flat_map (λ b. moves_between p a b) (members w) ≡ moves_from p a
+unfolding moves_from
+from_ends p a w king ends =
+    flat_map_members (λ b. moves_between p a b) w
+    (λ b low out. none_there p a b king (sym (ends b low) ∙ out))

@@ -1,0 +1,18 @@
+use Rattle.std.proofs.Common.{◌≡◌, ◌++◌, ◌∷◌, [], None, length}
+use Rattle.std.specs.List.{flat_map}
+use Rattle.chess_base.specs.MoveList.{move_of}
+use Rattle.chess_moves.specs.ties.Candidates.{moves_between, moves_from}
+use Rattle.chess_moves.specs.Sets.{members}
+use Rattle.chess_bits.proofs.Listed.{Each}
+use Rattle.chess_bits.proofs.bits.Bits.add_king_moves.Given as goal
+
+-- the moves so far and those to the squares that are left are all, and to each of these there is one
+abbrev pub invariant-loop-to : goal.invariant-loop-to
+invariant-loop-to l = record {
+  moves : l.list.items ++ flat_map (λ b. moves_between l.self l.king b) (members l.ends) ≡ l.initial.list.items
+      ++ moves_from l.self l.king;
+  ones : Each (λ b. moves_between l.self l.king b ≡ move_of l.king b None ∷ []) (members l.ends);
+}
+
+abbrev pub decreases-loop-to : goal.decreases-loop-to
+decreases-loop-to l = length (members l.ends)
