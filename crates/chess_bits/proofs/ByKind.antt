@@ -20,13 +20,11 @@ use Rattle.chess_base.specs.ties.Splits.{castles_or_moves}
 use Rattle.chess_base.specs.Squares.{is_square}
 use Rattle.chess_base.proofs.MenFacts.{is_man-kind}
 use Rattle.chess_moves.specs.Promoting.{would_promote}
-use Rattle.chess_moves.specs.Sets.{contains, HasOrigins}
-use Rattle.chess_moves.proofs.Origins.{begins_below}
+use Rattle.chess_moves.specs.Sets.{contains}
 use Rattle.chess_bits.specs.ties.Changes.{StepsPlainly}
 use Rattle.chess_bits.specs.ties.Goes.{goes, legal_or, IsOfficer}
 use Rattle.chess_bits.proofs.OriginsOf.{back, officer_attacks}
 use Rattle.chess_bits.proofs.Patterns.{fits_low, not_fitting, not_promoting, officer_goes, pattern_by, pawn_goes}
-use Rattle.chess_bits.proofs.Starts.{starts_are}
 use Rattle.chess_bits.proofs.TargetsOf.{man_told, no_king_says, none_castles, steps_of_man}
 
 -- a piece other than a pawn has the pattern of a move where it moves or castles
@@ -108,41 +106,40 @@ own_on_end p kind to k usual own high low =
     ]
 
 -- those on squares reached from there go there
-pub starts_plain : (p : Setup) (kind : Kind) (to u v w : ℕ) → (same_kind King kind || same_kind Pawn kind) ≡ false
+pub starts_plain : (p : Setup) (kind : Kind) (to u w : ℕ) → (same_kind King kind || same_kind Pawn kind) ≡ false
     → is_of p.side (man_at p.men to) ≡ false → to < 64
-    → ((k : ℕ) → contains w k ≡ (contains u k && contains v k))
+    → ((k : ℕ) → k < 64 → contains w k ≡ (could_capture p.men p.side kind to k && contains u k))
     → ((k : ℕ) → k < 64 → contains u k ≡ is_man p.side kind (man_at p.men k))
-    → ((k : ℕ) → k < 64 → contains v k ≡ could_capture p.men p.side kind to k)
     → (k : ℕ) → k < 64 → contains w k ≡ true → StepsPlainly p k to
-starts_plain p kind to u v w usual free high both men reached k low on =
-    let parts = and_parts (contains u k) (contains v k) (sym (both k) ∙ on) in
+starts_plain p kind to u w usual free high reached men k low on =
+    let parts = and_parts (could_capture p.men p.side kind to k) (contains u k) (sym (reached k low) ∙ on) in
     let kinds = or_parts (same_kind King kind) (same_kind Pawn kind) usual in
-    let officer : IsOfficer p.side kind (man_at p.men k) = record { man = sym (men k low) ∙ parts.0; usual = usual } in
+    let officer : IsOfficer p.side kind (man_at p.men k) = record { man = sym (men k low) ∙ parts.1; usual = usual } in
     officer_plain p kind k to officer
     (sym (officer_pattern p kind k to officer low high)
     ∙ and_from (could_capture p.men p.side kind k to) (not (is_of p.side (man_at p.men to)))
-    (back p.men p.side kind k to kinds.1 ∙ sym (reached k low) ∙ parts.1) (ap not free))
-
-reached_origins : (p : Setup) (kind : Kind) (to v : ℕ) → (same_kind King kind || same_kind Pawn kind) ≡ false
-    → ((k : ℕ) → k < 64 → contains v k ≡ could_capture p.men p.side kind to k)
-    → HasOrigins p kind to v
-reached_origins p kind to v usual reached = λ m legal man there.
-    let kinds = or_parts (same_kind King kind) (same_kind Pawn kind) usual in
-    reached m.from (begins_below p m legal) ∙ ap (λ t. could_capture p.men p.side kind t m.from) (sym there)
-    ∙ officer_attacks p kind m kinds.1 kinds.0 legal man
+    (back p.men p.side kind k to kinds.1 ∙ parts.0) (ap not free))
 
 -- so these are the starts
-pub officer_starts_are : (p : Setup) (kind : Kind) (to u v w k : ℕ) (s : Bool)
+pub officer_starts_are : (p : Setup) (kind : Kind) (to u w k : ℕ) (s : Bool)
     → (same_kind King kind || same_kind Pawn kind) ≡ false
-    → ((j : ℕ) → contains w j ≡ (contains u j && contains v j))
+    → ((j : ℕ) → j < 64 → contains w j ≡ (could_capture p.men p.side kind to j && contains u j))
     → ((j : ℕ) → j < 64 → contains u j ≡ is_man p.side kind (man_at p.men j))
-    → ((j : ℕ) → j < 64 → contains v j ≡ could_capture p.men p.side kind to j)
     → k < 64 → s ≡ (contains w k && is_legal p (move_of k to None))
     → s ≡ (is_man p.side kind (man_at p.men k) && is_legal p (move_of k to None))
-officer_starts_are p kind to u v w k s usual both men reached low made =
+officer_starts_are p kind to u w k s usual reached men low made =
+    let kinds = or_parts (same_kind King kind) (same_kind Pawn kind) usual in
     made
-    ∙ ap (λ t. t && is_legal p (move_of k to None)) (both k ∙ ap (λ t. t && contains v k) (men k low))
-    ∙ starts_are p kind to k v (reached_origins p kind to v usual reached)
+    ∙ ap (λ t. t && is_legal p (move_of k to None))
+    (reached k low ∙ ap (λ t. could_capture p.men p.side kind to k && t) (men k low))
+    ∙ both (could_capture p.men p.side kind to k) (is_man p.side kind (man_at p.men k)) (is_legal p (move_of k to None))
+    (λ man legal. officer_attacks p kind (move_of k to None) kinds.1 kinds.0 legal man)
+  where
+    both : (x y z : Bool) → (y ≡ true → z ≡ true → x ≡ true) → ((x && y) && z) ≡ (y && z)
+    both true y z h = refl
+    both false true true h = rw (sym (h refl refl)) refl
+    both false true false h = refl
+    both false false z h = refl
 
 -- ---- officers
 

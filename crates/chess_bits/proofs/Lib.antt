@@ -1,6 +1,7 @@
 pub mod Geometry
 pub mod Blockers
 pub mod Attackers
+pub mod BetweenSquares
 pub mod KindSets
 pub mod BoardSets
 pub mod AfterSets

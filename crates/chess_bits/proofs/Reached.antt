@@ -1,5 +1,5 @@
 -- Where a piece other than a pawn may go, seen from its square.
-use Rattle.std.proofs.Common.{◌≡◌, ℕ, not, ◌&&◌, ◌||◌, ◌==◌, refl, is_none}
+use Rattle.std.proofs.Common.{◌≡◌, ℕ, Bool, true, false, not, ◌&&◌, ◌||◌, ◌==◌, refl, ap, ◌∙◌, is_none}
 use Rattle.chess_base.specs.declared.man.Colour.{Colour}
 use Rattle.chess_base.specs.declared.man.Kind.TheVariants.{King, Queen, Rook, Bishop, Knight, Pawn}
 use Rattle.chess_base.specs.Squares.{file, rank, is_between, share_rank_or_file, share_diagonal}
@@ -44,6 +44,21 @@ unfolding could_capture
 queen_from w men c a b h =
     rw (eq_back b a, line_back a b, diagonal_back b a, open_from w men a b h)
     (queen_parts (not (a == b)) (share_rank_or_file a b) (share_diagonal a b) (is_clear men a b))
+
+-- the same of the squares of a set
+pub queen_met : (w : ℕ) (men : Men) (c : Colour) (a b : ℕ) (m : Bool) → IsOccupied w men
+    → (((not (b == a) && share_rank_or_file b a && is_open w a b) && m)
+    || ((not (b == a) && share_diagonal b a && is_open w a b) && m)) ≡ (could_capture men c Queen a b && m)
+queen_met w men c a b m h =
+    both (not (b == a) && share_rank_or_file b a && is_open w a b) (not (b == a) && share_diagonal b a && is_open w a b) m
+    ∙ ap (λ t. t && m) (queen_from w men c a b h)
+  where
+    both : (x y z : Bool) → ((x && z) || (y && z)) ≡ ((x || y) && z)
+    both true true true = refl
+    both true true false = refl
+    both true false true = refl
+    both true false false = refl
+    both false y z = refl
 
 pub pawn_from : (men : Men) (c : Colour) (a b : ℕ) → in_shape (shape.Pawn c) a b ≡ could_capture men c Pawn a b
 unfolding in_shape could_capture

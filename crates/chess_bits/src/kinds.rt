@@ -1,6 +1,6 @@
 //! The pieces of one colour as sets of squares, and what they attack.
 
-ghost use Rattle.std.specs.Prelude.{◌≡◌, ℕ, ◌<◌, ◌&&◌, ◌||◌, not, ◌==◌, Some, None, length, slice_set, slice_index};
+ghost use Rattle.std.specs.Prelude.{◌≡◌, ℕ, ◌<◌, ◌&&◌, ◌||◌, not, true, ◌==◌, Some, None, length, slice_set, slice_index};
 ghost use Rattle.chess_base.specs.declared.man.Colour.{Colour as Side};
 ghost use Rattle.chess_base.specs.Squares.{share_rank_or_file, share_diagonal};
 ghost use Rattle.chess_base.specs.Men.{Men, man_at, is_of, other, kind_number};
@@ -117,10 +117,43 @@ pub(crate) fn along_diagonals(
     up.union(down).union(left.union(right))
 }
 
+// Whether nothing occupied lies between two squares of one line.
+#[inline(always)]
+fn is_open(tables: &AttackTables, a: Square, b: Square, occupied: SquareSet) -> bool
+    requires { (share_rank_or_file b a || share_diagonal b a) ≡ true }
+    ensures { result ≡ is_open occupied a b }
+{
+    // The prover wants these facts: the numbers of both squares are below 64.
+    let _a = a.number();
+    let _b = b.number();
+    let between = tables.between(a, b);
+    between.intersection(occupied).is_empty()
+}
+
+// Those of the squares `men`, all on lines of `square`, between which and `square` nothing is occupied.
+#[inline(always)]
+fn seen_from(
+    tables: &AttackTables,
+    square: Square,
+    occupied: SquareSet,
+    men: SquareSet,
+) -> SquareSet
+    requires { (k : ℕ) → k < 64 → contains men k ≡ true → (share_rank_or_file k square || share_diagonal k square) ≡ true }
+    ensures { (k : ℕ) → k < 64 → contains result k ≡ (contains men k && is_open occupied square k) }
+{
+    let mut seen = SquareSet::empty();
+    let mut rest = men;
+    while let Some(man) = rest.take_first() {
+        if is_open(tables, square, man, occupied) {
+            seen = seen.union(SquareSet::single(man));
+        }
+    }
+    seen
+}
+
 // The squares of the set `men` from which a rook would attack `square`: those on its rank or file with no occupied
-// square between. A table is asked first whether any is on them at all.
-#[tactic(auto, unfolding(crate::specs::ties::Shapes::in_shape))]
-fn met_on_lines(
+// square between. They are few, so each is looked at alone.
+pub(crate) fn met_on_lines(
     tables: &AttackTables,
     square: Square,
     occupied: SquareSet,
@@ -131,16 +164,12 @@ fn met_on_lines(
         && contains men k) }
 {
     let near = tables.at(Shape::Lines, square).intersection(men);
-    if near.is_empty() {
-        return near;
-    }
-    along_lines(tables, square, occupied).intersection(men)
+    seen_from(tables, square, occupied, near)
 }
 
 // The squares of the set `men` from which a bishop would attack `square`: those on its diagonals with no occupied
-// square between. A table is asked first whether any is on them at all.
-#[tactic(auto, unfolding(crate::specs::ties::Shapes::in_shape))]
-fn met_on_diagonals(
+// square between. They are few, so each is looked at alone.
+pub(crate) fn met_on_diagonals(
     tables: &AttackTables,
     square: Square,
     occupied: SquareSet,
@@ -150,10 +179,7 @@ fn met_on_diagonals(
         → contains result k ≡ ((not (k == square) && share_diagonal k square && is_open occupied square k) && contains men k) }
 {
     let near = tables.at(Shape::Diagonals, square).intersection(men);
-    if near.is_empty() {
-        return near;
-    }
-    along_diagonals(tables, square, occupied).intersection(men)
+    seen_from(tables, square, occupied, near)
 }
 
 impl Kinds {

@@ -11,7 +11,7 @@ ghost use Rattle.chess_moves.specs.Sets.{contains, HasLegalStarts};
 
 use crate::bits::Bits;
 use crate::placing::is_target;
-use crate::reaching::reached_from;
+use crate::reaching::reached_among;
 use crate::targets::{is_king, is_pawn};
 use chess_base::rules::{is_of, promotion_fits};
 use chess_base::{Colour, Kind, Man, Move, Square};
@@ -177,8 +177,9 @@ impl Bits<'_> {
         if self.sets.all(side).contains(to) {
             return SquareSet::empty();
         }
-        let reached = reached_from(self.tables, self.sets.occupied(), side, kind, to);
-        let men = self.sets.of(side).of(kind).intersection(reached);
+        let occupied = self.sets.occupied();
+        let own = self.sets.of(side).of(kind);
+        let men = reached_among(self.tables, occupied, side, kind, to, own);
         self.safe_starts(men, to)
     }
 

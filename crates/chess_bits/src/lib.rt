@@ -8,6 +8,7 @@
 //! ```
 #![tactic(auto)]
 
+mod between;
 mod bits;
 mod castling;
 mod counting;
@@ -19,6 +20,7 @@ mod line;
 mod listing;
 mod pawns;
 mod placing;
+mod rays;
 mod reaching;
 mod sets;
 mod shielding;

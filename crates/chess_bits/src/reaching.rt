@@ -1,12 +1,12 @@
 //! Where pieces reach.
 
-ghost use Rattle.std.specs.Prelude.{◌≡◌, ℕ, ◌<◌};
+ghost use Rattle.std.specs.Prelude.{◌≡◌, ℕ, ◌<◌, ◌&&◌};
 ghost use Rattle.chess_base.specs.Attacks.{could_capture};
 ghost use Rattle.chess_base.specs.Men.{Men};
 ghost use Rattle.chess_bits.specs.ties.Occupancy.{IsOccupied};
 ghost use Rattle.chess_moves.specs.Sets.{contains};
 
-use crate::kinds::{along_diagonals, along_lines};
+use crate::kinds::{along_diagonals, along_lines, met_on_diagonals, met_on_lines};
 use crate::table::Shape;
 use crate::tables::AttackTables;
 use chess_base::{Colour, Kind, Square};
@@ -35,5 +35,33 @@ pub fn reached_from(
         Kind::Bishop => along_diagonals(tables, from, occupied),
         Kind::Knight => tables.at(Shape::Knight, from),
         Kind::Pawn => tables.at(Shape::Pawn(colour), from),
+    }
+}
+
+/// Those of the squares `men` on which a piece of this colour and kind on `from` could capture; `occupied` are the
+/// occupied squares of the board.
+#[inline(always)]
+#[tactic(auto, using(crate::proofs::Reached::king_from, crate::proofs::Reached::queen_met, crate::proofs::Reached::rook_from, crate::proofs::Reached::bishop_from, crate::proofs::Reached::knight_from, crate::proofs::Reached::pawn_from))]
+pub fn reached_among(
+    tables: &AttackTables,
+    occupied: SquareSet,
+    colour: Colour,
+    kind: Kind,
+    from: Square,
+    men: SquareSet,
+) -> SquareSet
+    ensures { (board : Men) → IsOccupied occupied board → (k : ℕ) → k < 64
+        → contains result k ≡ (could_capture board colour kind from k && contains men k) }
+{
+    match kind {
+        Kind::King => tables.at(Shape::King, from).intersection(men),
+        Kind::Queen => {
+            let straight = met_on_lines(tables, from, occupied, men);
+            straight.union(met_on_diagonals(tables, from, occupied, men))
+        }
+        Kind::Rook => met_on_lines(tables, from, occupied, men),
+        Kind::Bishop => met_on_diagonals(tables, from, occupied, men),
+        Kind::Knight => tables.at(Shape::Knight, from).intersection(men),
+        Kind::Pawn => tables.at(Shape::Pawn(colour), from).intersection(men),
     }
 }

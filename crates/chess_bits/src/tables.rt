@@ -3,19 +3,22 @@
 ghost use Rattle.std.specs.Prelude.{◌≡◌, ℕ, ◌<◌, ◌&&◌, ◌||◌, true, false};
 ghost use Rattle.chess_moves.specs.Sets.{contains, is_beyond};
 ghost use Rattle.chess_bits.specs.ties.Shapes.{in_shape};
-ghost use Rattle.chess_bits.specs.ties.Rays.{is_on_ray, is_open};
-ghost use Rattle.chess_bits.specs.declared.table.Shape.TheVariants.{King, Knight, Pawn, Lines, Diagonals, Ray};
-ghost use Rattle.chess_bits.specs.declared.line.Line.TheVariants.{Rank, File, Diagonal, Antidiagonal};
+ghost use Rattle.chess_base.specs.Squares.{is_between};
+ghost use Rattle.chess_bits.specs.declared.line.Line.{Line as LineKind};
+ghost use Rattle.chess_bits.specs.ties.Rays.{is_on_ray, is_open, same_line};
+ghost use Rattle.chess_bits.specs.declared.table.Shape.TheVariants.{King, Knight, Pawn, Lines, Diagonals};
 ghost use Rattle.chess_base.specs.declared.man.Colour.TheVariants.{White, Black};
 
+use crate::between::BetweenTable;
 use crate::keys::KeyTable;
 use crate::line::Line;
+use crate::rays::Rays;
 use crate::table::{Shape, Table};
 use chess_base::{Colour, Square};
 use chess_moves::SquareSet;
 use std::alloc::{AllocError, Global};
 
-// One table for each shape, and the keys of position hashes.
+// One table for each shape, the squares between two squares, and the keys of position hashes.
 #[derive(Drop)]
 struct Tables {
     king: Table,
@@ -24,14 +27,8 @@ struct Tables {
     black_pawn: Table,
     lines: Table,
     diagonals: Table,
-    rank_up: Table,
-    rank_down: Table,
-    file_up: Table,
-    file_down: Table,
-    diagonal_up: Table,
-    diagonal_down: Table,
-    antidiagonal_up: Table,
-    antidiagonal_down: Table,
+    rays: Rays,
+    between: BetweenTable,
     keys: KeyTable,
     ghost of_king: { king ≡ King },
     ghost of_knight: { knight ≡ Knight },
@@ -39,18 +36,10 @@ struct Tables {
     ghost of_black_pawn: { black_pawn ≡ Pawn Black },
     ghost of_lines: { lines ≡ Lines },
     ghost of_diagonals: { diagonals ≡ Diagonals },
-    ghost of_rank_up: { rank_up ≡ Ray Rank true },
-    ghost of_rank_down: { rank_down ≡ Ray Rank false },
-    ghost of_file_up: { file_up ≡ Ray File true },
-    ghost of_file_down: { file_down ≡ Ray File false },
-    ghost of_diagonal_up: { diagonal_up ≡ Ray Diagonal true },
-    ghost of_diagonal_down: { diagonal_down ≡ Ray Diagonal false },
-    ghost of_antidiagonal_up: { antidiagonal_up ≡ Ray Antidiagonal true },
-    ghost of_antidiagonal_down: { antidiagonal_down ≡ Ray Antidiagonal false },
 }
 
-/// What the pieces attack on an empty board, and the rays: fourteen times 64 sets of squares, and the keys of position
-/// hashes, in one box. They never change, and are lent to the boards that look them up.
+/// What the pieces attack on an empty board, and the rays: fourteen times 64 sets of squares; those between each two
+/// squares, 4,096 sets; and the keys of position hashes, in one box. They never change, and are lent to the boards that look them up.
 #[derive(Drop)]
 pub struct AttackTables {
     tables: Box<Tables>,
@@ -77,6 +66,7 @@ impl AttackTables {
     /// # Errors
     /// If there is no memory for them.
     pub fn open(alloc: Global) -> Result<Self, AllocError> {
+        let rays = Rays::new();
         let tables = Tables {
             king: Table::new(Shape::King),
             knight: Table::new(Shape::Knight),
@@ -84,14 +74,8 @@ impl AttackTables {
             black_pawn: Table::new(Shape::Pawn(Colour::Black)),
             lines: Table::new(Shape::Lines),
             diagonals: Table::new(Shape::Diagonals),
-            rank_up: Table::new(Shape::Ray(Line::Rank, true)),
-            rank_down: Table::new(Shape::Ray(Line::Rank, false)),
-            file_up: Table::new(Shape::Ray(Line::File, true)),
-            file_down: Table::new(Shape::Ray(Line::File, false)),
-            diagonal_up: Table::new(Shape::Ray(Line::Diagonal, true)),
-            diagonal_down: Table::new(Shape::Ray(Line::Diagonal, false)),
-            antidiagonal_up: Table::new(Shape::Ray(Line::Antidiagonal, true)),
-            antidiagonal_down: Table::new(Shape::Ray(Line::Antidiagonal, false)),
+            between: BetweenTable::new(&rays),
+            rays,
             keys: KeyTable::new(),
         };
         Ok(AttackTables {
@@ -117,14 +101,7 @@ impl AttackTables {
             Shape::Pawn(Colour::Black) => &tables.black_pawn,
             Shape::Lines => &tables.lines,
             Shape::Diagonals => &tables.diagonals,
-            Shape::Ray(Line::Rank, true) => &tables.rank_up,
-            Shape::Ray(Line::Rank, false) => &tables.rank_down,
-            Shape::Ray(Line::File, true) => &tables.file_up,
-            Shape::Ray(Line::File, false) => &tables.file_down,
-            Shape::Ray(Line::Diagonal, true) => &tables.diagonal_up,
-            Shape::Ray(Line::Diagonal, false) => &tables.diagonal_down,
-            Shape::Ray(Line::Antidiagonal, true) => &tables.antidiagonal_up,
-            Shape::Ray(Line::Antidiagonal, false) => &tables.antidiagonal_down,
+            Shape::Ray(line, up) => tables.rays.table(line, up),
         }
     }
 
@@ -133,6 +110,15 @@ impl AttackTables {
         ensures { (k : ℕ) → k < 64 → contains result k ≡ in_shape shape square k }
     {
         self.table(shape).at(square)
+    }
+
+    /// The squares strictly between two squares of one line.
+    #[inline(always)]
+    pub(crate) fn between(&self, a: Square, b: Square) -> SquareSet
+        ensures { (l : LineKind) → same_line l a b ≡ true → (k : ℕ) → k < 64 → contains result k ≡ is_between a b k }
+    {
+        let tables: &Tables = &self.tables;
+        tables.between.at(a, b)
     }
 
     /// The squares of the ray from `from` (not included) along that line, with rising numbers if `up`, up to and with

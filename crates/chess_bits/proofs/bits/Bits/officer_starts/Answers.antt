@@ -22,10 +22,9 @@ safe_starts-requires c =
     sym (c.all.ensures p.men c.self.invariant.1 c.args.to high) ∙ sym c.contains.ensures ∙ c.if-contains.false in
     let kinds = c.of.ensures p.men c.self.invariant.1 in
     rw (← c.self.view_is)
-    (starts_plain p c.args.kind c.args.to c.of-2.result c.reached_from-reached.result c.intersection-men.result
-    c.requires free high c.intersection-men.ensures
-    (λ k low. ap (λ w. contains w k) c.of-2.ensures ∙ kinds.of_kind c.args.kind k low)
-    (c.reached_from-reached.ensures p.men (c.occupied.ensures p.men c.self.invariant.1)))
+    (starts_plain p c.args.kind c.args.to c.of-own.result c.reached_among-men.result c.requires free high
+    (c.reached_among-men.ensures p.men (c.occupied-occupied.ensures p.men c.self.invariant.1))
+    (λ k low. ap (λ w. contains w k) c.of-own.ensures ∙ kinds.of_kind c.args.kind k low))
 
 pub returns : goal.returns
 returns c = λ k low.
@@ -33,7 +32,7 @@ returns c = λ k low.
     let kinds = c.of.ensures p.men c.self.invariant.1 in
     let made = rw (← c.self.view_is) at (c.safe_starts.ensures k low) in
     rw (← c.self.view_is)
-    (officer_starts_are p c.args.kind c.args.to c.of-2.result c.reached_from-reached.result c.intersection-men.result k
-    (contains c.safe_starts.result k) c.requires c.intersection-men.ensures
-    (λ j l. ap (λ w. contains w j) c.of-2.ensures ∙ kinds.of_kind c.args.kind j l)
-    (c.reached_from-reached.ensures p.men (c.occupied.ensures p.men c.self.invariant.1)) low made)
+    (officer_starts_are p c.args.kind c.args.to c.of-own.result c.reached_among-men.result k
+    (contains c.safe_starts.result k) c.requires
+    (c.reached_among-men.ensures p.men (c.occupied-occupied.ensures p.men c.self.invariant.1))
+    (λ j l. ap (λ w. contains w j) c.of-own.ensures ∙ kinds.of_kind c.args.kind j l) low made)

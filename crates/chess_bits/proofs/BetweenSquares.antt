@@ -1,0 +1,172 @@
+-- The squares between two squares of one line.
+use Rattle.std.proofs.Common.{◌≡◌, ℕ, zero, suc, ◌+◌, ◌*◌, ◌/◌, ◌%◌, ◌<◌, ◌≤◌, inl, inr, Bool, true, false, not, ◌&&◌, ◌||◌, refl, sym, ap, ◌∙◌, arith, List, length, get_or, set, get_or-set_same, get_or-set_other}
+use Rattle.std.proofs.lemmas.Bool.Decides.{nat_tests}
+use Rattle.std.proofs.lemmas.Bool.{cases_Bool, cases_eq, or_cases}
+use Rattle.chess_base.specs.Squares.{is_between, share_rank_or_file, share_diagonal, some_below, each_below, some_square, each_square}
+use Rattle.chess_bits.specs.declared.line.Line.{Line}
+use Rattle.chess_bits.specs.declared.line.Line.TheVariants.{Rank, File, Diagonal, Antidiagonal}
+use Rattle.chess_bits.specs.ties.Rays.{line_number, same_line, is_on_ray, is_open}
+use Rattle.chess_bits.proofs.Attackers.{each_square_same, eq_back}
+use Rattle.chess_bits.proofs.Geometry.{between_on_line, share_diagonal_is}
+use Rattle.chess_moves.specs.Sets.{contains}
+
+-- ---- on one line
+
+-- above a and below b on the lines of one kind: between them, if they are on one line of this kind
+one_line : (l : Line) (a b k : ℕ) → a ≤ b
+    → (is_on_ray l true a k && is_on_ray l false b k) ≡ (same_line l a b && is_between a b k)
+one_line l a b k low =
+    elim (cases_Bool (same_line l a b)) [
+      | inl same ↦ rw (same, between_on_line l a b k same) (grind (arith, nat_tests, same, low))
+      | inr apart ↦ rw apart (grind (arith, nat_tests, apart))
+    ]
+
+-- the test of one line among those of four
+abbrev pub of_line : Bool → Bool → Bool → Bool → Line → Bool
+of_line r f d a Rank = r
+of_line r f d a File = f
+of_line r f d a Diagonal = d
+of_line r f d a Antidiagonal = a
+
+some_holds : (r f d a t : Bool) (l : Line) → of_line r f d a l ≡ true
+    → (((r && t) || (f && t)) || ((d && t) || (a && t))) ≡ t
+some_holds r f d a false l e = none r f d a
+  where
+    none : (r f d a : Bool) → (((r && false) || (f && false)) || ((d && false) || (a && false))) ≡ false
+    none true true true true = refl
+    none true true true false = refl
+    none true true false true = refl
+    none true true false false = refl
+    none true false true true = refl
+    none true false true false = refl
+    none true false false true = refl
+    none true false false false = refl
+    none false true true true = refl
+    none false true true false = refl
+    none false true false true = refl
+    none false true false false = refl
+    none false false true true = refl
+    none false false true false = refl
+    none false false false true = refl
+    none false false false false = refl
+some_holds r f d a true Rank e = rw e refl
+some_holds r f d a true File e = rw e (last (r && true))
+  where
+    last : (x : Bool) → ((x || true) || ((d && true) || (a && true))) ≡ true
+    last true = refl
+    last false = refl
+some_holds r f d a true Diagonal e = rw e (last ((r && true) || (f && true)))
+  where
+    last : (x : Bool) → (x || (true || (a && true))) ≡ true
+    last true = refl
+    last false = refl
+some_holds r f d a true Antidiagonal e = rw e (last ((r && true) || (f && true)) (d && true))
+  where
+    last : (x y : Bool) → (x || (y || true)) ≡ true
+    last true y = refl
+    last false true = refl
+    last false false = refl
+
+same_on : (l : Line) (a b : ℕ) → same_line l a b ≡ true
+    → of_line (same_line Rank a b) (same_line File a b) (same_line Diagonal a b) (same_line Antidiagonal a b) l ≡ true
+same_on Rank a b e = e
+same_on File a b e = e
+same_on Diagonal a b e = e
+same_on Antidiagonal a b e = e
+
+-- the four kinds of lines together
+pub on_some_line : (l : Line) (a b k : ℕ) → a ≤ b → same_line l a b ≡ true
+    → (((is_on_ray Rank true a k && is_on_ray Rank false b k) || (is_on_ray File true a k && is_on_ray File false b k))
+    || ((is_on_ray Diagonal true a k && is_on_ray Diagonal false b k)
+    || (is_on_ray Antidiagonal true a k && is_on_ray Antidiagonal false b k)))
+    ≡ is_between a b k
+on_some_line l a b k low same =
+    rw (one_line Rank a b k low, one_line File a b k low, one_line Diagonal a b k low, one_line Antidiagonal a b k low)
+    (some_holds (same_line Rank a b) (same_line File a b) (same_line Diagonal a b) (same_line Antidiagonal a b)
+    (is_between a b k) l (same_on l a b same))
+
+-- ---- the table
+
+-- the entries below n of the table are those of their pairs: for squares a and b of one line, entry 64 a + b
+abbrev pub AreBetween : List ℕ → ℕ → Type 0
+AreBetween sets n = (l : Line) (a b k : ℕ) → a < 64 → b < 64 → 64 * a + b < n → same_line l a b ≡ true → k < 64
+    → contains (get_or sets (64 * a + b) 0) k ≡ is_between a b k
+
+pub paired_more : (sets : List ℕ) (i v x y : ℕ) → i < length sets → x ≡ i / 64 → y ≡ i % 64
+    → ((l : Line) → same_line l x y ≡ true → (k : ℕ) → k < 64 → contains v k ≡ is_between x y k)
+    → AreBetween sets i → AreBetween (set sets i v) (i + 1)
+paired_more sets i v x y inside ex ey made before l a b k la lb low same lk =
+    elim (cases_eq (64 * a + b) i) [
+      | inl here ↦
+          let first : x ≡ a = omega (arith, here, lb, ex) in
+          let second : y ≡ b = omega (arith, here, lb, ey) in
+          let at = rw (first, second) at made in
+          rw (here, get_or-set_same sets i v 0 inside) (at l same k lk)
+      | inr away ↦
+          rw (get_or-set_other sets i (64 * a + b) v 0 away)
+          (before l a b k la lb (omega (arith, away, low)) same lk)
+    ]
+
+-- ---- open lines
+
+neither : (x y : Bool) → not (x || y) ≡ (not x && not y)
+neither true y = refl
+neither false y = refl
+
+none_below : (n : ℕ) (p : ℕ → Bool) → not (some_below n p) ≡ each_below n (λ k. not (p k))
+none_below zero p = refl
+none_below (suc n) p = neither (some_below n p) (p n) ∙ ap (λ t. t && not (p n)) (none_below n p)
+
+none_square : (p : ℕ → Bool) → not (some_square p) ≡ each_square (λ k. not (p k))
+unfolding some_square each_square
+none_square p = none_below 64 p
+
+-- two squares are on one rank, file or diagonal
+abbrev pub are_on_line : ℕ → ℕ → Bool
+are_on_line a b = share_rank_or_file a b || share_diagonal a b
+
+by_line : (a b v k : ℕ) → a < 64 → b < 64 → are_on_line b a ≡ true
+    → ((l : Line) → same_line l a b ≡ true → contains v k ≡ is_between a b k)
+    → contains v k ≡ is_between a b k
+by_line a b v k la lb on made =
+    elim (or_cases (share_rank_or_file b a) (share_diagonal b a) on) [
+      | inl straight ↦
+          elim (or_cases (same_line File b a) (same_line Rank b a) straight) [
+            | inl f ↦ made File (eq_back (line_number File a) (line_number File b) ∙ f)
+            | inr r ↦ made Rank (eq_back (line_number Rank a) (line_number Rank b) ∙ r)
+          ]
+      | inr aslant ↦
+          elim
+          (or_cases (same_line Diagonal b a) (same_line Antidiagonal b a) (sym (share_diagonal_is b a lb la) ∙ aslant)) [
+            | inl d ↦ made Diagonal (eq_back (line_number Diagonal a) (line_number Diagonal b) ∙ d)
+            | inr t ↦ made Antidiagonal (eq_back (line_number Antidiagonal a) (line_number Antidiagonal b) ∙ t)
+          ]
+    ]
+
+-- a line is open where nothing occupied is between
+pub open_between : (w a b u v : ℕ) (t : Bool) → a < 64 → b < 64 → are_on_line b a ≡ true
+    → ((l : Line) → same_line l a b ≡ true → (k : ℕ) → k < 64 → contains v k ≡ is_between a b k)
+    → ((k : ℕ) → contains u k ≡ (contains v k && contains w k))
+    → t ≡ not (some_square (λ k. contains u k)) → t ≡ is_open w a b
+unfolding is_open
+open_between w a b u v t la lb on made met none =
+    none ∙ none_square (λ k. contains u k)
+    ∙ each_square_same _ _
+    (λ k low. ap not (met k ∙ ap (λ s. s && contains w k) (by_line a b v k la lb on (λ l same. made l same k low))))
+
+-- a set of squares on lines of one is those that are seen from there
+pub seen_on : (n s m o t : Bool) → t ≡ (((n && s) && m) && o) → t ≡ ((n && s && o) && m)
+seen_on n s true o t e = e ∙ joined n s o
+  where
+    joined : (x y z : Bool) → (((x && y) && true) && z) ≡ ((x && y && z) && true)
+    joined true true true = refl
+    joined true true false = refl
+    joined true false z = refl
+    joined false y z = refl
+seen_on n s false o t e = e ∙ joined n s o
+  where
+    joined : (x y z : Bool) → (((x && y) && false) && z) ≡ ((x && y && z) && false)
+    joined true true true = refl
+    joined true true false = refl
+    joined true false z = refl
+    joined false y z = refl

@@ -1,0 +1,10 @@
+-- What lies between two squares lies between them the other way round (between_back of Attackers).
+use Rattle.std.proofs.Common.{◌∙◌}
+use Rattle.chess_bits.proofs.Attackers.{between_back, eq_back}
+use Rattle.chess_bits.specs.ties.Rays.{line_number}
+use Rattle.chess_bits.proofs.between.squares_between.Goals as goal
+
+pub returns : goal.returns
+returns c = λ l same k low.
+    c.rising_between-2.ensures l (eq_back (line_number l c.args.b) (line_number l c.args.a) ∙ same) k low
+    ∙ between_back c.args.b c.args.a k

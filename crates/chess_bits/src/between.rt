@@ -1,0 +1,74 @@
+//! The squares between two squares of one line, in a table.
+
+ghost use Rattle.std.specs.Prelude.{◌≡◌, ℕ, ◌<◌, ◌≤◌, ◌+◌, ◌*◌, ◌&&◌, true, false, slice_index};
+ghost use Rattle.chess_base.specs.Squares.{is_between};
+ghost use Rattle.chess_moves.specs.Sets.{contains};
+ghost use Rattle.chess_bits.specs.declared.line.Line.{Line as LineKind};
+ghost use Rattle.chess_bits.specs.ties.Rays.{is_on_ray, same_line};
+
+use crate::line::Line;
+use crate::rays::Rays;
+use chess_base::Square;
+use chess_moves::SquareSet;
+
+/// For each two squares of one line the squares strictly between them.
+#[derive(Drop)]
+pub struct BetweenTable {
+    sets: [SquareSet; 4096],
+    ghost of_pairs: { (l : LineKind) → (a b k : ℕ) → a < 64 → b < 64 → same_line l a b ≡ true → k < 64
+        → contains (slice_index sets (64 * a + b)) k ≡ is_between a b k },
+}
+
+// The squares above `low` and below `high` on the lines of this kind through both; none if these are two lines.
+#[inline(always)]
+fn inside(rays: &Rays, line: Line, low: Square, high: Square) -> SquareSet
+    ensures { (k : ℕ) → k < 64 → contains result k ≡ (is_on_ray line true low k && is_on_ray line false high k) }
+{
+    let above = rays.at(line, true, low);
+    above.intersection(rays.at(line, false, high))
+}
+
+// The squares strictly between two squares of one line, of which `low` does not have the greater number.
+#[inline(always)]
+#[tactic(auto, using(crate::proofs::BetweenSquares::on_some_line))]
+fn rising_between(rays: &Rays, low: Square, high: Square) -> SquareSet
+    requires { low ≤ high }
+    ensures { (l : LineKind) → same_line l low high ≡ true → (k : ℕ) → k < 64 → contains result k ≡ is_between low high k }
+{
+    let ranks = inside(rays, Line::Rank, low, high);
+    let files = inside(rays, Line::File, low, high);
+    let diagonals = inside(rays, Line::Diagonal, low, high);
+    let antidiagonals = inside(rays, Line::Antidiagonal, low, high);
+    ranks.union(files).union(diagonals.union(antidiagonals))
+}
+
+// The squares strictly between two squares of one line.
+fn squares_between(rays: &Rays, a: Square, b: Square) -> SquareSet
+    ensures { (l : LineKind) → same_line l a b ≡ true → (k : ℕ) → k < 64 → contains result k ≡ is_between a b k }
+{
+    if a.number() < b.number() {
+        return rising_between(rays, a, b);
+    }
+    rising_between(rays, b, a)
+}
+
+impl BetweenTable {
+    /// Computes the table from the rays.
+    pub fn new(rays: &Rays) -> Self {
+        let mut sets = [SquareSet::empty(); 4096];
+        for number in 0..4096_usize {
+            let a = Square::new((number / 64) as u8);
+            let b = Square::new((number % 64) as u8);
+            sets[number] = squares_between(rays, a, b);
+        }
+        BetweenTable { sets }
+    }
+
+    /// The squares strictly between two squares of one line.
+    #[inline(always)]
+    pub fn at(&self, a: Square, b: Square) -> SquareSet
+        ensures { (l : LineKind) → same_line l a b ≡ true → (k : ℕ) → k < 64 → contains result k ≡ is_between a b k }
+    {
+        self.sets[64 * a.index() + b.index()]
+    }
+}
