@@ -29,4 +29,5 @@ pub mod Shields
 pub mod KindsCounted
 pub mod CastlingAtHome
 pub mod CastlingSafely
+pub mod PawnStarts
 pub mod PawnsCounted

@@ -1,9 +1,10 @@
 //! Which moves are legal, by the kind of the piece that goes, and from where pieces go legally to a square.
 
-ghost use Rattle.std.specs.Prelude.{◌≡◌, ℕ, ◌<◌, ◌&&◌, ◌||◌, not, true, false, None, MatchOption};
-ghost use Rattle.chess_base.specs.Men.{man_at, is_man, same_kind};
+ghost use Rattle.std.specs.Prelude.{◌≡◌, ℕ, ◌<◌, ◌==◌, ◌&&◌, ◌||◌, not, true, false, None, MatchOption};
+ghost use Rattle.chess_base.specs.Men.{first_rank, man_at, is_man, other, same_kind};
 ghost use Rattle.chess_base.specs.MoveList.{move_of};
-ghost use Rattle.chess_base.specs.Moves.{is_pseudo_legal, is_legal};
+ghost use Rattle.chess_base.specs.Moves.{is_pseudo_legal, is_legal, pawn_advances, pawn_captures};
+ghost use Rattle.chess_base.specs.Squares.{is_square, rank};
 ghost use Rattle.chess_base.specs.declared.man.Kind.TheVariants.{King, Pawn};
 ghost use Rattle.chess_bits.specs.ties.Changes.{StepsPlainly};
 ghost use Rattle.chess_bits.specs.ties.Goes.{IsOfficer};
@@ -13,7 +14,7 @@ use crate::bits::Bits;
 use crate::placing::is_target;
 use crate::reaching::reached_among;
 use crate::targets::{is_king, is_pawn};
-use chess_base::rules::{is_of, promotion_fits};
+use chess_base::rules::{first_rank, is_of, promotion_fits};
 use chess_base::{Colour, Kind, Man, Move, Square};
 use chess_moves::{Board, SquareSet, would_promote};
 
@@ -209,12 +210,58 @@ impl Bits<'_> {
         }
     }
 
-    // The squares from which pawns of the side on move may legally go to `to` without a promotion.
-    fn legal_pawn_starts(&self, to: Square) -> SquareSet
+    // Whether `to` is the en passant target or on the last rank of the side on move, where a pawn's move wants more than
+    // a look at its squares.
+    #[inline(always)]
+    fn ends_unusually(&self, to: Square) -> bool
+        ensures { result ≡ (is_square (self.now).target to || (rank to == first_rank (other (self.now).side))) }
+    {
+        is_target(&self.setup, to) || to.rank() == first_rank(self.setup.side.other())
+    }
+
+    // The squares from which pawns of the side on move may legally go to `to` without a promotion: each pawn that may
+    // come there is tried.
+    #[inline(never)]
+    fn tried_pawn_starts(&self, to: Square) -> SquareSet
         ensures { HasLegalStarts self.now Pawn to result }
     {
         let own = self.men_of(self.setup.side, Kind::Pawn);
         self.pawn_starts_among(own.intersection(self.origins(Kind::Pawn, to)), to)
+    }
+
+    // The squares from which a pawn of the side on move goes to `to`, straight ahead or by a capture, whatever becomes
+    // of its king: as far as there are pawns on them.
+    #[inline(always)]
+    fn pawn_starts_to(&self, to: Square) -> SquareSet
+        ensures { (k : ℕ) → k < 64 → is_man (self.now).side Pawn (man_at (self.now).men k) ≡ true
+            → contains result k ≡ (pawn_advances self.now (move_of k to None) || pawn_captures self.now (move_of k to None)) }
+    {
+        let straight = self.advance_starts(to);
+        straight.union(self.capture_starts(to))
+    }
+
+    // The squares from which pawns of the side on move may legally go to `to`, which is neither the en passant target
+    // nor on their last rank.
+    #[inline(always)]
+    fn usual_pawn_starts(&self, to: Square) -> SquareSet
+        requires { (is_square (self.now).target to || (rank to == first_rank (other (self.now).side))) ≡ false }
+        ensures { HasLegalStarts self.now Pawn to result }
+    {
+        // The prover wants this fact: the number of the end is below 64.
+        let _end = to.number();
+        let own = self.men_of(self.setup.side, Kind::Pawn);
+        let men = own.intersection(self.pawn_starts_to(to));
+        self.safe_starts(men, to)
+    }
+
+    // The squares from which pawns of the side on move may legally go to `to` without a promotion.
+    fn legal_pawn_starts(&self, to: Square) -> SquareSet
+        ensures { HasLegalStarts self.now Pawn to result }
+    {
+        if self.ends_unusually(to) {
+            return self.tried_pawn_starts(to);
+        }
+        self.usual_pawn_starts(to)
     }
 
     // The squares from which pieces of this kind, of the side on move, may legally go to `to` without a promotion.

@@ -1,8 +1,10 @@
 //! What the pawns of a set do together: on which of their squares they may go ahead, or capture to one side.
 
-ghost use Rattle.std.specs.Prelude.{◌≡◌, ◌+◌, ◌-◌, ◌≤◌, ◌<◌, ◌==◌, ◌&&◌, not, ℕ, true, false, length};
+ghost use Rattle.std.specs.Prelude.{◌≡◌, ◌+◌, ◌-◌, ◌≤◌, ◌<◌, ◌==◌, ◌&&◌, not, ℕ, true, false, None, length};
 ghost use Rattle.std.specs.List.{flat_map};
 ghost use Rattle.chess_base.specs.Men.{forward, is_man, man_at};
+ghost use Rattle.chess_base.specs.MoveList.{move_of};
+ghost use Rattle.chess_base.specs.Moves.{pawn_advances};
 ghost use Rattle.chess_base.specs.Squares.{file};
 ghost use Rattle.chess_base.specs.declared.man.Kind.TheVariants.{Pawn};
 ghost use Rattle.chess_bits.specs.ties.Goes.{AreFree, goes_unusually};
@@ -48,6 +50,27 @@ fn attacking_right(colour: Colour, squares: SquareSet) -> SquareSet
 }
 
 impl Bits<'_> {
+    // The squares from which a pawn of the side on move may go straight ahead to `to`, by one square or two: as far as
+    // there are pawns on them.
+    #[inline(always)]
+    pub(crate) fn advance_starts(&self, to: Square) -> SquareSet
+        ensures { (k : ℕ) → k < 64 → is_man (self.now).side Pawn (man_at (self.now).men k) ≡ true
+            → contains result k ≡ pawn_advances self.now (move_of k to None) }
+    {
+        // The prover wants this fact: the number of the end is below 64.
+        let _end = to.number();
+        let side = self.setup.side;
+        let occupied = self.sets.occupied();
+        if occupied.contains(to) {
+            return SquareSet::empty();
+        }
+        let once = behind(side, SquareSet::single(to));
+        let crossed = once.without(occupied);
+        let twice = behind(side, crossed);
+        let home = SquareSet::of_rank(pawn_rank(side));
+        once.union(twice.intersection(home))
+    }
+
     // The squares from which a pawn of the side on move may promote or take en passant: those of the rank before its
     // last one, and those from which it attacks the en passant target.
     #[tactic(auto, using(crate::proofs::PawnsCounted::aims_back))]

@@ -216,7 +216,7 @@ impl Bits<'_> {
     // The squares from which pawns of the side on move attack `to`, if it holds an enemy piece or is the en passant
     // target; else none.
     #[inline(always)]
-    fn capture_starts(&self, to: Square) -> SquareSet
+    pub(crate) fn capture_starts(&self, to: Square) -> SquareSet
         ensures { (k : ℕ) → k < 64
             → contains result k ≡ ((is_of (other (self.now).side) (man_at (self.now).men to)
             || is_square (self.now).target to) && in_shape (PawnAttack (other (self.now).side)) to k) }

@@ -7,7 +7,7 @@ use Rattle.chess_base.specs.Moves.{is_legal}
 use Rattle.chess_base.specs.declared.man.Kind.TheVariants.{Pawn}
 use Rattle.chess_moves.specs.Sets.{contains}
 use Rattle.chess_bits.proofs.Starts.{starts_are}
-use Rattle.chess_bits.proofs.bits.Bits.legal_pawn_starts.Goals as goal
+use Rattle.chess_bits.proofs.bits.Bits.tried_pawn_starts.Goals as goal
 
 pub pawn_starts_among-requires : goal.pawn_starts_among-requires
 pawn_starts_among-requires c = λ k low on.
