@@ -26,7 +26,7 @@ use Rattle.chess_pgn.specs.Words.{word_kind}
 use Rattle.chess_pgn.specs.Tokens.{Token, Skip, Tag, Word, Bad_tag, Unclosed_comment, Unclosed_variation, Bad, after_byte_order_mark, is_white_space, after_brace, token_at, begins_line, tokens_from}
 use Rattle.chess_pgn.specs.GameRead.{SoFar, Step, On, Stop, unless_full, move_step, word_step, fen_step, tag_step, step, go_on, game_of, nothing_read, tagged_variant, tokens_read, pgn_read}
 use Rattle.chess_pgn.specs.LastTags.{may_precede_tags, named_tag}
-use Rattle.chess_pgn.specs.ties.GameSteps.{so_far, IsReadOn, ReadsAlike, step_seen}
+use Rattle.chess_pgn.specs.ties.GameSteps.{so_far, begun, IsReadOn, ReadsAlike, IsTaken, GoesOn, step_seen}
 use Rattle.chess_pgn.proofs.Cuts.{pick}
 use Rattle.chess_pgn.proofs.TagScans.{variant_or, variant_told, variant_from, variants_are}
 use Rattle.chess_pgn.proofs.Walk.{NextToken, next_token, token_more}
@@ -314,4 +314,52 @@ alike limit text from game p here there r same behind within = record {
   undeclared = r.undeclared;
   same_limit = r.same_limit;
   whole = sym (same limit (so_far game.state p)) ∙ r.whole;
+}
+
+-- ---- numbers and moves one after another
+
+was_taken : (taken : Bool) (old new : Seen) (step_of : SoFar → ℕ → Step) → taken ≡ true
+    → IsTaken taken old new step_of → (p : Progress) (offset : ℕ) → On (so_far new.state (begun p))
+    ≡ step_of (so_far old.state p) offset
+was_taken true old new step_of is h = h
+was_taken false old new step_of is h = cc
+
+-- one more word, and what is skipped after it
+pub one_more : (text : List ℕ) (from : ℕ) (old game new : Seen) (before p q : Progress) (here behind there : ℕ)
+    (word : List ℕ) (taken : Bool) → GoesOn text from old before here game p
+    → tokens_from text here ≡ (length text - here, Word word) ∷ tokens_from text behind → here < behind
+    → new.limit ≡ game.limit → taken ≡ true
+    → IsTaken taken game new (λ g offset. word_step game.limit g offset word (word_kind word)) → q ≡ begun p
+    → ReadsAlike text behind there → behind ≤ there → there ≤ length text → GoesOn text from old before there new q
+one_more text from old game new before p q here behind there word taken g is later same yes_is by begins alike after
+    within =
+    let step_is : On (so_far new.state q)
+    ≡ step game.limit (length text) (so_far game.state p) (length text - here) (Word word) =
+    ap (λ r. On (so_far new.state r)) begins
+    ∙ was_taken taken game new (λ g offset. word_step game.limit g offset word (word_kind word)) yes_is by p
+    (length text - (length text - here)) in
+    record {
+      behind = (let first = g.behind in omega (arith, first, later, after));
+      offset = within;
+      undeclared = subst Undeclared (sym step_is)
+          (keeps game.limit (length text) (so_far game.state p) (length text - here) (Word word) g.undeclared);
+      same_limit = same ∙ g.same_limit;
+      whole = sym (alike old.limit (so_far new.state q))
+          ∙ ap (λ s. go_on s (λ h. game_of old.limit (length text) h (tokens_from text behind)))
+          (step_is ∙ ap (λ n. step n (length text) (so_far game.state p) (length text - here) (Word word)) g.same_limit)
+          ∙ ap (game_of old.limit (length text) (so_far game.state p)) (sym is)
+          ∙ g.whole;
+    }
+
+-- reading goes on after them
+pub further : (limit : ℕ) (text : List ℕ) (from : ℕ) (game new : Seen) (p q : Progress) (here there : ℕ)
+    → Reads limit text from game p here → GoesOn text here game p there new q → Reads limit text from new q there
+further limit text from game new p q here there r g = record {
+  behind = (let before = r.behind in let after = g.behind in omega (arith, before, after));
+  offset = g.offset;
+  undeclared = g.undeclared;
+  same_limit = g.same_limit ∙ r.same_limit;
+  whole = ap (λ n. game_of n (length text) (so_far new.state q) (tokens_from text there)) (sym r.same_limit)
+      ∙ g.whole ∙ ap (λ n. game_of n (length text) (so_far game.state p) (tokens_from text here)) r.same_limit
+      ∙ r.whole;
 }

@@ -1,5 +1,5 @@
 -- Words as they are written in a game: each is one token where a byte of no word follows, and of its own kind.
-use Rattle.std.proofs.Common.{◌≡◌, ◌⊎◌, ℕ, ◌<◌, ◌≤◌, Bool, true, false, ◌||◌, eqb, List, [], ◌∷◌, ◌++◌, length, get_or, take, drop, Option, None, refl, sym, ap, ◌-◌, ◌∙◌, inl, inr, arith}
+use Rattle.std.proofs.Common.{◌≡◌, ◌⊎◌, ℕ, ◌<◌, ◌≤◌, Bool, true, false, ◌||◌, eqb, List, [], ◌∷◌, ◌++◌, length, get_or, take, drop, Option, None, refl, sym, ap, subst, ◌-◌, ◌∙◌, inl, inr, arith}
 use Rattle.std.proofs.Math.Seq.{take-append_seam}
 use Rattle.std.proofs.lemmas.Bool.{and_parts, and_from, or_cases}
 use Rattle.std.proofs.lemmas.Bool.Decides.{nat_tests}
@@ -111,6 +111,24 @@ next_word text at xs word behind h is some first taken left =
     next_token text at (begins_line text at) xs h refl is some (Word word) behind
     (ap (λ w. (Word w, behind)) taken ∙ ap (λ r. (Word (take_while is_word_byte xs), r)) left
     ∙ word_first (begins_line text at) xs some first)
+
+-- what passes at a text's front begins with its first byte
+run_first : (p : ℕ → Bool) (xs : List ℕ) → 0 < length (take_while p xs)
+    → (1 ≤ length xs) × (p (get_or xs 0 0) ≡ true)
+run_first p [] some = absurd (omega (arith, some))
+run_first p (c ∷ xs) some = by_test (p c) refl
+  where
+    by_test : (t : Bool) → p c ≡ t → (1 ≤ length (c ∷ xs)) × (p c ≡ true)
+    by_test true e = (omega arith, e)
+    by_test false e = absurd (omega (arith, rw e at some))
+
+-- a word that is no empty one is the next token
+pub some_word : (text : List ℕ) (at : ℕ) (xs word behind : List ℕ) → at ≤ length text
+    → xs ≡ take (length text - at) (drop at text) → word ≡ take_while is_word_byte xs
+    → behind ≡ drop (prefix_len is_word_byte xs) xs → 0 < length word → NextToken text at (Word word) behind
+some_word text at xs word behind h is taken left some =
+    let first = run_first is_word_byte xs (subst (λ w. 0 < length w) taken some) in
+    next_word text at xs word behind h is first.0 first.1 taken left
 
 pub word_token : (begins : Bool) (c : ℕ) (cs : List ℕ) (d : ℕ) (rest : List ℕ) → list_all is_word_byte (c ∷ cs) ≡ true
     → is_word_byte d ≡ false → token_at begins c (cs ++ d ∷ rest) ≡ (Word (c ∷ cs), d ∷ rest)

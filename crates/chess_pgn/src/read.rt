@@ -11,15 +11,15 @@ ghost use Rattle.chess_pgn.specs.Words.{word_kind};
 ghost use Rattle.chess_pgn.specs.ties.Seen.{found_seen, token_seen, fault_seen};
 ghost use Rattle.chess_pgn.specs.GameRead.{declared_after, termination_after, move_step, word_step, tag_step, step, variant_named, tagged_variant, pgn_read};
 ghost use Rattle.chess_pgn.specs.Tokens.{tokens_from};
-ghost use Rattle.chess_pgn.specs.ties.GameSteps.{refusal_kind, EndsIn, so_far, step_seen, IsWithin, IsReadOn, ReadsAlike};
+ghost use Rattle.chess_pgn.specs.ties.GameSteps.{refusal_kind, EndsIn, so_far, step_seen, IsWithin, IsReadOn, ReadsAlike, IsTaken, GoesOn};
 
 use crate::bytes::is_passed;
 use crate::last_tag::{last_tag, may_precede_tags, named_tag};
 use crate::skips::after_brace;
 use crate::tag::Tag;
 use crate::termination::Termination;
-use crate::token::{Token, TokenFault, after_byte_order_mark, next_token};
-use crate::word::{WordKind, word_kind};
+use crate::token::{Token, TokenFault, after_byte_order_mark, next_token, split_word};
+use crate::word::{WordKind, begins_from_a, is_number, word_kind};
 use chess_base::{FenFault, Move, Position, Variant};
 use chess_fen::read_fen_as;
 use chess_game::{Comment, Game, Outcome, PlayRefusal};
@@ -501,6 +501,68 @@ fn begin_game<B: Board>(text: &[u8], at: usize, game: &mut Game<B>) -> (Progress
     (Progress::none(), at)
 }
 
+// Plays the move that a word denotes in the current position, and returns whether one was played. If the word denotes no
+// one legal move, or the game is over or full, nothing changes.
+#[inline(always)]
+fn takes_move<B: Board>(game: &mut Game<B>, word: &[u8]) -> bool
+    requires { game.old.state.declared ≡ None }
+    ensures limit { game.new.limit ≡ game.old.limit }
+    ensures taken { IsTaken result game.old game.new
+        (λ g offset. move_step game.old.limit g offset (reading (current game.old.state) word.now)) }
+{
+    let Reading::Move(m) = read_move(game.board(), word) else {
+        return false;
+    };
+    if game.refusal_of_moving(&m).is_some() {
+        return false;
+    }
+    game.play_legal(m);
+    true
+}
+
+// Takes a word that is a number, or whose move is played, and returns whether it is such a word. Of any other word, and
+// of none (no bytes), nothing is taken, and nothing changes.
+#[tactic(auto, using(crate::proofs::PgnWords::from_a_kind, crate::proofs::PgnWords::number_kind))]
+#[inline(always)]
+fn takes_word<B: Board>(game: &mut Game<B>, word: &[u8]) -> bool
+    requires { game.old.state.declared ≡ None }
+    ensures limit { game.new.limit ≡ game.old.limit }
+    ensures some { result ≡ true → 0 < length word.now }
+    ensures taken { IsTaken result game.old game.new
+        (λ g offset. word_step game.old.limit g offset word.now (word_kind word.now)) }
+{
+    if begins_from_a(word) {
+        takes_move(game, word)
+    } else {
+        is_number(word)
+    }
+}
+
+// Takes numbers and moves from `at` on, and what is skipped after each, as long as nothing else comes; returns the
+// offset after them. `progress` is what is known before and after. The general way (`next_token`, `read_token`) would
+// take the same words one by one; this is faster.
+#[inline(always)]
+fn take_words<B: Board>(
+    text: &[u8],
+    at: usize,
+    game: &mut Game<B>,
+    progress: &mut Progress,
+) -> usize
+    requires within { at ≤ length text.now }
+    requires undeclared { game.old.state.declared ≡ None }
+    ensures { GoesOn text.now at game.old progress.old result game.new progress.new }
+{
+    let mut offset = at;
+    loop {
+        let (word, behind) = split_word(&text[offset..]);
+        if !takes_word(game, word) {
+            return offset;
+        }
+        *progress = progress.begun();
+        offset = after_skipped(text, text.len() - behind.len());
+    }
+}
+
 /// Reads the first game of a text from the offset `at` on (PGN standard of 1994; which words are taken is this
 /// project's own). `game` begins anew from the initial position or from the last FEN tag's, of the variant that the
 /// last tag `Variant` names; its moves are played as they are read, and the outcome at its end is declared unless the
@@ -531,7 +593,7 @@ pub fn read_pgn<B: Board>(
                     Step::On(further) => progress = further,
                     Step::Ended(end) => return Ok(Some(end)),
                 }
-                offset = after_skipped(text, behind);
+                offset = take_words(text, after_skipped(text, behind), game, &mut progress);
             }
             Ok(None) if progress.is_met => {
                 return Err(PgnFault {

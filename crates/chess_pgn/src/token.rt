@@ -49,7 +49,7 @@ fn after_digits(text: &[u8]) -> &[u8]
 
 // The word at a text's front (its bytes up to the first that no word may have), and the text after it.
 #[inline(always)]
-fn split_word(text: &[u8]) -> (&[u8], &[u8])
+pub(crate) fn split_word(text: &[u8]) -> (&[u8], &[u8])
     ensures word { result.0.now ≡ take_while is_word_byte text.now }
     ensures rest { result.1.now ≡ drop (prefix_len is_word_byte text.now) text.now }
 {

@@ -1,6 +1,6 @@
 //! What a word is.
 
-ghost use Rattle.std.specs.Prelude.{◌≡◌, ◌||◌, ◌==◌};
+ghost use Rattle.std.specs.Prelude.{◌≡◌, ◌&&◌, ◌||◌, ◌==◌, length, nat_lt};
 ghost use Rattle.std.specs.List.{list_all};
 ghost use Rattle.chess_base.specs.Letters.{byte, is_digit};
 ghost use Rattle.chess_pgn.specs.Words.{outcome_of, word_kind};
@@ -42,6 +42,13 @@ fn has_digits_alone(word: &[u8]) -> bool
     word.iter().all(|byte| is_digit(*byte))
 }
 
+// Whether a word is a number: at least one byte, and digits alone.
+pub(crate) fn is_number(word: &[u8]) -> bool
+    ensures { result ≡ (nat_lt 0 (length word.now) && list_all is_digit word.now) }
+{
+    !word.is_empty() && has_digits_alone(word)
+}
+
 // Whether all bytes of a word are `!` or `?`.
 fn has_marks_alone(word: &[u8]) -> bool
     ensures { result ≡ list_all (λ c. c == byte "!" || c == byte "?") word.now }
@@ -50,7 +57,7 @@ fn has_marks_alone(word: &[u8]) -> bool
 }
 
 // Whether a word's first byte is `A` or greater: a letter or `_`. No outcome, number or mark begins so.
-fn begins_from_a(word: &[u8]) -> bool
+pub(crate) fn begins_from_a(word: &[u8]) -> bool
     ensures { result ≡ begins_from_a word.now }
 {
     match word {

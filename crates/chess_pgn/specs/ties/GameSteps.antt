@@ -1,5 +1,5 @@
 -- What the reader of a game answers, step by step, in the words of the definitions.
-use Rattle.std.specs.Prelude.{◌≡◌, ℕ, ◌<◌, ◌≤◌, List, length, Result, Ok, Err, None, Some}
+use Rattle.std.specs.Prelude.{◌≡◌, ℕ, ◌<◌, ◌≤◌, Bool, true, false, List, length, Result, Ok, Err, None, Some}
 use Rattle.chess_game.specs.Game.{Seen, State}
 use Rattle.chess_game.specs.declared.game.PlayRefusal.{PlayRefusal}
 use Rattle.chess_game.specs.declared.game.PlayRefusal.TheVariants.{Over, TooLong, Illegal}
@@ -28,6 +28,17 @@ abbrev pub step_seen : State → Result code.Step PgnFault → Step
 step_seen s (Ok (does.On p)) = On (so_far s p)
 step_seen s (Ok (does.Ended end)) = Stop (record { state = s; answer = Ok (Some end) })
 step_seen s (Err fault) = Stop (record { state = s; answer = Err fault })
+
+-- what is known after a number or move, from what was known before it
+abbrev pub begun : Progress → Progress
+begun p = record { is_met = true; is_begun = true; termination = p.termination }
+
+-- whether a word was taken as a number or move. If it was, reading goes on, as `step` says for what was read before the
+-- word and for its offset, whatever these are; if not, nothing changed. `old` and `new` are the game before and after
+abbrev pub IsTaken : Bool → Seen → Seen → (SoFar → ℕ → Step) → Type 0
+IsTaken true old new step =
+    (p : Progress) (offset : ℕ) → On (so_far new.state (begun p)) ≡ step (so_far old.state p) offset
+IsTaken false old new step = new ≡ old
 
 -- if a token ended the game (`Ended`), the game's end offset is greater than `first` and at most `last`; for any other
 -- result nothing is said
@@ -61,3 +72,14 @@ pub record IsReadOn (limit : ℕ) (text : List ℕ) (from : ℕ) (game : Seen) (
   pub undeclared : game.state.declared ≡ None
   pub whole : game_of limit (length text) (so_far game.state progress) (tokens_from text here)
       ≡ tokens_read limit (length text) (tokens_from text from)
+
+-- reading went on from the offset `from`, with `old` and `before` read up to there, to `here`, with `new` and `after`:
+-- reading on gives the same from both
+pub record GoesOn (text : List ℕ) (from : ℕ) (old : Seen) (before : Progress) (here : ℕ) (new : Seen)
+    (after : Progress) : Type 0 where
+  pub behind : from ≤ here
+  pub offset : here ≤ length text
+  pub undeclared : new.state.declared ≡ None
+  pub same_limit : new.limit ≡ old.limit
+  pub whole : game_of old.limit (length text) (so_far new.state after) (tokens_from text here)
+      ≡ game_of old.limit (length text) (so_far old.state before) (tokens_from text from)

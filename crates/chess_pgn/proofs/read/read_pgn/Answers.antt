@@ -1,8 +1,9 @@
 -- From here on, the rest with what was read so far gives what the whole text gives (GameReads.Reads): the step of a
--- token keeps that (GameReads.more), and so does what is skipped after it (GameReads.alike).
+-- token keeps that (GameReads.more), and so do what is skipped after it (GameReads.alike) and the words taken then
+-- (GameReads.further).
 use Rattle.chess_pgn.specs.ties.Seen.{token_seen, fault_seen}
 use Rattle.chess_pgn.proofs.TokenPlaces.{token_within}
-use Rattle.chess_pgn.proofs.GameReads.{more, alike, bare_at_fault}
+use Rattle.chess_pgn.proofs.GameReads.{more, alike, further, bare_at_fault}
 use Rattle.std.proofs.Common.{length}
 use Rattle.chess_pgn.specs.ties.GameSteps.{so_far}
 use Rattle.chess_pgn.proofs.read.read_pgn.Goals as goal
@@ -19,9 +20,12 @@ loop-token-preserved g c =
     let before = more c.args.game.now.limit c.args.text.now c.args.at c.loop-token.game c.read_token.new.game
     c.loop-token.progress c.in-On.further c.loop-token.offset c.in-Ok-Some.behind (token_seen c.in-Ok-Some.token)
     c.loop-token.invariant next.0 next.1 next.2 c.read_token.ensures.limit step_is in
-    alike c.args.game.now.limit c.args.text.now c.args.at c.read_token.new.game c.in-On.further c.in-Ok-Some.behind
-    c.after_skipped-offset.result before c.after_skipped-offset.ensures.alike c.after_skipped-offset.ensures.behind
-    c.after_skipped-offset.ensures.within
+    let skipped = alike c.args.game.now.limit c.args.text.now c.args.at c.read_token.new.game c.in-On.further
+    c.in-Ok-Some.behind c.after_skipped.result before c.after_skipped.ensures.alike c.after_skipped.ensures.behind
+    c.after_skipped.ensures.within in
+    further c.args.game.now.limit c.args.text.now c.args.at c.read_token.new.game c.take_words-offset.new.game
+    c.in-On.further c.take_words-offset.new.progress c.after_skipped.result c.take_words-offset.result skipped
+    c.take_words-offset.ensures
 
 pub reported_fault-requires-clause-within : goal.reported_fault-requires-clause-within
 reported_fault-requires-clause-within g c =
