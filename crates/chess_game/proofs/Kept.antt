@@ -1,8 +1,9 @@
 -- The played moves of a game: what a move adds, and what taking one back leaves.
-use Rattle.std.proofs.Common.{◌≡◌, ◌∙◌, ℕ, zero, suc, ◌+◌, ◌-◌, ◌<◌, ◌≤◌, List, [], ◌∷◌, ◌++◌, length, take, get_or, Option, Result, Ok, Err, is_ok, is_err, Bool, false, if◌then◌else◌, sym, ap, subst, arith}
-use Rattle.std.proofs.Math.Seq.{take-length}
+use Rattle.std.proofs.Common.{◌≡◌, ◌∙◌, ℕ, zero, suc, ◌+◌, ◌-◌, ◌<◌, ◌≤◌, List, [], ◌∷◌, ◌++◌, length, take, drop, get_or, Option, Result, Ok, Err, is_ok, is_err, Bool, false, if◌then◌else◌, refl, sym, ap, subst, arith}
+use Rattle.std.proofs.Math.ListN.{set}
+use Rattle.std.proofs.Math.Seq.{take-length, take-append_seam, set-append_seam}
 use Rattle.std.proofs.lemmas.Bool.Decides.{nat_tests}
-use Rattle.std.proofs.lemmas.List.{length-map}
+use Rattle.std.proofs.lemmas.List.{length-map, map-append, length-append, drop_at, get_or_at}
 use Rattle.std.specs.List.{AllByRecursion}
 use Rattle.chess_base.specs.declared.man.Move.{Move}
 use Rattle.chess_base.specs.declared.setup.Saved.{Saved}
@@ -11,8 +12,9 @@ use Rattle.chess_base.specs.Moves.{after}
 use Rattle.chess_moves.specs.Made.{WasMade}
 use Rattle.chess_game.specs.Line.{position_after, IsLine}
 use Rattle.chess_game.specs.ties.PlayedMoves.{moves_of, IsKnown, Hashing, HasHash, HaveHashes, Follows}
-use Rattle.chess_game.specs.Game.{Seen, is_full}
+use Rattle.chess_game.specs.Game.{Seen, with_state, played, is_full}
 use Rattle.chess_game.specs.declared.game.PlayedMove.{PlayedMove}
+use Rattle.chess_game.specs.declared.index.Entry.{Entry}
 use Rattle.chess_game.specs.declared.repetition.Hashed.{Hashed}
 use Rattle.chess_game.specs.declared.results.Declared.{Declared}
 
@@ -157,6 +159,61 @@ pub pushed : {A E : Type 0} (r : Result A E) (xs ys zs : List PlayedMove) → is
     → zs ≡ (if is_ok r then ys else xs) → zs ≡ ys
 pushed (Ok v) xs ys zs h e = e
 pushed (Err v) xs ys zs h e = cc
+
+-- the list of all played moves after `x` was pushed behind `xs`: what is before the last place, the move there, and the
+-- list with another move there
+pub record Last (xs : List PlayedMove) (x : PlayedMove) (all : List PlayedMove) (last : ℕ) : Type 0 where
+  pub earlier : take last all ≡ xs
+  pub latest : (d : PlayedMove) → get_or (drop last all) 0 d ≡ x
+  pub there : (d : PlayedMove) → get_or all last d ≡ x
+  pub written : (y : PlayedMove) → set all last y ≡ xs ++ y ∷ []
+
+last_of : (xs : List PlayedMove) (x : PlayedMove) → Last xs x (xs ++ x ∷ []) (length xs)
+last_of xs x = record {
+  earlier = take-append_seam xs (x ∷ []);
+  latest = λ d. ap (λ ys. get_or ys 0 d) (drop_at xs (x ∷ []) (length xs) refl);
+  there = λ d. get_or_at xs x [] d (length xs) refl;
+  written = λ y. set-append_seam xs x [] y;
+}
+
+-- a push that did not fail put its played move at the last place
+pub pushed_last : {A E : Type 0} (r : Result A E) (xs all : List PlayedMove) (x : PlayedMove) (n : ℕ) → is_err r ≡ false
+    → all ≡ (if is_ok r then xs ++ x ∷ [] else xs) → n ≡ length all → Last xs x all (n - 1)
+pushed_last r xs all x n done is len =
+    let whole : all ≡ xs ++ x ∷ [] = pushed r xs (xs ++ x ∷ []) all done is in
+    let last : length xs ≡ n - 1 = omega (arith, ap length whole, length-append xs (x ∷ [])) in
+    subst (λ (ys : List PlayedMove). Last xs x ys (n - 1)) (sym whole)
+    (subst (Last xs x (xs ++ x ∷ [])) last (last_of xs x))
+
+-- and with its entry put in there, it is the last of all
+pub with_entry : (xs all : List PlayedMove) (x there : PlayedMove) (last : ℕ) (entry : Entry) → Last xs x all last
+    → there ≡ get_or all last there
+    → set all last (record there { entry = entry }) ≡ xs ++ record x { entry = entry } ∷ []
+with_entry xs all x there last entry p found =
+    p.written (record there { entry = entry })
+    ∙ ap (λ (y : PlayedMove). xs ++ record y { entry = entry } ∷ []) (found ∙ p.there there)
+
+-- the list split before its last place
+pub record Split (xs : List PlayedMove) (x : PlayedMove) (front back : List PlayedMove) (d : PlayedMove) : Type 0 where
+  pub earlier : front ≡ xs
+  pub latest : get_or back 0 d ≡ x
+
+pub split_last : (xs all ys : List PlayedMove) (x : PlayedMove) (last : ℕ) (front back : List PlayedMove) (d : PlayedMove)
+    → Last xs x all last → ys ≡ all → front ≡ take last ys → back ≡ drop last ys → Split xs x front back d
+split_last xs all ys x last front back d p same before behind = record {
+  earlier = before ∙ ap (take last) same ∙ p.earlier;
+  latest = ap (λ zs. get_or zs 0 d) (behind ∙ ap (drop last) same) ∙ p.latest d;
+}
+
+-- what the game shows with one more move
+pub shown_more : (limit : ℕ) (p : Setup) (xs all : List PlayedMove) (x : PlayedMove) (d : Option Declared) (g : Seen)
+    → record { limit = limit; state = record { start = p; moves = moves_of xs; declared = d } } ≡ g → all ≡ xs ++ x ∷ []
+    → record { limit = limit; state = record { start = p; moves = moves_of all; declared = d } }
+    ≡ with_state g (played g.state x.made)
+shown_more limit p xs all x d g view is =
+    ap (λ ms. record { limit = limit; state = record { start = p; moves = ms; declared = d } })
+    (ap moves_of is ∙ map-append (λ (y : PlayedMove). y.made) xs (x ∷ []))
+    ∙ ap (λ (v : Seen). with_state v (played v.state x.made)) view
 
 -- a game that is not full has a place
 pub room : (limit : ℕ) (p : Setup) (xs : List PlayedMove) (d : Option Declared) (g : Seen)

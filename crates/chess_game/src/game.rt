@@ -218,8 +218,7 @@ impl<B: Board> Game<B> {
         // The prover wants two variables here: one move is given to the board, and one is kept.
         let made = m;
         let saved = self.board.make(made);
-        // The entry is put in last, where the played move already is: a half-move then copies its position once less.
-        let mut played_move = PlayedMove {
+        let played_move = PlayedMove {
             made: m,
             saved,
             reached: Hashed::on(&self.board),
@@ -228,16 +227,15 @@ impl<B: Board> Game<B> {
                 count: 1,
             },
         };
-        let entry = self.index.push(
-            &self.start,
-            self.played_moves.as_slice(),
-            &played_move.reached,
-        );
-        played_move.entry = entry;
         // There is room: `open` took a place for each half-move that the limit allows.
         if self.played_moves.push(played_move).is_err() {
             unreachable!();
         }
+        // The entry is put in last, where the played move already is: a half-move then copies its position once less.
+        let last = self.played_moves.len() - 1;
+        let (earlier, latest) = self.played_moves.as_slice().split_at(last);
+        let entry = self.index.push(&self.start, earlier, &latest[0].reached);
+        self.played_moves[last].entry = entry;
     }
 
     /// Takes the last move back, clears what was declared, and returns the move.

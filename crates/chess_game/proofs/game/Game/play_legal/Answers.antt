@@ -1,11 +1,15 @@
--- The move was made at the end of the line, so its played move follows there (added of Kept). The game was not over, so no
--- verdict came before this one (unended_more of Judged), nor was it full, so there is room (room of Kept).
-use Rattle.std.proofs.Common.{◌≡◌, ◌<◌, ◌++◌, ◌∷◌, [], false, is_err, length, refl, sym, ◌∙◌, arith}
+-- The move was pushed, and its entry then put in (pushed_last, with_entry of Kept). It was made at the end of the line,
+-- so its played move follows there (added of Kept). The game was not over, so no verdict came before this one
+-- (unended_more of Judged), nor was it full, so there is room (room of Kept).
+use Rattle.std.proofs.Common.{◌≡◌, ◌<◌, ◌-◌, ◌++◌, ◌∷◌, [], false, is_err, length, List, refl, sym, ap, subst, ◌∙◌, arith}
+use Rattle.chess_base.specs.declared.man.Move.{Move}
+use Rattle.chess_base.specs.declared.setup.Saved.{Saved}
 use Rattle.chess_game.specs.Game.{is_over, is_full}
 use Rattle.chess_game.specs.ties.Buckets.{IsIndexed}
 use Rattle.chess_game.specs.ties.PlayedMoves.{moves_of, IsKept}
 use Rattle.chess_game.specs.declared.game.PlayedMove.{PlayedMove}
-use Rattle.chess_game.proofs.Kept.{added, made_at_end, words_more, pushed, room}
+use Rattle.chess_game.specs.declared.repetition.Hashed.{Hashed}
+use Rattle.chess_game.proofs.Kept.{added, made_at_end, words_more, pushed_last, split_last, with_entry, shown_more, room}
 use Rattle.chess_game.proofs.Judged.{unended_more, no_verdict}
 use Rattle.chess_game.proofs.Playable.{may_play}
 use Rattle.chess_game.proofs.game.Game.play_legal.Goals as goal
@@ -15,49 +19,73 @@ make-saved-requires g c =
     let legal = (may_play c.args.self.now c.args.m c.requires).legal in
     rw c.self.invariant.0.at_end (rw (← c.self.view_is) at legal)
 
+-- the played move as it was pushed, before its entry was known
+unindexed : Move → Saved → Hashed → PlayedMove
+unindexed m saved reached =
+    record { made = m; saved = saved; reached = reached; entry = record { earlier = 0; count = 1 } }
+
 pub push-entry-requires-clause-made : goal.push-entry-requires-clause-made
-push-entry-requires-clause-made g c = (
-  c.args.m,
-  c.make-saved.result,
-  made_at_end c.self.inside.start.position c.self.inside.played_moves.items c.as_slice.result.now c.args.m
-      c.make-saved.result _ _ c.on.result.position c.as_slice.ensures.value c.self.invariant.0.at_end
-      c.make-saved.ensures.made c.on.ensures.position,
-)
+unfolding unindexed
+push-entry-requires-clause-made g c =
+    let xs = c.self.inside.played_moves.items in
+    let done : is_err c.push.result ≡ false = sym c.is_err.ensures.value ∙ c.if-is_err.false in
+    let all = c.len-last.ensures ∙ sym c.as_slice.ensures.len ∙ ap length c.as_slice.ensures.value in
+    let p = pushed_last c.push.result xs c.push.new.self.items (unindexed c.args.m c.make-saved.result c.on.result)
+    c.len-last.result done c.push.ensures.items all in
+    let s = split_last xs c.push.new.self.items c.as_slice.result.now
+    (unindexed c.args.m c.make-saved.result c.on.result) (c.len-last.result - 1) c.split_at.result.0.now
+    c.split_at.result.1.now c.index-latest-0.result p c.as_slice.ensures.value c.split_at.ensures.front
+    c.split_at.ensures.back in (
+      c.args.m,
+      c.make-saved.result,
+      made_at_end c.self.inside.start.position xs c.split_at.result.0.now c.args.m c.make-saved.result _ _ _ s.earlier
+          c.self.invariant.0.at_end c.make-saved.ensures.made
+          (ap (λ (y : PlayedMove). y.reached.position) s.latest ∙ c.on.ensures.position),
+    )
 
 pub invariant_of-self : goal.invariant_of-self
+unfolding unindexed
 invariant_of-self g c =
-    let played_moves = c.self.inside.played_moves.items in
-    let x : PlayedMove = record {
-      made = c.args.m;
-      saved = c.make-saved.result;
-      reached = c.on.result;
-      entry = c.push-entry.result;
-    } in
+    let xs = c.self.inside.played_moves.items in
+    let pushed = unindexed c.args.m c.make-saved.result c.on.result in
+    let x : PlayedMove = record pushed { entry = c.push-entry.result } in
     let may = may_play c.args.self.now c.args.m c.requires in
-    let few : length played_moves < c.self.inside.limit =
-    room c.self.inside.limit c.self.inside.start.position played_moves c.self.inside.declared c.args.self.now
-    c.self.view_is (is_full c.args.self.now) refl may.room in
-    let in_place : is_err c.push.result ≡ false = sym c.is_err.ensures.value ∙ c.if-is_err.false in
-    let all : c.push.new.self.items ≡ played_moves ++ x ∷ [] =
-    pushed c.push.result played_moves (played_moves ++ x ∷ []) c.push.new.self.items in_place c.push.ensures.items in
-    let more = added c.self.inside.start.position played_moves x _ _ c.self.invariant.0.follows c.self.invariant.0.at_end
+    let few : length xs < c.self.inside.limit = room c.self.inside.limit c.self.inside.start.position xs
+    c.self.inside.declared c.args.self.now c.self.view_is (is_full c.args.self.now) refl may.room in
+    let done : is_err c.push.result ≡ false = sym c.is_err.ensures.value ∙ c.if-is_err.false in
+    let len = c.len-last.ensures ∙ sym c.as_slice.ensures.len ∙ ap length c.as_slice.ensures.value in
+    let p = pushed_last c.push.result xs c.push.new.self.items pushed c.len-last.result done c.push.ensures.items len in
+    let s = split_last xs c.push.new.self.items c.as_slice.result.now pushed (c.len-last.result - 1)
+    c.split_at.result.0.now c.split_at.result.1.now c.index-latest-0.result p c.as_slice.ensures.value
+    c.split_at.ensures.front c.split_at.ensures.back in
+    let all = with_entry xs c.push.new.self.items pushed c.index_mut.result.now (c.len-last.result - 1)
+    c.push-entry.result p c.index_mut.ensures.value in
+    let more = added c.self.inside.start.position xs x _ _ c.self.invariant.0.follows c.self.invariant.0.at_end
     c.make-saved.ensures.made c.on.ensures.position c.on.ensures.known in
-    let words = words_more g.B.Board.word_of c.self.inside.start played_moves x c.self.invariant.0.words
-    c.on.ensures.word in
+    let words = words_more g.B.Board.word_of c.self.inside.start xs x c.self.invariant.0.words c.on.ensures.word in
     let none =
     no_verdict
-    (record {
-      start = c.self.inside.start.position;
-      moves = moves_of played_moves;
-      declared = c.self.inside.declared;
-    }) (is_over c.args.self.now.state) (rw (← c.self.view_is) refl) may.on in
-    let index : IsIndexed c.push-entry.new.self.heads.items c.self.inside.start (played_moves ++ x ∷ []) =
-    rw c.as_slice.ensures.value at (c.push-entry.ensures x refl refl) in
-    let kept : IsKept g.B.Board.word_of c.self.inside.start (played_moves ++ x ∷ [])
-    (g.B.Board.position c.make-saved.new.self) =
+    (record { start = c.self.inside.start.position; moves = moves_of xs; declared = c.self.inside.declared })
+    (is_over c.args.self.now.state) (rw (← c.self.view_is) refl) may.on in
+    let index : IsIndexed c.push-entry.new.self.heads.items c.self.inside.start (xs ++ x ∷ []) =
+    subst (λ (ys : List PlayedMove). IsIndexed c.push-entry.new.self.heads.items c.self.inside.start (ys ++ x ∷ []))
+    s.earlier (c.push-entry.ensures x (sym (ap (λ (y : PlayedMove). y.reached) s.latest)) refl) in
+    let kept : IsKept g.B.Board.word_of c.self.inside.start (xs ++ x ∷ []) (g.B.Board.position c.make-saved.new.self) =
     record { known = c.self.invariant.0.known; follows = more.follows; words = words; at_end = more.at_end } in (
       rw all kept,
-      rw all (unended_more c.self.inside.start.position played_moves x c.self.invariant.1 none),
+      rw all (unended_more c.self.inside.start.position xs x c.self.invariant.1 none),
       record { few = omega arith; made = omega arith; bound = omega arith },
       rw all index,
     )
+
+pub returns : goal.returns
+unfolding unindexed
+returns g c =
+    let xs = c.self.inside.played_moves.items in
+    let pushed = unindexed c.args.m c.make-saved.result c.on.result in
+    let done : is_err c.push.result ≡ false = sym c.is_err.ensures.value ∙ c.if-is_err.false in
+    let len = c.len-last.ensures ∙ sym c.as_slice.ensures.len ∙ ap length c.as_slice.ensures.value in
+    let p = pushed_last c.push.result xs c.push.new.self.items pushed c.len-last.result done c.push.ensures.items len in
+    shown_more c.self.inside.limit c.self.inside.start.position xs _ (record pushed { entry = c.push-entry.result })
+    c.self.inside.declared c.args.self.now c.self.view_is (with_entry xs c.push.new.self.items pushed
+    c.index_mut.result.now (c.len-last.result - 1) c.push-entry.result p c.index_mut.ensures.value)
