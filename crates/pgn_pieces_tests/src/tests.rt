@@ -134,6 +134,32 @@ fn check_long(rt: &impl Abort, host: &HostRuntime, len: usize, is_short: bool) -
     Ok(())
 }
 
+// A line of `len` bytes is before a piece that has `behind` bytes after its `[Event "`.
+fn check_line(rt: &impl Abort, host: &HostRuntime, len: usize, behind: usize) -> Result<(), Fail> {
+    let mut text = vec![in host.alloc(); b'x'; len.saturating_sub(1)]?;
+    text.extend_from_slice(b"\n[Event \"")?;
+    let last = vec![in host.alloc(); b'y'; behind]?;
+    text.extend_from_slice(last.as_slice())?;
+    let mut input = Counted::reading(text.as_slice());
+    let mut pieces = PgnPieces::open(host.alloc())?;
+    is_equal(rt, &pieces.next(&mut input), &Ok(true));
+    is_equal(rt, &pieces.next(&mut input), &Ok(true));
+    is_equal(rt, &pieces.offset(), &len);
+    ends(rt, &mut pieces, &mut input, Ok(false));
+    Ok(())
+}
+
+// A line's end is looked for by 64 bytes at a time: it is found at each place in them, and near the text's last byte.
+#[test]
+fn lines_end_at_any_offset(rt: HostRuntime) -> Result<(), Fail> {
+    for len in 2..132 {
+        for behind in [0, 8, 47, 55, 56, 120] {
+            check_line(&rt, &rt, len, behind)?;
+        }
+    }
+    Ok(())
+}
+
 // A line's first 256 bytes decide its kind: a tag's name of so many bytes begins a piece after moves, or doesn't.
 fn check_name(rt: &impl Abort, host: &HostRuntime, len: usize, begins: bool) -> Result<(), Fail> {
     let mut text = vec![in host.alloc(); b'a'; len]?;
