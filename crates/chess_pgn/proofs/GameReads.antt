@@ -252,6 +252,17 @@ normal_begun limit text from game p here t ts r is may = record {
       (told_last text from Normal here t ts r.tells is may);
 }
 
+-- no more tokens
+pub normal_ended : (limit : ℕ) (text : List ℕ) (from : ℕ) (game : Seen) (p : Progress) (here : ℕ)
+    → ReadsNormal limit text from game p here → tokens_from text here ≡ [] → IsReadOn limit text from game p here
+normal_ended limit text from game p here r is = record {
+  behind = r.behind;
+  offset = r.tells.offset;
+  undeclared = r.undeclared;
+  whole = r.whole ∙ ap (λ u. game_of limit (length text) (nothing_read u) (tokens_from text from))
+      (ap (variant_from Normal) (sym is) ∙ r.tells.whole);
+}
+
 -- ---- white space and dots, at which nothing counts
 
 passed_token : (begins : Bool) (c : ℕ) (rest : List ℕ) → (is_white_space c || (c == 46)) ≡ true

@@ -453,7 +453,7 @@ fn after_skipped(text: &[u8], at: usize) -> usize
 }
 
 // Reads the tags from `at` on as those of a game of normal chess; returns what is known then, and the offset of the
-// first number, move or outcome. `None` if a tag names another variant, or a fault or the text's end comes first.
+// first number, move or outcome, or of the text's end. `None` if a tag names another variant, or a fault comes first.
 fn read_normal_tags<B: Board>(
     text: &[u8],
     at: usize,
@@ -467,8 +467,11 @@ fn read_normal_tags<B: Board>(
     let mut progress = Progress::none();
     let mut offset = at;
     loop {
-        let Ok(Some((token, behind))) = next_token(text, offset) else {
+        let Ok(next) = next_token(text, offset) else {
             return None;
+        };
+        let Some((token, behind)) = next else {
+            return Some((progress, offset));
         };
         if !may_precede_tags(&token) {
             return Some((progress, offset));

@@ -2,8 +2,8 @@ use Rattle.std.proofs.Common.{length, ◌-◌}
 use Rattle.chess_pgn.proofs.GameReads.{ReadsNormal}
 use Rattle.chess_pgn.proofs.read.read_normal_tags.Given as goal
 
-abbrev pub invariant-loop-token : goal.invariant-loop-token
-invariant-loop-token g l = ReadsNormal l.fn.game.limit l.text l.at l.game l.progress l.offset
+abbrev pub invariant-loop-next : goal.invariant-loop-next
+invariant-loop-next g l = ReadsNormal l.fn.game.limit l.text l.at l.game l.progress l.offset
 
-abbrev pub decreases-loop-token : goal.decreases-loop-token
-decreases-loop-token g l = length l.text - l.offset
+abbrev pub decreases-loop-next : goal.decreases-loop-next
+decreases-loop-next g l = length l.text - l.offset
