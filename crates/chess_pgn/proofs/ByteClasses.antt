@@ -1,9 +1,9 @@
--- The table of classes is held against the definitions at each of the 256 bytes, by computing.
+-- The tables of bytes are held against the definitions at each of the 256 bytes, by computing.
 use Rattle.std.proofs.Common.{◌≡◌, ℕ, zero, suc, ◌<◌, Bool, true, false, ◌&&◌, ◌||◌, nat_eq, eqb, get_or, List, refl, arith, inl, inr}
 use Rattle.std.specs.Bool.{beq}
 use Rattle.std.proofs.lemmas.Bool.{cases_eq}
-use Rattle.chess_pgn.specs.declared.bytes.TheConstants.{CLASSES}
-use Rattle.chess_pgn.specs.Tokens.{is_word_byte, is_white_space}
+use Rattle.chess_pgn.specs.declared.bytes.TheConstants.{CLASSES, NAMES}
+use Rattle.chess_pgn.specs.Tokens.{is_name_byte, is_word_byte, is_white_space}
 
 -- the two tests agree below n
 agree_below : (ℕ → Bool) → (ℕ → Bool) → ℕ → Bool
@@ -31,6 +31,10 @@ from_table table class test b lt h = agree_at _ _ 256 h b lt
 pub word_class : (b : ℕ) → b < 256 → nat_eq (get_or CLASSES b 0) 119 ≡ is_word_byte b
 unfolding agree_below
 word_class b lt = from_table CLASSES 119 (λ k. is_word_byte k) b lt refl
+
+pub name_class : (b : ℕ) → b < 256 → nat_eq (get_or NAMES b 0) 110 ≡ is_name_byte b
+unfolding agree_below
+name_class b lt = from_table NAMES 110 (λ k. is_name_byte k) b lt refl
 
 pub passed_class : (b : ℕ) → b < 256 → nat_eq (get_or CLASSES b 0) 112 ≡ (is_white_space b || eqb b 46)
 unfolding agree_below

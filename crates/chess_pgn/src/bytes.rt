@@ -15,6 +15,17 @@ static CLASSES: [u8; 256] = *b"\
     --------------------------------\
     --------------------------------";
 
+// What each byte is in a tag's name: `n` one that may be there, `-` any other.
+static NAMES: [u8; 256] = *b"\
+    --------------------------------\
+    ----------------nnnnnnnnnn------\
+    -nnnnnnnnnnnnnnnnnnnnnnnnnn----n\
+    -nnnnnnnnnnnnnnnnnnnnnnnnnn-----\
+    --------------------------------\
+    --------------------------------\
+    --------------------------------\
+    --------------------------------";
+
 /// Whether a byte is a space, a tab, or one of `\n` and `\r`.
 pub(crate) fn is_white_space(byte: u8) -> bool
     ensures { result ≡ is_white_space byte }
@@ -30,10 +41,11 @@ pub(crate) fn is_digit(byte: u8) -> bool
 }
 
 // Whether a byte may be in a tag's name: letters, digits and `_`.
+#[inline(always)]
 pub(crate) fn is_name_byte(byte: u8) -> bool
     ensures { result ≡ is_name_byte byte }
 {
-    byte.is_ascii_alphanumeric() || byte == b'_'
+    NAMES[byte as usize] == b'n'
 }
 
 // Whether a byte may be in a word: a move, a number, marks or an outcome.
