@@ -1,11 +1,14 @@
 -- Lines and comments that are skipped.
-use Rattle.std.proofs.Common.{◌≡◌, ℕ, zero, suc, ◌+◌, ◌-◌, ◌≤◌, Bool, true, false, not, eqb, List, [], ◌∷◌, length, get_or, take, drop, refl, sym, ap, ◌∙◌, arith}
+use Rattle.std.proofs.Common.{◌≡◌, ◌≢◌, ℕ, zero, suc, ◌+◌, ◌-◌, ◌≤◌, Bool, true, false, not, cond, eqb, List, [], ◌∷◌, length, map, get_or, take, drop, Option, refl, sym, ap, ◌∙◌, arith}
+use Rattle.std.specs.Prelude.{◌==◌}
 use Rattle.std.specs.List.{position_or_len}
-use Rattle.std.proofs.lemmas.Bool.{or_parts}
 use Rattle.std.proofs.lemmas.Bool.Decides.{nat_tests}
 use Rattle.std.proofs.lemmas.List.{take_rest}
+use Rattle.std.proofs.lemmas.List.Sums.{prefix_len-le-length}
+use Rattle.std.proofs.lemmas.Simd.{leading_from_mask_l, trailing_mask_l}
+use lib.Count.{count_trailing_zeros}
+use lib.Lanes.{mask_l}
 use Rattle.chess_pgn.specs.Tokens.{line_end, is_white_space, after_brace, after_gap}
-use Rattle.chess_pgn.specs.ties.Braces.{has_brace}
 
 -- the end of a line whose first byte is not 10
 pub line_end-more : (c : ℕ) (rest : List ℕ) → eqb c 10 ≡ false → line_end (c ∷ rest) ≡ line_end rest
@@ -51,11 +54,42 @@ gap_blank_more begins (c ∷ rest) next h e is =
     gap_blank true c rest line blank = rw (line, blank) refl
     gap_blank false c rest line blank = rw blank refl
 
--- a piece without a closing brace
-pub no_brace : (n : ℕ) (text : List ℕ) → has_brace (take n text) ≡ false
-    → after_brace (drop n text) ≡ after_brace text
-no_brace zero text h = refl
-no_brace (suc n) [] h = refl
-no_brace (suc n) (c ∷ rest) h =
-    let both = or_parts (eqb c 125) (has_brace (take n rest)) h in
-    rw both.0 (no_brace n rest both.1)
+-- from the first closing brace of the first n bytes on, or behind all n
+pub near_brace : (n : ℕ) (text : List ℕ)
+    → after_brace (drop (position_or_len (λ c. c == 125) (take n text)) text) ≡ after_brace text
+near_brace zero text = refl
+near_brace (suc n) [] = refl
+near_brace (suc n) (c ∷ rest) = by_test (eqb c 125) refl (near_brace n rest)
+  where
+    before : List ℕ → ℕ
+    before xs = position_or_len (λ b. b == 125) xs
+
+    by_test : (t : Bool) → eqb c 125 ≡ t → after_brace (drop (before (take n rest)) rest) ≡ after_brace rest
+        → after_brace (drop (before (take (suc n) (c ∷ rest))) (c ∷ rest)) ≡ after_brace (c ∷ rest)
+    by_test true e on = ap (λ t. after_brace (drop (cond (not t) (1 + before (take n rest)) 0) (c ∷ rest))) e
+    by_test false e on =
+        let front : before (take (suc n) (c ∷ rest)) ≡ 1 + before (take n rest) =
+        ap (λ t. cond (not t) (1 + before (take n rest)) 0) e in
+        let up : 1 + before (take n rest) ≡ suc (before (take n rest)) = omega arith in
+        ap (λ k. after_brace (drop k (c ∷ rest))) (front ∙ up) ∙ on ∙ sym (rw e refl)
+
+-- the rest of a text from there on
+pub from_brace : (xs rest : List ℕ) (r : ℕ) → r ≡ position_or_len (λ c. c == 125) (take 32 xs) → rest ≡ drop r xs
+    → (after : Option (List ℕ)) → after_brace xs ≡ after → after_brace rest ≡ after
+from_brace xs rest r is cut after so = ap after_brace (cut ∙ ap (λ k. drop k xs) is) ∙ near_brace 32 xs ∙ so
+
+pub few_before : (xs : List ℕ) (r : ℕ) → r ≡ position_or_len (λ c. c == 125) xs → length xs ≡ 32 → r ≤ 32
+few_before xs r is long =
+    let few = prefix_len-le-length (λ x. not (eqb x 125)) xs in omega (arith, few, is, long)
+
+-- the same by a mask, in which a bit is set for each closing brace of 32 bytes: none is set
+pub no_brace : (xs : List ℕ) (mask : ℕ) → mask ≡ mask_l (map (λ x. eqb x 125) xs) → length xs ≡ 32 → mask ≡ 0
+    → 32 ≡ position_or_len (λ c. c == 125) xs
+no_brace xs mask is long none =
+    sym (leading_from_mask_l (λ x. eqb x 125) xs (sym is ∙ none) ∙ long)
+
+-- one is set: the lowest is that of the first
+pub some_brace : (xs : List ℕ) (mask : ℕ) → mask ≡ mask_l (map (λ x. eqb x 125) xs) → length xs ≡ 32 → mask ≢ 0
+    → count_trailing_zeros 64 mask ≡ position_or_len (λ c. c == 125) xs
+some_brace xs mask is long some =
+    ap (λ m. count_trailing_zeros 64 m) is ∙ trailing_mask_l (λ x. eqb x 125) 64 xs (omega (arith, long)) (omega (arith, is, some))

@@ -5,5 +5,4 @@ pub mod VariationParts
 pub mod Waiting
 pub mod GameSteps
 pub mod Begins
-pub mod Braces
 pub mod Lines

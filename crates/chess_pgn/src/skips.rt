@@ -1,11 +1,16 @@
 //! What is skipped between tokens: white space, `%` lines and comments. Each function cuts the front of a text off.
 
-ghost use Rattle.std.specs.Prelude.{◌≡◌, ◌≤◌, ◌<◌, length, false, Option, IfSome};
+ghost use Rattle.std.specs.Prelude.{◌≡◌, ◌≤◌, ◌<◌, ◌==◌, length, take, false, Option, IfSome};
+ghost use Rattle.std.specs.List.{position_or_len};
 ghost use Rattle.std.specs.Option.{option_map};
+ghost use Rattle.chess_base.specs.Letters.{byte};
 ghost use Rattle.chess_pgn.specs.Tokens.{line_end, after_brace, after_gap};
-ghost use Rattle.chess_pgn.specs.ties.Braces.{has_brace};
 
 use crate::bytes::is_white_space;
+use std::simd::prelude::*;
+
+// How many bytes are searched for `}` at a time.
+const BLOCK_LEN: usize = 32;
 
 // The text from the end of its first line on, which begins with `\n`; empty if no line ends.
 pub(crate) fn line_end(text: &[u8]) -> &[u8]
@@ -22,47 +27,47 @@ pub(crate) fn line_end(text: &[u8]) -> &[u8]
     rest
 }
 
-// Whether a `}` is among these bytes. It looks at all of them, so that the compiler can use vector instructions.
+// How many of a text's first 32 bytes come before the first `}` among them; 32, if it isn't among them.
 #[inline(always)]
-fn has_brace(piece: &[u8]) -> bool
-    ensures { result ≡ has_brace piece.now }
+fn len_before_brace(text: &[u8]) -> usize
+    requires { 32 ≤ length text.now }
+    ensures count { result ≡ position_or_len (λ c. c == byte "}") (take 32 text.now) }
+    ensures few { result ≤ 32 }
 {
-    let mut any = false;
-    for byte in piece {
-        any |= *byte == b'}';
+    let block = u8x32::from_slice(text);
+    let braces = block.simd_eq(u8x32::splat(b'}')).to_bitmask();
+    if braces == 0 {
+        BLOCK_LEN
+    } else {
+        braces.trailing_zeros() as usize
     }
-    any
 }
 
-// Drops pieces of `len` bytes from the text's front as long as they have no `}`, and returns what is left: it begins
-// near the first `}`.
-#[tactic(auto, using(crate::proofs::Skipped::no_brace))]
+// The text from the first `}` on in the blocks of 32 bytes with which it begins; if none has it, what is after them.
 #[inline(always)]
-fn near_brace(len: usize, text: &[u8]) -> &[u8]
-    requires { 0 < len }
+fn near_brace(text: &[u8]) -> &[u8]
     ensures rest { after_brace result.now ≡ after_brace text.now }
     ensures shorter { length result.now ≤ length text.now }
 {
     let mut rest = text;
-    while rest.len() >= len {
-        let (piece, others) = rest.split_at(len);
-        if has_brace(piece) {
+    while rest.len() >= BLOCK_LEN {
+        let len = len_before_brace(rest);
+        let (_, others) = rest.split_at(len);
+        rest = others;
+        if len < BLOCK_LEN {
             break;
         }
-        rest = others;
     }
     rest
 }
 
-// The text after its first `}`, if it has one. Pieces of 8 bytes are fast over long comments, those of 4 over the end
-// of a comment with a clock's time.
+// The text after its first `}`, if it has one.
 #[inline(always)]
 pub(crate) fn after_brace(text: &[u8]) -> Option<&[u8]>
     ensures rest { option_map (λ r. r.now) result ≡ after_brace text.now }
     ensures shorter { IfSome result (λ r. length r.now < length text.now) }
 {
-    let near = near_brace(8, text);
-    let mut rest = near_brace(4, near);
+    let mut rest = near_brace(text);
     while let [byte, others @ ..] = rest {
         if *byte == b'}' {
             return Some(others);
