@@ -24,7 +24,7 @@ use Rattle.chess_game.specs.ties.PlayedMoves.{moves_of, IsKnown, Follows}
 use Rattle.chess_game.specs.ties.Buckets.{known_at, is_same_at}
 use Rattle.chess_game.specs.declared.game.PlayedMove.{PlayedMove}
 use Rattle.chess_game.specs.declared.repetition.Hashed.{Hashed}
-use Rattle.chess_game.proofs.Kept.{follows_more, last-more}
+use Rattle.chess_game.proofs.Kept.{kept_as, follows_more, last-more}
 use Rattle.chess_game.proofs.Positions.{known_before}
 
 -- ---- the same pieces have the same reserve
@@ -117,7 +117,7 @@ fallen grows falls start (y ∷ ys) (suc k) (suc j) d f h zeroed before =
 
 -- the played move of that move
 place_of : Move → Saved → Hashed → PlayedMove
-place_of m s now = record { made = m; saved = s; reached = now; entry = record { earlier = 0; count = 0 } }
+place_of m s now = record { made = m; captured = s.captured; reached = now; entry = record { earlier = 0; count = 0 } }
 
 none_before : ReserveNeverGrows → ReserveFallsForGood → (start : Hashed) (xs : List PlayedMove) (now : Hashed)
     (m : Move) (s : Saved) → IsKnown now → Follows start.position xs
@@ -128,14 +128,15 @@ none_before : ReserveNeverGrows → ReserveFallsForGood → (start : Hashed) (xs
 unfolding place_of
 none_before grows falls start xs now m s known follows made k d h zeroed j before =
     let x = place_of m s now in
+    let played = kept_as (position_after start.position (moves_of xs)) now.position x s refl made in
     let len = length-append xs (x ∷ []) in
     let low : reserve (position_after start.position (moves_of (xs ++ x ∷ []))).men
     < reserve (known_at start (xs ++ x ∷ []) j).position.men =
-    fallen grows falls start (xs ++ x ∷ []) k j d (follows_more start.position xs x follows made known)
+    fallen grows falls start (xs ++ x ∷ []) k j d (follows_more start.position xs x follows played known)
     (omega (arith, len, h)) zeroed before in
     let end : reserve now.position.men < reserve (known_at start (xs ++ x ∷ []) j).position.men =
     subst (λ v. reserve v.men < reserve (known_at start (xs ++ x ∷ []) j).position.men)
-    (sym (last-more start.position xs x made)) low in
+    (sym (last-more start.position xs x played)) low in
     ap (λ v. is_same_position v.position now.position) (sym (known_before start xs x j (omega (arith, h, before))))
     ∙ other_by_reserve (known_at start (xs ++ x ∷ []) j).position now.position end
 

@@ -9,9 +9,10 @@ use Rattle.chess_base.specs.declared.man.Move.{Move}
 use Rattle.chess_base.specs.declared.setup.Saved.{Saved}
 use Rattle.chess_base.specs.declared.setup.Setup.{Setup}
 use Rattle.chess_base.specs.Moves.{after}
+use Rattle.chess_base.specs.Before.{saved_of}
 use Rattle.chess_moves.specs.Made.{WasMade}
 use Rattle.chess_game.specs.Line.{position_after, IsLine}
-use Rattle.chess_game.specs.ties.PlayedMoves.{moves_of, IsKnown, Hashing, HasHash, HaveHashes, Follows}
+use Rattle.chess_game.specs.ties.PlayedMoves.{moves_of, saved_with, WasPlayed, IsKnown, Hashing, HasHash, HaveHashes, Follows}
 use Rattle.chess_game.specs.Game.{Seen, with_state, played, is_full}
 use Rattle.chess_game.specs.declared.game.PlayedMove.{PlayedMove}
 use Rattle.chess_game.specs.declared.index.Entry.{Entry}
@@ -68,7 +69,7 @@ kept_line p (x ∷ xs) f = (f.0.legal, subst (λ v. IsLine v (moves_of xs)) f.0.
 
 -- one more move
 pub follows_more : (p : Setup) (xs : List PlayedMove) (x : PlayedMove) → Follows p xs
-    → WasMade (position_after p (moves_of xs)) x.made x.saved x.reached.position → IsKnown x.reached → Follows p (xs ++ x ∷ [])
+    → WasPlayed (position_after p (moves_of xs)) x x.reached.position → IsKnown x.reached → Follows p (xs ++ x ∷ [])
 follows_more p [] x f made known = (made, known, tt)
 follows_more p (y ∷ ys) x f made known =
     let at : position_after (after p y.made) (moves_of ys) ≡ position_after y.reached.position (moves_of ys) =
@@ -76,11 +77,11 @@ follows_more p (y ∷ ys) x f made known =
       f.0,
       f.1,
       follows_more y.reached.position ys x f.2
-          (subst (λ v. WasMade v x.made x.saved x.reached.position) at made) known,
+          (subst (λ v. WasPlayed v x x.reached.position) at made) known,
     )
 
 pub last-more : (p : Setup) (xs : List PlayedMove) (x : PlayedMove)
-    → WasMade (position_after p (moves_of xs)) x.made x.saved x.reached.position
+    → WasPlayed (position_after p (moves_of xs)) x x.reached.position
     → x.reached.position ≡ position_after p (moves_of (xs ++ x ∷ []))
 last-more p [] x made = made.left
 last-more p (y ∷ ys) x made = last-more (after p y.made) ys x made
@@ -90,14 +91,23 @@ pub record Added (p : Setup) (xs : List PlayedMove) (x : PlayedMove) (board : Se
   pub follows : Follows p (xs ++ x ∷ [])
   pub at_end : board ≡ position_after p (moves_of (xs ++ x ∷ []))
 
-pub added : (p : Setup) (xs : List PlayedMove) (x : PlayedMove) (before after : Setup) → Follows p xs
-    → before ≡ position_after p (moves_of xs) → WasMade before x.made x.saved after → x.reached.position ≡ after
-    → IsKnown x.reached
-    → Added p xs x after
-added p xs x before after f at made reached known =
-    let here : WasMade (position_after p (moves_of xs)) x.made x.saved x.reached.position =
-    subst (λ v. WasMade v x.made x.saved x.reached.position) at
-    (subst (WasMade before x.made x.saved) (sym reached) made) in
+-- what was saved is the captured piece, and the rest as it was before the move
+pub kept_as : (p q : Setup) (x : PlayedMove) (s : Saved) → x.captured ≡ s.captured → WasMade p x.made s q → WasPlayed p x q
+unfolding saved_of
+kept_as p q x s same made = record {
+  sound = made.sound;
+  legal = made.legal;
+  saved = ap (saved_with p) (same ∙ ap (λ t. t.captured) made.saved);
+  left = made.left;
+}
+
+pub added : (p : Setup) (xs : List PlayedMove) (x : PlayedMove) (s : Saved) (before after : Setup) → Follows p xs
+    → before ≡ position_after p (moves_of xs) → x.captured ≡ s.captured → WasMade before x.made s after
+    → x.reached.position ≡ after → IsKnown x.reached → Added p xs x after
+added p xs x s before after f at captured made reached known =
+    let here : WasPlayed (position_after p (moves_of xs)) x x.reached.position =
+    subst (λ v. WasPlayed v x x.reached.position) at
+    (subst (WasPlayed before x) (sym reached) (kept_as before after x s captured made)) in
     record { follows = follows_more p xs x f here known; at_end = sym reached ∙ last-more p xs x here }
 
 -- the position of a move that was made at the end of the line
@@ -113,17 +123,19 @@ follows_fewer p [] x f = tt
 follows_fewer p (y ∷ ys) x f = (f.0, f.1, follows_fewer y.reached.position ys x f.2)
 
 made-last : (p : Setup) (xs : List PlayedMove) (x : PlayedMove) → Follows p (xs ++ x ∷ [])
-    → WasMade (position_after p (moves_of xs)) x.made x.saved (position_after p (moves_of (xs ++ x ∷ [])))
-made-last p [] x f = subst (WasMade p x.made x.saved) f.0.left f.0
-made-last p (y ∷ ys) x f = subst (λ v. WasMade (position_after v (moves_of ys)) x.made x.saved (position_after v (moves_of (ys ++ x ∷ []))))
+    → WasPlayed (position_after p (moves_of xs)) x (position_after p (moves_of (xs ++ x ∷ [])))
+made-last p [] x f = subst (WasPlayed p x) f.0.left f.0
+made-last p (y ∷ ys) x f = subst (λ v. WasPlayed (position_after v (moves_of ys)) x (position_after v (moves_of (ys ++ x ∷ []))))
     f.0.left (made-last y.reached.position ys x f.2)
 
--- the last played move holds the position that was left
-pub taken : (p : Setup) (xs ys : List PlayedMove) (x : PlayedMove) (q : Setup) → Follows p xs → xs ≡ ys ++ x ∷ []
-    → q ≡ position_after p (moves_of xs) → WasMade (position_after p (moves_of ys)) x.made x.saved q
-taken p xs ys x q f is at =
-    subst (WasMade (position_after p (moves_of ys)) x.made x.saved) (ap (λ v. position_after p (moves_of v)) (sym is) ∙ sym at)
-    (made-last p ys x (subst (Follows p) is f))
+-- the last played move holds the position that was left, and `s` is what the position before it saved
+pub taken : (p : Setup) (xs ys : List PlayedMove) (x : PlayedMove) (s : Saved) (before q : Setup) → Follows p xs
+    → xs ≡ ys ++ x ∷ [] → q ≡ position_after p (moves_of xs) → before ≡ position_after p (moves_of ys)
+    → s ≡ saved_with before x.captured → WasMade (position_after p (moves_of ys)) x.made s q
+taken p xs ys x s before q f is at here saved =
+    subst (λ t. WasMade (position_after p (moves_of ys)) x.made t q) (sym (saved ∙ ap (λ v. saved_with v x.captured) here))
+    (subst (WasPlayed (position_after p (moves_of ys)) x) (ap (λ v. position_after p (moves_of v)) (sym is) ∙ sym at)
+    (made-last p ys x (subst (Follows p) is f)))
 
 pub fewer : (p : Setup) (xs ys : List PlayedMove) (x : PlayedMove) → Follows p xs → xs ≡ ys ++ x ∷ [] → Follows p ys
 fewer p xs ys x f is = follows_fewer p ys x (subst (Follows p) is f)

@@ -15,9 +15,10 @@ ghost use Rattle.chess_game.specs.declared.repetition.Hashed.{Hashed};
 
 use crate::ends::{Claims, Verdict, has_insufficient_material, mates};
 use crate::index::{Entry, Index};
+use crate::packed::PackedPosition;
 use crate::repetition::Hashed;
 use crate::results::{Comment, Declared, Outcome};
-use chess_base::{Move, Position, Saved};
+use chess_base::{Man, Move, Position};
 use chess_moves::Board;
 use std::alloc::{AllocError, Global};
 use std::marker::Model;
@@ -49,12 +50,12 @@ pub struct NoMove;
 #[error("the verdict on the game has another outcome")]
 pub struct BoardSaysOtherwise;
 
-// A move that was played, with what was saved to take it back, the position that it reached, and the entry of this
-// position in the index.
+// A move that was played, with the piece that it captured, the position that it reached, and the entry of this position
+// in the index. What else has to be saved to take it back is in the position before it.
 #[derive(Drop)]
 pub(crate) struct PlayedMove {
     pub(crate) made: Move,
-    pub(crate) saved: Saved,
+    pub(crate) captured: Option<Man>,
     pub(crate) reached: Hashed,
     pub(crate) entry: Entry,
 }
@@ -89,6 +90,18 @@ impl<B: Board> Model for Game<B> {
         × IsUnended g.start.position (moves_of g.played_moves.items)
         × HasRoom (vec_len g.played_moves) g.limit (vec_capacity g.played_moves)
         × IsIndexed g.index.heads.items g.start g.played_moves.items };
+}
+
+// The position that the played moves lead to from the start.
+fn last_position<'g>(start: &'g Hashed, played_moves: &'g [PlayedMove]) -> &'g PackedPosition
+    requires { Follows start.now.position played_moves.now }
+    ensures { result.now ≡ position_after start.now.position (moves_of played_moves.now) }
+{
+    if played_moves.is_empty() {
+        &start.position
+    } else {
+        &played_moves[played_moves.len() - 1].reached.position
+    }
 }
 
 // How many positions of the game, from the start to the present one, are the same as the present one; `played_moves`
@@ -220,7 +233,7 @@ impl<B: Board> Game<B> {
         let saved = self.board.make(made);
         let played_move = PlayedMove {
             made: m,
-            saved,
+            captured: saved.captured,
             reached: Hashed::on(&self.board),
             entry: Entry {
                 earlier: 0,
@@ -257,9 +270,11 @@ impl<B: Board> Game<B> {
             None => Err(NoMove),
             Some(played_move) => {
                 self.index.pop(&played_move);
+                let before = last_position(&self.start, self.played_moves.as_slice());
+                let saved = before.saved(played_move.captured);
                 // The prover wants two variables here: one move is given to the board, and one is returned.
                 let made = played_move.made;
-                self.board.take_back(made, played_move.saved);
+                self.board.take_back(made, saved);
                 self.declared = None;
                 Ok(played_move.made)
             }

@@ -8,8 +8,9 @@ ghost use Rattle.chess_moves.specs.Sets.{contains};
 ghost use Rattle.chess_game.specs.Ends.{is_kind};
 ghost use Rattle.chess_game.specs.Same.{same_man, same_men};
 ghost use Rattle.chess_game.specs.ties.Packed.{ArePacked, colour_in, kind_in, man_in, men_in};
+ghost use Rattle.chess_game.specs.ties.PlayedMoves.{saved_with};
 
-use chess_base::{Colour, Kind, Man, Position, Rights, Setup, Square, Variant};
+use chess_base::{Colour, Kind, Man, Position, Rights, Saved, Setup, Square, Variant};
 use chess_moves::{Board, SquareSet};
 use std::marker::Model;
 
@@ -257,6 +258,20 @@ impl PackedPosition {
         ensures sound { IsSound self.now }
     {
         self.halfmove
+    }
+
+    /// What is saved of the position to take back a move that captured this piece, or none.
+    pub(crate) fn saved(&self, captured: Option<Man>) -> Saved
+        ensures { result ≡ saved_with self.now captured }
+    {
+        let target = self.target;
+        Saved {
+            captured,
+            rights: self.rights,
+            target,
+            halfmove: self.halfmove,
+            fullmove: self.fullmove,
+        }
     }
 
     /// Whether each square has the same content, a piece's kind and colour or none, as in the other position.

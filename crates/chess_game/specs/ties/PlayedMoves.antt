@@ -1,9 +1,11 @@
 -- What a game keeps of its start and of each current move.
-use Rattle.std.specs.Prelude.{◌≡◌, ◌≤◌, ◌<◌, ℕ, List, [], ◌∷◌, length, take, map, None}
+use Rattle.std.specs.Prelude.{◌≡◌, ◌≤◌, ◌<◌, ℕ, List, [], ◌∷◌, length, take, map, Option, None}
 use Rattle.std.specs.List.{AllByRecursion}
 use Rattle.chess_base.specs.declared.man.Colour.{Colour}
+use Rattle.chess_base.specs.declared.man.Man.{Man}
 use Rattle.chess_base.specs.declared.man.Move.{Move}
 use Rattle.chess_base.specs.declared.man.Rights.{Rights}
+use Rattle.chess_base.specs.declared.setup.Saved.{Saved}
 use Rattle.chess_base.specs.declared.setup.Setup.{Setup}
 use Rattle.chess_base.specs.Men.{Men}
 use Rattle.chess_moves.specs.Made.{WasMade}
@@ -40,11 +42,25 @@ pub record HaveHashes (f : Hashing) (first : Hashed) (played_moves : List Played
   pub start : HasHash f first
   pub behind : AllByRecursion (λ (x : PlayedMove). HasHash f x.reached) played_moves
 
--- from position p on, each played move was legal where it was made, and is kept with what it saved and the position
--- that it reached
+-- what has to be saved of position p to take back a move that captured this piece, or none
+abbrev pub saved_with : Setup → Option Man → Saved
+saved_with p captured = record {
+  captured = captured;
+  rights = p.rights;
+  target = p.target;
+  halfmove = p.halfmove;
+  fullmove = p.fullmove;
+}
+
+-- the played move x was legal in position p, led from there to q, and is kept with the piece that it captured
+abbrev pub WasPlayed : Setup → PlayedMove → Setup → Type 0
+WasPlayed p x q = WasMade p x.made (saved_with p x.captured) q
+
+-- from position p on, each played move was legal where it was made, and is kept with the piece that it captured and the
+-- position that it reached
 abbrev pub Follows : Setup → List PlayedMove → Type 0
 Follows p [] = Unit {0}
-Follows p (x ∷ xs) = WasMade p x.made x.saved x.reached.position × IsKnown x.reached × Follows x.reached.position xs
+Follows p (x ∷ xs) = WasPlayed p x x.reached.position × IsKnown x.reached × Follows x.reached.position xs
 
 -- what a game keeps is true: the played moves follow from the start, all hashes are by the board's definition f, and
 -- the board is at the position after the last move

@@ -22,7 +22,7 @@ make-saved-requires g c =
 -- the played move as it was pushed, before its entry was known
 unindexed : Move → Saved → Hashed → PlayedMove
 unindexed m saved reached =
-    record { made = m; saved = saved; reached = reached; entry = record { earlier = 0; count = 1 } }
+    record { made = m; captured = saved.captured; reached = reached; entry = record { earlier = 0; count = 1 } }
 
 pub push-entry-requires-clause-made : goal.push-entry-requires-clause-made
 unfolding unindexed
@@ -60,8 +60,8 @@ invariant_of-self g c =
     c.split_at.ensures.front c.split_at.ensures.back in
     let all = with_entry xs c.push.new.self.items pushed c.index_mut.result.now (c.len-last.result - 1)
     c.push-entry.result p c.index_mut.ensures.value in
-    let more = added c.self.inside.start.position xs x _ _ c.self.invariant.0.follows c.self.invariant.0.at_end
-    c.make-saved.ensures.made c.on.ensures.position c.on.ensures.known in
+    let more = added c.self.inside.start.position xs x c.make-saved.result _ _ c.self.invariant.0.follows
+    c.self.invariant.0.at_end refl c.make-saved.ensures.made c.on.ensures.position c.on.ensures.known in
     let words = words_more g.B.Board.word_of c.self.inside.start xs x c.self.invariant.0.words c.on.ensures.word in
     let none =
     no_verdict
