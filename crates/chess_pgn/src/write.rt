@@ -9,6 +9,7 @@ ghost use Rattle.chess_pgn.specs.GameText.{roster_lines, is_initial, fen_lines, 
 ghost use Rattle.chess_pgn.specs.ties.Lines.{placed_all, column_after_all};
 ghost use Rattle.chess_pgn.specs.ties.Waiting.{Adds};
 ghost use Rattle.chess_pgn.specs.Written.{ended, move_text_of};
+ghost use Rattle.chess_text.specs.San.{san};
 
 use crate::lines::LineWriter;
 use crate::tag_lines::put_tags;
@@ -20,7 +21,7 @@ use chess_base::{Colour, Move, Position, Setup, Variant};
 use chess_fen::write_fen;
 use chess_game::{Game, Outcome};
 use chess_moves::Board;
-use chess_text::{san, san_is_a_word};
+use chess_text::{SanText, add_check_mark, san_is_a_word, unmarked_san};
 
 // The token of a move number, with room for 20 digits and three dots.
 type NumberText = ArrayVec<u8, 23>;
@@ -286,14 +287,25 @@ fn put_move<B: Board, W: Output>(
 {
     // The prover wants this law: the SAN of a legal move is short enough for a line.
     san_is_a_word();
-    // The prover wants a copy of a move that is passed by value twice.
+    put_number(lines, writer, board.setup(), is_first)?;
+    let text = make_san(board, m);
+    lines.put_token(writer, text.as_slice())
+}
+
+// Makes the legal move `m` on the board, and returns its SAN. Its mark is found where the move leads, so the move is
+// made only once.
+fn make_san<B: Board>(board: &mut B, m: Move) -> SanText
+    requires { IsTrue (is_legal (B.position board.old) m) }
+    ensures text { result.items ≡ san (B.position board.old) m }
+    ensures len { array_vec_len result ≤ 7 }
+    ensures position { B.position board.new ≡ after (B.position board.old) m }
+{
+    // The prover wants two variables here: one move is lent, and one is given to the board.
     let again = m;
-    let position = board.position();
-    put_number(lines, writer, position.setup(), is_first)?;
-    let text = san(board, m);
-    lines.put_token(writer, text.as_slice())?;
+    let mut text = unmarked_san(board, &m);
     board.make(again);
-    Ok(())
+    add_check_mark(board, &mut text);
+    text
 }
 
 // Writes the number before a move in the position `setup`: `12.` before each of White's, and `12...` if the game's
