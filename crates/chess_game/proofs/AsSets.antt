@@ -1,6 +1,6 @@
 -- Pieces as sets of squares, and back.
-use Rattle.std.proofs.Common.{◌≡◌, ℕ, zero, suc, ◌<◌, inl, inr, Bool, true, false, not, ◌&&◌, ◌||◌, if◌then◌else◌, refl, sym, ◌∙◌, ap, subst, arith, Option, Some, None, length, set, get_or-set_same, get_or-set_other, length-set, ◌+◌, true≢false}
-use Rattle.std.proofs.lemmas.Bool.{or_from, or_parts, cases_Bool, cases_eq}
+use Rattle.std.proofs.Common.{◌≡◌, ℕ, zero, suc, ◌<◌, inl, inr, Bool, true, false, not, ◌&&◌, ◌||◌, if◌then◌else◌, refl, sym, ◌∙◌, ap, subst, arith, Option, Some, None, length, true≢false}
+use Rattle.std.proofs.lemmas.Bool.{or_from, or_parts, cases_Bool}
 use Rattle.std.proofs.lemmas.List.{ext_get_or}
 use Rattle.chess_base.specs.declared.man.Colour.{Colour}
 use Rattle.chess_base.specs.declared.man.Colour.TheVariants.{White, Black}
@@ -97,35 +97,6 @@ men_back p men all h =
 
 pub packed_back : (p : PackedMen) (men : Men) → length men ≡ 64 → ArePacked p men → ArePacked p (men_in p)
 packed_back p men all h = subst (ArePacked p) (sym (men_back p men all h)) h
-
--- ---- square by square
-
--- the first n squares have their pieces
-pub record HasMen (p : PackedMen) (men : Men) (n : ℕ) : Type 0 where
-  pub board : length men ≡ 64
-  pub below : (k : ℕ) → k < n → man_at men k ≡ man_in p k
-
--- one square more
-pub men_more : (p : PackedMen) (men : Men) (n s : ℕ) (o : Option Man) → n < 64 → s ≡ n → o ≡ man_in p s
-    → HasMen p men n
-    → HasMen p (set men s o) (n + 1)
-men_more p men n s o low here man h = record { board = length-set men s o ∙ h.board; below = below }
-  where
-    below : (k : ℕ) → k < n + 1 → man_at (set men s o) k ≡ man_in p k
-    below k l =
-        let inside : s < length men = omega (arith, h.board) in
-        elim (cases_eq k s) [
-          | inl same ↦ rw (same, get_or-set_same men s o None inside) man
-          | inr other ↦ rw (get_or-set_other men s k o None other) (h.below k (grind (arith, other, here)))
-        ]
-
--- at the end all
-pub men_all : (p : PackedMen) (men : Men) (n : ℕ) → n ≡ 64 → HasMen p men n → men ≡ men_in p
-unfolding men_in
-men_all p men n whole h =
-    ext_get_or None men (from_below 64 (man_in p)) (h.board ∙ sym (length-from_below 64 (man_in p)))
-    (λ k l. let low : k < 64 = omega (arith, l, h.board) in
-    h.below k (omega arith) ∙ sym (get_or-from_below 64 (man_in p) k None low))
 
 -- ---- where pieces differ
 

@@ -1,6 +1,6 @@
 //! Positions whose pieces are packed into sets of squares: seven numbers in place of 64 squares.
 
-ghost use Rattle.std.specs.Prelude.{◌≡◌, ℕ, ◌<◌, ◌&&◌, ◌||◌, not};
+ghost use Rattle.std.specs.Prelude.{◌≡◌, ℕ, ◌<◌, ◌&&◌, ◌||◌, not, false, None};
 ghost use Rattle.chess_base.specs.Men.{is_of, man_at};
 ghost use Rattle.chess_base.specs.Sound.{IsSound};
 ghost use Rattle.chess_base.specs.declared.man.Colour.TheVariants.{White};
@@ -124,13 +124,25 @@ impl PackedMen {
         Some(Man { colour, kind })
     }
 
+    // The squares of all pieces.
+    fn occupied(&self) -> SquareSet
+        ensures { (k : ℕ) → contains result k ≡ false → man_in self.now k ≡ None }
+    {
+        self.kings
+            .union(self.queens)
+            .union(self.rooks)
+            .union(self.bishops)
+            .union(self.knights)
+            .union(self.pawns)
+    }
+
     // The pieces on all 64 squares, from a1 to h8.
     fn unpacked(&self) -> [Option<Man>; 64]
         ensures { result ≡ men_in self.now }
     {
         let mut men = [None; 64];
-        for number in 0..64 {
-            let square = Square::new(number);
+        let mut left = self.occupied();
+        while let Some(square) = left.take_first() {
             men[square.index()] = self.man_at(square);
         }
         men
