@@ -606,6 +606,96 @@ fn games_are_read(rt: HostRuntime) -> Result<(), Fail> {
     rows_are_read(&rt, rt.alloc(), Bits::new(&tables), &ROWS)
 }
 
+// Words one after another, and what ends their run.
+const RUNS: [Row; 12] = [
+    // The game is over: no move is played after mate.
+    Row {
+        text: b"1. f3 e5 2. g4 Qh4# 3. a3 *",
+        wanted: Wanted::Fault(PgnFaultKind::AfterEnd, 23),
+        ply: 4,
+        declared: None,
+    },
+    // Two knights may go to b5; no pawn to e5.
+    Row {
+        text: b"1. Nf3 e5 2. Nc3 e4 3. Nd4 a6 4. Nb5 *",
+        wanted: Wanted::Fault(PgnFaultKind::AmbiguousMove, 33),
+        ply: 6,
+        declared: None,
+    },
+    Row {
+        text: b"1. e4 e5 2. e5 *",
+        wanted: Wanted::Fault(PgnFaultKind::IllegalMove, 12),
+        ply: 2,
+        declared: None,
+    },
+    // Marks at a move and alone.
+    Row {
+        text: b"1. d4 d5 2. e4!? dxe4 3. Nc3 ?! Nf6 *",
+        wanted: Wanted::Ended(Outcome::Unfinished, 37),
+        ply: 6,
+        declared: None,
+    },
+    // Numbers at a move, twice, and with any value; a number and a move in one word.
+    Row {
+        text: b"1.e4 1. 1... e5 007 2.Nf3 *",
+        wanted: Wanted::Ended(Outcome::Unfinished, 27),
+        ply: 3,
+        declared: None,
+    },
+    Row {
+        text: b"1. e4 e5 2.Nf3 3Nc6 *",
+        wanted: Wanted::Fault(PgnFaultKind::BadToken, 15),
+        ply: 3,
+        declared: None,
+    },
+    // A tag after a move.
+    Row {
+        text: b"1. e4 e5 [Event \"a\"] *",
+        wanted: Wanted::Fault(PgnFaultKind::NoResult, 9),
+        ply: 2,
+        declared: None,
+    },
+    // Words of one to seven bytes before the text's end.
+    Row {
+        text: b"1. e4 e5 2. Nf3 Nc6 3. Bb5 a6 4. Bxc6",
+        wanted: Wanted::Fault(PgnFaultKind::NoResult, 37),
+        ply: 7,
+        declared: None,
+    },
+    Row {
+        text: b"e4 e5 Nf3 Nc6 Bb5 a6 Bxc6 dxc6 O-O Bg4 h3 Bxf3 Qxf3+",
+        wanted: Wanted::Fault(PgnFaultKind::NoResult, 52),
+        ply: 13,
+        declared: None,
+    },
+    Row {
+        text: b"1. e4 e5 2. Nf3 Nc6 3",
+        wanted: Wanted::Fault(PgnFaultKind::NoResult, 21),
+        ply: 4,
+        declared: None,
+    },
+    Row {
+        text: b"1. e4 e5 2. Ng1f3 Nb8-c6 *",
+        wanted: Wanted::Fault(PgnFaultKind::BadToken, 18),
+        ply: 3,
+        declared: None,
+    },
+    // Variations and `%` lines between moves.
+    Row {
+        text: b"1. e4 (1. d4) e5\n% e4\n2. Nf3 *",
+        wanted: Wanted::Ended(Outcome::Unfinished, 30),
+        ply: 3,
+        declared: None,
+    },
+];
+
+#[test]
+fn runs_of_words_are_read(rt: HostRuntime) -> Result<(), Fail> {
+    rows_are_read(&rt, rt.alloc(), Plain::new(), &RUNS)?;
+    let tables = AttackTables::open(rt.alloc())?;
+    rows_are_read(&rt, rt.alloc(), Bits::new(&tables), &RUNS)
+}
+
 // Texts of both variants, and what is read of them.
 const VARIANTS: [Row; 14] = [
     Row {
@@ -848,4 +938,33 @@ fn a_whole_game_is_read(rt: HostRuntime) -> Result<(), Fail> {
     the_opera_is_read(&rt, rt.alloc(), Plain::new())?;
     let tables = AttackTables::open(rt.alloc())?;
     the_opera_is_read(&rt, rt.alloc(), Bits::new(&tables))
+}
+
+// A comment of `len` bytes between two moves is skipped; without its brace it is not closed.
+fn comment_is_skipped<B: Board>(
+    rt: &impl Abort,
+    alloc: Global,
+    game: &mut Game<B>,
+    len: usize,
+) -> Result<(), Fail> {
+    let comment = vec![in alloc; b'x'; len]?;
+    let mut text = vec![in alloc; b' '; 0]?;
+    text.extend_from_slice(b"1. e4 {")?;
+    text.extend_from_slice(comment.as_slice())?;
+    let open = Wanted::Fault(PgnFaultKind::UnclosedComment, 6);
+    is_read_on(rt, text.as_slice(), game, 0, open, 1);
+    text.extend_from_slice(b"} e5 *")?;
+    let closed = Wanted::Ended(Outcome::Unfinished, text.len());
+    is_read_on(rt, text.as_slice(), game, 0, closed, 2);
+    Ok(())
+}
+
+// A comment's end is looked for by 32 bytes at a time: it is found at each place in them.
+#[test]
+fn comments_of_any_length_are_skipped(rt: HostRuntime) -> Result<(), Fail> {
+    let mut game = Game::open(rt.alloc(), Plain::new(), 100)?;
+    for len in 0..100 {
+        comment_is_skipped(&rt, rt.alloc(), &mut game, len)?;
+    }
+    Ok(())
 }
