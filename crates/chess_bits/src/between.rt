@@ -1,6 +1,6 @@
-//! The squares between two squares of one line, in a table.
+//! The squares between two squares of one line, by the rays from both.
 
-ghost use Rattle.std.specs.Prelude.{◌≡◌, ℕ, ◌<◌, ◌≤◌, ◌+◌, ◌*◌, ◌&&◌, true, false, slice_index};
+ghost use Rattle.std.specs.Prelude.{◌≡◌, ℕ, ◌<◌, ◌≤◌, ◌&&◌, true, false};
 ghost use Rattle.chess_base.specs.Squares.{is_between};
 ghost use Rattle.chess_moves.specs.Sets.{contains};
 ghost use Rattle.chess_bits.specs.declared.line.Line.{Line as LineKind};
@@ -10,14 +10,6 @@ use crate::line::Line;
 use crate::rays::Rays;
 use chess_base::Square;
 use chess_moves::SquareSet;
-
-/// For each two squares of one line the squares strictly between them.
-#[derive(Drop)]
-pub struct BetweenTable {
-    sets: [SquareSet; 4096],
-    ghost of_pairs: { (l : LineKind) → (a b k : ℕ) → a < 64 → b < 64 → same_line l a b ≡ true → k < 64
-        → contains (slice_index sets (64 * a + b)) k ≡ is_between a b k },
-}
 
 // The squares above `low` and below `high` on the lines of this kind through both; none if these are two lines.
 #[inline(always)]
@@ -42,33 +34,13 @@ fn rising_between(rays: &Rays, low: Square, high: Square) -> SquareSet
     ranks.union(files).union(diagonals.union(antidiagonals))
 }
 
-// The squares strictly between two squares of one line.
-fn squares_between(rays: &Rays, a: Square, b: Square) -> SquareSet
+/// The squares strictly between two squares of one line.
+#[inline(always)]
+pub fn squares_between(rays: &Rays, a: Square, b: Square) -> SquareSet
     ensures { (l : LineKind) → same_line l a b ≡ true → (k : ℕ) → k < 64 → contains result k ≡ is_between a b k }
 {
     if a.number() < b.number() {
         return rising_between(rays, a, b);
     }
     rising_between(rays, b, a)
-}
-
-impl BetweenTable {
-    /// Computes the table from the rays.
-    pub fn new(rays: &Rays) -> Self {
-        let mut sets = [SquareSet::empty(); 4096];
-        for number in 0..4096_usize {
-            let a = Square::new((number / 64) as u8);
-            let b = Square::new((number % 64) as u8);
-            sets[number] = squares_between(rays, a, b);
-        }
-        BetweenTable { sets }
-    }
-
-    /// The squares strictly between two squares of one line.
-    #[inline(always)]
-    pub fn at(&self, a: Square, b: Square) -> SquareSet
-        ensures { (l : LineKind) → same_line l a b ≡ true → (k : ℕ) → k < 64 → contains result k ≡ is_between a b k }
-    {
-        self.sets[64 * a.index() + b.index()]
-    }
 }

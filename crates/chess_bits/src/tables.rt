@@ -9,7 +9,7 @@ ghost use Rattle.chess_bits.specs.ties.Rays.{is_on_ray, is_open, same_line};
 ghost use Rattle.chess_bits.specs.declared.table.Shape.TheVariants.{King, Knight, Pawn, Lines, Diagonals};
 ghost use Rattle.chess_base.specs.declared.man.Colour.TheVariants.{White, Black};
 
-use crate::between::BetweenTable;
+use crate::between::squares_between;
 use crate::keys::KeyTable;
 use crate::line::Line;
 use crate::rays::Rays;
@@ -18,7 +18,7 @@ use chess_base::{Colour, Square};
 use chess_moves::SquareSet;
 use std::alloc::{AllocError, Global};
 
-// One table for each shape, the squares between two squares, and the keys of position hashes.
+// One table for each shape, and the keys of position hashes.
 #[derive(Drop)]
 struct Tables {
     king: Table,
@@ -28,7 +28,6 @@ struct Tables {
     lines: Table,
     diagonals: Table,
     rays: Rays,
-    between: BetweenTable,
     keys: KeyTable,
     ghost of_king: { king ≡ King },
     ghost of_knight: { knight ≡ Knight },
@@ -38,8 +37,8 @@ struct Tables {
     ghost of_diagonals: { diagonals ≡ Diagonals },
 }
 
-/// What the pieces attack on an empty board, and the rays: fourteen times 64 sets of squares; those between each two
-/// squares, 4,096 sets; and the keys of position hashes, in one box. They never change, and are lent to the boards that look them up.
+/// What the pieces attack on an empty board, and the rays: fourteen times 64 sets of squares; and the keys of position
+/// hashes, in one box. They never change, and are lent to the boards that look them up.
 #[derive(Drop)]
 pub struct AttackTables {
     tables: Box<Tables>,
@@ -66,7 +65,6 @@ impl AttackTables {
     /// # Errors
     /// If there is no memory for them.
     pub fn open(alloc: Global) -> Result<Self, AllocError> {
-        let rays = Rays::new();
         let tables = Tables {
             king: Table::new(Shape::King),
             knight: Table::new(Shape::Knight),
@@ -74,8 +72,7 @@ impl AttackTables {
             black_pawn: Table::new(Shape::Pawn(Colour::Black)),
             lines: Table::new(Shape::Lines),
             diagonals: Table::new(Shape::Diagonals),
-            between: BetweenTable::new(&rays),
-            rays,
+            rays: Rays::new(),
             keys: KeyTable::new(),
         };
         Ok(AttackTables {
@@ -118,7 +115,7 @@ impl AttackTables {
         ensures { (l : LineKind) → same_line l a b ≡ true → (k : ℕ) → k < 64 → contains result k ≡ is_between a b k }
     {
         let tables: &Tables = &self.tables;
-        tables.between.at(a, b)
+        squares_between(&tables.rays, a, b)
     }
 
     /// The squares of the ray from `from` (not included) along that line, with rising numbers if `up`, up to and with
