@@ -56,9 +56,9 @@ enum Reply {
 /// of half-moves that it may have, and the tags with which games are written.
 #[derive(Drop)]
 pub struct Session<B: Board> {
-    desk: Desk<B>,
-    // Where answers are put together. It is kept from line to line, since a new one would be filled with zeros.
-    answer: Answer,
+    game: Game<B>,
+    scratch: B,
+    tags: Tags,
 }
 
 impl<B: Board> Model for Session<B> {
@@ -66,23 +66,7 @@ impl<B: Board> Model for Session<B> {
 
     ghost Value = { SessionSeen };
 
-    ghost view = { λ s. s.desk };
-}
-
-// What a session has but for its buffer: the game, a scratch board, and the tags with which games are written.
-#[derive(Drop)]
-struct Desk<B: Board> {
-    game: Game<B>,
-    scratch: B,
-    tags: Tags,
-}
-
-impl<B: Board> Model for Desk<B> {
-    ghost use Rattle.chess_cecp.specs.Held.{SessionSeen};
-
-    ghost Value = { SessionSeen };
-
-    ghost view = { λ d. record { tags = d.tags; limit = d.game.limit; state = d.game.state } };
+    ghost view = { λ s. record { tags = s.tags; limit = s.game.limit; state = s.game.state } };
 }
 
 impl<B: Board + Drop> Session<B> {
@@ -104,12 +88,9 @@ impl<B: Board + Drop> Session<B> {
         ensures { IfOk result (λ s. s ≡ opened_session tags limit) }
     {
         Ok(Session {
-            desk: Desk {
-                game: Game::open(alloc, board, limit)?,
-                scratch,
-                tags,
-            },
-            answer: Answer::new(),
+            game: Game::open(alloc, board, limit)?,
+            scratch,
+            tags,
         })
     }
 }
@@ -117,40 +98,6 @@ impl<B: Board + Drop> Session<B> {
 impl<B: Board> Session<B> {
     /// The current position of the game.
     pub fn position(&self) -> Position
-        ensures value { result ≡ current self.now.state }
-        ensures playable { IsPlayable (game_held self.now) }
-    {
-        self.desk.position()
-    }
-
-    /// Answers a line: changes the game, writes the answer (by one call, but for a game's text), and flushes the
-    /// writer. Returns whether the session goes on, which it does but after `quit`.
-    ///
-    /// # Errors
-    /// If a write or the flush fails. The change is kept, and a beginning of the answer was written.
-    pub fn answer<W: Output>(
-        &mut self,
-        line: &Line<COMMAND_LEN>,
-        writer: &mut W,
-    ) -> Result<Go, WriteFault>
-        ensures next { self.new ≡ (session_response self.old line.now).state }
-        ensures written { Sends (W.seen writer.old) (W.seen writer.new) result
-            (session_response self.old line.now).text }
-        ensures go { IfOk result
-            (λ go. go ≡ (if (session_response self.old line.now).ends then Go.Quit else Go.On)) }
-
-        // In single facts, in addition to the table.
-        ensures refused { IsRefusal (session_response self.old line.now).text → self.new ≡ self.old }
-        ensures kept { (self.new.tags ≡ self.old.tags) × (self.new.limit ≡ self.old.limit) }
-    {
-        self.answer.clear();
-        self.desk.answer(line, &mut self.answer, writer)
-    }
-}
-
-impl<B: Board> Desk<B> {
-    // The current position of the game.
-    fn position(&self) -> Position
         ensures value { result ≡ current self.now.state }
         ensures playable { IsPlayable (game_held self.now) }
     {
@@ -462,23 +409,28 @@ impl<B: Board> Desk<B> {
         writer.flush()
     }
 
-    // Answers a line, with its answer put together in `answer`, as the session's method of this name says.
-    fn answer<W: Output>(
+    /// Answers a line: changes the game, writes the answer (by one call, but for a game's text), and flushes the
+    /// writer. Returns whether the session goes on, which it does but after `quit`.
+    ///
+    /// # Errors
+    /// If a write or the flush fails. The change is kept, and a beginning of the answer was written.
+    pub fn answer<W: Output>(
         &mut self,
         line: &Line<COMMAND_LEN>,
-        answer: &mut Answer,
         writer: &mut W,
     ) -> Result<Go, WriteFault>
-        requires { answer.old.items ≡ [] }
         ensures next { self.new ≡ (session_response self.old line.now).state }
         ensures written { Sends (W.seen writer.old) (W.seen writer.new) result
             (session_response self.old line.now).text }
         ensures go { IfOk result
             (λ go. go ≡ (if (session_response self.old line.now).ends then Go.Quit else Go.On)) }
+
+        // In single facts, in addition to the table.
         ensures refused { IsRefusal (session_response self.old line.now).text → self.new ≡ self.old }
         ensures kept { (self.new.tags ≡ self.old.tags) × (self.new.limit ≡ self.old.limit) }
     {
-        match self.obey_line(line, answer) {
+        let mut answer = Answer::new();
+        match self.obey_line(line, &mut answer) {
             Reply::Text(go) => {
                 send(writer, answer.as_slice())?;
                 Ok(go)

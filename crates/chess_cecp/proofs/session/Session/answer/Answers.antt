@@ -4,7 +4,7 @@ use Rattle.std.proofs.Common.{refl, ◌∙◌}
 use Rattle.chess_cecp.proofs.Ends.{text_go}
 use Rattle.chess_cecp.proofs.PgnRow.{by_pgn}
 use Rattle.chess_cecp.proofs.Refusals.{refused, tags_and_limit_stay}
-use Rattle.chess_cecp.proofs.session.Desk.answer.Goals as goal
+use Rattle.chess_cecp.proofs.session.Session.answer.Goals as goal
 
 pub returns-in_err-send-in-Text-clause-refused : goal.returns-in_err-send-in-Text-clause-refused
 returns-in_err-send-in-Text-clause-refused g c = refused c.args.self.now c.obey_line.new.self c.args.line.now
