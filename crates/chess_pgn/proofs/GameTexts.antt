@@ -171,23 +171,40 @@ number_broke a b w prefix column f p q m same h =
     (placed_all prefix (column_after_all column number) (san p m ∷ []))
     (subst (λ (s : Setup). BreaksOff a b (w ++ placed_all prefix column (number_token s.side f s.fullmove))) same h))
 
--- the number was put, and what became of the move became of both
-pub move_adds : {A E : Type 0} (a b c : OutputState) (r : Result A E) (w x y prefix before text : List ℕ)
-    (column col : ℕ) (f : Bool) (p q : Setup) (m : Move) → q ≡ p → before ≡ prefix
-    → col ≡ column_after_all column (number_token q.side f q.fullmove) → text ≡ san p m
+-- the move could not be put
+pub move_broke : (a b c : OutputState) (w x prefix before text : List ℕ) (column col : ℕ) (f : Bool) (p q : Setup)
+    (m : Move) → q ≡ p → before ≡ prefix → col ≡ column_after_all column (number_token q.side f q.fullmove)
+    → text ≡ san p m
     → TookSome a b w x (placed_all prefix column (number_token q.side f q.fullmove))
-    → Adds b c x y r (wrapped_token before col text)
-    → Adds a c w y r (placed_all prefix column (tokens_of_move f p m))
-move_adds a b c r w x y prefix before text column col f p q m same pre is said h k =
+    → BreaksOff b c (x ++ wrapped_token before col text)
+    → BreaksOff a c (w ++ placed_all prefix column (tokens_of_move f p m))
+move_broke a b c w x prefix before text column col f p q m same pre is said h k =
     let number : List (List ℕ) = number_token p.side f p.fullmove in
     let here : col ≡ column_after_all column number =
     is ∙ ap (λ (s : Setup). column_after_all column (number_token s.side f s.fullmove)) same in
-    subst (Adds a c w y r) (sym (placed_all-append prefix column number (san p m ∷ [])))
-    (adds_more a b c r w x y (placed_all prefix column number)
+    subst (λ v. BreaksOff a c (w ++ v)) (sym (placed_all-append prefix column number (san p m ∷ [])))
+    (added_break a b c w x (placed_all prefix column number)
     (placed_all prefix (column_after_all column number) (san p m ∷ []))
     (subst (λ (s : Setup). TookSome a b w x (placed_all prefix column (number_token s.side f s.fullmove))) same h)
-    (subst (Adds b c x y r) (one_placed prefix before text (san p m) (column_after_all column number) col pre here said)
-    k))
+    (subst (λ v. BreaksOff b c (x ++ v)) (one_placed prefix before text (san p m) (column_after_all column number) col
+    pre here said) k))
+
+-- both were put
+pub move_put : (a b c : OutputState) (w x y prefix before text : List ℕ) (column col : ℕ) (f : Bool) (p q : Setup)
+    (m : Move) → q ≡ p → before ≡ prefix → col ≡ column_after_all column (number_token q.side f q.fullmove)
+    → text ≡ san p m
+    → TookSome a b w x (placed_all prefix column (number_token q.side f q.fullmove))
+    → TookSome b c x y (wrapped_token before col text) → TookSome a c w y (placed_all prefix column (tokens_of_move f p m))
+move_put a b c w x y prefix before text column col f p q m same pre is said h k =
+    let number : List (List ℕ) = number_token p.side f p.fullmove in
+    let here : col ≡ column_after_all column number =
+    is ∙ ap (λ (s : Setup). column_after_all column (number_token s.side f s.fullmove)) same in
+    subst (TookSome a c w y) (sym (placed_all-append prefix column number (san p m ∷ [])))
+    (added_more a b c w x y (placed_all prefix column number)
+    (placed_all prefix (column_after_all column number) (san p m ∷ []))
+    (subst (λ (s : Setup). TookSome a b w x (placed_all prefix column (number_token s.side f s.fullmove))) same h)
+    (subst (TookSome b c x y) (one_placed prefix before text (san p m) (column_after_all column number) col pre here
+    said) k))
 
 -- ---- the tokens of moves, one move after another
 

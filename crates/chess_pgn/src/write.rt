@@ -10,6 +10,7 @@ ghost use Rattle.chess_pgn.specs.ties.Lines.{placed_all, column_after_all};
 ghost use Rattle.chess_pgn.specs.ties.Waiting.{Adds};
 ghost use Rattle.chess_pgn.specs.Written.{ended, move_text_of};
 ghost use Rattle.chess_text.specs.San.{san};
+ghost use Rattle.chess_moves.specs.Made.{IsMade};
 
 use crate::lines::LineWriter;
 use crate::tag_lines::put_tags;
@@ -17,7 +18,7 @@ use crate::tags::{TagPair, Tags};
 use crate::termination::Termination;
 use arrayvec::ArrayVec;
 use byte_devices::{Output, WriteFault, append, append_number};
-use chess_base::{Colour, Move, Position, Setup, Variant};
+use chess_base::{Colour, Move, Position, Saved, Setup, Variant};
 use chess_fen::write_fen;
 use chess_game::{Game, Outcome};
 use chess_moves::Board;
@@ -288,24 +289,32 @@ fn put_move<B: Board, W: Output>(
     // The prover wants this law: the SAN of a legal move is short enough for a line.
     san_is_a_word();
     put_number(lines, writer, board.setup(), is_first)?;
-    let text = make_san(board, m);
-    lines.put_token(writer, text.as_slice())
+    let again = m;
+    let (text, saved) = make_san(board, m);
+    match lines.put_token(writer, text.as_slice()) {
+        Ok(()) => Ok(()),
+        Err(fault) => {
+            board.take_back(again, saved);
+            Err(fault)
+        }
+    }
 }
 
-// Makes the legal move `m` on the board, and returns its SAN. Its mark is found where the move leads, so the move is
-// made only once.
-fn make_san<B: Board>(board: &mut B, m: Move) -> SanText
+// Makes the legal move `m` on the board, and returns its SAN, and what `take_back` needs. The mark is found where the
+// move leads, so the move is made only once.
+fn make_san<B: Board>(board: &mut B, m: Move) -> (SanText, Saved)
     requires { IsTrue (is_legal (B.position board.old) m) }
-    ensures text { result.items ≡ san (B.position board.old) m }
-    ensures len { array_vec_len result ≤ 7 }
+    ensures text { result.0.items ≡ san (B.position board.old) m }
+    ensures len { array_vec_len result.0 ≤ 7 }
     ensures position { B.position board.new ≡ after (B.position board.old) m }
+    ensures made { IsMade (B.position board.new) m result.1 }
 {
     // The prover wants two variables here: one move is lent, and one is given to the board.
     let again = m;
     let mut text = unmarked_san(board, &m);
-    board.make(again);
+    let saved = board.make(again);
     add_check_mark(board, &mut text);
-    text
+    (text, saved)
 }
 
 // Writes the number before a move in the position `setup`: `12.` before each of White's, and `12...` if the game's

@@ -1,8 +1,8 @@
 -- The tokens of a move are its number, where it has one, and then its SAN, at the column to which the number came
--- (GameTexts.move_adds).
+-- (GameTexts.move_put).
 use Rattle.std.proofs.Common.{◌∙◌}
 use Rattle.chess_pgn.proofs.Added.{adds_exit}
-use Rattle.chess_pgn.proofs.GameTexts.{number_broke, move_adds}
+use Rattle.chess_pgn.proofs.GameTexts.{number_broke, move_broke, move_put}
 use Rattle.chess_pgn.proofs.write.put_move.Goals as goal
 
 pub returns-in_err-put_number-clause-added : goal.returns-in_err-put_number-clause-added
@@ -13,10 +13,16 @@ returns-in_err-put_number-clause-added g c =
     c.in_err-put_number.ensures.added)
     c.from_residual.ensures.0
 
-pub returns-clause-added : goal.returns-clause-added
-returns-clause-added g c =
-    move_adds _ _ _ c.put_token.result _ _ _ c.args.lines.now.prefix.now _ c.as_slice.result.now
-    c.args.lines.now.column _ c.args.is_first (g.B.Board.position c.args.board.now) c.setup.result.now c.args.m
-    c.setup.ensures.value c.in_ok-put_number.ensures.prefix c.in_ok-put_number.ensures.column
-    (c.as_slice.ensures.value ∙ c.make_san-text.ensures.text) c.in_ok-put_number.ensures.added
-    c.put_token.ensures.added
+pub returns-in-Ok-clause-added : goal.returns-in-Ok-clause-added
+returns-in-Ok-clause-added g c =
+    move_put _ _ _ _ _ _ c.args.lines.now.prefix.now _ c.as_slice.result.now c.args.lines.now.column _ c.args.is_first
+    (g.B.Board.position c.args.board.now) c.setup.result.now c.args.m c.setup.ensures.value
+    c.in_ok-put_number.ensures.prefix c.in_ok-put_number.ensures.column
+    (c.as_slice.ensures.value ∙ c.make_san-text.ensures.text) c.in_ok-put_number.ensures.added c.in-Ok.ensures.added
+
+pub returns-in-Err-clause-added : goal.returns-in-Err-clause-added
+returns-in-Err-clause-added g c =
+    move_broke _ _ _ _ _ c.args.lines.now.prefix.now _ c.as_slice.result.now c.args.lines.now.column _ c.args.is_first
+    (g.B.Board.position c.args.board.now) c.setup.result.now c.args.m c.setup.ensures.value
+    c.in_ok-put_number.ensures.prefix c.in_ok-put_number.ensures.column
+    (c.as_slice.ensures.value ∙ c.make_san-text.ensures.text) c.in_ok-put_number.ensures.added c.in-Err.ensures.added
