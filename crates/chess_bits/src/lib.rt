@@ -20,7 +20,6 @@ mod line;
 mod listing;
 mod pawns;
 mod placing;
-mod rays;
 mod reaching;
 mod sets;
 mod shielding;

@@ -3,16 +3,13 @@
 ghost use Rattle.std.specs.Prelude.{◌≡◌, ℕ, ◌<◌, ◌&&◌, ◌||◌, true, false};
 ghost use Rattle.chess_moves.specs.Sets.{contains, is_beyond};
 ghost use Rattle.chess_bits.specs.ties.Shapes.{in_shape};
-ghost use Rattle.chess_base.specs.Squares.{is_between};
-ghost use Rattle.chess_bits.specs.declared.line.Line.{Line as LineKind};
-ghost use Rattle.chess_bits.specs.ties.Rays.{is_on_ray, is_open, same_line};
-ghost use Rattle.chess_bits.specs.declared.table.Shape.TheVariants.{King, Knight, Pawn, Lines, Diagonals};
+ghost use Rattle.chess_bits.specs.ties.Rays.{is_on_ray, is_open};
+ghost use Rattle.chess_bits.specs.declared.table.Shape.TheVariants.{King, Knight, Pawn, Lines, Diagonals, Ray};
+ghost use Rattle.chess_bits.specs.declared.line.Line.TheVariants.{Rank, File, Diagonal, Antidiagonal};
 ghost use Rattle.chess_base.specs.declared.man.Colour.TheVariants.{White, Black};
 
-use crate::between::squares_between;
 use crate::keys::KeyTable;
 use crate::line::Line;
-use crate::rays::Rays;
 use crate::table::{Shape, Table};
 use chess_base::{Colour, Square};
 use chess_moves::SquareSet;
@@ -27,7 +24,14 @@ struct Tables {
     black_pawn: Table,
     lines: Table,
     diagonals: Table,
-    rays: Rays,
+    rank_up: Table,
+    rank_down: Table,
+    file_up: Table,
+    file_down: Table,
+    diagonal_up: Table,
+    diagonal_down: Table,
+    antidiagonal_up: Table,
+    antidiagonal_down: Table,
     keys: KeyTable,
     ghost of_king: { king ≡ King },
     ghost of_knight: { knight ≡ Knight },
@@ -35,9 +39,17 @@ struct Tables {
     ghost of_black_pawn: { black_pawn ≡ Pawn Black },
     ghost of_lines: { lines ≡ Lines },
     ghost of_diagonals: { diagonals ≡ Diagonals },
+    ghost of_rank_up: { rank_up ≡ Ray Rank true },
+    ghost of_rank_down: { rank_down ≡ Ray Rank false },
+    ghost of_file_up: { file_up ≡ Ray File true },
+    ghost of_file_down: { file_down ≡ Ray File false },
+    ghost of_diagonal_up: { diagonal_up ≡ Ray Diagonal true },
+    ghost of_diagonal_down: { diagonal_down ≡ Ray Diagonal false },
+    ghost of_antidiagonal_up: { antidiagonal_up ≡ Ray Antidiagonal true },
+    ghost of_antidiagonal_down: { antidiagonal_down ≡ Ray Antidiagonal false },
 }
 
-/// What the pieces attack on an empty board, and the rays: fourteen times 64 sets of squares; and the keys of position
+/// What the pieces attack on an empty board, and the rays: fourteen times 64 sets of squares, and the keys of position
 /// hashes, in one box. They never change, and are lent to the boards that look them up.
 #[derive(Drop)]
 pub struct AttackTables {
@@ -72,7 +84,14 @@ impl AttackTables {
             black_pawn: Table::new(Shape::Pawn(Colour::Black)),
             lines: Table::new(Shape::Lines),
             diagonals: Table::new(Shape::Diagonals),
-            rays: Rays::new(),
+            rank_up: Table::new(Shape::Ray(Line::Rank, true)),
+            rank_down: Table::new(Shape::Ray(Line::Rank, false)),
+            file_up: Table::new(Shape::Ray(Line::File, true)),
+            file_down: Table::new(Shape::Ray(Line::File, false)),
+            diagonal_up: Table::new(Shape::Ray(Line::Diagonal, true)),
+            diagonal_down: Table::new(Shape::Ray(Line::Diagonal, false)),
+            antidiagonal_up: Table::new(Shape::Ray(Line::Antidiagonal, true)),
+            antidiagonal_down: Table::new(Shape::Ray(Line::Antidiagonal, false)),
             keys: KeyTable::new(),
         };
         Ok(AttackTables {
@@ -98,7 +117,14 @@ impl AttackTables {
             Shape::Pawn(Colour::Black) => &tables.black_pawn,
             Shape::Lines => &tables.lines,
             Shape::Diagonals => &tables.diagonals,
-            Shape::Ray(line, up) => tables.rays.table(line, up),
+            Shape::Ray(Line::Rank, true) => &tables.rank_up,
+            Shape::Ray(Line::Rank, false) => &tables.rank_down,
+            Shape::Ray(Line::File, true) => &tables.file_up,
+            Shape::Ray(Line::File, false) => &tables.file_down,
+            Shape::Ray(Line::Diagonal, true) => &tables.diagonal_up,
+            Shape::Ray(Line::Diagonal, false) => &tables.diagonal_down,
+            Shape::Ray(Line::Antidiagonal, true) => &tables.antidiagonal_up,
+            Shape::Ray(Line::Antidiagonal, false) => &tables.antidiagonal_down,
         }
     }
 
@@ -107,15 +133,6 @@ impl AttackTables {
         ensures { (k : ℕ) → k < 64 → contains result k ≡ in_shape shape square k }
     {
         self.table(shape).at(square)
-    }
-
-    /// The squares strictly between two squares of one line.
-    #[inline(always)]
-    pub(crate) fn between(&self, a: Square, b: Square) -> SquareSet
-        ensures { (l : LineKind) → same_line l a b ≡ true → (k : ℕ) → k < 64 → contains result k ≡ is_between a b k }
-    {
-        let tables: &Tables = &self.tables;
-        squares_between(&tables.rays, a, b)
     }
 
     /// The squares of the ray from `from` (not included) along that line, with rising numbers if `up`, up to and with
