@@ -1,6 +1,6 @@
 //! Inputs that are awkward: the shortest pieces, what is opened and never closed, long games, many queens.
 
-use crate::boards::ask_position;
+use crate::boards::ask_walk;
 use crate::collections::{CAREFUL, QUIET, verify_text};
 use crate::digest::Digest;
 use crate::random::Random;
@@ -23,7 +23,7 @@ const SHORT: [&[u8]; 4] = [
 
 const UNCLOSED: [&[u8]; 4] = [b"1. e4 (", b"1. d4 {", b"(((((((((", b"1. e4 e5 [x \"y"];
 
-// Adds so many of the shortest pieces.
+// So many of the shortest pieces, as a text.
 fn short_pieces(alloc: Global, count: usize, random: &mut Random) -> Result<Vec<u8>, AllocError> {
     let mut text = Vec::new(alloc);
     for _ in 0..count {
@@ -32,7 +32,7 @@ fn short_pieces(alloc: Global, count: usize, random: &mut Random) -> Result<Vec<
     Ok(text)
 }
 
-// Adds so many pieces in which something is opened that is never closed.
+// So many pieces in which something is opened that is never closed, as a text.
 fn unclosed_pieces(
     alloc: Global,
     count: usize,
@@ -105,7 +105,7 @@ fn long_games(
     answer_lines(alloc, lines.as_slice(), digest)
 }
 
-// Walks through positions with many queens, and asks some of them all that a board answers.
+// Walks from positions with many queens, and asks each sixth position all that a board answers.
 fn many_queens(
     alloc: Global,
     walks: usize,
@@ -113,20 +113,10 @@ fn many_queens(
     digest: &mut Digest,
 ) -> Result<(), AllocError> {
     let tables = AttackTables::open(alloc)?;
-    let mut game = Game::open(alloc, Bits::new(&tables), MOST_MOVES)?;
     let mut board = Bits::new(&tables);
-    let mut texts = Vec::new(alloc);
     for _ in 0..walks {
-        game.restart(&start_of(random.one_of(&QUEENS)));
-        texts.clear();
-        walk_on(
-            &mut game,
-            Style::Lively,
-            1 + random.below(6),
-            random,
-            &mut texts,
-        )?;
-        ask_position(&mut board, &game.position(), 2, random, digest);
+        let start = start_of(random.one_of(&QUEENS));
+        ask_walk(&mut board, &start, 11, 2, random, digest);
     }
     Ok(())
 }

@@ -6,11 +6,10 @@ ghost use Rattle.chess_base.specs.Moves.{is_legal};
 use crate::digest::Digest;
 use crate::random::Random;
 use crate::starts::{QUEENS, fischerandom_start, start_of};
-use crate::walk::{Style, walk_on};
+use crate::walk::{Style, choose, next_move};
 use chess_base::{Move, Position};
 use chess_bits::{AttackTables, Bits};
 use chess_fen::{read_fen_as, write_fen};
-use chess_game::{Game, MOST_MOVES};
 use chess_moves::{Board, Plain};
 use chess_text::{Reading, coordinate, read_move, san};
 use std::alloc::{AllocError, Global};
@@ -57,43 +56,46 @@ fn add_reading(reading: Reading, digest: &mut Digest) {
     }
 }
 
-// Writes a legal move as SAN and by squares, reads both texts, and makes the move and takes it back.
-fn go_through<B: Board>(board: &mut B, m: &Move, digest: &mut Digest)
+// Writes a legal move as SAN and by squares, reads both texts, makes the move, counts the lines of `depth` legal moves
+// after it, and takes it back.
+fn go_through<B: Board>(board: &mut B, m: &Move, depth: u8, digest: &mut Digest)
     requires { IsTrue (is_legal (B.position board.old) m.now) }
     ensures { B.position board.new ≡ B.position board.old }
 {
     let text = san(board, *m);
+    digest.add(number_of(m));
     digest.add_bytes(text.as_slice());
     add_reading(read_move(board, text.as_slice()), digest);
     add_reading(read_move(board, coordinate(*m).as_slice()), digest);
     let saved = board.make(*m);
     digest.add(board.word());
     digest.add(u64::from(board.in_check()));
+    digest.add(count_lines(board, depth));
     board.take_back(*m, saved);
 }
 
-// Does so with each legal move of the board's position.
-fn go_over<B: Board>(board: &mut B, digest: &mut Digest) {
+// Does so with each legal move of the board's position, and returns one of them.
+fn go_over<B: Board>(
+    board: &mut B,
+    depth: u8,
+    random: &mut Random,
+    digest: &mut Digest,
+) -> Option<Move> {
     let moves = board.legal_moves();
     for m in moves.as_slice() {
-        go_through(board, m, digest);
+        go_through(board, m, depth, digest);
     }
+    choose(board.setup(), moves.as_slice(), Style::Lively, random)
 }
 
-// Adds the list of legal moves to the digest.
-fn list_moves<B: Board>(board: &B, digest: &mut Digest) {
-    let moves = board.legal_moves();
-    for m in moves.as_slice() {
-        digest.add(number_of(m));
-    }
-    digest.add(board.legal_move_count() as u64);
-}
-
-// Asks of a few moves, most of them illegal, whether they are legal.
+// Lists the legal moves on the plain board, and asks of a few moves, most of them illegal, whether they are legal.
 fn judge_moves(position: &Position, random: &mut Random, digest: &mut Digest) {
     let mut plain = Plain::new();
     plain.set(position);
     let moves = plain.legal_moves();
+    for m in moves.as_slice() {
+        digest.add(number_of(m));
+    }
     for _ in 0..8 {
         if let (Some(one), Some(other)) = (
             moves.as_slice().get(random.below(moves.len())),
@@ -107,7 +109,6 @@ fn judge_moves(position: &Position, random: &mut Random, digest: &mut Digest) {
             digest.add(u64::from(position.is_legal(mixed)));
         }
     }
-    list_moves(&plain, digest);
 }
 
 // Writes the position as FEN and reads it again.
@@ -120,20 +121,56 @@ fn through_fen(position: &Position, digest: &mut Digest) -> Position {
     }
 }
 
-/// Asks all of one position: its FEN, its moves on both boards, and lines on both.
-pub fn ask_position(
+// Asks all of the board's position: its FEN, its moves on both boards, and the lines of `depth` moves after each; returns
+// one of the moves.
+fn ask_position(
     board: &mut Bits<'_>,
-    position: &Position,
     depth: u8,
     random: &mut Random,
     digest: &mut Digest,
-) {
-    let again = through_fen(position, digest);
+) -> Option<Move> {
+    let again = through_fen(&board.position(), digest);
     board.set(&again);
-    list_moves(board, digest);
-    go_over(board, digest);
-    digest.add(count_lines(board, depth));
     judge_moves(&again, random, digest);
+    go_over(board, depth, random, digest)
+}
+
+// What the walk does at the board's position: it asks all that a board answers, if this is a sixth position, and returns
+// the move with which it goes on. At the last position the lines of `last_depth` moves after each move are counted.
+fn step(
+    board: &mut Bits<'_>,
+    left: usize,
+    last_depth: u8,
+    random: &mut Random,
+    digest: &mut Digest,
+) -> Option<Move> {
+    match left {
+        0 => ask_position(board, last_depth, random, digest),
+        _ if left % 6 == 0 => ask_position(board, 1, random, digest),
+        _ => next_move(board, Style::Lively, random),
+    }
+}
+
+/// Walks through so many positions and one more, each reached once, and asks each sixth and the last all that a board
+/// answers.
+pub fn ask_walk(
+    board: &mut Bits<'_>,
+    start: &Position,
+    positions: usize,
+    last_depth: u8,
+    random: &mut Random,
+    digest: &mut Digest,
+) {
+    board.set(start);
+    for number in 0..=positions {
+        let Some(m) = step(board, positions - number, last_depth, random, digest) else {
+            return;
+        };
+        if !board.is_legal(&m) {
+            return;
+        }
+        board.make(m);
+    }
 }
 
 // The start of the walk with this number: the initial position, one of Chess960, or one with many queens.
@@ -145,41 +182,29 @@ fn start_for(number: usize, random: &mut Random) -> Position {
     }
 }
 
-// Asks some positions of the game: every few half-moves, and at times lines of four moves.
-fn ask_game(board: &mut Bits<'_>, game: &Game<Bits<'_>>, random: &mut Random, digest: &mut Digest) {
-    for ply in 0..game.ply() {
-        if ply % 6 == 5 {
-            let depth = if random.once_in(8) { 4 } else { 2 };
-            ask_position(board, &game.position_at(ply), depth, random, digest);
-        }
-    }
-}
-
-/// Walks through so many games, and asks every few half-moves all that a board answers.
+/// Makes so many walks, and asks each sixth position of each all that a board answers, and at the last one counts the
+/// lines of four moves.
 ///
 /// # Errors
 /// If memory runs out.
 pub fn ask_boards(
     alloc: Global,
-    games: usize,
+    walks: usize,
     random: &mut Random,
     digest: &mut Digest,
 ) -> Result<(), AllocError> {
     let tables = AttackTables::open(alloc)?;
-    let mut game = Game::open(alloc, Bits::new(&tables), MOST_MOVES)?;
     let mut board = Bits::new(&tables);
-    let mut texts = Vec::new(alloc);
-    for number in 0..games {
-        game.restart(&start_for(number, random));
-        texts.clear();
-        walk_on(
-            &mut game,
-            Style::Lively,
-            20 + random.below(80),
+    for number in 0..walks {
+        let start = start_for(number, random);
+        ask_walk(
+            &mut board,
+            &start,
+            23 + 6 * random.below(13),
+            3,
             random,
-            &mut texts,
-        )?;
-        ask_game(&mut board, &game, random, digest);
+            digest,
+        );
     }
     Ok(())
 }

@@ -180,8 +180,15 @@ fn ends(alloc: Global, text: &[u8]) -> Ends<Counted<PieceReader<'_>>, Counted<Pi
 // Adds how a match ended to the digest.
 fn add_end(end: &MatchEnd, digest: &mut Digest) {
     digest.add_bytes(end.outcome.text());
+    digest.add_bytes(end.comment.as_bytes());
+    digest.add(end.ended as u64);
     digest.add_bytes(end.white_name.as_bytes());
-    digest.add(u64::from(end.fault.is_some()));
+    digest.add_bytes(end.black_name.as_bytes());
+    match end.fault {
+        None => digest.add(0),
+        Some((Colour::White, fault)) => digest.add(1 + fault as u64),
+        Some((Colour::Black, fault)) => digest.add(101 + fault as u64),
+    }
 }
 
 // Plays the match of a script before a log, and adds all that both engines were sent, and the end, to the digest.

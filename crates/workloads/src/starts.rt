@@ -68,9 +68,9 @@ pub fn fischerandom_start(random: &mut Random) -> Position {
     }
 }
 
-/// Positions with as many queens as pawns can become.
+/// Positions with many queens: nine a side, nine of White, four or five a side.
 pub const QUEENS: [&[u8]; 3] = [
-    b"qqqq4/qqqqq2k/8/8/8/8/2QQQQQ1/K2QQQQ1 w - - 0 1",
+    b"4qqqk/5qqq/5qqq/8/8/QQQ5/QQQ5/KQQQ4 w - - 0 1",
     b"R6R/3Q4/1Q4Q1/4Q3/2Q4Q/Q4Q2/pp1Q4/kBNN1KB1 w - - 0 1",
     b"q3k2q/1q4q1/2q2q2/8/8/2Q2Q2/1Q4Q1/Q3K2Q w - - 0 1",
 ];

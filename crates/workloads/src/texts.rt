@@ -4,7 +4,7 @@ use crate::random::Random;
 use crate::walk::Texts;
 use std::alloc::AllocError;
 
-/// A game to be written: its number in the collection, its SAN, its outcome, and what its first move is.
+/// A game to be written: its number in the collection, its SAN and its outcome.
 #[derive(Clone, Copy)]
 pub struct Record<'a> {
     pub number: usize,

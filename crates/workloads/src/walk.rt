@@ -54,13 +54,11 @@ fn long_weight(setup: &Setup, m: &Move) -> usize {
     }
 }
 
-// A legal move of the board's position, chosen by the style; `None` if there is none.
-fn next_move(board: &Bits<'_>, style: Style, random: &mut Random) -> Option<Move> {
-    let moves = board.legal_moves();
-    let setup = board.setup();
+/// One of these moves of a position, chosen by the style; `None` if there are none.
+pub fn choose(setup: &Setup, moves: &[Move], style: Style, random: &mut Random) -> Option<Move> {
     let mut chosen = None;
     for _ in 0..24 {
-        let m = *moves.as_slice().get(random.below(moves.len()))?;
+        let m = *moves.get(random.below(moves.len()))?;
         let weight = match style {
             Style::Lively => lively_weight(setup, &m),
             Style::Long => long_weight(setup, &m),
@@ -71,6 +69,12 @@ fn next_move(board: &Bits<'_>, style: Style, random: &mut Random) -> Option<Move
         chosen = Some(m);
     }
     chosen
+}
+
+/// A legal move of the board's position, chosen by the style; `None` if there is none.
+pub fn next_move(board: &Bits<'_>, style: Style, random: &mut Random) -> Option<Move> {
+    let moves = board.legal_moves();
+    choose(board.setup(), moves.as_slice(), style, random)
 }
 
 /// The moves of a walk, each as SAN.
