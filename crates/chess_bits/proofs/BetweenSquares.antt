@@ -103,7 +103,7 @@ none_square p = none_below 64 p
 abbrev pub are_on_line : ℕ → ℕ → Bool
 are_on_line a b = share_rank_or_file a b || share_diagonal a b
 
-by_line : (a b v k : ℕ) → a < 64 → b < 64 → are_on_line b a ≡ true
+pub by_line : (a b v k : ℕ) → a < 64 → b < 64 → are_on_line b a ≡ true
     → ((l : Line) → same_line l a b ≡ true → contains v k ≡ is_between a b k)
     → contains v k ≡ is_between a b k
 by_line a b v k la lb on made =

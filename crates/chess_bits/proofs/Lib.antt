@@ -31,3 +31,4 @@ pub mod CastlingAtHome
 pub mod CastlingSafely
 pub mod PawnStarts
 pub mod PawnsCounted
+pub mod Bounds

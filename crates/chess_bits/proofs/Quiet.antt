@@ -76,7 +76,7 @@ empty_before : (t : Bool) (arr o : Option Man) → is_none arr ≡ false → is_
 empty_before true arr o g e = absurd (both_ways _ g e)
 empty_before false arr o g e = e
 
-lands_over : (p : Setup) (m : Move) (k : ℕ) → length p.men ≡ 64 → m.from < 64 → IsPlain p m → k < 64
+pub lands_over : (p : Setup) (m : Move) (k : ℕ) → length p.men ≡ 64 → m.from < 64 → IsPlain p m → k < 64
     → man_at (men_after p m) k ≡ cond (mover_end p m == k) (arriving_man (man_at p.men m.from) m.promotion)
     (man_at (lifted p.men m.from) k)
 lands_over p m k all low plain l =

@@ -6,12 +6,14 @@ ghost use Rattle.chess_base.specs.Men.{man_at, is_man, same_kind};
 ghost use Rattle.chess_base.specs.MoveList.{moves, move_of};
 ghost use Rattle.chess_base.specs.Moves.{is_pseudo_legal, is_legal, man_moves, promotion_fits};
 ghost use Rattle.chess_base.specs.declared.man.Kind.TheVariants.{King, Knight, Pawn};
+ghost use Rattle.chess_bits.specs.ties.Bounds.{AreEnds, EndsOn};
 ghost use Rattle.chess_bits.specs.ties.Goes.{goes, IsFree, AreFree};
 ghost use Rattle.chess_moves.specs.ties.Candidates.{moves_between, moves_from};
 ghost use Rattle.chess_moves.specs.Promoting.{would_promote};
 ghost use Rattle.chess_moves.specs.Sets.{contains, members};
 
 use crate::bits::Bits;
+use crate::shielding::Bounds;
 use crate::targets::is_pawn;
 use chess_base::rules::is_man;
 use chess_base::{Kind, Move, Square};
@@ -60,17 +62,27 @@ impl Bits<'_> {
         }
     }
 
+    // How many legal moves there are from the square `from`, which all end on squares of the set `ends`.
+    fn count_to(&self, from: Square, ends: SquareSet) -> usize
+        requires goes { (k : ℕ) → k < 64 → contains ends k ≡ true → goes self.now from k ≡ true }
+        requires all { EndsOn self.now from ends }
+        requires few { length (moves_from self.now from) ≤ 896 }
+        ensures { result ≡ length (moves_from self.now from) }
+    {
+        let mut count = 0;
+        let mut targets = ends;
+        while let Some(to) = targets.take_first() {
+            count += self.count_between(from, to);
+        }
+        count
+    }
+
     // How many legal moves there are from the square `from`.
     fn count_from(&self, from: Square) -> usize
         requires { length (moves_from self.now from) ≤ 896 }
         ensures { result ≡ length (moves_from self.now from) }
     {
-        let mut count = 0;
-        let mut targets = self.targets(from);
-        while let Some(to) = targets.take_first() {
-            count += self.count_between(from, to);
-        }
-        count
+        self.count_to(from, self.targets(from))
     }
 
     // 1 if the king's ordinary move (not castling) from `king` to `to` is legal, else 0.
@@ -166,17 +178,6 @@ impl Bits<'_> {
         }
     }
 
-    // How many legal moves the piece on `from` has.
-    fn count_of(&self, from: Square) -> usize
-        requires { length (moves_from self.now from) ≤ 896 }
-        ensures { result ≡ length (moves_from self.now from) }
-    {
-        if is_man(self.setup.side, Kind::King, self.setup.men[from.index()]) {
-            return self.count_king(from);
-        }
-        self.count_from(from)
-    }
-
     // How many legal moves the pieces on these squares have, each looked at alone.
     fn count_each(&self, men: SquareSet) -> usize
         requires { length (flat_map (λ a. moves_from self.now a) (members men)) ≤ 896 }
@@ -185,26 +186,53 @@ impl Bits<'_> {
         let mut count = 0;
         let mut rest = men;
         while let Some(from) = rest.take_first() {
-            count += self.count_of(from);
+            count += self.count_from(from);
+        }
+        count
+    }
+
+    // How many legal moves the piece on `from` has, given where the pieces may go.
+    fn count_of(&self, from: Square, bounds: &Bounds) -> usize
+        requires ends { AreEnds self.now bounds.now.free bounds.now.ends }
+        requires few { length (moves_from self.now from) ≤ 896 }
+        ensures { result ≡ length (moves_from self.now from) }
+    {
+        if is_man(self.setup.side, Kind::King, self.setup.men[from.index()]) {
+            return self.count_king(from);
+        }
+        self.count_to(from, self.ends_of(from, bounds))
+    }
+
+    // How many legal moves the pieces on these squares have, each looked at alone, given where the pieces may go.
+    fn count_bound(&self, men: SquareSet, bounds: &Bounds) -> usize
+        requires ends { AreEnds self.now bounds.now.free bounds.now.ends }
+        requires few { length (flat_map (λ a. moves_from self.now a) (members men)) ≤ 896 }
+        ensures { result ≡ length (flat_map (λ a. moves_from self.now a) (members men)) }
+    {
+        let mut count = 0;
+        let mut rest = men;
+        while let Some(from) = rest.take_first() {
+            count += self.count_of(from, bounds);
         }
         count
     }
 
     // How many legal moves there are. The free pieces, whose king is safe wherever they go, are counted kind by kind;
-    // then the king and the pieces that may be pinned, or in check all pieces, one by one.
+    // then the king and the pieces that are pinned, or in check all pieces, one by one.
     pub(crate) fn count(&self) -> usize
         ensures { result ≡ length (moves self.now) }
     {
         // The prover wants this fact: the position is sound, so its legal moves fit into a list.
         let _sound = self.setup();
-        let free = self.free_men();
+        let bounds = self.bounds();
+        let free = bounds.free;
         let mut men = self.sets.all(self.setup.side);
         let pawns = self.count_kind(Kind::Pawn, free, &mut men);
         let knights = self.count_kind(Kind::Knight, free, &mut men);
         let bishops = self.count_kind(Kind::Bishop, free, &mut men);
         let rooks = self.count_kind(Kind::Rook, free, &mut men);
         let queens = self.count_kind(Kind::Queen, free, &mut men);
-        let others = self.count_each(men);
+        let others = self.count_bound(men, &bounds);
         pawns + knights + bishops + rooks + queens + others
     }
 

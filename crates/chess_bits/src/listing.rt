@@ -7,12 +7,14 @@ ghost use Rattle.chess_base.specs.MoveList.{moves, move_of, promotions};
 ghost use Rattle.chess_base.specs.Moves.{is_legal, promotion_fits};
 ghost use Rattle.chess_base.specs.declared.man.Kind.{Kind as ManKind};
 ghost use Rattle.chess_base.specs.declared.man.Kind.TheVariants.{King, Pawn};
+ghost use Rattle.chess_bits.specs.ties.Bounds.{AreEnds, EndsOn};
 ghost use Rattle.chess_bits.specs.ties.Goes.{goes, goes_unusually, IsFree};
 ghost use Rattle.chess_moves.specs.ties.Candidates.{moves_with, moves_between, moves_from};
 ghost use Rattle.chess_moves.specs.Promoting.{would_promote};
 ghost use Rattle.chess_moves.specs.Sets.{contains};
 
 use crate::bits::Bits;
+use crate::shielding::Bounds;
 use chess_base::rules::is_man;
 use chess_base::{Kind, Move, Square};
 use chess_moves::{MoveList, SquareSet, would_promote};
@@ -70,15 +72,25 @@ impl Bits<'_> {
         }
     }
 
+    // Appends to `list` the legal moves from `from`, which all end on squares of the set `ends`.
+    fn add_moves_to(&self, from: Square, ends: SquareSet, list: &mut MoveList)
+        requires goes { (k : ℕ) → k < 64 → contains ends k ≡ true → goes self.now from k ≡ true }
+        requires all { EndsOn self.now from ends }
+        requires room { array_vec_len list.old + length (moves_from self.now from) ≤ 896 }
+        ensures { list.new.items ≡ list.old.items ++ moves_from self.now from }
+    {
+        let mut targets = ends;
+        while let Some(to) = targets.take_first() {
+            self.add_moves_between(from, to, list);
+        }
+    }
+
     // Appends to `list` the legal moves of the piece on `from`.
     fn add_moves_from(&self, from: Square, list: &mut MoveList)
         requires { array_vec_len list.old + length (moves_from self.now from) ≤ 896 }
         ensures { list.new.items ≡ list.old.items ++ moves_from self.now from }
     {
-        let mut targets = self.targets(from);
-        while let Some(to) = targets.take_first() {
-            self.add_moves_between(from, to, list);
-        }
+        self.add_moves_to(from, self.targets(from), list);
     }
 
     // Appends to `list` the legal moves of the piece on `from`. It is free (its king is safe wherever it goes), and no
@@ -149,31 +161,32 @@ impl Bits<'_> {
         }
     }
 
-    // Appends to `list` the legal moves of the piece on `from`: the king, or a piece that may be bound to shield it.
-    fn add_bound_moves(&self, from: Square, list: &mut MoveList)
-        requires { array_vec_len list.old + length (moves_from self.now from) ≤ 896 }
+    // Appends to `list` the legal moves of the piece on `from`, the king or another, given where the pieces may go.
+    fn add_bound_moves(&self, from: Square, bounds: &Bounds, list: &mut MoveList)
+        requires ends { AreEnds self.now bounds.now.free bounds.now.ends }
+        requires room { array_vec_len list.old + length (moves_from self.now from) ≤ 896 }
         ensures { list.new.items ≡ list.old.items ++ moves_from self.now from }
     {
         if is_man(self.setup.side, Kind::King, self.setup.men[from.index()]) {
             self.add_king_moves(from, list);
         } else {
-            self.add_moves_from(from, list);
+            self.add_moves_to(from, self.ends_of(from, bounds), list);
         }
     }
 
-    // Appends to `list` the legal moves of the piece on `from`. The pieces on squares of the set `free` are free: their
-    // king is safe wherever they go.
-    fn add_moves_of(&self, from: Square, free: SquareSet, list: &mut MoveList)
-        requires free { (k : ℕ) → k < 64 → contains free k ≡ true → IsFree self.now k }
+    // Appends to `list` the legal moves of the piece on `from`, given where the pieces may go.
+    fn add_moves_of(&self, from: Square, bounds: &Bounds, list: &mut MoveList)
+        requires free { (k : ℕ) → k < 64 → contains bounds.now.free k ≡ true → IsFree self.now k }
+        requires ends { AreEnds self.now bounds.now.free bounds.now.ends }
         requires room { array_vec_len list.old + length (moves_from self.now from) ≤ 896 }
         ensures { list.new.items ≡ list.old.items ++ moves_from self.now from }
     {
         // The prover wants this fact: the start's number is below 64.
         let _start = from.number();
-        if free.contains(from) {
+        if bounds.free.contains(from) {
             self.add_free_moves(from, list);
         } else {
-            self.add_bound_moves(from, list);
+            self.add_bound_moves(from, bounds, list);
         }
     }
 
@@ -182,11 +195,11 @@ impl Bits<'_> {
     pub(crate) fn moves(&self) -> MoveList
         ensures { result.items ≡ moves self.now }
     {
-        let free = self.free_men();
+        let bounds = self.bounds();
         let mut list = MoveList::new();
         let mut men = self.sets.all(self.setup.side);
         while let Some(from) = men.take_first() {
-            self.add_moves_of(from, free, &mut list);
+            self.add_moves_of(from, &bounds, &mut list);
         }
         list
     }

@@ -1,89 +1,169 @@
-//! The own pieces that may shield their king.
+//! The own pieces that shield their king, and where they may go.
 
-ghost use Rattle.std.specs.Prelude.{◌≡◌, ◌<◌, ℕ, true, false};
-ghost use Rattle.chess_base.specs.Men.{man_at, is_of};
-ghost use Rattle.chess_bits.specs.ties.Goes.{OpensNoLine, OpensNoDiagonal, IsFree};
+ghost use Rattle.std.specs.Prelude.{◌≡◌, ◌<◌, ◌==◌, ◌||◌, ℕ, true, false, MatchOption};
+ghost use Rattle.chess_base.specs.Attacks.{is_in_check};
+ghost use Rattle.chess_base.specs.Men.{man_at, is_man};
+ghost use Rattle.chess_base.specs.Squares.{is_between, is_square};
+ghost use Rattle.chess_base.specs.declared.man.Kind.TheVariants.{King};
+ghost use Rattle.chess_bits.specs.ties.Bounds.{aims_from, KeepsClosed, IsShield, EndsOn, AreEnds};
+ghost use Rattle.chess_bits.specs.ties.Goes.{goes, IsFree};
 ghost use Rattle.chess_moves.specs.Sets.{contains};
 
+use crate::between::squares_between;
 use crate::bits::Bits;
-use crate::kinds::{along_diagonals, along_lines};
+use crate::king::set_of;
 use crate::table::Shape;
 use chess_base::{Kind, Square};
 use chess_moves::{Board, SquareSet};
 
+// Where the pieces of the side on move, but its king, may go without leaving the king attacked.
+#[derive(Clone, Copy)]
+pub(crate) struct Bounds {
+    // Pieces whose king is safe wherever they go: it is not in check, and they are not pinned.
+    pub(crate) free: SquareSet,
+    // Squares on one of which each legal move of another piece ends: that of a piece that pins or gives check, those
+    // between it and the king, and the en passant target.
+    pub(crate) ends: SquareSet,
+}
+
 impl Bits<'_> {
-    // The own pieces that may be pinned to the king on `king` along its rank or file: the nearest ones to it there, if
-    // an enemy rook or queen would attack it with them off the board; else none. Taking off any other own piece opens
-    // no rank or file to the king.
-    #[tactic(auto, unfolding(crate::specs::ties::Shapes::in_shape))]
-    fn line_shields(&self, king: Square) -> SquareSet
-        ensures { (a : ℕ) → a < 64 → is_of (self.now).side (man_at (self.now).men a) ≡ true → contains result a ≡ false
-            → OpensNoLine self.now a king }
+    // The square that alone is occupied between the enemy piece on `from` and the king on `king`, which are on one
+    // line; `None` if none is, or more than one.
+    #[inline(always)]
+    fn shield(&self, king: Square, from: Square) -> Option<Square>
+        requires { aims_from self.now from king ≡ true }
+        ensures { MatchOption result ((a : ℕ) → a < 64 → KeepsClosed self.now a from king)
+            (λ s. IsShield self.now s from king) }
     {
+        // The prover wants these facts: the numbers of both squares are below 64.
         let _king = king.number();
-        let side = self.setup.side;
-        let men = self.sets.of(side.other());
-        let straight = men.of(Kind::Rook).union(men.of(Kind::Queen));
-        let aimed = straight.intersection(self.tables.at(Shape::Lines, king));
-        if aimed.is_empty() {
-            return aimed;
+        let _from = from.number();
+        let between = squares_between(self.tables, king, from);
+        let hiding = between.intersection(self.sets.occupied());
+        if hiding.is_empty() {
+            return None;
         }
-        let occupied = self.sets.occupied();
-        let seen = along_lines(self.tables, king, occupied);
-        let near = seen.intersection(self.sets.all(side));
-        let opened = along_lines(self.tables, king, occupied.without(near));
-        let hidden = aimed.intersection(opened);
-        if hidden.is_empty() {
-            return hidden;
+        let shield = hiding.first();
+        let others = hiding.without(SquareSet::single(shield));
+        if others.is_empty() {
+            Some(shield)
+        } else {
+            None
         }
-        near
     }
 
-    // The own pieces that may be pinned to the king on `king` along its diagonals: the nearest ones to it there, if an
-    // enemy bishop or queen would attack it with them off the board; else none. Taking off any other own piece opens no
-    // diagonal to the king.
+    // The squares on which a move of another piece ends that meets an attack from `from` on the king on `king`: by
+    // capturing the piece there, also en passant, or by coming between them.
+    #[inline(always)]
+    fn answers(&self, king: Square, from: Square) -> SquareSet
+        ensures { (k : ℕ) → k < 64 → ((is_between king from k || (k == from)) || is_square (self.now).target k) ≡ true
+            → contains result k ≡ true }
+    {
+        // The prover wants these facts: the numbers of both squares are below 64.
+        let _king = king.number();
+        let _from = from.number();
+        let between = squares_between(self.tables, king, from);
+        let ends = between.union(SquareSet::single(from));
+        ends.union(set_of(self.setup.target))
+    }
+
+    // Takes the piece that shields the king on `king` from an enemy piece on `from`, if it alone does, out of the free
+    // pieces, and adds the squares to which it may go.
+    #[inline(always)]
+    fn pin(&self, king: Square, from: Square, bounds: &mut Bounds)
+        requires king { is_man (self.now).side King (man_at (self.now).men king) ≡ true }
+        requires aims { aims_from self.now from king ≡ true }
+        ensures free { (a : ℕ) → a < 64 → contains bounds.new.free a ≡ true
+            → (contains bounds.old.free a ≡ true) × KeepsClosed self.now a from king }
+        ensures ends { AreEnds self.now bounds.old.free bounds.old.ends → AreEnds self.now bounds.new.free bounds.new.ends }
+    {
+        // The prover wants these facts: the position is sound, and the numbers of both squares are below 64.
+        let _sound = &self.setup;
+        let _king = king.number();
+        let _from = from.number();
+        if let Some(shield) = self.shield(king, from) {
+            bounds.free = bounds.free.without(SquareSet::single(shield));
+            bounds.ends = bounds.ends.union(self.answers(king, from));
+        }
+    }
+
+    // Enemy queens, rooks and bishops that would attack the king on `king` if nothing were between them.
+    #[inline(always)]
     #[tactic(auto, unfolding(crate::specs::ties::Shapes::in_shape))]
-    fn diagonal_shields(&self, king: Square) -> SquareSet
-        ensures { (a : ℕ) → a < 64 → is_of (self.now).side (man_at (self.now).men a) ≡ true → contains result a ≡ false
-            → OpensNoDiagonal self.now a king }
+    fn aimed_at(&self, king: Square) -> SquareSet
+        ensures { (b : ℕ) → b < 64 → contains result b ≡ aims_from self.now b king }
+    {
+        let _king = king.number();
+        let men = self.sets.of(self.setup.side.other());
+        let queens = men.of(Kind::Queen);
+        let straight = men.of(Kind::Rook).union(queens);
+        let aslant = men.of(Kind::Bishop).union(queens);
+        let on_lines = straight.intersection(self.tables.at(Shape::Lines, king));
+        on_lines.union(aslant.intersection(self.tables.at(Shape::Diagonals, king)))
+    }
+
+    // The bounds of the pieces if the king, on `king`, is not in check.
+    #[inline(always)]
+    fn pins(&self, king: Square) -> Bounds
+        requires king { is_man (self.now).side King (man_at (self.now).men king) ≡ true }
+        requires calm { is_in_check (self.now).men (self.now).side ≡ false }
+        ensures free { (k : ℕ) → k < 64 → contains result.free k ≡ true → IsFree self.now k }
+        ensures ends { AreEnds self.now result.free result.ends }
     {
         // The prover wants this fact: the number of the king's square is below 64.
         let _king = king.number();
         let side = self.setup.side;
-        let men = self.sets.of(side.other());
-        let aslant = men.of(Kind::Bishop).union(men.of(Kind::Queen));
-        let aimed = aslant.intersection(self.tables.at(Shape::Diagonals, king));
-        if aimed.is_empty() {
-            return aimed;
+        let mut bounds = Bounds {
+            free: self.sets.all(side).without(SquareSet::single(king)),
+            ends: SquareSet::empty(),
+        };
+        let mut rest = self.aimed_at(king);
+        while let Some(from) = rest.take_first() {
+            self.pin(king, from, &mut bounds);
         }
-        let occupied = self.sets.occupied();
-        let seen = along_diagonals(self.tables, king, occupied);
-        let near = seen.intersection(self.sets.all(side));
-        let opened = along_diagonals(self.tables, king, occupied.without(near));
-        let hidden = aimed.intersection(opened);
-        if hidden.is_empty() {
-            return hidden;
-        }
-        near
+        bounds
     }
 
-    // Pieces of the side on move, without the king, whose king is safe wherever they go: those that surely are not
-    // pinned. The set may lack some, and is empty if the king is in check.
-    pub(crate) fn free_men(&self) -> SquareSet
-        ensures { (k : ℕ) → k < 64 → contains result k ≡ true → IsFree self.now k }
+    // Where the pieces may go, but the king.
+    #[inline(always)]
+    pub(crate) fn bounds(&self) -> Bounds
+        ensures free { (k : ℕ) → k < 64 → contains result.free k ≡ true → IsFree self.now k }
+        ensures ends { AreEnds self.now result.free result.ends }
     {
-        if self.in_check() {
-            return SquareSet::empty();
-        }
         let side = self.setup.side;
         let king = self.king(side);
-        let shields = self.line_shields(king).union(self.diagonal_shields(king));
-        let others = self.sets.all(side).without(SquareSet::single(king));
-        others.without(shields)
+        let by = side.other();
+        let men = self.sets.of(by);
+        let checkers = men.attackers(self.tables, by, king, self.sets.occupied());
+        if checkers.is_empty() {
+            return self.pins(king);
+        }
+        Bounds {
+            free: SquareSet::empty(),
+            ends: self.answers(king, checkers.first()),
+        }
+    }
+
+    // The squares of a set that has the ends of the legal moves of the piece on `from`, which is no king, given where the
+    // pieces may go. For each of them some move of the piece there is pseudo-legal.
+    #[inline(always)]
+    pub(crate) fn ends_of(&self, from: Square, bounds: &Bounds) -> SquareSet
+        requires no_king { is_man (self.now).side King (man_at (self.now).men from) ≡ false }
+        requires ends { AreEnds self.now bounds.now.free bounds.now.ends }
+        ensures sound { (k : ℕ) → k < 64 → contains result k ≡ true → goes self.now from k ≡ true }
+        ensures complete { EndsOn self.now from result }
+    {
+        // The prover wants this fact: the start's number is below 64.
+        let _start = from.number();
+        let targets = self.targets(from);
+        if bounds.free.contains(from) {
+            return targets;
+        }
+        targets.intersection(bounds.ends)
     }
 
     // The pieces of the side on move that are on no rank, file or diagonal of their king, so that it is safe wherever
-    // they go; none if it is in check. They are found sooner than all that `free_men` gives.
+    // they go; none if it is in check. They are found sooner than all that `bounds` gives.
     #[tactic(auto, unfolding(crate::specs::ties::Shapes::in_shape))]
     pub(crate) fn men_off_lines(&self) -> SquareSet
         ensures { (k : ℕ) → k < 64 → contains result k ≡ true → IsFree self.now k }

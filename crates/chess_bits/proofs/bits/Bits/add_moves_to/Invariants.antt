@@ -4,7 +4,7 @@ use Rattle.chess_moves.specs.ties.Candidates.{moves_between, moves_from}
 use Rattle.chess_moves.specs.Sets.{members}
 use Rattle.chess_bits.specs.ties.Goes.{goes}
 use Rattle.chess_bits.proofs.Listed.{Each}
-use Rattle.chess_bits.proofs.bits.Bits.add_moves_from.Given as goal
+use Rattle.chess_bits.proofs.bits.Bits.add_moves_to.Given as goal
 
 -- the moves so far and those to the squares that are left are all, and the piece goes to each of these
 abbrev pub invariant-loop-to : goal.invariant-loop-to

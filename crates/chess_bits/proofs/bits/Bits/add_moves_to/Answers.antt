@@ -1,16 +1,16 @@
--- Each legal move of the piece ends on one of its targets, so the moves to these are all (from_targets of Listed).
+-- Each legal move of the piece ends on one of the squares, so the moves to these are all (from_targets of Listed).
 use Rattle.std.proofs.Common.{◌≡◌, ◌++◌, ◌≤◌, length, true, ap, length-append, arith}
 use Rattle.chess_moves.specs.ties.Candidates.{moves_between, moves_from}
 use Rattle.chess_bits.specs.ties.Goes.{goes}
 use Rattle.chess_bits.proofs.Listed.{from_targets, each_member, room_for}
-use Rattle.chess_bits.proofs.bits.Bits.add_moves_from.Goals as goal
+use Rattle.chess_bits.proofs.bits.Bits.add_moves_to.Goals as goal
 
 pub loop-to-init : goal.loop-to-init
 loop-to-init c = record {
   moves = ap (λ ms. c.args.list.now.items ++ ms)
-      (from_targets c.args.self.now c.args.from c.targets-targets.result c.targets-targets.ensures.complete);
-  goes = each_member c.targets-targets.result (λ b. goes c.args.self.now c.args.from b ≡ true)
-      c.targets-targets.ensures.sound;
+      (from_targets c.args.self.now c.args.from c.args.ends c.requires.all);
+  goes = each_member c.args.ends (λ b. goes c.args.self.now c.args.from b ≡ true)
+      c.requires.goes;
 }
 
 pub add_moves_between-requires-clause-room : goal.add_moves_between-requires-clause-room

@@ -1,0 +1,46 @@
+-- Where nothing attacks the king it is not in check (attacked_is of Attackers); else each move of another piece meets the
+-- first attack (check_met of Bounds).
+use Rattle.std.proofs.Common.{◌≡◌, ◌<◌, ◌&&◌, ℕ, not, sym, ap, ◌∙◌}
+use Rattle.chess_base.specs.Attacks.{attacks}
+use Rattle.chess_base.specs.Men.{man_at, is_of, is_man, other}
+use Rattle.chess_base.specs.declared.man.Kind.TheVariants.{King}
+use Rattle.chess_moves.specs.Sets.{contains}
+use Rattle.chess_bits.proofs.AfterSets.{check_is}
+use Rattle.chess_bits.proofs.Attackers.{attacked_is}
+use Rattle.chess_bits.proofs.Bounds.{check_met, to_in}
+use Rattle.chess_bits.proofs.bits.Bits.bounds.Goals as goal
+
+pub pins-requires-clause-calm : goal.pins-requires-clause-calm
+pins-requires-clause-calm c =
+    let p = c.self.inside.setup in
+    let king = c.king-king.result in
+    let one = rw (← c.self.view_is) at c.king-king.ensures.alone in
+    let kinds = c.of-men.ensures p.men c.self.invariant.1 in
+    let gives : (k : ℕ) → k < 64
+    → contains c.attackers-checkers.result k ≡ (is_of (other p.side) (man_at p.men k) && attacks p.men k king) =
+    rw (← c.other-by.ensures)
+    (λ k low. c.attackers-checkers.ensures p.men (c.occupied.ensures p.men c.self.invariant.1) k low
+    (λ kind. kinds.of_kind kind k low)) in
+    rw (← c.self.view_is)
+    (check_is p.men p.side king c.king-king.ensures.in_range one
+    ∙ sym (attacked_is c.attackers-checkers.result p.men king (other p.side) gives)
+    ∙ ap not (sym c.is_empty.ensures.none ∙ c.if-is_empty.true))
+
+pub returns-clause-ends : goal.returns-clause-ends
+returns-clause-ends c =
+    let p = c.self.inside.setup in
+    let king = c.king-king.result in
+    let one = rw (← c.self.view_is) at c.king-king.ensures.alone in
+    let kinds = c.of-men.ensures p.men c.self.invariant.1 in
+    let gives : (k : ℕ) → k < 64
+    → contains c.attackers-checkers.result k ≡ (is_of (other p.side) (man_at p.men k) && attacks p.men k king) =
+    rw (← c.other-by.ensures)
+    (λ k low. c.attackers-checkers.ensures p.men (c.occupied.ensures p.men c.self.invariant.1) k low
+    (λ kind. kinds.of_kind kind k low)) in
+    let ends = rw (← c.self.view_is) at c.answers.ensures in
+    rw (← c.self.view_is)
+    (λ a low no_king outside m legal at.
+    ends m.to (to_in p m legal)
+    (check_met p m king c.first.result c.self.invariant.0 legal c.king-king.ensures.in_range one
+    (ap (λ k. is_man p.side King (man_at p.men k)) at ∙ no_king) c.first.ensures.in_range
+    (sym (gives c.first.result c.first.ensures.in_range) ∙ c.first.ensures.nearest.here)))
