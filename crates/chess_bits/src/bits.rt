@@ -106,7 +106,9 @@ impl Board for Bits<'_> {
 
     // All legal moves, each once, rising by start square, end square and promotion.
     fn legal_moves(&self) -> MoveList {
-        self.moves()
+        let mut list = MoveList::new();
+        self.add_moves(&mut list);
+        list
     }
 
     // How many legal moves there are.

@@ -1,6 +1,6 @@
 //! The list of legal moves: piece by piece, and end square by end square.
 
-ghost use Rattle.std.specs.Prelude.{◌≡◌, ◌+◌, ◌≤◌, ◌<◌, ◌&&◌, ◌++◌, ℕ, length, get_or, true, false, Option, None, ◌∷◌};
+ghost use Rattle.std.specs.Prelude.{◌≡◌, ◌+◌, ◌≤◌, ◌<◌, ◌&&◌, ◌++◌, ℕ, length, get_or, true, false, Option, None, [], ◌∷◌};
 ghost use Rattle.arrayvec.specs.ArrayVec.{array_vec_len};
 ghost use Rattle.chess_base.specs.Men.{man_at, is_man};
 ghost use Rattle.chess_base.specs.MoveList.{moves, move_of, promotions};
@@ -190,17 +190,16 @@ impl Bits<'_> {
         }
     }
 
-    // All legal moves, rising by start square, end square and promotion.
+    // Appends to `list`, which is empty, all legal moves, rising by start square, end square and promotion.
     #[inline(always)]
-    pub(crate) fn moves(&self) -> MoveList
-        ensures { result.items ≡ moves self.now }
+    pub(crate) fn add_moves(&self, list: &mut MoveList)
+        requires { list.old.items ≡ [] }
+        ensures { list.new.items ≡ moves self.now }
     {
         let bounds = self.bounds();
-        let mut list = MoveList::new();
         let mut men = self.sets.all(self.setup.side);
         while let Some(from) = men.take_first() {
-            self.add_moves_of(from, &bounds, &mut list);
+            self.add_moves_of(from, &bounds, list);
         }
-        list
     }
 }

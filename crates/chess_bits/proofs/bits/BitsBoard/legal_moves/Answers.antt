@@ -5,4 +5,4 @@ use Rattle.chess_bits.proofs.bits.BitsBoard.legal_moves.Goals as goal
 
 pub returns-clause-legal : goal.returns-clause-legal
 unfolding moves
-returns-clause-legal c = rw c.moves.ensures (filter_passes (λ m. is_legal c.args.self.now m) all_moves)
+returns-clause-legal c = rw c.add_moves.ensures (filter_passes (λ m. is_legal c.args.self.now m) all_moves)

@@ -3,7 +3,7 @@ use Rattle.std.specs.List.{flat_map}
 use Rattle.chess_base.specs.MoveList.{moves}
 use Rattle.chess_moves.specs.ties.Candidates.{moves_from}
 use Rattle.chess_moves.specs.Sets.{members}
-use Rattle.chess_bits.proofs.bits.Bits.moves.Given as goal
+use Rattle.chess_bits.proofs.bits.Bits.add_moves.Given as goal
 
 -- the moves so far and those of the pieces that are left are all
 abbrev pub invariant-loop-from : goal.invariant-loop-from

@@ -5,13 +5,13 @@ use Rattle.chess_base.specs.Men.{man_at, is_of}
 use Rattle.chess_base.specs.Sound.{IsSound}
 use Rattle.chess_moves.specs.Sets.{contains}
 use Rattle.chess_bits.proofs.Listed.{from_men, fits_from}
-use Rattle.chess_bits.proofs.bits.Bits.moves.Goals as goal
+use Rattle.chess_bits.proofs.bits.Bits.add_moves.Goals as goal
 
 pub loop-from-init : goal.loop-from-init
 loop-from-init c =
     let own : (k : ℕ) → k < 64 → contains c.all-men.result k ≡ is_of c.args.self.now.side (man_at c.args.self.now.men k) =
     rw (← c.self.view_is) (c.all-men.ensures c.self.inside.setup.men c.self.invariant.1) in
-    rw c.new-list.ensures (from_men c.args.self.now c.all-men.result own)
+    rw c.requires (from_men c.args.self.now c.all-men.result own)
 
 pub add_moves_of-requires-clause-room : goal.add_moves_of-requires-clause-room
 add_moves_of-requires-clause-room c =
