@@ -20,14 +20,14 @@ use Rattle.chess_cecp.specs.declared.command.Command.{Command}
 use Rattle.chess_cecp.specs.declared.command.Command.TheVariants.{New, SetBoard, UserMove, BareMove, Undo, Remove, Declare, Claim, Ping, Protover, Variant, Go, ShowFen, ShowMoves, ShowState, ShowPgn, Quit, Silent, BadNumber, Unknown}
 use Rattle.chess_cecp.specs.declared.session.Go.{Go as Further}
 use Rattle.chess_cecp.specs.declared.session.Go.TheVariants as further
-use Rattle.chess_cecp.specs.declared.session.Reply.TheVariants.{Text, Pgn}
+use Rattle.chess_cecp.specs.declared.session.Reply.TheVariants.{Text, Moves, Pgn}
 use Rattle.chess_cecp.specs.Commands.{argument_of, command_of}
 use Rattle.chess_cecp.specs.Declaring.{read_result}
 use Rattle.chess_cecp.specs.Held.{SessionSeen}
 use Rattle.chess_cecp.specs.Lines.{LineSeen}
 use Rattle.chess_cecp.specs.Serving.{Response}
 use Rattle.chess_cecp.specs.Session.{row, says, refuses, becomes, result_row, draws, claimed, setboard_row, normal_row, feature_text, joined_line, reading_row, move_row, session_response}
-use Rattle.chess_cecp.specs.ties.Replies.{is_quit, is_quit_command, reply_to, asks_for_pgn}
+use Rattle.chess_cecp.specs.ties.Replies.{is_quit, is_quit_command, reply_to, asks_for_moves, asks_for_pgn}
 
 -- the session goes on
 abbrev GoesOn : Response State → Type 0
@@ -121,9 +121,12 @@ line_ends seen line = at line.too_long
 pub text_go : (seen : SessionSeen) (line : LineSeen) (go : Further) → Text go ≡ reply_to line
     → go ≡ (if (session_response seen line).ends then further.Quit else further.On)
 text_go seen line go e =
-    at (asks_for_pgn line) e ∙ ap (λ (b : Bool). if b then further.Quit else further.On) (sym (line_ends seen line))
+    at (asks_for_moves line) (asks_for_pgn line) e
+    ∙ ap (λ (b : Bool). if b then further.Quit else further.On) (sym (line_ends seen line))
   where
-    at : (b : Bool) → Text go ≡ (if b then Pgn else Text (if is_quit line then further.Quit else further.On))
+    at : (moves pgn : Bool)
+        → Text go ≡ (if moves then Moves else if pgn then Pgn else Text (if is_quit line then further.Quit else further.On))
         → go ≡ (if is_quit line then further.Quit else further.On)
-    at true h = absurd cc
-    at false h = cc
+    at true pgn h = absurd cc
+    at false true h = absurd cc
+    at false false h = cc

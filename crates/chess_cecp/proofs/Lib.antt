@@ -4,7 +4,7 @@ pub mod Reading
 pub mod Words
 pub mod RunLemmas
 pub mod Refusals
-pub mod PgnRow
+pub mod OwnRows
 pub mod Ends
 pub mod NormalGames
 pub mod NormalRows

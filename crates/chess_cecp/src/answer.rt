@@ -1,6 +1,6 @@
 //! The texts of answers, put together before they are written.
 
-ghost use Rattle.chess_cecp.specs.declared.answer.TheConstants.{ANSWER_LEN};
+ghost use Rattle.chess_cecp.specs.declared.answer.TheConstants.{ANSWER_LEN, MOVES_LEN};
 ghost use Rattle.std.specs.List.{flat_map};
 ghost use Rattle.std.specs.Prelude.{◌≡◌, ◌+◌, ◌*◌, ◌≤◌, ◌++◌, ◌∷◌, [], if◌then◌else◌, length, codes, decimal};
 ghost use Rattle.arrayvec.specs.ArrayVec.{array_vec_len};
@@ -20,12 +20,19 @@ use chess_game::{Declared, Game, Outcome, Verdict};
 use chess_moves::Board;
 use chess_text::move_text;
 
-// The most bytes of an answer, which is put together before it is written: `# moves`, a number, and six bytes for each
-// of 896 moves; or an echoed line of 1,024 bytes and the words before it.
-const ANSWER_LEN: usize = 5500;
+// The most bytes of an answer, which is put together before it is written: an echoed line of 1,024 bytes and the words
+// before it. Those to `showmoves` and `showpgn` may be longer, and are not put together here.
+const ANSWER_LEN: usize = 1100;
 
-// The text of an answer.
+// The most bytes of the answer to `showmoves`: `# moves`, a number, and six bytes for each of 896 moves. It has a buffer
+// of its own, since each buffer is filled with zeros first.
+const MOVES_LEN: usize = 5500;
+
+// The text of an answer to any command but `showmoves` and `showpgn`.
 pub(crate) type Answer = ArrayVec<u8, ANSWER_LEN>;
+
+// The text of the answer to `showmoves`.
+pub(crate) type MovesAnswer = ArrayVec<u8, MOVES_LEN>;
 
 // Appends a line of two texts to the answer: `pong ` and `7` give `pong 7\n`.
 pub(crate) fn write_line(answer: &mut Answer, front: &[u8], text: &[u8])
@@ -161,7 +168,7 @@ pub(crate) fn write_state<B: Board>(answer: &mut Answer, game: &Game<B>)
 
 // Puts the answer to `showmoves` together: `# moves 20 b1a3 b1c3 ..`; the moves are those of `position`.
 #[tactic(auto, unfolding(crate::specs::Session::moves_line))]
-pub(crate) fn write_moves(answer: &mut Answer, position: &Position, moves: &[Move])
+pub(crate) fn write_moves(answer: &mut MovesAnswer, position: &Position, moves: &[Move])
     requires few { length moves.now ≤ 896 }
     requires empty { answer.old.items ≡ [] }
     ensures { answer.new.items ≡ moves_line position.now moves.now }
@@ -173,8 +180,8 @@ pub(crate) fn write_moves(answer: &mut Answer, position: &Position, moves: &[Mov
 }
 
 // Appends each of these moves of `position` to the answer, after a space: ` b1a3 b1c3`.
-fn write_each(answer: &mut Answer, position: &Position, moves: &[Move])
-    requires { array_vec_len answer.old + 6 * length moves.now ≤ ANSWER_LEN }
+fn write_each(answer: &mut MovesAnswer, position: &Position, moves: &[Move])
+    requires { array_vec_len answer.old + 6 * length moves.now ≤ MOVES_LEN }
     ensures text { answer.new.items ≡ answer.old.items ++ flat_map (λ m. space ∷ shown_move position.now m) moves.now }
     ensures len { array_vec_len answer.new ≤ array_vec_len answer.old + 6 * length moves.now }
 {

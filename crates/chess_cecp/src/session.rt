@@ -13,13 +13,13 @@ ghost use Rattle.chess_text.specs.Moves.{reading, has_shape, shape, IsLegalReadi
 ghost use Rattle.chess_cecp.specs.Commands.{argument_of};
 ghost use Rattle.chess_cecp.specs.Declaring.{read_result};
 ghost use Rattle.chess_cecp.specs.Session.{row, move_row, back_row, result_row, draws, claim_row, setboard_row, normal_row, variant_row, session_response, joined_line, moves_line, IsRefusal};
-ghost use Rattle.chess_cecp.specs.ties.Replies.{after_row, unnamed_command, reply_of, reply_to, shows_pgn, asks_for_pgn};
+ghost use Rattle.chess_cecp.specs.ties.Replies.{after_row, unnamed_command, reply_of, reply_to, shows_moves, shows_pgn, asks_for_moves, asks_for_pgn};
 ghost use Rattle.chess_game.specs.declared.game.TheConstants.{MOST_MOVES};
 ghost use Rattle.chess_cecp.specs.declared.session.TheConstants.{COMMAND_LEN};
 
 use crate::answer::{
-    Answer, write_features, write_illegal_position, write_line, write_moves, write_pong,
-    write_result, write_state, write_verdict,
+    Answer, MovesAnswer, write_features, write_illegal_position, write_line, write_moves,
+    write_pong, write_result, write_state, write_verdict,
 };
 use crate::command::{Command, named_command, split_word};
 use crate::declaring::read_result;
@@ -48,6 +48,8 @@ pub enum Go {
 enum Reply {
     // The text that was put together, and whether the session goes on after it.
     Text(Go),
+    // The legal moves.
+    Moves,
     // The game's text.
     Pgn,
 }
@@ -305,26 +307,15 @@ impl<B: Board> Session<B> {
         write_line(answer, b"# fen ", fen.as_slice());
     }
 
-    // Answers `showmoves` with the legal moves, to `answer`. Their list is large, so it is kept out of the stack frames
-    // of other commands.
-    #[inline(never)]
-    fn show_moves(&self, answer: &mut Answer)
-        requires { answer.old.items ≡ [] }
-        ensures { answer.new.items ≡ moves_line (current self.now.state) (moves (current self.now.state)) }
-    {
-        let moves = self.game.board().legal_moves();
-        write_moves(answer, &self.game.position(), moves.as_slice());
-    }
-
-    // Obeys a command: changes the game, and puts the answer together; but for `showpgn`, whose answer is written
-    // later. `text` is the whole line, `argument` what follows its first word.
+    // Obeys a command: changes the game, and puts the answer together; but for `showmoves` and `showpgn`, whose answers
+    // are written later. `text` is the whole line, `argument` what follows its first word.
     fn obey(&mut self, command: Command, text: &[u8], argument: &[u8], answer: &mut Answer)
         requires short { length text.now ≤ COMMAND_LEN }
         requires short_argument { length argument.now ≤ COMMAND_LEN }
         requires empty { answer.old.items ≡ [] }
         ensures next { self.new
             ≡ after_row self.old (row self.old.tags self.old.limit self.old.state text.now argument.now command) }
-        ensures text { shows_pgn command ≡ false → answer.new.items
+        ensures text { shows_moves command ≡ false → shows_pgn command ≡ false → answer.new.items
             ≡ (row self.old.tags self.old.limit self.old.state text.now argument.now command).text }
     {
         match command {
@@ -345,9 +336,8 @@ impl<B: Board> Session<B> {
             Command::Variant => self.change_variant(text, argument, answer),
             Command::Go => write_line(answer, b"Error (the arbiter plays no side): ", b"go"),
             Command::ShowFen => self.show_fen(answer),
-            Command::ShowMoves => self.show_moves(answer),
             Command::ShowState => write_state(answer, &self.game),
-            Command::ShowPgn | Command::Quit | Command::Silent => {}
+            Command::ShowMoves | Command::ShowPgn | Command::Quit | Command::Silent => {}
             Command::BadNumber => write_line(answer, b"Error (bad number): ", text),
             Command::Unknown => write_line(answer, b"Error (unknown command): ", text),
         }
@@ -375,13 +365,13 @@ impl<B: Board> Session<B> {
         }
     }
 
-    // Obeys a line: changes the game, puts the answer together, but for `showpgn`, and returns how the line is then
-    // answered.
-    #[tactic(auto, unfolding(crate::specs::Session::session_response, crate::specs::ties::Replies::is_quit, crate::specs::ties::Replies::asks_for_pgn, crate::specs::Commands::command_of))]
+    // Obeys a line: changes the game, puts the answer together, but for `showmoves` and `showpgn`, and returns how the
+    // line is then answered.
+    #[tactic(auto, unfolding(crate::specs::Session::session_response, crate::specs::ties::Replies::is_quit, crate::specs::ties::Replies::asks_for_moves, crate::specs::ties::Replies::asks_for_pgn, crate::specs::Commands::command_of))]
     fn obey_line(&mut self, line: &Line<COMMAND_LEN>, answer: &mut Answer) -> Reply
         requires { answer.old.items ≡ [] }
         ensures next { self.new ≡ (session_response self.old line.now).state }
-        ensures text { asks_for_pgn line.now ≡ false
+        ensures text { asks_for_moves line.now ≡ false → asks_for_pgn line.now ≡ false
             → answer.new.items ≡ (session_response self.old line.now).text }
         ensures reply { result ≡ reply_to line.now }
     {
@@ -397,6 +387,19 @@ impl<B: Board> Session<B> {
         };
         self.obey(command, text, argument, answer);
         reply_of(command)
+    }
+
+    // Answers `showmoves`: writes the legal moves to the writer, and flushes. Their list and its text are large, so they
+    // are kept out of the stack frames of other commands.
+    #[inline(never)]
+    fn send_moves<W: Output>(&self, writer: &mut W) -> Result<(), WriteFault>
+        ensures { Sends (W.seen writer.old) (W.seen writer.new) result
+            (moves_line (current self.now.state) (moves (current self.now.state))) }
+    {
+        let mut answer = MovesAnswer::new();
+        let moves = self.game.board().legal_moves();
+        write_moves(&mut answer, &self.game.position(), moves.as_slice());
+        send(writer, answer.as_slice())
     }
 
     // Answers `showpgn`: writes the game's PGN to the writer, each line after `# `, and flushes.
@@ -435,6 +438,10 @@ impl<B: Board> Session<B> {
                 send(writer, answer.as_slice())?;
                 Ok(go)
             }
+            Reply::Moves => match self.send_moves(writer) {
+                Ok(()) => Ok(Go::On),
+                Err(fault) => Err(fault),
+            },
             Reply::Pgn => match self.send_pgn(writer) {
                 Ok(()) => Ok(Go::On),
                 Err(fault) => Err(fault),
@@ -443,12 +450,13 @@ impl<B: Board> Session<B> {
     }
 }
 
-// How a command is answered: `showpgn` by the game's PGN, all others by the text put together; and whether the session
-// goes on, which it does but after `quit`.
+// How a command is answered: `showmoves` by the legal moves, `showpgn` by the game's PGN, all others by the text put
+// together; and whether the session goes on, which it does but after `quit`.
 fn reply_of(command: Command) -> Reply
     ensures { result ≡ reply_of command }
 {
     match command {
+        Command::ShowMoves => Reply::Moves,
         Command::ShowPgn => Reply::Pgn,
         Command::Quit => Reply::Text(Go::Quit),
         _ => Reply::Text(Go::On),

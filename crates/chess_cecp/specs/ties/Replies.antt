@@ -1,4 +1,4 @@
--- What answers a line: a text that is put together, or the game's text; and the session after it.
+-- What answers a line: a text that is put together, the legal moves, or the game's text; and the session after it.
 use Rattle.std.specs.Prelude.{if◌then◌else◌, ◌&&◌, not, ℕ, List, Bool, true, false}
 use Rattle.chess_cecp.specs.Lines.{LineSeen}
 use Rattle.chess_cecp.specs.Held.{SessionSeen}
@@ -7,9 +7,9 @@ use Rattle.chess_game.specs.Game.{State}
 use Rattle.chess_cecp.specs.declared.command.Command.{Command}
 use Rattle.chess_cecp.specs.declared.session.Go.TheVariants.{On, Quit}
 use Rattle.chess_cecp.specs.declared.session.Reply.{Reply}
-use Rattle.chess_cecp.specs.declared.session.Reply.TheVariants.{Text, Pgn}
+use Rattle.chess_cecp.specs.declared.session.Reply.TheVariants.{Text, Moves, Pgn}
 use Rattle.chess_cecp.specs.Commands.{command_of}
-use Rattle.chess_cecp.specs.declared.command.Command.TheVariants.{BareMove, ShowPgn, Unknown}
+use Rattle.chess_cecp.specs.declared.command.Command.TheVariants.{BareMove, ShowMoves, ShowPgn, Unknown}
 use Rattle.chess_text.specs.Moves.{shape}
 use Rattle.chess_cecp.specs.declared.command.Command.TheVariants as commands
 
@@ -31,21 +31,36 @@ is_quit line = not line.too_long && is_quit_command (command_of line.text)
 abbrev pub unnamed_command : List ℕ → Command
 unnamed_command text = if shape text then BareMove else Unknown
 
--- whether a command is `showpgn`, the one whose answer may be longer than the buffer for answers
+-- whether a command is `showmoves`, whose answer may be longer than the buffer for answers
+abbrev pub shows_moves : Command → Bool
+shows_moves ShowMoves = true
+shows_moves command = false
+
+-- whether a command is `showpgn`, whose answer may be longer than any buffer
 abbrev pub shows_pgn : Command → Bool
 shows_pgn ShowPgn = true
 shows_pgn command = false
+
+-- whether a line is `showmoves`
+unfoldable pub asks_for_moves : LineSeen → Bool
+asks_for_moves line = not line.too_long && shows_moves (command_of line.text)
 
 -- whether a line is `showpgn`
 unfoldable pub asks_for_pgn : LineSeen → Bool
 asks_for_pgn line = not line.too_long && shows_pgn (command_of line.text)
 
--- how the code answers a command: `showpgn` by writing the game's PGN, any other by a text in its buffer, after which
--- the session goes on, or ends after `quit`
+-- how the code answers a command: `showmoves` by the legal moves, `showpgn` by writing the game's PGN, any other by a
+-- text in its buffer, after which the session goes on, or ends after `quit`
 abbrev pub reply_of : Command → Reply
-reply_of command = if shows_pgn command then Pgn else Text (if is_quit_command command then Quit else On)
+reply_of command =
+    if shows_moves command then Moves
+    else if shows_pgn command then Pgn
+    else Text (if is_quit_command command then Quit else On)
 
--- how the code answers a line: `showpgn` by writing the game's PGN, any other by a text in its buffer, after which the
--- session goes on, or ends after `quit`
+-- how the code answers a line: `showmoves` by the legal moves, `showpgn` by writing the game's PGN, any other by a text
+-- in its buffer, after which the session goes on, or ends after `quit`
 abbrev pub reply_to : LineSeen → Reply
-reply_to line = if asks_for_pgn line then Pgn else Text (if is_quit line then Quit else On)
+reply_to line =
+    if asks_for_moves line then Moves
+    else if asks_for_pgn line then Pgn
+    else Text (if is_quit line then Quit else On)
