@@ -125,7 +125,8 @@ text_go seen line go e =
     ∙ ap (λ (b : Bool). if b then further.Quit else further.On) (sym (line_ends seen line))
   where
     at : (moves pgn : Bool)
-        → Text go ≡ (if moves then Moves else if pgn then Pgn else Text (if is_quit line then further.Quit else further.On))
+        → Text go
+        ≡ (if moves then Moves else if pgn then Pgn else Text (if is_quit line then further.Quit else further.On))
         → go ≡ (if is_quit line then further.Quit else further.On)
     at true pgn h = absurd cc
     at false true h = absurd cc

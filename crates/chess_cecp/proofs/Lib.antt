@@ -1,5 +1,6 @@
 pub mod Trims
 pub mod Parts
+pub mod LineEnds
 pub mod Reading
 pub mod Words
 pub mod RunLemmas

@@ -118,19 +118,23 @@ pgn_text seen = pgn (codes "# ") seen.tags seen.state
 pub by_moves : (seen obeyed : SessionSeen) (line : LineSeen) → Moves ≡ reply_to line
     → obeyed ≡ (session_response seen line).state → IsOwnReply moves_text seen obeyed line
 by_moves seen obeyed line e is =
-    by_row moves_text seen obeyed line (moves_row seen line (asks (asks_for_moves line) (asks_for_pgn line) (if is_quit line then further.Quit else further.On) e)) is
+    let go : Further = if is_quit line then further.Quit else further.On in
+    by_row moves_text seen obeyed line (moves_row seen line (asks (asks_for_moves line) (asks_for_pgn line) go e)) is
   where
-    asks : (m p : Bool) (go : Further) → Moves ≡ (if m then Moves else if p then Pgn else Text go) → m ≡ true
-    asks true p go e = refl
+    asks : (moves pgn : Bool) (go : Further)
+        → Moves ≡ (if moves then Moves else if pgn then Pgn else Text go) → moves ≡ true
+    asks true pgn go e = refl
     asks false true go e = absurd cc
     asks false false go e = absurd cc
 
 pub by_pgn : (seen obeyed : SessionSeen) (line : LineSeen) → Pgn ≡ reply_to line
     → obeyed ≡ (session_response seen line).state → IsOwnReply pgn_text seen obeyed line
 by_pgn seen obeyed line e is =
-    by_row pgn_text seen obeyed line (pgn_row seen line (asks (asks_for_moves line) (asks_for_pgn line) (if is_quit line then further.Quit else further.On) e)) is
+    let go : Further = if is_quit line then further.Quit else further.On in
+    by_row pgn_text seen obeyed line (pgn_row seen line (asks (asks_for_moves line) (asks_for_pgn line) go e)) is
   where
-    asks : (m p : Bool) (go : Further) → Pgn ≡ (if m then Moves else if p then Pgn else Text go) → p ≡ true
-    asks true p go e = absurd cc
+    asks : (moves pgn : Bool) (go : Further)
+        → Pgn ≡ (if moves then Moves else if pgn then Pgn else Text go) → pgn ≡ true
+    asks true pgn go e = absurd cc
     asks false true go e = refl
     asks false false go e = absurd cc

@@ -1,12 +1,13 @@
 -- What has come of a line.
-use Rattle.std.proofs.Common.{◌≡◌, ℕ, ◌+◌, ◌-◌, ◌<◌, ◌≤◌, ◌==◌, ◌&&◌, nat_lt, nat_eq, min, ◌≢◌, Some, None, Bool, true, false, List, [], ◌∷◌, ◌++◌, length, take, get_or, refl, sym, ap, ◌∙◌, arith, append_assoc, append-nil, if◌then◌else◌}
+use Rattle.std.proofs.Common.{◌≡◌, ℕ, ◌+◌, ◌-◌, ◌<◌, ◌≤◌, ◌==◌, ◌&&◌, nat_lt, nat_eq, min, ◌≢◌, Bool, true, false, List, [], ◌∷◌, ◌++◌, length, take, drop, get_or, refl, sym, ap, ◌∙◌, arith, append_assoc, append-nil, length-append, if◌then◌else◌}
 use Rattle.std.specs.List.{list_all, onto_first}
 use Rattle.std.proofs.lemmas.List.Splits.{slice_split-cons_yes, slice_split-cons_no}
-use Rattle.std.proofs.lemmas.List.{take-append-le, take_min, take_all, length-take}
+use Rattle.std.proofs.lemmas.List.{take-take, take-append-le, take-append-drop, take_min, take_all, length-take, length-take-le}
 use Rattle.std.proofs.Math.Nat.{min-le_right}
 use Rattle.std.proofs.lemmas.Grind.{common_steps}
-use Rattle.chess_cecp.specs.ties.Kept.{kept_part, SameLines, HeldLine}
-use Rattle.chess_cecp.specs.Lines.{LineSeen, Held, line_of, lines_from, lines_held, parts, lines_of_parts, with_front, trimmed, is_blank, without_front_blanks, without_end_blanks, without_return}
+use Rattle.std.proofs.lemmas.Bool.Decides.{nat_tests}
+use Rattle.chess_cecp.specs.ties.Kept.{kept_part, SameLines}
+use Rattle.chess_cecp.specs.Lines.{line_of, lines_from, parts, lines_of_parts, with_front, trimmed, is_blank, without_front_blanks, without_end_blanks, without_return}
 
 lt_true : (m n : ℕ) → m < n → nat_lt m n ≡ true
 lt_true m n h = grind arith
@@ -147,22 +148,41 @@ long_same n x y h k t at_end (c ∷ cs) =
         let other : c ≢ 10 = grind arith in
         byte_step n at_end x c cs other ∙ on ∙ sym (byte_step n at_end y c cs other)
 
--- a byte past the last that is kept
-pub overflow_same : (n : ℕ) (items : List ℕ) (long : Bool) (byte : ℕ) → length items ≡ n
-    → SameLines n (kept_part items long ++ byte ∷ []) (items ++ 0 ∷ [])
-overflow_same n items true byte e =
-    let l1 : length ((items ++ 0 ∷ []) ++ byte ∷ []) ≡ length items + 2 = grind (arith, common_steps) in
-    let l2 : length (items ++ 0 ∷ []) ≡ length items + 1 = grind (arith, common_steps) in
+-- bytes past the last that is kept: whichever they are, the lines are the same
+pub overflow_same : (n : ℕ) (items : List ℕ) (long : Bool) (bytes : List ℕ) → (long ≡ true → length items ≡ n)
+    → length items ≤ n → n - length items < length bytes
+    → SameLines n (kept_part items long ++ bytes) ((items ++ take (n - length items) bytes) ++ 0 ∷ [])
+overflow_same n items true bytes full fits over =
+    let r = n - length items in
+    let at : length items ≡ n = full refl in
     let few : shown_len n ≤ n = shown_le n in
-    long_same n ((items ++ 0 ∷ []) ++ byte ∷ []) (items ++ 0 ∷ []) (omega arith) (omega arith)
-    (take-append-le (shown_len n) (items ++ 0 ∷ []) (byte ∷ []) (omega arith))
-overflow_same n items false byte e =
-    let l1 : length (items ++ byte ∷ []) ≡ length items + 1 = grind (arith, common_steps) in
-    let l2 : length (items ++ 0 ∷ []) ≡ length items + 1 = grind (arith, common_steps) in
+    let l1 : length (items ++ 0 ∷ []) ≡ length items + 1 = length-append items (0 ∷ []) in
+    let l2 : length ((items ++ 0 ∷ []) ++ bytes) ≡ length (items ++ 0 ∷ []) + length bytes =
+    length-append (items ++ 0 ∷ []) bytes in
+    let l3 : length (items ++ take r bytes) ≡ length items + length (take r bytes) =
+    length-append items (take r bytes) in
+    let l4 : length ((items ++ take r bytes) ++ 0 ∷ []) ≡ length (items ++ take r bytes) + 1 =
+    length-append (items ++ take r bytes) (0 ∷ []) in
+    long_same n ((items ++ 0 ∷ []) ++ bytes) ((items ++ take r bytes) ++ 0 ∷ []) (omega arith) (omega arith)
+    (take-append-le (shown_len n) (items ++ 0 ∷ []) bytes (omega arith)
+    ∙ take-append-le (shown_len n) items (0 ∷ []) (omega arith)
+    ∙ sym (take-append-le (shown_len n) items (take r bytes) (omega arith))
+    ∙ sym (take-append-le (shown_len n) (items ++ take r bytes) (0 ∷ []) (omega arith)))
+overflow_same n items false bytes full fits over =
+    let r = n - length items in
     let few : shown_len n ≤ n = shown_le n in
-    long_same n (items ++ byte ∷ []) (items ++ 0 ∷ []) (omega arith) (omega arith)
-    (take-append-le (shown_len n) items (byte ∷ []) (omega arith)
-    ∙ sym (take-append-le (shown_len n) items (0 ∷ []) (omega arith)))
+    let l1 : length (items ++ bytes) ≡ length items + length bytes = length-append items bytes in
+    let l2 : length (take r bytes) ≡ r = length-take-le r bytes (omega arith) in
+    let l3 : length (items ++ take r bytes) ≡ length items + length (take r bytes) =
+    length-append items (take r bytes) in
+    let l4 : length ((items ++ take r bytes) ++ 0 ∷ []) ≡ length (items ++ take r bytes) + 1 =
+    length-append (items ++ take r bytes) (0 ∷ []) in
+    let split : items ++ bytes ≡ (items ++ take r bytes) ++ drop r bytes =
+    ap (λ v. items ++ v) (sym (take-append-drop r bytes)) ∙ sym (append_assoc items (take r bytes) (drop r bytes)) in
+    long_same n (items ++ bytes) ((items ++ take r bytes) ++ 0 ∷ []) (omega arith) (omega arith)
+    (ap (take (shown_len n)) split
+    ∙ take-append-le (shown_len n) (items ++ take r bytes) (drop r bytes) (omega arith)
+    ∙ sym (take-append-le (shown_len n) (items ++ take r bytes) (0 ∷ []) (omega arith)))
 
 le-ltb_false : (n m : ℕ) → m ≤ n → nat_lt n m ≡ false
 le-ltb_false n m h = grind arith
@@ -208,6 +228,28 @@ line_kept n e false items text whole full short is t f =
     ap (λ v. record { text = v; too_long = false; ended = e }) (f refl) ∙ sym (line_short n e items short)
     ∙ ap (line_of n e) is
 
+-- the line of bytes that have come at once, of which the first n are kept
+pub line_put : (n : ℕ) (e : Bool) (bytes kept text : List ℕ)
+    → (nat_lt n (length bytes) ≡ true → text ≡ take 64 kept)
+    → (nat_lt n (length bytes) ≡ false → text ≡ trimmed kept)
+    → (n < length bytes → kept ≡ take n bytes) → (length bytes ≤ n → kept ≡ bytes)
+    → record { text = text; too_long = nat_lt n (length bytes); ended = e } ≡ line_of n e bytes
+line_put n e bytes kept text long short front whole = at (nat_lt n (length bytes)) refl long short
+  where
+    at : (b : Bool) → nat_lt n (length bytes) ≡ b → (b ≡ true → text ≡ take 64 kept)
+        → (b ≡ false → text ≡ trimmed kept) → record { text = text; too_long = b; ended = e } ≡ line_of n e bytes
+    at true t l s =
+        let over : n < length bytes = grind (arith, nat_tests, t) in
+        let len : length (take n bytes) ≡ n = length-take-le n bytes (omega arith) in
+        ap (λ v. record { text = v; too_long = true; ended = e })
+        (l refl ∙ ap (take 64) (front over) ∙ sym (shown_kept n (take n bytes) len)
+        ∙ take-take (shown_len n) n bytes (shown_le n))
+        ∙ sym (line_over n e bytes over)
+    at false t l s =
+        let fits : length bytes ≤ n = grind (arith, nat_tests, t) in
+        ap (λ v. record { text = v; too_long = false; ended = e }) (s refl ∙ ap trimmed (whole fits))
+        ∙ sym (line_short n e bytes fits)
+
 pub web_short : (xs : List ℕ) → length (without_end_blanks xs) ≤ length xs
 web_short [] = omega arith
 web_short (c ∷ cs) =
@@ -240,39 +282,6 @@ trimmed_short xs =
     let d : length (without_return xs) ≤ length xs = wr_short xs in
     omega arith
 
--- what is held, as a part and a window
-abbrev pub Denoted : ℕ → Held → List ℕ → List ℕ → Type 0
-Denoted n held part window = (at_end : Bool) (rest : List ℕ)
-    → lines_held n at_end held rest ≡ lines_from n at_end part (window ++ rest)
-
 pub line_ended : (n : ℕ) (e : Bool) (piece : List ℕ) → (line_of n e piece).ended ≡ e
 unfolding line_of
 line_ended n e piece = refl
-
-pub found_line : (n : ℕ) (held : Held) (part part' window window' : List ℕ) (b : ℕ) (line : LineSeen)
-    → Denoted n held part window → length window ≤ length held.coming
-    → window ≡ b ∷ window' → b ≡ 10 → line ≡ line_of n true part → part' ≡ []
-    → HeldLine n held (record { part = part'; coming = window' }) (Some line)
-found_line n held part part' window window' b line same fewer w ten is empty = (
-  ap (λ (l : LineSeen). l.ended) is ∙ line_ended n true part,
-  omega (arith, ap length w),
-  λ at_end rest. same at_end rest ∙ ap (λ v. lines_from n at_end part (v ++ rest)) w
-      ∙ ten_step n at_end part b (window' ++ rest) ten
-      ∙ ap (λ v. v ∷ lines_from n at_end [] (window' ++ rest)) (sym is)
-      ∙ ap (λ v. line ∷ lines_from n at_end v (window' ++ rest)) (sym empty),
-)
-
-pub one_byte : (n : ℕ) (held : Held) (part part' window window' : List ℕ) (b : ℕ) → Denoted n held part window
-    → window ≡ b ∷ window' → b ≢ 10 → SameLines n (part ++ b ∷ []) part' → Denoted n held part' window'
-one_byte n held part part' window window' b same w ten add at_end rest =
-    same at_end rest ∙ ap (λ v. lines_from n at_end part (v ++ rest)) w
-    ∙ byte_step n at_end part b (window' ++ rest) ten
-    ∙ add at_end (window' ++ rest)
-
-pub no_line : (n : ℕ) (held : Held) (part window window' : List ℕ) → Denoted n held part window → window ≡ []
-    → window' ≡ [] → HeldLine n held (record { part = part; coming = window' }) None
-no_line n held part window window' same w w' = (
-  same false [] ∙ ap (λ v. lines_from n false part (v ++ [])) w ∙ none_from n part,
-  w',
-  λ at_end rest. same at_end rest ∙ ap (λ v. lines_from n at_end part (v ++ rest)) (w ∙ sym w'),
-)

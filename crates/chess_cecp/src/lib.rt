@@ -11,6 +11,7 @@ mod answer;
 mod command;
 mod declaring;
 mod laws;
+mod line_end;
 mod lines;
 mod run;
 mod session;

@@ -1,14 +1,15 @@
 //! The lines of a stream, in whatever pieces it comes.
 
-ghost use Rattle.std.specs.Prelude.{◌≡◌, ◌≢◌, ◌+◌, ◌≤◌, ◌==◌, [], ◌∷◌, ◌++◌, length, take, true, false, Ok, MatchOption, MatchResult};
+ghost use Rattle.std.specs.Prelude.{◌≡◌, ◌≢◌, ◌+◌, ◌≤◌, ◌==◌, [], ◌∷◌, ◌++◌, length, take, drop, true, false, Ok, MatchOption, MatchResult};
 ghost use Rattle.byte_devices.specs.Devices.{GavePiece, FailedToRead};
 ghost use Rattle.chess_cecp.specs.Lines.{empty_line, line_of, nothing_held, trimmed};
 ghost use Rattle.chess_cecp.specs.Next.{NextLine, line_if, line_read};
 ghost use Rattle.chess_cecp.specs.ties.Kept.{SameLines, HeldLine, Filled};
 
+use crate::line_end::line_len;
 use crate::trim::trim;
 use arrayvec::ArrayVec;
-use byte_devices::{Input, ReadFault};
+use byte_devices::{Input, ReadFault, append};
 use std::marker::Model;
 
 /// A line of a stream, of at most N bytes: its text, or of one that is too long its first 64 bytes (N, if N is less).
@@ -106,14 +107,16 @@ impl<const N: usize> Part<N> {
         self.bytes.is_empty()
     }
 
-    // Adds a byte to the line; if it has N bytes already, the byte is dropped, and the line is too long.
-    fn add(&mut self, byte: u8)
-        ensures { SameLines N (self.old ++ byte ∷ []) self.new }
+    // Adds bytes to the line; those after the first N of the line are dropped, and then the line is too long.
+    fn add(&mut self, bytes: &[u8])
+        ensures { SameLines N (self.old ++ bytes.now) self.new }
     {
-        if self.bytes.is_full() {
+        let room = N - self.bytes.len();
+        if bytes.len() > room {
+            append(&mut self.bytes, &bytes[..room]);
             self.is_too_long = true;
         } else {
-            self.bytes.push(byte);
+            append(&mut self.bytes, bytes);
         }
     }
 
@@ -123,11 +126,25 @@ impl<const N: usize> Part<N> {
         ensures line { line.new ≡ line_of N is_ended self.old }
         ensures empty { self.new ≡ [] }
     {
-        put_text(&self.bytes, self.is_too_long, &mut line.text);
+        put_text(self.bytes.as_slice(), self.is_too_long, &mut line.text);
         line.too_long = self.is_too_long;
         line.ended = is_ended;
         self.bytes.clear();
         self.is_too_long = false;
+    }
+
+    // Adds these bytes, which `\n` follows, and ends the line with them: puts it into `line`, in place of what that held,
+    // and begins the next one. A line that comes at once goes there straight.
+    fn finish_with(&mut self, bytes: &[u8], line: &mut Line<N>)
+        ensures line { line.new ≡ line_of N true (self.old ++ bytes.now) }
+        ensures empty { self.new ≡ [] }
+    {
+        if self.is_empty() {
+            put_line(bytes, line);
+        } else {
+            self.add(bytes);
+            self.finish(true, line);
+        }
     }
 }
 
@@ -142,19 +159,31 @@ fn beginning(text: &[u8]) -> &[u8]
 
 // Puts the text of a line of these bytes into `text`, in place of what that held: if it is too long its first 64 bytes,
 // else all without one `\r` at the end and then without spaces and tabs at both ends.
-fn put_text<const N: usize>(bytes: &ArrayVec<u8, N>, is_too_long: bool, text: &mut ArrayVec<u8, N>)
-    ensures long { is_too_long ≡ true → text.new.items ≡ take 64 bytes.now.items }
-    ensures short { is_too_long ≡ false → text.new.items ≡ trimmed bytes.now.items }
+fn put_text<const N: usize>(bytes: &[u8], is_too_long: bool, text: &mut ArrayVec<u8, N>)
+    requires { length bytes.now ≤ N }
+    ensures long { is_too_long ≡ true → text.new.items ≡ take 64 bytes.now }
+    ensures short { is_too_long ≡ false → text.new.items ≡ trimmed bytes.now }
 {
     let kept = if is_too_long {
-        beginning(bytes.as_slice())
+        beginning(bytes)
     } else {
-        trim(bytes.as_slice())
+        trim(bytes)
     };
     text.clear();
     if text.try_extend_from_slice(kept).is_err() {
         unreachable!();
     }
+}
+
+// Puts the line of these bytes, which `\n` ended, into `line`, in place of what that held.
+fn put_line<const N: usize>(bytes: &[u8], line: &mut Line<N>)
+    ensures { line.new ≡ line_of N true bytes.now }
+{
+    let is_too_long = bytes.len() > N;
+    let kept = if is_too_long { &bytes[..N] } else { bytes };
+    put_text(kept, is_too_long, &mut line.text);
+    line.too_long = is_too_long;
+    line.ended = true;
 }
 
 // How many bytes a read asks for.
@@ -191,16 +220,19 @@ impl Window {
         }
     }
 
-    // Removes the next byte from the window, and returns it; `None` if there is none.
-    fn take_byte(&mut self) -> Option<u8>
-        ensures { MatchOption result ((self.old ≡ []) × (self.new ≡ [])) (λ byte. self.old ≡ byte ∷ self.new) }
+    // The bytes in the window.
+    fn bytes(&self) -> &[u8]
+        ensures { result.now ≡ self.now }
     {
-        if self.from == self.to {
-            return None;
-        }
-        let byte = self.piece[self.from];
-        self.from += 1;
-        Some(byte)
+        &self.piece[self.from..self.to]
+    }
+
+    // Removes so many bytes from the window, the first of them.
+    fn remove(&mut self, count: usize)
+        requires { count ≤ length self.old }
+        ensures { self.new ≡ drop count self.old }
+    {
+        self.from += count;
     }
 
     // Reads once, into the window, which is empty before, and returns how many bytes came; 0 is the input's end.
@@ -250,14 +282,16 @@ impl<const N: usize> Lines<N> {
         ensures held { HeldLine N self.old self.new (line_if result line.new) }
         ensures kept { result ≡ false → line.new ≡ line.old }
     {
-        while let Some(byte) = self.window.take_byte() {
-            if byte == b'\n' {
-                self.part.finish(true, line);
-                return true;
-            }
-            self.part.add(byte);
+        let coming = self.window.bytes();
+        let len = line_len(coming);
+        if len == coming.len() {
+            self.part.add(coming);
+            self.window.remove(len);
+            return false;
         }
-        false
+        self.part.finish_with(&coming[..len], line);
+        self.window.remove(len + 1);
+        true
     }
 
     /// The next line, or `None` at the input's end. It reads only if what was read before has no whole line.

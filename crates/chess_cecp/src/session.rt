@@ -389,7 +389,7 @@ impl<B: Board> Session<B> {
         reply_of(command)
     }
 
-    // Answers `showmoves`: writes the legal moves to the writer, and flushes. Their list and its text are large, so they
+    // Answers `showmoves`: writes the legal moves, and flushes the writer. Their list and its text are large, so they
     // are kept out of the stack frames of other commands.
     #[inline(never)]
     fn send_moves<W: Output>(&self, writer: &mut W) -> Result<(), WriteFault>

@@ -6,11 +6,10 @@ use Rattle.chess_cecp.proofs.lines.put_text.Goals.{then-is_too_long, else-is_too
 
 pub unreachable-requires : goal.unreachable-requires
 unreachable-requires g c =
+    let came = c.requires in
     let fits : length c.if-is_too_long.kept.now ≤ g.row.N = elim c.if-is_too_long.branch [
-      | then-is_too_long w ↦ let h = w.as_slice.ensures.fits in let f = w.beginning-kept.ensures.short in
-          rw w.kept-is (omega arith)
-      | else-is_too_long w ↦ let h = w.as_slice-else-is_too_long.ensures.fits in let f = w.trim-kept.ensures.short in
-          rw w.kept-is (omega arith)
+      | then-is_too_long w ↦ let f = w.beginning-kept.ensures.short in rw w.kept-is (omega (arith, came))
+      | else-is_too_long w ↦ let f = w.trim-kept.ensures.short in rw w.kept-is (omega (arith, came))
     ] in
     let room : length c.clear.new.self.items + length c.if-is_too_long.kept.now ≤ g.row.N =
     omega (arith, ap length c.clear.ensures) in

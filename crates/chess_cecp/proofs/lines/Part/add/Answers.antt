@@ -1,12 +1,20 @@
--- A byte past the last that is kept: whichever it is, the lines are the same (Parts.overflow_same).
-use Rattle.std.proofs.Common.{arith, ◌≡◌, ◌++◌, ◌∷◌, [], length, List, ℕ, subst}
-use Rattle.chess_cecp.specs.ties.Kept.{SameLines}
+-- Bytes past the last that is kept: whichever they are, the lines are the same (Parts.overflow_same).
+use Rattle.std.proofs.Common.{arith, ◌≡◌, ◌++◌, ◌∷◌, ◌-◌, ◌<◌, [], length, take, List, ℕ, ap, sym, subst, ◌∙◌}
+use Rattle.chess_cecp.specs.ties.Kept.{kept_part, SameLines}
 use Rattle.chess_cecp.proofs.Parts.{overflow_same}
 use Rattle.chess_cecp.proofs.lines.Part.add.Goals as goal
 
-pub returns-then-is_full : goal.returns-then-is_full
-returns-then-is_full g c =
-    let full : length c.self.inside.bytes.items ≡ g.row.N = grind (arith, c.if-is_full.ensures.value) in
-    let P : List ℕ → Type 0 = λ v. SameLines g.row.N (v ++ c.args.byte ∷ []) (c.self.inside.bytes.items ++ 0 ∷ []) in
+pub returns-then-bytes-room : goal.returns-then-bytes-room
+returns-then-bytes-room g c =
+    let n = g.row.N in
+    let items = c.self.inside.bytes.items in
+    let room : n - c.len-room.result ≡ n - length items = ap (λ k. n - k) c.len-room.ensures.value in
+    let kept : items ++ take (n - length items) c.args.bytes.now ≡ c.append.new.buffer.items =
+    ap (λ k. items ++ take k c.args.bytes.now) (sym room) ∙ sym c.append.ensures.text in
+    let over : n - length items < length c.args.bytes.now = omega (arith, room, c.if-bytes-room.true) in
+    let P : List ℕ → Type 0 = λ v. SameLines n (v ++ c.args.bytes.now) (c.append.new.buffer.items ++ 0 ∷ []) in
+    let came : List ℕ = kept_part items c.self.inside.is_too_long ++ c.args.bytes.now in
+    let Q : List ℕ → Type 0 = λ v. SameLines n came (v ++ 0 ∷ []) in
     subst P c.self.view_is
-    (overflow_same g.row.N c.self.inside.bytes.items c.self.inside.is_too_long c.args.byte full)
+    (subst Q kept
+    (overflow_same n items c.self.inside.is_too_long c.args.bytes.now c.self.invariant.0 c.self.invariant.1 over))

@@ -1,6 +1,6 @@
--- A line that is answered by the legal moves or by the game's text has a row of its own: the text is the answer, nothing
--- changes, and it is no quit (OwnRows.by_moves, OwnRows.by_pgn). The text of all other answers is put together by
--- `obey_line`.
+-- A line that is answered by the legal moves or by the game's text has a row of its own: the text is the answer,
+-- nothing changes, and it is no quit (OwnRows.by_moves, OwnRows.by_pgn). The text of all other answers is put together
+-- by `obey_line`.
 use Rattle.std.proofs.Common.{refl, ◌∙◌}
 use Rattle.chess_cecp.proofs.Ends.{text_go}
 use Rattle.chess_cecp.proofs.OwnRows.{by_moves, by_pgn}
@@ -65,7 +65,8 @@ returns-in-Ok-send_pgn-clause-next g c = c.send_pgn.ensures.same ∙ c.obey_line
 
 pub returns-in-Ok-send_pgn-clause-written : goal.returns-in-Ok-send_pgn-clause-written
 returns-in-Ok-send_pgn-clause-written g c =
-    rw (by_pgn c.args.self.now c.obey_line.new.self c.args.line.now c.in-Pgn.ensures.reply c.obey_line.ensures.next).text
+    rw (by_pgn c.args.self.now c.obey_line.new.self c.args.line.now c.in-Pgn.ensures.reply
+    c.obey_line.ensures.next).text
     c.in-Ok-send_pgn.ensures.written
 
 pub returns-in-Ok-send_pgn-clause-go : goal.returns-in-Ok-send_pgn-clause-go
@@ -87,7 +88,8 @@ returns-in-Err-send_pgn-clause-next g c = c.send_pgn.ensures.same ∙ c.obey_lin
 
 pub returns-in-Err-send_pgn-clause-written : goal.returns-in-Err-send_pgn-clause-written
 returns-in-Err-send_pgn-clause-written g c =
-    rw (by_pgn c.args.self.now c.obey_line.new.self c.args.line.now c.in-Pgn.ensures.reply c.obey_line.ensures.next).text
+    rw (by_pgn c.args.self.now c.obey_line.new.self c.args.line.now c.in-Pgn.ensures.reply
+    c.obey_line.ensures.next).text
     c.in-Err-send_pgn.ensures.written
 
 pub returns-in-Err-send_pgn-clause-refused : goal.returns-in-Err-send_pgn-clause-refused
