@@ -37,7 +37,7 @@ read_alone p text m legal is alone = rw is (ap one_of (only-move p (λ n. denote
 
 -- ---- the text of parts
 
-no_name : (text : List ℕ) (q : Parts) → parts_at text ≡ Some q → (w : CastlingSide) → names_side text w ≡ false
+pub no_name : (text : List ℕ) (q : Parts) → parts_at text ≡ Some q → (w : CastlingSide) → names_side text w ≡ false
 no_name text q e w = false_from_ne_true (names_side text w)
     (λ named. let none = (castling_from_name text w named).no_parts in cc)
 

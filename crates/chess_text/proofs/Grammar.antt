@@ -26,7 +26,7 @@ either : {A : Type 0} (o p : Option A) (x : A) → or_else o p ≡ Some x → (o
 either (Some y) p x e = inl e
 either None p x e = inr e
 
-found : (kinds : List Kind) (c : ℕ) (k : Kind) → kind_from kinds c ≡ Some k → white_letter k ≡ c
+pub found : (kinds : List Kind) (c : ℕ) (k : Kind) → kind_from kinds c ≡ Some k → white_letter k ≡ c
 found [] c k e = absurd cc
 found (j ∷ kinds) c k e = by_test (λ h. found kinds c k h) (eqb (white_letter j) c) refl e
   where
@@ -343,7 +343,7 @@ file-denoted letter (Some f) o b x h k e =
 
 -- ---- the letter
 
-lettered_is : (k : Kind) → kind_from lettered_kinds (white_letter k) ≡ Some k → HasLetter k
+pub lettered_is : (k : Kind) → kind_from lettered_kinds (white_letter k) ≡ Some k → HasLetter k
 lettered_is Pawn e = absurd cc
 lettered_is Knight e = tt
 lettered_is Bishop e = tt

@@ -16,6 +16,7 @@ pub mod PieceText
 pub mod Alone
 pub mod CoordinateLaw
 pub mod Solid
+pub mod UsualForms
 pub mod Words
 pub mod SanLaw
 pub mod ShownLaw

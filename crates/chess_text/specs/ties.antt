@@ -4,3 +4,4 @@ pub mod Forms
 pub mod Reader
 pub mod SanParts
 pub mod Fitting
+pub mod Usual

@@ -17,6 +17,7 @@ mod form;
 mod laws;
 mod parts;
 mod reading;
+mod usual;
 mod writing;
 
 pub use coordinates::{CoordinateText, coordinate, move_text};

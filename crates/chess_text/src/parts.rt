@@ -33,7 +33,8 @@ pub struct Parts {
 }
 
 // Whether a byte is one of the marks `+`, `#`, `!` and `?`.
-fn is_mark(byte: u8) -> bool
+#[inline(always)]
+pub(crate) fn is_mark(byte: u8) -> bool
     ensures { result ≡ is_mark byte }
 {
     byte == b'+' || byte == b'#' || byte == b'!' || byte == b'?'

@@ -6,11 +6,13 @@ ghost use Rattle.chess_base.specs.MoveList.{promotions, moves};
 ghost use Rattle.chess_text.specs.Moves.{shape, one_of, reading, has_shape, IsLegalReading};
 ghost use Rattle.chess_text.specs.declared.form.Form.TheVariants.{Piece};
 ghost use Rattle.chess_text.specs.ties.Forms.{is_denoted, castling_end, end_square, denoted_with, with_move, with_moves, named_square, one_kind, is_denoted_by_letter, is_denoted_by_pawn, is_denoted_of, denoted_start, IsStart};
+ghost use Rattle.chess_text.specs.ties.Usual.{usual_kind};
 ghost use Rattle.chess_moves.specs.Sets.{members};
 
 use crate::described::{admits, captures, names};
 use crate::form::{Form, is_denoted, read_form};
 use crate::parts::Parts;
+use crate::usual::{usual_parts, without_mark};
 use chess_base::rules::{castled_king_file, castling, home_square, right_of};
 use chess_base::{CastlingSide, Colour, Kind, Move, Setup, Square, Variant};
 use chess_moves::{Board, SquareSet, would_promote};
@@ -332,6 +334,32 @@ fn denoted<B: Board>(board: &B, form: &Form) -> Reading
     denoted_from_origins(board, form)
 }
 
+// What a text of these parts, of a usual shape, is read as in the board's position: one legal move, several
+// (`Ambiguous`) or none (`NoSuch`). Such parts always say which kind of piece is meant: that of their letter, without
+// one a pawn.
+#[inline(always)]
+fn denoted_usual<B: Board>(board: &B, parts: &Parts) -> Reading
+    requires { one_kind parts.now ≡ Some (usual_kind parts.now.letter) }
+    ensures { result ≡ one_of
+        (filter (λ m. is_denoted (Piece parts.now) (B.position board.now) m) (moves (B.position board.now))) }
+{
+    match parts.letter {
+        Some(kind) => denoted_by_kind(board, parts, kind),
+        None => denoted_by_kind(board, parts, Kind::Pawn),
+    }
+}
+
+// Reads a text of any shape as a move of the board's position. Seldom called, so not inlined.
+#[inline(never)]
+fn read_any_move<B: Board>(board: &B, text: &[u8]) -> Reading
+    ensures { result ≡ reading (B.position board.now) text.now }
+{
+    let Some(form) = read_form(text) else {
+        return Reading::NotAMove;
+    };
+    denoted(board, &form)
+}
+
 /// Reads a text as a move of the board's position: a legal move if the text denotes exactly one, else why it doesn't.
 /// Whether a mark `+` or `#` is true isn't asked; en passant is a capture.
 #[inline(always)]
@@ -340,8 +368,8 @@ pub fn read_move<B: Board>(board: &B, text: &[u8]) -> Reading
     ensures legal { IsLegalReading (B.position board.now) result }
     ensures shape { has_shape result ≡ shape text.now }
 {
-    let Some(form) = read_form(text) else {
-        return Reading::NotAMove;
-    };
-    denoted(board, &form)
+    if let Some(parts) = usual_parts(without_mark(text)) {
+        return denoted_usual(board, &parts);
+    }
+    read_any_move(board, text)
 }

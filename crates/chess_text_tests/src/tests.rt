@@ -186,6 +186,15 @@ const OTHER_TEXTS: &[(&[u8], Wanted)] = &[
     (b"bc3", Wanted::NoSuch),
     (b"cc3", Wanted::NoSuch),
     (b"c2c3", Wanted::NoSuch),
+    (b"e6!", Wanted::Move(b"e5e6")),
+    (b"exd6+", Wanted::Move(b"e5d6")),
+    (b"exd6+#", Wanted::Move(b"e5d6")),
+    (b"cxd6", Wanted::NoSuch),
+    (b"Rad1#", Wanted::Move(b"a1d1")),
+    (b"Nfg5?", Wanted::Move(b"f3g5")),
+    (b"Ncd5", Wanted::NoSuch),
+    (b"Bd2", Wanted::NoSuch),
+    (b"Qxd5", Wanted::NoSuch),
 ];
 
 #[test]
@@ -210,6 +219,13 @@ const BROKEN_TEXTS: &[(&[u8], Wanted)] = &[
     (b"--", Wanted::NotAMove),
     (b"Z0", Wanted::NotAMove),
     (b"@@@@", Wanted::NotAMove),
+    (b"e+", Wanted::NotAMove),
+    (b"e+6", Wanted::NotAMove),
+    (b"ixd6", Wanted::NotAMove),
+    (b"xxd6", Wanted::NotAMove),
+    (b"Nid4", Wanted::NotAMove),
+    (b"Nxd0", Wanted::NotAMove),
+    (b"Pxd6", Wanted::NotAMove),
 ];
 
 #[test]

@@ -1,26 +1,33 @@
--- A text denotes what its form denotes, and one without a form is no move (reading_denoted, reading_nothing of
--- FormFacts); what is read is in the list of legal moves (reads_legal), and decides whether the text has a move's
--- shape (Shapes.read_shape).
+-- A text of a usual shape is read as its parts, which say the kind of piece (usual_form, usual_one_kind of UsualForms),
+-- and denotes what these denote (reading_denoted of FormFacts). What is read is in the list of legal moves
+-- (reads_legal), and decides whether the text has a move's shape (Shapes.read_shape).
 use Rattle.std.proofs.Common.{ap, sym, ◌∙◌}
 use Rattle.chess_text.specs.Moves.{has_shape}
+use Rattle.chess_text.specs.declared.form.Form.TheVariants.{Piece}
 use Rattle.chess_text.proofs.Shapes.{read_shape}
-use Rattle.chess_text.proofs.FormFacts.{reading_denoted, reading_nothing, reads_legal}
+use Rattle.chess_text.proofs.FormFacts.{reading_denoted, reads_legal}
+use Rattle.chess_text.proofs.UsualForms.{usual_form, usual_one_kind}
 use Rattle.chess_text.proofs.reading.read_move.Goals as goal
 
-pub returns-in_default-clause-value : goal.returns-in_default-clause-value
-returns-in_default-clause-value g c = reading_nothing _ c.args.text.now (sym c.in_default.ensures)
+pub denoted_usual-requires : goal.denoted_usual-requires
+denoted_usual-requires g c = usual_one_kind c.without_mark.result.now c.in-Some.parts c.in-Some.ensures
 
-pub returns-clause-value : goal.returns-clause-value
-returns-clause-value g c = c.denoted.ensures ∙ reading_denoted (g.B.Board.position c.args.board.now) c.args.text.now
-    c.in-Some.form (sym c.in-Some.ensures)
+pub returns-in-Some-clause-value : goal.returns-in-Some-clause-value
+returns-in-Some-clause-value g c = c.denoted_usual.ensures
+    ∙ reading_denoted (g.B.Board.position c.args.board.now) c.args.text.now (Piece c.in-Some.parts)
+    (sym (usual_form c.args.text.now c.without_mark.result.now c.in-Some.parts c.without_mark.ensures c.in-Some.ensures))
+
+pub returns-in-Some-clause-legal : goal.returns-in-Some-clause-legal
+returns-in-Some-clause-legal g c = reads_legal (g.B.Board.position c.args.board.now) c.args.text.now
+    c.denoted_usual.result (returns-in-Some-clause-value g c)
+
+pub returns-in-Some-clause-shape : goal.returns-in-Some-clause-shape
+returns-in-Some-clause-shape g c =
+    ap has_shape (returns-in-Some-clause-value g c) ∙ read_shape _ c.args.text.now
 
 pub returns-clause-legal : goal.returns-clause-legal
-returns-clause-legal g c = reads_legal (g.B.Board.position c.args.board.now) c.args.text.now c.denoted.result
-    (returns-clause-value g c)
-
-pub returns-in_default-clause-shape : goal.returns-in_default-clause-shape
-returns-in_default-clause-shape g c =
-    ap has_shape (returns-in_default-clause-value g c) ∙ read_shape _ c.args.text.now
+returns-clause-legal g c = reads_legal (g.B.Board.position c.args.board.now) c.args.text.now c.read_any_move.result
+    c.read_any_move.ensures
 
 pub returns-clause-shape : goal.returns-clause-shape
-returns-clause-shape g c = ap has_shape (returns-clause-value g c) ∙ read_shape _ c.args.text.now
+returns-clause-shape g c = ap has_shape c.read_any_move.ensures ∙ read_shape _ c.args.text.now

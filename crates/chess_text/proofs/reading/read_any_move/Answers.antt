@@ -1,0 +1,12 @@
+-- A text denotes what its form denotes, and one without a form is no move (reading_denoted, reading_nothing of
+-- FormFacts).
+use Rattle.std.proofs.Common.{sym, ◌∙◌}
+use Rattle.chess_text.proofs.FormFacts.{reading_denoted, reading_nothing}
+use Rattle.chess_text.proofs.reading.read_any_move.Goals as goal
+
+pub returns-in_default : goal.returns-in_default
+returns-in_default g c = reading_nothing _ c.args.text.now (sym c.in_default.ensures)
+
+pub returns : goal.returns
+returns g c = c.denoted.ensures ∙ reading_denoted (g.B.Board.position c.args.board.now) c.args.text.now
+    c.in-Some.form (sym c.in-Some.ensures)
