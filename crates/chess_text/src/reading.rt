@@ -249,23 +249,17 @@ fn with_start(found: Reading, setup: &Setup, parts: &Parts, kind: Kind, from: Sq
     }
 }
 
-// What a text of these parts is read as, from the reading so far (`before`) and the legal moves of pieces of this kind
-// from the squares `starts` to their end square, as far as the parts denote them: a single move in all is the reading,
-// several are `Ambiguous`. Seldom called, so not inlined.
+// What a text of these parts is read as from the legal moves of pieces of this kind from the squares `starts` to their
+// end square, as far as the parts denote them: a single move is the reading, several are `Ambiguous`. Seldom called, so
+// not inlined.
 #[inline(never)]
-fn with_starts(
-    before: Reading,
-    setup: &Setup,
-    parts: &Parts,
-    kind: Kind,
-    starts: SquareSet,
-) -> Reading
-    ensures { result ≡ with_moves before (flat_map (denoted_start parts.now setup.now kind) (members starts)) }
+fn with_starts(setup: &Setup, parts: Parts, kind: Kind, starts: SquareSet) -> Reading
+    ensures { result ≡ one_of (flat_map (denoted_start parts setup.now kind) (members starts)) }
 {
-    let mut found = before;
+    let mut found = Reading::NoSuch;
     let mut rest = starts;
     while let Some(from) = rest.take_first() {
-        found = with_start(found, setup, parts, kind, from);
+        found = with_start(found, setup, &parts, kind, from);
     }
     found
 }
@@ -280,11 +274,12 @@ fn denoted_among(setup: &Setup, parts: &Parts, kind: Kind, starts: SquareSet) ->
     let Some(from) = rest.take_first() else {
         return Reading::NoSuch;
     };
-    let found = with_start(Reading::NoSuch, setup, parts, kind, from);
     if rest.is_empty() {
-        return found;
+        return with_start(Reading::NoSuch, setup, parts, kind, from);
     }
-    with_starts(found, setup, parts, kind, rest)
+    // A copy of the parts and a variable for the reading: so both stay in registers where there is one start.
+    let found = with_starts(setup, *parts, kind, starts);
+    found
 }
 
 // What a text of these parts, in which only pieces of this kind can be meant, and no promotion, is read as in the
@@ -368,8 +363,8 @@ pub fn read_move<B: Board>(board: &B, text: &[u8]) -> Reading
     ensures legal { IsLegalReading (B.position board.now) result }
     ensures shape { has_shape result ≡ shape text.now }
 {
-    if let Some(parts) = usual_parts(without_mark(text)) {
-        return denoted_usual(board, &parts);
+    match usual_parts(without_mark(text)) {
+        Some(parts) => denoted_usual(board, &parts),
+        None => read_any_move(board, text),
     }
-    read_any_move(board, text)
 }

@@ -1,5 +1,4 @@
--- The first square and those that are left are all (more_found of Origins); where none is left, nothing follows
--- (last_found).
+-- The first square is all of them where none is left (more_found and last_found of Origins).
 use Rattle.std.proofs.Common.{sym, ap, ◌∙◌}
 use Rattle.std.proofs.lemmas.Bool.{eqb-true}
 use Rattle.std.specs.List.{flat_map}
@@ -19,17 +18,9 @@ returns-in_default c =
 pub returns-then-is_empty : goal.returns-then-is_empty
 returns-then-is_empty c =
     let f = denoted_start c.args.parts.now c.args.setup.now c.args.kind in
-    last_found f c.with_start-found.result _ (members c.take_first.new.self)
+    last_found f c.with_start.result _ (members c.take_first.new.self)
     (members_none c.take_first.new.self
     (eqb-true c.take_first.new.self 0 (sym c.is_empty.ensures.zero ∙ c.if-is_empty.true)))
-    (more_found f reads.NoSuch c.with_start-found.result _ c.in-Some.from (members c.args.starts)
+    (more_found f reads.NoSuch c.with_start.result _ c.in-Some.from (members c.args.starts)
     (members c.take_first.new.self) c.in-Some.ensures
-    (one_found (flat_map f (members c.args.starts))) c.with_start-found.ensures)
-
-pub returns : goal.returns
-returns c =
-    let f = denoted_start c.args.parts.now c.args.setup.now c.args.kind in
-    c.with_starts.ensures
-    ∙ more_found f reads.NoSuch c.with_start-found.result _ c.in-Some.from (members c.args.starts)
-    (members c.take_first.new.self) c.in-Some.ensures
-    (one_found (flat_map f (members c.args.starts))) c.with_start-found.ensures
+    (one_found (flat_map f (members c.args.starts))) c.with_start.ensures)

@@ -25,9 +25,9 @@ pub returns-in-Some-clause-shape : goal.returns-in-Some-clause-shape
 returns-in-Some-clause-shape g c =
     ap has_shape (returns-in-Some-clause-value g c) ∙ read_shape _ c.args.text.now
 
-pub returns-clause-legal : goal.returns-clause-legal
-returns-clause-legal g c = reads_legal (g.B.Board.position c.args.board.now) c.args.text.now c.read_any_move.result
+pub returns-in-None-clause-legal : goal.returns-in-None-clause-legal
+returns-in-None-clause-legal g c = reads_legal (g.B.Board.position c.args.board.now) c.args.text.now c.read_any_move.result
     c.read_any_move.ensures
 
-pub returns-clause-shape : goal.returns-clause-shape
-returns-clause-shape g c = ap has_shape c.read_any_move.ensures ∙ read_shape _ c.args.text.now
+pub returns-in-None-clause-shape : goal.returns-in-None-clause-shape
+returns-in-None-clause-shape g c = ap has_shape c.read_any_move.ensures ∙ read_shape _ c.args.text.now

@@ -1,6 +1,7 @@
 use Rattle.std.proofs.Common.{◌≡◌, length}
 use Rattle.std.specs.List.{flat_map}
 use Rattle.chess_moves.specs.Sets.{members}
+use Rattle.chess_text.specs.Moves.{one_of}
 use Rattle.chess_text.specs.ties.Forms.{denoted_start, with_moves}
 use Rattle.chess_text.proofs.reading.with_starts.Given as goal
 
@@ -8,7 +9,7 @@ use Rattle.chess_text.proofs.reading.with_starts.Given as goal
 abbrev pub invariant-loop-from : goal.invariant-loop-from
 invariant-loop-from l =
     with_moves l.found (flat_map (denoted_start l.parts l.setup l.kind) (members l.rest))
-    ≡ with_moves l.fn.before (flat_map (denoted_start l.parts l.setup l.kind) (members l.fn.starts))
+    ≡ one_of (flat_map (denoted_start l.parts l.setup l.kind) (members l.fn.starts))
 
 abbrev pub decreases-loop-from : goal.decreases-loop-from
 decreases-loop-from l = length (members l.rest)

@@ -1,0 +1,6 @@
+-- The reading so far is `NoSuch` before the first square (one_found of Origins).
+use Rattle.chess_text.proofs.Origins.{one_found}
+use Rattle.chess_text.proofs.reading.with_starts.Goals as goal
+
+pub loop-from-init : goal.loop-from-init
+loop-from-init c = one_found _
