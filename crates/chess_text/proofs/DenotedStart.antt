@@ -167,7 +167,7 @@ pawn_fits_by (Some n) r takes captured a to o e = rw (e, eq-eqb to to refl)
 
 -- ---- as the parts are
 
-denoted_as : (p : Setup) (m : Move) (h : IsMove p m) (q : Parts) → is_denoted (Piece q) p m
+pub denoted_as : (p : Setup) (m : Move) (h : IsMove p m) (q : Parts) → is_denoted (Piece q) p m
     ≡ parts_fit q (told_of p m h.man)
 unfolding is_denoted
 denoted_as p m h q = rw (described_is p m h) refl

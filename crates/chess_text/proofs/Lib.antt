@@ -17,6 +17,7 @@ pub mod Alone
 pub mod CoordinateLaw
 pub mod Solid
 pub mod UsualForms
+pub mod TwoSquares
 pub mod Words
 pub mod SanLaw
 pub mod ShownLaw

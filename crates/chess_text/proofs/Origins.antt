@@ -132,13 +132,13 @@ file_there : (f r : Option ℕ) (s : ℕ) → named_square f r ≡ Some s → f 
 file_there None r s e n A = absurd cc
 file_there (Some f) r s e n A = absurd cc
 
-pub by_squares : (p : Setup) (q : Parts) (s w : ℕ) → q.letter ≡ None → named_square q.file q.rank ≡ Some s
-    → ((k : ℕ) → contains w k ≡ (k == s)) → IsStart p (Piece q) w
-by_squares p q s w at square single = λ m denoted legal.
+-- without a letter and with a square in full, each move begins there
+pub begins_there : (p : Setup) (q : Parts) (s : ℕ) (m : Move) → q.letter ≡ None → named_square q.file q.rank ≡ Some s
+    → is_denoted (Piece q) p m ≡ true → is_legal p m ≡ true → m.from ≡ s
+begins_there p q s m at square denoted legal =
     let h = legal_move p m legal in
-    let here : m.from ≡ s = from_square m.from h.from_in (told_of p m h.man) refl
-    (no_letter q (told_of p m h.man) at (fits_told p q m h denoted)) in
-    single m.from ∙ eq-eqb m.from s here
+    from_square m.from h.from_in (told_of p m h.man) refl
+    (no_letter q (told_of p m h.man) at (fits_told p q m h denoted))
   where
     from_square : (a : ℕ) → a < 64 → (d : Described) → d.from ≡ a → NoLetter q d → a ≡ s
     from_square a low d e (BySquares f r) =
@@ -147,6 +147,11 @@ by_squares p q s w at square single = λ m denoted legal.
         some_is q.file q.rank a s
         (named_is q.file q.rank a low (rw e at f) (rank_named q.file q.rank s (rank a) square (rw e at r))) square
     from_square a low d e (Straight n k) = file_there q.file q.rank s square n (a ≡ s)
+
+pub by_squares : (p : Setup) (q : Parts) (s w : ℕ) → q.letter ≡ None → named_square q.file q.rank ≡ Some s
+    → ((k : ℕ) → contains w k ≡ (k == s)) → IsStart p (Piece q) w
+by_squares p q s w at square single = λ m denoted legal.
+    single m.from ∙ eq-eqb m.from s (begins_there p q s m at square denoted legal)
 
 -- with no letter and no square in full it is a pawn
 pub pawn_named : (q : Parts) (d : Described) → d.from < 64 → q.letter ≡ None → named_square q.file q.rank ≡ None

@@ -43,11 +43,11 @@ unpromoted p m Bishop Pawn e same other = absurd cc
 unpromoted p m Knight Pawn e same other = absurd cc
 unpromoted p m Pawn Pawn e same other = absurd cc
 
-none_told : (o : Option Kind) → promotes_so None o ≡ true → o ≡ None
+pub none_told : (o : Option Kind) → promotes_so None o ≡ true → o ≡ None
 none_told None e = refl
 none_told (Some k) e = absurd cc
 
-promotes_as : (q : Parts) (d : Described) → q.letter ≡ None → parts_fit q d ≡ true
+pub promotes_as : (q : Parts) (d : Described) → q.letter ≡ None → parts_fit q d ≡ true
     → promotes_so q.end.promotion d.promotion ≡ true
 unfolding parts_fit is_by_squares is_by_letter is_straight is_by_file
 promotes_as q d at h = grind (arith, nat_tests, at, h)
