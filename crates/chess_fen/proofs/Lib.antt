@@ -2,9 +2,11 @@ pub mod Lengths
 pub mod FewDigits
 pub mod RanksText
 pub mod Ranks
+pub mod Placing
 pub mod Splits
-pub mod Placements
+pub mod FirstField
 pub mod DenotedRanks
+pub mod Runs
 pub mod RookAmong
 pub mod DenotedRights
 pub mod RightsBack

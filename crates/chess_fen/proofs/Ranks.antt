@@ -1,83 +1,214 @@
--- Reading a rank.
-use Rattle.std.proofs.Common.{◌≡◌, ℕ, ◌+◌, ◌-◌, ◌<◌, ◌≤◌, false, eqb, leb, ◌&&◌, List, [], ◌∷◌, ◌++◌, length, get_or, set, take, drop, Option, Some, None, refl, sym, ap, ◌∙◌, arith, length-append}
+-- Reading a rank byte by byte.
+use Rattle.std.proofs.Common.{◌≡◌, ℕ, zero, suc, ◌+◌, ◌-◌, ◌<◌, ◌≤◌, Bool, true, false, cond, eqb, leb, List, [], ◌∷◌, ◌++◌, length, get_or, set, take, drop, Option, Some, None, refl, sym, ap, ◌∙◌, arith, length-append}
 use Rattle.std.specs.Prelude.{replicate, option_and_then}
+use Rattle.std.specs.List.{position_or_len}
+use Rattle.std.proofs.lemmas.Bool.{eqb-true}
 use Rattle.std.proofs.lemmas.Bool.Decides.{nat_tests}
-use Rattle.std.proofs.lemmas.List.{at_drop_more, take-replicate, drop-replicate, drop-drop, length-take, take_more_set, drop-set-lt, length-set}
+use Rattle.std.proofs.lemmas.List.{at_drop_more, at_drop_all, take-replicate, drop-replicate, drop-drop, length-take, length-replicate, take-set, drop-set, drop-set-lt, length-set}
 use Rattle.std.proofs.Math.Seq.{take-add}
 use Rattle.chess_base.specs.declared.man.Man.{Man}
-use Rattle.chess_fen.specs.ManLetters.{man_with_letter}
-use Rattle.chess_fen.specs.Texts.{squares_of, rank_after, rank_of}
+use Rattle.chess_fen.specs.declared.letters.Run.{Run}
+use Rattle.chess_fen.specs.Texts.{squares_of}
+use Rattle.chess_fen.specs.ties.Runs.{squares_in, at_lower, last_rank, placing, behind, RankIsRead, NoRankIsRead}
 
--- more than eight squares are no rank
-pub too_long : (row : List (Option Man)) (cs : List ℕ) → 8 < length row → rank_after row cs ≡ None
-too_long row [] h = let e : eqb (length row) 8 ≡ false = grind (arith, nat_tests) in rw e refl
-too_long row (c ∷ cs) h =
-    by_squares row c cs h (squares_of c) (λ s. too_long (row ++ s) cs (omega (arith, length-append row s)))
-  where
-    by_squares : (row : List (Option Man)) (c : ℕ) (cs : List ℕ) → 8 < length row → (o : Option (List (Option Man)))
-        → ((s : List (Option Man)) → rank_after (row ++ s) cs ≡ None)
-        → option_and_then (λ s. rank_after (row ++ s) cs) o ≡ None
-    by_squares row c cs h None more = refl
-    by_squares row c cs h (Some s) more = more s
+abbrev pub no_man : Option Man
+no_man = None
+
+-- ---- a byte
 
 pub squares-digit : (c : ℕ) → 49 ≤ c → c ≤ 56 → squares_of c ≡ Some (replicate (c - 48) None)
 squares-digit c low high = grind (arith, nat_tests)
 
-pub squares-man_below : (c : ℕ) (m : Man) → c < 49 → man_with_letter c ≡ Some m → squares_of c ≡ Some (Some m ∷ [])
-squares-man_below c m low e = let t : (leb 49 c && leb c 56) ≡ false = grind (arith, nat_tests) in rw (t, e) refl
+-- a rank that has not eight squares isn't the last, and none follows it
+not_last : (left : ℕ) (row above : List (Option Man)) → eqb (length row) 8 ≡ false → last_rank left row above ≡ None
+not_last zero row above e = rw e refl
+not_last (suc left) row above e = refl
 
-pub squares-man_above : (c : ℕ) (m : Man) → 56 < c → man_with_letter c ≡ Some m → squares_of c ≡ Some (Some m ∷ [])
-squares-man_above c m high e = let t : (leb 49 c && leb c 56) ≡ false = grind (arith, nat_tests) in rw (t, e) refl
+not_lower : (left : ℕ) (b : Bool) (f : ℕ → Option (List (Option Man))) → b ≡ false
+    → at_lower left (λ lower. cond b (f lower) None) ≡ None
+not_lower zero b f e = refl
+not_lower (suc left) b f e = rw e refl
 
--- What is left of the text gives the whole rank, after the squares so far. The others are still empty
-pub record RankSoFar (text : List ℕ) (row : List (Option Man)) (file i : ℕ) : Type 0 where
-  pub rest : rank_after (take file row) (drop i text) ≡ rank_of text
+-- nothing comes of a byte if nothing comes of it as a space, as a slash, and as squares
+pub all_none : (a b : Bool) (x y z : Option (List (Option Man))) → x ≡ None → y ≡ None → z ≡ None
+    → cond a x (cond b y z) ≡ None
+all_none true b x y z ex ey ez = ex
+all_none false true x y z ex ey ez = ey
+all_none false false x y z ex ey ez = ez
+
+stuck : (left : ℕ) (row above : List (Option Man)) (c : ℕ) (cs : List ℕ) → eqb (length row) 8 ≡ false
+    → option_and_then (λ squares. placing left (row ++ squares) above cs) (squares_of c) ≡ None
+    → placing left row above (c ∷ cs) ≡ None
+stuck left row above c cs e none =
+    all_none (eqb c 32) (eqb c 47) (last_rank left row above)
+    (at_lower left (λ lower. cond (eqb (length row) 8) (placing lower [] (row ++ above) cs) None))
+    (option_and_then (λ squares. placing left (row ++ squares) above cs) (squares_of c)) (not_last left row above e)
+    (not_lower left (eqb (length row) 8) (λ lower. placing lower [] (row ++ above) cs) e) none
+
+-- more than eight squares are no rank
+pub placing_over : (left : ℕ) (row above : List (Option Man)) (cs : List ℕ) → 8 < length row
+    → placing left row above cs ≡ None
+placing_over left row above [] h =
+    let e : eqb (length row) 8 ≡ false = grind (arith, nat_tests) in not_last left row above e
+placing_over left row above (c ∷ cs) h =
+    let e : eqb (length row) 8 ≡ false = grind (arith, nat_tests) in
+    stuck left row above c cs e (by_squares (squares_of c) (λ s. placing_over left (row ++ s) above cs
+    (omega (arith, length-append row s))))
+  where
+    by_squares : (o : Option (List (Option Man)))
+        → ((s : List (Option Man)) → placing left (row ++ s) above cs ≡ None)
+        → option_and_then (λ s. placing left (row ++ s) above cs) o ≡ None
+    by_squares None more = refl
+    by_squares (Some s) more = more s
+
+-- a byte that stands for squares is another than one that stands for none
+another : (c k : ℕ) (s : List (Option Man)) → squares_of k ≡ None → squares_of c ≡ Some s → eqb c k ≡ false
+another c k s none is = by_test (eqb c k) refl
+  where
+    by_test : (b : Bool) → eqb c k ≡ b → b ≡ false
+    by_test true e = let same : c ≡ k = eqb-true c k e in absurd cc
+    by_test false e = refl
+
+pub goes_on : (left : ℕ) (row above : List (Option Man)) (c : ℕ) (cs : List ℕ) (s : List (Option Man))
+    → squares_of c ≡ Some s → placing left row above (c ∷ cs) ≡ placing left (row ++ s) above cs
+goes_on left row above c cs s is =
+    let space : eqb c 32 ≡ false = another c 32 s refl is in
+    let stroke : eqb c 47 ≡ false = another c 47 s refl is in
+    rw (space, stroke, is) refl
+
+pub behind-on : (c : ℕ) (cs : List ℕ) → eqb c 32 ≡ false → behind (c ∷ cs) ≡ behind cs
+behind-on c cs e =
+    let next : 1 + position_or_len (λ b. eqb b 32) cs ≡ suc (position_or_len (λ b. eqb b 32) cs) = omega arith in
+    rw (e, next) refl
+
+-- ---- a rank
+
+-- What is left of the text gives the same board, after the squares so far. The others are still empty
+pub record RowSoFar (text : List ℕ) (row : List (Option Man)) (file i : ℕ) : Type 0 where
+  pub on : (left : ℕ) → (above : List (Option Man))
+      → placing left (take file row) above (drop i text) ≡ placing left [] above text
+  pub back : behind (drop i text) ≡ behind text
   pub empty : drop file row ≡ replicate (8 - file) None
   pub eight : length row ≡ 8
-  pub within : file ≤ 8
+  pub within : file < 8
 
-one_more : (text : List ℕ) (before squares : List (Option Man)) (i : ℕ) → i < length text
-    → squares_of (get_or text i 0) ≡ Some squares → rank_after before (drop i text) ≡ rank_after (before ++ squares)
-    (drop (i + 1) text)
-one_more text before squares i h e = at_drop_more (rank_after before) text i 0 h
-    ∙ ap (option_and_then (λ s. rank_after (before ++ s) (drop (i + 1) text))) e
+-- the squares of a run that are not more than eight
+filled : (r : Run) → 0 < r.squares → r.squares ≤ 8 → squares_in r ≡ Some (r.first ∷ replicate (r.squares - 1) None)
+filled r some few = let t : leb r.squares 8 ≡ true = grind (arith, nat_tests) in rw t refl
 
-pub empty_squares : (text : List ℕ) (row : List (Option Man)) (file i c : ℕ) → RankSoFar text row file i
-    → i < length text → c ≡ get_or text i 0 → 49 ≤ c → c ≤ 56 → file + (c - 48) ≤ 8
-    → RankSoFar text row (file + (c - 48)) (i + 1)
-empty_squares text row file i c so_far h at low high fits =
-    let n = c - 48 in
-    let taken : take (file + n) row ≡ take file row ++ replicate n None = take-add file n row
-    ∙ ap (λ xs. take file row ++ xs) (ap (take n) so_far.empty ∙ take-replicate n (8 - file) None (omega arith)) in
+-- a piece, or an empty square, and empty squares after it
+put : (row : List (Option Man)) (file n : ℕ) (first : Option Man) → length row ≡ 8
+    → drop file row ≡ replicate (8 - file) None → 0 < n → file + n ≤ 8
+    → take (file + n) (set row file first) ≡ take file row ++ first ∷ replicate (n - 1) None
+put row file n first eight empty some fits =
+    let others : drop (file + 1) row ≡ replicate (8 - file - 1) None =
+    sym (drop-drop 1 file row) ∙ ap (drop 1) empty ∙ drop-replicate 1 (8 - file) None in
+    let after : take n (first ∷ drop (file + 1) row) ≡ first ∷ replicate (n - 1) None =
+    ap (λ k. take k (first ∷ drop (file + 1) row)) (one_on n some)
+    ∙ ap (λ xs. first ∷ xs) (ap (take (n - 1)) others
+    ∙ take-replicate (n - 1) (8 - file - 1) None (omega arith)) in
+    take-add file n (set row file first)
+    ∙ ap (λ xs. xs ++ take n (drop file (set row file first))) (take-set row file first)
+    ∙ ap (λ xs. take file row ++ take n xs) (drop-set row file first (omega (arith, eight)))
+    ∙ ap (λ xs. take file row ++ xs) after
+  where
+    one_on : (n : ℕ) → 0 < n → n ≡ suc (n - 1)
+    one_on n h = omega arith
+
+still_empty : (row : List (Option Man)) (file n : ℕ) (first : Option Man) → length row ≡ 8
+    → drop file row ≡ replicate (8 - file) None → 0 < n → file + n ≤ 8
+    → drop (file + n) (set row file first) ≡ replicate (8 - (file + n)) None
+still_empty row file n first eight empty some fits =
+    drop-set-lt (file + n) row file first (omega arith) ∙ sym (drop-drop n file row) ∙ ap (drop n) empty
+    ∙ drop-replicate n (8 - file) None ∙ ap (λ k. replicate k None) (omega arith)
+
+-- how the next byte goes on, if its squares are not too many
+step : (text : List ℕ) (row : List (Option Man)) (file i : ℕ) (r : Run) → RowSoFar text row file i → i < length text
+    → squares_of (get_or text i 0) ≡ squares_in r → 0 < r.squares → file + r.squares ≤ 8
+    → ((left : ℕ) → (above : List (Option Man))
+    → placing left (take (file + r.squares) (set row file r.first)) above (drop (i + 1) text)
+    ≡ placing left [] above text)
+    × (behind (drop (i + 1) text) ≡ behind text)
+step text row file i r so_far h at some fits =
+    let c = get_or text i 0 in
+    let s = r.first ∷ replicate (r.squares - 1) None in
+    let is : squares_of c ≡ Some s = at ∙ filled r some (omega arith) in
+    let taken : take (file + r.squares) (set row file r.first) ≡ take file row ++ s =
+    put row file r.squares r.first so_far.eight so_far.empty some fits in (
+      (λ left above. rw taken (sym (at_drop_more (placing left (take file row) above) text i 0 h
+          ∙ goes_on left (take file row) above c (drop (i + 1) text) s is) ∙ so_far.on left above)),
+      sym (at_drop_more behind text i 0 h ∙ behind-on c (drop (i + 1) text) (another c 32 s refl is)) ∙ so_far.back,
+    )
+
+pub more : (text : List ℕ) (row : List (Option Man)) (file i : ℕ) (r : Run) → RowSoFar text row file i → i < length text
+    → squares_of (get_or text i 0) ≡ squares_in r → 0 < r.squares → file + r.squares < 8
+    → RowSoFar text (set row file r.first) (file + r.squares) (i + 1)
+more text row file i r so_far h at some fits =
+    let s = step text row file i r so_far h at some (omega arith) in
     record {
-      rest = rw taken (sym (one_more text (take file row) (replicate n None) i h
-          (ap squares_of (sym at) ∙ squares-digit c low high)) ∙ so_far.rest);
-      empty = sym (drop-drop n file row) ∙ ap (drop n) so_far.empty ∙ drop-replicate n (8 - file) None
-          ∙ ap (λ k. replicate k None) (omega arith);
-      eight = so_far.eight;
+      on = s.0;
+      back = s.1;
+      empty = still_empty row file r.squares r.first so_far.eight so_far.empty some (omega arith);
+      eight = length-set row file r.first ∙ so_far.eight;
       within = omega arith;
     }
 
-pub man_square : (text : List ℕ) (row : List (Option Man)) (file i c : ℕ) (m : Man) → RankSoFar text row file i
-    → i < length text → c ≡ get_or text i 0 → squares_of c ≡ Some (Some m ∷ []) → file < 8
-    → RankSoFar text (set row file (Some m)) (file + 1) (i + 1)
-man_square text row file i c m so_far h at is fits =
-    let taken : take (file + 1) (set row file (Some m)) ≡ take file row ++ Some m ∷ [] =
-    take_more_set row file (Some m) (omega (arith, so_far.eight)) in
+pub whole : (text : List ℕ) (row : List (Option Man)) (file i : ℕ) (r : Run) → RowSoFar text row file i
+    → i < length text → squares_of (get_or text i 0) ≡ squares_in r → 0 < r.squares → file + r.squares ≡ 8
+    → RankIsRead text (set row file r.first) (drop (i + 1) text)
+whole text row file i r so_far h at some is =
+    let s = step text row file i r so_far h at some (omega arith) in
+    let eight : length (set row file r.first) ≡ 8 = length-set row file r.first ∙ so_far.eight in
+    let all : take (file + r.squares) (set row file r.first) ≡ set row file r.first =
+    ap (λ k. take k (set row file r.first)) (is ∙ sym eight) ∙ take_whole (set row file r.first) in
     record {
-      rest = rw taken (sym (one_more text (take file row) (Some m ∷ []) i h (ap squares_of (sym at) ∙ is))
-          ∙ so_far.rest);
-      empty = drop-set-lt (file + 1) row file (Some m) (omega arith) ∙ sym (drop-drop 1 file row)
-          ∙ ap (drop 1) so_far.empty ∙ drop-replicate 1 (8 - file) None ∙ ap (λ k. replicate k None) (omega arith);
-      eight = length-set row file (Some m) ∙ so_far.eight;
-      within = omega arith;
+      on = λ left above. sym (s.0 left above) ∙ ap (λ xs. placing left xs above (drop (i + 1) text)) all;
+      back = sym s.1;
+      eight = eight;
     }
+  where
+    take_whole : (xs : List (Option Man)) → take (length xs) xs ≡ xs
+    take_whole [] = refl
+    take_whole (x ∷ xs) = ap (λ ys. x ∷ ys) (take_whole xs)
 
--- where the next byte brings more than eight squares
-pub overfull : (text : List ℕ) (row squares : List (Option Man)) (file i c : ℕ) → RankSoFar text row file i
-    → i < length text → c ≡ get_or text i 0 → squares_of c ≡ Some squares → 8 < file + length squares
-    → None ≡ rank_of text
-overfull text row squares file i c so_far h at is more =
-    sym (too_long (take file row ++ squares) (drop (i + 1) text)
-    (omega (arith, length-append (take file row) squares, length-take file row, so_far.eight, so_far.within)))
-    ∙ sym (one_more text (take file row) squares i h (ap squares_of (sym at) ∙ is)) ∙ so_far.rest
+-- where the next byte brings more than eight squares, or stands for none
+pub overfull : (text : List ℕ) (row : List (Option Man)) (file i : ℕ) (r : Run) → RowSoFar text row file i
+    → i < length text → squares_of (get_or text i 0) ≡ squares_in r → 0 < r.squares → 8 < file + r.squares
+    → NoRankIsRead text
+overfull text row file i r so_far h at some over = λ left above.
+    sym (so_far.on left above) ∙ at_drop_more (placing left (take file row) above) text i 0 h
+    ∙ stuck left (take file row) above c (drop (i + 1) text) short (by_test (leb r.squares 8) refl left above)
+  where
+    c : ℕ
+    c = get_or text i 0
+
+    len : length (take file row) ≡ file
+    len = omega (arith, length-take file row, so_far.eight, so_far.within)
+
+    short : eqb (length (take file row)) 8 ≡ false
+    short = let h : file < 8 = so_far.within in grind (arith, nat_tests, len)
+
+    too_many : leb r.squares 8 ≡ false → squares_in r ≡ None
+    too_many t = rw t refl
+
+    by_test : (b : Bool) → leb r.squares 8 ≡ b → (left : ℕ) → (above : List (Option Man))
+        → option_and_then (λ s. placing left (take file row ++ s) above (drop (i + 1) text)) (squares_of c) ≡ None
+    by_test true t left above =
+        let few : r.squares ≤ 8 = grind (arith, nat_tests) in
+        let s = r.first ∷ replicate (r.squares - 1) None in
+        rw (at ∙ filled r some few) (placing_over left (take file row ++ s) above (drop (i + 1) text)
+        (omega (arith, length-append (take file row) s, len, length-replicate (r.squares - 1) no_man)))
+    by_test false t left above = rw (at ∙ too_many t) refl
+
+-- where the text ends before the rank
+pub cut_short : (text : List ℕ) (row : List (Option Man)) (file i : ℕ) → RowSoFar text row file i → length text ≤ i
+    → NoRankIsRead text
+cut_short text row file i so_far h = λ left above.
+    sym (so_far.on left above) ∙ at_drop_all (placing left (take file row) above) text i h
+    ∙ not_last left (take file row) above short
+  where
+    len : length (take file row) ≡ file
+    len = omega (arith, length-take file row, so_far.eight, so_far.within)
+
+    short : eqb (length (take file row)) 8 ≡ false
+    short = let h : file < 8 = so_far.within in grind (arith, nat_tests, len)

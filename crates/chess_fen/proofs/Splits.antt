@@ -1,10 +1,10 @@
 -- Cutting a text into fields and parts.
-use Rattle.std.proofs.Common.{◌≡◌, ℕ, suc, ◌+◌, ◌-◌, ◌<◌, ◌≤◌, Bool, true, false, cond, eqb, ltb, List, [], ◌∷◌, length, take, drop, refl, sym, ap, ◌∙◌, arith, inl, inr, not, ◌⊎◌}
+use Rattle.std.proofs.Common.{◌≡◌, ℕ, suc, ◌+◌, ◌<◌, ◌≤◌, Bool, true, false, cond, eqb, ltb, List, [], ◌∷◌, length, drop, refl, sym, ap, ◌∙◌, arith, inl, inr, not, ◌⊎◌}
 use Rattle.std.specs.Prelude.{position, unwrap_or}
 use Rattle.std.specs.List.{position_or_len, before_first, slice_split}
 use Rattle.std.proofs.lemmas.Bool.Decides.{nat_tests}
 use Rattle.std.proofs.lemmas.Bool.{cases_lt}
-use Rattle.std.proofs.lemmas.List.{take_rest, nil_from_length}
+use Rattle.std.proofs.lemmas.List.{nil_from_length}
 use Rattle.chess_fen.specs.Texts.{fields_of}
 
 pub place_le : {A : Type 0} (p : A → Bool) (xs : List A) → position_or_len p xs ≤ length xs
@@ -80,24 +80,6 @@ cut {A} p (x ∷ xs) = by_test (p x) refl (cut p xs)
 pub no_fields : (text from : List ℕ) → from ≡ drop (position_or_len (λ b. not (eqb b 32)) text) text → length from ≡ 0
     → fields_of text ≡ []
 no_fields text from is none = fields_of-skip text ∙ ap fields_of (sym is ∙ nil_from_length from none)
-
-pub part_last : {A : Type 0} (p : A → Bool) (xs front back : List A) → front ≡ before_first p xs
-    → back ≡ drop (position_or_len p xs) xs → length back < 1 → slice_split p xs ≡ front ∷ []
-part_last p xs front back f b short = by_cut (cut p xs)
-  where
-    by_cut : IsWhole p xs ⊎ IsCut p xs → slice_split p xs ≡ front ∷ []
-    by_cut (inl w) = w.split ∙ ap (λ ys. ys ∷ []) (sym (f ∙ w.front))
-    by_cut (inr c) = absurd (omega (arith, ap length (b ∙ c.rest)))
-
-pub part_next : {A : Type 0} (p : A → Bool) (xs front back : List A) → front ≡ before_first p xs
-    → back ≡ drop (position_or_len p xs) xs → 1 ≤ length back
-    → slice_split p xs ≡ front ∷ slice_split p (take (length back - 1) (drop 1 back))
-part_next p xs front back f b long = by_cut (cut p xs)
-  where
-    by_cut : IsWhole p xs ⊎ IsCut p xs → slice_split p xs ≡ front ∷ slice_split p (take (length back - 1) (drop 1 back))
-    by_cut (inl w) = absurd (omega (arith, ap length (b ∙ w.rest)))
-    by_cut (inr c) = c.split ∙ ap (λ ys. ys ∷ slice_split p c.behind) (sym f)
-        ∙ ap (λ ys. front ∷ slice_split p ys) (sym (take_rest back 1 ∙ ap (drop 1) (b ∙ c.rest)))
 
 -- the field at the front of a text that begins with one
 first_field : (text : List ℕ) → 0 < length (before_first (λ b. eqb b 32) text)

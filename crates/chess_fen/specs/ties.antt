@@ -1,3 +1,4 @@
 -- What only joins code to the definitions: no claim rests on it.
+pub mod Runs
 pub mod Fields
 pub mod Loops

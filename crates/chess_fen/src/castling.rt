@@ -1,13 +1,15 @@
 //! The letters of castling rights.
 
-ghost use Rattle.std.specs.Prelude.{◌≡◌, ◌<◌, None, codes};
+ghost use Rattle.std.specs.Prelude.{◌≡◌, ◌<◌, [], None, codes};
 ghost use Rattle.chess_fen.specs.Texts.{occurs, times, may_name_right, first_letter, names_file, is_castling};
 ghost use Rattle.chess_fen.specs.RightNames.{side_letter, right_letter, right_named, outer_rook, is_left_of, is_towards, named_square, only_one_of, right_by_letters};
 ghost use Rattle.chess_fen.specs.ties.Loops.{edge_file, right_after_letters};
-ghost use Rattle.chess_base.specs.Castling.{home_square, rook_file};
+ghost use Rattle.chess_base.specs.Castling.{home_square, king_square, rook_file, rights_by};
+ghost use Rattle.chess_base.specs.declared.man.CastlingSide.TheVariants.{KingSide, QueenSide};
+ghost use Rattle.chess_base.specs.declared.man.Variant.TheVariants.{Normal, Fischerandom};
 
 use chess_base::rules::{home_square, is_man, king_square, rook_file};
-use chess_base::{CastlingSide, Colour, Kind, Man, Square, Variant};
+use chess_base::{CastlingSide, Colour, ColourRights, Kind, Man, Rights, Square, Variant};
 
 // How often a letter occurs in a text.
 fn times(text: &[u8], letter: u8) -> usize
@@ -102,13 +104,20 @@ pub(crate) fn right_letter(
     }
 }
 
+// Whether a letter occurs in a text.
+fn occurs(text: &[u8], letter: u8) -> bool
+    ensures { result ≡ occurs letter text.now }
+{
+    text.iter().any(|byte| *byte == letter)
+}
+
 // Normal chess: a colour's castling right on a side, as its rook's square: the corner on that side, if the right's
 // letter is in the castling field `letters`; else `None`.
 fn right_named(letters: &[u8], colour: Colour, castling_side: CastlingSide) -> Option<Square>
     ensures { result ≡ right_named letters.now (side_letter colour castling_side)
         (home_square colour (rook_file castling_side)) }
 {
-    if letters.contains(&side_letter(colour, castling_side)) {
+    if occurs(letters, side_letter(colour, castling_side)) {
         Some(home_square(colour, rook_file(castling_side)))
     } else {
         None
@@ -165,13 +174,15 @@ fn is_towards(castling_side: CastlingSide, king: Option<Square>, s: Square) -> b
 
 // Chess960: the rook's square by which this letter names the colour's right on that side; `None` if it names another
 // right. `K`, `Q`, `k` and `q` name the outermost rook, a file's letter names that file, if it is on that side of the
-// king.
+// king, whose square is `king`.
 fn named_square(
     men: &[Option<Man>; 64],
+    king: &Option<Square>,
     colour: Colour,
     castling_side: CastlingSide,
     letter: u8,
 ) -> Option<Square>
+    requires { king.now ≡ king_square men.now colour }
     ensures { result ≡ named_square men.now colour castling_side letter }
 {
     if letter == side_letter(colour, castling_side) {
@@ -181,7 +192,7 @@ fn named_square(
         return None;
     }
     let square = home_square(colour, letter - first_letter(colour));
-    if is_towards(castling_side, king_square(men, colour), square) {
+    if is_towards(castling_side, *king, square) {
         Some(square)
     } else {
         None
@@ -201,36 +212,63 @@ fn only_one_of(first: Option<Square>, second: Option<Square>) -> Option<Square>
     }
 }
 
-// Chess960: the colour's castling right on that side that the letters of a castling field name, as the square of its
-// rook; `None` if they don't name it.
+// Chess960: the castling right on that side of the colour, whose king is on the square `king`, that the letters of a
+// castling field name, as the square of its rook; `None` if they don't name it.
 fn right_of_letters(
     men: &[Option<Man>; 64],
+    king: &Option<Square>,
     letters: &[u8],
     colour: Colour,
     castling_side: CastlingSide,
 ) -> Option<Square>
+    requires { king.now ≡ king_square men.now colour }
     ensures { result ≡ right_after_letters men.now colour castling_side None letters.now }
 {
     let mut found = None;
     for &letter in letters {
-        found = only_one_of(found, named_square(men, colour, castling_side, letter));
+        found = only_one_of(
+            found,
+            named_square(men, king, colour, castling_side, letter),
+        );
     }
     found
 }
 
-// The colour's castling right on that side that the letters of a castling field name, as the square of its rook; `None`
-// if they don't name it.
-pub(crate) fn right_by_letters(
-    variant: Variant,
-    men: &[Option<Man>; 64],
-    letters: &[u8],
-    colour: Colour,
-    castling_side: CastlingSide,
-) -> Option<Square>
-    ensures { result ≡ right_by_letters variant men.now letters.now colour castling_side }
+// Normal chess: the castling rights of a colour that the letters of a castling field name.
+fn normal_rights(letters: &[u8], colour: Colour) -> ColourRights
+    ensures king_side { result.king_side ≡ right_by_letters Normal [] letters.now colour KingSide }
+    ensures queen_side { result.queen_side ≡ right_by_letters Normal [] letters.now colour QueenSide }
+{
+    ColourRights {
+        king_side: right_named(letters, colour, CastlingSide::KingSide),
+        queen_side: right_named(letters, colour, CastlingSide::QueenSide),
+    }
+}
+
+// Chess960: the castling rights of a colour that the letters of a castling field name.
+fn chess960_rights(men: &[Option<Man>; 64], letters: &[u8], colour: Colour) -> ColourRights
+    ensures king_side { result.king_side ≡ right_by_letters Fischerandom men.now letters.now colour KingSide }
+    ensures queen_side { result.queen_side ≡ right_by_letters Fischerandom men.now letters.now colour QueenSide }
+{
+    let king = king_square(men, colour);
+    ColourRights {
+        king_side: right_of_letters(men, &king, letters, colour, CastlingSide::KingSide),
+        queen_side: right_of_letters(men, &king, letters, colour, CastlingSide::QueenSide),
+    }
+}
+
+// The four castling rights that the letters of a castling field name in a position with these pieces.
+pub(crate) fn rights_by_letters(variant: Variant, men: &[Option<Man>; 64], letters: &[u8]) -> Rights
+    ensures { result ≡ rights_by (right_by_letters variant men.now letters.now) }
 {
     match variant {
-        Variant::Normal => right_named(letters, colour, castling_side),
-        Variant::Fischerandom => right_of_letters(men, letters, colour, castling_side),
+        Variant::Normal => Rights {
+            white: normal_rights(letters, Colour::White),
+            black: normal_rights(letters, Colour::Black),
+        },
+        Variant::Fischerandom => Rights {
+            white: chess960_rights(men, letters, Colour::White),
+            black: chess960_rights(men, letters, Colour::Black),
+        },
     }
 }

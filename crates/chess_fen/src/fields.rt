@@ -1,10 +1,10 @@
 //! The fields of a text.
 
 ghost use Rattle.std.specs.Prelude.{◌≡◌, ◌∷◌, [], IfSome, IfNone, not, position, drop, ◌==◌};
-ghost use Rattle.std.specs.List.{position_or_len, before_first, slice_split};
+ghost use Rattle.std.specs.List.{position_or_len, before_first};
 ghost use Rattle.chess_base.specs.Letters.{space};
 ghost use Rattle.chess_fen.specs.Texts.{fields_of};
-ghost use Rattle.chess_fen.specs.ties.Fields.{FieldsAre, parts_of};
+ghost use Rattle.chess_fen.specs.ties.Fields.{FieldsAre};
 
 // The offset of a text's first byte that is no space, if there is one.
 fn first_other(text: &[u8]) -> Option<usize>
@@ -13,35 +13,35 @@ fn first_other(text: &[u8]) -> Option<usize>
     text.iter().position(|byte| *byte != b' ')
 }
 
-// The offset of the first byte `separator` in a text, if there is one.
-fn separator_at(text: &[u8], separator: u8) -> Option<usize>
-    ensures { result ≡ position (λ b. b == separator) text.now }
+// The offset of a text's first space, if there is one.
+fn first_space(text: &[u8]) -> Option<usize>
+    ensures { result ≡ position (λ b. b == space) text.now }
 {
-    text.iter().position(|byte| *byte == separator)
+    text.iter().position(|byte| *byte == b' ')
 }
 
 // The text from its first byte that is no space on.
 #[tactic(auto, using(crate::proofs::Splits::place_or_len, crate::proofs::Splits::place_le))]
-fn skip_spaces(text: &[u8]) -> &[u8]
+pub(crate) fn skip_spaces(text: &[u8]) -> &[u8]
     ensures { result.now ≡ drop (position_or_len (λ b. not (b == space)) text.now) text.now }
 {
     let start = first_other(text).unwrap_or(text.len());
     text.split_at(start).1
 }
 
-// Splits a text before its first separator: what is before it, and what begins with it. Without a separator the second
-// part is empty.
+// Splits a text before its first space: what is before it, and what begins with it. Without a space the second part is
+// empty.
 #[tactic(auto, using(crate::proofs::Splits::place_or_len, crate::proofs::Splits::place_le))]
-fn split_before(text: &[u8], separator: u8) -> (&[u8], &[u8])
-    ensures front { result.0.now ≡ before_first (λ b. b == separator) text.now }
-    ensures back { result.1.now ≡ drop (position_or_len (λ b. b == separator) text.now) text.now }
+fn split_before_space(text: &[u8]) -> (&[u8], &[u8])
+    ensures front { result.0.now ≡ before_first (λ b. b == space) text.now }
+    ensures back { result.1.now ≡ drop (position_or_len (λ b. b == space) text.now) text.now }
 {
-    let end = separator_at(text, separator).unwrap_or(text.len());
+    let end = first_space(text).unwrap_or(text.len());
     text.split_at(end)
 }
 
 // The next field, which is between spaces, and the text after it; none if only spaces are left.
-fn next_field(text: &[u8]) -> Option<(&[u8], &[u8])>
+pub(crate) fn next_field(text: &[u8]) -> Option<(&[u8], &[u8])>
     ensures found { IfSome result (λ r. fields_of text.now ≡ r.0.now ∷ fields_of r.1.now) }
     ensures none { IfNone result (fields_of text.now ≡ []) }
 {
@@ -49,26 +49,13 @@ fn next_field(text: &[u8]) -> Option<(&[u8], &[u8])>
     if text.is_empty() {
         None
     } else {
-        Some(split_before(text, b' '))
+        Some(split_before_space(text))
     }
 }
 
-// The part of a text before the first byte `separator`, and the text after it, which is `None` if there is no
-// separator.
-pub(crate) fn next_part(text: &[u8], separator: u8) -> (&[u8], Option<&[u8]>)
-    ensures { slice_split (λ c. c == separator) text.now ≡ result.0.now ∷ parts_of separator result.1 }
-{
-    let (front, back) = split_before(text, separator);
-    match back {
-        [] => (front, None),
-        [_, rest @ ..] => (front, Some(rest)),
-    }
-}
-
-// The six fields of a text; where the counters are left out, they are 0 and 1.
+// The fields of a FEN behind the first; where the counters are left out, they are 0 and 1.
 #[derive(Clone, Copy)]
 pub(crate) struct Fields<'a> {
-    pub placement: &'a [u8],
     pub side: &'a [u8],
     pub castling: &'a [u8],
     pub target: &'a [u8],
@@ -76,13 +63,12 @@ pub(crate) struct Fields<'a> {
     pub fullmove: &'a [u8],
 }
 
-// Cuts a FEN into its fields, of which four or six are between spaces: without the counters these are 0 and 1. `None`
-// for any other number of fields.
+// Cuts what is behind a FEN's first field into its fields, of which three or five are between spaces: without the
+// counters these are 0 and 1. `None` for any other number of fields.
 pub(crate) fn read_fields(text: &[u8]) -> Option<Fields<'_>>
     ensures { FieldsAre result (fields_of text.now) }
 {
-    let (placement, rest) = next_field(text)?;
-    let (side, rest) = next_field(rest)?;
+    let (side, rest) = next_field(text)?;
     let (castling, rest) = next_field(rest)?;
     let (target, rest) = next_field(rest)?;
     let (halfmove, fullmove) = match next_field(rest) {
@@ -96,7 +82,6 @@ pub(crate) fn read_fields(text: &[u8]) -> Option<Fields<'_>>
         }
     };
     Some(Fields {
-        placement,
         side,
         castling,
         target,

@@ -1,32 +1,59 @@
 //! The pieces of a position.
 
-ghost use Rattle.std.specs.Prelude.{◌≡◌, ◌<◌, ◌+◌, ◌*◌, ◌++◌, drop};
+ghost use Rattle.std.specs.Prelude.{◌≡◌, ◌<◌, ◌+◌, ◌*◌, ◌==◌, take, replicate, None, IfSome, IfNone};
+ghost use Rattle.std.specs.List.{before_first};
+ghost use Rattle.chess_base.specs.Letters.{space};
 ghost use Rattle.chess_fen.specs.Texts.{placement_of};
+ghost use Rattle.chess_fen.specs.ties.Runs.{NoRankIsRead, RankIsPlaced, StrokeIsRead, NoStrokeIsRead, Ends, PlacementIsRead};
 
-use crate::fields::next_part;
 use crate::rank::read_rank;
 use chess_base::Man;
 
-// Puts a rank's eight squares into the board; `rank` is 0 for rank 1.
-fn put_rank(men: &mut [Option<Man>; 64], rank: usize, row: &[Option<Man>; 8])
-    requires { rank < 8 }
-    ensures { drop (8 * rank) men.new ≡ row.now ++ drop (8 * rank + 8) men.old }
+// Reads the eight squares of a rank into their place on the board, which is still empty up to them; `rank` is 0 for
+// rank 1. Returns the text after them; `None` if no eight squares are at the front of the text.
+fn place_rank<'t>(text: &'t [u8], men: &mut [Option<Man>; 64], rank: usize) -> Option<&'t [u8]>
+    requires in_board { rank < 8 }
+    requires empty { take (8 * rank + 8) men.old ≡ replicate (8 * rank + 8) None }
+    ensures read { IfSome result (λ rest. RankIsPlaced text.now rank men.old men.new rest.now) }
+    ensures none { IfNone result (NoRankIsRead text.now) }
 {
-    men[8 * rank..8 * rank + 8].copy_from_slice(row);
+    read_rank(text, &mut men[8 * rank..8 * rank + 8])
 }
 
-// The pieces that a FEN's first field denotes: eight ranks, rank 8 first, with `/` between them; none for any other
-// text.
-pub(crate) fn read_placement(text: &[u8]) -> Option<[Option<Man>; 64]>
-    ensures { result ≡ placement_of text.now }
+// The text after the `/` between two ranks; `None` if it does not begin with one.
+fn after_stroke(text: &[u8]) -> Option<&[u8]>
+    ensures read { IfSome result (λ rest. StrokeIsRead text.now rest.now) }
+    ensures none { IfNone result (NoStrokeIsRead text.now) }
 {
-    let mut men = [None; 64];
-    let mut rest = Some(text);
-    for rank in (0..8).rev() {
-        let (first, behind) = next_part(rest?, b'/');
-        let row = read_rank(first)?;
-        put_rank(&mut men, rank, &row);
-        rest = behind;
+    let [first, rest @ ..] = text else {
+        return None;
+    };
+    if *first == b'/' { Some(rest) } else { None }
+}
+
+// Whether a field ends where this text begins: at a space, or at the end.
+fn ends_field(text: &[u8]) -> bool
+    ensures { Ends result text.now }
+{
+    match text {
+        [] => true,
+        [first, ..] => *first == b' ',
     }
-    if rest.is_some() { None } else { Some(men) }
+}
+
+// Reads the pieces that a FEN's first field denotes, eight ranks, rank 8 first, with `/` between them, onto a board
+// that is still empty. Returns the text after the field, whose first space ends it; `None` if the field denotes no
+// pieces.
+pub(crate) fn read_placement<'t>(text: &'t [u8], men: &mut [Option<Man>; 64]) -> Option<&'t [u8]>
+    requires empty { men.old ≡ replicate 64 None }
+    ensures read { IfSome result (λ rest. PlacementIsRead text.now men.new rest.now) }
+    ensures none { IfNone result (placement_of (before_first (λ b. b == space) text.now) ≡ None) }
+{
+    let mut rest = text;
+    for rank in (1..8).rev() {
+        let ended = place_rank(rest, men, rank)?;
+        rest = after_stroke(ended)?;
+    }
+    let ended = place_rank(rest, men, 0)?;
+    if ends_field(ended) { Some(ended) } else { None }
 }

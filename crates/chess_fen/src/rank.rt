@@ -1,35 +1,30 @@
 //! The squares of a rank.
 
-ghost use Rattle.std.specs.Prelude.{◌≡◌};
-ghost use Rattle.chess_fen.specs.Texts.{rank_of};
+ghost use Rattle.std.specs.Prelude.{◌≡◌, IfSome, IfNone, None, replicate};
+ghost use Rattle.chess_fen.specs.ties.Runs.{RankIsRead, NoRankIsRead};
 
-use crate::letters::man_with_letter;
+use crate::letters::run_of;
 use chess_base::Man;
 
-// The eight squares that a rank's text denotes, from file a to file h, as by `4P3`; none if it does not denote eight.
-pub(crate) fn read_rank(text: &[u8]) -> Option<[Option<Man>; 8]>
-    ensures { result ≡ rank_of text.now }
+// Reads the eight squares of a rank, from file a to file h, as by `4P3`, into `row`, whose squares are still empty.
+// Returns the text after them; `None` if no eight squares are at the front of the text.
+pub(crate) fn read_rank<'t>(text: &'t [u8], row: &mut [Option<Man>]) -> Option<&'t [u8]>
+    requires empty { row.old ≡ replicate 8 None }
+    ensures read { IfSome result (λ rest. RankIsRead text.now row.new rest.now) }
+    ensures none { IfNone result (NoRankIsRead text.now) }
 {
-    let mut row = [None; 8];
-    let mut file: usize = 0;
-    for &byte in text {
-        match byte {
-            b'1'..=b'8' => {
-                let empty = usize::from(byte - b'0');
-                if file + empty > 8 {
-                    return None;
-                }
-                file += empty;
-            }
-            _ => {
-                let man = man_with_letter(byte)?;
-                if file == 8 {
-                    return None;
-                }
-                row[file] = Some(man);
-                file += 1;
-            }
+    let mut file = 0;
+    for (index, &byte) in text.iter().enumerate() {
+        let run = run_of(byte);
+        row[file] = run.first;
+        file += run.squares as usize;
+        if file >= 8 {
+            return if file == 8 {
+                Some(text.split_at(index + 1).1)
+            } else {
+                None
+            };
         }
     }
-    if file == 8 { Some(row) } else { None }
+    None
 }

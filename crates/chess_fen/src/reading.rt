@@ -1,24 +1,22 @@
 //! Reading a FEN.
 
-ghost use Rattle.std.specs.Prelude.{◌≡◌, IfOk, IfErr};
-ghost use Rattle.chess_base.specs.Castling.{rights_by};
+ghost use Rattle.std.specs.Prelude.{◌≡◌, ℕ, List, ◌∷◌, None, IfOk, IfErr, Err};
+ghost use Rattle.chess_base.specs.declared.man.Variant.{Variant};
 ghost use Rattle.chess_base.specs.declared.setup.Setup.{Setup};
 ghost use Rattle.chess_base.specs.Sound.{IsSound};
 ghost use Rattle.chess_base.specs.declared.fault.FenFault.{FenFault};
 ghost use Rattle.chess_fen.specs.FenFaults.{IsFault, IsFaultAs};
-ghost use Rattle.chess_fen.specs.Texts.{fields_of};
-ghost use Rattle.chess_fen.specs.RightNames.{right_by_letters};
-ghost use Rattle.chess_fen.specs.Reading.{side_of, rights_of, setup_by, setup_in, fen_reading, fen_reading_as};
+ghost use Rattle.chess_fen.specs.Texts.{placement_of, fields_of};
+ghost use Rattle.chess_fen.specs.Reading.{side_of, rights_of, setup_in, fen_reading, fen_reading_as};
 ghost use Rattle.chess_fen.specs.Denotation.{DenotesFen, DenotesFenAs};
+ghost use Rattle.chess_fen.specs.ties.Fields.{setup_with};
 
-use crate::castling::{is_castling, right_by_letters};
-use crate::fields::{Fields, read_fields};
+use crate::castling::{is_castling, rights_by_letters};
+use crate::fields::{Fields, next_field, read_fields, skip_spaces};
 use crate::number::read_number;
 use crate::placement::read_placement;
 use crate::target::read_target;
-use chess_base::{
-    CastlingSide, Colour, ColourRights, FenFault, Man, Position, Rights, Setup, Square, Variant,
-};
+use chess_base::{Colour, ColourRights, FenFault, Man, Position, Rights, Setup, Square, Variant};
 
 // The side that a FEN's second field denotes, by `w` or `b`; none for any other text.
 fn read_side(text: &[u8]) -> Option<Colour>
@@ -31,31 +29,15 @@ fn read_side(text: &[u8]) -> Option<Colour>
     }
 }
 
-// The four castling rights that the letters of a castling field name in a position with these pieces.
-fn rights_by_letters(variant: Variant, men: &[Option<Man>; 64], letters: &[u8]) -> Rights
-    ensures { result ≡ rights_by (right_by_letters variant men.now letters.now) }
+// A colour's castling rights where it has none.
+fn no_rights() -> ColourRights
+    ensures king_side { result.king_side ≡ None }
+    ensures queen_side { result.queen_side ≡ None }
 {
-    let white = ColourRights {
-        king_side: right_by_letters(variant, men, letters, Colour::White, CastlingSide::KingSide),
-        queen_side: right_by_letters(
-            variant,
-            men,
-            letters,
-            Colour::White,
-            CastlingSide::QueenSide,
-        ),
-    };
-    let black = ColourRights {
-        king_side: right_by_letters(variant, men, letters, Colour::Black, CastlingSide::KingSide),
-        queen_side: right_by_letters(
-            variant,
-            men,
-            letters,
-            Colour::Black,
-            CastlingSide::QueenSide,
-        ),
-    };
-    Rights { white, black }
+    ColourRights {
+        king_side: None,
+        queen_side: None,
+    }
 }
 
 // The castling rights that a FEN's third field denotes in a position with these pieces; `None` if it is neither a dash
@@ -63,6 +45,12 @@ fn rights_by_letters(variant: Variant, men: &[Option<Man>; 64], letters: &[u8]) 
 fn read_rights(variant: Variant, men: &[Option<Man>; 64], text: &[u8]) -> Option<Rights>
     ensures { result ≡ rights_of variant men.now text.now }
 {
+    if let b"-" = text {
+        return Some(Rights {
+            white: no_rights(),
+            black: no_rights(),
+        });
+    }
     if is_castling(variant, text) {
         Some(rights_by_letters(variant, men, text))
     } else {
@@ -70,21 +58,24 @@ fn read_rights(variant: Variant, men: &[Option<Man>; 64], text: &[u8]) -> Option
     }
 }
 
-// The position that a FEN's six fields denote, read from left to right, sound or not; or the fault of the first field
-// that denotes nothing. A fullmove number of 0 is read as 1.
-fn setup_by(variant: Variant, fields: &Fields<'_>) -> Result<Setup, FenFault>
-    ensures { result ≡ setup_by variant fields.now.placement.now fields.now.side.now fields.now.castling.now
-        fields.now.target.now fields.now.halfmove.now fields.now.fullmove.now }
+// The position with these pieces that a FEN's fields behind the first denote, read from left to right, sound or not; or
+// the fault of the first of them that denotes nothing. A fullmove number of 0 is read as 1.
+fn setup_with(
+    variant: Variant,
+    men: &[Option<Man>; 64],
+    fields: &Fields<'_>,
+) -> Result<Setup, FenFault>
+    ensures { result ≡ setup_with variant men.now fields.now.side.now fields.now.castling.now fields.now.target.now
+        fields.now.halfmove.now fields.now.fullmove.now }
 {
-    let men = read_placement(fields.placement).ok_or(FenFault::Placement)?;
     let side = read_side(fields.side).ok_or(FenFault::Side)?;
-    let rights = read_rights(variant, &men, fields.castling).ok_or(FenFault::Castling)?;
+    let rights = read_rights(variant, men, fields.castling).ok_or(FenFault::Castling)?;
     let target = read_target(fields.target).ok_or(FenFault::EnPassant)?;
     let halfmove = read_number(fields.halfmove).ok_or(FenFault::Counters)?;
     let fullmove = read_number(fields.fullmove).ok_or(FenFault::Counters)?;
     Ok(Setup {
         variant,
-        men,
+        men: *men,
         side,
         rights,
         target,
@@ -93,14 +84,36 @@ fn setup_by(variant: Variant, fields: &Fields<'_>) -> Result<Setup, FenFault>
     })
 }
 
+// The fault of a text whose first field, if it has one, denotes no pieces: a wrong number of fields, or that field.
+// Kept out of line, since few texts need it.
+#[inline(never)]
+fn menless_fault(text: &[u8]) -> FenFault
+    requires { (field : List ℕ) → (fields : List (List ℕ)) → fields_of text.now ≡ field ∷ fields
+        → placement_of field ≡ None }
+    ensures { (v : Variant) → setup_in v (fields_of text.now) ≡ Err result }
+{
+    let Some((_, rest)) = next_field(text) else {
+        return FenFault::Fields;
+    };
+    match read_fields(rest) {
+        None => FenFault::Fields,
+        Some(_) => FenFault::Placement,
+    }
+}
+
 // The position that a FEN denotes, sound or not; or the fault of the first field that denotes nothing, or of a wrong
-// number of fields.
+// number of fields, which comes first. The pieces are read before the fields are counted, so that the longest field is
+// gone over once.
 fn read_setup(variant: Variant, text: &[u8]) -> Result<Setup, FenFault>
     ensures { result ≡ setup_in variant (fields_of text.now) }
 {
-    match read_fields(text) {
+    let mut men = [None; 64];
+    let Some(rest) = read_placement(skip_spaces(text), &mut men) else {
+        return Err(menless_fault(text));
+    };
+    match read_fields(rest) {
         None => Err(FenFault::Fields),
-        Some(fields) => setup_by(variant, &fields),
+        Some(fields) => setup_with(variant, &men, &fields),
     }
 }
 

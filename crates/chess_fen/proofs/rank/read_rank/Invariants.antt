@@ -1,5 +1,5 @@
-use Rattle.chess_fen.proofs.Ranks.{RankSoFar}
+use Rattle.chess_fen.proofs.Ranks.{RowSoFar}
 use Rattle.chess_fen.proofs.rank.read_rank.Given as goal
 
-abbrev pub invariant-loop-byte : goal.invariant-loop-byte
-invariant-loop-byte l = RankSoFar l.text l.row l.file l.byte-index
+abbrev pub invariant-loop-index : goal.invariant-loop-index
+invariant-loop-index l = RowSoFar l.text l.row l.file l.index

@@ -1,0 +1,58 @@
+-- A FEN's first field, which is read as the text is cut.
+use Rattle.std.proofs.Common.{◌≡◌, ℕ, ◌<◌, not, eqb, List, [], ◌∷◌, length, drop, Option, Some, None, Err, refl, sym, ap, ◌∙◌, arith, inl, inr}
+use Rattle.std.specs.List.{position_or_len, before_first}
+use Rattle.std.proofs.lemmas.Bool.{cases_lt}
+use Rattle.std.proofs.lemmas.List.{nil_from_length}
+use Rattle.chess_base.specs.declared.fault.FenFault.TheVariants as faults
+use Rattle.chess_base.specs.declared.man.Man.{Man}
+use Rattle.chess_base.specs.declared.man.Variant.{Variant}
+use Rattle.chess_fen.specs.Reading.{setup_by}
+use Rattle.chess_fen.specs.Texts.{placement_of, fields_of}
+use Rattle.chess_fen.specs.ties.Fields.{setup_with}
+use Rattle.chess_fen.specs.ties.Runs.{PlacementIsRead, behind}
+use Rattle.chess_fen.proofs.Splits.{no_fields, next_fields}
+
+-- a text without its first spaces
+abbrev skipped : List ℕ → List ℕ
+skipped text = drop (position_or_len (λ b. not (eqb b 32)) text) text
+
+-- the field at the front of what is left, if it is not empty, is the first of all
+first_of : (text front : List ℕ) → front ≡ skipped text → 0 < length front
+    → fields_of text ≡ before_first (λ b. eqb b 32) front ∷ fields_of (behind front)
+first_of text front is some = next_fields text front _ _ is some refl refl
+
+heads : {A : Type 0} (x y : A) (xs ys : List A) → x ∷ xs ≡ y ∷ ys → y ≡ x
+heads x y xs ys e = cc
+
+-- where the field at the front denotes no pieces, the first field doesn't
+pub first_is_menless : (text front : List ℕ) → front ≡ skipped text
+    → placement_of (before_first (λ b. eqb b 32) front) ≡ None
+    → (field : List ℕ) → (fields : List (List ℕ)) → fields_of text ≡ field ∷ fields → placement_of field ≡ None
+first_is_menless text front is none field fields all =
+    elim (cases_lt 0 (length front)) [
+      | inl some ↦ ap placement_of (heads _ field _ fields (sym (first_of text front is some) ∙ all)) ∙ none
+      | inr short ↦ (let empty : length front ≡ 0 = omega (arith, short) in
+          let nothing : [] ≡ field ∷ fields = sym (no_fields text front is empty) ∙ all in absurd cc)
+    ]
+
+-- the fields of a text whose pieces were read
+pub fields-read : (text front : List ℕ) (men : List (Option Man)) (rest : List ℕ) → front ≡ skipped text
+    → PlacementIsRead front men rest
+    → fields_of text ≡ before_first (λ b. eqb b 32) front ∷ fields_of rest
+fields-read text front men rest is read =
+    elim (cases_lt 0 (length front)) [
+      | inl some ↦ (first_of text front is some
+          ∙ ap (λ ys. before_first (λ b. eqb b 32) front ∷ fields_of ys) (sym read.back))
+      | inr short ↦ (let none : front ≡ [] = nil_from_length front (omega (arith, short)) in
+          let empty : None ≡ Some men = ap (λ xs. placement_of (before_first (λ b. eqb b 32) xs)) (sym none)
+          ∙ read.denotes in absurd cc)
+    ]
+
+-- the pieces of the first field, and then the others
+pub setup-with : (v : Variant) (placement a b c d e : List ℕ) (men : List (Option Man))
+    → placement_of placement ≡ Some men → setup_by v placement a b c d e ≡ setup_with v men a b c d e
+setup-with v placement a b c d e men is = rw is refl
+
+pub setup-menless : (v : Variant) (placement a b c d e : List ℕ) → placement_of placement ≡ None
+    → setup_by v placement a b c d e ≡ Err faults.Placement
+setup-menless v placement a b c d e is = rw is refl

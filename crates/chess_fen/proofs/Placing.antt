@@ -1,0 +1,240 @@
+-- Reading a placement byte by byte, up to the first space.
+use Rattle.std.proofs.Common.{◌≡◌, ℕ, zero, suc, ◌+◌, ◌-◌, ◌*◌, ◌<◌, ◌≤◌, Bool, true, false, cond, eqb, leb, ◌&&◌, List, [], ◌∷◌, ◌++◌, length, get_or, take, drop, Option, Some, None, refl, sym, ap, ◌∙◌, ◌≢◌, arith, length-append}
+use Rattle.std.specs.Prelude.{replicate, option_and_then}
+use Rattle.std.specs.Option.{option_map}
+use Rattle.std.specs.List.{slice_split, onto_first, position_or_len, before_first}
+use Rattle.std.proofs.lemmas.Bool.Decides.{nat_tests}
+use Rattle.std.proofs.lemmas.List.{take-replicate, drop-replicate, length-replicate, drop-take, take-take}
+use Rattle.std.proofs.lemmas.List.Splits.{length-slice_split}
+use Rattle.chess_base.specs.declared.man.Man.{Man}
+use Rattle.chess_fen.specs.ManLetters.{man_with_letter}
+use Rattle.chess_fen.specs.Texts.{squares_of, rank_after, squares_by_ranks, placement_of}
+use Rattle.chess_fen.specs.ties.Runs.{at_lower, last_rank, placing, behind, NoRankIsRead, RankIsPlaced, StrokeIsRead, NoStrokeIsRead, Ends, PlacementIsRead}
+use Rattle.chess_fen.proofs.Ranks.{no_man, all_none, placing_over}
+
+abbrev no_board : Option (List (Option Man))
+no_board = None
+
+-- ---- behind a rank
+
+-- each byte that stands for squares stands for at least one
+some_squares : (c : ℕ) (s : List (Option Man)) → squares_of c ≡ Some s → 0 < length s
+some_squares c s is = by_test (leb 49 c && leb c 56) refl is
+  where
+    by_man : (o : Option Man) → option_map (λ m. Some m ∷ []) o ≡ Some s → 0 < length s
+    by_man None e = absurd cc
+    by_man (Some m) e = let at : Some m ∷ [] ≡ s = cc in rw (sym at) (omega arith)
+
+    by_test : (b : Bool) → (leb 49 c && leb c 56) ≡ b
+        → cond b (Some (replicate (c - 48) no_man)) (option_map (λ m. Some m ∷ []) (man_with_letter c)) ≡ Some s
+        → 0 < length s
+    by_test true t e =
+        let low : 49 ≤ c = grind (arith, nat_tests) in
+        let at : replicate (c - 48) no_man ≡ s = cc in
+        rw (sym at) (omega (arith, length-replicate (c - 48) no_man))
+    by_test false t e = by_man (man_with_letter c) e
+
+-- where eight squares are followed by more
+full : (left : ℕ) (row above : List (Option Man)) (c : ℕ) (cs : List ℕ) → length row ≡ 8
+    → option_and_then (λ s. placing left (row ++ s) above cs) (squares_of c) ≡ None
+full left row above c cs eight = by_squares (squares_of c) refl
+  where
+    by_squares : (o : Option (List (Option Man))) → squares_of c ≡ o
+        → option_and_then (λ s. placing left (row ++ s) above cs) o ≡ None
+    by_squares None is = refl
+    by_squares (Some s) is =
+        let more = some_squares c s is in
+        placing_over left (row ++ s) above cs (omega (arith, length-append row s, eight, more))
+
+pub no_stroke : (text : List ℕ) → get_or text 0 0 ≢ 47 → NoStrokeIsRead text
+no_stroke [] other = λ lower row above eight. refl
+no_stroke (c ∷ cs) other = λ lower row above eight.
+    (let stroke : eqb c 47 ≡ false = grind (arith, nat_tests, other) in
+    rw stroke (all_none (eqb c 32) false None None _ refl refl (full (suc lower) row above c cs eight)))
+
+pub ends_at : (text : List ℕ) → 1 ≤ length text → Ends (eqb (get_or text 0 0) 32) text
+ends_at [] h = absurd (omega (arith, h))
+ends_at (c ∷ cs) h = by_test (eqb c 32) refl
+  where
+    by_test : (b : Bool) → eqb c 32 ≡ b → Ends b (c ∷ cs)
+    by_test true e = (
+      (λ row above eight. (let t : eqb (length row) 8 ≡ true = grind (arith, nat_tests) in
+          rw (e, t) refl)),
+      rw e refl,
+    )
+    by_test false e = λ row above eight.
+        rw e (all_none false (eqb c 47) None None _ refl refl (full 0 row above c cs eight))
+
+-- ---- the whole placement
+
+-- the parts of a text's first field between slashes
+abbrev parted : List ℕ → List (List ℕ)
+parted text = slice_split (λ c. eqb c 47) (before_first (λ b. eqb b 32) text)
+
+-- the squares by the parts still to be read, the first of them begun
+abbrev by_parts : ℕ → List (Option Man) → List (Option Man) → List (List ℕ) → Option (List (Option Man))
+by_parts left row above [] = None
+by_parts left row above (part ∷ parts) =
+    cond (eqb (length parts) left)
+    (option_and_then (λ r. squares_by_ranks (r ++ above) parts) (rank_after row part)) None
+
+none_either : (b : Bool) → cond b no_board no_board ≡ None
+none_either true = refl
+none_either false = refl
+
+last_part : (left : ℕ) (row above : List (Option Man)) → last_rank left row above ≡ by_parts left row above ([] ∷ [])
+last_part zero row above = by_test (eqb (length row) 8)
+  where
+    by_test : (b : Bool) → cond b (Some (row ++ above)) None
+        ≡ option_and_then (λ r. squares_by_ranks (r ++ above) []) (cond b (Some row) None)
+    by_test true = refl
+    by_test false = refl
+last_part (suc lower) row above = let e : eqb 0 (suc lower) ≡ false = grind (arith, nat_tests) in rw e refl
+
+eqb-suc : (a b : ℕ) → eqb (suc a) (suc b) ≡ eqb a b
+eqb-suc a b = by_test (eqb a b) refl
+  where
+    by_test : (t : Bool) → eqb a b ≡ t → eqb (suc a) (suc b) ≡ t
+    by_test true e = grind (arith, nat_tests)
+    by_test false e = grind (arith, nat_tests)
+
+next_part : (left : ℕ) (row above : List (Option Man)) (parts : List (List ℕ)) (f : ℕ → Option (List (Option Man)))
+    → 0 < length parts → ((lower : ℕ) → f lower ≡ by_parts lower [] (row ++ above) parts)
+    → at_lower left (λ lower. cond (eqb (length row) 8) (f lower) None) ≡ by_parts left row above ([] ∷ parts)
+next_part left row above [] f some on = absurd (omega (arith, some))
+next_part zero row above (part ∷ parts) f some on =
+    let e : eqb (suc (length parts)) 0 ≡ false = grind (arith, nat_tests) in rw e refl
+next_part (suc lower) row above (part ∷ parts) f some on = by_test (eqb (length row) 8)
+  where
+    by_test : (b : Bool) → cond b (f lower) None
+        ≡ cond (eqb (suc (length parts)) (suc lower))
+        (option_and_then (λ r. squares_by_ranks (r ++ above) (part ∷ parts)) (cond b (Some row) None)) None
+    by_test true = rw (eqb-suc (length parts) lower) (on lower)
+    by_test false = sym (none_either (eqb (suc (length parts)) (suc lower)))
+
+same_part : (left : ℕ) (row above : List (Option Man)) (c : ℕ) (cs : List ℕ) (parts : List (List ℕ))
+    → 0 < length parts → ((row : List (Option Man)) → placing left row above cs ≡ by_parts left row above parts)
+    → option_and_then (λ s. placing left (row ++ s) above cs) (squares_of c)
+    ≡ by_parts left row above (onto_first c parts)
+same_part left row above c cs [] some on = absurd (omega (arith, some))
+same_part left row above c cs (part ∷ parts) some on = by_squares (squares_of c)
+  where
+    by_squares : (o : Option (List (Option Man))) → option_and_then (λ s. placing left (row ++ s) above cs) o
+        ≡ cond (eqb (length parts) left) (option_and_then (λ r. squares_by_ranks (r ++ above) parts)
+        (option_and_then (λ s. rank_after (row ++ s) part) o)) None
+    by_squares None = sym (none_either (eqb (length parts) left))
+    by_squares (Some s) = on (row ++ s)
+
+some_parts : (text : List ℕ) → 0 < length (parted text)
+some_parts text = omega (arith, length-slice_split (λ c. eqb c 47) (before_first (λ b. eqb b 32) text))
+
+placing-parts : (left : ℕ) (row above : List (Option Man)) (text : List ℕ)
+    → placing left row above text ≡ by_parts left row above (parted text)
+placing-parts left row above [] = last_part left row above
+placing-parts left row above (c ∷ cs) = by_space (λ left row above. placing-parts left row above cs) (eqb c 32) refl
+  where
+    Parts : Type 0
+    Parts = (left : ℕ) → (row above : List (Option Man))
+        → placing left row above cs ≡ by_parts left row above (parted cs)
+
+    next : 1 + position_or_len (λ b. eqb b 32) cs ≡ suc (position_or_len (λ b. eqb b 32) cs)
+    next = omega arith
+
+    by_stroke : Parts → (b : Bool) → eqb c 32 ≡ false → eqb c 47 ≡ b
+        → placing left row above (c ∷ cs) ≡ by_parts left row above (parted (c ∷ cs))
+    by_stroke on true t u =
+        rw (t, next, u) (next_part left row above (parted cs) (λ lower. placing lower [] (row ++ above) cs)
+        (some_parts cs) (λ lower. on lower [] (row ++ above)))
+    by_stroke on false t u =
+        rw (t, next, u) (same_part left row above c cs (parted cs) (some_parts cs)
+        (λ row. on left row above))
+
+    by_space : Parts → (b : Bool) → eqb c 32 ≡ b
+        → placing left row above (c ∷ cs) ≡ by_parts left row above (parted (c ∷ cs))
+    by_space on true t = rw t (last_part left row above)
+    by_space on false t = by_stroke on (eqb c 47) t refl
+
+pub placing-read : (text : List ℕ) → placing 7 [] [] text ≡ placement_of (before_first (λ b. eqb b 32) text)
+placing-read text = placing-parts 7 [] [] text ∙ by_list (parted text) (some_parts text)
+  where
+    by_list : (parts : List (List ℕ)) → 0 < length parts
+        → by_parts 7 [] [] parts ≡ cond (eqb (length parts) 8) (squares_by_ranks [] parts) None
+    by_list [] some = absurd (omega (arith, some))
+    by_list (part ∷ parts) some = rw (eqb-suc (length parts) 7) refl
+
+-- What is left of the text gives the same board, on top of which the ranks so far are; so many ranks are left, and
+-- their squares are still empty
+pub record Placing (text : List ℕ) (men : List (Option Man)) (rest : List ℕ) (left : ℕ) : Type 0 where
+  pub on : placing (left - 1) [] (drop (8 * left) men) rest ≡ placing 7 [] [] text
+  pub back : behind rest ≡ behind text
+  pub empty : take (8 * left) men ≡ replicate (8 * left) None
+  pub some : 0 < left
+
+-- the squares of the next rank are still empty
+pub rank_empty : (rank : ℕ) (men : List (Option Man)) → take (8 * rank + 8) men ≡ replicate (8 * rank + 8) None
+    → take ((8 * rank + 8) - 8 * rank) (drop (8 * rank) men) ≡ replicate 8 None
+rank_empty rank men empty =
+    let eight : (8 * rank + 8) - 8 * rank ≡ 8 = omega arith in
+    ap (λ n. take n (drop (8 * rank) men)) eight ∙ sym (drop-take (8 * rank) 8 men) ∙ ap (drop (8 * rank)) empty
+    ∙ drop-replicate (8 * rank) (8 * rank + 8) None ∙ ap (λ n. replicate n None) eight
+
+-- where no rank follows
+pub no_rank : (text men rest : _) (left : ℕ) → Placing text men rest left → NoRankIsRead rest
+    → placement_of (before_first (λ b. eqb b 32) text) ≡ None
+no_rank text men rest left so_far none =
+    sym (placing-read text) ∙ sym so_far.on ∙ none (left - 1) (drop (8 * left) men)
+
+-- what is read by a rank, before what comes behind it
+by_rank : (text men new rest ended : _) (left : ℕ) → 0 < left → Placing text men rest left
+    → (p : RankIsPlaced rest (left - 1) men new ended)
+    → placing (left - 1) p.row (drop (8 * left) men) ended ≡ placement_of (before_first (λ b. eqb b 32) text)
+by_rank text men new rest ended left some so_far p =
+    sym (p.read.on (left - 1) (drop (8 * left) men)) ∙ so_far.on ∙ placing-read text
+
+-- where no slash follows, and another rank should
+pub no_more : (text men new rest ended : _) (left : ℕ) → 1 < left → Placing text men rest left
+    → RankIsPlaced rest (left - 1) men new ended → NoStrokeIsRead ended
+    → placement_of (before_first (λ b. eqb b 32) text) ≡ None
+no_more text men new rest ended left some so_far p none =
+    let lower : left - 1 ≡ suc (left - 2) = omega arith in
+    sym (by_rank text men new rest ended left (omega arith) so_far p)
+    ∙ ap (λ k. placing k p.row (drop (8 * left) men) ended) lower
+    ∙ none (left - 2) p.row (drop (8 * left) men) p.read.eight
+
+above_is : (left : ℕ) (row old new : List (Option Man)) → 0 < left
+    → drop (8 * (left - 1)) new ≡ row ++ drop (8 * (left - 1) + 8) old
+    → drop (8 * (left - 1)) new ≡ row ++ drop (8 * left) old
+above_is left row old new some above =
+    let on : 8 * (left - 1) + 8 ≡ 8 * left = omega arith in above ∙ ap (λ k. row ++ drop k old) on
+
+pub placed_on : (text men new rest ended next : _) (left : ℕ) → 1 < left → Placing text men rest left
+    → RankIsPlaced rest (left - 1) men new ended → StrokeIsRead ended next → Placing text new next (left - 1)
+placed_on text men new rest ended next left some so_far p stroke =
+    let lower : left - 1 ≡ suc (left - 2) = omega arith in
+    let twice : left - 1 - 1 ≡ left - 2 = omega arith in
+    let fewer : 8 * (left - 1) ≤ 8 * left = omega arith in
+    record {
+      on = rw (above_is left p.row men new (omega arith) p.above, twice)
+          (sym (stroke.on (left - 2) p.row (drop (8 * left) men) p.read.eight)
+          ∙ ap (λ k. placing k p.row (drop (8 * left) men) ended) (sym lower)
+          ∙ by_rank text men new rest ended left (omega arith) so_far p ∙ sym (placing-read text));
+      back = sym stroke.back ∙ sym p.read.back ∙ so_far.back;
+      empty = p.below ∙ sym (take-take (8 * (left - 1)) (8 * left) men fewer) ∙ ap (take (8 * (left - 1))) so_far.empty
+          ∙ take-replicate (8 * (left - 1)) (8 * left) None fewer;
+      some = omega arith;
+    }
+
+pub placed_whole : (text men new rest ended : _) (left : ℕ) → left ≡ 1 → Placing text men rest left
+    → RankIsPlaced rest 0 men new ended → Ends true ended → PlacementIsRead text new ended
+placed_whole text men new rest ended left last so_far p end =
+    record {
+      denotes = sym (placing-read text) ∙ sym so_far.on ∙ rw last (p.read.on 0 (drop 8 men)
+          ∙ end.0 p.row (drop 8 men) p.read.eight ∙ ap (λ xs. Some xs) (sym p.above));
+      back = sym end.1 ∙ sym p.read.back ∙ so_far.back;
+    }
+
+pub too_many : (text men new rest ended : _) (left : ℕ) → left ≡ 1 → Placing text men rest left
+    → RankIsPlaced rest 0 men new ended → Ends false ended
+    → placement_of (before_first (λ b. eqb b 32) text) ≡ None
+too_many text men new rest ended left last so_far p past =
+    sym (placing-read text) ∙ sym so_far.on ∙ rw last (p.read.on 0 (drop 8 men) ∙ past p.row (drop 8 men) p.read.eight)

@@ -1,0 +1,9 @@
+use Rattle.std.proofs.Common.{arith}
+use Rattle.chess_fen.proofs.Runs.{run_stands, run_some}
+use Rattle.chess_fen.proofs.letters.run_of.Goals as goal
+
+pub returns-clause-squares : goal.returns-clause-squares
+returns-clause-squares c = run_stands c.args.byte (omega arith)
+
+pub returns-clause-some : goal.returns-clause-some
+returns-clause-some c = run_some c.args.byte (omega arith)

@@ -1,0 +1,5 @@
+use Rattle.chess_fen.proofs.Placing.{ends_at}
+use Rattle.chess_fen.proofs.placement.ends_field.Goals as goal
+
+pub returns-in-len1-up : goal.returns-in-len1-up
+returns-in-len1-up c = ends_at c.args.text.now c.in-len1-up.len_at_least

@@ -1,0 +1,5 @@
+use Rattle.chess_fen.proofs.Placing.{rank_empty}
+use Rattle.chess_fen.proofs.placement.place_rank.Goals as goal
+
+pub read_rank-requires : goal.read_rank-requires
+read_rank-requires c = record { empty = rank_empty c.args.rank c.args.men.now c.requires.empty }

@@ -1,0 +1,77 @@
+-- What a byte of a rank's text stands for, as code keeps it, and placements read byte by byte.
+use Rattle.std.specs.Prelude.{◌≡◌, ℕ, zero, suc, ◌+◌, ◌-◌, ◌*◌, ◌==◌, nat_le, Bool, true, false, List, [], ◌∷◌, ◌++◌, length, take, drop, replicate, Option, Some, None, if◌then◌else◌, option_and_then}
+use Rattle.std.specs.List.{position_or_len, before_first}
+use Rattle.chess_base.specs.declared.man.Man.{Man}
+use Rattle.chess_base.specs.Letters.{space}
+use Rattle.chess_fen.specs.declared.letters.Run.{Run}
+use Rattle.chess_fen.specs.ManLetters.{stroke}
+use Rattle.chess_fen.specs.Texts.{squares_of, placement_of}
+
+-- the squares of a run, the first with its piece and the others empty; none if they are more than a rank has
+abbrev pub squares_in : Run → Option (List (Option Man))
+squares_in r = if nat_le r.squares 8 then Some (r.first ∷ replicate (r.squares - 1) None) else None
+
+-- what f makes of the number below n; none for 0
+abbrev pub at_lower : {A : Type 0} → ℕ → (ℕ → Option A) → Option A
+at_lower zero f = None
+at_lower (suc n) f = f n
+
+-- all squares, where a placement's text ends: `row`, if no rank is left and these are the eight squares of the last,
+-- and then `above`
+abbrev pub last_rank : ℕ → List (Option Man) → List (Option Man) → Option (List (Option Man))
+last_rank zero row above = if length row == 8 then Some (row ++ above) else None
+last_rank (suc lower) row above = None
+
+-- the squares that a placement denotes, from a1 on, read byte by byte up to the first space. Before this text were read
+-- the squares `row` of a rank below which `left` ranks are left, and `above`, those of all ranks above it
+abbrev pub placing : ℕ → List (Option Man) → List (Option Man) → List ℕ → Option (List (Option Man))
+placing left row above [] = last_rank left row above
+placing left row above (c ∷ cs) =
+    if c == space then last_rank left row above
+    else if c == stroke then at_lower left (λ lower.
+    if length row == 8 then placing lower [] (row ++ above) cs else None)
+    else option_and_then (λ squares. placing left (row ++ squares) above cs) (squares_of c)
+
+-- a text from its first space on
+abbrev pub behind : List ℕ → List ℕ
+behind text = drop (position_or_len (λ b. b == space) text) text
+
+-- from a text, a whole rank was read into `row`, up to the text `rest`
+pub record RankIsRead (text : List ℕ) (row : List (Option Man)) (rest : List ℕ) : Type 0 where
+  pub on : (left : ℕ) → (above : List (Option Man)) → placing left [] above text ≡ placing left row above rest
+  pub back : behind text ≡ behind rest
+  pub eight : length row ≡ 8
+
+-- no whole rank is at the front of a text
+abbrev pub NoRankIsRead : List ℕ → Type 0
+NoRankIsRead text = (left : ℕ) → (above : List (Option Man)) → placing left [] above text ≡ None
+
+-- from a text, the squares of a rank (0 for rank 1) were read up to the text `rest`, which made the squares `new` of
+-- the board from `old`
+pub record RankIsPlaced (text : List ℕ) (rank : ℕ) (old new : List (Option Man)) (rest : List ℕ) : Type 0 where
+  pub row : List (Option Man)
+  pub read : RankIsRead text row rest
+  pub above : drop (8 * rank) new ≡ row ++ drop (8 * rank + 8) old
+  pub below : take (8 * rank) new ≡ take (8 * rank) old
+
+-- a text goes on with a slash and then `rest`, so that the next rank begins there
+pub record StrokeIsRead (text rest : List ℕ) : Type 0 where
+  pub on : (lower : ℕ) → (row above : List (Option Man)) → length row ≡ 8
+      → placing (suc lower) row above text ≡ placing lower [] (row ++ above) rest
+  pub back : behind text ≡ behind rest
+
+-- no other rank follows in a text
+abbrev pub NoStrokeIsRead : List ℕ → Type 0
+NoStrokeIsRead text = (lower : ℕ) → (row above : List (Option Man)) → length row ≡ 8
+    → placing (suc lower) row above text ≡ None
+
+-- whether the placement ends where a text begins
+abbrev pub Ends : Bool → List ℕ → Type 0
+Ends true text = ((row above : List (Option Man)) → length row ≡ 8 → placing 0 row above text ≡ Some (row ++ above))
+    × (behind text ≡ text)
+Ends false text = (row above : List (Option Man)) → length row ≡ 8 → placing 0 row above text ≡ None
+
+-- the field at the front of a text denotes these pieces, and `rest` is the text from the first space on
+pub record PlacementIsRead (text : List ℕ) (men : List (Option Man)) (rest : List ℕ) : Type 0 where
+  pub denotes : placement_of (before_first (λ b. b == space) text) ≡ Some men
+  pub back : rest ≡ behind text
