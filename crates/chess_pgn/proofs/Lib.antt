@@ -16,6 +16,7 @@ pub mod PgnPieces
 pub mod PgnTags
 pub mod PgnWhole
 pub mod PgnWords
+pub mod PlainBytes
 pub mod ShortTokens
 pub mod Skipped
 pub mod Strings

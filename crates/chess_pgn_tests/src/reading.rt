@@ -4,7 +4,7 @@ use chess_bits::{AttackTables, Bits};
 use chess_fen::write_fen;
 use chess_game::{Game, Outcome, Verdict};
 use chess_moves::{Board, Plain};
-use chess_pgn::{PgnEnd, PgnFault, PgnFaultKind, Termination, read_pgn};
+use chess_pgn::{PgnEnd, PgnFault, PgnFaultKind, ResultTag, Termination, read_pgn, result_tag};
 use std::alloc::Global;
 use std::process::Abort;
 use std::test::Fail;
@@ -965,6 +965,79 @@ fn comments_of_any_length_are_skipped(rt: HostRuntime) -> Result<(), Fail> {
     let mut game = Game::open(rt.alloc(), Plain::new(), 100)?;
     for len in 0..100 {
         comment_is_skipped(&rt, rt.alloc(), &mut game, len)?;
+    }
+    Ok(())
+}
+
+// What may follow the first bytes of a tag's string, which are plain; and how many bytes more the string then has, or
+// `None` where it has no end, so that this is no tag.
+const STRING_ENDS: [(&[u8], Option<usize>); 8] = [
+    (b"\"] ", Some(0)),
+    (b"\\\"\"] ", Some(2)),
+    (b"\\\\\"] ", Some(2)),
+    (b"\\\\\\\"\"] ", Some(4)),
+    (b"\\\"] ", None),
+    (b"\\\\\\\"] ", None),
+    (b"\n\"] ", None),
+    (b"\\\n\"] ", None),
+];
+
+// A tag whose string begins with `len` plain bytes, which are followed by `end`, is read.
+fn string_is_read<B: Board>(
+    rt: &impl Abort,
+    alloc: Global,
+    game: &mut Game<B>,
+    len: usize,
+    end: (&[u8], Option<usize>),
+) -> Result<(), Fail> {
+    let plain = vec![in alloc; b'x'; len]?;
+    let mut text = vec![in alloc; b' '; 0]?;
+    text.extend_from_slice(b"[Result \"")?;
+    text.extend_from_slice(plain.as_slice())?;
+    text.extend_from_slice(end.0)?;
+    text.extend_from_slice(b"{so that many bytes follow} *")?;
+    let (tag, wanted) = match end.1 {
+        Some(more) => (
+            Some(ResultTag {
+                outcome: None,
+                offset: 9,
+                len: len.saturating_add(more),
+            }),
+            Wanted::Ended(Outcome::Unfinished, text.len()),
+        ),
+        None => (None, Wanted::Fault(PgnFaultKind::BadTag, 0)),
+    };
+    is_equal_at(
+        rt,
+        0,
+        text.as_slice(),
+        &result_tag(text.as_slice(), 0),
+        &tag,
+    );
+    is_read_on(rt, text.as_slice(), game, 0, wanted, 0);
+    Ok(())
+}
+
+// Each of the ends after so many plain bytes is found.
+fn strings_are_read<B: Board>(
+    rt: &impl Abort,
+    alloc: Global,
+    game: &mut Game<B>,
+    len: usize,
+) -> Result<(), Fail> {
+    for end in STRING_ENDS {
+        string_is_read(rt, alloc, game, len, end)?;
+    }
+    Ok(())
+}
+
+// The bytes of a tag's string that are neither quotes, backslashes nor line ends are skipped by 16: what ends the string
+// is found at each place in them.
+#[test]
+fn strings_of_any_length_are_read(rt: HostRuntime) -> Result<(), Fail> {
+    let mut game = Game::open(rt.alloc(), Plain::new(), 100)?;
+    for len in 0..66 {
+        strings_are_read(&rt, rt.alloc(), &mut game, len)?;
     }
     Ok(())
 }

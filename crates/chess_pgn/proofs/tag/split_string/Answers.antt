@@ -1,13 +1,9 @@
 -- The bytes so far, put before the string that the rest holds, are the string of the text. Each byte goes over from the
 -- rest to them, up to the closing quote or the end of the line (Strings).
 use Rattle.std.proofs.Common.{sym, ◌∙◌}
-use Rattle.chess_pgn.specs.Tokens.{string_at}
-use Rattle.chess_pgn.proofs.Strings.{onto-nil, place_line, place_quote, place_kept, place_other}
+use Rattle.chess_pgn.proofs.Strings.{place_line, place_quote, place_kept, place_other}
 use Rattle.chess_pgn.proofs.tag.split_string.Goals as goal
 use Rattle.chess_pgn.proofs.tag.split_string.Goals.{then-is_kept, else-is_kept+else-byte-eq34}
-
-pub loop-offset-init : goal.loop-offset-init
-loop-offset-init c = onto-nil (string_at c.args.text.now)
 
 pub returns-then-byte-eq10 : goal.returns-then-byte-eq10
 returns-then-byte-eq10 c =
