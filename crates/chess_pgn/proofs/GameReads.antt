@@ -1,8 +1,5 @@
 -- Reading a game, token by token.
-use Rattle.std.proofs.Common.{◌≡◌, ℕ, suc, ◌+◌, ◌-◌, ◌≤◌, ◌<◌, ◌||◌, ◌==◌, eqb, Bool, true, false, cond, List, [], ◌∷◌, arith, rules, length, get_or, take, drop, Some, None, is_some, Result, Ok, Err, refl, sym, ap, subst, ◌∙◌, Option, IsNone, OnErr}
-use Rattle.std.proofs.Math.Seq.{drop-cons}
-use Rattle.std.proofs.lemmas.Bool.Decides.{nat_tests}
-use Rattle.std.proofs.lemmas.List.{length-drop}
+use Rattle.std.proofs.Common.{◌≡◌, ℕ, ◌-◌, ◌≤◌, ◌<◌, Bool, true, false, cond, List, [], ◌∷◌, arith, rules, length, get_or, take, drop, Some, None, is_some, Result, Ok, Err, refl, sym, ap, subst, ◌∙◌, Option, IsNone, OnErr}
 use Rattle.std.specs.Prelude.{nat_lt, codes}
 use Rattle.std.specs.Str.{bytes_eq}
 use Rattle.chess_base.specs.declared.fault.FenFault.{FenFault}
@@ -23,13 +20,15 @@ use Rattle.chess_text.specs.declared.reading.Reading.{Reading}
 use Rattle.chess_text.specs.declared.reading.Reading.TheVariants as reads
 use Rattle.chess_text.specs.Moves.{reading}
 use Rattle.chess_pgn.specs.Words.{word_kind}
-use Rattle.chess_pgn.specs.Tokens.{Token, Skip, Tag, Word, Bad_tag, Unclosed_comment, Unclosed_variation, Bad, after_byte_order_mark, is_white_space, after_brace, token_at, begins_line, tokens_from}
+use Rattle.chess_pgn.specs.Tokens.{Token, Skip, Tag, Word, Bad_tag, Unclosed_comment, Unclosed_variation, Bad, after_byte_order_mark, after_brace, token_at, begins_line, tokens_from}
 use Rattle.chess_pgn.specs.GameRead.{SoFar, Step, On, Stop, unless_full, move_step, word_step, fen_step, tag_step, step, go_on, game_of, nothing_read, tagged_variant, tokens_read, pgn_read}
 use Rattle.chess_pgn.specs.LastTags.{may_precede_tags, named_tag}
 use Rattle.chess_pgn.specs.ties.GameSteps.{so_far, begun, IsReadOn, ReadsAlike, IsTaken, GoesOn, step_seen}
+use Rattle.chess_pgn.specs.ties.Seen.{SkipsTo}
 use Rattle.chess_pgn.proofs.Cuts.{pick}
+use Rattle.chess_pgn.proofs.SkippedTokens.{skips_alike, skips_tell}
 use Rattle.chess_pgn.proofs.TagScans.{variant_or, variant_told, variant_from, variants_are}
-use Rattle.chess_pgn.proofs.Walk.{NextToken, next_token, token_more}
+use Rattle.chess_pgn.proofs.Walk.{NextToken, next_token}
 
 -- ---- nothing is declared before the game's end, and nothing after a fault
 
@@ -263,33 +262,17 @@ normal_ended limit text from game p here r is = record {
       (ap (variant_from Normal) (sym is) ∙ r.tells.whole);
 }
 
--- ---- white space and dots, at which nothing counts
-
-passed_token : (begins : Bool) (c : ℕ) (rest : List ℕ) → (is_white_space c || (c == 46)) ≡ true
-    → token_at begins c rest ≡ (Skip, rest)
-unfolding token_at
-passed_token true c rest h =
-    let line : eqb c 37 ≡ false = grind (arith, nat_tests, h) in
-    rw (line, h) refl
-passed_token false c rest h = rw h refl
-
-passed_at : (text : List ℕ) (at c : ℕ) (rest : List ℕ) → drop at text ≡ c ∷ rest → at < length text
-    → (is_white_space c || (c == 46)) ≡ true → ReadsAlike text at (at + 1)
-passed_at text at c rest is low h =
-    let left : suc (length rest) ≡ length text - at = sym (ap length is) ∙ length-drop at text in
-    let offset : length text - length rest ≡ at + 1 = omega (arith, left, low) in
-    λ limit g.
-    ap (game_of limit (length text) g) (token_more text at c rest is (omega (arith, low)))
-    ∙ ap (λ (t : Token × List ℕ).
-    game_of limit (length text) g ((length text - at, t.0) ∷ tokens_from text (length text - length t.1)))
-    (passed_token (begins_line text at) c rest h)
-    ∙ ap (λ n. game_of limit (length text) g (tokens_from text n)) offset
-
--- one more
-pub passed : (text : List ℕ) (from at : ℕ) → ReadsAlike text from at → at < length text
-    → (is_white_space (get_or text at 0) || (get_or text at 0 == 46)) ≡ true → ReadsAlike text from (at + 1)
-passed text from at so low h = λ limit g. so limit g ∙ passed_at text at (get_or text at 0) (drop (suc at) text)
-    (drop-cons text at 0 low) low h limit g
+-- what is skipped after a tag
+pub normal_on : (limit : ℕ) (text : List ℕ) (from : ℕ) (game : Seen) (p : Progress) (here there : ℕ)
+    → ReadsNormal limit text from game p here → SkipsTo text here there → here ≤ there → there ≤ length text
+    → ReadsNormal limit text from game p there
+normal_on limit text from game p here there r skips behind within = record {
+  behind = (let before = r.behind in omega (arith, before, behind));
+  tells = record { offset = within; whole = sym (skips_tell text here there skips Normal) ∙ r.tells.whole };
+  undeclared = r.undeclared;
+  same_limit = r.same_limit;
+  whole = sym (skips_alike text here there skips limit (so_far game.state p)) ∙ r.whole;
+}
 
 -- ---- comments, at which nothing counts
 

@@ -7,8 +7,9 @@ use Rattle.chess_pgn.specs.Tokens.{Token, Skip, Word, Bad_tag, Unclosed_comment,
 use Rattle.chess_pgn.specs.Tokens as told
 use Rattle.chess_pgn.specs.declared.tag.Tag.{Tag}
 use Rattle.chess_pgn.specs.ties.GameSteps.{IsWithin}
-use Rattle.chess_pgn.specs.ties.Seen.{found_seen}
+use Rattle.chess_pgn.specs.ties.Seen.{found_seen, SkipsTo}
 use Rattle.chess_pgn.proofs.Cuts.{pick}
+use Rattle.chess_pgn.proofs.SkippedTokens.{skips_last}
 use Rattle.chess_pgn.proofs.TagScans.{last_from, last_step}
 use Rattle.chess_pgn.proofs.TokenPlaces.{token_within}
 
@@ -74,3 +75,12 @@ no_more text name from last here t ts r is may =
     ap (λ b. cond b (last_from name (option_or (named_tag name t) (found_seen last)) ts) (found_seen last)) may
     ∙ sym (last_step name (found_seen last) (length text - here, t) ts)
     ∙ ap (last_from name (found_seen last)) (sym is) ∙ r.whole
+
+-- what is skipped after a token
+pub skipped_on : (text name : List ℕ) (from : ℕ) (last : Option Tag) (here there : ℕ) → Reads text name from last here
+    → SkipsTo text here there → there ≤ length text → Reads text name from last there
+skipped_on text name from last here there r skips within = record {
+  offset = within;
+  within = r.within;
+  whole = sym (skips_last text here there skips name (found_seen last)) ∙ r.whole;
+}

@@ -19,6 +19,7 @@ pub mod PgnWords
 pub mod PlainBytes
 pub mod ShortTokens
 pub mod Skipped
+pub mod SkippedTokens
 pub mod Strings
 pub mod TagLines
 pub mod TagParts

@@ -7,7 +7,7 @@ ghost use Rattle.chess_pgn.specs.Tokens.{tokens_from};
 ghost use Rattle.chess_pgn.specs.ties.Seen.{found_seen, token_seen};
 
 use crate::tag::Tag;
-use crate::token::{Token, next_token};
+use crate::token::{Token, after_blanks, next_token};
 use crate::word::{WordKind, word_kind};
 
 /// Whether more tags of the same game may come after this token: it is skipped, a tag, or marks such as `!?`.
@@ -49,7 +49,7 @@ pub(crate) fn last_tag<'t>(text: &'t [u8], at: usize, name: &[u8]) -> Option<Tag
                     return last;
                 }
                 last = named_tag(name, &token).or(last);
-                offset = behind;
+                offset = after_blanks(text, behind);
             }
             Ok(None) | Err(_) => return last,
         }

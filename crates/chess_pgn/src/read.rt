@@ -13,12 +13,13 @@ ghost use Rattle.chess_pgn.specs.GameRead.{declared_after, termination_after, mo
 ghost use Rattle.chess_pgn.specs.Tokens.{tokens_from};
 ghost use Rattle.chess_pgn.specs.ties.GameSteps.{refusal_kind, EndsIn, so_far, step_seen, IsWithin, IsReadOn, ReadsAlike, IsTaken, GoesOn};
 
-use crate::bytes::is_passed;
 use crate::last_tag::{last_tag, may_precede_tags, named_tag};
 use crate::skips::after_brace;
 use crate::tag::Tag;
 use crate::termination::Termination;
-use crate::token::{Token, TokenFault, after_byte_order_mark, next_token, split_word};
+use crate::token::{
+    Token, TokenFault, after_blanks, after_byte_order_mark, next_token, split_word,
+};
 use crate::word::{WordKind, begins_from_a, is_number, word_kind};
 use chess_base::{FenFault, Move, Position, Variant};
 use chess_fen::read_fen_as;
@@ -400,22 +401,6 @@ fn tagged_variant(text: &[u8], at: usize) -> Variant
     variant_of(last_tag(text, at, b"Variant"))
 }
 
-// Skips white space and dots from `at` on, and returns the offset after them. `next_token` would skip them one by one;
-// this is faster.
-#[inline(always)]
-fn after_blanks(text: &[u8], at: usize) -> usize
-    requires { at ≤ length text.now }
-    ensures alike { ReadsAlike text.now at result }
-    ensures behind { at ≤ result }
-    ensures within { result ≤ length text.now }
-{
-    let mut offset = at;
-    while offset < text.len() && is_passed(text[offset]) {
-        offset += 1;
-    }
-    offset
-}
-
 // The offset after the closed `{` comment that begins at `at`; `None` if no comment begins there, or it isn't closed.
 #[inline(always)]
 fn after_comment(text: &[u8], at: usize) -> Option<usize>
@@ -485,7 +470,7 @@ fn read_normal_tags<B: Board>(
             Ok(Step::Ended(_)) => return None,
             Err(_) => return None,
         }
-        offset = behind;
+        offset = after_blanks(text, behind);
     }
 }
 

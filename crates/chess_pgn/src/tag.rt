@@ -1,9 +1,9 @@
 //! Reading a tag.
 
-ghost use Rattle.std.specs.Prelude.{◌≡◌, ◌+◌, ◌≤◌, drop, length, take, take_while, Option};
+ghost use Rattle.std.specs.Prelude.{◌≡◌, ◌+◌, ◌≤◌, drop, false, length, take, take_while, Option};
 ghost use Rattle.std.specs.List.{position_or_len, prefix_len};
 ghost use Rattle.std.specs.Option.{option_map};
-ghost use Rattle.chess_pgn.specs.Tokens.{is_name_byte, after_next, onto, string_at};
+ghost use Rattle.chess_pgn.specs.Tokens.{is_name_byte, is_white_space, after_next, onto, string_at};
 ghost use Rattle.chess_pgn.specs.ties.TagParts.{ends_plain, tag_by_parts};
 ghost use Rattle.chess_pgn.specs.ties.Seen.{tag_seen};
 
@@ -33,10 +33,16 @@ pub(crate) fn split_name(text: &[u8]) -> (&[u8], &[u8])
 }
 
 // The text after any white space and `%` lines, and then this byte; `None` if another byte comes there. The text's own
-// first byte begins no line, so a `%` there is not skipped.
-pub(crate) fn after_next(byte: u8, text: &[u8]) -> Option<&[u8]>
+// first byte begins no line, so a `%` there is not skipped. Mostly the byte comes first, and nothing is to be skipped.
+fn after_next(byte: u8, text: &[u8]) -> Option<&[u8]>
+    requires { is_white_space byte ≡ false }
     ensures { option_map (λ r. r.now) result ≡ after_next byte text.now }
 {
+    if let [first, rest @ ..] = text {
+        if *first == byte {
+            return Some(rest);
+        }
+    }
     match after_gap(text) {
         [first, rest @ ..] if *first == byte => Some(rest),
         _ => None,

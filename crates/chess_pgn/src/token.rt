@@ -5,7 +5,7 @@ ghost use Rattle.std.specs.List.{prefix_len, take_while};
 ghost use Rattle.std.specs.Option.{unwrap_or};
 ghost use Rattle.chess_pgn.specs.Tokens.{is_word_byte, token_at, comment_at, after_brace, variation_at, tag_at, Bad_tag, begins_line, after_byte_order_mark};
 ghost use Rattle.chess_base.specs.Letters.{is_digit};
-ghost use Rattle.chess_pgn.specs.ties.Seen.{first_seen, IsNextToken};
+ghost use Rattle.chess_pgn.specs.ties.Seen.{first_seen, IsNextToken, SkipsTo};
 
 use crate::bytes::{is_digit, is_passed, is_word_byte};
 use crate::skips::{after_brace, line_end};
@@ -191,6 +191,22 @@ pub(crate) fn next_token(text: &[u8], at: usize) -> Result<Option<(Token<'_>, us
         Ok((token, behind)) => Ok(Some((token, text.len() - behind.len()))),
         Err(fault) => Err(fault),
     }
+}
+
+/// Skips white space and dots from the offset `at` on, and returns the offset after them. [`next_token`] would skip them
+/// one by one; this is faster.
+#[inline(always)]
+pub(crate) fn after_blanks(text: &[u8], at: usize) -> usize
+    requires { at ≤ length text.now }
+    ensures skips { SkipsTo text.now at result }
+    ensures behind { at ≤ result }
+    ensures within { result ≤ length text.now }
+{
+    let mut offset = at;
+    while offset < text.len() && is_passed(text[offset]) {
+        offset += 1;
+    }
+    offset
 }
 
 /// The offset where reading begins: after the bytes EF BB BF (a byte order mark) at offset 0, else the offset itself.

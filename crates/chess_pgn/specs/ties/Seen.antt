@@ -1,5 +1,5 @@
 -- What the reader of tokens answers, in the words of the definitions.
-use Rattle.std.specs.Prelude.{◌≡◌, ℕ, ◌-◌, ◌<◌, ◌≤◌, List, [], ◌∷◌, length, Option, Some, None, Result, Ok, Err}
+use Rattle.std.specs.Prelude.{◌≡◌, ℕ, ◌-◌, ◌<◌, ◌≤◌, List, [], ◌∷◌, ◌++◌, length, map, Option, Some, None, Result, Ok, Err}
 use Rattle.std.specs.Borrow.{Bor}
 use Rattle.std.specs.Option.{option_map}
 use Rattle.chess_pgn.specs.declared.tag.Tag.{Tag}
@@ -52,3 +52,9 @@ IsNextToken text at (Ok None) = tokens_from text at ≡ []
 IsNextToken text at (Ok (Some r)) = (tokens_from text at ≡ (length text - at, token_seen r.0) ∷ tokens_from text r.1)
     × (at < r.1) × (r.1 ≤ length text)
 IsNextToken text at (Err f) = tokens_from text at ≡ (length text - at, fault_seen f) ∷ []
+
+-- from the offset `a` to the offset `b` the text has only tokens that are skipped; `lefts` are how many bytes are left at
+-- each of them
+abbrev pub SkipsTo : List ℕ → ℕ → ℕ → Type 0
+SkipsTo text a b = (lefts : List ℕ)
+    × (tokens_from text a ≡ map (λ left. (left, tokens.Skip)) lefts ++ tokens_from text b)

@@ -1,5 +1,8 @@
-use Rattle.chess_pgn.specs.ties.Seen.{token_seen}
-use Rattle.chess_pgn.proofs.GameReads.{first_normal}
+-- Each tag keeps that what is left gives the whole (GameReads.more_normal), and so does what is skipped after it
+-- (GameReads.normal_on).
+use Rattle.std.proofs.Common.{sym, ◌∙◌}
+use Rattle.chess_pgn.specs.ties.Seen.{found_seen, token_seen}
+use Rattle.chess_pgn.proofs.GameReads.{first_normal, more_normal, normal_on}
 use Rattle.chess_pgn.proofs.TokenPlaces.{token_within}
 use Rattle.chess_pgn.proofs.read.read_normal_tags.Goals as goal
 
@@ -12,3 +15,16 @@ pub read_token-requires-clause-within : goal.read_token-requires-clause-within
 read_token-requires-clause-within g c =
     token_within c.args.text.now c.loop-next.offset (token_seen c.in-Some.token) _
     c.loop-next.invariant.tells.offset (rw c.in-Some.is at c.in-Ok.ensures).0
+
+pub loop-next-preserved : goal.loop-next-preserved
+loop-next-preserved g c =
+    let next = rw c.in-Some.is at c.in-Ok.ensures in
+    let step_is = rw c.in-Ok-On.field-0-is at c.in-Ok-On.ensures.step in
+    let more = more_normal c.args.game.now.limit c.args.text.now c.args.at c.loop-next.game c.read_token.new.game
+    c.loop-next.progress c.in-Ok-On.further c.loop-next.offset c.in-Some.behind (token_seen c.in-Some.token)
+    (found_seen c.named_tag.result) c.loop-next.invariant next.0 next.1 next.2
+    (sym c.if-not-may_precede_tags.false ∙ c.may_precede_tags.ensures) c.named_tag.ensures c.in-Normal.ensures
+    c.in-Ok-On.ensures.limit step_is in
+    normal_on c.args.game.now.limit c.args.text.now c.args.at c.read_token.new.game c.in-Ok-On.further c.in-Some.behind
+    c.after_blanks-offset.result more c.after_blanks-offset.ensures.skips c.after_blanks-offset.ensures.behind
+    c.after_blanks-offset.ensures.within

@@ -1,11 +1,10 @@
 use Rattle.std.proofs.Common.{◌≤◌, ◌-◌, length}
-use Rattle.chess_pgn.specs.ties.GameSteps.{ReadsAlike}
-use Rattle.chess_pgn.proofs.read.after_blanks.Given as goal
+use Rattle.chess_pgn.specs.ties.Seen.{SkipsTo}
+use Rattle.chess_pgn.proofs.token.after_blanks.Given as goal
 
--- so far a game is read alike
 abbrev pub invariant-loop-offset : goal.invariant-loop-offset
 invariant-loop-offset l = record {
-  alike : ReadsAlike l.text l.at l.offset;
+  skips : SkipsTo l.text l.at l.offset;
   behind : l.at ≤ l.offset;
   within : l.offset ≤ length l.text;
 }

@@ -1,0 +1,21 @@
+-- White space or a dot is a token that is skipped (SkippedTokens.blank_more).
+use Rattle.std.proofs.Common.{sym, ◌∙◌, arith}
+use Rattle.chess_pgn.proofs.SkippedTokens.{none_yet, blank_more}
+use Rattle.chess_pgn.proofs.token.after_blanks.Goals as goal
+
+pub loop-offset-init : goal.loop-offset-init
+loop-offset-init c = record {
+  skips = none_yet c.args.text.now c.args.at;
+  behind = omega arith;
+  within = c.requires;
+}
+
+pub loop-offset-preserved : goal.loop-offset-preserved
+loop-offset-preserved c =
+    let behind = c.loop-offset.invariant.behind in
+    record {
+      skips = blank_more c.args.text.now c.args.at c.loop-offset.offset c.loop-offset.invariant.skips
+          c.loop-offset-test.true (sym c.is_passed.ensures ∙ c.if-is_passed.true);
+      behind = omega (arith, behind);
+      within = omega arith;
+    }
