@@ -5,6 +5,7 @@ use Rattle.std.proofs.lemmas.Bool.Decides.{nat_tests}
 use Rattle.std.proofs.lemmas.Bool.{and_parts, and_from, and_right, or_parts, or_cases, or_left, or_right, both_ways, cases_Bool, eqb-true, eq-eqb, false_from_ne_true, not-true, not-false}
 use Rattle.chess_base.specs.declared.man.CastlingSide.TheVariants.{KingSide, QueenSide}
 use Rattle.chess_base.specs.declared.man.Colour.{Colour}
+use Rattle.chess_base.specs.declared.man.Colour.TheVariants.{White, Black}
 use Rattle.chess_base.specs.declared.man.Kind.{Kind}
 use Rattle.chess_base.specs.declared.man.Kind.TheVariants.{King, Queen, Rook, Bishop, Knight, Pawn}
 use Rattle.chess_base.specs.declared.man.Man.{Man}
@@ -12,9 +13,9 @@ use Rattle.chess_base.specs.declared.man.Move.{Move}
 use Rattle.chess_base.specs.declared.setup.Setup.{Setup}
 use Rattle.chess_base.specs.Attacks.{is_clear, could_capture, attacks, is_attacked, is_in_check}
 use Rattle.chess_base.specs.Castling.{castle_of, castle_from, mover_end, castling_rook_to}
-use Rattle.chess_base.specs.Men.{Men, man_at, other, is_man, is_of, same_kind, same_colour, first_rank}
+use Rattle.chess_base.specs.Men.{Men, man_at, other, is_man, is_of, same_kind, same_colour, first_rank, crossed_rank, forward}
 use Rattle.chess_base.specs.Moves.{is_pseudo_legal, is_legal, after, arriving_man, man_moves, men_after, second_square_emptied, promotion_fits}
-use Rattle.chess_base.specs.Sound.{IsSound}
+use Rattle.chess_base.specs.Sound.{IsSound, target_is_sound, target_is_sound_at}
 use Rattle.chess_base.specs.Squares.{file, rank, is_between, is_between_on_file, is_between_on_rank, is_between_on_diagonal, lies_inside, is_square, share_rank_or_file, share_diagonal}
 use Rattle.chess_base.specs.ties.Splits.{could_capture_as}
 use Rattle.chess_base.proofs.MenFacts.{is_none-None}
@@ -56,7 +57,7 @@ unpromoted : (o : Option Man) (c : Colour) (k : Option Kind) → is_man c King o
     → is_man c King (arriving_man o k) ≡ false
 unpromoted o c k h e = ap (λ n. is_man c King (arriving_man o n)) e ∙ ap (is_man c King) (lands_same o) ∙ h
 
-no_king_arrives : (p : Setup) (m : Move) → is_man p.side King (man_at p.men m.from) ≡ false → MoveKind p m
+pub no_king_arrives : (p : Setup) (m : Move) → is_man p.side King (man_at p.men m.from) ≡ false → MoveKind p m
     → is_man p.side King (arriving_man (man_at p.men m.from) m.promotion) ≡ false
 unfolding man_moves
 no_king_arrives p m h (ManMoves n e moves) =
@@ -68,6 +69,44 @@ no_king_arrives p m h (Castles w r e right way) =
     unpromoted (man_at p.men m.from) p.side m.promotion h (castles_unpromoted p m (castle_from p.side w m.from r) way)
 no_king_arrives p m h (PawnMoves pawn fits kind) =
     promoted (man_at p.men m.from) p.side m.promotion (rank m.to == first_rank (other p.side)) h fits
+
+-- a pawn is no king
+pub pawn_no_king : (c : Colour) (o : Option Man) → is_man c Pawn o ≡ true → is_man c King o ≡ false
+unfolding is_man
+pawn_no_king c None h = refl
+pawn_no_king c (Some x) h = by (same_colour c x.colour) x.kind h
+  where
+    by : (s : Bool) (k : Kind) → (s && same_kind Pawn k) ≡ true → (s && same_kind King k) ≡ false
+    by false k e = refl
+    by true King e = cc
+    by true Queen e = refl
+    by true Rook e = refl
+    by true Bishop e = refl
+    by true Knight e = refl
+    by true Pawn e = refl
+
+-- the en passant target is not on the last rank
+apart : (c : Colour) (s : ℕ) → rank s ≡ crossed_rank (other c) → rank s ≡ first_rank (other c) → ⊥
+apart White s e f = omega (arith, e, f)
+apart Black s e f = omega (arith, e, f)
+
+target_apart : (men : Men) (c : Colour) (o : Option ℕ) (b : ℕ) → target_is_sound_at men c o ≡ true
+    → rank b ≡ first_rank (other c) → is_square o b ≡ false
+target_apart men c None b sound last = refl
+target_apart men c (Some t) b sound last =
+    let three = and_parts ((rank t == crossed_rank (other c)) && is_none (man_at men t)
+    && is_man (other c) Pawn (man_at men (forward (other c) t))) (is_none (man_at men (forward c t))) sound in
+    let two = and_parts ((rank t == crossed_rank (other c)) && is_none (man_at men t))
+    (is_man (other c) Pawn (man_at men (forward (other c) t))) three.0 in
+    let one = and_parts (rank t == crossed_rank (other c)) (is_none (man_at men t)) two.0 in
+    false_from_ne_true (t == b)
+    (λ same.
+    apart c b (sym (ap (λ s. rank s) (eqb-true t b same)) ∙ eqb-true (rank t) (crossed_rank (other c)) one.0) last)
+
+pub no_target_there : (p : Setup) (b : ℕ) → IsSound p → rank b ≡ first_rank (other p.side)
+    → is_square p.target b ≡ false
+unfolding target_is_sound
+no_target_there p b sound last = target_apart p.men p.side p.target b sound.target last
 
 -- ---- a piece taken off
 

@@ -1,11 +1,12 @@
 -- Legal moves counted.
-use Rattle.std.proofs.Common.{◌≡◌, ℕ, ◌+◌, ◌≤◌, inl, inr, Bool, true, false, cond, Some, None, List, [], ◌∷◌, length, sym, ap, ◌∙◌, length-append, nat_lt, ◌<◌, arith}
+use Rattle.std.proofs.Common.{◌≡◌, ℕ, ◌+◌, ◌≤◌, inl, inr, Bool, true, false, cond, Some, None, List, [], ◌∷◌, length, refl, sym, ap, ◌∙◌, length-append, nat_lt, ◌<◌, arith}
 use Rattle.std.proofs.lemmas.Bool.{cases_Bool, lt-ltb, ltb-true}
 use Rattle.std.specs.List.{filter, flat_map}
+use Rattle.chess_base.specs.declared.man.Kind.{Kind}
 use Rattle.chess_base.specs.declared.man.Kind.TheVariants.{Queen, Rook, Bishop, Knight}
 use Rattle.chess_base.specs.declared.setup.Setup.{Setup}
 use Rattle.chess_base.specs.MoveList.{move_of, squares, moves}
-use Rattle.chess_base.specs.Moves.{is_legal}
+use Rattle.chess_base.specs.Moves.{is_legal, promotion_fits}
 use Rattle.chess_base.specs.Sound.{IsSound}
 use Rattle.chess_moves.specs.ties.Candidates.{moves_between, moves_from}
 use Rattle.chess_moves.specs.Promoting.{would_promote}
@@ -26,13 +27,20 @@ four_counted q w x y z =
     let last : length (filter q (z ∷ [])) ≡ cond (q z) 1 0 + 0 = counted q z [] in
     omega (arith, first, second, third, last)
 
--- the promotions to each kind are all moves of a pawn that promotes
-pub promotions_counted : (p : Setup) (a b : ℕ) → would_promote p a b ≡ true
-    → cond (is_legal p (move_of a b (Some Queen))) 1 0 + cond (is_legal p (move_of a b (Some Rook))) 1 0 + cond
-    (is_legal p (move_of a b (Some Bishop))) 1 0 + cond (is_legal p (move_of a b (Some Knight))) 1 0
-    ≡ length (moves_between p a b)
-promotions_counted p a b e =
-    four_counted (λ m. is_legal p m) (move_of a b (Some Queen)) (move_of a b (Some Rook)) (move_of a b (Some Bishop))
+by_four : (t q r b n : Bool) → t ≡ q → t ≡ r → t ≡ b → t ≡ n
+    → cond t 4 0 ≡ cond q 1 0 + cond r 1 0 + cond b 1 0 + cond n 1 0
+by_four true q r b n e f g h = rw (← e, ← f, ← g, ← h) refl
+by_four false q r b n e f g h = rw (← e, ← f, ← g, ← h) refl
+
+-- the promotions to each kind are all moves of a pawn that promotes: four if they are legal, else none
+pub promotions_counted : (p : Setup) (a b : ℕ) (t : Bool) → would_promote p a b ≡ true
+    → ((k : Kind) → promotion_fits true (Some k) ≡ true → t ≡ is_legal p (move_of a b (Some k)))
+    → cond t 4 0 ≡ length (moves_between p a b)
+promotions_counted p a b t e h =
+    by_four t (is_legal p (move_of a b (Some Queen))) (is_legal p (move_of a b (Some Rook)))
+    (is_legal p (move_of a b (Some Bishop))) (is_legal p (move_of a b (Some Knight)))
+    (h Queen refl) (h Rook refl) (h Bishop refl) (h Knight refl)
+    ∙ four_counted (λ m. is_legal p m) (move_of a b (Some Queen)) (move_of a b (Some Rook)) (move_of a b (Some Bishop))
     (move_of a b (Some Knight)) ∙ ap length (sym (all_promote p a b e))
 
 -- and elsewhere there is one move at most

@@ -158,16 +158,24 @@ lands_same None = refl
 lands_same (Some x) = refl
 
 -- such a move fills its end square, and changes that and its start
+pub fills_end : (p : Setup) (m : Move) (k : ℕ) → is_man p.side King (man_at p.men m.from) ≡ false
+    → (is_man p.side Pawn (man_at p.men m.from) && is_square p.target m.to) ≡ false → (k == m.to) ≡ is_filled p m k
+fills_end p m k no_king no_passing =
+    eq_back k m.to ∙ sym (or-false (m.to == k))
+    ∙ ap (λ (t : Steps). (t.to == k) || is_square t.second_to k) (plain_steps p m no_king no_passing)
+
+pub changes_both : (p : Setup) (m : Move) (k : ℕ) → is_man p.side King (man_at p.men m.from) ≡ false
+    → (is_man p.side Pawn (man_at p.men m.from) && is_square p.target m.to) ≡ false
+    → ((k == m.to) || (k == m.from)) ≡ is_changed p m k
+changes_both p m k no_king no_passing =
+    ap (λ f. f || (k == m.from)) (fills_end p m k no_king no_passing)
+    ∙ ap (λ e. is_filled p m k || e)
+    (eq_back k m.from
+    ∙ ap (λ (t : Steps). is_square t.second_from k || (t.from == k)) (plain_steps p m no_king no_passing))
+
 pub plain_filled : (p : Setup) (a b k : ℕ) → StepsPlainly p a b → (k == b) ≡ is_filled p (move_of a b None) k
-plain_filled p a b k h =
-    eq_back k b ∙ sym (or-false (b == k))
-    ∙ ap (λ (t : Steps). (t.to == k) || is_square t.second_to k) (plain_steps p (move_of a b None) h.no_king h.no_passing)
+plain_filled p a b k h = fills_end p (move_of a b None) k h.no_king h.no_passing
 
 pub plain_changed : (p : Setup) (a b k : ℕ) → StepsPlainly p a b
     → ((k == b) || (k == a)) ≡ is_changed p (move_of a b None) k
-plain_changed p a b k h =
-    ap (λ f. f || (k == a)) (plain_filled p a b k h)
-    ∙ ap (λ e. is_filled p (move_of a b None) k || e)
-    (eq_back k a
-    ∙ ap (λ (t : Steps). is_square t.second_from k || (t.from == k))
-    (plain_steps p (move_of a b None) h.no_king h.no_passing))
+plain_changed p a b k h = changes_both p (move_of a b None) k h.no_king h.no_passing

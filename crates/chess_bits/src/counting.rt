@@ -29,30 +29,17 @@ impl Bits<'_> {
         if self.is_safe_after(m) { 1 } else { 0 }
     }
 
-    // 1 if the promotion of the pawn on `from` to a piece of this kind, on `to`, is legal, else 0.
-    fn times_promoted(&self, from: Square, to: Square, kind: Kind) -> usize
-        requires goes { goes self.now from to ≡ true }
-        requires fits { promotion_fits (would_promote self.now from to) (Some kind) ≡ true }
-        ensures value { result ≡ cond (is_legal self.now (move_of from to (Some kind))) 1 0 }
-        ensures few { result ≤ 1 }
-    {
-        self.times_legal(&Move {
-            from,
-            to,
-            promotion: Some(kind),
-        })
-    }
-
     // How many legal moves there are from `from` to `to`: a promotion counts once for each kind.
     fn count_between(&self, from: Square, to: Square) -> usize
         requires { goes self.now from to ≡ true }
         ensures { result ≡ length (moves_between self.now from to) }
     {
         if would_promote(&self.setup, from, to) {
-            self.times_promoted(from, to, Kind::Queen)
-                + self.times_promoted(from, to, Kind::Rook)
-                + self.times_promoted(from, to, Kind::Bishop)
-                + self.times_promoted(from, to, Kind::Knight)
+            if self.promotes_legally(from, to) {
+                4
+            } else {
+                0
+            }
         } else {
             self.times_legal(&Move {
                 from,

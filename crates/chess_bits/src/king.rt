@@ -1,12 +1,15 @@
 //! The king's safety after a move, by the sets after it: no move is made.
 
-ghost use Rattle.std.specs.Prelude.{◌≡◌, ◌==◌, ◌||◌, ◌&&◌, not, ◌<◌, ℕ, true, None, is_none, IsTrue};
+ghost use Rattle.std.specs.Prelude.{◌≡◌, ◌==◌, ◌||◌, ◌&&◌, not, ◌<◌, ℕ, true, None, Some, is_none, IsTrue};
 ghost use Rattle.chess_base.specs.Men.{man_at, is_man};
 ghost use Rattle.chess_base.specs.MoveList.{move_of};
-ghost use Rattle.chess_base.specs.Moves.{is_pseudo_legal, is_legal, man_moves, men_after, steps_of};
+ghost use Rattle.chess_base.specs.Moves.{is_pseudo_legal, is_legal, man_moves, men_after, promotion_fits, steps_of};
 ghost use Rattle.chess_base.specs.Squares.{is_square};
+ghost use Rattle.chess_base.specs.declared.man.Kind.{Kind as ManKind};
 ghost use Rattle.chess_base.specs.declared.man.Kind.TheVariants.{King, Pawn};
 ghost use Rattle.chess_bits.specs.ties.Changes.{StepsPlainly, is_changed, is_filled};
+ghost use Rattle.chess_bits.specs.ties.Goes.{goes};
+ghost use Rattle.chess_moves.specs.Promoting.{would_promote};
 ghost use Rattle.chess_moves.specs.Sets.{contains};
 
 use crate::bits::Bits;
@@ -145,5 +148,20 @@ impl Bits<'_> {
         let changed = filled.union(SquareSet::single(from));
         let king = self.king(self.setup.side);
         self.is_safe_at(king, filled, changed)
+    }
+
+    // Whether the pawn on `from` may legally promote on `to`, to a kind of piece to which pawns do. It does not matter to
+    // its king which one it becomes.
+    pub(crate) fn promotes_legally(&self, from: Square, to: Square) -> bool
+        requires goes { goes self.now from to ≡ true }
+        requires promotes { would_promote self.now from to ≡ true }
+        ensures { (kind : ManKind) → promotion_fits true (Some kind) ≡ true
+            → result ≡ is_legal self.now (move_of from to (Some kind)) }
+    {
+        // The prover wants this fact: the start's number is below 64.
+        let _start = from.number();
+        let filled = SquareSet::single(to);
+        let changed = filled.union(SquareSet::single(from));
+        self.is_safe_at(self.king(self.setup.side), filled, changed)
     }
 }

@@ -1,22 +1,30 @@
--- A pawn that promotes has the four promotions there and no other move (promotions_counted); elsewhere a piece has one
--- move at most (one_counted of Counted).
+-- A pawn that promotes has the four promotions there and no other move, and all or none are legal (promotions_counted);
+-- elsewhere a piece has one move at most (one_counted of Counted).
 use Rattle.std.proofs.Common.{◌≡◌, true, false, None, lit<, sym, ◌∙◌}
 use Rattle.chess_moves.specs.Promoting.{would_promote}
 use Rattle.chess_bits.proofs.Counted.{promotions_counted, one_counted}
 use Rattle.chess_bits.proofs.Listed.{none_fit, pattern_of}
 use Rattle.chess_bits.proofs.bits.Bits.count_between.Goals as goal
 
-pub returns-then-would_promote : goal.returns-then-would_promote
-returns-then-would_promote c =
+pub promotes_legally-requires-clause-promotes : goal.promotes_legally-requires-clause-promotes
+promotes_legally-requires-clause-promotes c = rw (← c.self.view_is)
+    (sym c.would_promote.ensures ∙ c.if-would_promote.true)
+
+pub returns-then-promotes_legally : goal.returns-then-promotes_legally
+returns-then-promotes_legally c =
     let promotes : would_promote c.args.self.now c.args.from c.args.to ≡ true =
     rw (← c.self.view_is) (sym c.would_promote.ensures ∙ c.if-would_promote.true) in
-    rw (
-      c.times_promoted.ensures.value,
-      c.times_promoted-then-would_promote.ensures.value,
-      c.times_promoted-then-would_promote-2.ensures.value,
-      c.times_promoted-then-would_promote-3.ensures.value,
-    )
-    (promotions_counted c.args.self.now c.args.from c.args.to promotes)
+    rw c.if-promotes_legally.true at
+    (promotions_counted c.args.self.now c.args.from c.args.to c.promotes_legally.result promotes
+    c.promotes_legally.ensures)
+
+pub returns-else-promotes_legally : goal.returns-else-promotes_legally
+returns-else-promotes_legally c =
+    let promotes : would_promote c.args.self.now c.args.from c.args.to ≡ true =
+    rw (← c.self.view_is) (sym c.would_promote.ensures ∙ c.if-would_promote.true) in
+    rw c.if-promotes_legally.false at
+    (promotions_counted c.args.self.now c.args.from c.args.to c.promotes_legally.result promotes
+    c.promotes_legally.ensures)
 
 pub times_legal-requires : goal.times_legal-requires
 times_legal-requires c =
