@@ -33,7 +33,7 @@ pub(crate) fn split_name(text: &[u8]) -> (&[u8], &[u8])
 }
 
 // The text after any white space and `%` lines, and then this byte; `None` if another byte comes there. The text's own
-// first byte begins no line, so a `%` there is not skipped. Mostly the byte comes first, and nothing is to be skipped.
+// first byte begins no line, so a `%` there is not skipped. A tag's `]` mostly comes at once.
 fn after_next(byte: u8, text: &[u8]) -> Option<&[u8]>
     requires { is_white_space byte ≡ false }
     ensures { option_map (λ r. r.now) result ≡ after_next byte text.now }

@@ -1,6 +1,6 @@
 //! Writing a game (PGN standard of 1994, sections 3.2, 8 and 9.7).
 
-ghost use Rattle.std.specs.Prelude.{◌≡◌, ◌≤◌, ◌<◌, [], ◌∷◌, ◌++◌, true, length, decimal, OnOk, IsTrue};
+ghost use Rattle.std.specs.Prelude.{◌≡◌, ◌≤◌, ◌<◌, [], ◌∷◌, ◌++◌, true, length, decimal, OnOk, OnErr, IsTrue};
 ghost use Rattle.arrayvec.specs.ArrayVec.{array_vec_len};
 ghost use Rattle.byte_devices.specs.Devices.{Puts};
 ghost use Rattle.chess_base.specs.Moves.{is_legal, after};
@@ -10,7 +10,7 @@ ghost use Rattle.chess_pgn.specs.ties.Lines.{placed_all, column_after_all};
 ghost use Rattle.chess_pgn.specs.ties.Waiting.{Adds};
 ghost use Rattle.chess_pgn.specs.Written.{ended, move_text_of};
 ghost use Rattle.chess_text.specs.San.{san};
-ghost use Rattle.chess_moves.specs.Made.{IsMade};
+ghost use Rattle.chess_moves.specs.Made.{WasMade};
 
 use crate::lines::LineWriter;
 use crate::tag_lines::put_tags;
@@ -269,8 +269,8 @@ fn put_moves<B: Board, W: Output>(
     Ok(())
 }
 
-// Writes the legal move `m` of the board's position, with its number if one is due, and makes it on the board;
-// `is_first`: it is the game's first.
+// Writes the legal move `m` of the board's position, with its number if one is due, and makes it on the board, which
+// stays where it is if writing fails; `is_first`: it is the game's first.
 fn put_move<B: Board, W: Output>(
     lines: &mut LineWriter<'_>,
     writer: &mut W,
@@ -285,6 +285,7 @@ fn put_move<B: Board, W: Output>(
         (lines.new.column ≡ column_after_all lines.old.column (tokens_of_move is_first (B.position board.old) m)) }
     ensures prefix { lines.new.prefix.now ≡ lines.old.prefix.now }
     ensures position { OnOk result (B.position board.new ≡ after (B.position board.old) m) }
+    ensures kept { OnErr result (B.position board.new ≡ B.position board.old) }
 {
     // The prover wants this law: the SAN of a legal move is short enough for a line.
     san_is_a_word();
@@ -307,7 +308,7 @@ fn make_san<B: Board>(board: &mut B, m: Move) -> (SanText, Saved)
     ensures text { result.0.items ≡ san (B.position board.old) m }
     ensures len { array_vec_len result.0 ≤ 7 }
     ensures position { B.position board.new ≡ after (B.position board.old) m }
-    ensures made { IsMade (B.position board.new) m result.1 }
+    ensures made { WasMade (B.position board.old) m result.1 (B.position board.new) }
 {
     // The prover wants two variables here: one move is lent, and one is given to the board.
     let again = m;

@@ -26,3 +26,10 @@ returns-in-Err-clause-added g c =
     (g.B.Board.position c.args.board.now) c.setup.result.now c.args.m c.setup.ensures.value
     c.in_ok-put_number.ensures.prefix c.in_ok-put_number.ensures.column
     (c.as_slice.ensures.value ∙ c.make_san-text.ensures.text) c.in_ok-put_number.ensures.added c.in-Err.ensures.added
+
+pub take_back-requires : goal.take_back-requires
+take_back-requires g c = (g.B.Board.position c.args.board.now, c.make_san-text.ensures.made)
+
+pub returns-in-Err-clause-kept : goal.returns-in-Err-clause-kept
+returns-in-Err-clause-kept g c =
+    c.take_back.ensures.back (g.B.Board.position c.args.board.now) c.make_san-text.ensures.made
