@@ -10,7 +10,6 @@ pub mod Kings
 pub mod KingChecks
 pub mod MoveKinds
 pub mod Landing
-pub mod KingsCastle
 pub mod Changes
 pub mod Castlings
 pub mod Writes

@@ -41,8 +41,8 @@ fn man_moves(setup: &Setup, m: &Move) -> bool
     ensures { result ≡ man_moves setup.now m.now }
 {
     m.promotion.is_none()
-        && !is_of(setup.side, setup.men[m.to.index()])
         && attacks(&setup.men, m.from, m.to)
+        && !is_of(setup.side, setup.men[m.to.index()])
 }
 
 // Whether the move is pseudo-legal: a piece of the side on move can make it, but may leave its own king in check (Laws
@@ -61,9 +61,6 @@ pub(crate) fn is_pseudo_legal(setup: &Setup, m: &Move) -> bool
     }
     if man.kind == Kind::Pawn {
         return pawn_moves(setup, m);
-    }
-    if man.kind != Kind::King {
-        return man_moves(setup, m);
     }
     match castle_of(setup, m) {
         None => man_moves(setup, m),

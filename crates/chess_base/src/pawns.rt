@@ -63,8 +63,8 @@ pub fn is_en_passant(setup: &Setup, m: &Move) -> bool
     ensures { result ≡ is_en_passant setup.now m.now }
 {
     is_man(setup.side, Kind::Pawn, setup.men[m.from.index()])
-        && is_square(setup.target, m.to)
         && attacks(&setup.men, m.from, m.to)
+        && is_square(setup.target, m.to)
 }
 
 // Whether the move, of a pawn, goes straight ahead, one square or by a double advance, over empty squares.
@@ -83,8 +83,8 @@ fn pawn_advances(setup: &Setup, m: &Move) -> bool
 fn pawn_captures(setup: &Setup, m: &Move) -> bool
     ensures { result ≡ pawn_captures setup.now m.now }
 {
-    (is_of(setup.side.other(), setup.men[m.to.index()]) || is_square(setup.target, m.to))
-        && attacks(&setup.men, m.from, m.to)
+    attacks(&setup.men, m.from, m.to)
+        && (is_of(setup.side.other(), setup.men[m.to.index()]) || is_square(setup.target, m.to))
 }
 
 // Whether the move, of a pawn, is an advance or a capture, with a promotion exactly where it reaches its last rank.
