@@ -1,7 +1,7 @@
 -- The squares between two squares of one line.
-use Rattle.std.proofs.Common.{◌≡◌, ℕ, zero, suc, ◌<◌, ◌≤◌, inl, inr, Bool, true, false, not, ◌&&◌, ◌||◌, refl, sym, ap, ◌∙◌, arith}
+use Rattle.std.proofs.Common.{◌≡◌, ℕ, zero, suc, ◌+◌, ◌*◌, ◌/◌, ◌%◌, ◌<◌, ◌≤◌, inl, inr, Bool, true, false, not, ◌&&◌, ◌||◌, refl, sym, ap, ◌∙◌, arith, List, length, get_or, set, get_or-set_same, get_or-set_other}
 use Rattle.std.proofs.lemmas.Bool.Decides.{nat_tests}
-use Rattle.std.proofs.lemmas.Bool.{cases_Bool, or_cases}
+use Rattle.std.proofs.lemmas.Bool.{cases_Bool, cases_eq, or_cases}
 use Rattle.chess_base.specs.Squares.{is_between, share_rank_or_file, share_diagonal, some_below, each_below, some_square, each_square}
 use Rattle.chess_bits.specs.declared.line.Line.{Line}
 use Rattle.chess_bits.specs.declared.line.Line.TheVariants.{Rank, File, Diagonal, Antidiagonal}
@@ -84,6 +84,28 @@ on_some_line l a b k low same =
     rw (one_line Rank a b k low, one_line File a b k low, one_line Diagonal a b k low, one_line Antidiagonal a b k low)
     (some_holds (same_line Rank a b) (same_line File a b) (same_line Diagonal a b) (same_line Antidiagonal a b)
     (is_between a b k) l (same_on l a b same))
+
+-- ---- the table
+
+-- the entries below n of the table are those of their pairs: for squares a and b of one line, entry 64 a + b
+abbrev pub AreBetween : List ℕ → ℕ → Type 0
+AreBetween sets n = (l : Line) (a b k : ℕ) → a < 64 → b < 64 → 64 * a + b < n → same_line l a b ≡ true → k < 64
+    → contains (get_or sets (64 * a + b) 0) k ≡ is_between a b k
+
+pub paired_more : (sets : List ℕ) (i v x y : ℕ) → i < length sets → x ≡ i / 64 → y ≡ i % 64
+    → ((l : Line) → same_line l x y ≡ true → (k : ℕ) → k < 64 → contains v k ≡ is_between x y k)
+    → AreBetween sets i → AreBetween (set sets i v) (i + 1)
+paired_more sets i v x y inside ex ey made before l a b k la lb low same lk =
+    elim (cases_eq (64 * a + b) i) [
+      | inl here ↦
+          let first : x ≡ a = omega (arith, here, lb, ex) in
+          let second : y ≡ b = omega (arith, here, lb, ey) in
+          let at = rw (first, second) at made in
+          rw (here, get_or-set_same sets i v 0 inside) (at l same k lk)
+      | inr away ↦
+          rw (get_or-set_other sets i (64 * a + b) v 0 away)
+          (before l a b k la lb (omega (arith, away, low)) same lk)
+    ]
 
 -- ---- open lines
 

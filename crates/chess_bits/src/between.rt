@@ -1,6 +1,6 @@
-//! The squares between two squares of one line, by the rays from both.
+//! The squares between two squares of one line, in a table that is made from the rays.
 
-ghost use Rattle.std.specs.Prelude.{◌≡◌, ℕ, ◌<◌, ◌≤◌, ◌&&◌, true, false};
+ghost use Rattle.std.specs.Prelude.{◌≡◌, ℕ, ◌<◌, ◌≤◌, ◌+◌, ◌*◌, ◌&&◌, true, false, length, slice_index};
 ghost use Rattle.chess_base.specs.Squares.{is_between};
 ghost use Rattle.chess_moves.specs.Sets.{contains};
 ghost use Rattle.chess_bits.specs.declared.line.Line.{Line as LineKind};
@@ -8,14 +8,25 @@ ghost use Rattle.chess_bits.specs.ties.Rays.{is_on_ray, same_line};
 
 use crate::line::Line;
 use crate::table::Shape;
-use crate::tables::AttackTables;
+use crate::tables::{AttackTables, Tables};
 use chess_base::Square;
 use chess_moves::SquareSet;
+use std::alloc::{AllocError, Global};
+
+/// For each two squares of one line the squares strictly between them: the set of a and b at 64 times the number of a,
+/// and the number of b.
+#[derive(Drop)]
+pub struct BetweenTable {
+    sets: Vec<SquareSet>,
+    ghost long: { length sets.items ≡ 4096 },
+    ghost of_pairs: { (l : LineKind) → (a b k : ℕ) → a < 64 → b < 64 → same_line l a b ≡ true → k < 64
+        → contains (slice_index sets.items (64 * a + b)) k ≡ is_between a b k },
+}
 
 // The squares above `low` and below `high` on the lines of this kind through both; none if these are two lines.
 #[inline(always)]
 #[tactic(auto, unfolding(crate::specs::ties::Shapes::in_shape))]
-fn inside(tables: &AttackTables, line: Line, low: Square, high: Square) -> SquareSet
+fn inside(tables: &Tables, line: Line, low: Square, high: Square) -> SquareSet
     ensures { (k : ℕ) → k < 64 → contains result k ≡ (is_on_ray line true low k && is_on_ray line false high k) }
 {
     let above = tables.at(Shape::Ray(line, true), low);
@@ -25,7 +36,7 @@ fn inside(tables: &AttackTables, line: Line, low: Square, high: Square) -> Squar
 // The squares strictly between two squares of one line, of which `low` does not have the greater number.
 #[inline(always)]
 #[tactic(auto, using(crate::proofs::BetweenSquares::on_some_line))]
-fn rising_between(tables: &AttackTables, low: Square, high: Square) -> SquareSet
+fn rising_between(tables: &Tables, low: Square, high: Square) -> SquareSet
     requires { low ≤ high }
     ensures { (l : LineKind) → same_line l low high ≡ true → (k : ℕ) → k < 64 → contains result k ≡ is_between low high k }
 {
@@ -36,13 +47,44 @@ fn rising_between(tables: &AttackTables, low: Square, high: Square) -> SquareSet
     ranks.union(files).union(diagonals.union(antidiagonals))
 }
 
-/// The squares strictly between two squares of one line.
-#[inline(always)]
-pub fn squares_between(tables: &AttackTables, a: Square, b: Square) -> SquareSet
+// The squares strictly between two squares of one line, by the rays from both.
+fn between_by_rays(tables: &Tables, a: Square, b: Square) -> SquareSet
     ensures { (l : LineKind) → same_line l a b ≡ true → (k : ℕ) → k < 64 → contains result k ≡ is_between a b k }
 {
     if a.number() < b.number() {
         return rising_between(tables, a, b);
     }
     rising_between(tables, b, a)
+}
+
+impl BetweenTable {
+    /// Computes the table from the rays, in memory that `alloc` gives.
+    ///
+    /// # Errors
+    /// If there is no memory for it.
+    pub(crate) fn open(alloc: Global, tables: &Tables) -> Result<Self, AllocError> {
+        let mut sets = vec![in alloc; SquareSet::empty(); 4096]?;
+        for number in 0..4096_usize {
+            let a = Square::new((number / 64) as u8);
+            let b = Square::new((number % 64) as u8);
+            sets[number] = between_by_rays(tables, a, b);
+        }
+        Ok(BetweenTable { sets })
+    }
+
+    /// The squares strictly between two squares of one line.
+    #[inline(always)]
+    fn at(&self, a: Square, b: Square) -> SquareSet
+        ensures { (l : LineKind) → same_line l a b ≡ true → (k : ℕ) → k < 64 → contains result k ≡ is_between a b k }
+    {
+        self.sets[64 * a.index() + b.index()]
+    }
+}
+
+/// The squares strictly between two squares of one line, looked up.
+#[inline(always)]
+pub fn squares_between(tables: &AttackTables, a: Square, b: Square) -> SquareSet
+    ensures { (l : LineKind) → same_line l a b ≡ true → (k : ℕ) → k < 64 → contains result k ≡ is_between a b k }
+{
+    tables.between().at(a, b)
 }

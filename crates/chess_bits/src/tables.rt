@@ -8,6 +8,7 @@ ghost use Rattle.chess_bits.specs.declared.table.Shape.TheVariants.{King, Knight
 ghost use Rattle.chess_bits.specs.declared.line.Line.TheVariants.{Rank, File, Diagonal, Antidiagonal};
 ghost use Rattle.chess_base.specs.declared.man.Colour.TheVariants.{White, Black};
 
+use crate::between::BetweenTable;
 use crate::keys::KeyTable;
 use crate::line::Line;
 use crate::table::{Shape, Table};
@@ -17,7 +18,7 @@ use std::alloc::{AllocError, Global};
 
 // One table for each shape, and the keys of position hashes.
 #[derive(Drop)]
-struct Tables {
+pub(crate) struct Tables {
     king: Table,
     knight: Table,
     white_pawn: Table,
@@ -49,11 +50,44 @@ struct Tables {
     ghost of_antidiagonal_down: { antidiagonal_down ≡ Ray Antidiagonal false },
 }
 
+impl Tables {
+    // The table of this shape: for each square the squares that belong to the shape from there.
+    fn table(&self, shape: Shape) -> &Table
+        ensures { result.now ≡ shape }
+    {
+        match shape {
+            Shape::King => &self.king,
+            Shape::Knight => &self.knight,
+            Shape::Pawn(Colour::White) => &self.white_pawn,
+            Shape::Pawn(Colour::Black) => &self.black_pawn,
+            Shape::Lines => &self.lines,
+            Shape::Diagonals => &self.diagonals,
+            Shape::Ray(Line::Rank, true) => &self.rank_up,
+            Shape::Ray(Line::Rank, false) => &self.rank_down,
+            Shape::Ray(Line::File, true) => &self.file_up,
+            Shape::Ray(Line::File, false) => &self.file_down,
+            Shape::Ray(Line::Diagonal, true) => &self.diagonal_up,
+            Shape::Ray(Line::Diagonal, false) => &self.diagonal_down,
+            Shape::Ray(Line::Antidiagonal, true) => &self.antidiagonal_up,
+            Shape::Ray(Line::Antidiagonal, false) => &self.antidiagonal_down,
+        }
+    }
+
+    // The squares that belong to this shape from `square`, looked up: for `Knight`, those that a knight there attacks.
+    pub(crate) fn at(&self, shape: Shape, square: Square) -> SquareSet
+        ensures { (k : ℕ) → k < 64 → contains result k ≡ in_shape shape square k }
+    {
+        self.table(shape).at(square)
+    }
+}
+
 /// What the pieces attack on an empty board, and the rays: fourteen times 64 sets of squares, and the keys of position
-/// hashes, in one box. They never change, and are lent to the boards that look them up.
+/// hashes, in one box; and 4,096 sets, the squares between each two squares, in another. They never change, and are lent
+/// to the boards that look them up.
 #[derive(Drop)]
 pub struct AttackTables {
     tables: Box<Tables>,
+    between: BetweenTable,
 }
 
 // The lowest of the squares if `up`, else the highest. For the empty set it is h8 if `up`, else a1: the last square in
@@ -94,9 +128,9 @@ impl AttackTables {
             antidiagonal_down: Table::new(Shape::Ray(Line::Antidiagonal, false)),
             keys: KeyTable::new(),
         };
-        Ok(AttackTables {
-            tables: Box::new(alloc, tables)?,
-        })
+        let tables = Box::new(alloc, tables)?;
+        let between = BetweenTable::open(alloc, &tables)?;
+        Ok(AttackTables { tables, between })
     }
 
     // The Zobrist keys, of which position hashes are made.
@@ -105,34 +139,17 @@ impl AttackTables {
         &self.tables.keys
     }
 
-    // The table of this shape: for each square the squares that belong to the shape from there.
-    fn table(&self, shape: Shape) -> &Table
-        ensures { result.now ≡ shape }
-    {
-        let tables: &Tables = &self.tables;
-        match shape {
-            Shape::King => &tables.king,
-            Shape::Knight => &tables.knight,
-            Shape::Pawn(Colour::White) => &tables.white_pawn,
-            Shape::Pawn(Colour::Black) => &tables.black_pawn,
-            Shape::Lines => &tables.lines,
-            Shape::Diagonals => &tables.diagonals,
-            Shape::Ray(Line::Rank, true) => &tables.rank_up,
-            Shape::Ray(Line::Rank, false) => &tables.rank_down,
-            Shape::Ray(Line::File, true) => &tables.file_up,
-            Shape::Ray(Line::File, false) => &tables.file_down,
-            Shape::Ray(Line::Diagonal, true) => &tables.diagonal_up,
-            Shape::Ray(Line::Diagonal, false) => &tables.diagonal_down,
-            Shape::Ray(Line::Antidiagonal, true) => &tables.antidiagonal_up,
-            Shape::Ray(Line::Antidiagonal, false) => &tables.antidiagonal_down,
-        }
+    // The squares between each two squares of one line.
+    #[inline(always)]
+    pub(crate) fn between(&self) -> &BetweenTable {
+        &self.between
     }
 
     // The squares that belong to this shape from `square`, looked up: for `Knight`, those that a knight there attacks.
     pub(crate) fn at(&self, shape: Shape, square: Square) -> SquareSet
         ensures { (k : ℕ) → k < 64 → contains result k ≡ in_shape shape square k }
     {
-        self.table(shape).at(square)
+        self.tables.at(shape, square)
     }
 
     /// The squares of the ray from `from` (not included) along that line, with rising numbers if `up`, up to and with
@@ -143,7 +160,7 @@ impl AttackTables {
     pub(crate) fn sweep(&self, line: Line, up: bool, from: Square, occupied: SquareSet) -> SquareSet
         ensures { (k : ℕ) → k < 64 → contains result k ≡ (is_on_ray line up from k && is_open occupied from k) }
     {
-        let ray = self.table(Shape::Ray(line, up));
+        let ray = self.tables.table(Shape::Ray(line, up));
         let all = ray.at(from);
         let blockers = all.intersection(occupied);
         all.without(ray.at(nearest(blockers, up)))

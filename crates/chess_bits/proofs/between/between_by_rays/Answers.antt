@@ -2,7 +2,7 @@
 use Rattle.std.proofs.Common.{◌∙◌}
 use Rattle.chess_bits.proofs.Attackers.{between_back, eq_back}
 use Rattle.chess_bits.specs.ties.Rays.{line_number}
-use Rattle.chess_bits.proofs.between.squares_between.Goals as goal
+use Rattle.chess_bits.proofs.between.between_by_rays.Goals as goal
 
 pub returns : goal.returns
 returns c = λ l same k low.

@@ -1,0 +1,10 @@
+use Rattle.std.proofs.Common.{◌≡◌, length}
+use Rattle.chess_bits.proofs.BetweenSquares.{AreBetween}
+use Rattle.chess_bits.proofs.between.BetweenTable.open.Given as goal
+
+-- the entries so far are those of their pairs
+abbrev pub invariant-loop-number : goal.invariant-loop-number
+invariant-loop-number l = record {
+  long : length l.sets.items ≡ 4096;
+  so_far : AreBetween l.sets.items l.number;
+}
