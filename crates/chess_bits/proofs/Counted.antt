@@ -32,7 +32,7 @@ by_four : (t q r b n : Bool) → t ≡ q → t ≡ r → t ≡ b → t ≡ n
 by_four true q r b n e f g h = rw (← e, ← f, ← g, ← h) refl
 by_four false q r b n e f g h = rw (← e, ← f, ← g, ← h) refl
 
--- the promotions to each kind are all moves of a pawn that promotes: four if they are legal, else none
+-- the promotions to each kind are all moves of a pawn that promotes: four if they are legal, and none if they are not
 pub promotions_counted : (p : Setup) (a b : ℕ) (t : Bool) → would_promote p a b ≡ true
     → ((k : Kind) → promotion_fits true (Some k) ≡ true → t ≡ is_legal p (move_of a b (Some k)))
     → cond t 4 0 ≡ length (moves_between p a b)

@@ -13,8 +13,8 @@ use chess_base::Square;
 use chess_moves::SquareSet;
 use std::alloc::{AllocError, Global};
 
-/// For each two squares of one line the squares strictly between them: the set of a and b at 64 times the number of a,
-/// and the number of b.
+/// For each two squares of one line the squares strictly between them. The set of the squares with the numbers a and b
+/// is at 64 a + b.
 #[derive(Drop)]
 pub struct BetweenTable {
     sets: Vec<SquareSet>,

@@ -47,56 +47,17 @@ fn after_digits(text: &[u8]) -> &[u8]
     &text[end..]
 }
 
-// How many bytes of a word a text begins with, found one by one.
-#[inline(never)]
-fn long_word_len(text: &[u8]) -> usize
-    ensures count { result ≡ prefix_len is_word_byte text.now }
-    ensures within { result ≤ length text.now }
-{
-    let mut end = 0;
-    while end < text.len() && is_word_byte(text[end]) {
-        end += 1;
-    }
-    end
-}
-
-// How many bytes of a word a text begins with. Most words have fewer than six, so six bytes are looked at without
-// asking before each whether the text has ended.
-#[inline(always)]
-fn word_len(text: &[u8]) -> usize
-    ensures count { result ≡ prefix_len is_word_byte text.now }
-    ensures within { result ≤ length text.now }
-{
-    if let [a, b, c, d, e, f, ..] = text {
-        if !is_word_byte(*a) {
-            return 0;
-        }
-        if !is_word_byte(*b) {
-            return 1;
-        }
-        if !is_word_byte(*c) {
-            return 2;
-        }
-        if !is_word_byte(*d) {
-            return 3;
-        }
-        if !is_word_byte(*e) {
-            return 4;
-        }
-        if !is_word_byte(*f) {
-            return 5;
-        }
-    }
-    long_word_len(text)
-}
-
 // The word at a text's front (its bytes up to the first that no word may have), and the text after it.
 #[inline(always)]
 pub(crate) fn split_word(text: &[u8]) -> (&[u8], &[u8])
     ensures word { result.0.now ≡ take_while is_word_byte text.now }
     ensures rest { result.1.now ≡ drop (prefix_len is_word_byte text.now) text.now }
 {
-    text.split_at(word_len(text))
+    let mut end = 0;
+    while end < text.len() && is_word_byte(text[end]) {
+        end += 1;
+    }
+    text.split_at(end)
 }
 
 // Reads a comment, from `text`, which begins after its `{`: a skipped token, and the text after its `}`, or a fault if

@@ -1,7 +1,7 @@
 use Rattle.std.proofs.Common.{◌≡◌, ◌+◌, ◌-◌, ◌≤◌, length, drop}
 use Rattle.std.specs.List.{prefix_len}
 use Rattle.chess_pgn.specs.Tokens.{is_word_byte}
-use Rattle.chess_pgn.proofs.token.long_word_len.Given as goal
+use Rattle.chess_pgn.proofs.token.split_word.Given as goal
 
 abbrev pub invariant-loop-end : goal.invariant-loop-end
 invariant-loop-end l = (l.end ≤ length l.text)
