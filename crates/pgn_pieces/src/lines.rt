@@ -211,10 +211,10 @@ fn plain_blocks(text: &[u8]) -> usize
     let mut offset = 0;
     while text.len() - offset >= BLOCK_LEN {
         let len = plain_in_block(text, offset);
-        offset += len;
         if len < BLOCK_LEN {
-            return offset;
+            return offset + len;
         }
+        offset += BLOCK_LEN;
     }
     offset
 }
