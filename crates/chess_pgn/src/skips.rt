@@ -52,11 +52,12 @@ fn near_brace(text: &[u8]) -> &[u8]
     let mut rest = text;
     while rest.len() >= BLOCK_LEN {
         let len = len_before_brace(rest);
-        let (_, others) = rest.split_at(len);
-        rest = others;
         if len < BLOCK_LEN {
-            break;
+            let (_, others) = rest.split_at(len);
+            return others;
         }
+        let (_, others) = rest.split_at(BLOCK_LEN);
+        rest = others;
     }
     rest
 }
