@@ -5,10 +5,14 @@ ghost use Rattle.std.specs.Str.{bytes_eq};
 ghost use Rattle.std.specs.List.{prefix_len, position_or_len, list_all};
 ghost use Rattle.pgn_pieces.specs.Pieces.{without_mark, front_of, after_name, is_name_byte, is_blank, is_white, tag_name, begins_tag, is_nothing, is_tag_line, is_event_line, is_moves_line};
 ghost use Rattle.pgn_pieces.specs.Places.{line_ends};
-ghost use Rattle.pgn_pieces.specs.ties.Held.{has_line_end};
+
+use std::simd::prelude::*;
 
 // The most bytes of a line that decide its kind.
 pub(crate) const FRONT_LEN: usize = 256;
+
+// How many bytes are searched for `\n` at a time.
+const BLOCK_LEN: usize = 64;
 
 // What kind of line a line is. One of moves is neither a tag line nor empty.
 #[derive(Clone, Copy)]
@@ -29,6 +33,14 @@ pub(crate) fn kind_of(line: &[u8]) -> Kind
     ensures moves { result.is_moves ≡ is_moves_line line.now }
 {
     let front = front_of(line);
+    // Most lines of a long game are no tag lines, so this is tested first.
+    if !front.starts_with(b"[") {
+        return Kind {
+            is_tag: false,
+            is_event: false,
+            is_moves: !is_nothing(front),
+        };
+    }
     let name = tag_name(front);
     let is_tag = begins_tag(front, name);
     Kind {
@@ -170,18 +182,6 @@ fn is_nothing(front: &[u8]) -> bool
     front.starts_with(b"%") || front.starts_with(b";") || is_all_white(front)
 }
 
-// Whether `\n` is among these bytes. It looks at all of them, so that the compiler can use vector instructions.
-#[inline(always)]
-fn has_line_end(bytes: &[u8]) -> bool
-    ensures { result ≡ has_line_end bytes.now }
-{
-    let mut any = false;
-    for byte in bytes {
-        any |= *byte == b'\n';
-    }
-    any
-}
-
 // How many of these bytes are `\n`.
 pub(crate) fn line_ends(bytes: &[u8]) -> usize
     ensures value { result ≡ line_ends bytes.now }
@@ -190,28 +190,31 @@ pub(crate) fn line_ends(bytes: &[u8]) -> usize
     bytes.iter().filter(|byte| **byte == b'\n').count()
 }
 
-// Whether there are 16 bytes from `offset` on, and none of them is `\n`.
+// How many of the 64 bytes from `offset` on come before the first `\n` among them; 64, if it isn't among them.
 #[inline(always)]
-fn is_plain(text: &[u8], offset: usize) -> bool
-    requires { offset ≤ length text.now }
-    ensures { result ≡ true
-        → (offset + 16 ≤ length text.now) × (has_line_end (take 16 (drop offset text.now)) ≡ false) }
+fn plain_in_block(text: &[u8], offset: usize) -> usize
+    requires { offset + 64 ≤ length text.now }
+    ensures count { result ≡ position_or_len (λ c. c == 10) (take 64 (drop offset text.now)) }
+    ensures few { result ≤ 64 }
 {
-    if text.len() - offset < 16 {
-        return false;
-    }
-    !has_line_end(&text[offset..offset + 16])
+    let block = u8x64::from_slice(&text[offset..]);
+    let ends = block.simd_eq(u8x64::splat(b'\n')).to_bitmask();
+    ends.trailing_zeros() as usize
 }
 
-// The offset of the first 16 bytes of a text among which there is a `\n` or which aren't all there.
+// The offset of the first `\n` in the blocks of 64 bytes with which a text begins; if none has it, that after them.
 #[inline(always)]
 fn plain_blocks(text: &[u8]) -> usize
     ensures within { result ≤ length text.now }
     ensures plain { result + position_or_len (λ c. c == 10) (drop result text.now) ≡ position_or_len (λ c. c == 10) text.now }
 {
     let mut offset = 0;
-    while is_plain(text, offset) {
-        offset += 16;
+    while text.len() - offset >= BLOCK_LEN {
+        let len = plain_in_block(text, offset);
+        if len < BLOCK_LEN {
+            return offset + len;
+        }
+        offset += BLOCK_LEN;
     }
     offset
 }
