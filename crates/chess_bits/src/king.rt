@@ -1,19 +1,19 @@
 //! The king's safety after a move, by the sets after it: no move is made.
 
-ghost use Rattle.std.specs.Prelude.{◌≡◌, ◌==◌, ◌||◌, ◌&&◌, not, ◌<◌, ℕ, true, None, Some, is_none, IsTrue};
+ghost use Rattle.std.specs.Prelude.{◌≡◌, ◌==◌, ◌||◌, ◌<◌, ℕ, true, None, Some, IsTrue};
 ghost use Rattle.chess_base.specs.Men.{man_at, is_man};
 ghost use Rattle.chess_base.specs.MoveList.{move_of};
 ghost use Rattle.chess_base.specs.Moves.{is_pseudo_legal, is_legal, man_moves, men_after, promotion_fits, steps_of};
 ghost use Rattle.chess_base.specs.Squares.{is_square};
 ghost use Rattle.chess_base.specs.declared.man.Kind.{Kind as ManKind};
-ghost use Rattle.chess_base.specs.declared.man.Kind.TheVariants.{King, Pawn};
+ghost use Rattle.chess_base.specs.declared.man.Kind.TheVariants.{King};
 ghost use Rattle.chess_bits.specs.ties.Changes.{StepsPlainly, is_changed, is_filled};
 ghost use Rattle.chess_bits.specs.ties.Goes.{goes};
 ghost use Rattle.chess_moves.specs.Promoting.{would_promote};
 ghost use Rattle.chess_moves.specs.Sets.{contains};
 
 use crate::bits::Bits;
-use crate::placing::{fast_steps_of, is_target};
+use crate::placing::fast_steps_of;
 use chess_base::rules::{Steps, is_man};
 use chess_base::{Kind, Move, Square};
 use chess_moves::SquareSet;
@@ -102,25 +102,8 @@ impl Bits<'_> {
         requires { IsTrue (is_pseudo_legal self.now m.now) }
         ensures { result ≡ is_legal self.now m.now }
     {
-        if self.goes_usually(m) {
-            return self.is_safe_usual(m.from, m.to);
-        }
         let steps = fast_steps_of(&self.setup, m);
         self.is_safe_by(m, &steps)
-    }
-
-    // Whether the move `m` names no promotion, is not the king's and not en passant; of a pawn it is surely none of
-    // these only where it does not end on the en passant target.
-    #[inline(always)]
-    fn goes_usually(&self, m: &Move) -> bool
-        ensures { result ≡ (is_none m.now.promotion && not (is_man (self.now).side King (man_at (self.now).men m.now.from))
-            && not (is_man (self.now).side Pawn (man_at (self.now).men m.now.from) && is_square (self.now).target m.now.to)) }
-    {
-        let side = self.setup.side;
-        let man = self.setup.men[m.from.index()];
-        m.promotion.is_none()
-            && !is_man(side, Kind::King, man)
-            && !(is_man(side, Kind::Pawn, man) && is_target(&self.setup, m.to))
     }
 
     // Whether the pseudo-legal move `m`, which makes these steps, is legal: the mover's king is not attacked after it.
