@@ -2,6 +2,7 @@ pub mod OverSquares
 pub mod Geometry
 pub mod ClearLines
 pub mod Rays
+pub mod Reaches
 pub mod Knights
 pub mod Counts
 pub mod MenAfter

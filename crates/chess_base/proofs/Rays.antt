@@ -13,10 +13,11 @@ use Rattle.chess_base.specs.declared.man.Man.{Man}
 use Rattle.chess_base.specs.Squares.{file, rank, gap, lies_inside, share_rank_or_file, share_diagonal, is_between, is_between_on_file, is_between_on_rank, is_between_on_diagonal, some_square}
 use Rattle.chess_base.specs.Men.{Men, man_at, is_of, is_man, same_colour, same_kind}
 use Rattle.chess_base.specs.Attacks.{is_clear, is_rank_ahead, could_capture, attacks, is_attacked}
-use Rattle.chess_base.specs.ties.Lines.{same_line, step_of, is_above, is_below, strikes, struck_from_above, struck_from_below, struck_along, struck_by_knight}
+use Rattle.chess_base.specs.ties.Lines.{same_line, step_of, is_above, is_below, strikes, struck_from_above, struck_from_below, struck_along, struck_by_knight, has_knight, attacked_from_below, attacked_from_above}
 use Rattle.chess_base.proofs.OverSquares.{each_square-fails, some_square-at, some_square-none, some_square_same, some_square-or}
 use Rattle.chess_base.proofs.Geometry.{between_on_line}
-use Rattle.chess_base.proofs.ClearLines.{step_fits, step_stays, none_between, rises, line_back, line_on}
+use Rattle.chess_base.proofs.Knights.{struck_by_knight_is}
+use Rattle.chess_base.proofs.ClearLines.{is_clear_back, clear_by, step_fits, step_stays, none_between, rises, line_back, line_on}
 
 -- ---- what stands between hides the square
 
@@ -272,6 +273,16 @@ rise_stops men l c b end n on w more in_board piece =
     (λ k low e.
     let parts = above_parts l b k e in behind_first men l b end n on w more in_board there k parts.1 parts.0)
 
+-- between b and the next square of the line nothing stands
+pub rise_clear : (men : Men) (l : Line) (b end n : ℕ) → same_line l b end ≡ true → HasRisen men l b end n → n < end
+    → end < 64 → is_clear men (n + step_of l) b ≡ true
+rise_clear men l b end n on w more in_board =
+    let far = rises l n in
+    is_clear_back men (n + step_of l) b
+    ∙ clear_by men l b (n + step_of l) (omega (arith, far, w.begun))
+    (line_on l b end (n + step_of l) on (line_back l (n + step_of l) end (step_stays l n end more in_board w.on)))
+    (λ k above below e. before_next men l b end n on w more in_board k above below e)
+
 pub rise_ends : (men : Men) (l : Line) (c : Colour) (b end n : ℕ) → HasRisen men l b end n → end ≤ n
     → ((k : ℕ) → k < 64 → same_line l b k ≡ true → k ≤ end) → false ≡ struck_from_above men l c b
 unfolding struck_from_above
@@ -389,6 +400,20 @@ fall_stops men l c b end n in_board on w more piece =
     (λ k low e.
     let parts = below_parts l b k e in
     beyond_first men l b end n (n - step_of l) in_board on w next there k parts.1 parts.0)
+
+-- between b and the next square of the line downwards nothing stands
+pub fall_clear : (men : Men) (l : Line) (b end n : ℕ) → b < 64 → same_line l b end ≡ true
+    → HasFallen men l b end n → end < n → is_clear men (n - step_of l) b ≡ true
+fall_clear men l b end n in_board on w more =
+    let fit = fall_fits men l b end n in_board w more in
+    let next : (n - step_of l) + step_of l ≡ n = omega (arith, fit) in
+    let far = rises l (n - step_of l) in
+    let there : same_line l b (n - step_of l) ≡ true =
+    line_on l b end (n - step_of l) on (step_back_stays l end n more (omega (arith, w.begun, in_board)) w.on) in
+    clear_by men l (n - step_of l) b (omega (arith, far, next, w.begun)) (line_back l b (n - step_of l) there)
+    (λ k above below e.
+    above_next men l b end n in_board on w k below (omega (arith, above, next))
+    (line_on l b (n - step_of l) k there e))
 
 pub fall_ends : (men : Men) (l : Line) (c : Colour) (b end n : ℕ) → HasFallen men l b end n → n ≤ end
     → ((k : ℕ) → k < 64 → same_line l b k ≡ true → end ≤ k) → false ≡ struck_from_below men l c b
@@ -535,11 +560,11 @@ ways f r d t k true h g =
 ways f r d t true false h g = let no = g refl in cc
 ways f r d t false false h g = rw (and-false f, and-false r, and-false d, and-false t) refl
 
-pub attacked_is : (men : Men) (b : ℕ) (c : Colour)
+lines_attack : (men : Men) (b : ℕ) (c : Colour)
     → is_attacked men b c ≡ (struck_along men File c b || struck_along men Rank c b || struck_along men Diagonal c b
     || struck_along men Antidiagonal c b || struck_by_knight men c b)
 unfolding is_attacked struck_along struck_by_knight
-attacked_is men b c =
+lines_attack men b c =
     let f : ℕ → Bool = λ a. same_line File b a && strikes men c b a in
     let r : ℕ → Bool = λ a. same_line Rank b a && strikes men c b a in
     let d : ℕ → Bool = λ a. same_line Diagonal b a && strikes men c b a in
@@ -553,3 +578,29 @@ attacked_is men b c =
     ∙ ap (λ v. v || some_square k) (some_square-or (λ a. f a || r a || d a) t
     ∙ ap (λ v. v || some_square t) (some_square-or (λ a. f a || r a) d
     ∙ ap (λ v. v || some_square d) (some_square-or f r))))
+
+-- the same, by the numbers of the squares that the attacks come from
+by_numbers : (fa fb ra rb da db ta tb h1 h2 h3 h4 h5 h6 h7 h8 : Bool)
+    → ((fa || fb) || (ra || rb) || (da || db) || (ta || tb) || (h1 || h2 || h3 || h4 || h5 || h6 || h7 || h8))
+    ≡ (((h1 || h2 || h3 || h4) || db || fb || tb || rb) || ((h5 || h6 || h7 || h8) || ra || ta || fa || da))
+by_numbers fa fb ra rb da db ta tb h1 h2 h3 h4 h5 h6 h7 h8 = grind arith
+
+pub attacked_is : (men : Men) (b : ℕ) (c : Colour)
+    → is_attacked men b c ≡ (attacked_from_below men b c || attacked_from_above men b c)
+attacked_is men b c =
+    lines_attack men b c
+    ∙ (rw (
+      along_is men File c b,
+      along_is men Rank c b,
+      along_is men Diagonal c b,
+      along_is men Antidiagonal c b,
+      struck_by_knight_is men c b,
+    )
+    (by_numbers (struck_from_above men File c b) (struck_from_below men File c b)
+    (struck_from_above men Rank c b) (struck_from_below men Rank c b)
+    (struck_from_above men Diagonal c b) (struck_from_below men Diagonal c b)
+    (struck_from_above men Antidiagonal c b) (struck_from_below men Antidiagonal c b)
+    (has_knight men c ((file b + 2) - 1) ((rank b + 2) - 2)) (has_knight men c ((file b + 2) + 1) ((rank b + 2) - 2))
+    (has_knight men c ((file b + 2) - 2) ((rank b + 2) - 1)) (has_knight men c ((file b + 2) + 2) ((rank b + 2) - 1))
+    (has_knight men c ((file b + 2) - 2) ((rank b + 2) + 1)) (has_knight men c ((file b + 2) + 2) ((rank b + 2) + 1))
+    (has_knight men c ((file b + 2) - 1) ((rank b + 2) + 2)) (has_knight men c ((file b + 2) + 1) ((rank b + 2) + 2))))

@@ -1,12 +1,13 @@
 -- The lines of the board: ranks, files, and the diagonals in both directions.
-use Rattle.std.specs.Prelude.{ℕ, ◌+◌, ◌-◌, ◌*◌, ◌==◌, nat_le, nat_lt, Bool, ◌&&◌}
+use Rattle.std.specs.Prelude.{ℕ, ◌+◌, ◌-◌, ◌*◌, ◌==◌, nat_le, nat_lt, Bool, true, false, not, ◌&&◌, ◌||◌}
 use Rattle.chess_base.specs.declared.line.Line.{Line}
 use Rattle.chess_base.specs.declared.line.Line.TheVariants.{Rank, File, Diagonal, Antidiagonal}
 use Rattle.chess_base.specs.declared.man.Colour.{Colour}
-use Rattle.chess_base.specs.declared.man.Kind.TheVariants.{Knight}
-use Rattle.chess_base.specs.Squares.{file, rank, some_square}
+use Rattle.chess_base.specs.declared.man.Kind.{Kind}
+use Rattle.chess_base.specs.declared.man.Kind.TheVariants.{King, Queen, Rook, Bishop, Knight, Pawn}
+use Rattle.chess_base.specs.Squares.{file, rank, gap, some_square}
 use Rattle.chess_base.specs.Men.{Men, man_at, is_of, is_man}
-use Rattle.chess_base.specs.Attacks.{attacks, could_capture}
+use Rattle.chess_base.specs.Attacks.{is_rank_ahead, attacks, could_capture}
 
 -- the number of the line of this kind on which square s is: squares of one line have the same number. The diagonal a1
 -- to h8 has 7
@@ -35,6 +36,23 @@ is_above l b a = same_line l b a && nat_lt b a
 abbrev pub is_below : Line → ℕ → ℕ → Bool
 is_below l b a = same_line l b a && nat_lt a b
 
+-- such a line is a rank or a file
+abbrev pub is_straight : Line → Bool
+is_straight Rank = true
+is_straight File = true
+is_straight Diagonal = false
+is_straight Antidiagonal = false
+
+-- a piece of colour c and this kind on a could capture on b, where both are on one line of kind l with no piece between
+-- them
+abbrev pub reaches : Line → Colour → Kind → ℕ → ℕ → Bool
+reaches l c King a b = gap a b == step_of l
+reaches l c Queen a b = true
+reaches l c Rook a b = is_straight l
+reaches l c Bishop a b = not (is_straight l)
+reaches l c Knight a b = false
+reaches l c Pawn a b = (gap (file a) (file b) == 1) && is_rank_ahead c a b
+
 -- ---- the attacks on a square, by where they come from
 
 -- on a is a piece of colour c that attacks b
@@ -62,3 +80,27 @@ struck_by_knight men c b = some_square (λ a. is_man c Knight (man_at men a) && 
 unfoldable pub has_knight : Men → Colour → ℕ → ℕ → Bool
 has_knight men c f r = nat_le 2 f && nat_lt f 10 && nat_le 2 r && nat_lt r 10
     && is_man c Knight (man_at men (8 * (r - 2) + (f - 2)))
+
+-- a knight of colour c with a smaller number than b attacks b: it comes from one of four squares
+abbrev pub struck_by_knight_from_below : Men → Colour → ℕ → Bool
+struck_by_knight_from_below men c b =
+    has_knight men c ((file b + 2) - 1) ((rank b + 2) - 2) || has_knight men c ((file b + 2) + 1) ((rank b + 2) - 2)
+    || has_knight men c ((file b + 2) - 2) ((rank b + 2) - 1) || has_knight men c ((file b + 2) + 2) ((rank b + 2) - 1)
+
+-- a knight of colour c with a greater number than b attacks b
+abbrev pub struck_by_knight_from_above : Men → Colour → ℕ → Bool
+struck_by_knight_from_above men c b =
+    has_knight men c ((file b + 2) - 2) ((rank b + 2) + 1) || has_knight men c ((file b + 2) + 2) ((rank b + 2) + 1)
+    || has_knight men c ((file b + 2) - 1) ((rank b + 2) + 2) || has_knight men c ((file b + 2) + 1) ((rank b + 2) + 2)
+
+-- a piece of colour c with a smaller number than b attacks b
+abbrev pub attacked_from_below : Men → ℕ → Colour → Bool
+attacked_from_below men b c =
+    struck_by_knight_from_below men c b || struck_from_below men Diagonal c b || struck_from_below men File c b
+    || struck_from_below men Antidiagonal c b || struck_from_below men Rank c b
+
+-- a piece of colour c with a greater number than b attacks b
+abbrev pub attacked_from_above : Men → ℕ → Colour → Bool
+attacked_from_above men b c =
+    struck_by_knight_from_above men c b || struck_from_above men Rank c b || struck_from_above men Antidiagonal c b
+    || struck_from_above men File c b || struck_from_above men Diagonal c b

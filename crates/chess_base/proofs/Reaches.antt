@@ -1,0 +1,123 @@
+-- What a piece reaches along a line on which nothing stands between.
+use Rattle.std.proofs.Common.{◌≡◌, ◌≢◌, ℕ, ◌+◌, ◌-◌, ◌*◌, ◌<◌, ◌⊎◌, inl, inr, Bool, true, false, ◌&&◌, ◌||◌, not, ◌==◌, nat_le, nat_lt, Option, Some, None, refl, sym, ap, ◌∙◌, arith}
+use Rattle.std.proofs.lemmas.Bool.{eqb-true, eq-eqb, ne_eqb}
+use Rattle.std.proofs.lemmas.Bool.Decides.{nat_tests}
+use Rattle.chess_base.specs.declared.line.Line.{Line}
+use Rattle.chess_base.specs.declared.line.Line.TheVariants.{Rank, File, Diagonal, Antidiagonal}
+use Rattle.chess_base.specs.declared.man.Colour.{Colour}
+use Rattle.chess_base.specs.declared.man.Colour.TheVariants.{White, Black}
+use Rattle.chess_base.specs.declared.man.Kind.{Kind}
+use Rattle.chess_base.specs.declared.man.Kind.TheVariants.{King, Queen, Rook, Bishop, Knight, Pawn}
+use Rattle.chess_base.specs.declared.man.Man.{Man}
+use Rattle.chess_base.specs.Squares.{file, rank, gap, share_rank_or_file, share_diagonal}
+use Rattle.chess_base.specs.Men.{Men, man_at, is_of, same_colour}
+use Rattle.chess_base.specs.Attacks.{is_clear, is_rank_ahead, could_capture, attacks}
+use Rattle.chess_base.specs.ties.Lines.{same_line, step_of, is_straight, reaches, strikes}
+
+-- over files f and g and ranks r and q of two squares: the squares of one line
+
+rank_king : (f g r q : ℕ) → f < 8 → g < 8 → r ≡ q → (nat_le (gap f g) 1 && nat_le (gap r q) 1 && not (8 * r + f == 8 * q + g))
+    ≡ (gap (8 * r + f) (8 * q + g) == 1)
+rank_king f g r q h k e = grind (arith, nat_tests)
+
+file_king : (f g r q : ℕ) → f ≡ g → (nat_le (gap f g) 1 && nat_le (gap r q) 1 && not (8 * r + f == 8 * q + g))
+    ≡ (gap (8 * r + f) (8 * q + g) == 8)
+file_king f g r q e = grind (arith, nat_tests)
+
+diagonal_king : (f g r q : ℕ) → r + g ≡ q + f → (nat_le (gap f g) 1 && nat_le (gap r q) 1 && not (8 * r + f == 8 * q + g))
+    ≡ (gap (8 * r + f) (8 * q + g) == 9)
+diagonal_king f g r q e = grind (arith, nat_tests)
+
+antidiagonal_king : (f g r q : ℕ) → r + f ≡ q + g
+    → (nat_le (gap f g) 1 && nat_le (gap r q) 1 && not (8 * r + f == 8 * q + g))
+    ≡ (gap (8 * r + f) (8 * q + g) == 7)
+antidiagonal_king f g r q e = grind (arith, nat_tests)
+
+by_parts : (s : ℕ) → 8 * rank s + file s ≡ s
+by_parts s = omega arith
+
+moved_first : (p q r : Bool) → (p && q && r) ≡ (q && r && p)
+moved_first true true true = refl
+moved_first true true false = refl
+moved_first true false true = refl
+moved_first true false false = refl
+moved_first false true true = refl
+moved_first false true false = refl
+moved_first false false true = refl
+moved_first false false false = refl
+
+next_to : (l : Line) (a b : ℕ) → same_line l b a ≡ true
+    → (nat_le (gap (file a) (file b)) 1 && nat_le (gap (rank a) (rank b)) 1 && not (8 * rank a + file a == 8 * rank b + file b))
+    ≡ (gap (8 * rank a + file a) (8 * rank b + file b) == step_of l)
+next_to Rank a b e =
+    let n = eqb-true (rank b) (rank a) e in
+    rank_king (file a) (file b) (rank a) (rank b) (omega arith) (omega arith) (sym n)
+next_to File a b e =
+    let n = eqb-true (file b) (file a) e in
+    file_king (file a) (file b) (rank a) (rank b) (sym n)
+next_to Diagonal a b e =
+    let n = eqb-true (rank b + 7 - file b) (rank a + 7 - file a) e in
+    diagonal_king (file a) (file b) (rank a) (rank b) (omega (arith, n))
+next_to Antidiagonal a b e =
+    let n = eqb-true (rank b + file b) (rank a + file a) e in
+    antidiagonal_king (file a) (file b) (rank a) (rank b) (sym n)
+
+straight_is : (l : Line) (a b : ℕ) → a ≢ b → same_line l b a ≡ true → share_rank_or_file a b ≡ is_straight l
+straight_is Rank a b n e = grind (arith, nat_tests, e)
+straight_is File a b n e = grind (arith, nat_tests, e)
+straight_is Diagonal a b n e = grind (arith, nat_tests, e)
+straight_is Antidiagonal a b n e = grind (arith, nat_tests, e)
+
+diagonal_is : (l : Line) (a b : ℕ) → a ≢ b → same_line l b a ≡ true → share_diagonal a b ≡ not (is_straight l)
+diagonal_is Rank a b n e = grind (arith, nat_tests, e)
+diagonal_is File a b n e = grind (arith, nat_tests, e)
+diagonal_is Diagonal a b n e = grind (arith, nat_tests, e)
+diagonal_is Antidiagonal a b n e = grind (arith, nat_tests, e)
+
+either_way : (b : Bool) → (b || not b) ≡ true
+either_way true = refl
+either_way false = refl
+
+no_knight : (l : Line) (a b : ℕ) → same_line l b a ≡ true
+    → (((gap (file a) (file b) == 1) && (gap (rank a) (rank b) == 2))
+    || ((gap (file a) (file b) == 2) && (gap (rank a) (rank b) == 1))) ≡ false
+no_knight Rank a b e = grind (arith, nat_tests, e)
+no_knight File a b e = grind (arith, nat_tests, e)
+no_knight Diagonal a b e = grind (arith, nat_tests, e)
+no_knight Antidiagonal a b e = grind (arith, nat_tests, e)
+
+all_three : (p q r v : Bool) → p ≡ true → q ≡ v → r ≡ true → (p && q && r) ≡ v
+all_three true true true v e f g = f
+all_three true false true v e f g = f
+all_three true q false v e f g = cc
+all_three false q r v e f g = cc
+
+captures_is : (men : Men) (l : Line) (c : Colour) (k : Kind) (a b : ℕ) → a ≢ b → same_line l b a ≡ true
+    → is_clear men a b ≡ true → could_capture men c k a b ≡ reaches l c k a b
+unfolding could_capture
+captures_is men l c King a b n on clear =
+    moved_first (not (a == b)) (nat_le (gap (file a) (file b)) 1) (nat_le (gap (rank a) (rank b)) 1)
+    ∙ rw (by_parts a, by_parts b) at (next_to l a b on)
+captures_is men l c Queen a b n on clear =
+    all_three (not (a == b)) (share_rank_or_file a b || share_diagonal a b) (is_clear men a b) true
+    (ap not (ne_eqb a b n)) (rw (straight_is l a b n on, diagonal_is l a b n on) (either_way (is_straight l))) clear
+captures_is men l c Rook a b n on clear =
+    all_three (not (a == b)) (share_rank_or_file a b) (is_clear men a b) (is_straight l)
+    (ap not (ne_eqb a b n)) (straight_is l a b n on) clear
+captures_is men l c Bishop a b n on clear =
+    all_three (not (a == b)) (share_diagonal a b) (is_clear men a b) (not (is_straight l))
+    (ap not (ne_eqb a b n)) (diagonal_is l a b n on) clear
+captures_is men l c Knight a b n on clear = no_knight l a b on
+captures_is men l c Pawn a b n on clear = refl
+
+-- the piece x on a, of colour c, reaches b
+abbrev pub reaching : Line → Colour → ℕ → ℕ → Option Man → Bool
+reaching l c a b None = false
+reaching l c a b (Some x) = same_colour c x.colour && reaches l x.colour x.kind a b
+
+pub strikes_by : (men : Men) (l : Line) (c : Colour) (a b : ℕ) → a ≢ b → same_line l b a ≡ true
+    → is_clear men a b ≡ true → (o : Option Man) → man_at men a ≡ o → strikes men c b a ≡ reaching l c a b o
+unfolding is_of attacks
+strikes_by men l c a b n on clear None at = rw at refl
+strikes_by men l c a b n on clear (Some x) at =
+    rw at (ap (λ v. same_colour c x.colour && v) (captures_is men l x.colour x.kind a b n on clear))
