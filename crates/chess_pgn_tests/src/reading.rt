@@ -655,7 +655,7 @@ const RUNS: [Row; 12] = [
         ply: 2,
         declared: None,
     },
-    // Words of one to seven bytes before the text's end.
+    // Three texts that end with a word, of four, five and one bytes.
     Row {
         text: b"1. e4 e5 2. Nf3 Nc6 3. Bb5 a6 4. Bxc6",
         wanted: Wanted::Fault(PgnFaultKind::NoResult, 37),
