@@ -13,7 +13,7 @@ use chess_bits::{AttackTables, Bits};
 use chess_game::{Game, MOST_MOVES};
 use std::alloc::{AllocError, Global};
 
-// Pieces of a collection that are no games.
+// What short pieces are made of: a line of moves, and all but the last go on with a tag line, where a piece begins.
 const SHORT: [&[u8]; 4] = [
     b"x\n[a\"\n",
     b"x\n[a \"b\"]\n",
