@@ -238,9 +238,9 @@ fn matched<P: Processes + Clock, W: Output, E: Output>(
 ///
 /// - No arguments, or `session`: a session of at most 20,000 half-moves.
 /// - `verify`: the games of the input, one line for each up to the first fault. With `--keep-going` an input of any
-///   length, cut into pieces where a line begins with `[Event `: a fault ends its piece alone, and totals come at the
-///   end. With `--quiet` only games with a fault; with `--strict` a result that contradicts the tag Result or the final
-///   position is a fault too.
+///   length, cut into pieces: one begins at the first byte, at a tag line after a line of moves, and at a second Event
+///   tag line. A fault ends its piece alone, and totals come at the end. With `--quiet` only games with a fault; with
+///   `--strict` a result that contradicts the tag Result or the final position is a fault too.
 /// - `match` with `--white`, `--black` and perhaps `--games`, `--level`, `--fen`, `--variant`, `--date` and `--log`:
 ///   games between two engines that are started as processes, the text of each game, and then the score. The
 ///   input is left alone.

@@ -153,7 +153,7 @@ fn seen_from(
 }
 
 // The squares of the set `men` from which a rook would attack `square`: those on its rank or file with no occupied
-// square between. They are few, so each is looked at alone.
+// square between. Each on its rank or file is looked at alone: in most positions there are few, and never more than 14.
 pub(crate) fn met_on_lines(
     tables: &AttackTables,
     square: Square,
@@ -169,7 +169,7 @@ pub(crate) fn met_on_lines(
 }
 
 // The squares of the set `men` from which a bishop would attack `square`: those on its diagonals with no occupied
-// square between. They are few, so each is looked at alone.
+// square between. Each on its diagonals is looked at alone: in most positions there are few, and never more than 13.
 pub(crate) fn met_on_diagonals(
     tables: &AttackTables,
     square: Square,

@@ -82,7 +82,7 @@ impl Tables {
 }
 
 /// What the pieces attack on an empty board, and the rays: fourteen times 64 sets of squares, and the keys of position
-/// hashes, in one box; and 4,096 sets, the squares between each two squares, in another. They never change, and are lent
+/// hashes, in a box; and 4,096 sets, the squares between each two squares, in a vector. They never change, and are lent
 /// to the boards that look them up.
 #[derive(Drop)]
 pub struct AttackTables {

@@ -655,7 +655,7 @@ const RUNS: [Row; 12] = [
         ply: 2,
         declared: None,
     },
-    // Words of one to seven bytes before the text's end.
+    // Three texts that end with a word: of four bytes, of five, of one.
     Row {
         text: b"1. e4 e5 2. Nf3 Nc6 3. Bb5 a6 4. Bxc6",
         wanted: Wanted::Fault(PgnFaultKind::NoResult, 37),
@@ -940,7 +940,8 @@ fn a_whole_game_is_read(rt: HostRuntime) -> Result<(), Fail> {
     the_opera_is_read(&rt, rt.alloc(), Bits::new(&tables))
 }
 
-// A comment of `len` bytes between two moves is skipped; without its brace it is not closed.
+// A comment of `len` bytes between two moves is skipped, whether the text ends with the game or goes on for 32 bytes;
+// without its brace it is not closed.
 fn comment_is_skipped<B: Board>(
     rt: &impl Abort,
     alloc: Global,
@@ -956,12 +957,15 @@ fn comment_is_skipped<B: Board>(
     text.extend_from_slice(b"} e5 *")?;
     let closed = Wanted::Ended(Outcome::Unfinished, text.len());
     is_read_on(rt, text.as_slice(), game, 0, closed, 2);
+    text.extend_from_slice(b" 32 bytes are after the outcome.")?;
+    is_read_on(rt, text.as_slice(), game, 0, closed, 2);
     Ok(())
 }
 
-// A comment's end is looked for by 32 bytes at a time: it is found at each place in them.
+// A comment's end is looked for by 32 bytes at a time, and byte by byte where fewer are left: it is found at each place
+// in a block, and among the last bytes.
 #[test]
-fn comments_of_any_length_are_skipped(rt: HostRuntime) -> Result<(), Fail> {
+fn comments_of_up_to_99_bytes_are_skipped(rt: HostRuntime) -> Result<(), Fail> {
     let mut game = Game::open(rt.alloc(), Plain::new(), 100)?;
     for len in 0..100 {
         comment_is_skipped(&rt, rt.alloc(), &mut game, len)?;

@@ -13,7 +13,7 @@ use chess_bits::{AttackTables, Bits};
 use chess_game::{Game, MOST_MOVES};
 use std::alloc::{AllocError, Global};
 
-// Pieces of a collection that are no games.
+// What short pieces are made of: a line of moves, and all but the last go on with a tag line, where a piece begins.
 const SHORT: [&[u8]; 4] = [
     b"x\n[a\"\n",
     b"x\n[a \"b\"]\n",
@@ -48,7 +48,7 @@ fn unclosed_pieces(
     Ok(text)
 }
 
-// One piece whose comment, variation or string goes on for so many lines.
+// One piece of so many lines, in the first of which a comment, a variation or a tag is opened that is never closed.
 fn long_piece(alloc: Global, lines: usize, random: &mut Random) -> Result<Vec<u8>, AllocError> {
     let mut text = Vec::new(alloc);
     add(&mut text, random.one_of(&UNCLOSED))?;
@@ -66,8 +66,8 @@ fn long_piece(alloc: Global, lines: usize, random: &mut Random) -> Result<Vec<u8
     Ok(text)
 }
 
-// Long games without captures or moves of pawns for long: as a text, and as lines of a session that plays the last of
-// them, asks for its text and takes all back.
+// Long games without captures or moves of pawns for long: as a text, and as lines of a session that plays each of
+// them, asks for its text, takes all its moves back and asks for the state.
 fn long_games(
     alloc: Global,
     games: usize,

@@ -21,8 +21,8 @@ pub fn outcome_text(game: &Game<Bits<'_>>, random: &mut Random) -> &'static [u8]
     }
 }
 
-/// Walks from the initial position, or on from a late position of the game before: of three games that follow each
-/// other two have moves in common with the first, as openings are.
+/// Walks from the initial position, or on from a position of the game before, of which half to five sixths are kept: of
+/// three games that follow each other the second and the third begin as the one before does, as if by one opening.
 ///
 /// # Errors
 /// If memory runs out.

@@ -54,7 +54,7 @@ fn add_puzzle(
     add(text, b"*\n\n")
 }
 
-// Adds a puzzle for each position of the game, and the game itself if it is one of Chess960.
+// Adds a puzzle for each position of the game but the last, and the game itself if it is one of Chess960.
 fn add_all(
     text: &mut Vec<u8>,
     game: &Game<Bits<'_>>,

@@ -91,7 +91,8 @@ fn add_moves(
     Ok(())
 }
 
-// Adds a position of the game, set up by its FEN, with the moves to the end of the game from there.
+// Adds eight positions of a game that has moves, each set up by its FEN and followed by the game's next six moves, or
+// by as many as there are.
 fn add_late_start(
     text: &mut Vec<u8>,
     game: &Game<Bits<'_>>,

@@ -68,7 +68,7 @@ pub fn fischerandom_start(random: &mut Random) -> Position {
     }
 }
 
-/// Positions with many queens: nine a side, nine of White, four or five a side.
+/// Positions with many queens: nine a side, nine of White alone, six a side.
 pub const QUEENS: [&[u8]; 3] = [
     b"4qqqk/5qqq/5qqq/8/8/QQQ5/QQQ5/KQQQ4 w - - 0 1",
     b"R6R/3Q4/1Q4Q1/4Q3/2Q4Q/Q4Q2/pp1Q4/kBNN1KB1 w - - 0 1",
