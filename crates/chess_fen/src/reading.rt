@@ -108,8 +108,9 @@ fn read_setup(variant: Variant, text: &[u8]) -> Result<Setup, FenFault>
     ensures { result ≡ setup_in variant (fields_of text.now) }
 {
     let mut men = [None; 64];
-    let Some(rest) = read_placement(skip_spaces(text), &mut men) else {
-        return Err(menless_fault(text));
+    let front = skip_spaces(text);
+    let Some(rest) = read_placement(front, &mut men) else {
+        return Err(menless_fault(front));
     };
     match read_fields(rest) {
         None => Err(FenFault::Fields),

@@ -18,7 +18,7 @@ use crate::index::{Entry, Index};
 use crate::packed::PackedPosition;
 use crate::repetition::Hashed;
 use crate::results::{Comment, Declared, Outcome};
-use chess_base::{Man, Move, Position};
+use chess_base::{Colour, Man, Move, Position, Variant};
 use chess_moves::Board;
 use std::alloc::{AllocError, Global};
 use std::marker::Model;
@@ -328,6 +328,20 @@ impl<B: Board> Game<B> {
         ensures { result ≡ self.now.state.start }
     {
         self.start.position.unpacked()
+    }
+
+    /// The variant of the position from which the game starts.
+    pub fn variant(&self) -> Variant
+        ensures { result ≡ self.now.state.start.variant }
+    {
+        self.start.position.variant()
+    }
+
+    /// The colour on move in the position from which the game starts.
+    pub fn start_side(&self) -> Colour
+        ensures { result ≡ self.now.state.start.side }
+    {
+        self.start.position.side()
     }
 
     /// The present position: the one that the current moves lead to from the start.

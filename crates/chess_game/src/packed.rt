@@ -250,6 +250,13 @@ impl PackedPosition {
         })
     }
 
+    /// The variant.
+    pub(crate) fn variant(&self) -> Variant
+        ensures { result ≡ self.now.variant }
+    {
+        self.variant
+    }
+
     /// The colour on move.
     pub(crate) fn side(&self) -> Colour
         ensures { result ≡ self.now.side }

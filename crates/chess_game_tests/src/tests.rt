@@ -1,6 +1,6 @@
-use chess_base::{Colour, Kind, Move, Position, Saved, Setup, Square};
+use chess_base::{Colour, Kind, Move, Position, Saved, Setup, Square, Variant};
 use chess_bits::{AttackTables, Bits};
-use chess_fen::{read_fen, write_fen};
+use chess_fen::{read_fen, read_fen_as, write_fen};
 use chess_game::{
     BoardSaysOtherwise, Claims, Comment, Game, MOST_MOVES, NoMove, Outcome, PlayRefusal, Verdict,
 };
@@ -159,6 +159,12 @@ fn opened<B: Board + Drop>(
 
 fn restart<B: Board>(game: &mut Game<B>, fen: &[u8]) -> Result<(), Fail> {
     game.restart(&read_fen(fen)?);
+    Ok(())
+}
+
+// Begins anew from a position of Chess960.
+fn restart_960<B: Board>(game: &mut Game<B>, fen: &[u8]) -> Result<(), Fail> {
+    game.restart(&read_fen_as(Variant::Fischerandom, fen)?);
     Ok(())
 }
 
@@ -323,6 +329,10 @@ fn starts_at<B: Board>(rt: &impl Abort, game: &Game<B>, fen: &[u8]) {
     has_fen(rt, &game.start(), fen);
 }
 
+fn starts_in<B: Board>(rt: &impl Abort, game: &Game<B>, variant: Variant, side: Colour) {
+    is_equal(rt, &(game.variant(), game.start_side()), &(variant, side));
+}
+
 fn is_at<B: Board>(rt: &impl Abort, game: &Game<B>, fen: &[u8]) {
     has_fen(rt, &game.position(), fen);
 }
@@ -371,6 +381,8 @@ enum State {
     IsFull,
     HasRoom,
     StartsAt(&'static [u8]),
+    // The variant and the side that moves first.
+    StartsIn(Variant, Colour),
     IsAt(&'static [u8]),
     BoardIsAt(&'static [u8]),
     PositionAt(usize, &'static [u8]),
@@ -392,6 +404,7 @@ fn is_so<B: Board>(rt: &impl Abort, game: &Game<B>, state: State) {
         State::IsFull => is_full(rt, game),
         State::HasRoom => has_room(rt, game),
         State::StartsAt(fen) => starts_at(rt, game, fen),
+        State::StartsIn(variant, side) => starts_in(rt, game, variant, side),
         State::IsAt(fen) => is_at(rt, game, fen),
         State::BoardIsAt(fen) => board_is_at(rt, game, fen),
         State::PositionAt(ply, fen) => is_position_at(rt, game, ply, fen),
@@ -403,6 +416,7 @@ fn is_so<B: Board>(rt: &impl Abort, game: &Game<B>, state: State) {
 #[derive(Clone, Copy)]
 enum Step {
     Restarts(&'static [u8]),
+    Restarts960(&'static [u8]),
     RestartsInitial,
     // Moves, none of which is refused.
     PlaysAll(&'static [u8]),
@@ -421,6 +435,7 @@ enum Step {
 fn goes<B: Board>(rt: &impl Abort, game: &mut Game<B>, step: Step) -> Result<(), Fail> {
     match step {
         Step::Restarts(fen) => return restart(game, fen),
+        Step::Restarts960(fen) => return restart_960(game, fen),
         Step::RestartsInitial => restart_initial(game),
         Step::PlaysAll(moves) => return play_all(game, moves),
         Step::IsPlayed(squares) => is_played(rt, game, squares),
@@ -1079,6 +1094,32 @@ const LINE: &[Step] = &[
 #[test]
 fn positions_of_a_line(rt: HostRuntime) -> Result<(), Fail> {
     game_goes(&rt, rt.alloc(), 100, LINE)
+}
+
+// A position of Chess960 with each side on move.
+const WHITE_IN_960: &[u8] = b"bqnb1rkr/pp3ppp/3ppn2/2p5/5P2/P2P4/NPP1P1PP/BQ1BNRKR w HFhf - 2 9";
+
+const BLACK_IN_960: &[u8] = b"bqnb1rkr/pp3ppp/3ppn2/2p5/5P2/P2P3P/NPP1P1P1/BQ1BNRKR b HFhf - 0 9";
+
+const FIRST_SIDES: &[Step] = &[
+    Step::Is(State::StartsIn(Variant::Normal, Colour::White)),
+    Step::IsPlayed(b"e2e4"),
+    Step::Is(State::StartsIn(Variant::Normal, Colour::White)),
+    Step::Restarts(AFTER_E4),
+    Step::Is(State::StartsIn(Variant::Normal, Colour::Black)),
+    Step::Restarts960(WHITE_IN_960),
+    Step::IsPlayed(b"h2h3"),
+    Step::Is(State::StartsIn(Variant::Fischerandom, Colour::White)),
+    Step::Restarts960(BLACK_IN_960),
+    Step::Is(State::StartsIn(Variant::Fischerandom, Colour::Black)),
+    Step::RestartsInitial,
+    Step::Is(State::StartsIn(Variant::Normal, Colour::White)),
+];
+
+// The variant and the side that moves first are those of the start, whoever is on move.
+#[test]
+fn variant_and_first_side_of_a_start(rt: HostRuntime) -> Result<(), Fail> {
+    game_goes(&rt, rt.alloc(), 100, FIRST_SIDES)
 }
 
 const AT_FIRST: &[Step] = &[

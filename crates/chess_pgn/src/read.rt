@@ -292,7 +292,7 @@ fn read_tag<B: Board>(
         ≡ tag_step (so_far game.old.state progress) tag.now.name.now tag.now.text.now offset }
 {
     if let b"FEN" = tag.name {
-        match read_fen_as(game.start().variant(), tag.text) {
+        match read_fen_as(game.variant(), tag.text) {
             Ok(start) => game.restart(&start),
             Err(fault) => {
                 return Err(PgnFault {
