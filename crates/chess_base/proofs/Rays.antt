@@ -13,7 +13,7 @@ use Rattle.chess_base.specs.declared.man.Man.{Man}
 use Rattle.chess_base.specs.Squares.{file, rank, gap, lies_inside, share_rank_or_file, share_diagonal, is_between, is_between_on_file, is_between_on_rank, is_between_on_diagonal, some_square}
 use Rattle.chess_base.specs.Men.{Men, man_at, is_of, is_man, same_colour, same_kind}
 use Rattle.chess_base.specs.Attacks.{is_clear, is_rank_ahead, could_capture, attacks, is_attacked}
-use Rattle.chess_base.specs.ties.Lines.{same_line, step_of, is_above, is_below, strikes, struck_from_above, struck_from_below, struck_along, struck_by_knight, has_knight, attacked_from_below, attacked_from_above}
+use Rattle.chess_base.specs.ties.Lines.{same_line, step_of, is_above, is_below, strikes, struck_from_above, struck_from_below, struck_along, struck_by_knight, struck_by_knight_from_below, struck_by_knight_from_above, attacked_from_below, attacked_from_above}
 use Rattle.chess_base.proofs.OverSquares.{each_square-fails, some_square-at, some_square-none, some_square_same, some_square-or}
 use Rattle.chess_base.proofs.Geometry.{between_on_line}
 use Rattle.chess_base.proofs.Knights.{struck_by_knight_is}
@@ -580,27 +580,24 @@ lines_attack men b c =
     ∙ ap (λ v. v || some_square d) (some_square-or f r))))
 
 -- the same, by the numbers of the squares that the attacks come from
-by_numbers : (fa fb ra rb da db ta tb h1 h2 h3 h4 h5 h6 h7 h8 : Bool)
-    → ((fa || fb) || (ra || rb) || (da || db) || (ta || tb) || (h1 || h2 || h3 || h4 || h5 || h6 || h7 || h8))
-    ≡ (((h1 || h2 || h3 || h4) || db || fb || tb || rb) || ((h5 || h6 || h7 || h8) || ra || ta || fa || da))
-by_numbers fa fb ra rb da db ta tb h1 h2 h3 h4 h5 h6 h7 h8 = grind arith
+by_numbers : (fa fb ra rb da db ta tb kb ka : Bool)
+    → ((fa || fb) || (ra || rb) || (da || db) || (ta || tb) || (kb || ka))
+    ≡ ((kb || db || fb || tb || rb) || (ka || ra || ta || fa || da))
+by_numbers fa fb ra rb da db ta tb kb ka = grind arith
 
-pub attacked_is : (men : Men) (b : ℕ) (c : Colour)
+pub attacked_is : (men : Men) (b : ℕ) (c : Colour) → b < 64
     → is_attacked men b c ≡ (attacked_from_below men b c || attacked_from_above men b c)
-attacked_is men b c =
+attacked_is men b c low =
     lines_attack men b c
     ∙ (rw (
       along_is men File c b,
       along_is men Rank c b,
       along_is men Diagonal c b,
       along_is men Antidiagonal c b,
-      struck_by_knight_is men c b,
+      struck_by_knight_is men c b low,
     )
     (by_numbers (struck_from_above men File c b) (struck_from_below men File c b)
     (struck_from_above men Rank c b) (struck_from_below men Rank c b)
     (struck_from_above men Diagonal c b) (struck_from_below men Diagonal c b)
     (struck_from_above men Antidiagonal c b) (struck_from_below men Antidiagonal c b)
-    (has_knight men c ((file b + 2) - 1) ((rank b + 2) - 2)) (has_knight men c ((file b + 2) + 1) ((rank b + 2) - 2))
-    (has_knight men c ((file b + 2) - 2) ((rank b + 2) - 1)) (has_knight men c ((file b + 2) + 2) ((rank b + 2) - 1))
-    (has_knight men c ((file b + 2) - 2) ((rank b + 2) + 1)) (has_knight men c ((file b + 2) + 2) ((rank b + 2) + 1))
-    (has_knight men c ((file b + 2) - 1) ((rank b + 2) + 2)) (has_knight men c ((file b + 2) + 1) ((rank b + 2) + 2))))
+    (struck_by_knight_from_below men c b) (struck_by_knight_from_above men c b)))

@@ -36,7 +36,7 @@ is_above l b a = same_line l b a && nat_lt b a
 abbrev pub is_below : Line → ℕ → ℕ → Bool
 is_below l b a = same_line l b a && nat_lt a b
 
--- such a line is a rank or a file
+-- lines of this kind are ranks or files
 abbrev pub is_straight : Line → Bool
 is_straight Rank = true
 is_straight File = true
@@ -75,31 +75,29 @@ struck_along men l c b = some_square (λ a. same_line l b a && strikes men c b a
 unfoldable pub struck_by_knight : Men → Colour → ℕ → Bool
 struck_by_knight men c b = some_square (λ a. is_man c Knight (man_at men a) && could_capture men c Knight a b)
 
--- a knight of colour c is on the square of this file and rank, both counted from 2: so a knight's way from a square
--- gives no number below 0. False for a square that is not on the board
-unfoldable pub has_knight : Men → Colour → ℕ → ℕ → Bool
-has_knight men c f r = nat_le 2 f && nat_lt f 10 && nat_le 2 r && nat_lt r 10
-    && is_man c Knight (man_at men (8 * (r - 2) + (f - 2)))
-
--- a knight of colour c with a smaller number than b attacks b: it comes from one of four squares
-abbrev pub struck_by_knight_from_below : Men → Colour → ℕ → Bool
+-- a knight of colour c attacks b from one of the four squares whose number is smaller than b's
+unfoldable pub struck_by_knight_from_below : Men → Colour → ℕ → Bool
 struck_by_knight_from_below men c b =
-    has_knight men c ((file b + 2) - 1) ((rank b + 2) - 2) || has_knight men c ((file b + 2) + 1) ((rank b + 2) - 2)
-    || has_knight men c ((file b + 2) - 2) ((rank b + 2) - 1) || has_knight men c ((file b + 2) + 2) ((rank b + 2) - 1)
+    (nat_le 2 (rank b) && nat_le 1 (file b) && is_man c Knight (man_at men (b - 17)))
+    || (nat_le 2 (rank b) && nat_lt (file b) 7 && is_man c Knight (man_at men (b - 15)))
+    || (nat_le 1 (rank b) && nat_le 2 (file b) && is_man c Knight (man_at men (b - 10)))
+    || (nat_le 1 (rank b) && nat_lt (file b) 6 && is_man c Knight (man_at men (b - 6)))
 
--- a knight of colour c with a greater number than b attacks b
-abbrev pub struck_by_knight_from_above : Men → Colour → ℕ → Bool
+-- a knight of colour c attacks b from one of the four squares whose number is greater than b's
+unfoldable pub struck_by_knight_from_above : Men → Colour → ℕ → Bool
 struck_by_knight_from_above men c b =
-    has_knight men c ((file b + 2) - 2) ((rank b + 2) + 1) || has_knight men c ((file b + 2) + 2) ((rank b + 2) + 1)
-    || has_knight men c ((file b + 2) - 1) ((rank b + 2) + 2) || has_knight men c ((file b + 2) + 1) ((rank b + 2) + 2)
+    (nat_lt (rank b) 7 && nat_le 2 (file b) && is_man c Knight (man_at men (b + 6)))
+    || (nat_lt (rank b) 7 && nat_lt (file b) 6 && is_man c Knight (man_at men (b + 10)))
+    || (nat_lt (rank b) 6 && nat_le 1 (file b) && is_man c Knight (man_at men (b + 15)))
+    || (nat_lt (rank b) 6 && nat_lt (file b) 7 && is_man c Knight (man_at men (b + 17)))
 
--- a piece of colour c with a smaller number than b attacks b
+-- a piece of colour c attacks b from a square whose number is smaller than b's
 abbrev pub attacked_from_below : Men → ℕ → Colour → Bool
 attacked_from_below men b c =
     struck_by_knight_from_below men c b || struck_from_below men Diagonal c b || struck_from_below men File c b
     || struck_from_below men Antidiagonal c b || struck_from_below men Rank c b
 
--- a piece of colour c with a greater number than b attacks b
+-- a piece of colour c attacks b from a square whose number is greater than b's
 abbrev pub attacked_from_above : Men → ℕ → Colour → Bool
 attacked_from_above men b c =
     struck_by_knight_from_above men c b || struck_from_above men Rank c b || struck_from_above men Antidiagonal c b
