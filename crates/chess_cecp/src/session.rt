@@ -179,7 +179,7 @@ impl<B: Board> Session<B> {
         ensures text { answer.new.items
             ≡ (setboard_row self.old.state (fen_reading_as self.old.state.start.variant fen.now)).text }
     {
-        match read_fen_as(self.game.start().variant(), fen) {
+        match read_fen_as(self.game.variant(), fen) {
             Ok(start) => {
                 self.game.restart(&start);
                 write_verdict(answer, self.game.verdict());
@@ -212,7 +212,7 @@ impl<B: Board> Session<B> {
     fn leave_chess960(&mut self)
         ensures { self.new ≡ after_row self.old (normal_row self.old.state self.old.state.start.variant) }
     {
-        match self.game.start().variant() {
+        match self.game.variant() {
             Variant::Normal => {}
             Variant::Fischerandom => self.game.restart(&Position::initial()),
         }

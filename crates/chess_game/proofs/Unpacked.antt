@@ -1,8 +1,12 @@
--- The pieces of packed sets, put on their squares one after another.
-use Rattle.std.proofs.Common.{◌≡◌, ◌≢◌, ℕ, ◌<◌, ◌==◌, ◌⊎◌, inl, inr, Bool, true, false, ◌&&◌, ◌||◌, refl, sym, ◌∙◌, ap, arith, Option, None, List, [], ◌∷◌, length, set, get_or-set_same, get_or-set_other, length-set, replicate}
-use Rattle.std.proofs.lemmas.Bool.{cases_Bool, cases_eq, eqb-true, ne_eqb, or_parts}
+-- The pieces of packed sets, put on their squares one after another, kind by kind.
+use Rattle.std.proofs.Common.{◌≡◌, ◌≢◌, ℕ, ◌<◌, ◌≤◌, ◌+◌, ◌==◌, ◌⊎◌, inl, inr, Bool, true, false, not, ◌&&◌, if◌then◌else◌, refl, sym, ◌∙◌, ap, subst, arith, Option, Some, None, List, [], ◌∷◌, length, set, get_or-set_same, get_or-set_other, length-set, replicate}
+use Rattle.std.proofs.lemmas.Bool.{cases_Bool, cases_eq, eqb-true, ne_eqb}
 use Rattle.std.proofs.lemmas.List.{ext_get_or, get_or-replicate}
-use Rattle.std.specs.List.{list_any}
+use Rattle.std.proofs.lemmas.List.Filters.{length-filter_both}
+use Rattle.std.specs.List.{filter, list_any}
+use Rattle.chess_base.specs.declared.man.Colour.{Colour}
+use Rattle.chess_base.specs.declared.man.Kind.{Kind}
+use Rattle.chess_base.specs.declared.man.Kind.TheVariants.{King, Queen, Rook, Bishop, Knight, Pawn}
 use Rattle.chess_base.specs.declared.man.Man.{Man}
 use Rattle.chess_base.specs.Men.{Men, man_at}
 use Rattle.chess_base.specs.MoveList.{squares}
@@ -10,7 +14,7 @@ use Rattle.chess_base.specs.Squares.{from_below}
 use Rattle.chess_base.proofs.MenAfter.{length-from_below, get_or-from_below}
 use Rattle.chess_moves.specs.Sets.{contains, members}
 use Rattle.chess_moves.proofs.SomeMember.{any-filter, any-square}
-use Rattle.chess_game.specs.ties.Packed.{man_in, men_in}
+use Rattle.chess_game.specs.ties.Packed.{colour_in, man_of, man_in, men_in, put_at}
 use Rattle.chess_game.specs.declared.packed.PackedMen.{PackedMen}
 
 -- ---- what is in a set, and what is left of it
@@ -46,79 +50,144 @@ is_member w k low inside =
     any-filter (λ x. contains w x) (λ x. x == k) squares
     ∙ any-square (λ x. contains w x && (x == k)) k low (rw (inside, self_equal k) refl)
 
-clash : {A : Type 0} (b : Bool) → b ≡ true → b ≡ false → A
-clash true e f = absurd (cc)
-clash false e f = absurd (cc)
-
--- a square that is not left, once the square s is taken out, is s or was not there
-pub was_out : (w v s k : ℕ) → k < 64 → members w ≡ s ∷ members v → k ≢ s → contains v k ≡ false → contains w k ≡ false
-was_out w v s k low taken apart out = by_test (contains w k) refl
+-- a square is in a set exactly where it is one of the set's members
+has_is : (w k : ℕ) → k < 64 → contains w k ≡ has w k
+has_is w k low = by_test (contains w k) refl
   where
-    off : has w k ≡ false
-    off =
-        ap (λ ms. list_any (λ x. x == k) ms) taken
-        ∙ rw (ne_eqb s k (λ e. apart (sym e)), not_member v k out) refl
+    by_test : (b : Bool) → contains w k ≡ b → contains w k ≡ has w k
+    by_test true e = e ∙ sym (is_member w k low e)
+    by_test false e = e ∙ sym (not_member w k e)
 
-    by_test : (b : Bool) → contains w k ≡ b → contains w k ≡ false
-    by_test false e = e
-    by_test true e = clash (has w k) (is_member w k low e) off
+-- the square that is taken out was there
+taken_there : (w v s : ℕ) → s < 64 → members w ≡ s ∷ members v → contains w s ≡ true
+taken_there w v s low taken =
+    has_is w s low ∙ ap (λ ms. list_any (λ x. x == s) ms) taken ∙ rw (self_equal s) refl
 
-pub none_there : (w k : ℕ) → k < 64 → members w ≡ [] → contains w k ≡ false
-none_there w k low none = by_test (contains w k) refl
-  where
-    by_test : (b : Bool) → contains w k ≡ b → contains w k ≡ false
-    by_test false e = e
-    by_test true e = clash (has w k) (is_member w k low e) (ap (λ ms. list_any (λ x. x == k) ms) none)
+-- each other square is left if it was there
+others_left : (w v s k : ℕ) → k < 64 → members w ≡ s ∷ members v → k ≢ s → contains w k ≡ contains v k
+others_left w v s k low taken apart =
+    has_is w k low ∙ ap (λ ms. list_any (λ x. x == k) ms) taken ∙ rw (ne_eqb s k (λ e. apart (sym e))) refl
+    ∙ sym (has_is v k low)
 
--- ---- square by square
+none_there : (w k : ℕ) → k < 64 → members w ≡ [] → contains w k ≡ false
+none_there w k low none = has_is w k low ∙ ap (λ ms. list_any (λ x. x == k) ms) none
 
--- no piece is where no kind's set has the square
-pub none_outside : (p : PackedMen) (k : ℕ) (all : Bool)
-    → all
-    ≡ (((((contains p.kings k || contains p.queens k) || contains p.rooks k) || contains p.bishops k)
-    || contains p.knights k) || contains p.pawns k)
-    → all ≡ false → man_in p k ≡ None
-unfolding man_in
-none_outside p k all is out =
-    let e = or_parts _ (contains p.pawns k) (sym is ∙ out) in
-    let d = or_parts _ (contains p.knights k) e.0 in
-    let c = or_parts _ (contains p.bishops k) d.0 in
-    let b = or_parts _ (contains p.rooks k) c.0 in
-    let a = or_parts (contains p.kings k) (contains p.queens k) b.0 in
-    rw (a.0, a.1, b.1, c.1, d.1, e.1) refl
+-- a set has at most 64 members
+pub few_members : (w : ℕ) → length (members w) ≤ 64
+unfolding members squares
+few_members w =
+    let is : length (members w) ≡ length (filter (λ k. contains w k) squares) = refl in
+    let all : length squares ≡ 64 = refl in
+    let both : length (filter (λ k. contains w k) squares) + length (filter (λ k. not (contains w k)) squares)
+    ≡ length squares = length-filter_both (λ k. contains w k) (λ k. not (contains w k)) (λ k. refl) squares in
+    omega (arith, is, all, both)
 
--- the squares that are not left have their pieces
-pub record HasMen (p : PackedMen) (men : Men) (left : ℕ) : Type 0 where
+-- ---- one kind
+
+same_both : (b : Bool) (x : Option Man) → (if b then x else x) ≡ x
+same_both true x = refl
+same_both false x = refl
+
+where_true : (b : Bool) (x y : Option Man) → b ≡ true → (if b then x else y) ≡ x
+where_true b x y e = rw e refl
+
+where_false : (b : Bool) (x y : Option Man) → b ≡ false → (if b then x else y) ≡ y
+where_false b x y e = rw e refl
+
+-- putting pieces of this kind on the squares that are left in `men` gives the same as putting them on the squares of
+-- `all` in `old`
+pub record PutsOn (p : PackedMen) (kind : Kind) (men : Men) (left : ℕ) (old : Men) (all : ℕ) : Type 0 where
   pub board : length men ≡ 64
-  pub there : (k : ℕ) → k < 64 → contains left k ≡ false → man_at men k ≡ man_in p k
-
--- where no piece was put yet
-pub men_none : (p : PackedMen) (left : ℕ) → ((k : ℕ) → contains left k ≡ false → man_in p k ≡ None)
-    → HasMen p (replicate 64 None) left
-men_none p left h = record {
-  board = refl;
-  there = λ k low out. get_or-replicate 64 k None None low ∙ sym (h k out);
-}
+  pub same : (k : ℕ) → k < 64 → put_at p left kind k (man_at men k) ≡ put_at p all kind k (man_at old k)
 
 -- one square more
-pub men_more : (p : PackedMen) (men : Men) (left rest i s : ℕ) (o : Option Man) → i ≡ s → s < 64
-    → members left ≡ s ∷ members rest → o ≡ man_in p s → HasMen p men left → HasMen p (set men i o) rest
-men_more p men left rest i s o here inside taken man h =
-    record { board = length-set men i o ∙ h.board; there = there }
+more_put : (p : PackedMen) (kind : Kind) (men : Men) (left rest i s : ℕ) (old : Men) (all : ℕ) → i ≡ s → s < 64
+    → members left ≡ s ∷ members rest → PutsOn p kind men left old all
+    → PutsOn p kind (set men i (Some (record { colour = colour_in p s; kind = kind }))) rest old all
+more_put p kind men left rest i s old all here inside taken h =
+    record { board = length-set men i man ∙ h.board; same = same }
   where
-    there : (k : ℕ) → k < 64 → contains rest k ≡ false → man_at (set men i o) k ≡ man_in p k
-    there k low out =
-        let room : i < length men = omega (arith, h.board, here) in
-        elim (cases_eq k i) [
-          | inl same ↦ rw (same, get_or-set_same men i o None room, here) man
-          | inr other ↦ rw (get_or-set_other men i k o None other)
-              (h.there k low (was_out left rest s k low taken (λ e. other (e ∙ sym here)) out))
-        ]
+    man : Option Man
+    man = Some (record { colour = colour_in p s; kind = kind })
 
--- at the end all
-pub men_all : (p : PackedMen) (men : Men) (left : ℕ) → members left ≡ [] → HasMen p men left → men ≡ men_in p
+    on_it : put_at p rest kind s (man_at (set men i man) s) ≡ put_at p left kind s (man_at men s)
+    on_it =
+        let room : i < length men = omega (arith, h.board, here, inside) in
+        let written : man_at (set men i man) s ≡ man =
+        subst (λ n. man_at (set men i man) n ≡ man) here (get_or-set_same men i man None room) in
+        ap (put_at p rest kind s) written ∙ same_both (contains rest s) man
+        ∙ sym (where_true (contains left s) man (man_at men s) (taken_there left rest s inside taken))
+
+    off_it : (k : ℕ) → k < 64 → k ≢ s
+        → put_at p rest kind k (man_at (set men i man) k) ≡ put_at p left kind k (man_at men k)
+    off_it k low apart =
+        ap (put_at p rest kind k) (get_or-set_other men i k man None (λ e. apart (e ∙ here)))
+        ∙ ap (λ b. if b then Some (record { colour = colour_in p k; kind = kind }) else man_at men k)
+        (sym (others_left left rest s k low taken apart))
+
+    same : (k : ℕ) → k < 64 → put_at p rest kind k (man_at (set men i man) k) ≡ put_at p all kind k (man_at old k)
+    same k low = elim (cases_eq k s) [
+      | inl is ↦ subst (λ n. put_at p rest kind n (man_at (set men i man) n) ≡ put_at p all kind n (man_at old n)) (sym is)
+          (on_it ∙ h.same s inside)
+      | inr apart ↦ off_it k low apart ∙ h.same k low
+    ]
+
+pub put_more : (p : PackedMen) (kind : Kind) (c : Colour) (men : Men) (left rest i s : ℕ) (old : Men) (all : ℕ)
+    → c ≡ colour_in p s → i ≡ s → s < 64 → members left ≡ s ∷ members rest → PutsOn p kind men left old all
+    → PutsOn p kind (set men i (Some (record { colour = c; kind = kind }))) rest old all
+put_more p kind c men left rest i s old all is here inside taken h =
+    rw is (more_put p kind men left rest i s old all here inside taken h)
+
+-- at the end all squares have theirs
+pub put_all : (p : PackedMen) (kind : Kind) (men : Men) (left : ℕ) (old : Men) (all : ℕ) → members left ≡ []
+    → PutsOn p kind men left old all → (k : ℕ) → k < 64 → man_at men k ≡ put_at p all kind k (man_at old k)
+put_all p _ men left old all none h k low =
+    sym (where_false (contains left k) _ (man_at men k) (none_there left k low none)) ∙ h.same k low
+
+-- ---- all kinds
+
+-- the pieces of a later kind are put over those of an earlier one
+by_kinds : (c : Colour) (king queen rook bishop knight pawn : Bool)
+    → (if king then Some (record { colour = c; kind = King })
+    else if queen then Some (record { colour = c; kind = Queen })
+    else if rook then Some (record { colour = c; kind = Rook })
+    else if bishop then Some (record { colour = c; kind = Bishop })
+    else if knight then Some (record { colour = c; kind = Knight })
+    else if pawn then Some (record { colour = c; kind = Pawn })
+    else None)
+    ≡ man_of c (if king then Some King
+    else if queen then Some Queen
+    else if rook then Some Rook
+    else if bishop then Some Bishop
+    else if knight then Some Knight
+    else if pawn then Some Pawn
+    else None)
+by_kinds c true queen rook bishop knight pawn = refl
+by_kinds c false true rook bishop knight pawn = refl
+by_kinds c false false true bishop knight pawn = refl
+by_kinds c false false false true knight pawn = refl
+by_kinds c false false false false true pawn = refl
+by_kinds c false false false false false true = refl
+by_kinds c false false false false false false = refl
+
+pub kinds_put : (p : PackedMen) (k : ℕ)
+    → put_at p p.kings King k (put_at p p.queens Queen k (put_at p p.rooks Rook k (put_at p p.bishops Bishop k
+    (put_at p p.knights Knight k (put_at p p.pawns Pawn k None)))))
+    ≡ man_in p k
+unfolding man_in
+kinds_put p k =
+    by_kinds (colour_in p k) (contains p.kings k) (contains p.queens k) (contains p.rooks k) (contains p.bishops k)
+    (contains p.knights k) (contains p.pawns k)
+
+-- pieces that are on each square as the sets say are those of the sets
+pub men_all : (p : PackedMen) (men : Men) → length men ≡ 64 → ((k : ℕ) → k < 64 → man_at men k ≡ man_in p k)
+    → men ≡ men_in p
 unfolding men_in
-men_all p men left none h =
-    ext_get_or None men (from_below 64 (man_in p)) (h.board ∙ sym (length-from_below 64 (man_in p)))
-    (λ k l. let low : k < 64 = omega (arith, l, h.board) in
-    h.there k low (none_there left k low none) ∙ sym (get_or-from_below 64 (man_in p) k None low))
+men_all p men board h =
+    ext_get_or None men (from_below 64 (man_in p)) (board ∙ sym (length-from_below 64 (man_in p)))
+    (λ k l. let low : k < 64 = omega (arith, l, board) in
+    h k low ∙ sym (get_or-from_below 64 (man_in p) k None low))
+
+-- no piece stands on a board before any is put there
+pub none_put : (k : ℕ) → k < 64 → man_at (replicate 64 None) k ≡ None
+none_put k low = get_or-replicate 64 k None None low

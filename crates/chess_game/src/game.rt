@@ -324,6 +324,7 @@ impl<B: Board> Game<B> {
     }
 
     /// The position from which the game starts.
+    #[inline(always)]
     pub fn start(&self) -> Position
         ensures { result ≡ self.now.state.start }
     {
@@ -354,16 +355,26 @@ impl<B: Board> Game<B> {
         self.board.position()
     }
 
+    // The packed position after the first `ply` half-moves; at 0 the start.
+    #[inline(always)]
+    fn packed_at(&self, ply: usize) -> &PackedPosition
+        requires { ply ≤ length self.now.state.moves }
+        ensures { result.now ≡ position_after self.now.state.start (take ply self.now.state.moves) }
+    {
+        if ply == 0 {
+            &self.start.position
+        } else {
+            &self.played_moves[ply - 1].reached.position
+        }
+    }
+
     /// The position after the first `ply` half-moves; at 0 the start.
+    #[inline(always)]
     pub fn position_at(&self, ply: usize) -> Position
         requires { ply ≤ length self.now.state.moves }
         ensures { result ≡ position_after self.now.state.start (take ply self.now.state.moves) }
     {
-        if ply == 0 {
-            self.start.position.unpacked()
-        } else {
-            self.played_moves[ply - 1].reached.position.unpacked()
-        }
+        self.packed_at(ply).unpacked()
     }
 
     /// How many half-moves the game has.

@@ -1,13 +1,13 @@
 //! Positions whose pieces are packed into sets of squares: seven numbers in place of 64 squares.
 
-ghost use Rattle.std.specs.Prelude.{◌≡◌, ℕ, ◌<◌, ◌&&◌, ◌||◌, not, false, None};
+ghost use Rattle.std.specs.Prelude.{◌≡◌, ℕ, ◌<◌, ◌&&◌, ◌||◌, not, length};
 ghost use Rattle.chess_base.specs.Men.{is_of, man_at};
 ghost use Rattle.chess_base.specs.Sound.{IsSound};
 ghost use Rattle.chess_base.specs.declared.man.Colour.TheVariants.{White};
 ghost use Rattle.chess_moves.specs.Sets.{contains};
 ghost use Rattle.chess_game.specs.Ends.{is_kind};
 ghost use Rattle.chess_game.specs.Same.{same_man, same_men};
-ghost use Rattle.chess_game.specs.ties.Packed.{ArePacked, colour_in, kind_in, man_in, men_in};
+ghost use Rattle.chess_game.specs.ties.Packed.{ArePacked, colour_in, men_in, put_at};
 ghost use Rattle.chess_game.specs.ties.PlayedMoves.{saved_with};
 
 use chess_base::{Colour, Kind, Man, Position, Rights, Saved, Setup, Square, Variant};
@@ -82,27 +82,6 @@ impl PackedMen {
         }
     }
 
-    // The kind of the piece on this square, if there is one.
-    fn kind_at(&self, square: Square) -> Option<Kind>
-        ensures { result ≡ kind_in self.now square }
-    {
-        if self.kings.contains(square) {
-            Some(Kind::King)
-        } else if self.queens.contains(square) {
-            Some(Kind::Queen)
-        } else if self.rooks.contains(square) {
-            Some(Kind::Rook)
-        } else if self.bishops.contains(square) {
-            Some(Kind::Bishop)
-        } else if self.knights.contains(square) {
-            Some(Kind::Knight)
-        } else if self.pawns.contains(square) {
-            Some(Kind::Pawn)
-        } else {
-            None
-        }
-    }
-
     // The colour of the piece on this square; Black also if the square is empty.
     fn colour_at(&self, square: Square) -> Colour
         ensures { result ≡ colour_in self.now square }
@@ -114,37 +93,35 @@ impl PackedMen {
         }
     }
 
-    // The piece on this square, or none.
-    #[tactic(auto, unfolding(crate::specs::ties::Packed::man_in))]
-    fn man_at(&self, square: Square) -> Option<Man>
-        ensures { result ≡ man_in self.now square }
+    // Puts a piece of this kind on each square of the set, in the colour that these sets have for the square.
+    #[inline(always)]
+    fn put_kind(&self, men: &mut [Option<Man>; 64], set: SquareSet, kind: Kind)
+        ensures length { length men.new ≡ 64 }
+        ensures each { (k : ℕ) → k < 64 → man_at men.new k ≡ put_at self.now set kind k (man_at men.old k) }
     {
-        let kind = self.kind_at(square)?;
-        let colour = self.colour_at(square);
-        Some(Man { colour, kind })
-    }
-
-    // The squares of all pieces.
-    fn occupied(&self) -> SquareSet
-        ensures { (k : ℕ) → contains result k ≡ false → man_in self.now k ≡ None }
-    {
-        self.kings
-            .union(self.queens)
-            .union(self.rooks)
-            .union(self.bishops)
-            .union(self.knights)
-            .union(self.pawns)
+        let mut left = set;
+        // The compiler drops the loop for a caller that uses no piece, since it sees a limit of 64 turns.
+        for _turn in 0..64u8 {
+            let Some(square) = left.take_first() else {
+                return;
+            };
+            let colour = self.colour_at(square);
+            men[square.index()] = Some(Man { colour, kind });
+        }
     }
 
     // The pieces on all 64 squares, from a1 to h8.
+    #[inline(always)]
     fn unpacked(&self) -> [Option<Man>; 64]
         ensures { result ≡ men_in self.now }
     {
         let mut men = [None; 64];
-        let mut left = self.occupied();
-        while let Some(square) = left.take_first() {
-            men[square.index()] = self.man_at(square);
-        }
+        self.put_kind(&mut men, self.pawns, Kind::Pawn);
+        self.put_kind(&mut men, self.knights, Kind::Knight);
+        self.put_kind(&mut men, self.bishops, Kind::Bishop);
+        self.put_kind(&mut men, self.rooks, Kind::Rook);
+        self.put_kind(&mut men, self.queens, Kind::Queen);
+        self.put_kind(&mut men, self.kings, Kind::King);
         men
     }
 
@@ -236,6 +213,7 @@ impl PackedPosition {
     }
 
     /// The position with its pieces by squares again.
+    #[inline(always)]
     pub(crate) fn unpacked(&self) -> Position
         ensures { result ≡ self.now }
     {
@@ -283,11 +261,10 @@ impl PackedPosition {
     pub(crate) fn saved(&self, captured: Option<Man>) -> Saved
         ensures { result ≡ saved_with self.now captured }
     {
-        let target = self.target;
         Saved {
             captured,
             rights: self.rights,
-            target,
+            target: self.target,
             halfmove: self.halfmove,
             fullmove: self.fullmove,
         }

@@ -98,7 +98,7 @@ impl<B: Board> MatchGame for Game<B> {
     // Which side moves first: the one on move in the game's start.
     #[tactic(auto, unfolding(crate::specs::Rules::rules_of))]
     fn first(&self) -> Colour {
-        self.start().side()
+        self.start_side()
     }
 
     // Whether the start is sent to the engines by `setboard`: it is not if it is the initial position of normal chess.
@@ -110,7 +110,7 @@ impl<B: Board> MatchGame for Game<B> {
     // The variant of the start.
     #[tactic(auto, unfolding(crate::specs::Rules::rules_of))]
     fn variant(&self) -> Variant {
-        self.start().variant()
+        Game::variant(self)
     }
 
     // Whether the game has as many half-moves as its limit allows, so that no move can be played any more.

@@ -40,6 +40,11 @@ man_in p s = man_of (colour_in p s) (kind_in p s)
 unfoldable pub men_in : PackedMen → Men
 men_in p = from_below 64 (man_in p)
 
+-- the content of square s once a piece of this kind was put on each square of the set w, in the colour that the packed
+-- sets p have for the square; o is the content before
+abbrev pub put_at : PackedMen → ℕ → Kind → ℕ → Option Man → Option Man
+put_at p w kind s o = if contains w s then Some (record { colour = colour_in p s; kind = kind }) else o
+
 -- the sets have square s as the content o of that square wants it: White's set if o is white, a kind's set if o is of
 -- that kind
 pub record IsPackedAt (p : PackedMen) (s : ℕ) (o : Option Man) : Type 0 where

@@ -1,17 +1,19 @@
--- Each turn writes one square (men_more of Unpacked); at the end all are written (men_all).
-use Rattle.std.proofs.Common.{◌<◌, subst}
-use Rattle.chess_game.proofs.Unpacked.{men_none, men_more, men_all}
+-- The pieces are put on the empty board kind by kind (kinds_put of Unpacked).
+use Rattle.std.proofs.Common.{ap, ◌∙◌}
+use Rattle.chess_base.specs.declared.man.Kind.TheVariants.{King, Queen, Rook, Bishop, Knight, Pawn}
+use Rattle.chess_game.specs.ties.Packed.{put_at}
+use Rattle.chess_game.proofs.Unpacked.{none_put, kinds_put, men_all}
 use Rattle.chess_game.proofs.packed.PackedMen.unpacked.Goals as goal
 
-pub loop-square-init : goal.loop-square-init
-loop-square-init c = men_none c.args.self.now c.occupied-left.result c.occupied-left.ensures
-
-pub loop-square-preserved : goal.loop-square-preserved
-loop-square-preserved c =
-    men_more c.args.self.now c.loop-square.men c.loop-square.left c.take_first.new.self c.index.result c.in-Some.square
-    c.man_at.result c.index.ensures.value
-    (subst (λ n. n < 64) c.index.ensures.value c.index.ensures.in_range)
-    c.in-Some.ensures c.man_at.ensures c.loop-square.invariant
-
 pub returns : goal.returns
-returns c = men_all c.args.self.now c.loop-square.men c.loop-square.left c.in_default.ensures.0 c.loop-square.invariant
+returns c =
+    let p = c.args.self.now in
+    men_all p c.put_kind-6.new.men c.put_kind-6.ensures.length
+    (λ k low. c.put_kind-6.ensures.each k low
+    ∙ ap (put_at p p.kings King k) (c.put_kind-5.ensures.each k low
+    ∙ ap (put_at p p.queens Queen k) (c.put_kind-4.ensures.each k low
+    ∙ ap (put_at p p.rooks Rook k) (c.put_kind-3.ensures.each k low
+    ∙ ap (put_at p p.bishops Bishop k) (c.put_kind-2.ensures.each k low
+    ∙ ap (put_at p p.knights Knight k) (c.put_kind.ensures.each k low
+    ∙ ap (put_at p p.pawns Pawn k) (none_put k low))))))
+    ∙ kinds_put p k)
