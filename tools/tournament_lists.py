@@ -15,6 +15,7 @@ import needed
 GIVEN = ("--white", "--black", "--games", "--fen", "--log")
 INITIAL = "rnbqkbnr/pppppppp/8/8/8/8/PPPPPPPP/RNBQKBNR w KQkq - 0 1"
 DEFAULT_LEVEL = "40 5 0"
+MOST_NAME = 60  # characters
 LONG_GAME = 100  # The moves of a game that --timeout should allow.
 GAMES_HEAD = "game\tround\twhite\tblack"
 
@@ -106,8 +107,8 @@ def read_engine(source, line):
     engine = Engine(source, line, name.strip(), command.strip())
     if not engine.given.isprintable() or not engine.command.isprintable():
         return engine, "more than one tab, or another control character; a line is NAME<tab>COMMAND or COMMAND"
-    if len(engine.given) > 60:
-        return engine, "a name of more than 60 characters"
+    if len(engine.given) > MOST_NAME:
+        return engine, f"a name of more than {MOST_NAME} characters"
     return engine, None
 
 
@@ -140,9 +141,9 @@ def session_commands(line, variant):
 
 
 def session(commands):
-    """Returns the lines that a session answers."""
-    text = "\n".join(commands) + "\n"
-    run = subprocess.run(["arbiter"], input=text, stdout=subprocess.PIPE, encoding="utf-8", errors="replace")
+    """Returns the lines that a session answers. Ctrl-C does not reach it."""
+    how = {"encoding": "utf-8", "errors": "replace", "start_new_session": True}
+    run = subprocess.run(["arbiter"], input="\n".join(commands) + "\n", stdout=subprocess.PIPE, **how)
     if run.returncode != 0:
         needed.stop(f"arbiter ended with status {run.returncode}")
     return run.stdout.splitlines()
@@ -329,7 +330,7 @@ def name_engines(folder, engines, own_names):
         if number < len(kept):
             engine.name = kept[number]
         else:
-            wanted = engine.given or own_names[engine.command] or engine.command
+            wanted = engine.given or (own_names[engine.command] or engine.command)[:MOST_NAME]
             engine.name = free_name(wanted, taken)
             if engine.name != wanted:
                 report(f"warning: {engine.source}: another engine is named '{wanted}': this one is '{engine.name}'")

@@ -69,6 +69,8 @@ class Run:
         with os.fdopen(reader) as stdin:
             self.process = subprocess.Popen(words, stdin=stdin, stdout=output, stderr=errors, start_new_session=True)
         STOP.runs.add(self)
+        if STOP.at:
+            self.ask_to_end()
 
     def ask_to_end(self):
         # A list gives each entry once, also to threads and a signal's handler.
@@ -298,9 +300,13 @@ class Player:
         except OSError as fault:
             report(f"{fault.filename or self.folder} can't be written: {fault.strerror}")
             STOP.now()
-        with self.changed:
-            self.workers -= 1
-            self.changed.notify_all()
+        except BaseException:
+            STOP.now()
+            raise
+        finally:
+            with self.changed:
+                self.workers -= 1
+                self.changed.notify_all()
 
     def next_game(self, host):
         """Returns the next game for a host; None if there is none, nor may be one."""
@@ -342,7 +348,7 @@ class Player:
     def put_back(self, host, game):
         """Puts a game that was not played back into the queue, unless it was tried often enough."""
         self.tries[game.number] += 1
-        reason = last_words(read_game(self.folder, "running", game)[1]) or "it was ended from outside"
+        reason = last_words(read_game(self.folder, game)[1]) or "it was ended from outside"
         again = self.tries[game.number] < self.most_tries
         host.is_suspect = not host.is_here
         if again:

@@ -142,10 +142,16 @@ def read_text(path):
     return path.read_text(encoding="latin-1") if path.exists() else ""
 
 
-def read_game(folder, place, game):
-    """Returns the text and the log of a game in `games` or `running`."""
-    path = folder / place / str(game.number)
-    return read_text(path), read_text(path.with_name(f"{path.name}.err"))
+def read_game(folder, game):
+    """Returns the text and the log of a game."""
+    return tuple(read_text(path) for path in records(folder, game))
+
+
+def records(folder, game):
+    """Returns the paths of a game's text and log: in `running` until they are moved to `games`."""
+    names = (str(game.number), f"{game.number}.err")
+    running = [folder / "running" / name for name in names]
+    return [path if path.exists() else folder / "games" / path.name for path in running]
 
 
 def outcomes(folder):
@@ -155,7 +161,7 @@ def outcomes(folder):
     found = {outcome.game.number: outcome for outcome in rows if outcome}
     for game in games.values():
         if game.number not in found and (folder / "games" / str(game.number)).exists():
-            outcome = judge(game, *read_game(folder, "games", game))
+            outcome = judge(game, *read_game(folder, game))
             if outcome:
                 found[game.number] = outcome
     return dict(sorted(found.items()))
@@ -163,16 +169,15 @@ def outcomes(folder):
 
 def collect(folder, game, date):
     """Moves a game that ended from running/ to games/, and returns its outcome; None if it was not played."""
-    text, errors = read_game(folder, "running", game)
+    text, errors = read_game(folder, game)
     outcome = judge(game, text, errors)
     if not outcome:
         return None
-    path = folder / "running" / str(game.number)
+    path, log = records(folder, game)
     if not match_records.written_games(text):
         path.write_text(rebuilt(match_records.logged_games(errors)[0], date), encoding="latin-1")
-    place = folder / "games" / path.name
-    path.with_name(f"{path.name}.err").replace(place.with_name(f"{place.name}.err"))
-    path.replace(place)
+    for record in (log, path):
+        record.replace(folder / "games" / record.name)
     return outcome
 
 
