@@ -350,7 +350,7 @@ class Player:
     def put_back(self, host, game):
         """Puts a game that was not played back into the queue, unless it was tried often enough."""
         self.tries[game.number] += 1
-        reason = last_words(read_game(self.folder, game)[1]) or "it was ended from outside"
+        reason = last_words(read_game(self.folder, game)[1]) or "its end was not reported"
         again = self.tries[game.number] < self.most_tries
         host.is_suspect = not host.is_here
         if again:
