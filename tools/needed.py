@@ -13,6 +13,14 @@ def stop(message):
     sys.exit(2)
 
 
+def command():
+    """Returns the command by which this script was started: the packages call tools/NAME arbiter-NAME."""
+    path = Path(sys.argv[0])
+    if path.resolve().parent.parts[-2:] == ("lib", "arbiter"):
+        return f"arbiter-{path.name.replace('_', '-')}"
+    return f"tools/{path.name}"
+
+
 def program(name):
     """Returns the path of a program: a name without a slash is looked up on the path."""
     found = shutil.which(name)
