@@ -12,6 +12,8 @@ import subprocess
 import tempfile
 from dataclasses import dataclass
 
+import needed
+
 MEBIBYTE = 2**20
 UNCUT = 256 * MEBIBYTE  # a text is given up if it has no cut in so many bytes
 
@@ -22,12 +24,12 @@ TAG_LINE = re.compile(rb'\[[A-Za-z0-9_]+[ \t]*"')
 EMPTY_LINE = re.compile(rb"[%;]|[ \t\r\n]*\Z")
 BRACKET = re.compile(rb"\n(?:" + MARK + rb")?\[")
 
-# The compressed forms: the program that unpacks each, Debian's package of it, and how such a file begins.
+# The compressed forms: the program that unpacks each, and how such a file begins.
 FORMS = {
-    ".gz": ("gzip", "gzip", b"\x1f\x8b"),
-    ".bz2": ("bzip2", "bzip2", b"BZh"),
-    ".xz": ("xz", "xz-utils", b"\xfd7zXZ\0"),
-    ".zst": ("zstd", "zstd", b"\x28\xb5\x2f\xfd"),
+    ".gz": ("gzip", b"\x1f\x8b"),
+    ".bz2": ("bzip2", b"BZh"),
+    ".xz": ("xz", b"\xfd7zXZ\0"),
+    ".zst": ("zstd", b"\x28\xb5\x2f\xfd"),
 }
 ARCHIVES = {"zip": b"PK\x03\x04", "7z": b"7z\xbc\xaf\x27\x1c", "rar": b"Rar!\x1a\x07"}
 UTF_16_MARKS = (b"\xff\xfe", b"\xfe\xff")
@@ -161,10 +163,10 @@ def blocks_of(descriptor):
         raise Unreadable(error.strerror) from None
 
 
-def unpacked_blocks(source, program, package):
+def unpacked_blocks(source, program):
     """Yields the bytes that a program unpacks from a descriptor."""
     if not shutil.which(program):
-        raise Unreadable(f"{program} is not on the path (Debian's package {package})")
+        raise Unreadable(f"{program} is not on the path{needed.package_of(program)}")
     with tempfile.TemporaryFile() as errors:
         how = {"stdin": source, "stdout": subprocess.PIPE, "stderr": errors, "start_new_session": True}
         process = subprocess.Popen([program, "-dc"], **how)
@@ -188,7 +190,7 @@ def first_message(program, errors):
 
 def refuse_no_text(beginning):
     """Raises Unreadable, with what to do, if what begins so is no text that can be verified."""
-    for ending, (program, _package, magic) in FORMS.items():
+    for ending, (program, magic) in FORMS.items():
         if beginning.startswith(magic):
             raise Unreadable(f"this is no text but compressed: name it *{ending}, or pipe it through {program} -dc")
     for kind, magic in ARCHIVES.items():
@@ -258,7 +260,7 @@ class File:
     def streamed(self, source, cutter):
         """Yields the parts that a cutter makes of a stream."""
         try:
-            for block in text_blocks(unpacked_blocks(source, *self.form[:2]) if self.form else blocks_of(source)):
+            for block in text_blocks(unpacked_blocks(source, self.form[0]) if self.form else blocks_of(source)):
                 self.position = os.lseek(source, 0, os.SEEK_CUR) if self.size else 0
                 yield from cutter.add(block)
             yield from cutter.finish()
