@@ -5,7 +5,11 @@ import re
 LOG_LINE = re.compile(r"(\d+) ([<>!])(first|second) ?: (.*)")
 RESULT_LINE = re.compile(r"result (1-0|0-1|1/2-1/2|\*) \{(.*)\}")
 FAULT_LINE = re.compile(r"arbiter: game (\d+): ((White|Black) .*)")
+# What tools/watch_engine writes.
+ENDED_LINE = re.compile(r"(first|second) engine: (exit status \d+|signal \w+)")
+WROTE_LINE = re.compile(r"(first|second) engine wrote: (.*)")
 SEATS = ("first", "second")
+HANDSHAKE = ("xboard", "protover 2")
 
 
 class WrittenGame:
@@ -41,10 +45,12 @@ class LoggedLine:
 
 
 class LoggedGame:
-    """A game of a log: its lines. The first line is the `xboard` sent to White."""
+    """A game of a log: its lines, what was reported of the engines' processes (how each ended, and the last lines of
+    its standard error), and other lines. The first line is the `xboard` sent to White."""
 
     def __init__(self, first_line):
         self.lines = [first_line]
+        self.ended, self.wrote, self.others = {}, {seat: [] for seat in SEATS}, []
 
     @property
     def white(self):
@@ -56,6 +62,22 @@ class LoggedGame:
 
     def seat(self, side):
         return self.white if side == "White" else SEATS[self.white == "first"]
+
+    def add_report(self, line):
+        """Takes a line that is no line of the log: one of tools/watch_engine, or what an engine wrote."""
+        ended, wrote = ENDED_LINE.fullmatch(line), WROTE_LINE.fullmatch(line)
+        if ended:
+            self.ended[ended[1]] = ended[2]
+        elif wrote:
+            self.wrote[wrote[1]].append(wrote[2])
+        elif not line.startswith(("arbiter: ", "tournament: ")):
+            self.others.append(line)
+
+    def start(self):
+        """Returns the session commands for the start of the game, as the engines were sent it."""
+        sent = [line.text for line in self.lines if line.mark == ">"]
+        commands = [text for text in sent if re.fullmatch("variant fischerandom|setboard .*", text)]
+        return sorted(set(commands), reverse=True)
 
     def end(self):
         """Returns the result and the reason that the engines were sent; (None, None) if the game did not end."""
@@ -77,6 +99,12 @@ class LoggedGame:
         times = (line for line in reversed(lines) if line.seat == before.seat and line.mark == ">")
         return next((line for line in times if re.fullmatch(r"time -?\d+", line.text)), None)
 
+    def own_name(self, seat):
+        """Returns what an engine calls itself in its features; an empty text if it doesn't."""
+        own = (line.text for line in self.lines if line.seat == seat and line.mark == "<")
+        names = re.findall(r'(?m)^feature .*\bmyname="([^"]*)"', "\n".join(own))
+        return names[-1].strip() if names else ""
+
 
 def written_games(text):
     """Returns the games of a match's PGN."""
@@ -89,6 +117,8 @@ def logged_games(text):
     for line in text.splitlines():
         fields = LOG_LINE.fullmatch(line)
         if not fields:
+            if games:
+                games[-1].add_report(line)
             continue
         line = LoggedLine(fields.groups())
         if line.mark == ">" and line.text == "xboard":
@@ -106,3 +136,13 @@ def fault(text):
     faults = [FAULT_LINE.fullmatch(line) for line in text.splitlines() if line.startswith("arbiter: ")]
     faults = [found for found in faults if found]
     return (int(faults[-1][1]), faults[-1][2]) if faults else None
+
+
+def is_handshake(line):
+    """Says whether an engine that does not answer this line may not know the protocol."""
+    return line.text in HANDSHAKE
+
+
+def polyglot_hint(command):
+    """Returns how a UCI engine is started."""
+    return f"a UCI engine plays through polyglot: polyglot -noini -ec {command}"
