@@ -4,6 +4,7 @@ A host plays a game by tools/play_game, here as a process of this script, elsewh
 reports neither a game when it ends nor a host when it dies, and starting a job takes it longer than two stubs play.
 """
 
+import contextlib
 import os
 import re
 import shlex
@@ -74,16 +75,19 @@ class Run:
 
     def ask_to_end(self):
         # A list gives each entry once, also to threads and a signal's handler.
-        try:
+        with contextlib.suppress(IndexError):
             os.close(self.inputs.pop())
-        except IndexError:
-            pass
+
+    def end(self):
+        """Asks the script to end, and ends it if it doesn't."""
+        self.ask_to_end()
+        time.sleep(END_SECONDS)
+        self.kill()
 
     def kill(self):
-        try:
-            os.killpg(self.process.pid, signal.SIGKILL)
-        except ProcessLookupError:
-            pass
+        with contextlib.suppress(ProcessLookupError):
+            if self.process.returncode is None:
+                os.killpg(self.process.pid, signal.SIGKILL)
 
     def wait(self):
         self.process.wait()
@@ -92,18 +96,16 @@ class Run:
 
 
 def captured(words, seconds):
-    """Returns what a script on a host writes to standard output and error, and whether it ended in time."""
+    """Returns what a script on a host writes to standard output and error; it is ended after so many seconds."""
     run = Run(words, subprocess.PIPE, subprocess.PIPE)
-    watch = threading.Timer(seconds, run.kill)
+    watch = threading.Timer(seconds, run.end)
     watch.start()
-    with ThreadPoolExecutor(2) as readers:
-        streams = [run.process.stdout, run.process.stderr]
-        output, errors = readers.map(lambda stream: stream.read().decode("latin-1"), streams)
+    with run.process.stdout, run.process.stderr, ThreadPoolExecutor(1) as reader:
+        errors = reader.submit(run.process.stderr.read)
+        found = run.process.stdout.read(), errors.result()
     run.wait()
     watch.cancel()
-    for stream in streams:
-        stream.close()
-    return output, errors
+    return tuple(text.decode("latin-1") for text in found)
 
 
 # Hosts

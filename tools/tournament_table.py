@@ -19,6 +19,8 @@ RESULTS_HEAD = "game\twhite\tblack\tresult\tend\tfault\tside\treason"
 COLOURS = {"first": "White", "second": "Black"}
 MOST_FAULT_LINES = 20
 
+FROM_OUTSIDE = ("signal SIGHUP", "signal SIGINT", "signal SIGTERM")
+
 # The kinds of faults by which an engine loses a game, in the order of the table's columns.
 KINDS = ("crash", "protocol", "timeout", "quit")
 RULES = ("illegal move", "moves out of turn", "false claim", "rejects a legal move", "rules infraction")
@@ -85,11 +87,14 @@ def finished(game, written, logged):
 
 
 def failed(game, written, logged, words):
-    """Judges a game that the match ended by a fault. A result that was not read by an engine holds all the same."""
+    """Judges a game that the match ended by a fault. A result that was not read by an engine holds all the same. An
+    engine that was ended from outside is not at fault."""
     side, _, what = words.partition(" ")
     if written and written[0].result != "*":
         return finished(game, written[0], logged)
     how = logged.ended.get(logged.seat(side))
+    if how in FROM_OUTSIDE:
+        return None
     kind = "crash" if what in CRASHES else "protocol"
     reason = f"{words}, {how}" if how and kind == "crash" else words
     return Outcome(game, "*", kind, reason, kind, (side,))
