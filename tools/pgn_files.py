@@ -62,8 +62,10 @@ def follows_moves(text, start):
 
 def next_cut(text, start, end):
     """Returns the first offset, from `start` on and before `end`, of a tag line after moves, or None."""
-    for found in BRACKET.finditer(text, start - 1, end):
+    for found in BRACKET.finditer(text, start - 1):
         cut = found.start() + 1
+        if cut >= end:
+            return None
         if TAG_LINE.match(front(text, cut)) and follows_moves(text, cut):
             return cut
     return None
