@@ -191,7 +191,7 @@ def first_message(program, errors):
 
 
 def refuse_no_text(beginning):
-    """Raises Unreadable, with what to do, if what begins so is no text that can be verified."""
+    """Raises Unreadable, with advice, if a file with this beginning is no text that can be verified."""
     for ending, (program, magic) in FORMS.items():
         if beginning.startswith(magic):
             raise Unreadable(f"this is no text but compressed: name it *{ending}, or pipe it through {program} -dc")
