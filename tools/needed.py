@@ -6,10 +6,25 @@ import shutil
 import sys
 from pathlib import Path
 
+# The packages of Debian in which programs are.
+PACKAGES = {
+    "bzip2": "bzip2",
+    "gzip": "gzip",
+    "parallel": "parallel",
+    "ssh": "openssh-client",
+    "xz": "xz-utils",
+    "zstd": "zstd",
+}
+
+
+def package_of(name):
+    """Returns a note on the package in which a program is, or an empty text if it is not known."""
+    return f" (Debian's package {PACKAGES[name]})" if name in PACKAGES else ""
+
 
 def stop(message):
     """Ends the script: it can't do what it was asked for."""
-    print(f"{Path(sys.argv[0]).name}: {message}", file=sys.stderr)
+    print(f"{Path(command()).name}: {message}", file=sys.stderr)
     sys.exit(2)
 
 
@@ -25,7 +40,7 @@ def program(name):
     """Returns the path of a program: a name without a slash is looked up on the path."""
     found = shutil.which(name)
     if not found:
-        stop(f"{name} is no program that can be run" if "/" in name else f"{name} is not on the path")
+        stop(f"{name} is no program that can be run" if "/" in name else f"{name} is not on the path{package_of(name)}")
     return os.path.abspath(found)
 
 
