@@ -233,7 +233,8 @@ def rated_pgn(outcome, text, faults):
         return text
     text = with_tags(text, {"Result": counts, "Termination": "abandoned"})
     head, separator, movetext = text.rstrip("\n").partition("\n\n")
-    moves = "" if is_board_verdict(outcome.reason) else re.sub(r"\S+\Z", "", movetext)
+    is_other = counts != outcome.result and is_board_verdict(outcome.reason)
+    moves = "" if is_other else re.sub(r"\S+\Z", "", movetext)
     return f"{head}{separator}{moves}{counts}\n\n"
 
 
@@ -265,22 +266,6 @@ class Row:
         return cells + [sum(self.faults.values()), *(self.faults[kind] for kind in kinds), self.time, self.rules]
 
 
-def add_outcome(rows, outcome, faults):
-    """Counts a game for both of its engines."""
-    white, black = rows[outcome.game.white], rows[outcome.game.black]
-    for engine in outcome.at_fault():
-        rows[engine].faults[outcome.fault] += 1
-    points = {"1-0": 1, "0-1": 0, "1/2-1/2": 0.5}.get(outcome.counts(faults))
-    if points is None:
-        return
-    white.add(black.engine, points)
-    black.add(white.engine, 1 - points)
-    loser = {1: black, 0: white}.get(points)
-    if loser and not outcome.fault:
-        loser.time += outcome.end == "time"
-        loser.rules += outcome.end in RULES
-
-
 def aligned(head, body):
     """Returns the lines of a table: the second column is set left, all others right."""
     rows = [[str(cell) for cell in row] for row in [head, *body]]
@@ -292,35 +277,56 @@ def aligned(head, body):
     return texts
 
 
-def standings(names, found, faults):
-    """Returns the lines of the table, the engine with most points first."""
-    rows = {name: Row(name) for name in names}
-    for outcome in found.values():
-        add_outcome(rows, outcome, faults)
-    ordered = sorted(rows.values(), key=lambda row: -row.points)
-    kinds = [kind for kind in KINDS if any(row.faults[kind] for row in ordered)]
-    head = ["", "engine", "points", "games", "won", "drawn", "lost", "%", "faults", *kinds, "time", "rules"]
-    body = []
-    for number, row in enumerate(ordered, 1):
-        against = ("{:g}/{}".format(*row.against.get(other.engine, (0, 0))) for other in ordered)
-        cross = ["-" if other is row else cell for other, cell in zip(ordered, against)]
-        body.append([number, row.engine, *row.cells(kinds), *cross])
-    return aligned([*head, *range(1, len(ordered) + 1)], body)
+class Table:
+    """The table of a tournament: a row for each engine, the ends of the games, and what each fault was."""
 
+    def __init__(self, names, faults):
+        self.faults, self.rows = faults, {name: Row(name) for name in names}
+        self.ends, self.faulty = Counter(), []
 
-def table_text(names, total, found, faults):
-    """Returns the lines of the whole table: standings, ends, and what each fault was."""
-    ends = Counter(outcome.end for outcome in found.values())
-    kinds = ", ".join(f"{kind} {number}" for kind, number in ends.most_common())
-    count = f"{len(found)} of {total} games" + (f": {kinds}" if kinds else "")
-    text = standings(names, found, faults) + ["", count]
-    faulty = [outcome for outcome in found.values() if outcome.fault]
-    for outcome in faulty[:MOST_FAULT_LINES]:
-        game = outcome.game.number
-        text.append(f"game {game}: {' and '.join(outcome.at_fault())}: {outcome.reason} (games/{game}.err)")
-    if len(faulty) > MOST_FAULT_LINES:
-        text.append(f"and {len(faulty) - MOST_FAULT_LINES} more faults: see results.tsv")
-    return text
+    def add(self, outcome):
+        """Counts a game."""
+        self.ends[outcome.end] += 1
+        if outcome.fault:
+            self.faulty.append(outcome)
+        for engine in outcome.at_fault():
+            self.rows[engine].faults[outcome.fault] += 1
+        points = {"1-0": 1, "0-1": 0, "1/2-1/2": 0.5}.get(outcome.counts(self.faults))
+        if points is not None:
+            self.add_points(outcome, points)
+
+    def add_points(self, outcome, points):
+        """Counts the points of a game for both engines, and what it was lost by."""
+        white, black = self.rows[outcome.game.white], self.rows[outcome.game.black]
+        white.add(black.engine, points)
+        black.add(white.engine, 1 - points)
+        loser = {1: black, 0: white}.get(points)
+        if loser and not outcome.fault:
+            loser.time += outcome.end == "time"
+            loser.rules += outcome.end in RULES
+
+    def standings(self):
+        """Returns the lines of the rows, the engine with most points first."""
+        ordered = sorted(self.rows.values(), key=lambda row: -row.points)
+        kinds = [kind for kind in KINDS if any(row.faults[kind] for row in ordered)]
+        head = ["", "engine", "points", "games", "won", "drawn", "lost", "%", "faults", *kinds, "time", "rules"]
+        body = []
+        for number, row in enumerate(ordered, 1):
+            against = ("{:g}/{}".format(*row.against.get(other.engine, (0, 0))) for other in ordered)
+            cross = ["-" if other is row else cell for other, cell in zip(ordered, against)]
+            body.append([number, row.engine, *row.cells(kinds), *cross])
+        return aligned([*head, *range(1, len(ordered) + 1)], body)
+
+    def lines(self, total):
+        """Returns the lines of the whole table."""
+        kinds = ", ".join(f"{kind} {number}" for kind, number in self.ends.most_common())
+        text = [*self.standings(), "", f"{self.ends.total()} of {total} games" + (f": {kinds}" if kinds else "")]
+        for outcome in self.faulty[:MOST_FAULT_LINES]:
+            game = outcome.game.number
+            text.append(f"game {game}: {' and '.join(outcome.at_fault())}: {outcome.reason} (games/{game}.err)")
+        if len(self.faulty) > MOST_FAULT_LINES:
+            text.append(f"and {len(self.faulty) - MOST_FAULT_LINES} more faults: see results.tsv")
+        return text
 
 
 class Book:
@@ -331,12 +337,20 @@ class Book:
 
     def __init__(self, folder, total):
         self.folder, self.total = folder, total
-        self.names, self.faults = kept_names(folder), kept_options(folder)[1]
+        self.faults = kept_options(folder)[1]
         self.found = outcomes(folder)
+        self.count()
+
+    def count(self):
+        """Makes the table of the games in the order of their numbers."""
+        self.found = dict(sorted(self.found.items()))
+        self.counted = Table(kept_names(self.folder), self.faults)
+        for outcome in self.found.values():
+            self.counted.add(outcome)
 
     def write_all(self):
         """Writes the files anew, with the games in the order of their numbers."""
-        self.found = dict(sorted(self.found.items()))
+        self.count()
         write_lines(self.folder / "results.tsv", [RESULTS_HEAD, *(outcome.row() for outcome in self.found.values())])
         parts = [self.pgn(outcome) for outcome in self.found.values()]
         for name, texts in zip(("games.pgn", "rated.pgn"), zip(*parts) if parts else ((), ())):
@@ -353,6 +367,7 @@ class Book:
     def add(self, outcome):
         """Adds the outcome of a game that has just ended."""
         self.found[outcome.game.number] = outcome
+        self.counted.add(outcome)
         for name, text in zip(("games.pgn", "rated.pgn"), self.pgn(outcome)):
             with open(self.folder / name, "a", encoding="latin-1") as file:
                 file.write(text)
@@ -364,7 +379,7 @@ class Book:
         write_lines(self.folder / "table.txt", self.table())
 
     def table(self):
-        return table_text(self.names, self.total, self.found, self.faults)
+        return self.counted.lines(self.total)
 
     def line(self, outcome):
         """Returns the line that is shown when a game ends."""
