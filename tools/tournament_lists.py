@@ -304,15 +304,18 @@ def write_lines(path, content):
 
 
 def keep(folder, lists, games):
-    """Keeps the lists in the folder: first that of the games, by which the folder is known."""
+    """Keeps the lists in the folder. The list of the games, by which the folder is known, is written in full when all
+    that it names is there."""
     for name in ("games", "running"):
         (folder / name).mkdir(parents=True, exist_ok=True)
-    rows = [f"{game.number}\t{game.round}\t{game.white}\t{game.black}" for game in games]
-    write_lines(folder / "games.tsv", [GAMES_HEAD, *rows])
-    write_lines(folder / "engines.txt", [engine.line for engine in lists.engines])
+    if not (folder / "games.tsv").exists():
+        write_lines(folder / "games.tsv", [GAMES_HEAD])
     write_lines(folder / "names.txt", [engine.name for engine in lists.engines])
+    write_lines(folder / "engines.txt", [engine.line for engine in lists.engines])
     write_lines(folder / "openings.txt", lists.openings)
     write_lines(folder / "options.txt", [f"--faults={lists.faults}", *lists.kept_options()])
+    rows = [f"{game.number}\t{game.round}\t{game.white}\t{game.black}" for game in games]
+    write_lines(folder / "games.tsv", [GAMES_HEAD, *rows])
 
 
 # Names

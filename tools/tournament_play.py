@@ -18,7 +18,7 @@ from concurrent.futures import ThreadPoolExecutor
 from pathlib import Path
 
 import match_records
-from tournament_lists import INITIAL, refuse, report, show
+from tournament_lists import INITIAL, refuse, report, show, without_date
 from tournament_table import CRASHES, STATUS, TIMED_OUT, collect, read_game
 
 TOOLS = Path(__file__).resolve().parent
@@ -219,40 +219,39 @@ def game_words(host, seconds, quit_seconds, pair, opening, options):
     return host.words(scripts[0], str(seconds), str(quit_seconds), scripts[1], *pair, "--fen", opening, *options)
 
 
-def trial_opening(openings, options):
-    """Returns an opening that an engine must be sent by `setboard`, if there is one."""
-    return next((fen for fen in openings if fen != INITIAL), openings[0])
+def trials_of(hosts, lists, seconds):
+    """Returns each engine's trials by host. The opening is one that an engine must be sent by `setboard`, if there is
+    one."""
+    engines = {engine.command: engine for engine in lists.engines}.values()
+    opening = next((fen for fen in lists.openings if fen != INITIAL), lists.openings[0])
+    with ThreadPoolExecutor(min(MOST_TRIALS, sum(host.slots for host in hosts))) as pool:
+        asked = [
+            (engine, {host: pool.submit(try_engine, host, engine, opening, lists.options, seconds) for host in hosts})
+            for engine in engines
+        ]
+    return [(engine, {host: trial.result() for host, trial in trials.items()}) for engine, trials in asked]
 
 
 def try_engines(hosts, lists, seconds):
     """Tries each engine on each host. An engine that plays nowhere is refused; a host on which an engine does not play
     that plays elsewhere is left out. Returns the other hosts, and by command what the engines call themselves."""
-    engines = list({engine.command: engine for engine in lists.engines}.values())
-    opening = trial_opening(lists.openings, lists.options)
-    with ThreadPoolExecutor(min(MOST_TRIALS, sum(host.slots for host in hosts))) as pool:
-        asked = {
-            (engine.command, host): pool.submit(try_engine, host, engine, opening, lists.options, seconds)
-            for engine in engines
-            for host in hosts
-        }
-    trials = {key: future.result() for key, future in asked.items()}
+    refusals, names, left_out = [], {}, {}
+    tried = trials_of(hosts, lists, seconds)
     if STOP.at:
         return [], {}
-    refusals, names, left_out = [], {}, set()
-    for engine in engines:
-        own = {host: trials[engine.command, host] for host in hosts}
-        good = [host for host in hosts if not own[host].fault]
+    for engine, trials in tried:
+        label = engine.given or engine.command
+        good = [trial for trial in trials.values() if not trial.fault]
         if not good:
-            refusals.append(f"{engine.source}: {engine.given or engine.command}: {own[hosts[0]].fault}")
+            refusals.append(f"{engine.source}: {label}: {trials[hosts[0]].fault}")
             continue
-        names[engine.command] = own[good[0]].name
-        if own[good[0]].warning:
-            report(f"warning: {engine.source}: {engine.given or engine.command} {own[good[0]].warning}")
-        for host in hosts:
-            if own[host].fault and host not in left_out:
-                report(f"host {host.label} is left out: {engine.command}: {own[host].fault}")
-                left_out.add(host)
+        names[engine.command] = good[0].name
+        if good[0].warning:
+            report(f"warning: {engine.source}: {label} {good[0].warning}")
+        left_out |= {host: f"{label}: {trial.fault}" for host, trial in trials.items() if trial.fault}
     refuse(refusals)
+    for host, why in left_out.items():
+        report(f"host {host.label} is left out: {why}")
     return [host for host in hosts if host not in left_out], names
 
 
@@ -323,7 +322,7 @@ class Player:
     def start(self, host, game):
         engines = {engine.name: engine for engine in self.lists.engines}
         pair = [engines[name].command for name in (game.white, game.black)]
-        opening, options = self.lists.openings[game.opening], [*self.lists.options, "--date", self.date]
+        opening, options = self.lists.openings[game.opening], [*without_date(self.lists.options), "--date", self.date]
         words = game_words(host, self.timeout, QUIT_SECONDS, pair, opening, options)
         path = self.folder / "running" / str(game.number)
         with open(path, "wb") as output, open(path.with_name(f"{path.name}.err"), "wb") as errors:
@@ -350,7 +349,7 @@ class Player:
     def put_back(self, host, game):
         """Puts a game that was not played back into the queue, unless it was tried often enough."""
         self.tries[game.number] += 1
-        reason = last_words(read_game(self.folder, game)[1]) or "it was ended from outside"
+        reason = last_words(read_game(self.folder, game)[1]) or "its end was not reported"
         again = self.tries[game.number] < self.most_tries
         host.is_suspect = not host.is_here
         if again:
