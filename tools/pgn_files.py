@@ -233,11 +233,15 @@ class File:
         self.form = FORMS.get(os.path.splitext(name)[1].lower())
         self.size, self.position = size_of(name), 0  # in bytes, of the file as it is
 
+    def is_plain(self):
+        """Returns whether it is a file with a text that is not compressed."""
+        return self.size is not None and not self.form
+
     def parts(self, least, counts_lines):
         """Yields the parts of its text, of `least` bytes or more; then raises Unreadable if it was not read whole."""
         source = 0 if self.name == "-" else self.open()
         try:
-            if self.size and not self.form and os.lseek(source, 0, os.SEEK_CUR) == 0:
+            if self.size and self.is_plain() and os.lseek(source, 0, os.SEEK_CUR) == 0:
                 yield from self.mapped(source, least, counts_lines)
             else:
                 yield from self.streamed(source, Cutter(least, counts_lines or self.form is not None))
