@@ -210,7 +210,8 @@ def try_engine(host, engine, opening, options, seconds):
     pair = [STUB, engine.command] if opening.split()[1] == "w" else [engine.command, STUB]
     seat = match_records.SEATS[pair.index(engine.command)]
     words = game_words(host, seconds, TRIAL_QUIT_SECONDS, pair, opening, options)
-    return Trial(engine, seat, captured(words, seconds + READY_SECONDS)[1], seconds)
+    errors = "" if STOP.at else captured(words, seconds + READY_SECONDS)[1]
+    return Trial(engine, seat, errors, seconds)
 
 
 def game_words(host, seconds, quit_seconds, pair, opening, options):

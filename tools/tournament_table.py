@@ -165,7 +165,7 @@ def outcomes(folder):
     rows = (read_row(row, games) for row in lines(folder / "results.tsv")[1:])
     found = {outcome.game.number: outcome for outcome in rows if outcome}
     for game in games.values():
-        if game.number not in found and (folder / "games" / str(game.number)).exists():
+        if game.number not in found and records(folder, game)[0].exists():
             outcome = judge(game, *read_game(folder, game))
             if outcome:
                 found[game.number] = outcome
