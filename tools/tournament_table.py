@@ -19,8 +19,6 @@ RESULTS_HEAD = "game\twhite\tblack\tresult\tend\tfault\tside\treason"
 COLOURS = {"first": "White", "second": "Black"}
 MOST_FAULT_LINES = 20
 
-FROM_OUTSIDE = ("signal SIGHUP", "signal SIGINT", "signal SIGTERM")
-
 # The kinds of faults by which an engine loses a game, in the order of the table's columns.
 KINDS = ("crash", "protocol", "timeout", "quit")
 RULES = ("illegal move", "moves out of turn", "false claim", "rejects a legal move", "rules infraction")
@@ -68,10 +66,11 @@ def read_row(row, games):
 
 
 def judge(game, text, errors):
-    """Returns a game's outcome; None if it was not played to its end: then its host had trouble."""
+    """Returns a game's outcome; None if it was not played to its end: then its host had trouble. Once tools/play_game
+    ends a game, the engines do nothing any more that counts."""
     statuses = STATUS.findall(errors)
     status = int(statuses[-1]) if statuses else None
-    written, logged = match_records.written_games(text), match_records.logged_games(errors)
+    written, logged = match_records.written_games(text), match_records.logged_games(ENDED_AFTER.split(errors)[0])
     if status == 0 and written and logged and "\nscore " in text:
         return finished(game, written[0], logged[0])
     if status == 1 and match_records.fault(errors) and logged:
@@ -87,22 +86,22 @@ def finished(game, written, logged):
 
 
 def failed(game, written, logged, words):
-    """Judges a game that the match ended by a fault. A result that was not read by an engine holds all the same. An
-    engine that was ended from outside is not at fault."""
+    """Judges a game that the match ended by a fault. A result that was not read by an engine holds all the same."""
     side, _, what = words.partition(" ")
     if written and written[0].result != "*":
         return finished(game, written[0], logged)
     how = logged.ended.get(logged.seat(side))
-    if how in FROM_OUTSIDE:
-        return None
     kind = "crash" if what in CRASHES else "protocol"
     reason = f"{words}, {how}" if how and kind == "crash" else words
     return Outcome(game, "*", kind, reason, kind, (side,))
 
 
 def timed_out(game, written, logged, errors):
-    """Judges a game that was ended after its time: by the side that was to answer, or that did not end after it."""
+    """Judges a game that was ended after its time: by the first fault in its log, which is that of the side that ended
+    the match, that was to answer, or that did not end after the game."""
     result, reason = logged.end()
+    if result == "*" and reason.startswith(("White ", "Black ")):
+        return failed(game, written, logged, reason)
     if result:
         sides = tuple(logged.side(seat) for seat in STILL_RUNNING.findall(errors))
         if not written:
