@@ -27,6 +27,10 @@ class WrittenGame:
     def termination(self):
         return self.tags.get("Termination", "normal")
 
+    def is_decided(self):
+        """Says whether the game is whole and has a result."""
+        return self.result != "*" and self.movetext.split(" ")[-1] == self.result
+
     def sans(self):
         """Returns the moves, without move numbers and result."""
         return [word for word in self.movetext.split() if not re.fullmatch(r"\d+\.+|1-0|0-1|1/2-1/2|\*", word)]

@@ -77,6 +77,8 @@ def judge(game, text, errors):
         return failed(game, written, logged[0], match_records.fault(errors)[1])
     if status == TIMED_OUT and logged:
         return timed_out(game, written, logged[0], errors)
+    if status is None and written and logged and written[0].is_decided() and logged[0].end()[0] == written[0].result:
+        return finished(game, written[0], logged[0])  # The script ended while an engine was quitting.
     return None
 
 
