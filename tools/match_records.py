@@ -88,6 +88,11 @@ class LoggedGame:
         results = (RESULT_LINE.fullmatch(line.text) for line in self.lines if line.mark == ">")
         return next(((found[1], found[2]) for found in results if found), (None, None))
 
+    def fault(self):
+        """Returns the words of the fault by which an engine ended the game, as the other one was sent them, or None."""
+        result, reason = self.end()
+        return reason if result == "*" and reason.startswith(("White ", "Black ")) else None
+
     def awaited(self):
         """Returns the line after which the match waited for an answer at the end of this log."""
         return next(line for line in reversed(self.lines) if line.asks())

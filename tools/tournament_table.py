@@ -102,8 +102,8 @@ def timed_out(game, written, logged, errors):
     """Judges a game that was ended after its time: by the first fault in its log, which is that of the side that ended
     the match, that was to answer, or that did not end after the game."""
     result, reason = logged.end()
-    if result == "*" and reason.startswith(("White ", "Black ")):
-        return failed(game, written, logged, reason)
+    if logged.fault():
+        return failed(game, written, logged, logged.fault())
     if result:
         sides = tuple(logged.side(seat) for seat in STILL_RUNNING.findall(errors))
         if not written:
