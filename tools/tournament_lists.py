@@ -177,6 +177,8 @@ def judge_options(options):
     given = [option for option in options if option.split("=")[0] in GIVEN]
     if given:
         return [f"{given[0]}: the tournament itself sets {', '.join(GIVEN)}"]
+    if "--" in options:
+        return ["--: a second one"]
     nobody = "/dev/null/nobody"
     words = ["arbiter", "match", "--white", nobody, "--black", nobody, *options]
     run = subprocess.run(words, stdout=subprocess.DEVNULL, stderr=subprocess.PIPE, encoding="utf-8", errors="replace")
