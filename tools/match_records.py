@@ -153,5 +153,6 @@ def is_handshake(line):
 
 
 def polyglot_hint(command):
-    """Returns how a UCI engine is started."""
-    return f"a UCI engine plays through polyglot: polyglot -noini -ec {command}"
+    """Returns how a UCI engine is started: polyglot takes a command without arguments."""
+    how = f"SCRIPT, with a script that starts {command}" if " " in command else command
+    return f"a UCI engine plays through polyglot: polyglot -noini -ec {how}"

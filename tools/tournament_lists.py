@@ -9,6 +9,7 @@ import shutil
 import subprocess
 import sys
 from dataclasses import dataclass
+from pathlib import Path
 
 import needed
 
@@ -77,7 +78,7 @@ def show(text, stream=None):
 
 
 def report(text):
-    show(f"tournament: {text}")
+    show(f"{Path(needed.command()).name}: {text}")
 
 
 def refuse(refusals):

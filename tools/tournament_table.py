@@ -181,18 +181,19 @@ def collect(folder, game, date):
         return None
     path, log = records(folder, game)
     if not match_records.written_games(text):
-        path.write_text(rebuilt(match_records.logged_games(errors)[0], date), encoding="latin-1")
+        path.write_text(rebuilt(game, match_records.logged_games(errors)[0], date), encoding="latin-1")
     for record in (log, path):
         record.replace(folder / "games" / record.name)
     return outcome
 
 
-def rebuilt(logged, date):
+def rebuilt(game, logged, date):
     """Returns the PGN of a game that was ended before the match wrote it: a session plays the moves of its log."""
     commands = logged.start() + [f"usermove {move}" for move in logged.moves()] + ["showpgn"]
     shown = [line[2:].rstrip() for line in session(commands) if line.startswith("# ") or line == "#"]
     text = "\n".join(shown).strip("\n") + "\n\n"
-    return with_tags(text, {"Event": "CECP match", "Date": date})
+    names = {"White": tag_value(game.white), "Black": tag_value(game.black)}
+    return with_tags(text, {"Event": "CECP match", "Date": date, **names})
 
 
 # PGN
