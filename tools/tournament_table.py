@@ -161,15 +161,13 @@ def records(folder, game):
 
 
 def outcomes(folder):
-    """Returns the outcomes of a folder's games, by number: from results.tsv, and of others from their records."""
-    games = {game.number: game for game in kept_games(folder)}
+    """Returns the outcomes of a folder's games that have records, by number: from results.tsv, or judged anew."""
+    games = {game.number: game for game in kept_games(folder) if records(folder, game)[0].exists()}
     rows = (read_row(row, games) for row in lines(folder / "results.tsv")[1:])
     found = {outcome.game.number: outcome for outcome in rows if outcome}
     for game in games.values():
-        if game.number not in found and records(folder, game)[0].exists():
-            outcome = judge(game, *read_game(folder, game))
-            if outcome:
-                found[game.number] = outcome
+        if game.number not in found and (outcome := judge(game, *read_game(folder, game))):
+            found[game.number] = outcome
     return dict(sorted(found.items()))
 
 
