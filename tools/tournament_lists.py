@@ -330,14 +330,15 @@ def kept_names(folder):
 
 def name_engines(folder, engines, own_names):
     """Gives each engine its name: the kept one, the one of its line, or what it calls itself. Names that occur before
-    get a number, with a warning."""
+    get a number, with a warning, and so do those by which an engine calls itself that another one's line gives it."""
     kept, taken = kept_names(folder), []
+    given = [engine.given for engine in engines[len(kept) :] if engine.given]
     for number, engine in enumerate(engines):
         if number < len(kept):
             engine.name = kept[number]
         else:
             wanted = engine.given or (own_names[engine.command] or engine.command)[:MOST_NAME]
-            engine.name = free_name(wanted, taken)
+            engine.name = free_name(wanted, taken if engine.given else taken + given)
             if engine.name != wanted:
                 report(f"warning: {engine.source}: another engine is named '{wanted}': this one is '{engine.name}'")
         taken.append(engine.name)
