@@ -27,6 +27,10 @@ class WrittenGame:
     def termination(self):
         return self.tags.get("Termination", "normal")
 
+    def is_decided(self):
+        """Says whether the game is whole and has a result."""
+        return self.result != "*" and self.movetext.split(" ")[-1] == self.result
+
     def sans(self):
         """Returns the moves, without move numbers and result."""
         return [word for word in self.movetext.split() if not re.fullmatch(r"\d+\.+|1-0|0-1|1/2-1/2|\*", word)]
@@ -83,6 +87,11 @@ class LoggedGame:
         """Returns the result and the reason that the engines were sent; (None, None) if the game did not end."""
         results = (RESULT_LINE.fullmatch(line.text) for line in self.lines if line.mark == ">")
         return next(((found[1], found[2]) for found in results if found), (None, None))
+
+    def fault(self):
+        """Returns the words of the fault by which an engine ended the game, as the other one was sent them, or None."""
+        result, reason = self.end()
+        return reason if result == "*" and reason.startswith(("White ", "Black ")) else None
 
     def awaited(self):
         """Returns the line after which the match waited for an answer at the end of this log."""
@@ -144,5 +153,6 @@ def is_handshake(line):
 
 
 def polyglot_hint(command):
-    """Returns how a UCI engine is started."""
-    return f"a UCI engine plays through polyglot: polyglot -noini -ec {command}"
+    """Returns how a UCI engine is started: polyglot takes a command without arguments."""
+    how = f"SCRIPT, with a script that starts {command}" if " " in command else command
+    return f"a UCI engine plays through polyglot: polyglot -noini -ec {how}"

@@ -198,8 +198,10 @@ def refuse_no_text(beginning):
     for kind, magic in ARCHIVES.items():
         if beginning.startswith(magic):
             raise Unreadable(f"this is no text but a {kind} archive: unpack it first")
-    zeros = max(beginning[::2].count(0), beginning[1::2].count(0))
-    if beginning.startswith(UTF_16_MARKS) or 4 * zeros > len(beginning):
+    fewer, more = sorted((beginning[::2].count(0), beginning[1::2].count(0)))
+    if 8 * fewer > len(beginning):
+        raise Unreadable("this is no text: it has many bytes 0")
+    if beginning.startswith(UTF_16_MARKS) or 4 * more > len(beginning):
         raise Unreadable("this is no text but UTF-16: convert it by iconv -f UTF-16 -t UTF-8")
 
 

@@ -9,6 +9,7 @@ import shutil
 import subprocess
 import sys
 from dataclasses import dataclass
+from pathlib import Path
 
 import needed
 
@@ -77,7 +78,7 @@ def show(text, stream=None):
 
 
 def report(text):
-    show(f"tournament: {text}")
+    show(f"{Path(needed.command()).name}: {text}")
 
 
 def refuse(refusals):
@@ -177,6 +178,8 @@ def judge_options(options):
     given = [option for option in options if option.split("=")[0] in GIVEN]
     if given:
         return [f"{given[0]}: the tournament itself sets {', '.join(GIVEN)}"]
+    if "--" in options:
+        return ["--: a second one"]
     nobody = "/dev/null/nobody"
     words = ["arbiter", "match", "--white", nobody, "--black", nobody, *options]
     run = subprocess.run(words, stdout=subprocess.DEVNULL, stderr=subprocess.PIPE, encoding="utf-8", errors="replace")
@@ -327,14 +330,15 @@ def kept_names(folder):
 
 def name_engines(folder, engines, own_names):
     """Gives each engine its name: the kept one, the one of its line, or what it calls itself. Names that occur before
-    get a number, with a warning."""
+    get a number, with a warning, and so do those by which an engine calls itself that another one's line gives it."""
     kept, taken = kept_names(folder), []
+    given = [engine.given for engine in engines[len(kept) :] if engine.given]
     for number, engine in enumerate(engines):
         if number < len(kept):
             engine.name = kept[number]
         else:
             wanted = engine.given or (own_names[engine.command] or engine.command)[:MOST_NAME]
-            engine.name = free_name(wanted, taken)
+            engine.name = free_name(wanted, taken if engine.given else taken + given)
             if engine.name != wanted:
                 report(f"warning: {engine.source}: another engine is named '{wanted}': this one is '{engine.name}'")
         taken.append(engine.name)

@@ -124,6 +124,7 @@ class Host:
         self.ssh = ssh or shlex.split(os.environ.get("PARALLEL_SSH", SSH))
         self.is_here = self.name == ":"
         self.fault, self.is_suspect, self.played, self.lock = None, False, 0, threading.Lock()
+        self.failed = set()  # the games that were not played here since one was
 
     def words(self, script, *arguments):
         """Returns the command that runs a bash script there."""
@@ -135,6 +136,8 @@ class Host:
     def trouble(self, programs):
         """Asks the host for its programs; returns why it can't play, or None. Sets the number of its slots if none was
         given."""
+        if not self.is_here and not shutil.which(self.ssh[0]):
+            return f"{self.ssh[0]} is no program that can be run"
         output, errors = captured(self.words(READY, "arbiter", *programs), READY_SECONDS)
         ready = re.search(r"(?m)^ready (\d+)$", output)
         if ready:
@@ -145,7 +148,12 @@ class Host:
 
 def ready_hosts(label, programs):
     """Returns the hosts that can play; the others are left out, with a line each."""
-    hosts = [Host(part.strip()) for part in label.split(",")]
+    try:
+        hosts = [Host(part.strip()) for part in label.split(",")]
+    except ValueError:
+        hosts = []  # A quote is open.
+    if not hosts or not all(host.name for host in hosts):
+        refuse([f"--hosts '{label}' is no list of hosts"])
     with ThreadPoolExecutor(len(hosts)) as pool:
         troubles = list(pool.map(lambda host: host.trouble(programs), hosts))
     for host, trouble in zip(hosts, troubles):
@@ -171,6 +179,8 @@ class Trial:
         self.name = game.own_name(seat)
         if status == 1 and found:
             self.fault = failure(game, seat, found[1])
+        elif status == TIMED_OUT and game.fault():
+            self.fault = failure(game, seat, game.fault())
         elif status == TIMED_OUT and game.end()[0]:
             self.warning = f"did not end within {TRIAL_QUIT_SECONDS} seconds after quit"
         elif status == TIMED_OUT:
@@ -261,7 +271,8 @@ def try_engines(hosts, lists, seconds):
 
 class Player:
     """Plays games on hosts, with a thread for each game that a host plays at a time. A game whose host fails is played
-    again, at most `most_tries` times; a host that can't play any more is given up."""
+    again, at most `most_tries` times, and on another host if there is one; a host that can't play any more is given up,
+    and so is one on which `most_tries` games in a row were not played, if there is another one."""
 
     def __init__(self, book, lists, hosts, timeout, most_tries, date):
         self.book, self.folder, self.lists, self.hosts = book, book.folder, lists, hosts
@@ -314,11 +325,21 @@ class Player:
         """Returns the next game for a host; None if there is none, nor may be one."""
         with self.changed:
             while not STOP.at and not host.fault and (self.queue or self.running):
-                if self.queue and not host.is_suspect:
-                    game = self.queue.popleft()
+                game = next((game for game in self.queue if self.suits(host, game)), None)
+                if game:
+                    self.queue.remove(game)
                     self.running[game.number] = self.start(host, game), host
                     return game
                 self.changed.wait()
+
+    def suits(self, host, game):
+        """Says whether a host should play a game now. After it failed there, a host where it did not should play it."""
+        others = (game.number not in other.failed for other in self.others(host))
+        return not host.is_suspect and not (game.number in host.failed and any(others))
+
+    def others(self, host):
+        """Returns the other hosts that were not given up."""
+        return [other for other in self.hosts if other is not host and not other.fault]
 
     def start(self, host, game):
         engines = {engine.name: engine for engine in self.lists.engines}
@@ -339,20 +360,22 @@ class Player:
             del self.running[game.number]
             if outcome:
                 host.played += 1
+                host.failed.clear()
                 self.book.add(outcome)
                 show(self.book.line(outcome))
             elif not STOP.at:
                 self.put_back(host, game)
             self.changed.notify_all()
-        if not outcome and not STOP.at and not host.is_here:
+        if not outcome and not STOP.at:
             self.ask_again(host)
 
     def put_back(self, host, game):
         """Puts a game that was not played back into the queue, unless it was tried often enough."""
         self.tries[game.number] += 1
+        host.failed.add(game.number)
         reason = last_words(read_game(self.folder, game)[1]) or "its end was not reported"
         again = self.tries[game.number] < self.most_tries
-        host.is_suspect = not host.is_here
+        host.is_suspect = True
         if again:
             self.queue.appendleft(game)
         where = "" if host.is_here else f" on {host.label}"
@@ -361,9 +384,11 @@ class Player:
     def ask_again(self, host):
         """Gives a host up if it can't play any more, with the games that it is playing."""
         with host.lock:
-            fault = host.fault or host.trouble(self.lists.programs())
+            fault = host.fault or (None if host.is_here else host.trouble(self.lists.programs()))
         with self.changed:
             host.is_suspect = False
+            if len(host.failed) >= self.most_tries and self.others(host):
+                fault = fault or f"{len(host.failed)} games in a row were not played"
             if fault and not host.fault:
                 host.fault = fault
                 report(f"host {host.label} is given up: {fault}")

@@ -19,8 +19,6 @@ RESULTS_HEAD = "game\twhite\tblack\tresult\tend\tfault\tside\treason"
 COLOURS = {"first": "White", "second": "Black"}
 MOST_FAULT_LINES = 20
 
-FROM_OUTSIDE = ("signal SIGHUP", "signal SIGINT", "signal SIGTERM")
-
 # The kinds of faults by which an engine loses a game, in the order of the table's columns.
 KINDS = ("crash", "protocol", "timeout", "quit")
 RULES = ("illegal move", "moves out of turn", "false claim", "rejects a legal move", "rules infraction")
@@ -68,16 +66,19 @@ def read_row(row, games):
 
 
 def judge(game, text, errors):
-    """Returns a game's outcome; None if it was not played to its end: then its host had trouble."""
+    """Returns a game's outcome; None if it was not played to its end: then its host had trouble. Once tools/play_game
+    ends a game, the engines do nothing any more that counts."""
     statuses = STATUS.findall(errors)
     status = int(statuses[-1]) if statuses else None
-    written, logged = match_records.written_games(text), match_records.logged_games(errors)
+    written, logged = match_records.written_games(text), match_records.logged_games(ENDED_AFTER.split(errors)[0])
     if status == 0 and written and logged and "\nscore " in text:
         return finished(game, written[0], logged[0])
     if status == 1 and match_records.fault(errors) and logged:
         return failed(game, written, logged[0], match_records.fault(errors)[1])
     if status == TIMED_OUT and logged:
         return timed_out(game, written, logged[0], errors)
+    if status is None and written and logged and written[0].is_decided() and logged[0].end()[0] == written[0].result:
+        return finished(game, written[0], logged[0])  # The script ended while an engine was quitting.
     return None
 
 
@@ -87,22 +88,22 @@ def finished(game, written, logged):
 
 
 def failed(game, written, logged, words):
-    """Judges a game that the match ended by a fault. A result that was not read by an engine holds all the same. An
-    engine that was ended from outside is not at fault."""
+    """Judges a game that the match ended by a fault. A result that was not read by an engine holds all the same."""
     side, _, what = words.partition(" ")
     if written and written[0].result != "*":
         return finished(game, written[0], logged)
     how = logged.ended.get(logged.seat(side))
-    if how in FROM_OUTSIDE:
-        return None
     kind = "crash" if what in CRASHES else "protocol"
     reason = f"{words}, {how}" if how and kind == "crash" else words
     return Outcome(game, "*", kind, reason, kind, (side,))
 
 
 def timed_out(game, written, logged, errors):
-    """Judges a game that was ended after its time: by the side that was to answer, or that did not end after it."""
+    """Judges a game that was ended after its time: by the first fault in its log, which is that of the side that ended
+    the match, that was to answer, or that did not end after the game."""
     result, reason = logged.end()
+    if logged.fault():
+        return failed(game, written, logged, logged.fault())
     if result:
         sides = tuple(logged.side(seat) for seat in STILL_RUNNING.findall(errors))
         if not written:
@@ -160,15 +161,13 @@ def records(folder, game):
 
 
 def outcomes(folder):
-    """Returns the outcomes of a folder's games, by number: from results.tsv, and of others from their records."""
-    games = {game.number: game for game in kept_games(folder)}
+    """Returns the outcomes of a folder's games that have records, by number: from results.tsv, or judged anew."""
+    games = {game.number: game for game in kept_games(folder) if records(folder, game)[0].exists()}
     rows = (read_row(row, games) for row in lines(folder / "results.tsv")[1:])
     found = {outcome.game.number: outcome for outcome in rows if outcome}
     for game in games.values():
-        if game.number not in found and records(folder, game)[0].exists():
-            outcome = judge(game, *read_game(folder, game))
-            if outcome:
-                found[game.number] = outcome
+        if game.number not in found and (outcome := judge(game, *read_game(folder, game))):
+            found[game.number] = outcome
     return dict(sorted(found.items()))
 
 
@@ -180,18 +179,19 @@ def collect(folder, game, date):
         return None
     path, log = records(folder, game)
     if not match_records.written_games(text):
-        path.write_text(rebuilt(match_records.logged_games(errors)[0], date), encoding="latin-1")
+        path.write_text(rebuilt(game, match_records.logged_games(errors)[0], date), encoding="latin-1")
     for record in (log, path):
         record.replace(folder / "games" / record.name)
     return outcome
 
 
-def rebuilt(logged, date):
+def rebuilt(game, logged, date):
     """Returns the PGN of a game that was ended before the match wrote it: a session plays the moves of its log."""
     commands = logged.start() + [f"usermove {move}" for move in logged.moves()] + ["showpgn"]
     shown = [line[2:].rstrip() for line in session(commands) if line.startswith("# ") or line == "#"]
     text = "\n".join(shown).strip("\n") + "\n\n"
-    return with_tags(text, {"Event": "CECP match", "Date": date})
+    names = {"White": tag_value(game.white), "Black": tag_value(game.black)}
+    return with_tags(text, {"Event": "CECP match", "Date": date, **names})
 
 
 # PGN
