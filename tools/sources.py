@@ -14,6 +14,7 @@ WORD = r"[A-Za-z_]\w*'*"
 SHORT = {
     "devices": "byte_devices",
     "base": "chess_base",
+    "lines": "text_lines",
     "fen": "chess_fen",
     "moves": "chess_moves",
     "bits": "chess_bits",

@@ -5,9 +5,9 @@ use Rattle.std.specs.Prelude.{if◌then◌else◌, ◌==◌, ◌&&◌, nat_lt, c
 use Rattle.std.specs.Option.{option_map_or}
 use Rattle.std.specs.Str.{bytes_eq}
 use Rattle.chess_base.specs.Letters.{is_digit}
-use Rattle.chess_cecp.specs.Lines.{without_front_blanks}
-use Rattle.chess_cecp.proofs.Parts.{wfb_short}
-use Rattle.chess_pgn.specs.Tokens.{is_name_byte}
+use Rattle.text_lines.specs.Lines.{without_front_blanks}
+use Rattle.text_lines.proofs.Parts.{wfb_short}
+use Rattle.text_lines.specs.Words.{is_name_byte}
 use Rattle.std.specs.List.{prefix_len}
 use Rattle.cecp_engine.specs.Items.{Item, Value, Digits, Quoted, quote_at, value_of, is_apart, with_value, with_name, item_of, ends_hello, first_items, items_of, has_done, last_said, takes, is_one, value_text, has_word, plays_fischerandom}
 use Rattle.cecp_engine.specs.ties.Taken.{said_again, fischerandom_again}

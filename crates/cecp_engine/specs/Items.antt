@@ -4,8 +4,8 @@ use Rattle.std.specs.List.{fold, list_any, position_or_len, prefix_len, slice_sp
 use Rattle.std.specs.Option.{option_map_or}
 use Rattle.std.specs.Str.{bytes_eq}
 use Rattle.chess_base.specs.Letters.{byte, is_digit}
-use Rattle.chess_cecp.specs.Lines.{is_blank, without_front_blanks}
-use Rattle.chess_pgn.specs.Tokens.{is_name_byte}
+use Rattle.text_lines.specs.Lines.{is_blank, without_front_blanks}
+use Rattle.text_lines.specs.Words.{is_name_byte}
 
 -- ---- one item, `NAME=VALUE`
 

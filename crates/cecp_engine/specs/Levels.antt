@@ -3,9 +3,8 @@ use Rattle.std.specs.Prelude.{ℕ, ◌+◌, ◌-◌, ◌*◌, ◌/◌, ◌%◌, 
 use Rattle.std.specs.List.{position_or_len}
 use Rattle.std.specs.Option.{option_map}
 use Rattle.chess_base.specs.Letters.{byte}
-use Rattle.chess_fen.specs.Texts.{short_number}
-use Rattle.chess_cecp.specs.Commands.{word_of, argument_of}
-use Rattle.chess_cecp.specs.Lines.{without_front_blanks}
+use Rattle.text_lines.specs.Words.{short_number, word_of, argument_of}
+use Rattle.text_lines.specs.Lines.{without_front_blanks}
 use Rattle.chess_base.specs.Options.{◌>>=◌}
 
 -- a time control, as `level 40 5 0` sets it: `moves` per session (0: one session for the whole game), the `base` time

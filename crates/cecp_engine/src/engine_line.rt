@@ -1,13 +1,13 @@
 //! What a line of an engine says.
 
 ghost use Rattle.std.specs.Prelude.{◌≡◌, ◌≤◌, length, take, codes};
-ghost use Rattle.chess_cecp.specs.Commands.{word_of, argument_of, command_number};
+ghost use Rattle.text_lines.specs.Words.{word_of, argument_of, command_number};
 ghost use Rattle.cecp_engine.specs.EngineLines.{kind_of, Answers, SaysElse};
 ghost use Rattle.std.specs.Option.{option_map_or};
 ghost use Rattle.cecp_engine.specs.Seen.{seen};
 
 use chess_base::Colour;
-use chess_cecp::{argument, first_word, read_number};
+use text_lines::{argument, first_word, read_number};
 
 /// The kinds of line that an engine sends (CECP, version 2).
 #[derive(Clone, Copy, Debug)]

@@ -5,10 +5,10 @@ ghost use Rattle.chess_base.specs.Letters.{is_digit};
 ghost use Rattle.cecp_engine.specs.Items.{value_of, with_value, with_name, item_of, is_apart, is_one, ends_hello, quote_at, items_of, has_done, is_known, has_word, value_text, is_comma_or_blank};
 ghost use Rattle.cecp_engine.specs.ties.Taken.{said_again, fischerandom_again, value_read};
 ghost use Rattle.cecp_engine.specs.Seen.{value_seen, item_seen, item_read};
-ghost use Rattle.chess_pgn.specs.Tokens.{is_name_byte};
+ghost use Rattle.text_lines.specs.Words.{is_name_byte};
 ghost use Rattle.std.specs.List.{prefix_len};
 
-use chess_cecp::{is_blank, trim_start};
+use text_lines::{is_blank, trim_start};
 
 /// The value of an item.
 #[derive(Clone, Copy, Debug)]

@@ -4,8 +4,9 @@ use Rattle.std.specs.List.{prefix_len}
 use Rattle.chess_base.specs.Letters.{new_line}
 use Rattle.std.specs.Borrow.{Bor}
 use Rattle.std.specs.Str.{bytes_eq}
-use Rattle.chess_cecp.specs.Commands.{command_of, word_of}
-use Rattle.chess_cecp.specs.Lines.{LineSeen}
+use Rattle.chess_cecp.specs.Commands.{command_of}
+use Rattle.text_lines.specs.Words.{word_of}
+use Rattle.text_lines.specs.Lines.{LineSeen}
 use Rattle.chess_cecp.specs.Serving.{Response}
 use Rattle.chess_cecp.specs.declared.command.Command.{Command}
 use Rattle.chess_cecp.specs.declared.command.Command.TheVariants.{New, UserMove, Ping, Protover, Go, Quit, Silent, Unknown}

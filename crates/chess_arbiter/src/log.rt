@@ -13,11 +13,11 @@ ghost use Rattle.chess_arbiter.specs.ties.Logging.{Adds, IsLog, log_start, recei
 use arrayvec::ArrayVec;
 use byte_devices::{Input, Output, send};
 use chess_base::{Colour, same_colour};
-use chess_cecp::Line;
 use chess_game::Game;
 use chess_match::{ENGINE_LINE_LEN, Ends, MatchEnd, Moments, Setup, Witness, run_match_watched};
 use chess_moves::Board;
 use itoa::Buffer;
+use text_lines::Line;
 
 // The bytes of a line of the log that has not ended, and whether a write or flush of the log failed.
 #[derive(Drop)]

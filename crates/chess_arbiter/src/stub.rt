@@ -9,7 +9,8 @@ ghost use Rattle.chess_arbiter.specs.Stub.{after_remarks, after_opponent_move, p
 
 use arrayvec::ArrayVec;
 use byte_devices::{Output, WriteFault, append, append_number, put, put_parts};
-use chess_cecp::{COMMAND_LEN, Command, Go, Line, LineServer, first_word, read_command};
+use chess_cecp::{COMMAND_LEN, Command, Go, LineServer, read_command};
+use text_lines::{Line, first_word};
 use std::marker::Model;
 
 // The reply to `protover`.

@@ -21,10 +21,11 @@ use Rattle.chess_cecp.specs.declared.command.Command.TheVariants.{New, SetBoard,
 use Rattle.chess_cecp.specs.declared.session.Go.{Go as Further}
 use Rattle.chess_cecp.specs.declared.session.Go.TheVariants as further
 use Rattle.chess_cecp.specs.declared.session.Reply.TheVariants.{Text, Moves, Pgn}
-use Rattle.chess_cecp.specs.Commands.{argument_of, command_of}
+use Rattle.text_lines.specs.Words.{argument_of}
+use Rattle.chess_cecp.specs.Commands.{command_of}
 use Rattle.chess_cecp.specs.Declaring.{read_result}
 use Rattle.chess_cecp.specs.Held.{SessionSeen}
-use Rattle.chess_cecp.specs.Lines.{LineSeen}
+use Rattle.text_lines.specs.Lines.{LineSeen}
 use Rattle.chess_cecp.specs.Serving.{Response}
 use Rattle.chess_cecp.specs.Session.{row, says, refuses, becomes, result_row, draws, claimed, setboard_row, normal_row, feature_text, joined_line, reading_row, move_row, session_response}
 use Rattle.chess_cecp.specs.ties.Replies.{is_quit, is_quit_command, reply_to, asks_for_moves, asks_for_pgn}

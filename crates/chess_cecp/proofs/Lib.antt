@@ -1,7 +1,3 @@
-pub mod Trims
-pub mod Parts
-pub mod LineEnds
-pub mod Reading
 pub mod Words
 pub mod RunLemmas
 pub mod Refusals

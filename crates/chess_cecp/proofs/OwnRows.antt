@@ -3,9 +3,10 @@ use Rattle.std.proofs.Common.{◌≡◌, List, ℕ, Bool, true, false, not, if�
 use Rattle.std.proofs.lemmas.Bool.{and_parts, not-true}
 use Rattle.chess_base.specs.MoveList.{moves}
 use Rattle.chess_pgn.specs.GameText.{pgn}
-use Rattle.chess_cecp.specs.Commands.{command_of, argument_of}
+use Rattle.chess_cecp.specs.Commands.{command_of}
+use Rattle.text_lines.specs.Words.{argument_of}
 use Rattle.chess_cecp.specs.Held.{SessionSeen}
-use Rattle.chess_cecp.specs.Lines.{LineSeen}
+use Rattle.text_lines.specs.Lines.{LineSeen}
 use Rattle.chess_cecp.specs.Serving.{Response}
 use Rattle.chess_cecp.specs.Session.{row, row_on, says, moves_line, session_response}
 use Rattle.chess_cecp.specs.ties.Replies.{after_row, is_quit, reply_to, shows_moves, shows_pgn, asks_for_moves, asks_for_pgn}

@@ -8,13 +8,14 @@ use Rattle.chess_base.specs.declared.man.Variant.TheVariants.{Normal, Fischerand
 use Rattle.chess_base.specs.declared.setup.Setup.{Setup}
 use Rattle.chess_fen.specs.Reading.{fen_reading_as}
 use Rattle.chess_base.specs.Initial.{initial_setup, initial_setup_of}
-use Rattle.chess_cecp.specs.Lines.{LineSeen}
+use Rattle.text_lines.specs.Lines.{LineSeen}
 use Rattle.chess_cecp.specs.Held.{SessionSeen}
 use Rattle.chess_pgn.specs.declared.tags.Tags.{Tags}
 use Rattle.chess_text.specs.Moves.{reading}
 use Rattle.chess_text.specs.declared.reading.Reading.{Reading}
 use Rattle.chess_text.specs.declared.reading.Reading.TheVariants as reads
-use Rattle.chess_cecp.specs.Commands.{command_of, argument_of}
+use Rattle.chess_cecp.specs.Commands.{command_of}
+use Rattle.text_lines.specs.Words.{argument_of}
 use Rattle.chess_game.specs.Ends.{verdict_outcome, verdict_comment, claims}
 use Rattle.chess_game.specs.Game.{State, from_start, played, taken_back, with_declared, current, verdict_now, is_over, contradicts_verdict}
 use Rattle.chess_game.specs.declared.ends.Verdict.{Verdict}

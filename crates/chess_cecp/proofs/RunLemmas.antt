@@ -1,20 +1,20 @@
 -- A run of a server of lines, line by line.
-use Rattle.std.proofs.Common.{◌≡◌, ℕ, ◌+◌, ◌-◌, ◌≤◌, inl, inr, Bool, true, false, List, [], ◌∷◌, ◌++◌, length, take, Some, None, Ok, Err, refl, sym, ap, ◌∙◌, arith, append_assoc, append-nil, length-append, if◌then◌else◌}
+use Rattle.std.proofs.Common.{◌≡◌, ℕ, ◌+◌, ◌-◌, ◌≤◌, inl, inr, Bool, true, false, List, [], ◌∷◌, ◌++◌, length, take, Some, None, Ok, Err, refl, sym, ap, ◌∙◌, arith, append_assoc, append-nil, length-append, if◌then◌else◌, Option, subst}
 use Rattle.std.proofs.Math.Seq.{take-append-add}
-use Rattle.chess_cecp.proofs.Parts.{nothing_left}
+use Rattle.text_lines.proofs.Parts.{nothing_left}
 use Rattle.std.specs.Option.{IfSome}
 use Rattle.std.proofs.lemmas.Option.{IfSome_then}
 use Rattle.std.proofs.KnownBytes.{Consumes-whole}
-use Rattle.std.proofs.Common.{Option, subst}
 use Rattle.std.specs.Io.KnownBytes.{Consumes, Appends, IsAtEnd}
 use Rattle.std.specs.Bool.{MatchBool}
 use Rattle.std.proofs.lemmas.Grind.{common_steps}
 use Rattle.byte_devices.specs.Devices.{InputState, OutputState, Sent, TookThenFailed, BreaksOff, risen, raised}
 use Rattle.byte_devices.proofs.DeviceLaws.{consumes_more, consumes_none, appends_more, appends_none}
-use Rattle.chess_cecp.specs.Lines.{LineSeen, Held, nothing_held, stream_lines, lines_held, lines, whole}
-use Rattle.chess_cecp.specs.Next.{before_piece, Waits, GotLine, GotLast, NextLine}
+use Rattle.text_lines.specs.Lines.{LineSeen, Held, nothing_held, stream_lines, lines_held, lines, whole}
+use Rattle.text_lines.specs.Next.{before_piece, Waits, GotLine, GotLast, NextLine}
 use Rattle.chess_cecp.specs.Serving.{Response, Server, and_then, responses}
-use Rattle.chess_cecp.specs.Run.{Transcript, LeavesUnflushed, SessionRan, Answered, risen_if}
+use Rattle.chess_cecp.specs.Run.{Transcript, SessionRan, Answered}
+use Rattle.text_lines.specs.Unflushed.{LeavesUnflushed, risen_if}
 use Rattle.chess_cecp.specs.declared.session.Go.{Go}
 use Rattle.chess_cecp.specs.declared.session.Go.TheVariants as goes
 use Rattle.chess_cecp.specs.declared.run.End.TheVariants.{Quit, InputEnded}

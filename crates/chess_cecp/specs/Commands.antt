@@ -1,27 +1,13 @@
 -- What a line commands, by its first word (Chess Engine Communication Protocol, version 2; `claim`, `showfen`,
 -- `showmoves`, `showpgn` and `showstate` are this project's own).
-use Rattle.std.specs.Prelude.{ℕ, ◌==◌, ◌||◌, if◌then◌else◌, Bool, List, [], ◌∷◌, length, drop, codes, Option, Some, unwrap_or}
+use Rattle.std.specs.Prelude.{ℕ, ◌==◌, ◌||◌, if◌then◌else◌, Bool, List, [], ◌∷◌, length, codes, Option, Some, unwrap_or}
 use Rattle.std.specs.List.{find, list_any}
 use Rattle.std.specs.Option.{option_map, option_map_or}
 use Rattle.std.specs.Str.{bytes_eq}
-use Rattle.chess_fen.specs.Texts.{short_number}
-use Rattle.chess_cecp.specs.Lines.{is_blank, without_front_blanks}
 use Rattle.chess_text.specs.Moves.{shape}
 use Rattle.chess_cecp.specs.declared.command.Command.{Command}
 use Rattle.chess_cecp.specs.declared.command.Command.TheVariants.{New, SetBoard, UserMove, BareMove, Undo, Remove, Declare, Claim, Ping, Protover, Variant, Go, ShowFen, ShowMoves, ShowState, ShowPgn, Quit, Silent, BadNumber, Unknown}
-
--- the first word of a text: its bytes up to the first space or tab
-abbrev pub word_of : List ℕ → List ℕ
-word_of [] = []
-word_of (c ∷ cs) = if is_blank c then [] else c ∷ word_of cs
-
--- the text after the first word and the spaces and tabs that follow it: of `usermove e4` it is `e4`
-unfoldable pub argument_of : List ℕ → List ℕ
-argument_of text = without_front_blanks (drop (length (word_of text)) text)
-
--- the number that a text of 1 to 9 digits denotes, as in `ping 7`; `None` for any other text
-unfoldable pub command_number : List ℕ → Option ℕ
-command_number text = short_number 9 text
+use Rattle.text_lines.specs.Words.{word_of, argument_of, command_number}
 
 -- commands to an engine that plays, which an arbiter accepts and ignores: of the protocol, of how the engine is to play
 -- (`?`: it is to move at once), of its opponent, who may offer a draw, of the clocks and of the depth of search

@@ -11,7 +11,7 @@ use Rattle.chess_game.specs.declared.ends.Verdict.{Verdict}
 use Rattle.chess_game.specs.declared.results.Declared.{Declared}
 use Rattle.chess_game.specs.declared.results.Outcome.{Outcome}
 use Rattle.chess_pgn.specs.Words.{outcome_of}
-use Rattle.chess_cecp.specs.Commands.{word_of, argument_of}
+use Rattle.text_lines.specs.Words.{word_of, argument_of}
 use Rattle.chess_base.specs.Options.{◌>>=◌}
 
 -- the comment after the outcome of `result`: of `{White resigns}` the text within the braces, and of an empty text

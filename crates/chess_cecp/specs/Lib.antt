@@ -1,5 +1,3 @@
-pub mod Lines
-pub mod Next
 pub mod Serving
 pub mod Commands
 pub mod Declaring

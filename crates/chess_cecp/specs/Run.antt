@@ -3,15 +3,16 @@
 use Rattle.std.specs.Prelude.{◌≡◌, ℕ, ◌≤◌, Bool, true, false, List, [], ◌∷◌, ◌++◌, length, if◌then◌else◌, Result, Ok, Err}
 use Rattle.std.specs.Option.{IfSome}
 use Rattle.std.specs.Io.KnownBytes.{Consumes, Appends, IsAtEnd}
-use Rattle.byte_devices.specs.Devices.{InputState, OutputState, risen, raised, Begins}
-use Rattle.chess_cecp.specs.Lines.{LineSeen, stream_lines, lines, whole}
-use Rattle.chess_cecp.specs.Next.{before_piece}
+use Rattle.byte_devices.specs.Devices.{InputState, OutputState, Begins}
+use Rattle.text_lines.specs.Lines.{LineSeen, stream_lines, lines, whole}
+use Rattle.text_lines.specs.Next.{before_piece}
 use Rattle.chess_cecp.specs.Serving.{Server, responses}
 use Rattle.chess_cecp.specs.declared.run.End.{End}
 use Rattle.chess_cecp.specs.declared.run.End.TheVariants.{Quit, InputEnded}
 use Rattle.chess_cecp.specs.declared.run.Fault.{Fault}
 use Rattle.chess_cecp.specs.declared.run.Fault.TheVariants.{Read, Write}
 use Rattle.chess_cecp.specs.declared.session.TheConstants.{COMMAND_LEN}
+use Rattle.text_lines.specs.Unflushed.{risen_if, LeavesUnflushed}
 
 -- what passed at the devices in one run: the bytes that were read, whether the reader reported its end, and the bytes
 -- that were written
@@ -19,10 +20,6 @@ pub record Transcript : Type 0 where
   pub read : List ℕ
   pub end_reported : Bool
   pub written : List ℕ
-
--- a count of a device, such as that of its failures, one higher if the flag is true
-abbrev pub risen_if : Bool → ℕ → ℕ
-risen_if rises n = if rises then risen n else n
 
 -- the transcript `t` is what the input did from its state `r` to `r'`, and the output from `w` to `w'`, as far as they
 -- report it. The flags say whether a read or a write failed
@@ -33,10 +30,6 @@ pub record FitsDevices (r r' : InputState) (w w' : OutputState) (t : Transcript)
   pub ends : r'.end_count ≡ risen_if t.end_reported r.end_count
   pub read_failures : r'.failure_count ≡ risen_if read_failed r.failure_count
   pub write_failures : w'.failure_count ≡ risen_if write_failed w.failure_count
-
--- just this text is unflushed in the output after (`w'`), if nothing was unflushed before (`w`)
-abbrev pub LeavesUnflushed : OutputState → OutputState → List ℕ → Type 0
-LeavesUnflushed w w' text = w.unflushed ≡ 0 → w'.unflushed ≡ raised 0 text
 
 -- the lines that were read in this run; one without `\n` at the end counts if the end was reported
 abbrev pub lines_read : Transcript → List LineSeen

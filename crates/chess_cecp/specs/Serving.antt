@@ -1,6 +1,6 @@
 -- What answers lines, one after the other: a server, as a session is one.
 use Rattle.std.specs.Prelude.{ℕ, Bool, false, if◌then◌else◌, List, [], ◌∷◌, ◌++◌}
-use Rattle.chess_cecp.specs.Lines.{LineSeen}
+use Rattle.text_lines.specs.Lines.{LineSeen}
 
 -- what a server does with a line: the text that it writes, its state after that, and whether it ends
 pub record Response (S : Type 0) : Type 0 where

@@ -16,7 +16,7 @@ use Rattle.std.specs.Option.{option_map_or}
 use Rattle.chess_base.specs.MoveList.{moves}
 use Rattle.chess_fen.specs.Reading.{fen_reading_as}
 use Rattle.chess_fen.specs.Writing.{fen}
-use Rattle.chess_cecp.specs.Lines.{LineSeen}
+use Rattle.text_lines.specs.Lines.{LineSeen}
 use Rattle.chess_cecp.specs.Serving.{Response}
 use Rattle.chess_cecp.specs.Held.{SessionSeen}
 use Rattle.chess_pgn.specs.GameText.{pgn}
@@ -25,7 +25,8 @@ use Rattle.chess_text.specs.Moves.{reading}
 use Rattle.chess_text.specs.San.{shown_move}
 use Rattle.chess_text.specs.declared.reading.Reading.{Reading}
 use Rattle.chess_text.specs.declared.reading.Reading.TheVariants as reads
-use Rattle.chess_cecp.specs.Commands.{command_of, argument_of}
+use Rattle.chess_cecp.specs.Commands.{command_of}
+use Rattle.text_lines.specs.Words.{argument_of}
 use Rattle.chess_game.specs.Results.{result_text}
 use Rattle.chess_cecp.specs.Declaring.{read_result, state_text}
 use Rattle.chess_game.specs.Ends.{verdict_outcome, verdict_comment, claims}

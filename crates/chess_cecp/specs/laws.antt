@@ -2,4 +2,3 @@
 pub mod NormalGame
 pub mod NormalPgn
 pub mod Normal
-pub mod Unended

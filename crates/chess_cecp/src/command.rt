@@ -1,14 +1,14 @@
 //! What a line commands.
 
 ghost use Rattle.std.specs.Prelude.{◌≡◌, ◌+◌, ◌<◌, ◌≤◌, ◌++◌, length};
-ghost use Rattle.chess_cecp.specs.Lines.{is_blank};
-ghost use Rattle.chess_cecp.specs.Commands.{command_of, named_command, word_of, argument_of, command_number, is_ignored};
+ghost use Rattle.text_lines.specs.Lines.{is_blank};
+ghost use Rattle.chess_cecp.specs.Commands.{command_of, named_command, is_ignored};
+ghost use Rattle.text_lines.specs.Words.{word_of, argument_of, command_number};
 ghost use Rattle.chess_cecp.specs.ties.Ignored.{is_engine_command, is_opponent_or_clock_command};
 ghost use Rattle.std.specs.Option.{option_map_or};
 
-use crate::trim::is_blank;
-use chess_fen::short_number;
 use chess_text::has_move_shape;
+use text_lines::{read_number, split_word};
 
 /// The kinds of command (CECP, version 2; `claim`, `showfen`, `showmoves`, `showpgn` and `showstate` are this project's
 /// own). A command's text is found in its line.
@@ -54,47 +54,6 @@ pub enum Command {
     BadNumber,
     /// Anything else.
     Unknown,
-}
-
-// Splits a text into its first word and what follows after spaces and tabs: `usermove e4` into `usermove` and `e4`.
-#[tactic(auto, unfolding(crate::specs::Commands::argument_of))]
-pub(crate) fn split_word(text: &[u8]) -> (&[u8], &[u8])
-    ensures word { result.0.now ≡ word_of text.now }
-    ensures argument { result.1.now ≡ argument_of text.now }
-    ensures short { length result.1.now ≤ length text.now }
-{
-    let mut end = 0;
-    while end < text.len() && !is_blank(text[end]) {
-        end += 1;
-    }
-    let mut from = end;
-    while from < text.len() && is_blank(text[from]) {
-        from += 1;
-    }
-    (&text[..end], &text[from..])
-}
-
-/// The first word of a text, which ends at a space or tab; empty if the text begins with one.
-pub fn first_word(text: &[u8]) -> &[u8]
-    ensures { result.now ≡ word_of text.now }
-{
-    split_word(text).0
-}
-
-/// The text after the first word and the spaces and tabs that follow it: of `usermove e4` it is `e4`.
-pub fn argument(text: &[u8]) -> &[u8]
-    ensures value { result.now ≡ argument_of text.now }
-    ensures short { length result.now ≤ length text.now }
-{
-    split_word(text).1
-}
-
-/// The number that a text of 1 to 9 digits denotes; `None` for any other text.
-#[tactic(auto, unfolding(crate::specs::Commands::command_number))]
-pub fn read_number(text: &[u8]) -> Option<u32>
-    ensures { result ≡ command_number text.now }
-{
-    short_number(text, 9)
 }
 
 // The command of a line `ping N` with this argument: `BadNumber` if it isn't a number of 1 to 9 digits.

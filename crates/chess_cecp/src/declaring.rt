@@ -4,9 +4,9 @@ ghost use Rattle.std.specs.Prelude.{◌≡◌, ◌≤◌, length};
 ghost use Rattle.std.specs.Option.{option_map};
 ghost use Rattle.chess_cecp.specs.Declaring.{result_comment, read_result, claims_text};
 
-use crate::command::{argument, first_word};
 use chess_game::{Claims, Comment, Declared};
 use chess_pgn::outcome_of;
+use text_lines::{argument, first_word};
 
 // The comment after the outcome of `result`: of `{White resigns}` the text within the braces, of an empty text the
 // empty comment; `None` for any other text.

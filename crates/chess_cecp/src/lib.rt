@@ -11,15 +11,11 @@ mod answer;
 mod command;
 mod declaring;
 mod laws;
-mod line_end;
-mod lines;
 mod run;
 mod session;
-mod trim;
 
-pub use command::{Command, argument, first_word, read_command, read_number};
-pub use laws::{lines_are_pieces, normal_chess_keeps_its_rows, refusals_change_nothing};
-pub use lines::{Line, Lines};
+pub use command::{Command, read_command};
+pub use laws::{normal_chess_keeps_its_rows, refusals_change_nothing};
 pub use run::{End, Fault, LineServer, run_session, serve_lines};
 pub use session::{COMMAND_LEN, Go, Session};
-pub use trim::{is_blank, trim_start};
+pub use text_lines::{Line, Lines};

@@ -5,10 +5,10 @@ ghost use Rattle.byte_devices.specs.Devices.{Sends};
 ghost use Rattle.chess_cecp.specs.Run.{Transcript, SessionRan};
 ghost use Rattle.chess_cecp.specs.Session.{session_response};
 
-use crate::lines::{Line, Lines};
 use crate::session::{COMMAND_LEN, Go, Session};
 use byte_devices::{Input, Output, WriteFault};
 use chess_moves::Board;
+use text_lines::{Line, Lines};
 
 /// How a run ended.
 #[derive(Clone, Copy, Debug, PartialEq, Eq)]
@@ -30,7 +30,7 @@ pub enum Fault {
 
 /// Answers lines one after another: a session, or the stub engine of chess_arbiter.
 pub trait LineServer {
-    ghost use Rattle.chess_cecp.specs.Lines.{LineSeen};
+    ghost use Rattle.text_lines.specs.Lines.{LineSeen};
     ghost use Rattle.chess_cecp.specs.Serving.{Response};
 
     /// How it responds to a line.

@@ -10,7 +10,7 @@ ghost use Rattle.chess_cecp.specs.Held.{opened_session, game_held};
 ghost use Rattle.chess_pgn.specs.GameText.{pgn};
 ghost use Rattle.chess_game.specs.Results.{cut_comment};
 ghost use Rattle.chess_text.specs.Moves.{reading, has_shape, shape, IsLegalReading};
-ghost use Rattle.chess_cecp.specs.Commands.{argument_of};
+ghost use Rattle.text_lines.specs.Words.{argument_of};
 ghost use Rattle.chess_cecp.specs.Declaring.{read_result};
 ghost use Rattle.chess_cecp.specs.Session.{row, move_row, back_row, result_row, draws, claim_row, setboard_row, normal_row, variant_row, session_response, joined_line, moves_line, IsRefusal};
 ghost use Rattle.chess_cecp.specs.ties.Replies.{after_row, unnamed_command, reply_of, reply_to, shows_moves, shows_pgn, asks_for_moves, asks_for_pgn};
@@ -21,14 +21,14 @@ use crate::answer::{
     Answer, MovesAnswer, write_features, write_illegal_position, write_line, write_moves,
     write_pong, write_result, write_state, write_verdict,
 };
-use crate::command::{Command, named_command, split_word};
+use crate::command::{Command, named_command};
 use crate::declaring::read_result;
-use crate::lines::Line;
 use byte_devices::{Output, WriteFault, send};
 use chess_base::{Position, Variant};
 use chess_fen::{read_fen_as, write_fen};
 use chess_game::{Comment, Game, Outcome, PlayRefusal};
 use chess_moves::Board;
+use text_lines::{Line, split_word};
 use chess_pgn::{Tags, write_pgn};
 use chess_text::{Reading, read_move};
 use std::alloc::{AllocError, Global};

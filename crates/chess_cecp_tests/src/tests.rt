@@ -6,14 +6,15 @@ use crate::running::{is_equal, run_on};
 use byte_devices::{Counted, PieceReader, PieceWriter, ReadFault};
 use chess_base::{Move, Position, Square};
 use chess_cecp::{
-    Command, End, Fault, Line, Lines, Session, lines_are_pieces, normal_chess_keeps_its_rows,
-    read_command, refusals_change_nothing,
+    Command, End, Fault, Session, normal_chess_keeps_its_rows, read_command,
+    refusals_change_nothing,
 };
 use chess_fen::write_fen;
 use chess_moves::{Board, Plain};
 use chess_pgn::Tags;
 use itoa::Buffer;
 use perft_positions::{NORMAL, Perft};
+use text_lines::{Line, Lines, lines_are_pieces};
 use std::alloc::{AllocError, Global};
 use std::io::{Read, Write};
 use std::process::Abort;

@@ -1,5 +1,4 @@
 pub mod Lengths
-pub mod FewDigits
 pub mod RanksText
 pub mod Ranks
 pub mod Placing

@@ -10,15 +10,11 @@ use Rattle.chess_base.specs.declared.man.Variant.TheVariants.{Normal, Fischerand
 use Rattle.chess_base.specs.declared.man.Colour.{Colour}
 use Rattle.chess_base.specs.declared.man.Colour.TheVariants.{White, Black}
 use Rattle.chess_base.specs.declared.man.Man.{Man}
-use Rattle.chess_base.specs.Letters.{byte, space, is_digit, value_after}
+use Rattle.chess_base.specs.Letters.{byte, space}
 use Rattle.chess_fen.specs.ManLetters.{stroke, man_with_letter}
+use Rattle.text_lines.specs.Words.{short_number}
 
 -- ---- numbers
-
--- the number that a text of 1 to `most` digits denotes; none for any other text
-abbrev pub short_number : ℕ → List ℕ → Option ℕ
-short_number most text = if nat_lt 0 (length text) && nat_le (length text) most
-    && list_all is_digit text then Some (value_after 0 text) else None
 
 -- a FEN's counter: the number that one to six digits denote
 abbrev pub number_of : List ℕ → Option ℕ

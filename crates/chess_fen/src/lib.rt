@@ -18,6 +18,5 @@ mod target;
 mod writing;
 
 pub use laws::{normal_is_kept, rights_are_named, written_is_denoted};
-pub use number::short_number;
 pub use reading::{read_fen, read_fen_as};
 pub use writing::{FenText, write_fen};

@@ -5,7 +5,7 @@ use Rattle.chess_base.specs.declared.man.Colour.TheVariants.{White, Black}
 use Rattle.chess_base.specs.declared.man.Move.{Move}
 use Rattle.chess_base.specs.declared.setup.Setup.{Setup}
 use Rattle.byte_devices.specs.Devices.{InputState, OutputState}
-use Rattle.chess_cecp.specs.Lines.{Held}
+use Rattle.text_lines.specs.Lines.{Held}
 use Rattle.std.specs.Option.{option_map_or}
 use Rattle.chess_game.specs.Ends.{verdict, verdict_outcome}
 use Rattle.chess_game.specs.Game as game

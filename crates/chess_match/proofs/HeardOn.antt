@@ -4,8 +4,8 @@ use Rattle.std.specs.Bool.{MatchBool}
 use Rattle.std.specs.Io.KnownBytes.{Consumes, IsAtEnd}
 use Rattle.chess_base.specs.declared.man.Colour.{Colour}
 use Rattle.byte_devices.specs.Devices.{InputState, risen}
-use Rattle.chess_cecp.specs.Lines.{LineSeen, Held, stream_lines, lines_held}
-use Rattle.chess_cecp.specs.Run.{risen_if}
+use Rattle.text_lines.specs.Lines.{LineSeen, Held, stream_lines, lines_held}
+use Rattle.text_lines.specs.Unflushed.{risen_if}
 use Rattle.chess_match.proofs.Hearing.{Hearing, HeardAll, is_heard_of, Tells, HearsAt}
 use Rattle.chess_match.specs.Match.{Event, Line, Opened, OutputEnds, FailsToRead, FailsToWrite}
 use Rattle.chess_match.specs.Run.{text_read, engine_lines, ReadFrom}

@@ -5,8 +5,8 @@ use Rattle.std.specs.Io.KnownBytes.{Consumes}
 use Rattle.byte_devices.specs.Devices.{InputState}
 use Rattle.chess_base.specs.declared.man.Colour.{Colour}
 use Rattle.chess_base.specs.Men.{same_colour}
-use Rattle.chess_cecp.specs.Lines.{LineSeen, Held, stream_lines, lines_held}
-use Rattle.chess_cecp.specs.Next.{GotLine, GotLast, GotNone, GotFault}
+use Rattle.text_lines.specs.Lines.{LineSeen, Held, stream_lines, lines_held}
+use Rattle.text_lines.specs.Next.{GotLine, GotLast, GotNone, GotFault}
 use Rattle.chess_match.specs.Match.{Event, Line, Opened, OutputEnds, FailsToRead, FailsToWrite}
 use Rattle.chess_match.specs.Run.{text_read}
 use Rattle.chess_match.specs.declared.run.TheConstants.{ENGINE_LINE_LEN}

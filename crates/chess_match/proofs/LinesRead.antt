@@ -9,8 +9,8 @@ use Rattle.chess_base.specs.declared.man.Move.{Move}
 use Rattle.byte_devices.specs.Devices.{InputState, OutputState}
 use Rattle.chess_base.specs.Men.{other}
 use Rattle.chess_base.proofs.MenFacts.{same_colour-self}
-use Rattle.chess_cecp.specs.Lines.{LineSeen, Held}
-use Rattle.chess_cecp.specs.Next.{NextLine, GotLine, GotLast, work}
+use Rattle.text_lines.specs.Lines.{LineSeen, Held}
+use Rattle.text_lines.specs.Next.{NextLine, GotLine, GotLast, work}
 use Rattle.chess_match.specs.ties.Delivering.{event_read, Delivered}
 use Rattle.chess_match.proofs.Hearing.{is_heard_of, Tells, HearsAt}
 use Rattle.chess_match.specs.Match.{Match, Event, Line, OutputEnds, FailsToRead, match_after}

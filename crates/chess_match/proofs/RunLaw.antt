@@ -6,7 +6,7 @@ use Rattle.std.specs.Io.KnownBytes.{Consumes}
 use Rattle.std.proofs.lemmas.List.{append_cancel_right}
 use Rattle.chess_base.specs.declared.man.Colour.{Colour}
 use Rattle.byte_devices.specs.Devices.{InputState, OutputState, risen}
-use Rattle.chess_cecp.specs.Run.{risen_if}
+use Rattle.text_lines.specs.Unflushed.{risen_if}
 use Rattle.chess_match.specs.laws.Laws.{ending_in, Streams, IsOf, ShowsAll, OnlyOneOfARun}
 use Rattle.chess_match.specs.Match.{Match, Event, Line, Opened, OutputEnds, FailsToRead, FailsToWrite, start, match_after}
 use Rattle.chess_match.specs.declared.phase.Phase.{Phase}

@@ -6,8 +6,8 @@ use Rattle.chess_base.specs.declared.man.Move.{Move}
 use Rattle.chess_base.specs.declared.setup.Setup.{Setup}
 use Rattle.byte_devices.specs.Devices.{InputState, OutputState}
 use Rattle.chess_base.specs.Men.{other}
-use Rattle.chess_cecp.specs.Lines.{LineSeen, Held, nothing_held}
-use Rattle.chess_cecp.specs.Next.{NextLine}
+use Rattle.text_lines.specs.Lines.{LineSeen, Held, nothing_held}
+use Rattle.text_lines.specs.Next.{NextLine}
 use Rattle.chess_game.specs.Game as game
 use Rattle.chess_game.specs.Game.{from_start}
 use Rattle.chess_match.specs.ties.Chess.{Plays}

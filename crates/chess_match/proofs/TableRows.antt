@@ -5,7 +5,7 @@ use Rattle.std.specs.Fmt.{digits}
 use Rattle.std.specs.Prelude.{codes, nat_le, length, if◌then◌else◌, Option, None, Some}
 use Rattle.chess_base.specs.declared.man.Colour.{Colour}
 use Rattle.chess_base.specs.declared.man.Colour.TheVariants.{White, Black}
-use Rattle.chess_cecp.specs.Commands.{argument_of, command_number}
+use Rattle.text_lines.specs.Words.{argument_of, command_number}
 use Rattle.chess_game.specs.Results.{result_text}
 use Rattle.chess_game.specs.declared.ends.Verdict.TheVariants.{BlackMates}
 use Rattle.std.specs.Str.{bytes_eq}

@@ -3,7 +3,7 @@ use Rattle.std.specs.Prelude.{◌≡◌, ℕ, ◌+◌, ◌*◌, Bool, true, fals
 use Rattle.chess_base.specs.declared.man.Colour.{Colour}
 use Rattle.chess_base.specs.declared.man.Move.{Move}
 use Rattle.byte_devices.specs.Devices.{InputState, OutputState}
-use Rattle.chess_cecp.specs.Lines.{Held}
+use Rattle.text_lines.specs.Lines.{Held}
 use Rattle.chess_match.proofs.Hearing.{Hearing}
 use Rattle.chess_match.specs.Match.{Event}
 use Rattle.chess_match.specs.Notes.{Noted, WasNoted, notes_of}

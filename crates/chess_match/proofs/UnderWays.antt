@@ -7,7 +7,7 @@ use Rattle.chess_base.specs.declared.man.Move.{Move}
 use Rattle.byte_devices.specs.Devices.{InputState, OutputState, BreaksOff}
 use Rattle.chess_base.specs.Men.{other, same_colour}
 use Rattle.chess_base.proofs.MenFacts.{same_colour-true}
-use Rattle.chess_cecp.specs.Lines.{Held, nothing_held}
+use Rattle.text_lines.specs.Lines.{Held, nothing_held}
 use Rattle.chess_match.specs.ties.Delivering.{AllSent, OneFailed, Delivered, first_in}
 use Rattle.chess_match.proofs.Hearing.{Hearing, HearsAt, is_heard_of}
 use Rattle.chess_match.specs.Match.{Match, Event, Line, Opened, OutputEnds, FailsToRead, FailsToWrite, start, match_after}

@@ -4,7 +4,7 @@ ghost use Rattle.std.specs.Prelude.{◌≡◌, List, [], ◌∷◌, ℕ, length,
 ghost use Rattle.arrayvec.specs.ArrayVec.{array_vec_len};
 ghost use Rattle.chess_base.specs.Men.{other};
 ghost use Rattle.chess_base.specs.declared.man.Colour.{Colour};
-ghost use Rattle.chess_cecp.specs.Next.{NextLine, line_read};
+ghost use Rattle.text_lines.specs.Next.{NextLine, line_read};
 ghost use Rattle.chess_game.specs.Game.{with_state, outcome_now, with_declared, verdict_now};
 ghost use Rattle.chess_match.specs.ties.Awaits.{IsAwaited};
 ghost use Rattle.chess_match.specs.ties.Delivering.{by_turn, event_read, line_event, Delivered, HasLast};
@@ -35,10 +35,10 @@ use crate::witness::{NoWitness, Witness};
 use byte_devices::{Input, Output, ReadFault};
 use cecp_engine::{EngineLine, Level, read_engine_line};
 use chess_base::{Colour, Position};
-use chess_cecp::{Line, Lines};
 use chess_game::{Comment, Game, Outcome};
 use chess_moves::Board;
 use chess_pgn::{HowEnded, TagText};
+use text_lines::{Line, Lines};
 
 /// The most bytes of an engine's line; a longer one is ignored.
 pub const ENGINE_LINE_LEN: usize = 8192;

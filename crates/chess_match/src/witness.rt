@@ -7,7 +7,7 @@ ghost use Rattle.chess_match.specs.Run.{text_read};
 
 use crate::run::ENGINE_LINE_LEN;
 use chess_base::Colour;
-use chess_cecp::Line;
+use text_lines::Line;
 
 /// Watches a match, as the log does: it is given each event, and all bytes that an engine is sent.
 pub trait Witness {

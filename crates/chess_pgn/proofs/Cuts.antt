@@ -4,7 +4,8 @@ use Rattle.std.specs.Prelude.{◌&&◌, ◌||◌}
 use Rattle.std.specs.List.{prefix_len, take_while}
 use Rattle.std.proofs.lemmas.Bool.Decides.{nat_tests}
 use Rattle.std.proofs.lemmas.List.{take-append-drop}
-use Rattle.chess_pgn.specs.Tokens.{Token, Unclosed_comment, Unclosed_variation, is_white_space, is_word_byte, is_name_byte, after_brace, after_gap, string_at, onto, after_byte, after_next, variation_at, comment_at, token_at}
+use Rattle.chess_pgn.specs.Tokens.{Token, Unclosed_comment, Unclosed_variation, is_white_space, is_word_byte, after_brace, after_gap, string_at, onto, after_byte, after_next, variation_at, comment_at, token_at}
+use Rattle.text_lines.specs.Words.{is_name_byte}
 use Rattle.chess_pgn.specs.ties.TagParts.{closed, with_text, with_string, with_tag_name, tag_by_parts}
 use Rattle.chess_base.specs.Letters.{is_digit}
 use Rattle.chess_pgn.proofs.TagParts.{parts_are}

@@ -3,7 +3,8 @@ use Rattle.std.proofs.Common.{◌≡◌, ℕ, ◌≤◌, Bool, true, false, not,
 use Rattle.std.specs.List.{list_all, prefix_len, take_while, AllByRecursion}
 use Rattle.std.proofs.lemmas.Bool.{and_parts, and_from, or_parts}
 use Rattle.std.proofs.lemmas.Bool.Decides.{nat_tests}
-use Rattle.chess_pgn.specs.Tokens.{Tag, is_name_byte, after_gap, string_at, onto, token_at}
+use Rattle.chess_pgn.specs.Tokens.{Tag, after_gap, string_at, onto, token_at}
+use Rattle.text_lines.specs.Words.{is_name_byte}
 use Rattle.chess_pgn.specs.ties.TagParts.{with_text, with_tag_name, tag_by_parts}
 use Rattle.chess_pgn.specs.Written.{IsTagText, escaped, tag_line}
 use Rattle.chess_pgn.proofs.PgnWords.{whole_run, not_byte, no_percent}

@@ -4,10 +4,11 @@
 -- variation; that a string may have tabs and more than 255 bytes; and that the bytes EF BB BF at offset 0 are skipped.
 use Rattle.std.specs.Prelude.{ℕ, zero, suc, ◌-◌, Bool, true, false, not, ◌&&◌, ◌||◌, List, [], ◌∷◌, ◌++◌, length, take, drop, slice_index, Option, Some, None, codes, ◌==◌, if◌then◌else◌}
 use Rattle.chess_base.specs.Options.{◌>>=◌}
-use Rattle.chess_base.specs.Letters.{is_digit, is_letter, byte, carriage_return, new_line, space, tab}
+use Rattle.chess_base.specs.Letters.{is_digit, byte, carriage_return, new_line, space, tab}
 use Rattle.std.specs.List.{list_any, prefix_len, position_or_len, take_while}
 use Rattle.std.specs.Option.{option_map, option_map_or, unwrap_or}
 use Rattle.std.specs.Str.{bytes_eq}
+use Rattle.text_lines.specs.Words.{is_name_byte}
 
 -- a token of a PGN text (section 7): what is skipped, such as white space, a comment or a variation; a tag; a word,
 -- such as a move; or what can't be read. A field `left` is the number of bytes from a place to the text's end
@@ -27,10 +28,6 @@ pub data Token : Type 0 where
 -- whether a byte is a space, a tab, or one of `\n` and `\r`
 abbrev pub is_white_space : ℕ → Bool
 is_white_space c = c == space || (c == tab || (c == new_line || c == carriage_return))
-
--- whether a byte may be in a tag's name: letters, digits and `_`
-abbrev pub is_name_byte : ℕ → Bool
-is_name_byte c = is_letter c || (is_digit c || c == byte "_")
 
 -- whether a byte may be in a word (`Nf3+`, `O-O`, `1/2-1/2`): letters, digits, `_`, `+`, `#`, `=`, `-`, `/`, `!`, `?`
 -- and `:`

@@ -1,7 +1,8 @@
 //! Kinds of bytes.
 
 ghost use Rattle.std.specs.Prelude.{◌≡◌, ◌||◌, ◌==◌};
-ghost use Rattle.chess_pgn.specs.Tokens.{is_white_space, is_name_byte, is_word_byte};
+ghost use Rattle.chess_pgn.specs.Tokens.{is_white_space, is_word_byte};
+ghost use Rattle.text_lines.specs.Words.{is_name_byte};
 ghost use Rattle.chess_base.specs.Letters.{byte, is_digit};
 
 // What each byte is where a token begins: `w` one of a word, `p` white space or a dot, `-` any other.

@@ -3,7 +3,8 @@
 ghost use Rattle.std.specs.Prelude.{◌≡◌, ◌+◌, ◌≤◌, drop, false, length, take, take_while, Option};
 ghost use Rattle.std.specs.List.{position_or_len, prefix_len};
 ghost use Rattle.std.specs.Option.{option_map};
-ghost use Rattle.chess_pgn.specs.Tokens.{is_name_byte, is_white_space, after_next, onto, string_at};
+ghost use Rattle.text_lines.specs.Words.{is_name_byte};
+ghost use Rattle.chess_pgn.specs.Tokens.{is_white_space, after_next, onto, string_at};
 ghost use Rattle.chess_pgn.specs.ties.TagParts.{ends_plain, tag_by_parts};
 ghost use Rattle.chess_pgn.specs.ties.Seen.{tag_seen};
 

@@ -8,10 +8,10 @@ use byte_devices::{Counted, PieceReader, PieceWriter};
 use cecp_engine::Level;
 use chess_base::{Colour, Position};
 use chess_bits::{AttackTables, Bits};
-use chess_cecp::Line;
 use chess_game::{Game, MOST_MOVES};
 use chess_match::{ENGINE_LINE_LEN, Ends, MatchEnd, Moments, Setup, Witness, run_match_watched};
 use chess_text::coordinate;
+use text_lines::Line;
 use std::alloc::{AllocError, Global};
 
 /// What two engines send in a match, each engine's lines as one text.

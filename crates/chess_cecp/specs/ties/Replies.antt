@@ -1,6 +1,6 @@
 -- What answers a line: a text that is put together, the legal moves, or the game's text; and the session after it.
 use Rattle.std.specs.Prelude.{if◌then◌else◌, ◌&&◌, not, ℕ, List, Bool, true, false}
-use Rattle.chess_cecp.specs.Lines.{LineSeen}
+use Rattle.text_lines.specs.Lines.{LineSeen}
 use Rattle.chess_cecp.specs.Held.{SessionSeen}
 use Rattle.chess_cecp.specs.Serving.{Response}
 use Rattle.chess_game.specs.Game.{State}

@@ -2,7 +2,8 @@
 use Rattle.std.specs.Prelude.{ℕ, Bool, false, ◌||◌, ◌==◌, List, [], ◌∷◌, length, drop, Option, Some, None}
 use Rattle.std.specs.List.{prefix_len, take_while}
 use Rattle.chess_base.specs.Letters.{byte, new_line}
-use Rattle.chess_pgn.specs.Tokens.{Token, Tag, Bad_tag, is_name_byte, after_gap, after_next, string_at}
+use Rattle.chess_pgn.specs.Tokens.{Token, Tag, Bad_tag, after_gap, after_next, string_at}
+use Rattle.text_lines.specs.Words.{is_name_byte}
 
 -- whether a byte of a tag's string is no plain one: a quote, a backslash or `\n`
 abbrev pub ends_plain : ℕ → Bool

@@ -1,7 +1,7 @@
 -- All lines so far were answered, and the server ended with none of them (RunLemmas.SoFar). An answer more keeps that
 -- (RunLemmas.go_on), and each way out gives the transcript of its end (RunLemmas.by_line and those after it).
 use Rattle.std.proofs.Common.{[], subst, sym}
-use Rattle.chess_cecp.specs.Lines.{Held}
+use Rattle.text_lines.specs.Lines.{Held}
 use Rattle.byte_devices.specs.declared.traits.ReadFault.{ReadFault}
 use Rattle.chess_cecp.proofs.RunLemmas.{SoFar, start, reached, go_on, by_line, by_write, by_last, by_end, by_read, over_told, on_told}
 use Rattle.chess_cecp.proofs.run.serve_lines.Goals as goal

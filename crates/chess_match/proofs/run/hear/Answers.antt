@@ -1,6 +1,6 @@
 -- A line, the end, or a read that failed.
 use Rattle.std.proofs.Common.{ap, sym, ◌∙◌, Ok, refl}
-use Rattle.chess_cecp.specs.Next.{line_read}
+use Rattle.text_lines.specs.Next.{line_read}
 use Rattle.chess_match.proofs.Delivers.{IsNoted, heard_failed, heard_none, heard_last, noted_bare}
 use Rattle.chess_match.proofs.Going.{reads_on}
 use Rattle.chess_match.specs.Match.{FailsToRead, OutputEnds}

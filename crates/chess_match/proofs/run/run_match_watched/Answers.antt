@@ -3,8 +3,8 @@ use Rattle.std.proofs.Common.{◌≡◌, List, [], ◌∷◌, ◌++◌, true, re
 use Rattle.chess_base.specs.declared.man.Colour.{Colour}
 use Rattle.chess_base.specs.declared.man.Move.{Move}
 use Rattle.chess_base.specs.declared.setup.Setup.{Setup}
-use Rattle.chess_cecp.specs.Lines.{nothing_held}
-use Rattle.chess_cecp.specs.Next.{line_read}
+use Rattle.text_lines.specs.Lines.{nothing_held}
+use Rattle.text_lines.specs.Next.{line_read}
 use Rattle.chess_game.specs.Game as game
 use Rattle.chess_match.specs.ties.Delivering.{event_read}
 use Rattle.chess_match.specs.Match.{Match, Opened, start, match_after}

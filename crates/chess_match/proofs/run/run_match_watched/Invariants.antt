@@ -1,5 +1,5 @@
 use Rattle.std.proofs.Common.{◌≡◌, ◌+◌, List, [], None}
-use Rattle.chess_cecp.specs.Next.{work}
+use Rattle.text_lines.specs.Next.{work}
 use Rattle.chess_match.specs.Match.{Event}
 use Rattle.chess_match.specs.Rules.{rules_of}
 use Rattle.chess_match.proofs.UnderWay.{IsUnderWay, steps_left}

@@ -1,8 +1,0 @@
--- After what was added stand the same lines, and so the same line is ended (LineEnds.same_line).
-use Rattle.std.proofs.Common.{sym, ◌++◌, ◌∙◌}
-use Rattle.chess_cecp.proofs.LineEnds.{same_line}
-use Rattle.chess_cecp.proofs.lines.Part.finish_with.Goals as goal
-
-pub returns-else-is_empty-clause-line : goal.returns-else-is_empty-clause-line
-returns-else-is_empty-clause-line g c = c.finish.ensures.line
-    ∙ sym (same_line g.row.N (c.args.self.now ++ c.args.bytes.now) c.add.new.self c.add.ensures)

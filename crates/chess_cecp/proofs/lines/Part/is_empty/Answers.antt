@@ -1,6 +1,0 @@
-use Rattle.chess_cecp.proofs.Parts.{long_has_bytes}
-use Rattle.chess_cecp.proofs.lines.Part.is_empty.Goals as goal
-
-pub returns-then-self : goal.returns-then-self
-returns-then-self g c =
-    long_has_bytes c.self.inside.bytes.items c.args.self.now c.self.inside.is_too_long c.self.view_is c.if-self.true

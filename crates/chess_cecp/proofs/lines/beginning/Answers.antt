@@ -1,6 +1,0 @@
-use Rattle.std.proofs.Common.{arith, sym}
-use Rattle.std.proofs.lemmas.List.{length-take-le}
-use Rattle.chess_cecp.proofs.lines.beginning.Goals as goal
-
-pub slice_bounds-result-end : goal.slice_bounds-result-end
-slice_bounds-result-end c = sym (length-take-le 64 c.args.text.now (omega (arith, c.if-text-gt64.true)))

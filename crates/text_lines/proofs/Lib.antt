@@ -1,0 +1,5 @@
+pub mod FewDigits
+pub mod Trims
+pub mod Parts
+pub mod LineEnds
+pub mod Reading

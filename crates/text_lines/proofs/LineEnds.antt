@@ -1,0 +1,163 @@
+-- Where a line ends in a text, and what that says of the lines.
+use Rattle.std.proofs.Common.{◌≡◌, ◌≢◌, ◌≤◌, ◌<◌, ℕ, zero, suc, ◌+◌, ◌-◌, eqb, Bool, true, false, List, [], ◌∷◌, ◌++◌, length, map, take, drop, Some, None, add-one, refl, sym, ap, ◌∙◌, arith, append_assoc, append-nil, length-drop}
+use Rattle.std.specs.Prelude.{cond, not, slice_range}
+use Rattle.std.proofs.lemmas.Bool.{eqb-true}
+use Rattle.std.proofs.lemmas.List.{drop-drop, drop-take, drop_all, take_all, length-take}
+use Rattle.std.proofs.Math.Nat.{min-le_left}
+use Rattle.std.proofs.lemmas.List.Sums.{prefix_len-le-length}
+use Rattle.std.proofs.lemmas.Simd.{leading_from_mask_l, trailing_mask_l}
+use lib.Count.{count_trailing_zeros}
+use lib.Lanes.{mask_l}
+use Rattle.text_lines.specs.Lines.{LineSeen, Held, line_of, lines_from, lines_held}
+use Rattle.text_lines.specs.ties.Kept.{line_len, SameLines, HeldLine}
+use Rattle.text_lines.proofs.Parts.{byte_step, ten_step, none_from, line_ended}
+
+-- ---- by blocks
+
+-- of a text that begins with byte 10, and of one that begins with another byte
+at_once : (x : ℕ) (xs : List ℕ) → eqb x 10 ≡ true → line_len (x ∷ xs) ≡ 0
+at_once x xs e = ap (λ b. cond (not b) (1 + line_len xs) 0) e
+
+one_more : (x : ℕ) (xs : List ℕ) → eqb x 10 ≡ false → line_len (x ∷ xs) ≡ 1 + line_len xs
+one_more x xs e = ap (λ b. cond (not b) (1 + line_len xs) 0) e
+
+-- past the bytes before the first byte 10 of a text's first n bytes, or past all n
+skip : (n : ℕ) (xs : List ℕ) → line_len (take n xs) + line_len (drop (line_len (take n xs)) xs) ≡ line_len xs
+skip zero xs = omega arith
+skip (suc n) [] = refl
+skip (suc n) (x ∷ xs) = by_test (eqb x 10) refl (skip n xs)
+  where
+    past : ℕ → List ℕ → ℕ
+    past k ys = k + line_len (drop k ys)
+
+    by_test : (b : Bool) → eqb x 10 ≡ b → past (line_len (take n xs)) xs ≡ line_len xs
+        → past (line_len (take (suc n) (x ∷ xs))) (x ∷ xs) ≡ line_len (x ∷ xs)
+    by_test true e on = ap (λ k. past k (x ∷ xs)) (at_once x (take n xs) e) ∙ omega arith
+    by_test false e on =
+        let here : line_len (x ∷ xs) ≡ 1 + line_len xs = one_more x xs e in
+        let up : 1 + line_len (take n xs) ≡ suc (line_len (take n xs)) = omega arith in
+        let behind : line_len (drop (1 + line_len (take n xs)) (x ∷ xs)) ≡ line_len (drop (line_len (take n xs)) xs) =
+        ap (λ k. line_len (drop k (x ∷ xs))) up in
+        ap (λ k. past k (x ∷ xs)) (one_more x (take n xs) e) ∙ omega (arith, behind, on, here)
+
+pub skipped : (n k r : ℕ) (text : List ℕ) → r ≡ line_len (take n (drop k text))
+    → k + line_len (drop k text) ≡ line_len text → k + r + line_len (drop (k + r) text) ≡ line_len text
+skipped n k r text h so =
+    let on = skip n (drop k text) in
+    let there = ap line_len (drop-drop r k text) in
+    let back = ap (λ m. m + line_len (drop m (drop k text))) h in
+    omega (arith, on, there, so, back)
+
+-- by a mask, in which a bit is set for each byte 10 of 16 bytes: none is set
+pub none_set : (xs : List ℕ) (mask : ℕ) → mask ≡ mask_l (map (λ x. eqb x 10) xs) → length xs ≡ 16 → mask ≡ 0
+    → 16 ≡ line_len xs
+none_set xs mask is long none = sym (leading_from_mask_l (λ x. eqb x 10) xs (sym is ∙ none) ∙ long)
+
+-- one is set: the lowest is that of the first
+pub some_set : (xs : List ℕ) (mask : ℕ) → mask ≡ mask_l (map (λ x. eqb x 10) xs) → length xs ≡ 16 → mask ≢ 0
+    → count_trailing_zeros 64 mask ≡ line_len xs
+some_set xs mask is long some =
+    ap (λ m. count_trailing_zeros 64 m) is
+    ∙ trailing_mask_l (λ x. eqb x 10) 64 xs (omega (arith, long)) (omega (arith, is, some))
+
+pub few_before : (xs : List ℕ) (r : ℕ) → r ≡ line_len xs → length xs ≡ 16 → r ≤ 16
+few_before xs r is long =
+    let few = prefix_len-le-length (λ x. not (eqb x 10)) xs in omega (arith, few, is, long)
+
+-- ---- the lines
+
+-- the bytes before the first byte 10 go to the part
+passed : (n : ℕ) (at_end : Bool) (part coming rest : List ℕ) → lines_from n at_end part (coming ++ rest)
+    ≡ lines_from n at_end (part ++ take (line_len coming) coming) (drop (line_len coming) coming ++ rest)
+passed n at_end part [] rest = ap (λ v. lines_from n at_end v rest) (sym (append-nil part))
+passed n at_end part (c ∷ cs) rest = by_test (eqb c 10) refl (passed n at_end (part ++ c ∷ []) cs rest)
+  where
+    past : ℕ → List ℕ → List ℕ → List LineSeen
+    past k front text = lines_from n at_end (front ++ take k text) (drop k text ++ rest)
+
+    by_test : (b : Bool) → eqb c 10 ≡ b
+        → lines_from n at_end (part ++ c ∷ []) (cs ++ rest) ≡ past (line_len cs) (part ++ c ∷ []) cs
+        → lines_from n at_end part (c ∷ (cs ++ rest)) ≡ past (line_len (c ∷ cs)) part (c ∷ cs)
+    by_test true e on =
+        sym (ap (λ k. past k part (c ∷ cs)) (at_once c cs e)
+        ∙ ap (λ v. lines_from n at_end v (c ∷ (cs ++ rest))) (append-nil part))
+    by_test false e on =
+        let other : c ≢ 10 = grind arith in
+        let up : 1 + line_len cs ≡ suc (line_len cs) = omega arith in
+        byte_step n at_end part c (cs ++ rest) other ∙ on
+        ∙ ap (λ v. lines_from n at_end v (drop (line_len cs) cs ++ rest))
+        (append_assoc part (c ∷ []) (take (line_len cs) cs))
+        ∙ sym (ap (λ k. past k part (c ∷ cs)) (one_more c cs e ∙ up))
+
+ends_at : (k : ℕ) (xs : List ℕ) → line_len xs ≡ k → k < length xs → drop k xs ≡ 10 ∷ drop (suc k) xs
+ends_at k [] h l = absurd (omega (arith, l))
+ends_at zero (x ∷ xs) h l = by_test (eqb x 10) refl
+  where
+    by_test : (b : Bool) → eqb x 10 ≡ b → x ∷ xs ≡ 10 ∷ xs
+    by_test true e = ap (λ y. y ∷ xs) (eqb-true x 10 e)
+    by_test false e = let here = one_more x xs e in absurd (omega (arith, here, h))
+ends_at (suc k) (x ∷ xs) h l = by_test (eqb x 10) refl (λ e. ends_at k xs e (omega (arith, l)))
+  where
+    by_test : (b : Bool) → eqb x 10 ≡ b → (line_len xs ≡ k → drop k xs ≡ 10 ∷ drop (suc k) xs)
+        → drop k xs ≡ 10 ∷ drop (suc k) xs
+    by_test true e on = let here = at_once x xs e in absurd (omega (arith, here, h))
+    by_test false e on = let here = one_more x xs e in on (omega (arith, here, h))
+
+-- no byte 10 is held: all bytes go to the part
+pub none_held : (n : ℕ) (held : Held) (part' coming' : List ℕ) (k : ℕ) → k ≡ line_len held.coming
+    → k ≡ length held.coming → SameLines n (held.part ++ held.coming) part' → coming' ≡ []
+    → HeldLine n held (record { part = part'; coming = coming' }) None
+none_held n held part' coming' k is all same empty =
+    let moved : (at_end : Bool) (rest : List ℕ) → lines_held n at_end held rest ≡ lines_from n at_end part' rest =
+    λ at_end rest. passed n at_end held.part held.coming rest
+    ∙ ap (λ m. lines_from n at_end (held.part ++ take m held.coming) (drop m held.coming ++ rest)) (sym is ∙ all)
+    ∙ ap (λ v. lines_from n at_end (held.part ++ v) (drop (length held.coming) held.coming ++ rest))
+    (take_all (length held.coming) held.coming (omega arith))
+    ∙ ap (λ v. lines_from n at_end (held.part ++ held.coming) (v ++ rest))
+    (drop_all (length held.coming) held.coming (omega arith))
+    ∙ same at_end rest in (
+      moved false [] ∙ none_from n part',
+      empty,
+      λ at_end rest. moved at_end rest ∙ ap (λ v. lines_from n at_end part' (v ++ rest)) (sym empty),
+    )
+
+-- a byte 10 is held: the part with the bytes before it is a line
+pub line_held : (n : ℕ) (held : Held) (part' coming' : List ℕ) (k : ℕ) (line : LineSeen)
+    → k ≡ line_len held.coming → k < length held.coming → line ≡ line_of n true (held.part ++ take k held.coming)
+    → part' ≡ [] → coming' ≡ drop (k + 1) held.coming
+    → HeldLine n held (record { part = part'; coming = coming' }) (Some line)
+line_held n held part' coming' k line is within shown empty left =
+    let whole : List ℕ = held.part ++ take k held.coming in
+    let len : length (drop (k + 1) held.coming) ≡ length held.coming - (k + 1) = length-drop (k + 1) held.coming in
+    let cut : drop k held.coming ≡ 10 ∷ drop (k + 1) held.coming =
+    ends_at k held.coming (sym is) within ∙ ap (λ m. 10 ∷ drop m held.coming) (sym (add-one k)) in (
+      ap (λ (l : LineSeen). l.ended) shown ∙ line_ended n true whole,
+      omega (arith, len, within, ap length left),
+      λ at_end rest. passed n at_end held.part held.coming rest
+          ∙ ap (λ m. lines_from n at_end (held.part ++ take m held.coming) (drop m held.coming ++ rest)) (sym is)
+          ∙ ap (λ v. lines_from n at_end whole (v ++ rest)) cut
+          ∙ ten_step n at_end whole 10 (drop (k + 1) held.coming ++ rest) refl
+          ∙ ap (λ v. v ∷ lines_from n at_end [] (drop (k + 1) held.coming ++ rest)) (sym shown)
+          ∙ ap (λ v. line ∷ lines_from n at_end v (drop (k + 1) held.coming ++ rest)) (sym empty)
+          ∙ ap (λ v. line ∷ lines_from n at_end part' (v ++ rest)) (sym left),
+    )
+
+-- after the same lines stands the same line, where `\n` follows
+pub same_line : (n : ℕ) (x y : List ℕ) → SameLines n x y → line_of n true x ≡ line_of n true y
+same_line n x y same = heads (line_of n true x) (line_of n true y) (lines_from n true [] []) (
+    sym (ten_step n true x 10 [] refl) ∙ same true (10 ∷ []) ∙ ten_step n true y 10 [] refl
+    )
+  where
+    heads : (a b : LineSeen) (ls : List LineSeen) → a ∷ ls ≡ b ∷ ls → a ≡ b
+    heads a b ls e = cc
+
+-- a window without its first bytes
+pub window_left : (piece : List ℕ) (from to count : ℕ) → from ≤ to → count ≤ length (slice_range piece from to)
+    → slice_range piece (from + count) to ≡ drop count (slice_range piece from to)
+window_left piece from to count ordered few =
+    let len = length-take (to - from) (drop from piece) in
+    let le = min-le_left (to - from) (length (drop from piece)) in
+    let cut : to - from ≡ count + (to - (from + count)) = omega (arith, few, len, le, ordered) in
+    sym (ap (λ k. drop count (take k (drop from piece))) cut
+    ∙ drop-take count (to - (from + count)) (drop from piece)
+    ∙ ap (take (to - (from + count))) (drop-drop count from piece))

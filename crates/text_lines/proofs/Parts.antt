@@ -1,0 +1,287 @@
+-- What has come of a line.
+use Rattle.std.proofs.Common.{◌≡◌, ℕ, ◌+◌, ◌-◌, ◌<◌, ◌≤◌, ◌==◌, ◌&&◌, nat_lt, nat_eq, min, ◌≢◌, Bool, true, false, List, [], ◌∷◌, ◌++◌, length, take, drop, get_or, refl, sym, ap, ◌∙◌, arith, append_assoc, append-nil, length-append, if◌then◌else◌}
+use Rattle.std.specs.List.{list_all, onto_first}
+use Rattle.std.proofs.lemmas.List.Splits.{slice_split-cons_yes, slice_split-cons_no}
+use Rattle.std.proofs.lemmas.List.{take-take, take-append-le, take-append-drop, take_min, take_all, length-take, length-take-le}
+use Rattle.std.proofs.Math.Nat.{min-le_right}
+use Rattle.std.proofs.lemmas.Grind.{common_steps}
+use Rattle.std.proofs.lemmas.Bool.Decides.{nat_tests}
+use Rattle.text_lines.specs.ties.Kept.{kept_part, SameLines}
+use Rattle.text_lines.specs.Lines.{line_of, lines_from, parts, lines_of_parts, with_front, trimmed, is_blank, without_front_blanks, without_end_blanks, without_return}
+
+lt_true : (m n : ℕ) → m < n → nat_lt m n ≡ true
+lt_true m n h = grind arith
+
+-- a text of no more than 64 bytes is its first 64; these are no more than the text has
+pub all_taken : (xs : List ℕ) → length xs ≤ 64 → xs ≡ take 64 xs
+all_taken xs h = sym (take_all 64 xs h)
+
+pub beginning_short : (xs : List ℕ) → length (take 64 xs) ≤ length xs
+beginning_short xs =
+    let is : length (take 64 xs) ≡ min 64 (length xs) = length-take 64 xs in
+    let le : min 64 (length xs) ≤ length xs = min-le_right 64 (length xs) in
+    omega (arith, is, le)
+
+-- of a part of more bytes than are kept some are there
+pub long_has_bytes : (items part : List ℕ) (long : Bool) → kept_part items long ≡ part → long ≡ true
+    → false ≡ (length part == 0)
+long_has_bytes items part true is h =
+    let len : length (items ++ 0 ∷ []) ≡ length items + 1 = grind (arith, common_steps) in
+    let some : nat_eq (length (items ++ 0 ∷ [])) 0 ≡ false = grind arith in
+    sym some ∙ ap (λ (xs : List ℕ). length xs == 0) is
+long_has_bytes items part false is h = absurd (cc)
+
+-- so many bytes show of a line that is too long
+shown_len : ℕ → ℕ
+shown_len n = min 64 n
+
+shown_le : (n : ℕ) → shown_len n ≤ n
+unfolding shown_len
+shown_le n = min-le_right 64 n
+
+line_long : (n : ℕ) (e : Bool) (x y : List ℕ) → n < length x → n < length y
+    → take (shown_len n) x ≡ take (shown_len n) y → line_of n e x ≡ line_of n e y
+unfolding line_of shown_len
+line_long n e x y h k t = rw (lt_true n (length x) h, lt_true n (length y) k, t) refl
+
+-- ---- the parts of a text, of which the first has come in part
+
+-- a list of at least one part
+record SomeParts (all : List (List ℕ)) : Type 0 where
+  first : List ℕ
+  more : List (List ℕ)
+  is : all ≡ first ∷ more
+
+some_more : (c : ℕ) (all : List (List ℕ)) → SomeParts (onto_first c all)
+some_more c [] = record { first = c ∷ []; more = []; is = refl }
+some_more c (part ∷ more) = record { first = c ∷ part; more = more; is = refl }
+
+-- every text has a part
+some_parts : (bytes : List ℕ) → SomeParts (parts bytes)
+some_parts [] = record { first = []; more = []; is = refl }
+some_parts (c ∷ cs) = at (c == 10) refl
+  where
+    at : (b : Bool) → (c == 10) ≡ b → SomeParts (parts (c ∷ cs))
+    at true e = record { first = []; more = parts cs; is = slice_split-cons_yes (λ b. b == 10) c cs e }
+    at false e =
+        let s = some_more c (parts cs) in
+        record { first = s.first; more = s.more; is = slice_split-cons_no (λ b. b == 10) c cs e ∙ s.is }
+
+-- what has come is put before the first part
+front_of : (front part : List ℕ) (more : List (List ℕ)) → with_front front (part ∷ more) ≡ (front ++ part) ∷ more
+front_of [] part more = refl
+front_of (b ∷ front) part more = ap (onto_first b) (front_of front part more)
+
+ended_first : (n : ℕ) (at_end : Bool) (part : List ℕ) (all : List (List ℕ)) → SomeParts all
+    → lines_of_parts n at_end (part ∷ all) ≡ line_of n true part ∷ lines_of_parts n at_end all
+unfolding lines_of_parts
+ended_first n at_end part all s = rw s.is refl
+
+pub ten_step : (n : ℕ) (at_end : Bool) (part : List ℕ) (b : ℕ) (bs : List ℕ) → b ≡ 10
+    → lines_from n at_end part (b ∷ bs) ≡ line_of n true part ∷ lines_from n at_end [] bs
+ten_step n at_end part b bs h =
+    let e : nat_eq b 10 ≡ true = grind arith in
+    ap (λ all. lines_of_parts n at_end (with_front part all)) (slice_split-cons_yes (λ c. c == 10) b bs e)
+    ∙ ap (lines_of_parts n at_end) (front_of part [] (parts bs) ∙ ap (λ v. v ∷ parts bs) (append-nil part))
+    ∙ ended_first n at_end part (parts bs) (some_parts bs)
+
+pub byte_step : (n : ℕ) (at_end : Bool) (part : List ℕ) (b : ℕ) (bs : List ℕ) → b ≢ 10
+    → lines_from n at_end part (b ∷ bs) ≡ lines_from n at_end (part ++ b ∷ []) bs
+byte_step n at_end part b bs h =
+    let e : nat_eq b 10 ≡ false = grind arith in
+    let s = some_parts bs in
+    ap (lines_of_parts n at_end) (
+    ap (with_front part) (slice_split-cons_no (λ c. c == 10) b bs e ∙ ap (onto_first b) s.is)
+    ∙ front_of part (b ∷ s.first) s.more
+    ∙ ap (λ v. v ∷ s.more) (sym (append_assoc part (b ∷ []) s.first))
+    ∙ sym (front_of (part ++ b ∷ []) s.first s.more)
+    ∙ ap (with_front (part ++ b ∷ [])) (sym s.is)
+    )
+
+-- what has come, where nothing follows it
+alone : (part : List ℕ) → with_front part (parts []) ≡ part ∷ []
+alone part = front_of part [] [] ∙ ap (λ v. v ∷ []) (append-nil part)
+
+last_of : (n : ℕ) (part : List ℕ) → lines_of_parts n false (part ∷ []) ≡ []
+unfolding lines_of_parts
+last_of n part = refl
+
+pub none_from : (n : ℕ) (part : List ℕ) → lines_from n false part [] ≡ []
+none_from n part = ap (lines_of_parts n false) (alone part) ∙ last_of n part
+
+last_at_end : (n : ℕ) (part : List ℕ) → 0 < length part → lines_of_parts n true (part ∷ []) ≡ line_of n false part ∷ []
+unfolding lines_of_parts
+last_at_end n part h = rw (lt_true 0 (length part) h) refl
+
+pub last_left : (n : ℕ) (part : List ℕ) → 0 < length part → lines_from n true part [] ≡ line_of n false part ∷ []
+last_left n part h = ap (lines_of_parts n true) (alone part) ∙ last_at_end n part h
+
+pub nothing_left : (n : ℕ) (at_end : Bool) → lines_from n at_end [] [] ≡ []
+unfolding lines_of_parts
+nothing_left n true = refl
+nothing_left n false = refl
+
+-- lines that are too long are alike where the bytes are that show
+long_same : (n : ℕ) (x y : List ℕ) → n < length x → n < length y → take (shown_len n) x ≡ take (shown_len n) y
+    → SameLines n x y
+long_same n x y h k t true [] =
+    last_left n x (omega arith) ∙ ap (λ line. line ∷ []) (line_long n false x y h k t)
+    ∙ sym (last_left n y (omega arith))
+long_same n x y h k t false [] = none_from n x ∙ sym (none_from n y)
+long_same n x y h k t at_end (c ∷ cs) =
+    let len_x : length (x ++ c ∷ []) ≡ length x + 1 = grind (arith, common_steps) in
+    let len_y : length (y ++ c ∷ []) ≡ length y + 1 = grind (arith, common_steps) in
+    let few : shown_len n ≤ n = shown_le n in
+    at (c == 10) refl (
+    long_same n (x ++ c ∷ []) (y ++ c ∷ []) (omega arith) (omega arith)
+    (take-append-le (shown_len n) x (c ∷ []) (omega arith) ∙ t
+    ∙ sym (take-append-le (shown_len n) y (c ∷ []) (omega arith))) at_end cs
+    )
+  where
+    at : (b : Bool) → (c == 10) ≡ b → lines_from n at_end (x ++ c ∷ []) cs ≡ lines_from n at_end (y ++ c ∷ []) cs
+        → lines_from n at_end x (c ∷ cs) ≡ lines_from n at_end y (c ∷ cs)
+    at true e on =
+        let ten : c ≡ 10 = grind arith in
+        ten_step n at_end x c cs ten ∙ ap (λ line. line ∷ lines_from n at_end [] cs) (line_long n true x y h k t)
+        ∙ sym (ten_step n at_end y c cs ten)
+    at false e on =
+        let other : c ≢ 10 = grind arith in
+        byte_step n at_end x c cs other ∙ on ∙ sym (byte_step n at_end y c cs other)
+
+-- bytes past the last that is kept: whichever they are, the lines are the same
+pub overflow_same : (n : ℕ) (items : List ℕ) (long : Bool) (bytes : List ℕ) → (long ≡ true → length items ≡ n)
+    → length items ≤ n → n - length items < length bytes
+    → SameLines n (kept_part items long ++ bytes) ((items ++ take (n - length items) bytes) ++ 0 ∷ [])
+overflow_same n items true bytes full fits over =
+    let r = n - length items in
+    let at : length items ≡ n = full refl in
+    let few : shown_len n ≤ n = shown_le n in
+    let l1 : length (items ++ 0 ∷ []) ≡ length items + 1 = length-append items (0 ∷ []) in
+    let l2 : length ((items ++ 0 ∷ []) ++ bytes) ≡ length (items ++ 0 ∷ []) + length bytes =
+    length-append (items ++ 0 ∷ []) bytes in
+    let l3 : length (items ++ take r bytes) ≡ length items + length (take r bytes) =
+    length-append items (take r bytes) in
+    let l4 : length ((items ++ take r bytes) ++ 0 ∷ []) ≡ length (items ++ take r bytes) + 1 =
+    length-append (items ++ take r bytes) (0 ∷ []) in
+    long_same n ((items ++ 0 ∷ []) ++ bytes) ((items ++ take r bytes) ++ 0 ∷ []) (omega arith) (omega arith)
+    (take-append-le (shown_len n) (items ++ 0 ∷ []) bytes (omega arith)
+    ∙ take-append-le (shown_len n) items (0 ∷ []) (omega arith)
+    ∙ sym (take-append-le (shown_len n) items (take r bytes) (omega arith))
+    ∙ sym (take-append-le (shown_len n) (items ++ take r bytes) (0 ∷ []) (omega arith)))
+overflow_same n items false bytes full fits over =
+    let r = n - length items in
+    let few : shown_len n ≤ n = shown_le n in
+    let l1 : length (items ++ bytes) ≡ length items + length bytes = length-append items bytes in
+    let l2 : length (take r bytes) ≡ r = length-take-le r bytes (omega arith) in
+    let l3 : length (items ++ take r bytes) ≡ length items + length (take r bytes) =
+    length-append items (take r bytes) in
+    let l4 : length ((items ++ take r bytes) ++ 0 ∷ []) ≡ length (items ++ take r bytes) + 1 =
+    length-append (items ++ take r bytes) (0 ∷ []) in
+    let split : items ++ bytes ≡ (items ++ take r bytes) ++ drop r bytes =
+    ap (λ v. items ++ v) (sym (take-append-drop r bytes)) ∙ sym (append_assoc items (take r bytes) (drop r bytes)) in
+    long_same n (items ++ bytes) ((items ++ take r bytes) ++ 0 ∷ []) (omega arith) (omega arith)
+    (ap (take (shown_len n)) split
+    ∙ take-append-le (shown_len n) (items ++ take r bytes) (drop r bytes) (omega arith)
+    ∙ sym (take-append-le (shown_len n) (items ++ take r bytes) (0 ∷ []) (omega arith)))
+
+le-ltb_false : (n m : ℕ) → m ≤ n → nat_lt n m ≡ false
+le-ltb_false n m h = grind arith
+
+cond_short : (b : Bool) (c : ℕ) (xs ys : List ℕ) → length xs ≤ length ys
+    → length (if b then [] else c ∷ xs) ≤ length (c ∷ ys)
+cond_short true c xs ys h = grind arith
+cond_short false c xs ys h = grind arith
+
+front_cond : (b : Bool) (c : ℕ) (cs xs : List ℕ) → length xs ≤ length cs
+    → length (if b then xs else c ∷ cs) ≤ length (c ∷ cs)
+front_cond true c cs xs h = grind arith
+front_cond false c cs xs h = grind arith
+
+line_short : (n : ℕ) (e : Bool) (x : List ℕ) → length x ≤ n
+    → line_of n e x ≡ record { text = trimmed x; too_long = false; ended = e }
+unfolding line_of
+line_short n e x h = rw (le-ltb_false n (length x) h) refl
+
+line_over : (n : ℕ) (e : Bool) (x : List ℕ) → n < length x
+    → line_of n e x ≡ record { text = take (shown_len n) x; too_long = true; ended = e }
+unfolding line_of shown_len
+line_over n e x h = rw (lt_true n (length x) h) refl
+
+-- of n bytes that are kept the first 64 are those that show
+shown_kept : (n : ℕ) (items : List ℕ) → length items ≡ n → take (shown_len n) items ≡ take 64 items
+unfolding shown_len
+shown_kept n items e = ap (λ k. take (min 64 k) items) (sym e) ∙ take_min 64 items
+
+-- the line of a part that is kept
+pub line_kept : (n : ℕ) (e long : Bool) (items text whole : List ℕ) → (long ≡ true → length items ≡ n)
+    → length items ≤ n → kept_part items long ≡ whole
+    → (long ≡ true → text ≡ take 64 items) → (long ≡ false → text ≡ trimmed items)
+    → record { text = text; too_long = long; ended = e } ≡ line_of n e whole
+line_kept n e true items text whole full short is t f =
+    let len : length (items ++ 0 ∷ []) ≡ length items + 1 = grind (arith, common_steps) in
+    let at : length items ≡ n = full refl in
+    let few : shown_len n ≤ n = shown_le n in
+    ap (λ v. record { text = v; too_long = true; ended = e })
+    (t refl ∙ sym (shown_kept n items at) ∙ sym (take-append-le (shown_len n) items (0 ∷ []) (omega arith)))
+    ∙ sym (line_over n e (items ++ 0 ∷ []) (omega arith)) ∙ ap (line_of n e) is
+line_kept n e false items text whole full short is t f =
+    ap (λ v. record { text = v; too_long = false; ended = e }) (f refl) ∙ sym (line_short n e items short)
+    ∙ ap (line_of n e) is
+
+-- the line of bytes that have come at once, of which the first n are kept
+pub line_put : (n : ℕ) (e : Bool) (bytes kept text : List ℕ)
+    → (nat_lt n (length bytes) ≡ true → text ≡ take 64 kept)
+    → (nat_lt n (length bytes) ≡ false → text ≡ trimmed kept)
+    → (n < length bytes → kept ≡ take n bytes) → (length bytes ≤ n → kept ≡ bytes)
+    → record { text = text; too_long = nat_lt n (length bytes); ended = e } ≡ line_of n e bytes
+line_put n e bytes kept text long short front whole = at (nat_lt n (length bytes)) refl long short
+  where
+    at : (b : Bool) → nat_lt n (length bytes) ≡ b → (b ≡ true → text ≡ take 64 kept)
+        → (b ≡ false → text ≡ trimmed kept) → record { text = text; too_long = b; ended = e } ≡ line_of n e bytes
+    at true t l s =
+        let over : n < length bytes = grind (arith, nat_tests, t) in
+        let len : length (take n bytes) ≡ n = length-take-le n bytes (omega arith) in
+        ap (λ v. record { text = v; too_long = true; ended = e })
+        (l refl ∙ ap (take 64) (front over) ∙ sym (shown_kept n (take n bytes) len)
+        ∙ take-take (shown_len n) n bytes (shown_le n))
+        ∙ sym (line_over n e bytes over)
+    at false t l s =
+        let fits : length bytes ≤ n = grind (arith, nat_tests, t) in
+        ap (λ v. record { text = v; too_long = false; ended = e }) (s refl ∙ ap trimmed (whole fits))
+        ∙ sym (line_short n e bytes fits)
+
+pub web_short : (xs : List ℕ) → length (without_end_blanks xs) ≤ length xs
+web_short [] = omega arith
+web_short (c ∷ cs) =
+    let ih : length (without_end_blanks cs) ≤ length cs = web_short cs in
+    cond_short (is_blank c && list_all is_blank cs) c (without_end_blanks cs) cs ih
+
+pub wfb_short : (xs : List ℕ) → length (without_front_blanks xs) ≤ length xs
+wfb_short [] = omega arith
+wfb_short (c ∷ cs) =
+    let ih : length (without_front_blanks cs) ≤ length cs = wfb_short cs in
+    front_cond (is_blank c) c cs (without_front_blanks cs) ih
+
+pub wr_short : (xs : List ℕ) → length (without_return xs) ≤ length xs
+wr_short xs = at (get_or xs (length xs - 1) 0 == 13)
+  where
+    at : (b : Bool) → length (if b then take (length xs - 1) xs else xs) ≤ length xs
+    at true =
+        let is : length (take (length xs - 1) xs) ≡ min (length xs - 1) (length xs) = length-take (length xs - 1) xs in
+        let le : min (length xs - 1) (length xs) ≤ length xs = min-le_right (length xs - 1) (length xs) in
+        omega (arith, is, le)
+    at false = omega arith
+
+pub trimmed_short : (xs : List ℕ) → length (trimmed xs) ≤ length xs
+unfolding trimmed
+trimmed_short xs =
+    let a : length (without_end_blanks (without_front_blanks (without_return xs))) ≤ length
+    (without_front_blanks (without_return xs)) = web_short (without_front_blanks (without_return xs)) in
+    let b : length (without_front_blanks (without_return xs)) ≤ length (without_return xs) =
+    wfb_short (without_return xs) in
+    let d : length (without_return xs) ≤ length xs = wr_short xs in
+    omega arith
+
+pub line_ended : (n : ℕ) (e : Bool) (piece : List ℕ) → (line_of n e piece).ended ≡ e
+unfolding line_of
+line_ended n e piece = refl

@@ -1,0 +1,153 @@
+-- The reads of one call for the next line.
+use Rattle.std.proofs.Common.{◌≡◌, ℕ, ◌+◌, ◌-◌, ◌<◌, ◌≤◌, inl, inr, Bool, true, false, List, [], ◌∷◌, ◌++◌, length, take, Some, None, Ok, refl, sym, ap, ◌∙◌, arith, append_assoc, append-nil, length-append, nat_eq}
+use Rattle.std.proofs.Math.Seq.{take-append_seam}
+use Rattle.text_lines.proofs.Parts.{line_ended, ten_step, byte_step, none_from, last_left, nothing_left}
+use Rattle.std.specs.Io.KnownBytes.{Consumes}
+use Rattle.std.specs.Bool.{MatchBool}
+use Rattle.byte_devices.specs.Devices.{InputState, GavePiece, risen}
+use Rattle.byte_devices.proofs.DeviceLaws.{consumes_more, consumes_none}
+use Rattle.text_lines.specs.Lines.{LineSeen, Held, nothing_held, lines_from, lines_held, line_of}
+use Rattle.text_lines.specs.laws.Unended.{HasNoEnd}
+use Rattle.text_lines.specs.Next.{before_piece, Waits, work, NextLine}
+use Rattle.text_lines.specs.ties.Kept.{HeldLine}
+use Rattle.text_lines.specs.declared.lines.TheConstants.{PIECE_LEN}
+
+-- after some reads: what was given, and that what is held stands for it
+pub record SoFar (n : ℕ) (r r' : InputState) (held held' : Held) (given : List ℕ) : Type 0 where
+  pub bytes : Consumes r.known_bytes r'.known_bytes given
+  pub waits : Waits n r r' held given
+  pub lines : (at_end : Bool) (rest : List ℕ)
+      → lines_held n at_end held (given ++ rest) ≡ lines_held n at_end held' rest
+  pub failures : r'.failure_count ≡ r.failure_count
+  pub ends : r'.end_count ≡ r.end_count
+  pub work : work r' held' ≤ work r held
+
+at_false : (b : Bool) (P Q : Type 0) → b ≡ false → Q → MatchBool b P Q
+at_false true P Q e p = cc
+at_false false P Q e p = p
+
+-- where the held bytes have no line, none of the bytes so far is past one
+whole_so_far : (n : ℕ) (r r' : InputState) (h h' h'' : Held) (given : List ℕ) → SoFar n r r' h h' given
+    → HeldLine n h' h'' None → lines_held n false h given ≡ []
+whole_so_far n r r' h h' h'' given s f = ap (lines_held n false h) (sym (append-nil given)) ∙ s.lines false [] ∙ f.0
+
+-- what is held after a piece
+lines_on : (n : ℕ) (r r' : InputState) (h h' h'' : Held) (given piece : List ℕ) → SoFar n r r' h h' given
+    → HeldLine n h' h'' None → (at_end : Bool) (rest : List ℕ)
+    → lines_held n at_end h ((given ++ piece) ++ rest) ≡ lines_from n at_end h''.part (piece ++ rest)
+lines_on n r r' h h' h'' given piece s f at_end rest =
+    ap (lines_held n at_end h) (append_assoc given piece rest) ∙ s.lines at_end (piece ++ rest)
+    ∙ f.2 at_end (piece ++ rest)
+    ∙ ap (λ v. lines_from n at_end h''.part (v ++ (piece ++ rest))) f.1
+
+before_last : (given piece : List ℕ) (last : ℕ) → last ≡ length piece → before_piece last (given ++ piece) ≡ given
+before_last given piece last e =
+    let len : length (given ++ piece) ≡ length given + length piece = length-append given piece in
+    let at : length (given ++ piece) - last ≡ length given = omega arith in
+    ap (λ v. take v (given ++ piece)) at ∙ take-append_seam given piece
+
+waits_on : (n : ℕ) (r r' r'' : InputState) (h h' h'' : Held) (given piece : List ℕ) → SoFar n r r' h h' given
+    → HeldLine n h' h'' None → GavePiece r' r'' piece → Waits n r r'' h (given ++ piece)
+waits_on n r r' r'' h h' h'' given piece s f p =
+    let len : length (given ++ piece) ≡ length given + length piece = length-append given piece in
+    let last = p.last in
+    inr (
+      omega arith,
+      ap (lines_held n false h) (before_last given piece r''.last_len p.last)
+          ∙ whole_so_far n r r' h h' h'' given s f,
+    )
+
+pub start : (n : ℕ) (r : InputState) (h : Held) → SoFar n r r h h []
+start n r h = record {
+  bytes = consumes_none r.known_bytes;
+  waits = inl (refl, refl);
+  lines = λ at_end rest. refl;
+  failures = refl;
+  ends = refl;
+  work = omega arith;
+}
+
+pub piece_on : (n : ℕ) (r r' r'' : InputState) (h h' h'' : Held) (given piece : List ℕ) → SoFar n r r' h h' given
+    → HeldLine n h' h'' None → GavePiece r' r'' piece → 0 < length piece → length piece ≤ PIECE_LEN
+    → SoFar n r r'' h (record { part = h''.part; coming = piece }) (given ++ piece)
+piece_on n r r' r'' h h' h'' given piece s f p some few = record {
+  bytes = consumes_more r.known_bytes r'.known_bytes r''.known_bytes given piece s.bytes p.bytes;
+  waits = waits_on n r r' r'' h h' h'' given piece s f p;
+  lines = lines_on n r r' h h' h'' given piece s f;
+  failures = p.failures ∙ s.failures;
+  ends = p.ends ∙ (let e : nat_eq (length piece) 0 ≡ false = grind arith in rw e refl) ∙ s.ends;
+  work = (let a = p.falls in let b = s.work in omega arith);
+}
+
+reported_end : (r r' : InputState) (piece : List ℕ) → GavePiece r r' piece → piece ≡ []
+    → r'.end_count ≡ risen r.end_count
+reported_end r r' piece p e = p.ends ∙ rw e refl
+
+lines_end : (n : ℕ) (r r' : InputState) (h h' h'' : Held) (given piece : List ℕ) → SoFar n r r' h h' given
+    → HeldLine n h' h'' None → piece ≡ [] → (at_end : Bool)
+    → lines_held n at_end h (given ++ piece) ≡ lines_from n at_end h''.part []
+lines_end n r r' h h' h'' given piece s f e at_end =
+    ap (lines_held n at_end h) (sym (append-nil (given ++ piece))) ∙ lines_on n r r' h h' h'' given piece s f at_end []
+    ∙ ap (λ v. lines_from n at_end h''.part (v ++ [])) e
+
+pub both_empty : (a b : List ℕ) → a ≡ [] → b ≡ [] → record { part = a; coming = b } ≡ nothing_held
+both_empty a b e f = ap (λ (v : List ℕ). let h : Held = record { part = v; coming = b } in h) e
+    ∙ ap (λ (v : List ℕ). let h : Held = record { part = []; coming = v } in h) f
+
+pub end_none : (E : Type 0) (n : ℕ) (r r' r'' : InputState) (h h' h'' h3 : Held) (given piece : List ℕ)
+    → SoFar n r r' h h' given → HeldLine n h' h'' None → GavePiece r' r'' piece → piece ≡ [] → h''.part ≡ []
+    → h3 ≡ nothing_held
+    → NextLine {E = E} n r r'' h h3 (Ok None)
+end_none E n r r' r'' h h' h'' h3 given piece s f p e empty left = (
+  given ++ piece,
+  consumes_more r.known_bytes r'.known_bytes r''.known_bytes given piece s.bytes p.bytes,
+  waits_on n r r' r'' h h' h'' given piece s f p,
+  record {
+    lines = λ at_end. lines_end n r r' h h' h'' given piece s f e at_end ∙ ap (λ v. lines_from n at_end v []) empty
+        ∙ nothing_left n at_end;
+    rest = left;
+    at_end = p.at_end (ap length e);
+    failures = p.failures ∙ s.failures;
+    ends = reported_end r' r'' piece p e ∙ ap risen s.ends;
+  },
+)
+
+pub end_last : (E : Type 0) (n : ℕ) (r r' r'' : InputState) (h h' h'' h3 : Held) (given piece : List ℕ)
+    (line : LineSeen) → SoFar n r r' h h' given → HeldLine n h' h'' None → GavePiece r' r'' piece → piece ≡ []
+    → 0 < length h''.part
+    → line ≡ line_of n false h''.part → h3 ≡ nothing_held → NextLine {E = E} n r r'' h h3 (Ok (Some line))
+end_last E n r r' r'' h h' h'' h3 given piece line s f p e some is left =
+    let ended : line.ended ≡ false = ap (λ (l : LineSeen). l.ended) is ∙ line_ended n false h''.part in (
+      given ++ piece,
+      consumes_more r.known_bytes r'.known_bytes r''.known_bytes given piece s.bytes p.bytes,
+      waits_on n r r' r'' h h' h'' given piece s f p,
+      at_false line.ended _ _ ended (record {
+        whole = lines_end n r r' h h' h'' given piece s f e false ∙ none_from n h''.part;
+        lines = lines_end n r r' h h' h'' given piece s f e true ∙ last_left n h''.part some
+            ∙ ap (λ v. v ∷ []) (sym is);
+        rest = left;
+        at_end = p.at_end (ap length e);
+        failures = p.failures ∙ s.failures;
+        ends = reported_end r' r'' piece p e ∙ ap risen s.ends;
+      }),
+    )
+
+piece_on_part : (n : ℕ) (at_end : Bool) (part piece rest : List ℕ) → HasNoEnd piece
+    → lines_from n at_end part (piece ++ rest) ≡ lines_from n at_end (part ++ piece) rest
+piece_on_part n at_end part [] rest h = ap (λ v. lines_from n at_end v rest) (sym (append-nil part))
+piece_on_part n at_end part (c ∷ cs) rest h =
+    byte_step n at_end part c (cs ++ rest) h.0 ∙ piece_on_part n at_end (part ++ c ∷ []) cs rest h.1
+    ∙ ap (λ v. lines_from n at_end v rest) (append_assoc part (c ∷ []) cs)
+
+pub law_ended : (n : ℕ) (at_end : Bool) (piece rest : List ℕ) → HasNoEnd piece
+    → lines_from n at_end [] (piece ++ 10 ∷ rest) ≡ line_of n true piece ∷ lines_from n at_end [] rest
+law_ended n at_end piece rest h = piece_on_part n at_end [] piece (10 ∷ rest) h ∙ ten_step n at_end piece 10 rest refl
+
+pub law_last : (n : ℕ) (piece : List ℕ) → HasNoEnd piece → 0 < length piece
+    → lines_from n true [] piece ≡ line_of n false piece ∷ []
+law_last n piece h some = ap (lines_from n true []) (sym (append-nil piece)) ∙ piece_on_part n true [] piece [] h
+    ∙ last_left n piece some
+
+pub law_not_at_end : (n : ℕ) (piece : List ℕ) → HasNoEnd piece → lines_from n false [] piece ≡ []
+law_not_at_end n piece h = ap (lines_from n false []) (sym (append-nil piece)) ∙ piece_on_part n false [] piece [] h
+    ∙ none_from n piece

@@ -1,0 +1,6 @@
+use Rattle.text_lines.proofs.Parts.{nothing_left}
+use Rattle.text_lines.proofs.Reading.{law_ended, law_last, law_not_at_end}
+use Rattle.text_lines.proofs.laws.lines_are_pieces.Goals as goal
+
+pub returns : goal.returns
+returns c = record { empty = nothing_left; ended = law_ended; last = law_last; not_at_end = law_not_at_end }

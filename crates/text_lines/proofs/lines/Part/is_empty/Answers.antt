@@ -1,0 +1,6 @@
+use Rattle.text_lines.proofs.Parts.{long_has_bytes}
+use Rattle.text_lines.proofs.lines.Part.is_empty.Goals as goal
+
+pub returns-then-self : goal.returns-then-self
+returns-then-self g c =
+    long_has_bytes c.self.inside.bytes.items c.args.self.now c.self.inside.is_too_long c.self.view_is c.if-self.true

@@ -1,0 +1,12 @@
+use Rattle.std.proofs.Common.{drop, ◌^◌, ◌≡◌, ◌<◌}
+use Rattle.std.specs.List.{list_all}
+use Rattle.chess_base.specs.Letters.{is_digit, value_after}
+use Rattle.text_lines.proofs.number.short_number.Given as goal
+
+-- what is left gives the whole number
+abbrev pub invariant-loop-byte : goal.invariant-loop-byte
+invariant-loop-byte l = record {
+  rest : value_after l.number (drop l.byte-index l.text) ≡ value_after 0 l.text;
+  digits : list_all is_digit (drop l.byte-index l.text) ≡ list_all is_digit l.text;
+  small : l.number < 10 ^ l.byte-index;
+}

@@ -1,0 +1,6 @@
+pub mod Lines
+pub mod Next
+pub mod Words
+pub mod Unflushed
+pub mod laws
+pub mod ties

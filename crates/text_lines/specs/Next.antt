@@ -1,0 +1,88 @@
+-- What a call for the next line does.
+use Rattle.std.specs.Prelude.{◌≡◌, ℕ, ◌+◌, ◌-◌, ◌*◌, ◌<◌, ◌≤◌, ◌⊎◌, Bool, true, false, List, [], ◌∷◌, ◌++◌, length, take, Option, None, Some, Result, Ok, Err}
+use Rattle.std.specs.Bool.{MatchBool}
+use Rattle.std.specs.Io.KnownBytes.{Consumes, IsAtEnd}
+use Rattle.byte_devices.specs.Devices.{InputState, risen}
+use Rattle.text_lines.specs.Lines.{LineSeen, Held, nothing_held, lines_held}
+
+-- these bytes without the last `len` of them, which the last read gave
+abbrev pub before_piece : ℕ → List ℕ → List ℕ
+before_piece len bytes = take (length bytes - len) bytes
+
+-- the bytes `given` were read only as long as no whole line was held: no read was made, or the bytes `held` and those
+-- read before the last read have no `\n`. `r` and `r'` are the input before and after; lines have at most `n` bytes
+abbrev pub Waits : ℕ → InputState → InputState → Held → List ℕ → Type 0
+Waits n r r' held given =
+    ((given ≡ []) × (r'.last_len ≡ r.last_len))
+    ⊎ ((r'.last_len ≤ length given) × (lines_held n false held (before_piece r'.last_len given) ≡ []))
+
+-- a measure of what can still be read from the input `r` and of the bytes `held`, which gets smaller with each line
+-- returned; one read gives at most 1,024 bytes
+abbrev pub work : InputState → Held → ℕ
+work r held = r.pieces_left * 1025 + length held.coming
+
+-- `line`, which ends with `\n`, was returned: it is the first of the lines of what was held and read, and the others
+-- follow it, however the stream goes on. `given` was read, which took the input from `r` to `r'`; `held` and `held'`
+-- are the bytes read and not returned, before and after. Lines have at most `n` bytes
+pub record GotLine (n : ℕ) (r r' : InputState) (held held' : Held) (given : List ℕ) (line : LineSeen) : Type 0 where
+  pub lines : (at_end : Bool) (rest : List ℕ)
+      → lines_held n at_end held (given ++ rest) ≡ line ∷ lines_held n at_end held' rest
+  pub failures : r'.failure_count ≡ r.failure_count
+  pub ends : r'.end_count ≡ r.end_count
+  pub falls : work r' held' < work r held
+
+-- `line`, the last one, was returned, which the end of the stream ended: `given` was read, which took the input from
+-- `r` to `r'`, and then the end was reported. `held` are the bytes read and not returned before; after it (`held'`)
+-- there are none. Lines have at most `n` bytes
+pub record GotLast (n : ℕ) (r r' : InputState) (held held' : Held) (given : List ℕ) (line : LineSeen) : Type 0 where
+  pub whole : lines_held n false held given ≡ []
+  pub lines : lines_held n true held given ≡ line ∷ []
+  pub rest : held' ≡ nothing_held
+  pub at_end : IsAtEnd r'.known_bytes
+  pub failures : r'.failure_count ≡ r.failure_count
+  pub ends : r'.end_count ≡ risen r.end_count
+
+-- the end of the stream was reported, and no line is left: `given`, which was read and took the input from `r` to `r'`,
+-- and what was `held` before give no line, and nothing is held after (`held'`). Lines have at most `n` bytes
+pub record GotNone (n : ℕ) (r r' : InputState) (held held' : Held) (given : List ℕ) : Type 0 where
+  pub lines : (at_end : Bool) → lines_held n at_end held given ≡ []
+  pub rest : held' ≡ nothing_held
+  pub at_end : IsAtEnd r'.known_bytes
+  pub failures : r'.failure_count ≡ r.failure_count
+  pub ends : r'.end_count ≡ risen r.end_count
+
+-- a read failed: what was `held` before and read (`given`, which took the input from `r` to `r'`) has no whole line,
+-- and all of it is kept in `held'`. Lines have at most `n` bytes
+pub record GotFault (n : ℕ) (r r' : InputState) (held held' : Held) (given : List ℕ) : Type 0 where
+  pub whole : lines_held n false held given ≡ []
+  pub lines : (at_end : Bool) (rest : List ℕ)
+      → lines_held n at_end held (given ++ rest) ≡ lines_held n at_end held' rest
+  pub failures : r'.failure_count ≡ risen r.failure_count
+  pub ends : r'.end_count ≡ r.end_count
+
+-- what the call for the next line, of at most `n` bytes, returned after it read the bytes `given`: a line, `None` at
+-- the end, or a fault. `r` and `r'` are the input before and after, `held` and `held'` the bytes read but not returned
+abbrev pub Got : {E : Type 0} → ℕ → InputState → InputState → Held → Held → List ℕ → Result (Option LineSeen) E → Type 0
+Got n r r' held held' given (Ok (Some line)) =
+    MatchBool line.ended (GotLine n r r' held held' given line) (GotLast n r r' held held' given line)
+Got n r r' held held' given (Ok None) = GotNone n r r' held held' given
+Got n r r' held held' given (Err e) = GotFault n r r' held held' given
+
+-- a call for the next line, of at most `n` bytes: it reads only while no whole line is held, and `result` is the next
+-- line, `None` at the end, or a fault. `r` and `r'` are the input before and after, `held` and `held'` the bytes read
+-- but not returned
+abbrev pub NextLine : {E : Type 0} → ℕ → InputState → InputState → Held → Held → Result (Option LineSeen) E → Type 0
+NextLine n r r' held held' result =
+    (given : List ℕ) × Consumes r.known_bytes r'.known_bytes given × Waits n r r' held given
+    × Got n r r' held held' given result
+
+-- the line, if the flag is true; else `None`
+abbrev pub line_if : Bool → LineSeen → Option LineSeen
+line_if true line = Some line
+line_if false line = None
+
+-- the result of a call that reads the next line into `line`, as an option: the line if the call returned true, `None`
+-- if it returned false, as there was none
+abbrev pub line_read : {E : Type 0} → Result Bool E → LineSeen → Result (Option LineSeen) E
+line_read (Ok some) line = Ok (line_if some line)
+line_read (Err e) line = Err e

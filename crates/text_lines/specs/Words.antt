@@ -1,0 +1,27 @@
+-- The words and the numbers of a line.
+use Rattle.std.specs.Prelude.{ℕ, ◌==◌, ◌&&◌, ◌||◌, nat_lt, nat_le, Bool, if◌then◌else◌, List, [], ◌∷◌, length, drop, Option, Some, None}
+use Rattle.std.specs.List.{list_all}
+use Rattle.chess_base.specs.Letters.{byte, is_digit, is_letter, value_after}
+use Rattle.text_lines.specs.Lines.{is_blank, without_front_blanks}
+
+-- the first word of a text: its bytes up to the first space or tab
+abbrev pub word_of : List ℕ → List ℕ
+word_of [] = []
+word_of (c ∷ cs) = if is_blank c then [] else c ∷ word_of cs
+
+-- the text after the first word and the spaces and tabs that follow it: of `usermove e4` it is `e4`
+unfoldable pub argument_of : List ℕ → List ℕ
+argument_of text = without_front_blanks (drop (length (word_of text)) text)
+
+-- whether a byte may be in a name, as of a tag or of a feature: letters, digits and `_`
+abbrev pub is_name_byte : ℕ → Bool
+is_name_byte c = is_letter c || (is_digit c || c == byte "_")
+
+-- the number that a text of 1 to `most` digits denotes; none for any other text
+abbrev pub short_number : ℕ → List ℕ → Option ℕ
+short_number most text = if nat_lt 0 (length text) && nat_le (length text) most
+    && list_all is_digit text then Some (value_after 0 text) else None
+
+-- the number that a text of 1 to 9 digits denotes, as in `ping 7`; `None` for any other text
+unfoldable pub command_number : List ℕ → Option ℕ
+command_number text = short_number 9 text

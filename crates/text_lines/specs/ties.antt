@@ -1,0 +1,2 @@
+-- What only joins code to the definitions: no claim rests on it.
+pub mod Kept

@@ -1,0 +1,39 @@
+-- What is kept of a line that comes, and where it ends.
+use Rattle.std.specs.Prelude.{ℕ, Bool, true, false, List, [], ◌∷◌, ◌++◌, ◌≡◌, ◌<◌, ◌≤◌, ◌==◌, length, Option, None, Some, Result, Ok, Err}
+use Rattle.std.specs.List.{position_or_len}
+use Rattle.chess_base.specs.Letters.{new_line}
+use Rattle.byte_devices.specs.Devices.{InputState, GavePiece, FailedToRead}
+use Rattle.text_lines.specs.Lines.{LineSeen, Held, lines_from, lines_held}
+use Rattle.text_lines.specs.declared.lines.TheConstants.{PIECE_LEN}
+
+-- how many bytes a text has before its first `\n`; all, if it has none
+abbrev pub line_len : List ℕ → ℕ
+line_len text = position_or_len (λ c. c == new_line) text
+
+-- the bytes that have come of a line, for the definitions: those that the code kept, and one more (0) for all that it
+-- dropped, if the flag says that they were too many
+abbrev pub kept_part : List ℕ → Bool → List ℕ
+kept_part bytes true = bytes ++ 0 ∷ []
+kept_part bytes false = bytes
+
+-- whatever bytes follow, and whether the stream then ends or not, the lines are the same after `part` as after `part'`;
+-- a line of more than `n` bytes is too long
+abbrev pub SameLines : ℕ → List ℕ → List ℕ → Type 0
+SameLines n part part' = (at_end : Bool) (bytes : List ℕ)
+    → lines_from n at_end part bytes ≡ lines_from n at_end part' bytes
+
+-- what looking for a whole line in the bytes read but not returned (`held` before, `held'` after) found: that line, the
+-- first of them; or `None`, and then all of them were looked at. Lines have at most `n` bytes
+abbrev pub HeldLine : ℕ → Held → Held → Option LineSeen → Type 0
+HeldLine n held held' (Some line) =
+    (line.ended ≡ true) × (length held'.coming < length held.coming)
+    × ((at_end : Bool) (rest : List ℕ) → lines_held n at_end held rest ≡ line ∷ lines_held n at_end held' rest)
+HeldLine n held held' None =
+    (lines_held n false held [] ≡ []) × (held'.coming ≡ [])
+    × ((at_end : Bool) (rest : List ℕ) → lines_held n at_end held rest ≡ lines_held n at_end held' rest)
+
+-- a read took the input from its state `r` to `r'`, and gave the bytes `coming`, whose number is the result; or it
+-- failed, and gave none
+abbrev pub Filled : {E : Type 0} → InputState → InputState → Result ℕ E → List ℕ → Type 0
+Filled r r' (Ok n) coming = (n ≡ length coming) × (n ≤ PIECE_LEN) × GavePiece r r' coming
+Filled r r' (Err e) coming = (coming ≡ []) × FailedToRead r r'

@@ -1,0 +1,24 @@
+//! The lines of a stream of bytes, however reads cut it, and the words and the numbers of a line. It knows no chess.
+//!
+//! ```
+//! let mut lines: Lines<1024> = Lines::new();
+//! while let Some(line) = lines.next(&mut input)? {
+//!     let (word, argument) = split_word(line.text());
+//! }
+//! ```
+//!
+//! Of the line `ping 7`, `word` is `ping` and `argument` is `7`, of which `read_number` makes 7.
+#![tactic(auto)]
+
+mod laws;
+mod line_end;
+mod lines;
+mod number;
+mod trim;
+mod words;
+
+pub use laws::lines_are_pieces;
+pub use lines::{Line, Lines};
+pub use number::short_number;
+pub use trim::{is_blank, trim_start};
+pub use words::{argument, first_word, read_number, split_word};
