@@ -5,7 +5,7 @@ use Rattle.chess_base.specs.Letters.{new_line}
 use Rattle.arbiter_cli.specs.declared.plan.MatchPlan.{MatchPlan}
 use Rattle.chess_game.specs.declared.results.Outcome.{Outcome}
 use Rattle.chess_game.specs.declared.results.Outcome.TheVariants.{Draw, Unfinished}
-use Rattle.chess_game.specs.Results.{same_outcome}
+use Rattle.chess_game.specs.Results.{same_outcome, cut_tag}
 use Rattle.chess_base.specs.Men.{other, same_colour}
 use Rattle.chess_base.specs.declared.man.Colour.{Colour}
 use Rattle.chess_base.specs.declared.man.Colour.TheVariants.{White, Black}
@@ -21,7 +21,6 @@ use Rattle.chess_pgn.specs.GameText.{pgn}
 use Rattle.chess_arbiter.specs.Log.{LogSeen, Logged, RanNoted, log_text}
 use Rattle.chess_arbiter.specs.declared.games.GamesFault.{GamesFault}
 use Rattle.chess_arbiter.specs.declared.games.GamesFault.TheVariants.{WriteFailed, NoMemory, CanNotStart, Game}
-use Rattle.chess_pgn.specs.Written.{cut_tag}
 use Rattle.chess_pgn.specs.declared.tags.Tags.{Tags}
 use Rattle.chess_arbiter.specs.declared.score.Score.{Score}
 use Rattle.chess_game.specs.declared.game.TheConstants.{MOST_MOVES}

@@ -15,7 +15,7 @@ use Rattle.chess_base.specs.Men.{other, same_colour}
 use Rattle.chess_base.specs.Moves.{after, is_en_passant}
 use Rattle.chess_base.specs.laws.Normal.{normal_after}
 use Rattle.chess_base.proofs.NormalKept.{normal_kept as rules_kept}
-use Rattle.chess_fen.specs.Writing.{fen}
+use Rattle.chess_fen.specs.Writing.{fen, is_initial}
 use Rattle.chess_fen.specs.laws.Normal.{normal_fen}
 use Rattle.chess_fen.proofs.NormalWritten.{fen_kept}
 use Rattle.chess_text.specs.laws.Normal.{normal_moves, normal_san}
@@ -31,7 +31,7 @@ use Rattle.chess_game.specs.Results.{outcome_text}
 use Rattle.chess_game.specs.Same.{live_target, is_same_position, same_men, same_rights, same_square, repetition_count}
 use Rattle.chess_pgn.specs.declared.tags.Tags.{Tags}
 use Rattle.chess_pgn.specs.declared.termination.Termination.{Termination}
-use Rattle.chess_pgn.specs.GameText.{is_initial, start_lines_in, last_lines, further_lines, roster_lines, tag_lines, number_token, move_tokens, game_tokens, pgn}
+use Rattle.chess_pgn.specs.GameText.{start_lines_in, last_lines, further_lines, roster_lines, tag_lines, number_token, move_tokens, game_tokens, pgn}
 use Rattle.chess_pgn.specs.Terminations.{termination_text, termination_of}
 use Rattle.chess_pgn.specs.Written.{tag_line, ended, move_text_of}
 use Rattle.chess_cecp.specs.laws.NormalGame.{normal_initial, normal_line, normal_last, normal_live_target, normal_same, normal_rep, normal_verdict, normal_claims, normal_is_over, normal_outcome_now}

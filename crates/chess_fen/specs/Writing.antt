@@ -1,6 +1,6 @@
 -- The one FEN that is written for a position (PGN standard of 1994, section 16.1). The target is written as the
 -- position holds it, whether or not it can be captured on; numbers have no leading zeros.
-use Rattle.std.specs.Prelude.{ℕ, zero, suc, ◌+◌, ◌*◌, List, [], ◌∷◌, ◌++◌, map, take, drop, Option, Some, None, decimal, codes}
+use Rattle.std.specs.Prelude.{ℕ, Bool, zero, suc, ◌+◌, ◌*◌, List, [], ◌∷◌, ◌++◌, map, take, drop, Option, Some, None, decimal, codes}
 use Rattle.std.specs.List.{join_with_byte}
 use Rattle.std.specs.Option.{option_map_or}
 use Rattle.chess_base.specs.declared.man.Man.{Man}
@@ -14,6 +14,8 @@ use Rattle.chess_fen.specs.RightNames.{right_letter}
 use Rattle.chess_base.specs.declared.setup.Setup.{Setup}
 use Rattle.chess_fen.specs.ManLetters.{letter, stroke}
 use Rattle.chess_base.specs.Letters.{byte, space, square_text}
+use Rattle.chess_base.specs.Initial.{initial_setup}
+use Rattle.std.specs.Str.{bytes_eq}
 
 -- a run of n empty squares as text: the digit n, or nothing for n = 0
 abbrev pub run_text : ℕ → List ℕ
@@ -71,3 +73,9 @@ target_text target = option_map_or square_text target (codes "-")
 abbrev pub fen : Setup → List ℕ
 fen p = join_with_byte space (placement_text p.men ∷ side_text p.side ∷ rights_text p.variant p.rights ∷ target_text
     p.target ∷ decimal p.halfmove ∷ decimal p.fullmove ∷ [])
+
+-- whether a position has the FEN of normal chess's initial position. No two positions of normal chess have the same
+-- FEN, so of these it is the initial position alone; and of Chess960 none, since a FEN of Chess960 has other letters of
+-- rights
+abbrev pub is_initial : Setup → Bool
+is_initial start = bytes_eq (fen start) (fen initial_setup)

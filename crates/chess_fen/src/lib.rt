@@ -8,6 +8,7 @@
 
 mod castling;
 mod fields;
+mod initial;
 mod laws;
 mod letters;
 mod number;
@@ -17,6 +18,7 @@ mod reading;
 mod target;
 mod writing;
 
+pub use initial::is_initial;
 pub use laws::{normal_is_kept, rights_are_named, written_is_denoted};
 pub use reading::{read_fen, read_fen_as};
 pub use writing::{FenText, write_fen};

@@ -17,7 +17,9 @@ mod index;
 mod packed;
 mod repetition;
 mod results;
+mod tags;
 
 pub use ends::{Claims, Verdict};
 pub use game::{BoardSaysOtherwise, Game, MOST_MOVES, NoMove, PlayRefusal};
 pub use results::{Comment, Declared, Outcome};
+pub use tags::{HowEnded, TagText};

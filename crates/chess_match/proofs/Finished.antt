@@ -14,7 +14,7 @@ use Rattle.chess_game.specs.declared.ends.Verdict.{Verdict}
 use Rattle.chess_game.specs.declared.results.Declared.{Declared}
 use Rattle.chess_game.specs.declared.results.Outcome.{Outcome}
 use Rattle.chess_game.specs.declared.results.Outcome.TheVariants.{Unfinished}
-use Rattle.chess_pgn.specs.declared.tags.HowEnded.{HowEnded}
+use Rattle.chess_game.specs.declared.tags.HowEnded.{HowEnded}
 use Rattle.cecp_engine.specs.Levels.{LevelSeen}
 use Rattle.chess_match.specs.Match.{Match, Event, seat}
 use Rattle.chess_match.specs.Reasons.{by_colour, reported, declared_at, outcome_by_reason, comment_of, ended_by}

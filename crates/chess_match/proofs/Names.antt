@@ -2,7 +2,7 @@
 use Rattle.std.proofs.Common.{◌≡◌, true, false, List, [], ◌∷◌, ◌++◌, refl}
 use Rattle.std.specs.Prelude.{codes}
 use Rattle.std.specs.Str.{bytes_eq}
-use Rattle.chess_pgn.specs.Written.{cut_tag}
+use Rattle.chess_game.specs.Results.{cut_tag}
 use Rattle.cecp_engine.specs.Items.{Item, last_value, value_text}
 use Rattle.cecp_engine.proofs.ItemRuns.{last_said-snoc}
 use Rattle.chess_match.specs.ties.Represents.{name_by}

@@ -10,8 +10,8 @@ use Rattle.chess_game.specs.declared.results.Outcome.{Outcome}
 use Rattle.chess_game.specs.declared.results.Outcome.TheVariants.{WhiteWins, BlackWins, Draw, Unfinished}
 use Rattle.chess_match.specs.declared.reason.DrawClaim.{DrawClaim}
 use Rattle.chess_match.specs.declared.reason.DrawClaim.TheVariants.{Threefold, FiftyMoves}
-use Rattle.chess_pgn.specs.declared.tags.HowEnded.{HowEnded}
-use Rattle.chess_pgn.specs.declared.tags.HowEnded.TheVariants.{Normal, TimeForfeit, RulesInfraction}
+use Rattle.chess_game.specs.declared.tags.HowEnded.{HowEnded}
+use Rattle.chess_game.specs.declared.tags.HowEnded.TheVariants.{Normal, TimeForfeit, RulesInfraction}
 use Rattle.chess_match.specs.declared.reason.MatchFault.{MatchFault}
 use Rattle.chess_match.specs.declared.reason.MatchFault.TheVariants.{Ended, Read, Write, NoDone, NoPing, NoSetboard, Flood, NoVariant}
 use Rattle.chess_match.specs.declared.reason.Reason.{Reason}

@@ -9,12 +9,11 @@ use Rattle.chess_base.specs.declared.man.Move.{Move}
 use Rattle.chess_base.specs.declared.setup.Setup.{Setup}
 use Rattle.chess_base.specs.Men.{Men, same_colour, same_kind}
 use Rattle.chess_base.specs.Moves.{after}
-use Rattle.chess_fen.specs.Writing.{fen}
+use Rattle.chess_fen.specs.Writing.{fen, is_initial}
 use Rattle.chess_game.specs.Ends.{verdict, claims}
 use Rattle.chess_game.specs.Line.{position_after}
 use Rattle.chess_game.specs.declared.ends.Claims.{Claims}
 use Rattle.chess_game.specs.declared.ends.Verdict.{Verdict}
-use Rattle.chess_pgn.specs.GameText.{is_initial}
 use Rattle.chess_text.specs.Moves.{reading}
 use Rattle.chess_text.specs.San.{san, shown_move}
 use Rattle.chess_text.specs.declared.reading.Reading.{Reading}

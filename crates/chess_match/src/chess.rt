@@ -17,10 +17,9 @@ use crate::reason::DrawClaim;
 use crate::texts::MoveTexts;
 use byte_devices::append;
 use chess_base::{Colour, Kind, Man, Move, Position, Variant};
-use chess_fen::{FenText, write_fen};
+use chess_fen::{FenText, is_initial, write_fen};
 use chess_game::{Claims, Game, Verdict};
 use chess_moves::Board;
-use chess_pgn::is_initial;
 use chess_text::{
     Reading, add_check_mark, move_text, read_move, read_moves_are_legal, unmarked_san,
 };

@@ -4,8 +4,7 @@ ghost use Rattle.std.specs.Prelude.{◌≡◌, ◌≤◌, ◌++◌, length};
 ghost use Rattle.chess_match.specs.Reasons.{by_colour, win_of, outcome_by_reason, comment_of, claim_comment, colour_name, fault_words, ended_by, first_fault};
 
 use chess_base::Colour;
-use chess_game::{Outcome, Verdict};
-use chess_pgn::HowEnded;
+use chess_game::{HowEnded, Outcome, Verdict};
 
 /// What stopped a match.
 #[derive(Clone, Copy, Debug, PartialEq, Eq)]

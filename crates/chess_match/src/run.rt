@@ -35,9 +35,8 @@ use crate::witness::{NoWitness, Witness};
 use byte_devices::{Input, Output, ReadFault};
 use cecp_engine::{EngineLine, Level, read_engine_line};
 use chess_base::{Colour, Position};
-use chess_game::{Comment, Game, Outcome};
+use chess_game::{Comment, Game, HowEnded, Outcome, TagText};
 use chess_moves::Board;
-use chess_pgn::{HowEnded, TagText};
 use text_lines::{Line, Lines};
 
 /// The most bytes of an engine's line; a longer one is ignored.

@@ -16,7 +16,7 @@ use crate::phase::Phase;
 use crate::texts::MoveTexts;
 use cecp_engine::{Clocks, Features, Item, Level, next_item};
 use chess_base::Colour;
-use chess_pgn::TagText;
+use chess_game::TagText;
 
 /// What is kept of one engine.
 #[derive(Drop)]

@@ -5,9 +5,8 @@ use crate::plays::{
 };
 use byte_devices::{Counted, PieceReader};
 use chess_base::{Colour, Position, Variant};
-use chess_game::Outcome;
+use chess_game::{HowEnded, Outcome};
 use chess_match::{Ends, MatchEnd, MatchFault};
-use chess_pgn::HowEnded;
 use std::alloc::Global;
 use std::cell::Cell;
 use std::io::Write;

@@ -24,7 +24,6 @@ pub mod Strings
 pub mod TagLines
 pub mod TagParts
 pub mod TagScans
-pub mod TagTexts
 pub mod TokenPlaces
 pub mod VariantTold
 pub mod Variations

@@ -6,7 +6,8 @@ use Rattle.std.proofs.lemmas.Bool.Decides.{nat_tests}
 use Rattle.chess_pgn.specs.Tokens.{Tag, after_gap, string_at, onto, token_at}
 use Rattle.text_lines.specs.Words.{is_name_byte}
 use Rattle.chess_pgn.specs.ties.TagParts.{with_text, with_tag_name, tag_by_parts}
-use Rattle.chess_pgn.specs.Written.{IsTagText, escaped, tag_line}
+use Rattle.chess_game.specs.Results.{IsTagText}
+use Rattle.chess_pgn.specs.Written.{escaped, tag_line}
 use Rattle.chess_pgn.proofs.PgnWords.{whole_run, not_byte, no_percent}
 use Rattle.chess_pgn.proofs.TagParts.{parts_are}
 use Rattle.chess_pgn.proofs.Strings.{string_quote, string_other}

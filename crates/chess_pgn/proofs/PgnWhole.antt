@@ -12,7 +12,7 @@ use Rattle.chess_base.specs.laws.Laws.{AfterIsSound}
 use Rattle.chess_fen.specs.laws.Laws.{WrittenIsReadBack}
 use Rattle.chess_fen.specs.Reading.{fen_reading_as}
 use Rattle.chess_base.specs.Sound.{IsSound}
-use Rattle.chess_fen.specs.Writing.{fen}
+use Rattle.chess_fen.specs.Writing.{fen, is_initial}
 use Rattle.chess_game.specs.declared.ends.Verdict.{Verdict}
 use Rattle.chess_game.specs.Game.{State, from_start, outcome_now, verdict_now, IsPlayable}
 use Rattle.std.specs.Option.{option_map_or}
@@ -25,7 +25,7 @@ use Rattle.chess_pgn.specs.declared.tags.Tags.{Tags}
 use Rattle.chess_pgn.specs.declared.termination.Termination.{Termination}
 use Rattle.chess_pgn.specs.Terminations.{termination_text, termination_of}
 use Rattle.chess_pgn.specs.GameRead.{SoFar, GameRead, declared_after, game_of, nothing_read, tokens_read, pgn_read}
-use Rattle.chess_pgn.specs.GameText.{is_initial, fen_lines, start_lines_in, last_lines, further_lines, tag_lines, move_tokens, game_tokens, pgn}
+use Rattle.chess_pgn.specs.GameText.{fen_lines, start_lines_in, last_lines, further_lines, tag_lines, move_tokens, game_tokens, pgn}
 use Rattle.chess_pgn.specs.laws.PgnLaw.{AreTagTexts, IsReadBack, PgnIsReadBack}
 use Rattle.chess_pgn.specs.Tokens.{after_byte_order_mark, begins_line, tokens_of, tokens_from}
 use Rattle.chess_pgn.specs.Written.{tag_line, ended, filled_from}

@@ -11,7 +11,7 @@ use Rattle.chess_base.specs.declared.man.Variant.{Variant}
 use Rattle.chess_base.specs.declared.man.Variant.TheVariants.{Normal, Fischerandom}
 use Rattle.chess_base.specs.declared.setup.Setup.{Setup}
 use Rattle.chess_base.specs.Sound.{IsSound}
-use Rattle.chess_fen.specs.Writing.{fen}
+use Rattle.chess_fen.specs.Writing.{fen, is_initial}
 use Rattle.chess_game.specs.Game.{State, outcome_now}
 use Rattle.chess_game.specs.Results.{outcome_text}
 use Rattle.chess_game.specs.declared.results.Outcome.{Outcome}
@@ -21,7 +21,7 @@ use Rattle.chess_pgn.specs.declared.word.WordKind.TheVariants.{Number}
 use Rattle.chess_pgn.specs.declared.termination.Termination.{Termination}
 use Rattle.chess_pgn.specs.Terminations.{termination_text, termination_of}
 use Rattle.chess_pgn.specs.LastTags.{is_marks, may_precede_tags}
-use Rattle.chess_pgn.specs.GameText.{is_initial, fen_lines, start_lines_in, last_lines, further_lines, tag_lines, number_token, move_tokens, game_tokens}
+use Rattle.chess_pgn.specs.GameText.{fen_lines, start_lines_in, last_lines, further_lines, tag_lines, number_token, move_tokens, game_tokens}
 use Rattle.chess_pgn.specs.laws.PgnLaw.{AreTagTexts}
 use Rattle.chess_text.specs.San.{san}
 use Rattle.chess_base.specs.Moves.{after}

@@ -1,15 +1,13 @@
 -- A game's text as it is written (PGN standard of 1994, sections 3.2, 8 and 9.7).
 use Rattle.std.specs.Prelude.{ℕ, Bool, true, false, if◌then◌else◌, List, [], ◌∷◌, ◌++◌, codes, decimal}
-use Rattle.std.specs.Str.{bytes_eq}
 use Rattle.chess_base.specs.declared.man.Colour.{Colour}
 use Rattle.chess_base.specs.declared.man.Colour.TheVariants.{White, Black}
 use Rattle.chess_base.specs.declared.man.Move.{Move}
 use Rattle.chess_base.specs.declared.man.Variant.{Variant}
 use Rattle.chess_base.specs.declared.man.Variant.TheVariants.{Normal, Fischerandom}
 use Rattle.chess_base.specs.declared.setup.Setup.{Setup}
-use Rattle.chess_base.specs.Initial.{initial_setup}
 use Rattle.chess_base.specs.Moves.{after}
-use Rattle.chess_fen.specs.Writing.{fen}
+use Rattle.chess_fen.specs.Writing.{fen, is_initial}
 use Rattle.chess_game.specs.Game.{State, outcome_now}
 use Rattle.chess_game.specs.Results.{outcome_text}
 use Rattle.chess_game.specs.declared.results.Outcome.{Outcome}
@@ -27,11 +25,6 @@ roster_lines t o =
     tag_line (codes "Event") t.event ∷ tag_line (codes "Site") t.site ∷ tag_line (codes "Date") t.date
     ∷ tag_line (codes "Round") t.round ∷ tag_line (codes "White") t.white ∷ tag_line (codes "Black") t.black
     ∷ tag_line (codes "Result") (outcome_text o) ∷ []
-
--- whether a start of normal chess is the initial position. FENs are compared, since no two positions have the same
--- one
-abbrev pub is_initial : Setup → Bool
-is_initial start = bytes_eq (fen start) (fen initial_setup)
 
 -- the lines of the tags FEN and SetUp (section 9.7) for a game from this start
 abbrev pub fen_lines : Setup → List (List ℕ)

@@ -1,6 +1,6 @@
 -- The tags of a game (PGN standard of 1994, section 8.1.1).
 use Rattle.std.specs.Prelude.{codes}
-use Rattle.chess_pgn.specs.declared.tags.HowEnded.TheVariants.{Normal}
+use Rattle.chess_game.specs.declared.tags.HowEnded.TheVariants.{Normal}
 use Rattle.chess_pgn.specs.declared.tags.Tags.{Tags}
 
 -- the tags of a game of which nothing is known: `?` in each, and a normal end

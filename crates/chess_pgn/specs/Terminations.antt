@@ -3,8 +3,8 @@ use Rattle.std.specs.Prelude.{ℕ, List, [], ◌∷◌, Option, find, codes}
 use Rattle.std.specs.Str.{str_eq_ignore_ascii_case}
 use Rattle.chess_game.specs.declared.results.Outcome.{Outcome}
 use Rattle.chess_game.specs.declared.results.Outcome.TheVariants.{Unfinished}
-use Rattle.chess_pgn.specs.declared.tags.HowEnded.{HowEnded}
-use Rattle.chess_pgn.specs.declared.tags.HowEnded.TheVariants as how
+use Rattle.chess_game.specs.declared.tags.HowEnded.{HowEnded}
+use Rattle.chess_game.specs.declared.tags.HowEnded.TheVariants as how
 use Rattle.chess_pgn.specs.declared.termination.Termination.{Termination}
 use Rattle.chess_pgn.specs.declared.termination.Termination.TheVariants.{Abandoned, Adjudication, Death, Emergency, Normal, RulesInfraction, TimeForfeit, Unterminated}
 

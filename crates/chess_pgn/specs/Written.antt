@@ -1,8 +1,8 @@
 -- A game's text as it is written (PGN standard of 1994, sections 4.3, 8.1 and 8.2): the tags' lines and the lines of
 -- moves.
-use Rattle.std.specs.Prelude.{ℕ, ◌+◌, ◌≤◌, Bool, not, ◌&&◌, ◌||◌, List, [], ◌∷◌, ◌++◌, length, map, take, codes, ◌==◌, nat_le, nat_lt, if◌then◌else◌}
+use Rattle.std.specs.Prelude.{ℕ, ◌+◌, ◌≤◌, Bool, not, ◌&&◌, ◌||◌, List, [], ◌∷◌, ◌++◌, length, codes, ◌==◌, nat_le, if◌then◌else◌}
 use Rattle.chess_base.specs.Letters.{byte, new_line, space}
-use Rattle.std.specs.List.{flat_map, AllByRecursion}
+use Rattle.std.specs.List.{flat_map}
 
 -- ---- tokens in lines from left to right, by how many bytes the line that is begun has so far; with 0 none is begun
 
@@ -38,19 +38,6 @@ abbrev pub move_text_of : List ℕ → List (List ℕ) → List ℕ
 move_text_of prefix tokens = filled_from prefix 0 tokens
 
 -- ---- tags
-
--- a byte as a tag's text may hold it: `?` in place of what is no printable ASCII
-abbrev pub tag_byte : ℕ → ℕ
-tag_byte c = if nat_lt c 32 || nat_lt 126 c then byte "?" else c
-
--- a text that a tag may have: at most 60 bytes of printable ASCII
-pub record IsTagText (text : List ℕ) : Type 0 where
-  pub few : length text ≤ 60
-  pub printable : AllByRecursion (λ c. (32 ≤ c) × (c ≤ 126)) text
-
--- what a tag keeps of a text: its first 60 bytes, with `?` in place of what is no printable ASCII
-abbrev pub cut_tag : List ℕ → List ℕ
-cut_tag text = map tag_byte (take 60 text)
 
 -- a text with a backslash before each quote and backslash, as strings are written (section 7)
 abbrev pub escaped : List ℕ → List ℕ

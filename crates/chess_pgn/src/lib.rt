@@ -28,13 +28,14 @@ mod variation;
 mod word;
 mod write;
 
+pub use chess_game::{HowEnded, TagText};
 pub use laws::{
     faults_have_offsets, games_are_in_filled_lines, games_are_of_tokens, half_moves_have_bytes,
     lines_are_filled, normal_is_kept, pgn_is_read_back,
 };
 pub use read::{PgnEnd, PgnFault, PgnFaultKind, read_pgn};
 pub use results::{ResultTag, result_tag};
-pub use tags::{HowEnded, TagText, Tags};
+pub use tags::Tags;
 pub use termination::Termination;
 pub use word::outcome_of;
-pub use write::{is_initial, write_pgn};
+pub use write::write_pgn;

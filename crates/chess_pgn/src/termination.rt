@@ -3,8 +3,7 @@
 ghost use Rattle.std.specs.Prelude.{◌≡◌, ◌≤◌, length};
 ghost use Rattle.chess_pgn.specs.Terminations.{termination_text, termination_named, termination_of};
 
-use crate::tags::HowEnded;
-use chess_game::Outcome;
+use chess_game::{HowEnded, Outcome};
 
 /// How a game ended, as its tag `Termination` says.
 #[derive(Clone, Copy, Debug, PartialEq, Eq)]

@@ -5,7 +5,8 @@ ghost use Rattle.arrayvec.specs.ArrayVec.{array_vec_len};
 ghost use Rattle.byte_devices.specs.Devices.{Puts};
 ghost use Rattle.chess_base.specs.Moves.{is_legal, after};
 ghost use Rattle.chess_game.specs.Game.{outcome_now};
-ghost use Rattle.chess_pgn.specs.GameText.{roster_lines, is_initial, fen_lines, start_lines_in, last_lines, further_lines, tag_lines, number_token, tokens_of_move, move_tokens, game_tokens, pgn};
+ghost use Rattle.chess_pgn.specs.GameText.{roster_lines, fen_lines, start_lines_in, last_lines, further_lines, tag_lines, number_token, tokens_of_move, move_tokens, game_tokens, pgn};
+ghost use Rattle.chess_fen.specs.Writing.{is_initial};
 ghost use Rattle.chess_pgn.specs.ties.Lines.{placed_all, column_after_all};
 ghost use Rattle.chess_pgn.specs.ties.Waiting.{Adds};
 ghost use Rattle.chess_pgn.specs.Written.{ended, move_text_of};
@@ -19,7 +20,7 @@ use crate::termination::Termination;
 use arrayvec::ArrayVec;
 use byte_devices::{Output, WriteFault, append, append_number};
 use chess_base::{Colour, Move, Position, Saved, Setup, Variant};
-use chess_fen::write_fen;
+use chess_fen::{is_initial, write_fen};
 use chess_game::{Game, Outcome};
 use chess_moves::Board;
 use chess_text::{SanText, add_check_mark, san_is_a_word, unmarked_san};
@@ -163,13 +164,6 @@ fn put_start<W: Output>(
         Variant::Normal if is_initial(start) => Ok(()),
         _ => put_fen(lines, writer, start),
     }
-}
-
-/// Whether a start of normal chess is the initial position: by its FEN, as the definition has it.
-pub fn is_initial(start: &Position) -> bool
-    ensures { result ≡ is_initial start.now }
-{
-    write_fen(start).as_slice() == write_fen(&Position::initial()).as_slice()
 }
 
 // Writes the tags `FEN` and `SetUp` of a start, each on its line.

@@ -4,7 +4,7 @@ use Rattle.chess_base.specs.declared.man.Colour.{Colour}
 use Rattle.chess_base.specs.declared.man.Colour.TheVariants.{White, Black}
 use Rattle.chess_base.specs.declared.man.Move.{Move}
 use Rattle.chess_base.specs.Men.{same_colour}
-use Rattle.chess_pgn.specs.Written.{cut_tag}
+use Rattle.chess_game.specs.Results.{cut_tag}
 use Rattle.cecp_engine.specs.Clocks.{ClocksSeen, Spent, charged}
 use Rattle.cecp_engine.specs.EngineLines.{LineKind}
 use Rattle.cecp_engine.specs.Items.{Item, last_value}

@@ -11,7 +11,8 @@ use Rattle.chess_pgn.specs.declared.termination.Termination.{Termination}
 use Rattle.chess_pgn.specs.declared.word.WordKind.{WordKind}
 use Rattle.chess_pgn.specs.declared.word.WordKind.TheVariants.{End, Number, Marks, Move}
 use Rattle.chess_pgn.specs.GameRead.{SoFar, GameRead, Step, On, fails, fen_step, termination_after, step, at_text_end, go_on, pgn_read}
-use Rattle.chess_pgn.specs.GameText.{is_initial, fen_lines, further_lines}
+use Rattle.chess_fen.specs.Writing.{is_initial}
+use Rattle.chess_pgn.specs.GameText.{fen_lines, further_lines}
 use Rattle.chess_pgn.specs.Terminations.{termination_text}
 use Rattle.chess_pgn.specs.Tokens.{Token, Skip, Tag, Word, Bad_tag, Unclosed_comment, Unclosed_variation, Bad, after_byte_order_mark, tokens_from}
 use Rattle.chess_pgn.specs.Words.{word_kind}

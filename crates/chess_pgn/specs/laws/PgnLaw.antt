@@ -6,7 +6,7 @@ use Rattle.chess_pgn.specs.declared.termination.Termination.{Termination}
 use Rattle.chess_pgn.specs.Terminations.{termination_of}
 use Rattle.chess_pgn.specs.GameRead.{GameRead, pgn_read}
 use Rattle.chess_pgn.specs.GameText.{pgn}
-use Rattle.chess_pgn.specs.Written.{IsTagText}
+use Rattle.chess_game.specs.Results.{IsTagText}
 
 -- the text of each tag is at most 60 bytes of printable ASCII
 pub record AreTagTexts (t : Tags) : Type 0 where

@@ -4,7 +4,7 @@ use Rattle.std.specs.Prelude.{◌||◌}
 use Rattle.std.specs.List.{AllByRecursion}
 use Rattle.std.proofs.lemmas.Bool.Decides.{nat_tests}
 use Rattle.std.proofs.lemmas.List.{length-map, length-take}
-use Rattle.chess_pgn.specs.Written.{tag_byte, IsTagText}
+use Rattle.chess_game.specs.Results.{tag_byte, IsTagText}
 
 abbrev IsPrintable : ℕ → Type 0
 IsPrintable c = (32 ≤ c) × (c ≤ 126)

@@ -2,9 +2,9 @@
 -- length cuts the same as 60.
 use Rattle.std.proofs.Common.{ap, map, arith}
 use Rattle.std.proofs.lemmas.List.{take_min}
-use Rattle.chess_pgn.specs.Written.{tag_byte}
-use Rattle.chess_pgn.proofs.TagTexts.{tag_text_is}
-use Rattle.chess_pgn.proofs.tags.TagText.cut.Goals as goal
+use Rattle.chess_game.specs.Results.{tag_byte}
+use Rattle.chess_game.proofs.TagTexts.{tag_text_is}
+use Rattle.chess_game.proofs.tags.TagText.cut.Goals as goal
 
 pub invariant_of-result : goal.invariant_of-result
 invariant_of-result c = tag_text_is c.args.text.now c.tag_bytes.result.items c.min.result (omega arith)

@@ -1,6 +1,6 @@
 use Rattle.std.proofs.Common.{◌≡◌, length, map, take}
-use Rattle.chess_pgn.specs.Written.{tag_byte}
-use Rattle.chess_pgn.proofs.tags.tag_bytes.Given as goal
+use Rattle.chess_game.specs.Results.{tag_byte}
+use Rattle.chess_game.proofs.tags.tag_bytes.Given as goal
 
 abbrev pub invariant-loop-byte : goal.invariant-loop-byte
 invariant-loop-byte l = record {

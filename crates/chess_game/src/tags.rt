@@ -1,0 +1,77 @@
+//! The texts of tags, and how a game ended.
+
+ghost use Rattle.chess_game.specs.declared.tags.TheConstants.{TAG_LEN};
+ghost use Rattle.std.specs.Prelude.{◌≡◌, ◌≤◌, length, map};
+ghost use Rattle.chess_game.specs.Results.{tag_byte, cut_tag, IsTagText};
+
+use arrayvec::ArrayVec;
+use std::marker::Model;
+
+// The most bytes of a tag's text.
+const TAG_LEN: usize = 60;
+
+/// The text of a tag: at most 60 printable bytes of ASCII. In contracts it is the list of its bytes.
+#[derive(Drop)]
+pub struct TagText {
+    text: ArrayVec<u8, 60>,
+}
+
+impl Model for TagText {
+    ghost use Rattle.std.specs.Prelude.{ℕ, List};
+    ghost use Rattle.chess_game.specs.Results.{IsTagText};
+
+    ghost Value = { List ℕ };
+
+    ghost view = { λ t. t.text.items };
+
+    ghost invariant = { λ t. IsTagText t.text.items };
+}
+
+impl TagText {
+    /// The text as a tag keeps it: its first 60 bytes, with `?` for each that is no printable ASCII (32 to 126).
+    pub fn cut(text: &[u8]) -> Self
+        ensures { result ≡ cut_tag text.now }
+    {
+        TagText {
+            text: tag_bytes(&text[..TAG_LEN.min(text.len())]),
+        }
+    }
+
+    /// The text's bytes, without backslashes before quotes.
+    pub fn as_bytes(&self) -> &[u8]
+        ensures value { result.now ≡ self.now }
+        ensures valid { IsTagText self.now }
+    {
+        self.text.as_slice()
+    }
+}
+
+// A byte as a tag's text holds it: `?` in place of what is no printable ASCII.
+fn tag_byte(byte: u8) -> u8
+    ensures { result ≡ tag_byte byte }
+{
+    if byte < 32 || byte > 126 { b'?' } else { byte }
+}
+
+// The bytes with `?` in place of what is no printable ASCII.
+fn tag_bytes(bytes: &[u8]) -> ArrayVec<u8, 60>
+    requires { length bytes.now ≤ TAG_LEN }
+    ensures { result.items ≡ map tag_byte bytes.now }
+{
+    let mut kept = ArrayVec::new();
+    for byte in bytes {
+        kept.push(tag_byte(*byte));
+    }
+    kept
+}
+
+/// How a game that is over ended (PGN standard of 1994, section 9.8.1).
+#[derive(Clone, Copy, Debug, PartialEq, Eq)]
+pub enum HowEnded {
+    /// On the board, or by agreement or resignation.
+    Normal,
+    /// The loser's time was used up.
+    TimeForfeit,
+    /// The loser did not keep to the rules.
+    RulesInfraction,
+}
