@@ -28,6 +28,8 @@ SHORT = {
     "match": "chess_match",
     "grammar": "arbiter_grammar",
     "cli": "arbiter_cli",
+    "runner": "match_runner",
+    "stub": "stub_engine",
     "arbiter": "chess_arbiter",
     "devices_tests": "byte_devices_tests",
     "base_tests": "chess_base_tests",

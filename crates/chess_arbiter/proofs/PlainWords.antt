@@ -12,7 +12,7 @@ use Rattle.arbiter_cli.specs.declared.plan.Plan.TheVariants.{Session, Verify, St
 use Rattle.byte_devices.specs.Devices.{InputState, OutputState}
 use Rattle.byte_devices.proofs.DeviceLaws.{consumes_none}
 use Rattle.chess_arbiter.specs.laws.Laws.{ServesSession, VerifiesGames}
-use Rattle.chess_arbiter.specs.Log.{LogSeen}
+use Rattle.match_runner.specs.Log.{LogSeen}
 use Rattle.chess_arbiter.specs.Program.{RanPlan, RanSession, RanVerify}
 use Rattle.pgn_pieces.specs.Pieces.{HasRead}
 use Rattle.pgn_verifier.specs.declared.fault.VerifyFault.TheVariants as verifying

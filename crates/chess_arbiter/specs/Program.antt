@@ -25,10 +25,10 @@ use Rattle.pgn_verifier.specs.declared.tally.Verified.{Verified}
 use Rattle.pgn_verifier.specs.declared.tally.Verified.TheVariants.{EachGame}
 use Rattle.pgn_verifier.specs.Collection.{VerifiesCollection}
 use Rattle.pgn_verifier.specs.Verify.{Verifies}
-use Rattle.chess_arbiter.specs.Games.{RanGames}
-use Rattle.chess_arbiter.specs.declared.games.GamesFault.{GamesFault}
-use Rattle.chess_arbiter.specs.Log.{LogSeen}
-use Rattle.chess_arbiter.specs.Stub.{stub_response, waiting}
+use Rattle.match_runner.specs.Games.{RanGames}
+use Rattle.match_runner.specs.declared.games.GamesFault.{GamesFault}
+use Rattle.match_runner.specs.Log.{LogSeen}
+use Rattle.stub_engine.specs.Stub.{stub_response, waiting}
 use Rattle.chess_arbiter.specs.declared.fault.ProgramFault.TheVariants.{WrongWords}
 use Rattle.chess_game.specs.declared.game.TheConstants.{MOST_MOVES}
 

@@ -8,22 +8,15 @@
 //! ```
 #![tactic(auto)]
 
-mod engine;
 mod fault;
-mod games;
 mod laws;
-mod log;
-mod moments;
 mod program;
-mod score;
 mod standard;
-mod stub;
 
 pub use fault::ProgramFault;
 pub use laws::{
     limits_are_as_stated, plain_arguments_do_what_they_say, refused_arguments_are_reported,
 };
-pub use log::{Log, run_match_logged};
-pub use moments::SinceStart;
+pub use match_runner::{Log, SinceStart, run_match_logged};
 pub use program::run_program;
 pub use standard::run;

@@ -3,27 +3,26 @@
 ghost use Rattle.std.specs.Prelude.{◌≡◌, IfOk, Ok, Err, map};
 ghost use Rattle.chess_cecp.specs.Held.{opened_session};
 ghost use Rattle.chess_pgn.specs.Tags.{default_tags};
-ghost use Rattle.chess_arbiter.specs.Log.{log_seen};
+ghost use Rattle.match_runner.specs.Log.{log_seen};
 ghost use Rattle.chess_arbiter.specs.Program.{RanHelp, RanMatch, RanProgram, RanServer, RanSession, RanVerify, ReportsArguments, VerifiesAs, options_of, status_of, verify_status};
-ghost use Rattle.chess_arbiter.specs.Stub.{stub_response, waiting};
+ghost use Rattle.stub_engine.specs.Stub.{stub_response, waiting};
 ghost use Rattle.chess_arbiter.specs.ties.Faults.{fault_of, helped, served};
 ghost use Rattle.chess_game.specs.declared.game.TheConstants.{MOST_MOVES};
 
 use crate::fault::{ProgramFault, report_text, reported, reported_fault};
-use crate::games::play_games;
-use crate::log::Log;
-use crate::stub::Stub;
 use arbiter_cli::{MatchPlan, Plan, VerifyPlan, WordsFault, read_words};
 use byte_devices::{Input, Output, WriteFault, send};
 use chess_bits::{AttackTables, Bits};
 use chess_cecp::{End, Fault, Session, run_session, serve_lines};
 use chess_game::MOST_MOVES;
 use chess_pgn::Tags;
+use match_runner::{Log, play_games};
 use pgn_verifier::{Verified, VerifyFault, VerifyOptions, verify, verify_collection};
 use std::alloc::{AllocError, Global};
 use std::fmt::Display;
 use std::process::Processes;
 use std::rt::Clock;
+use stub_engine::Stub;
 
 // A session at the initial position, of at most 20,000 half-moves, on boards that use these tables of attacks.
 fn open_session<'t>(

@@ -4,9 +4,9 @@ ghost use Rattle.std.specs.Prelude.{◌≡◌, ◌≢◌};
 ghost use Rattle.std.specs.IoError.{error_kind};
 
 use crate::fault::{ProgramFault, report};
-use crate::log::Log;
 use crate::program::run_program;
 use byte_devices::Counted;
+use match_runner::Log;
 use std::alloc::AllocError;
 use std::env;
 use std::io::{self, ErrorKind};

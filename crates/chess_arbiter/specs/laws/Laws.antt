@@ -3,7 +3,7 @@ use Rattle.std.specs.Prelude.{◌≡◌, ◌⊎◌, ℕ, List}
 use Rattle.clap.specs.Words.{Text}
 use Rattle.arbiter_cli.specs.laws.Laws.{bare_plan}
 use Rattle.byte_devices.specs.Devices.{InputState, OutputState}
-use Rattle.chess_arbiter.specs.Log.{LogSeen}
+use Rattle.match_runner.specs.Log.{LogSeen}
 use Rattle.chess_arbiter.specs.Program.{RanHelp, RanProgram, RanSession, RanVerify}
 
 -- whenever a program runs with these arguments, it runs a session on its input and output, and has its exit status

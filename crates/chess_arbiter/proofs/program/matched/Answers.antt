@@ -1,6 +1,6 @@
 -- Where nothing failed, nothing was written after the logs.
 use Rattle.std.proofs.Common.{Ok, Err, refl}
-use Rattle.chess_arbiter.specs.Log.{log_seen}
+use Rattle.match_runner.specs.Log.{log_seen}
 use Rattle.chess_arbiter.proofs.program.matched.Goals as goal
 
 pub returns-in-Ok : goal.returns-in-Ok

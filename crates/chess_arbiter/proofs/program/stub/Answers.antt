@@ -1,6 +1,6 @@
 use Rattle.std.proofs.Common.{◌∙◌, ap}
 use Rattle.chess_arbiter.specs.Program.{status_of}
-use Rattle.chess_arbiter.specs.Stub.{waiting, stub_response}
+use Rattle.stub_engine.specs.Stub.{waiting, stub_response}
 use Rattle.chess_arbiter.proofs.Serving.{server_ran}
 use Rattle.chess_arbiter.proofs.program.stub.Goals as goal
 

@@ -1,0 +1,3 @@
+pub mod GamesTold
+pub mod Logged
+pub mod FaultTexts

@@ -1,0 +1,6 @@
+-- The comment is ASCII (FaultTexts.comment_is_text), so it is a text.
+use Rattle.match_runner.proofs.FaultTexts.{comment_is_text}
+use Rattle.match_runner.proofs.games.fault_text.Goals as goal
+
+pub unreachable-requires : goal.unreachable-requires
+unreachable-requires c = c.in-Err.ensures.cases.0 (comment_is_text c.args.side c.args.fault _ c.comment.ensures.value)

@@ -1,0 +1,91 @@
+-- The games so far were played without a fault, written and logged, and the score counts them (GamesTold.SoFar): a game more keeps
+-- that (GamesTold.one_more), and one with a fault is the last (GamesTold.with_fault).
+use Rattle.std.proofs.Common.{◌≡◌, ◌∙◌, ◌≤◌, ◌<◌, ◌+◌, ◌++◌, ◌∷◌, [], Ok, None, Some, subst, sym, ap, arith, rules}
+use Rattle.match_runner.specs.Games.{GameRecord, first_side}
+use Rattle.match_runner.specs.ties.Playing.{HasPlayed, score_after}
+use Rattle.match_runner.specs.Log.{log_seen}
+use Rattle.match_runner.specs.declared.score.Score.{Score}
+use Rattle.match_runner.proofs.GamesTold.{SoFar, start, one_more, with_fault, broke, all_played}
+use Rattle.match_runner.proofs.games.play_each.Goals as goal
+
+pub loop-number-init : goal.loop-number-init
+loop-number-init g c =
+    let w = g.W.Output.seen c.args.output.now in
+    let l = log_seen (g.E.Output.seen c.args.log.now.output) c.args.log.now.pending in (
+      c.requires,
+      [],
+      subst (λ (v : Score). SoFar c.args.plan.now w w l l 1 v []) (sym c.new-score.ensures)
+          (start c.args.plan.now w l),
+    )
+
+pub returns-in-Err : goal.returns-in-Err
+returns-in-Err g c =
+    let w = g.W.Output.seen c.args.output.now in
+    let w' = g.W.Output.seen c.loop-number.output in
+    let w'' = g.W.Output.seen c.play_one.new.output in
+    let l = log_seen (g.E.Output.seen c.args.log.now.output) c.args.log.now.pending in
+    let l' = log_seen (g.E.Output.seen c.loop-number.log.output) c.loop-number.log.pending in
+    let l'' = log_seen (g.E.Output.seen c.play_one.new.log.output) c.play_one.new.log.pending in
+    let le : c.loop-number.number + 1 ≤ c.args.plan.now.games =
+    (let t = c.loop-number-test.true in let e = c.game_count.ensures.value in omega (arith, t, e)) in
+    broke c.args.plan.now w w' w'' l l' l'' (c.loop-number.number + 1) c.loop-number.score c.loop-number.invariant.1
+    c.loop-number.invariant.2 c.in-Err.fault le c.in-Err.ensures.played
+
+pub returns-in-Some : goal.returns-in-Some
+returns-in-Some g c =
+    let plan = c.args.plan.now in
+    let w = g.W.Output.seen c.args.output.now in
+    let w' = g.W.Output.seen c.loop-number.output in
+    let w'' = g.W.Output.seen c.play_one.new.output in
+    let l = log_seen (g.E.Output.seen c.args.log.now.output) c.args.log.now.pending in
+    let l' = log_seen (g.E.Output.seen c.loop-number.log.output) c.loop-number.log.pending in
+    let l'' = log_seen (g.E.Output.seen c.play_one.new.log.output) c.play_one.new.log.pending in
+    let number = c.loop-number.number + 1 in
+    let le : number ≤ plan.games = (let t = c.loop-number-test.true in let e = c.game_count.ensures.value in omega (arith, t, e)) in
+    let small : number ≤ 65535 =
+    (let t = c.loop-number-test.true in let few = c.game_count.ensures.few in omega (arith, t, few)) in
+    let one = c.in-Ok.ensures.played in
+    let told : GameRecord = record { game = one.0; end = c.in-Ok.end; notes = one.1 } in
+    let is : c.in-Ok.end.fault ≡ Some (c.in-Some.side, c.in-Some.fault) = search rules in
+    let counted : c.after-score.result ≡ score_after (first_side number) c.in-Ok.end.outcome c.loop-number.score =
+    c.after-score.ensures ∙ ap (λ side. score_after side c.in-Ok.end.outcome c.loop-number.score) c.first_side.ensures in
+    subst (λ (v : Score).
+    HasPlayed plan w w'' l l'' (Ok (record { score = v; fault = Some (number, c.in-Some.side, c.in-Some.fault) })))
+    (sym counted)
+    (with_fault plan w w' w'' l l' l'' number c.loop-number.score c.loop-number.invariant.1 c.loop-number.invariant.2 told
+    c.in-Some.side c.in-Some.fault le small one.2 is one.3 one.4)
+
+pub loop-number-preserved : goal.loop-number-preserved
+loop-number-preserved g c =
+    let plan = c.args.plan.now in
+    let w = g.W.Output.seen c.args.output.now in
+    let w' = g.W.Output.seen c.loop-number.output in
+    let w'' = g.W.Output.seen c.play_one.new.output in
+    let l = log_seen (g.E.Output.seen c.args.log.now.output) c.args.log.now.pending in
+    let l' = log_seen (g.E.Output.seen c.loop-number.log.output) c.loop-number.log.pending in
+    let l'' = log_seen (g.E.Output.seen c.play_one.new.log.output) c.play_one.new.log.pending in
+    let number = c.loop-number.number + 1 in
+    let le : number ≤ plan.games = (let t = c.loop-number-test.true in let e = c.game_count.ensures.value in omega (arith, t, e)) in
+    let small : number ≤ 65535 =
+    (let t = c.loop-number-test.true in let few = c.game_count.ensures.few in omega (arith, t, few)) in
+    let one = c.in-Ok.ensures.played in
+    let told : GameRecord = record { game = one.0; end = c.in-Ok.end; notes = one.1 } in
+    let is : c.in-Ok.end.fault ≡ None = search rules in
+    let counted : c.after-score.result ≡ score_after (first_side number) c.in-Ok.end.outcome c.loop-number.score =
+    c.after-score.ensures ∙ ap (λ side. score_after side c.in-Ok.end.outcome c.loop-number.score) c.first_side.ensures in
+    let games = c.loop-number.invariant.1 ++ told ∷ [] in (
+      c.play_one.ensures.limit,
+      games,
+      subst (λ (v : Score). SoFar plan w w'' l l'' (number + 1) v games) (sym counted)
+          (one_more plan w w' w'' l l' l'' number c.loop-number.score c.loop-number.invariant.1
+          c.loop-number.invariant.2 told le small one.2 is one.3 one.4),
+    )
+
+pub returns : goal.returns
+returns g c =
+    let past : c.args.plan.now.games < c.loop-number.number + 1 =
+    (let t = c.loop-number-test.false in let e = c.game_count.ensures.value in omega (arith, t, e)) in
+    let l = log_seen (g.E.Output.seen c.args.log.now.output) c.args.log.now.pending in
+    let l' = log_seen (g.E.Output.seen c.loop-number.log.output) c.loop-number.log.pending in
+    all_played c.args.plan.now (g.W.Output.seen c.args.output.now) (g.W.Output.seen c.loop-number.output) l l'
+    (c.loop-number.number + 1) c.loop-number.score c.loop-number.invariant.1 c.loop-number.invariant.2 past

@@ -1,0 +1,22 @@
+-- A game that is not logged has notes too (GamesTold.relayed).
+use Rattle.std.proofs.Common.{◌≡◌, Option, None, Some, rules, subst, sym}
+use Rattle.chess_base.specs.declared.man.Colour.{Colour}
+use Rattle.match_runner.specs.ties.Playing.{LogsGame}
+use Rattle.match_runner.specs.Log.{log_seen}
+use Rattle.match_runner.proofs.GamesTold.{relayed}
+use Rattle.match_runner.proofs.games.relay.Goals as goal
+
+pub returns-in_default : goal.returns-in_default
+returns-in_default g c =
+    let l = log_seen (g.E.Output.seen c.args.log.now.output) c.args.log.now.pending in
+    let r = relayed l _ _ c.args.game.now _ _ _ _ _ _ c.run_match.ensures.ran in
+    let none : c.args.first ≡ None = search rules in
+    record { ran = (r.0, r.1, subst (λ (first : Option Colour). LogsGame first l l r.0) (sym none) r.2) }
+
+pub returns : goal.returns
+returns g c =
+    let l = log_seen (g.E.Output.seen c.args.log.now.output) c.args.log.now.pending in
+    let l' = log_seen (g.E.Output.seen c.run_match_logged.new.log.output) c.run_match_logged.new.log.pending in
+    let r = c.run_match_logged.ensures.ran in
+    let some : c.args.first ≡ Some c.in-Some.first = search rules in
+    record { ran = (r.0, r.1, subst (λ (first : Option Colour). LogsGame first l l' r.0) (sym some) r.2) }

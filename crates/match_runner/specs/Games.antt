@@ -1,0 +1,163 @@
+-- The games of a match: who plays which colour, how each is reported, and the score.
+use Rattle.std.specs.Prelude.{◌≡◌, ◌⊎◌, ⊤, ℕ, ◌+◌, ◌<◌, ◌≤◌, ◌%◌, ◌==◌, Bool, true, false, if◌then◌else◌, List, [], ◌∷◌, ◌++◌, length, count_by, flat_map, codes, decimal, Option, None, Some, Result, Ok, Err}
+use Rattle.std.specs.List.{enumerate_from}
+use Rattle.chess_base.specs.Letters.{new_line}
+use Rattle.arbiter_cli.specs.declared.plan.MatchPlan.{MatchPlan}
+use Rattle.chess_game.specs.declared.results.Outcome.{Outcome}
+use Rattle.chess_game.specs.declared.results.Outcome.TheVariants.{Draw, Unfinished}
+use Rattle.chess_game.specs.Results.{same_outcome, cut_tag}
+use Rattle.chess_base.specs.Men.{other, same_colour}
+use Rattle.chess_base.specs.declared.man.Colour.{Colour}
+use Rattle.chess_base.specs.declared.man.Colour.TheVariants.{White, Black}
+use Rattle.byte_devices.specs.Devices.{OutputState, Begins}
+use Rattle.chess_game.specs.Game.{Seen}
+use Rattle.chess_match.specs.Reasons.{comment_of, win_of}
+use Rattle.chess_match.specs.Notes.{Note}
+use Rattle.chess_match.specs.Run.{Ports, Flushed, FlushedThenFailed}
+use Rattle.chess_match.specs.declared.reason.MatchFault.{MatchFault}
+use Rattle.chess_match.specs.declared.reason.Reason.TheVariants.{Faulted}
+use Rattle.chess_match.specs.declared.run.MatchEnd.{MatchEnd}
+use Rattle.chess_pgn.specs.GameText.{pgn}
+use Rattle.match_runner.specs.Log.{LogSeen, Logged, RanNoted, log_text}
+use Rattle.match_runner.specs.declared.games.GamesFault.{GamesFault}
+use Rattle.match_runner.specs.declared.games.GamesFault.TheVariants.{WriteFailed, NoMemory, CanNotStart, Game}
+use Rattle.chess_pgn.specs.declared.tags.Tags.{Tags}
+use Rattle.match_runner.specs.declared.score.Score.{Score}
+use Rattle.chess_game.specs.declared.game.TheConstants.{MOST_MOVES}
+
+-- the side that the first engine, that of `--white`, has in the game of this number: White in odd games, Black in even
+-- ones
+abbrev pub first_side : ℕ → Colour
+first_side number = if number % 2 == 1 then White else Black
+
+-- the command of the engine that has this side in the game of this number
+abbrev pub engine_command : MatchPlan → ℕ → Colour → List ℕ
+engine_command plan number side = if same_colour side (first_side number) then plan.white.now else plan.black.now
+
+-- an engine's name in the tags: the one that it gave itself by `myname` (`name`), or its command if that is empty
+abbrev pub player_name : List ℕ → List ℕ → List ℕ
+player_name name command = cut_tag (if length name == 0 then command else name)
+
+-- the PGN tags of the game of this number, which ended as `end` says
+abbrev pub tags_of : MatchPlan → ℕ → MatchEnd → Tags
+tags_of plan number end = record {
+  event = codes "CECP match";
+  site = codes "?";
+  date = cut_tag plan.date.now;
+  round = cut_tag (decimal number);
+  white = player_name end.white_name (engine_command plan number White);
+  black = player_name end.black_name (engine_command plan number Black);
+  ended = end.ended;
+}
+
+-- ---- one game
+
+-- a game that was played: its moves, how it ended, and the notes of what happened in it, of which the log is made
+pub record GameRecord : Type 0 where
+  pub game : Seen
+  pub end : MatchEnd
+  pub notes : List Note
+
+-- the game `played` was played from the start of `plan` with its time control, with at most 20,000 half-moves, whatever
+-- the two engines sent
+abbrev pub IsOfPlan : MatchPlan → GameRecord → Type 0
+IsOfPlan plan played = (before : Seen) × (before.limit ≡ MOST_MOVES)
+    × (w : Ports) × (w' : Ports) × (coming : ℕ → Option ℕ) × (coming' : ℕ → Option ℕ)
+    × RanNoted played.notes plan.start plan.level before played.game played.end w w' coming coming'
+
+-- the PGN of the game `played`, which has this number
+abbrev pub game_text : MatchPlan → ℕ → GameRecord → List ℕ
+game_text plan number played = pgn [] (tags_of plan number played.end) played.game.state
+
+-- the fault says that one of the plan's two engines could not be started, or that there was no memory
+abbrev pub IsStartFault : MatchPlan → GamesFault → Type 0
+IsStartFault plan (CanNotStart command) = (command.now ≡ plan.white.now) ⊎ (command.now ≡ plan.black.now)
+IsStartFault plan NoMemory = ⊤
+IsStartFault plan _ = ⊥
+
+-- ---- the games
+
+-- each of these games was played by the plan, and ended without a fault of an engine
+abbrev pub SoundGames : MatchPlan → List GameRecord → Type 0
+SoundGames plan [] = Unit {0}
+SoundGames plan (played ∷ rest) = IsOfPlan plan played × (played.end.fault ≡ None) × SoundGames plan rest
+
+-- the PGN of these games one after another; they are numbered from 1
+abbrev pub game_texts : MatchPlan → List GameRecord → List ℕ
+game_texts plan games = flat_map (λ g. game_text plan g.0 g.1) (enumerate_from 1 games)
+
+-- the logs of these games one after another. They are numbered from 1: in the odd ones the engine of `--white` has
+-- White
+abbrev pub game_logs : List GameRecord → List ℕ
+game_logs games = flat_map (λ g. log_text (first_side g.0) g.1.notes) (enumerate_from 1 games)
+
+-- from the log's state `l` to `l'` these games were logged, if the flag asks for a log; else nothing was
+abbrev pub LogsGames : Bool → LogSeen → LogSeen → List GameRecord → Type 0
+LogsGames false l l' games = l' ≡ l
+LogsGames true l l' games = Logged l l' (game_logs games)
+
+-- how many of these games, numbered from 1, have the outcome that `wanted` gives for their number
+abbrev pub count_of : (ℕ → Outcome) → List GameRecord → ℕ
+count_of wanted games = count_by (λ g. same_outcome g.1.end.outcome (wanted g.0)) (enumerate_from 1 games)
+
+-- the score after all these games of a match: the wins of each engine, the draws, and the games that are unfinished.
+-- They are numbered from 1: in the odd ones the first engine, that of `--white`, has White
+abbrev pub score_of : List GameRecord → Score
+score_of games = record {
+  first = count_of (λ number. win_of (first_side number)) games;
+  second = count_of (λ number. win_of (other (first_side number))) games;
+  drawn = count_of (λ number. Draw) games;
+  unfinished = count_of (λ number. Unfinished) games;
+}
+
+-- the last line of a match, such as `score first 1 second 0 drawn 2 unfinished 0`
+unfoldable pub score_line : Score → List ℕ
+score_line s =
+    codes "score first " ++ decimal s.first ++ codes " second " ++ decimal s.second
+    ++ codes " drawn " ++ decimal s.drawn ++ codes " unfinished " ++ decimal s.unfinished ++ new_line ∷ []
+
+-- these are all games of a match: as many as planned, none with a fault (`None`); or the last one has this number and
+-- this fault of the engine of this side, and those before it have none
+abbrev pub EndsGames : MatchPlan → List GameRecord → Option (ℕ × Colour × MatchFault) → Type 0
+EndsGames plan games None = SoundGames plan games × (length games ≡ plan.games)
+EndsGames plan games (Some (number, side, fault)) =
+    (before : List GameRecord) × (last : GameRecord) × (games ≡ before ++ last ∷ []) × SoundGames plan before
+    × IsOfPlan plan last × (last.end.fault ≡ Some (side, fault)) × (number ≡ length games) × (number ≤ plan.games)
+
+-- the match broke off with this fault: all games before were written, and the next one could not be started, or only a
+-- beginning of its PGN was written. `w` and `l` are output and log before, `w'` and `l'` after
+abbrev pub GamesBrokeOff : MatchPlan → OutputState → OutputState → LogSeen → LogSeen → GamesFault → Type 0
+GamesBrokeOff plan w w' l l' WriteFailed =
+    (games : List GameRecord) × (next : GameRecord) × (start : List ℕ)
+    × SoundGames plan games × (length games < plan.games) × IsOfPlan plan next
+    × Begins start (game_text plan (length games + 1) next) × FlushedThenFailed w w' (game_texts plan games) start
+    × LogsGames plan.log l l' (games ++ next ∷ [])
+GamesBrokeOff plan w w' l l' fault =
+    (games : List GameRecord) × SoundGames plan games × (length games < plan.games)
+    × IsStartFault plan fault × Flushed w w' (game_texts plan games) × LogsGames plan.log l l' games
+
+-- all that a match writes to the output: the PGN of each of these games, and then the line of the score
+abbrev pub match_text : MatchPlan → List GameRecord → List ℕ
+match_text plan games = game_texts plan games ++ score_line (score_of games)
+
+-- the PGN of all games was written, but of the line of the score only a beginning. `w` and `l` are output and log
+-- before, `w'` and `l'` after
+abbrev pub BrokeOffAtScore : MatchPlan → OutputState → OutputState → LogSeen → LogSeen → Type 0
+BrokeOffAtScore plan w w' l l' =
+    (games : List GameRecord) × (last : Option (ℕ × Colour × MatchFault)) × (start : List ℕ)
+    × EndsGames plan games last × Begins start (score_line (score_of games))
+    × FlushedThenFailed w w' (game_texts plan games) start × LogsGames plan.log l l' games
+
+-- what playing a match does, by its result: all games, or all up to and with one that has a fault, were written and
+-- logged, and then the score was written; or the match broke off. `w` and `l` are output and log before, `w'` and `l'`
+-- after
+abbrev pub RanGames : MatchPlan → OutputState → OutputState → LogSeen → LogSeen → Result (Unit {0}) GamesFault → Type 0
+RanGames plan w w' l l' (Ok _) = (games : List GameRecord) × EndsGames plan games None
+    × Flushed w w' (match_text plan games) × LogsGames plan.log l l' games
+RanGames plan w w' l l' (Err (Game number text)) =
+    (games : List GameRecord) × (side : Colour) × (fault : MatchFault)
+    × EndsGames plan games (Some (number, side, fault)) × (text.now ≡ comment_of (Faulted side fault))
+    × Flushed w w' (match_text plan games) × LogsGames plan.log l l' games
+RanGames plan w w' l l' (Err WriteFailed) = GamesBrokeOff plan w w' l l' WriteFailed ⊎ BrokeOffAtScore plan w w' l l'
+RanGames plan w w' l l' (Err NoMemory) = ((w' ≡ w) × (l' ≡ l)) ⊎ GamesBrokeOff plan w w' l l' NoMemory
+RanGames plan w w' l l' (Err (CanNotStart command)) = GamesBrokeOff plan w w' l l' (CanNotStart command)

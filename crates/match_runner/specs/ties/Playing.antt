@@ -1,0 +1,109 @@
+-- What code does for one game of a match, and for all of them.
+use Rattle.std.specs.Prelude.{◌≡◌, ⊤, ℕ, ◌+◌, min, Bool, true, false, if◌then◌else◌, List, Option, None, Some, Result, Ok, Err}
+use Rattle.std.specs.Borrow.{Bor}
+use Rattle.arbiter_cli.specs.declared.plan.MatchPlan.{MatchPlan}
+use Rattle.chess_base.specs.Men.{other}
+use Rattle.chess_base.specs.declared.man.Colour.{Colour}
+use Rattle.chess_base.specs.declared.setup.Setup.{Setup}
+use Rattle.byte_devices.specs.Devices.{OutputState, BreaksOff, Sent}
+use Rattle.chess_game.specs.Game.{Seen}
+use Rattle.chess_game.specs.Results.{same_outcome}
+use Rattle.chess_game.specs.declared.results.Outcome.{Outcome}
+use Rattle.chess_game.specs.declared.results.Outcome.TheVariants.{Draw, Unfinished}
+use Rattle.cecp_engine.specs.Levels.{LevelSeen}
+use Rattle.chess_match.specs.Notes.{Note}
+use Rattle.chess_match.specs.Reasons.{win_of}
+use Rattle.chess_match.specs.Run.{Ports, Flushed}
+use Rattle.chess_match.specs.declared.run.MatchEnd.{MatchEnd}
+use Rattle.match_runner.specs.Log.{LogSeen, Logged, RanNoted, log_text}
+use Rattle.match_runner.specs.declared.engine.StartFault.{StartFault}
+use Rattle.match_runner.specs.declared.engine.StartFault.TheVariants as start
+use Rattle.match_runner.specs.declared.games.GamesFault.{GamesFault}
+use Rattle.match_runner.specs.declared.games.GamesFault.TheVariants.{WriteFailed, NoMemory, CanNotStart}
+use Rattle.match_runner.specs.declared.games.GamesPlayed.{GamesPlayed}
+use Rattle.match_runner.specs.declared.score.Score.{Score}
+use Rattle.match_runner.specs.Games.{first_side, GameRecord, IsOfPlan, game_text, IsStartFault, game_texts, LogsGames, score_of, EndsGames, GamesBrokeOff}
+
+-- ---- the score, as it is counted
+
+-- the score before the first game: nothing is counted yet
+abbrev pub no_score : Score
+no_score = record { first = 0; second = 0; drawn = 0; unfinished = 0 }
+
+-- a count after a game: one more if the flag says that the game adds to it, but at most 65,535
+abbrev pub plus : ℕ → Bool → ℕ
+plus count true = min (count + 1) 65535
+plus count false = count
+
+-- the score `s` with one more game counted, which had this outcome and in which the first engine, that of `--white`,
+-- had the side `first`
+abbrev pub score_after : Colour → Outcome → Score → Score
+score_after first outcome s = record {
+  first = plus s.first (same_outcome outcome (win_of first));
+  second = plus s.second (same_outcome outcome (win_of (other first)));
+  drawn = plus s.drawn (same_outcome outcome Draw);
+  unfinished = plus s.unfinished (same_outcome outcome Unfinished);
+}
+
+-- ---- a game
+
+-- the side that the engine of `--white` has in the game of this number, if the plan asks for a log; else `None`
+abbrev pub logged_side : MatchPlan → ℕ → Option Colour
+logged_side plan number = if plan.log then Some (first_side number) else None
+
+-- from the log's state `l` to `l'` the game of these notes was logged, if a side of the engine of `--white` is given;
+-- without one (`None`) nothing was
+abbrev pub LogsGame : Option Colour → LogSeen → LogSeen → List Note → Type 0
+LogsGame None l l' notes = l' ≡ l
+LogsGame (Some first) l l' notes = Logged l l' (log_text first notes)
+
+-- a game from the position `start` with the time control `level` ran by a transcript to the reported `end`; it was
+-- logged if `first`, the side of the engine of `--white`, is given. `l`, `g`, `w` and `coming` are the log, the game,
+-- the engines' devices and the times that the clock is to give before, `l'`, `g'`, `w'` and `coming'` after
+abbrev pub RanAndLogged : Option Colour → LogSeen → LogSeen → Setup → LevelSeen → Seen → Seen → MatchEnd → Ports → Ports
+    → (ℕ → Option ℕ) → (ℕ → Option ℕ) → Type 0
+RanAndLogged first l l' start level g g' end w w' coming coming' =
+    (notes : List Note) × RanNoted notes start level g g' end w w' coming coming' × LogsGame first l l' notes
+
+-- `end` is the reported end of a game from the position `start` with the time control `level`, between engines whose
+-- devices were `w` before; it was logged if `log`, the side of the engine of `--white`, is given. `l` and `g` are the
+-- log and the game before, `l'` and `g'` after
+abbrev pub IsMatchEndOf : Option Colour → LogSeen → LogSeen → Setup → LevelSeen → Seen → Seen → MatchEnd → Ports
+    → Type 0
+IsMatchEndOf log l l' start level g g' end w =
+    (notes : List Note) × (w' : Ports) × (coming : ℕ → Option ℕ) × (coming' : ℕ → Option ℕ)
+    × RanNoted notes start level g g' end w w' coming coming' × LogsGame log l l' notes
+
+-- the fault says that an engine of this command could not be started, or that there was no memory
+abbrev pub FailsToStart : List ℕ → GamesFault → Type 0
+FailsToStart command NoMemory = ⊤
+FailsToStart command (CanNotStart c) = c.now ≡ command
+FailsToStart command _ = ⊥
+
+-- the fault of starting the engine of this command is reported as `fault`: out of memory as such, all else by the
+-- command
+abbrev pub ReportsStart : StartFault → List ℕ → GamesFault → Type 0
+ReportsStart start.NoMemory command fault = fault ≡ NoMemory
+ReportsStart start.CanNotStart command fault = (c : Bor (List ℕ)) × (fault ≡ CanNotStart c) × (c.now ≡ command)
+
+-- what playing the game of this number does, by its result: its PGN was written and flushed, and the game logged; or
+-- only a beginning of the PGN was written; or its engines could not be started. `w` and `l` are output and log before,
+-- `w'` and `l'` after
+abbrev pub PlayedOne : MatchPlan → ℕ → OutputState → OutputState → LogSeen → LogSeen → Result MatchEnd GamesFault
+    → Type 0
+PlayedOne plan number w w' l l' (Ok end) =
+    (game : Seen) × (notes : List Note) × IsOfPlan plan (record { game = game; end = end; notes = notes })
+    × Sent w w' (game_text plan number (record { game = game; end = end; notes = notes }))
+    × LogsGame (logged_side plan number) l l' notes
+PlayedOne plan number w w' l l' (Err WriteFailed) =
+    (played : GameRecord) × IsOfPlan plan played × BreaksOff w w' (game_text plan number played)
+    × LogsGame (logged_side plan number) l l' played.notes
+PlayedOne plan number w w' l l' (Err fault) = IsStartFault plan fault × (w' ≡ w) × (l' ≡ l)
+
+-- what playing the games of a match does, by its result: each was written and logged, and the score counts them, up to
+-- and with one that has a fault; or the match broke off. `w` and `l` are output and log before, `w'` and `l'` after
+abbrev pub HasPlayed : MatchPlan → OutputState → OutputState → LogSeen → LogSeen → Result GamesPlayed GamesFault → Type 0
+HasPlayed plan w w' l l' (Ok played) =
+    (games : List GameRecord) × EndsGames plan games played.fault × (played.score ≡ score_of games)
+    × Flushed w w' (game_texts plan games) × LogsGames plan.log l l' games
+HasPlayed plan w w' l l' (Err fault) = GamesBrokeOff plan w w' l l' fault

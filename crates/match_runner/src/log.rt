@@ -1,0 +1,423 @@
+//! The log of a match: what the engines send and are sent.
+
+ghost use Rattle.std.specs.Prelude.{◌≡◌, ◌==◌, ◌<◌, ◌∷◌, ◌++◌, [], List, ℕ, decimal, false, true, if◌then◌else◌, map};
+ghost use Rattle.arrayvec.specs.ArrayVec.{array_vec_len};
+ghost use Rattle.byte_devices.specs.Devices.{OutputState};
+ghost use Rattle.chess_base.specs.Letters.{byte as letter, new_line};
+ghost use Rattle.chess_base.specs.Men.{same_colour};
+ghost use Rattle.chess_match.specs.Reasons.{by_colour};
+ghost use Rattle.chess_match.specs.Run.{Ports, text_read};
+ghost use Rattle.match_runner.specs.Log.{Logs, RanLogged, ends_line, engine_text, given_text, head, log_line, log_seen, shown};
+ghost use Rattle.match_runner.specs.ties.Logging.{Adds, IsLog, log_start, received_text};
+
+use arrayvec::ArrayVec;
+use byte_devices::{Input, Output, send};
+use chess_base::{Colour, same_colour};
+use chess_game::Game;
+use chess_match::{ENGINE_LINE_LEN, Ends, MatchEnd, Moments, Setup, Witness, run_match_watched};
+use chess_moves::Board;
+use itoa::Buffer;
+use text_lines::Line;
+
+// The bytes of a line of the log that has not ended, and whether a write or flush of the log failed.
+#[derive(Drop)]
+pub(crate) struct Pending {
+    bytes: ArrayVec<u8, 256>,
+    broken: bool,
+}
+
+// The time of the last event that has one, and whether the log is at the start of a line.
+#[derive(Clone, Copy)]
+pub(crate) struct LogState {
+    moment: u64,
+    at_start: bool,
+}
+
+impl LogState {
+    // The log's state before a game: time 0, at the start of a line.
+    fn start() -> Self
+        ensures { result ≡ log_start }
+    {
+        LogState {
+            moment: 0,
+            at_start: true,
+        }
+    }
+}
+
+// A byte as the log shows it: `?` for what is no printable ASCII.
+fn shown(byte: u8) -> u8
+    ensures { result ≡ shown byte }
+{
+    if 32 <= byte && byte <= 126 {
+        byte
+    } else {
+        b'?'
+    }
+}
+
+// Writes and flushes a text, unless a call on the log failed before (`broken`). Returns whether one has failed, before
+// or now.
+fn send_unless_broken<E: Output>(output: &mut E, text: &[u8], broken: bool) -> bool
+    ensures { Logs broken result (E.seen output.old) (E.seen output.new) [] text.now }
+{
+    if broken {
+        return true;
+    }
+    send(output, text).is_err()
+}
+
+impl Pending {
+    // Nothing is pending, and no write or flush has failed.
+    fn new() -> Self
+        ensures bytes { result.bytes.items ≡ [] }
+        ensures broken { result.broken ≡ false }
+    {
+        Pending {
+            bytes: ArrayVec::new(),
+            broken: false,
+        }
+    }
+
+    // Writes and flushes the bytes that wait, unless a call on the log failed before; none waits after that.
+    fn flush_pending<E: Output>(&mut self, output: &mut E)
+        ensures adds { Adds (E.seen output.old) (E.seen output.new) self.old self.new [] }
+        ensures empty { array_vec_len self.new.bytes ≡ 0 }
+        ensures nothing { self.new.bytes.items ≡ [] }
+    {
+        self.broken = send_unless_broken(output, self.bytes.as_slice(), self.broken);
+        self.bytes.clear();
+    }
+
+    // Makes room for one more byte: if there is none, writes and flushes the bytes that wait.
+    fn make_room<E: Output>(&mut self, output: &mut E)
+        ensures adds { Adds (E.seen output.old) (E.seen output.new) self.old self.new [] }
+        ensures room { array_vec_len self.new.bytes < 256 }
+    {
+        if self.bytes.is_full() {
+            self.flush_pending(output);
+        }
+    }
+
+    // Writes and flushes the bytes that wait, if this byte ends a line.
+    fn end_line<E: Output>(&mut self, output: &mut E, byte: u8)
+        ensures adds { Adds (E.seen output.old) (E.seen output.new) self.old self.new [] }
+    {
+        if byte == b'\n' {
+            self.flush_pending(output);
+        }
+    }
+
+    // Logs a byte: it waits with those of its line, and all are written and flushed when the line ends or there is no
+    // room for more.
+    fn add<E: Output>(&mut self, output: &mut E, byte: u8)
+        ensures { Adds (E.seen output.old) (E.seen output.new) self.old self.new (byte ∷ []) }
+    {
+        self.make_room(output);
+        self.bytes.push(byte);
+        self.end_line(output, byte);
+    }
+
+    // Logs a text, byte by byte.
+    fn add_text<E: Output>(&mut self, output: &mut E, text: &[u8])
+        ensures { Adds (E.seen output.old) (E.seen output.new) self.old self.new text.now }
+    {
+        for byte in text {
+            self.add(output, *byte);
+        }
+    }
+
+    // Logs a text, with `?` for each byte that is no printable ASCII.
+    fn add_shown<E: Output>(&mut self, output: &mut E, text: &[u8])
+        ensures { Adds (E.seen output.old) (E.seen output.new) self.old self.new (map shown text.now) }
+    {
+        for byte in text {
+            self.add(output, shown(*byte));
+        }
+    }
+
+    // Logs a number in decimal.
+    fn add_number<E: Output>(&mut self, output: &mut E, number: u64)
+        ensures { Adds (E.seen output.old) (E.seen output.new) self.old self.new (decimal number) }
+    {
+        let mut buffer = Buffer::new();
+        self.add_text(output, buffer.format(number).as_bytes());
+    }
+
+    // Logs what a line begins with, such as `312 <first : `; `mark` is `<`, `>` or `!`, and `is_first` says whether
+    // the engine is that of `--white`.
+    fn add_head<E: Output>(&mut self, output: &mut E, moment: u64, mark: u8, is_first: bool)
+        ensures { Adds (E.seen output.old) (E.seen output.new) self.old self.new (head moment mark is_first) }
+    {
+        self.add_number(output, moment);
+        self.add_text(output, &[b' ', mark]);
+        self.add_text(output, engine_text(is_first));
+    }
+
+    // Logs a whole line, such as `312 <first : move e2e4`; `mark` is `<`, `>` or `!`, and `is_first` says whether the
+    // engine is that of `--white`.
+    fn add_line<E: Output>(
+        &mut self,
+        output: &mut E,
+        moment: u64,
+        mark: u8,
+        is_first: bool,
+        text: &[u8],
+    )
+        ensures { Adds (E.seen output.old) (E.seen output.new) self.old self.new
+            (log_line moment mark is_first text.now) }
+    {
+        self.add_head(output, moment, mark, is_first);
+        self.add_shown(output, text);
+        self.add(output, b'\n');
+    }
+
+    // Logs a line that an engine sent, such as `312 <first : move e2e4`; `is_first`: the engine is that of `--white`.
+    fn add_received<E: Output>(
+        &mut self,
+        output: &mut E,
+        moment: u64,
+        is_first: bool,
+        line: &Line<ENGINE_LINE_LEN>,
+    )
+        ensures { Adds (E.seen output.old) (E.seen output.new) self.old self.new
+            (received_text moment is_first (text_read line.now)) }
+    {
+        if line.is_too_long() {
+            self.add_line(output, moment, b'!', is_first, b"line too long");
+            return;
+        }
+        self.add_line(output, moment, b'<', is_first, line.text());
+    }
+
+    // Logs what a line of bytes sent begins with, such as `312 >first : `, if the log is at the start of a line.
+    // `is_first`: the engine is that of `--white`.
+    fn add_head_if<E: Output>(&mut self, output: &mut E, state: LogState, is_first: bool)
+        ensures { Adds (E.seen output.old) (E.seen output.new) self.old self.new
+            (if state.at_start then head state.moment (letter ">") is_first else []) }
+    {
+        if state.at_start {
+            self.add_head(output, state.moment, b'>', is_first);
+        }
+    }
+
+    // Logs a byte that an engine is sent; before it what a line begins with (`312 >first : `), if the log is at the
+    // start of one. `is_first`: the engine is that of `--white`.
+    fn add_given_byte<E: Output>(
+        &mut self,
+        output: &mut E,
+        state: LogState,
+        is_first: bool,
+        byte: u8,
+    )
+        ensures { Adds (E.seen output.old) (E.seen output.new) self.old self.new
+            ((if state.at_start then head state.moment (letter ">") is_first else [])
+            ++ (if byte == new_line then new_line else shown byte) ∷ []) }
+    {
+        self.add_head_if(output, state, is_first);
+        self.add(output, given_byte(byte));
+    }
+
+    // Logs bytes that an engine is sent, each line as `312 >first : e2e4`, and returns the log's state after them.
+    // `is_first`: the engine is that of `--white`.
+    fn add_given<E: Output>(
+        &mut self,
+        output: &mut E,
+        state: LogState,
+        is_first: bool,
+        text: &[u8],
+    ) -> LogState
+        ensures adds { Adds (E.seen output.old) (E.seen output.new) self.old self.new
+            (given_text (head state.moment (letter ">") is_first) state.at_start text.now) }
+        ensures state { result ≡ (record { moment = state.moment; at_start = ends_line state.at_start text.now }) }
+    {
+        let mut at_start = state.at_start;
+        for byte in text {
+            let now = LogState {
+                moment: state.moment,
+                at_start,
+            };
+            self.add_given_byte(output, now, is_first, *byte);
+            at_start = *byte == b'\n';
+        }
+        LogState {
+            moment: state.moment,
+            at_start,
+        }
+    }
+}
+
+// A byte that an engine is sent as the log shows it: `\n` as it is, `?` for what else is no printable ASCII.
+fn given_byte(byte: u8) -> u8
+    ensures { result ≡ (if byte == new_line then new_line else shown byte) }
+{
+    if byte == b'\n' { byte } else { shown(byte) }
+}
+
+// How the log names an engine: `first : ` for that of `--white` (`is_first`), `second: ` for the other.
+fn engine_text(is_first: bool) -> &'static [u8]
+    ensures { result.now ≡ engine_text is_first }
+{
+    if is_first { b"first : " } else { b"second: " }
+}
+
+/// An output on which games are logged in the form of XBoard's debug file: it watches a match, and writes each line that
+/// an engine sends or is sent, and each failure and end of an output. After a write or flush that failed it logs nothing
+/// more.
+#[derive(Drop)]
+pub struct Log<E> {
+    /// Where the log goes.
+    pub output: E,
+    pending: Pending,
+    state: LogState,
+    /// The side of the first engine.
+    first: Colour,
+}
+
+impl<E: Output> Log<E> {
+    /// An empty log on this output, before the first game.
+    pub fn new(output: E) -> Self
+        ensures output { result.output ≡ output }
+        ensures unbroken { result.pending.broken ≡ false }
+    {
+        Log {
+            output,
+            pending: Pending::new(),
+            state: LogState::start(),
+            first: Colour::White,
+        }
+    }
+
+    /// Ends the log, and gives its output back.
+    pub fn into_output(self) -> E
+        ensures { result ≡ self.output }
+    {
+        let Log {
+            output,
+            pending: _,
+            state: _,
+            first: _,
+        } = self;
+        output
+    }
+
+    // Begins the log of a game in which the first engine, that of `--white`, has the side `first`.
+    fn begin(&mut self, first: Colour)
+        ensures log { IsLog first
+            (log_seen (E.seen self.old.output) self.old.pending)
+            self.new.first (E.seen self.new.output) self.new.pending self.new.state [] }
+    {
+        self.pending.bytes.clear();
+        self.state = LogState::start();
+        self.first = first;
+    }
+
+    // Writes and flushes the bytes that still wait, at the end of a game.
+    fn finish(&mut self)
+        ensures adds { Adds (E.seen self.old.output) (E.seen self.new.output) self.old.pending self.new.pending [] }
+        ensures nothing { self.new.pending.bytes.items ≡ [] }
+        ensures first { self.new.first ≡ self.old.first }
+        ensures state { self.new.state ≡ self.old.state }
+    {
+        self.pending.flush_pending(&mut self.output);
+    }
+
+    // Logs a line such as `312 !first : output ended`, with this text, at the time of the last event; `side` is the
+    // engine's.
+    fn note(&mut self, side: Colour, text: &[u8])
+        ensures adds { Adds (E.seen self.old.output) (E.seen self.new.output) self.old.pending self.new.pending
+            (log_line self.old.state.moment (letter "!") (same_colour side self.old.first) text.now) }
+        ensures first { self.new.first ≡ self.old.first }
+        ensures state { self.new.state ≡ (record { moment = self.old.state.moment; at_start = true }) }
+    {
+        let is_first = same_colour(side, self.first);
+        let moment = self.state.moment;
+        self.pending
+            .add_line(&mut self.output, moment, b'!', is_first, text);
+        self.state = LogState {
+            moment,
+            at_start: true,
+        };
+    }
+}
+
+impl<E: Output> Witness for Log<E> {
+    ghost use Rattle.match_runner.specs.ties.Logging.{IsLog, first_of_text, log_of_text};
+
+    ghost noted = { λ l before notes.
+        IsLog (first_of_text before) (log_of_text before) l.first (E.seen l.output) l.pending l.state notes };
+
+    // Logs a line that an engine sent, such as `312 <first : move e2e4`.
+    fn line(&mut self, side: Colour, line: &Line<ENGINE_LINE_LEN>, moment: u64) {
+        let is_first = same_colour(side, self.first);
+        self.pending
+            .add_received(&mut self.output, moment, is_first, line);
+        self.state = LogState {
+            moment,
+            at_start: true,
+        };
+    }
+
+    // Keeps the time for the lines that follow, and logs nothing: the lines that opened the turn were logged before.
+    fn opened(&mut self, _side: Colour, moment: u64) {
+        self.state.moment = moment;
+    }
+
+    // Logs that an engine closed its output.
+    fn output_ends(&mut self, side: Colour) {
+        self.note(side, b"output ended");
+    }
+
+    // Logs that reading from an engine failed.
+    fn read_fails(&mut self, side: Colour) {
+        self.note(side, b"read failed");
+    }
+
+    // Logs that writing to an engine failed.
+    fn write_fails(&mut self, side: Colour) {
+        self.note(side, b"write failed");
+    }
+
+    // Logs the lines that an engine is sent, each such as `312 >first : e2e4`.
+    fn gives(&mut self, side: Colour, text: &[u8]) {
+        let is_first = same_colour(side, self.first);
+        let state = self.state;
+        self.state = self
+            .pending
+            .add_given(&mut self.output, state, is_first, text);
+    }
+}
+
+/// Plays one game as `run_match` of chess_match does, and logs it; the first engine (that of `--white`) has the side
+/// `first`.
+///
+/// The contract says that the log has the transcript and all lines that each engine is sent. All of it was written
+/// and flushed; or a write or a flush of it failed, and a beginning of it was written; or one had failed before, and
+/// nothing was.
+pub fn run_match_logged<R: Input, W: Output, M: Moments, B: Board, E: Output>(
+    white: &mut Ends<R, W>,
+    black: &mut Ends<R, W>,
+    moments: &mut M,
+    setup: &Setup,
+    game: &mut Game<B>,
+    first: Colour,
+    log: &mut Log<E>,
+) -> MatchEnd
+    ensures ran { RanLogged first
+        (log_seen (E.seen log.old.output) log.old.pending) (log_seen (E.seen log.new.output) log.new.pending)
+        setup.now.start setup.now.level game.old game.new result
+        (record {
+          reader = by_colour (R.seen white.old.reader) (R.seen black.old.reader);
+          writer = by_colour (W.seen white.old.writer) (W.seen black.old.writer);
+        })
+        (record {
+          reader = by_colour (R.seen white.new.reader) (R.seen black.new.reader);
+          writer = by_colour (W.seen white.new.writer) (W.seen black.new.writer);
+        })
+        (M.coming moments.old) (M.coming moments.new) }
+{
+    log.begin(first);
+    let end = run_match_watched(white, black, moments, setup, game, log);
+    log.finish();
+    end
+}

@@ -1,0 +1,12 @@
+use Rattle.std.proofs.Common.{◌≡◌, ◌≤◌, ◌-◌, drop, length}
+use Rattle.stub_engine.specs.Stub.{after_remarks}
+use Rattle.stub_engine.proofs.stub.after_remarks.Given as goal
+
+abbrev pub invariant-loop-at : goal.invariant-loop-at
+invariant-loop-at l = record {
+  within : l.at ≤ length l.words;
+  left : after_remarks (drop l.at l.words) ≡ after_remarks (drop l.from l.words);
+}
+
+abbrev pub decreases-loop-at : goal.decreases-loop-at
+decreases-loop-at l = length l.words - l.at

@@ -1,0 +1,292 @@
+//! A stub of an engine, which plays the arguments that it is given.
+
+ghost use Rattle.std.specs.Prelude.{◌≡◌, ◌≤◌, ◌++◌, ◌∷◌, [], IfOk, codes, decimal, drop, if◌then◌else◌, length, option_map};
+ghost use Rattle.std.specs.Str.{bytes_eq};
+ghost use Rattle.byte_devices.specs.Devices.{Puts};
+ghost use Rattle.chess_base.specs.Letters.{new_line};
+ghost use Rattle.chess_cecp.specs.Commands.{command_of};
+ghost use Rattle.stub_engine.specs.Stub.{after_remarks, after_opponent_move, played_text, remark, remarks, stub_row, stub_response, turn, waiting};
+
+use arrayvec::ArrayVec;
+use byte_devices::{Output, WriteFault, append, append_number, put, put_parts};
+use chess_cecp::{COMMAND_LEN, Command, Go, LineServer, read_command};
+use text_lines::{Line, first_word};
+use std::marker::Model;
+
+// The reply to `protover`.
+const FEATURES: &[u8] = b"feature ping=1 setboard=1 usermove=1 myname=\"stub\" done=1\n";
+
+// The line that the stub sends for the argument `offer` (`offer draw`) or `claim` (a claim of a draw), which may follow
+// a move; `None` for any other argument.
+fn remark(word: &str) -> Option<&'static [u8]>
+    ensures { option_map (λ t. t.now) result ≡ remark word.now }
+{
+    if word == "offer" {
+        Some(b"offer draw\n")
+    } else if word == "claim" {
+        Some(b"1/2-1/2 {Draw by repetition}\n")
+    } else {
+        None
+    }
+}
+
+// What the stub sends before an argument that it plays: nothing before `resign`, `move ` before any other.
+fn prefix_of(word: &str) -> &'static [u8]
+    ensures value { result.now ≡ (if bytes_eq word.now (codes "resign") then [] else codes "move ") }
+    ensures short { length result.now ≤ 5 }
+{
+    if word == "resign" { b"" } else { b"move " }
+}
+
+// Sends a line made of a prefix and an argument, by one write unless it is long.
+fn say_line<W: Output>(writer: &mut W, prefix: &[u8], word: &str) -> Result<(), WriteFault>
+    requires { length prefix.now ≤ 5 }
+    ensures { Puts (W.seen writer.old) (W.seen writer.new) result (prefix.now ++ (word.now ++ new_line ∷ [])) }
+{
+    if word.len() > 30 {
+        return put_parts(writer, &[prefix, word.as_bytes(), b"\n".as_slice()]);
+    }
+    let mut line: ArrayVec<u8, 40> = ArrayVec::new();
+    append(&mut line, prefix);
+    append(&mut line, word.as_bytes());
+    line.push(b'\n');
+    put(writer, line.as_slice())
+}
+
+// Sends the line of an argument that the stub plays: `resign` as it is, any other after `move`.
+fn say_word<W: Output>(writer: &mut W, word: &str) -> Result<(), WriteFault>
+    ensures { Puts (W.seen writer.old) (W.seen writer.new) result (played_text word.now) }
+{
+    say_line(writer, prefix_of(word), word)
+}
+
+// Sends `pong` with this number, the answer to a `ping`.
+fn say_pong<W: Output>(writer: &mut W, number: u32) -> Result<(), WriteFault>
+    ensures { Puts (W.seen writer.old) (W.seen writer.new) result (codes "pong " ++ (decimal number ++ new_line ∷ [])) }
+{
+    let mut line: ArrayVec<u8, 40> = ArrayVec::new();
+    append(&mut line, b"pong ");
+    append_number(&mut line, u64::from(number));
+    line.push(b'\n');
+    put(writer, line.as_slice())
+}
+
+// Sends the lines that the arguments `offer` and `claim` stand for (an offer and a claim of a draw), from the index
+// `from` up to the first other argument.
+fn say_remarks<W: Output>(words: &[&str], from: usize, writer: &mut W) -> Result<(), WriteFault>
+    requires { from ≤ length words.now }
+    ensures { Puts (W.seen writer.old) (W.seen writer.new) result (remarks (drop from words.now)) }
+{
+    let mut at = from;
+    while at < words.len() {
+        let Some(text) = remark(words[at]) else {
+            return Ok(());
+        };
+        put(writer, text)?;
+        at += 1;
+    }
+    Ok(())
+}
+
+// The index of the first argument, from `from` on, that is neither `offer` nor `claim`; the number of arguments, if
+// there is none.
+fn after_remarks(words: &[&str], from: usize) -> usize
+    requires { from ≤ length words.now }
+    ensures in_range { result ≤ length words.now }
+    ensures rest { drop result words.now ≡ after_remarks (drop from words.now) }
+{
+    let mut at = from;
+    while at < words.len() {
+        if remark(words[at]).is_none() {
+            return at;
+        }
+        at += 1;
+    }
+    at
+}
+
+// Sends the line of an argument that the stub plays, and then the lines that `offer` and `claim` stand for, from the
+// index `from` of `words` up to the first other argument.
+fn say_played<W: Output>(
+    word: &str,
+    words: &[&str],
+    from: usize,
+    writer: &mut W,
+) -> Result<(), WriteFault>
+    requires { from ≤ length words.now }
+    ensures { Puts (W.seen writer.old) (W.seen writer.new) result
+        (played_text word.now ++ remarks (drop from words.now)) }
+{
+    say_word(writer, word)?;
+    say_remarks(words, from, writer)
+}
+
+// Sends what the stub plays in its turn: the argument at the index `at` and the `offer` and `claim` after it; `resign`
+// if there is none. Returns whether the stub goes on: not after `end`.
+fn say_turn<W: Output>(words: &[&str], at: usize, writer: &mut W) -> Result<Go, WriteFault>
+    requires { at ≤ length words.now }
+    ensures written { Puts (W.seen writer.old) (W.seen writer.new) result (turn (drop at words.now)).text }
+    ensures go { IfOk result (λ go. go ≡ (if (turn (drop at words.now)).ends then Go.Quit else Go.On)) }
+{
+    if at == words.len() {
+        put(writer, b"resign\n")?;
+        return Ok(Go::On);
+    }
+    let word = words[at];
+    if word == "end" {
+        put(writer, b"mov")?;
+        return Ok(Go::Quit);
+    }
+    say_played(word, words, at + 1, writer)?;
+    Ok(Go::On)
+}
+
+// The index of the first argument that is not yet used after a turn that began with the one at the index `at`.
+fn after_turn(words: &[&str], at: usize) -> usize
+    requires { at ≤ length words.now }
+    ensures in_range { result ≤ length words.now }
+    ensures rest { drop result words.now ≡ (turn (drop at words.now)).state.words }
+{
+    if at == words.len() {
+        return at;
+    }
+    if words[at] == "end" {
+        return at + 1;
+    }
+    after_remarks(words, at + 1)
+}
+
+/// A stub: its arguments, the index of the next one, and whether it plays.
+#[derive(Drop)]
+pub struct Stub<'a> {
+    words: &'a [&'a str],
+    at: usize,
+    plays: bool,
+}
+
+impl<'a> Model for Stub<'a> {
+    ghost use Rattle.std.specs.Prelude.{◌≤◌, drop, length};
+    ghost use Rattle.stub_engine.specs.Stub.{StubState};
+
+    ghost Value = { StubState };
+
+    ghost view = { λ s. record {
+      words = drop s.at s.words.now;
+      plays = s.plays;
+    } };
+
+    ghost invariant = { λ s. s.at ≤ length s.words.now };
+}
+
+impl<'a> Stub<'a> {
+    /// A stub, an engine that plays these arguments; it doesn't play a side yet.
+    pub fn new(words: &'a [&'a str]) -> Self
+        ensures { result ≡ waiting words.now }
+    {
+        Stub {
+            words,
+            at: 0,
+            plays: false,
+        }
+    }
+
+    // Takes the stub's turn: plays the next argument, and returns whether the stub goes on.
+    #[tactic(auto, using(crate::proofs::Remarks::turn_state))]
+    fn play<W: Output>(&mut self, writer: &mut W) -> Result<Go, WriteFault>
+        ensures next { self.new ≡ (turn self.old.words).state }
+        ensures written { Puts (W.seen writer.old) (W.seen writer.new) result (turn self.old.words).text }
+        ensures go { IfOk result (λ go. go ≡ (if (turn self.old.words).ends then Go.Quit else Go.On)) }
+    {
+        let at = self.at;
+        self.at = after_turn(self.words, at);
+        self.plays = true;
+        say_turn(self.words, at, writer)
+    }
+
+    // Takes a move of the opponent: if the stub plays, it is its turn, else nothing happens. Returns whether the stub
+    // goes on.
+    fn moved<W: Output>(&mut self, writer: &mut W) -> Result<Go, WriteFault>
+        ensures next { self.new ≡ (after_opponent_move self.old).state }
+        ensures written { Puts (W.seen writer.old) (W.seen writer.new) result (after_opponent_move self.old).text }
+        ensures go { IfOk result (λ go. go ≡ (if (after_opponent_move self.old).ends then Go.Quit else Go.On)) }
+    {
+        if self.plays {
+            self.play(writer)
+        } else {
+            Ok(Go::On)
+        }
+    }
+
+    // Obeys the command of a line, writes the reply if there is one, and returns whether the stub goes on.
+    fn obey<W: Output>(&mut self, text: &[u8], writer: &mut W) -> Result<Go, WriteFault>
+        ensures next { self.new ≡ (stub_row self.old text.now (command_of text.now)).state }
+        ensures written { Puts (W.seen writer.old) (W.seen writer.new) result
+            (stub_row self.old text.now (command_of text.now)).text }
+        ensures go { IfOk result
+            (λ go. go ≡ (if (stub_row self.old text.now (command_of text.now)).ends then Go.Quit else Go.On)) }
+    {
+        match read_command(text) {
+            Command::Protover(_) => {
+                put(writer, FEATURES)?;
+                Ok(Go::On)
+            }
+            Command::Ping(number) => {
+                say_pong(writer, number)?;
+                Ok(Go::On)
+            }
+            Command::New => {
+                self.plays = false;
+                Ok(Go::On)
+            }
+            Command::Go => self.play(writer),
+            Command::UserMove => self.moved(writer),
+            Command::Unknown => {
+                if first_word(text) == b"usermove".as_slice() {
+                    self.moved(writer)
+                } else {
+                    Ok(Go::On)
+                }
+            }
+            Command::Quit => Ok(Go::Quit),
+            Command::Silent => {
+                if first_word(text) == b"force".as_slice() {
+                    self.plays = false;
+                }
+                Ok(Go::On)
+            }
+            Command::BareMove
+            | Command::Undo
+            | Command::Remove
+            | Command::Declare
+            | Command::Claim
+            | Command::SetBoard
+            | Command::Variant
+            | Command::ShowFen
+            | Command::ShowMoves
+            | Command::ShowState
+            | Command::ShowPgn
+            | Command::BadNumber => Ok(Go::On),
+        }
+    }
+}
+
+impl<'a> LineServer for Stub<'a> {
+    ghost respond = { stub_response };
+
+    // Obeys the command of a line, unless the line is too long, flushes the writer, and returns whether the stub goes
+    // on.
+    #[tactic(auto, unfolding(crate::specs::Stub::stub_response))]
+    fn answer_line<W: Output>(
+        &mut self,
+        line: &Line<COMMAND_LEN>,
+        writer: &mut W,
+    ) -> Result<Go, WriteFault> {
+        let go = if line.is_too_long() {
+            Go::On
+        } else {
+            self.obey(line.text(), writer)?
+        };
+        writer.flush()?;
+        Ok(go)
+    }
+}
