@@ -27,6 +27,7 @@ use Rattle.pgn_verifier.specs.Collection.{VerifiesCollection}
 use Rattle.pgn_verifier.specs.Verify.{Verifies}
 use Rattle.match_runner.specs.Games.{RanGames}
 use Rattle.match_runner.specs.declared.games.GamesFault.{GamesFault}
+use Rattle.match_runner.specs.declared.plan.GamesPlan.{GamesPlan}
 use Rattle.match_runner.specs.Log.{LogSeen}
 use Rattle.stub_engine.specs.Stub.{stub_response, waiting}
 use Rattle.chess_arbiter.specs.declared.fault.ProgramFault.TheVariants.{WrongWords}
@@ -95,12 +96,24 @@ ReportsArguments (words.Words e) w w' status =
 ReportsArguments words.NoMemory w w' status = (w' ≡ w) × (status ≡ 1)
 ReportsArguments fault w w' status = (w' ≡ w) × (status ≡ 2)
 
+-- what the games of a match are played by, as the plan of the arguments has it
+abbrev pub games_plan : MatchPlan → GamesPlan
+games_plan plan = record {
+  white = plan.white;
+  black = plan.black;
+  level = plan.level;
+  start = plan.start;
+  games = plan.games;
+  date = plan.date;
+  log = plan.log;
+}
+
 -- the games of the plan's match were played, written and logged, and the exit status `status` is 1 if anything failed,
 -- else 0. What the error output has is said only for status 0. `w` and `l` are output and log before, `w'` and `l'`
 -- after
 abbrev pub RanMatch : MatchPlan → OutputState → OutputState → LogSeen → LogSeen → ℕ → Type 0
 RanMatch plan w w' l l' status =
-    (outcome : Result (Unit {0}) GamesFault) × (logged : LogSeen) × RanGames plan w w' l logged outcome
+    (outcome : Result (Unit {0}) GamesFault) × (logged : LogSeen) × RanGames (games_plan plan) w w' l logged outcome
     × (status ≡ status_of outcome) × (status ≡ 0 → l' ≡ logged)
 
 -- the program did what its arguments ask for (the plan), or reported why they ask for nothing (the fault). `r`, `w` and

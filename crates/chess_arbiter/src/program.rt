@@ -16,7 +16,7 @@ use chess_bits::{AttackTables, Bits};
 use chess_cecp::{End, Fault, Session, run_session, serve_lines};
 use chess_game::MOST_MOVES;
 use chess_pgn::Tags;
-use match_runner::{Log, play_games};
+use match_runner::{GamesPlan, Log, play_games};
 use pgn_verifier::{Verified, VerifyFault, VerifyOptions, verify, verify_collection};
 use std::alloc::{AllocError, Global};
 use std::fmt::Display;
@@ -227,7 +227,16 @@ fn matched<P: Processes + Clock, W: Output, E: Output>(
         (log_seen (E.seen log.old.output) log.old.pending) (log_seen (E.seen log.new.output) log.new.pending)
         result }
 {
-    match play_games(rt, alloc, plan, output, log) {
+    let games = GamesPlan {
+        white: plan.white,
+        black: plan.black,
+        level: plan.level,
+        start: plan.start,
+        games: plan.games,
+        date: plan.date,
+        log: plan.log,
+    };
+    match play_games(rt, alloc, &games, output, log) {
         Ok(()) => 0,
         Err(fault) => reported(&mut log.output, &fault, 1),
     }

@@ -5,7 +5,7 @@ use Rattle.std.specs.List.{enumerate_from}
 use Rattle.std.proofs.lemmas.List.Concat.{flat_map-append}
 use Rattle.std.proofs.lemmas.List.FromFn.{length-enumerate_from}
 use Rattle.std.proofs.lemmas.List.Sums.{count_by-le-length, sum_by_push}
-use Rattle.arbiter_cli.specs.declared.plan.MatchPlan.{MatchPlan}
+use Rattle.match_runner.specs.declared.plan.GamesPlan.{GamesPlan}
 use Rattle.chess_base.specs.Men.{other}
 use Rattle.chess_base.specs.declared.man.Colour.{Colour}
 use Rattle.byte_devices.specs.Devices.{OutputState, Begins, BreaksOff, Sends, Sent}
@@ -96,7 +96,7 @@ log_none true l = logs_none l.broken l.output
 
 -- ---- texts of games
 
-texts_more : (plan : MatchPlan) (games : List GameRecord) (g : GameRecord)
+texts_more : (plan : GamesPlan) (games : List GameRecord) (g : GameRecord)
     → game_texts plan (games ++ g ∷ []) ≡ game_texts plan games ++ game_text plan (1 + length games) g
 texts_more plan games g = joined_more (λ x. game_text plan x.0 x.1) games g
 
@@ -144,7 +144,7 @@ score_more games g few =
 
 -- ---- one game more
 
-sound_more : (plan : MatchPlan) (games : List GameRecord) (g : GameRecord) → SoundGames plan games → IsOfPlan plan g
+sound_more : (plan : GamesPlan) (games : List GameRecord) (g : GameRecord) → SoundGames plan games → IsOfPlan plan g
     → g.end.fault ≡ None → SoundGames plan (games ++ g ∷ [])
 sound_more plan [] g h of none = (of, none, tt)
 sound_more plan (x ∷ games) g h of none = (h.0, h.1, sound_more plan games g h.2 of none)
@@ -152,7 +152,7 @@ sound_more plan (x ∷ games) g h of none = (h.0, h.1, sound_more plan games g h
 -- ---- so far
 
 -- games without a fault were played, written and logged
-pub record SoFar (plan : MatchPlan) (w w' : OutputState) (l l' : LogSeen) (number : ℕ) (score : Score)
+pub record SoFar (plan : GamesPlan) (w w' : OutputState) (l l' : LogSeen) (number : ℕ) (score : Score)
     (games : List GameRecord) : Type 0
   where
     pub games_sound : SoundGames plan games
@@ -162,7 +162,7 @@ pub record SoFar (plan : MatchPlan) (w w' : OutputState) (l l' : LogSeen) (numbe
     pub told : Flushed w w' (game_texts plan games)
     pub logged : LogsGames plan.log l l' games
 
-pub start : (plan : MatchPlan) (w : OutputState) (l : LogSeen) → SoFar plan w w l l 1 no_score []
+pub start : (plan : GamesPlan) (w : OutputState) (l : LogSeen) → SoFar plan w w l l 1 no_score []
 start plan w l = record {
   games_sound = tt;
   numbered = omega arith;
@@ -172,7 +172,7 @@ start plan w l = record {
   logged = log_none plan.log l;
 }
 
-module _ (plan : MatchPlan) (w w' w'' : OutputState) (l l' l'' : LogSeen) (number : ℕ) (score : Score)
+module _ (plan : GamesPlan) (w w' w'' : OutputState) (l l' l'' : LogSeen) (number : ℕ) (score : Score)
     (games : List GameRecord) (s : SoFar plan w w' l l' number score games) where
   logged_on : (g : GameRecord) → LogsGame (logged_side plan number) l' l'' g.notes
       → LogsGames plan.log l l'' (games ++ g ∷ [])
@@ -261,7 +261,7 @@ module _ (plan : MatchPlan) (w w' w'' : OutputState) (l l' l'' : LogSeen) (numbe
       )
   broke (Game k text) le (is, same, log) = absurd is
 
-pub all_played : (plan : MatchPlan) (w w' : OutputState) (l l' : LogSeen) (number : ℕ) (score : Score)
+pub all_played : (plan : GamesPlan) (w w' : OutputState) (l l' : LogSeen) (number : ℕ) (score : Score)
     (games : List GameRecord) → SoFar plan w w' l l' number score games → plan.games < number
     → HasPlayed plan w w' l l' (Ok (record { score = score; fault = None }))
 all_played plan w w' l l' number score games s past =
@@ -282,7 +282,7 @@ pub is_broken : {A E : Type 0} (w w' : OutputState) (r : Result A E) (text : Lis
 is_broken w w' (Ok v) text h k = cc
 is_broken w w' (Err e) text h k = h
 
-module _ (plan : MatchPlan) (w w' w'' : OutputState) (l l' : LogSeen) (played : GamesPlayed)
+module _ (plan : GamesPlan) (w w' w'' : OutputState) (l l' : LogSeen) (played : GamesPlayed)
     (h : HasPlayed plan w w' l l' (Ok played)) where
   score_sent : Sent w' w'' (score_line played.score) → Flushed w w'' (match_text plan h.0)
   score_sent sent =

@@ -2,7 +2,7 @@
 use Rattle.std.specs.Prelude.{◌≡◌, ◌⊎◌, ⊤, ℕ, ◌+◌, ◌<◌, ◌≤◌, ◌%◌, ◌==◌, Bool, true, false, if◌then◌else◌, List, [], ◌∷◌, ◌++◌, length, count_by, flat_map, codes, decimal, Option, None, Some, Result, Ok, Err}
 use Rattle.std.specs.List.{enumerate_from}
 use Rattle.chess_base.specs.Letters.{new_line}
-use Rattle.arbiter_cli.specs.declared.plan.MatchPlan.{MatchPlan}
+use Rattle.match_runner.specs.declared.plan.GamesPlan.{GamesPlan}
 use Rattle.chess_game.specs.declared.results.Outcome.{Outcome}
 use Rattle.chess_game.specs.declared.results.Outcome.TheVariants.{Draw, Unfinished}
 use Rattle.chess_game.specs.Results.{same_outcome, cut_tag}
@@ -31,7 +31,7 @@ abbrev pub first_side : ℕ → Colour
 first_side number = if number % 2 == 1 then White else Black
 
 -- the command of the engine that has this side in the game of this number
-abbrev pub engine_command : MatchPlan → ℕ → Colour → List ℕ
+abbrev pub engine_command : GamesPlan → ℕ → Colour → List ℕ
 engine_command plan number side = if same_colour side (first_side number) then plan.white.now else plan.black.now
 
 -- an engine's name in the tags: the one that it gave itself by `myname` (`name`), or its command if that is empty
@@ -39,7 +39,7 @@ abbrev pub player_name : List ℕ → List ℕ → List ℕ
 player_name name command = cut_tag (if length name == 0 then command else name)
 
 -- the PGN tags of the game of this number, which ended as `end` says
-abbrev pub tags_of : MatchPlan → ℕ → MatchEnd → Tags
+abbrev pub tags_of : GamesPlan → ℕ → MatchEnd → Tags
 tags_of plan number end = record {
   event = codes "CECP match";
   site = codes "?";
@@ -60,17 +60,17 @@ pub record GameRecord : Type 0 where
 
 -- the game `played` was played from the start of `plan` with its time control, with at most 20,000 half-moves, whatever
 -- the two engines sent
-abbrev pub IsOfPlan : MatchPlan → GameRecord → Type 0
+abbrev pub IsOfPlan : GamesPlan → GameRecord → Type 0
 IsOfPlan plan played = (before : Seen) × (before.limit ≡ MOST_MOVES)
     × (w : Ports) × (w' : Ports) × (coming : ℕ → Option ℕ) × (coming' : ℕ → Option ℕ)
     × RanNoted played.notes plan.start plan.level before played.game played.end w w' coming coming'
 
 -- the PGN of the game `played`, which has this number
-abbrev pub game_text : MatchPlan → ℕ → GameRecord → List ℕ
+abbrev pub game_text : GamesPlan → ℕ → GameRecord → List ℕ
 game_text plan number played = pgn [] (tags_of plan number played.end) played.game.state
 
 -- the fault says that one of the plan's two engines could not be started, or that there was no memory
-abbrev pub IsStartFault : MatchPlan → GamesFault → Type 0
+abbrev pub IsStartFault : GamesPlan → GamesFault → Type 0
 IsStartFault plan (CanNotStart command) = (command.now ≡ plan.white.now) ⊎ (command.now ≡ plan.black.now)
 IsStartFault plan NoMemory = ⊤
 IsStartFault plan _ = ⊥
@@ -78,12 +78,12 @@ IsStartFault plan _ = ⊥
 -- ---- the games
 
 -- each of these games was played by the plan, and ended without a fault of an engine
-abbrev pub SoundGames : MatchPlan → List GameRecord → Type 0
+abbrev pub SoundGames : GamesPlan → List GameRecord → Type 0
 SoundGames plan [] = Unit {0}
 SoundGames plan (played ∷ rest) = IsOfPlan plan played × (played.end.fault ≡ None) × SoundGames plan rest
 
 -- the PGN of these games one after another; they are numbered from 1
-abbrev pub game_texts : MatchPlan → List GameRecord → List ℕ
+abbrev pub game_texts : GamesPlan → List GameRecord → List ℕ
 game_texts plan games = flat_map (λ g. game_text plan g.0 g.1) (enumerate_from 1 games)
 
 -- the logs of these games one after another. They are numbered from 1: in the odd ones the engine of `--white` has
@@ -118,7 +118,7 @@ score_line s =
 
 -- these are all games of a match: as many as planned, none with a fault (`None`); or the last one has this number and
 -- this fault of the engine of this side, and those before it have none
-abbrev pub EndsGames : MatchPlan → List GameRecord → Option (ℕ × Colour × MatchFault) → Type 0
+abbrev pub EndsGames : GamesPlan → List GameRecord → Option (ℕ × Colour × MatchFault) → Type 0
 EndsGames plan games None = SoundGames plan games × (length games ≡ plan.games)
 EndsGames plan games (Some (number, side, fault)) =
     (before : List GameRecord) × (last : GameRecord) × (games ≡ before ++ last ∷ []) × SoundGames plan before
@@ -126,7 +126,7 @@ EndsGames plan games (Some (number, side, fault)) =
 
 -- the match broke off with this fault: all games before were written, and the next one could not be started, or only a
 -- beginning of its PGN was written. `w` and `l` are output and log before, `w'` and `l'` after
-abbrev pub GamesBrokeOff : MatchPlan → OutputState → OutputState → LogSeen → LogSeen → GamesFault → Type 0
+abbrev pub GamesBrokeOff : GamesPlan → OutputState → OutputState → LogSeen → LogSeen → GamesFault → Type 0
 GamesBrokeOff plan w w' l l' WriteFailed =
     (games : List GameRecord) × (next : GameRecord) × (start : List ℕ)
     × SoundGames plan games × (length games < plan.games) × IsOfPlan plan next
@@ -137,12 +137,12 @@ GamesBrokeOff plan w w' l l' fault =
     × IsStartFault plan fault × Flushed w w' (game_texts plan games) × LogsGames plan.log l l' games
 
 -- all that a match writes to the output: the PGN of each of these games, and then the line of the score
-abbrev pub match_text : MatchPlan → List GameRecord → List ℕ
+abbrev pub match_text : GamesPlan → List GameRecord → List ℕ
 match_text plan games = game_texts plan games ++ score_line (score_of games)
 
 -- the PGN of all games was written, but of the line of the score only a beginning. `w` and `l` are output and log
 -- before, `w'` and `l'` after
-abbrev pub BrokeOffAtScore : MatchPlan → OutputState → OutputState → LogSeen → LogSeen → Type 0
+abbrev pub BrokeOffAtScore : GamesPlan → OutputState → OutputState → LogSeen → LogSeen → Type 0
 BrokeOffAtScore plan w w' l l' =
     (games : List GameRecord) × (last : Option (ℕ × Colour × MatchFault)) × (start : List ℕ)
     × EndsGames plan games last × Begins start (score_line (score_of games))
@@ -151,7 +151,7 @@ BrokeOffAtScore plan w w' l l' =
 -- what playing a match does, by its result: all games, or all up to and with one that has a fault, were written and
 -- logged, and then the score was written; or the match broke off. `w` and `l` are output and log before, `w'` and `l'`
 -- after
-abbrev pub RanGames : MatchPlan → OutputState → OutputState → LogSeen → LogSeen → Result (Unit {0}) GamesFault → Type 0
+abbrev pub RanGames : GamesPlan → OutputState → OutputState → LogSeen → LogSeen → Result (Unit {0}) GamesFault → Type 0
 RanGames plan w w' l l' (Ok _) = (games : List GameRecord) × EndsGames plan games None
     × Flushed w w' (match_text plan games) × LogsGames plan.log l l' games
 RanGames plan w w' l l' (Err (Game number text)) =

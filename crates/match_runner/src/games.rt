@@ -14,8 +14,8 @@ ghost use Rattle.chess_game.specs.declared.game.TheConstants.{MOST_MOVES};
 use crate::engine::{Engine, StartFault, finish, finish_both, start};
 use crate::log::{Log, run_match_logged};
 use crate::moments::SinceStart;
+use crate::plan::GamesPlan;
 use crate::score::Score;
-use arbiter_cli::MatchPlan;
 use byte_devices::{Counted, Input, Output, WriteFault, send};
 use chess_base::{Colour, same_colour};
 use chess_bits::{AttackTables, Bits};
@@ -67,7 +67,7 @@ fn first_side(number: u32) -> Colour
 }
 
 // The command of the engine that has this side in the game of this number.
-fn command_of<'a>(plan: &MatchPlan<'a>, number: u32, side: Colour) -> &'a str
+fn command_of<'a>(plan: &GamesPlan<'a>, number: u32, side: Colour) -> &'a str
     ensures { result.now ≡ engine_command plan.now number side }
 {
     if same_colour(side, first_side(number)) {
@@ -90,7 +90,7 @@ fn name_of(name: &TagText, command: &str) -> TagText
 }
 
 // The PGN tags of the game of this number, which ended as `end` says.
-fn tags_of(plan: &MatchPlan<'_>, number: u32, end: &MatchEnd) -> Tags
+fn tags_of(plan: &GamesPlan<'_>, number: u32, end: &MatchEnd) -> Tags
     ensures { result ≡ tags_of plan.now number end.now }
 {
     let mut buffer = Buffer::new();
@@ -106,7 +106,7 @@ fn tags_of(plan: &MatchPlan<'_>, number: u32, end: &MatchEnd) -> Tags
 }
 
 // The side that the engine of `--white` has in the game of this number, if the plan asks for a log; else `None`.
-fn logged_side(plan: &MatchPlan<'_>, number: u32) -> Option<Colour>
+fn logged_side(plan: &GamesPlan<'_>, number: u32) -> Option<Colour>
     ensures { result ≡ logged_side plan.now number }
 {
     if plan.log {
@@ -206,7 +206,7 @@ fn play_game<'a, 't, C: Clock, P: OpenProcess + Drop, M: Moments, W: Output, E: 
     rt: &C,
     white: Engine<P>,
     black: Engine<P>,
-    plan: &MatchPlan<'a>,
+    plan: &GamesPlan<'a>,
     number: u32,
     moments: &mut M,
     game: &mut Game<Bits<'t>>,
@@ -273,7 +273,7 @@ fn play_game<'a, 't, C: Clock, P: OpenProcess + Drop, M: Moments, W: Output, E: 
 fn play_one<'a, 't, P: Processes + Clock, M: Moments, W: Output, E: Output>(
     rt: &P,
     alloc: Global,
-    plan: &MatchPlan<'a>,
+    plan: &GamesPlan<'a>,
     number: u32,
     moments: &mut M,
     game: &mut Game<Bits<'t>>,
@@ -309,7 +309,7 @@ struct GamesPlayed {
 }
 
 // How many games the plan asks for.
-fn game_count(plan: &MatchPlan<'_>) -> u32
+fn game_count(plan: &GamesPlan<'_>) -> u32
     ensures value { result ≡ plan.now.games }
     ensures few { result ≤ 65535 }
 {
@@ -321,7 +321,7 @@ fn game_count(plan: &MatchPlan<'_>) -> u32
 fn play_each<'a, 't, P: Processes + Clock, M: Moments, W: Output, E: Output>(
     rt: &P,
     alloc: Global,
-    plan: &MatchPlan<'a>,
+    plan: &GamesPlan<'a>,
     moments: &mut M,
     game: &mut Game<Bits<'t>>,
     scratch: &mut Bits<'t>,
@@ -361,7 +361,7 @@ fn play_each<'a, 't, P: Processes + Clock, M: Moments, W: Output, E: Output>(
 pub fn play_games<'a, P: Processes + Clock, W: Output, E: Output>(
     rt: &P,
     alloc: Global,
-    plan: &MatchPlan<'a>,
+    plan: &GamesPlan<'a>,
     output: &mut W,
     log: &mut Log<E>,
 ) -> Result<(), GamesFault<'a>>

@@ -2,6 +2,15 @@
 //! and the log.
 //!
 //! ```
+//! let plan = GamesPlan {
+//!     white: "sjeng",
+//!     black: "phalanx",
+//!     level: Level::read(b"40 5 0").ok_or("a level")?,
+//!     start: Position::initial(),
+//!     games: 2,
+//!     date: "????.??.??",
+//!     log: true,
+//! };
 //! let mut output = Counted::writing(Vec::<u8>::new(alloc));
 //! let mut log = Log::new(Counted::writing(Vec::<u8>::new(alloc)));
 //! play_games(&rt, alloc, &plan, &mut output, &mut log)?;
@@ -12,8 +21,10 @@ mod engine;
 mod games;
 mod log;
 mod moments;
+mod plan;
 mod score;
 
 pub use games::{GamesFault, play_games};
 pub use log::{Log, run_match_logged};
 pub use moments::SinceStart;
+pub use plan::GamesPlan;

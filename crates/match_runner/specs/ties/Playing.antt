@@ -1,7 +1,7 @@
 -- What code does for one game of a match, and for all of them.
 use Rattle.std.specs.Prelude.{◌≡◌, ⊤, ℕ, ◌+◌, min, Bool, true, false, if◌then◌else◌, List, Option, None, Some, Result, Ok, Err}
 use Rattle.std.specs.Borrow.{Bor}
-use Rattle.arbiter_cli.specs.declared.plan.MatchPlan.{MatchPlan}
+use Rattle.match_runner.specs.declared.plan.GamesPlan.{GamesPlan}
 use Rattle.chess_base.specs.Men.{other}
 use Rattle.chess_base.specs.declared.man.Colour.{Colour}
 use Rattle.chess_base.specs.declared.setup.Setup.{Setup}
@@ -48,7 +48,7 @@ score_after first outcome s = record {
 -- ---- a game
 
 -- the side that the engine of `--white` has in the game of this number, if the plan asks for a log; else `None`
-abbrev pub logged_side : MatchPlan → ℕ → Option Colour
+abbrev pub logged_side : GamesPlan → ℕ → Option Colour
 logged_side plan number = if plan.log then Some (first_side number) else None
 
 -- from the log's state `l` to `l'` the game of these notes was logged, if a side of the engine of `--white` is given;
@@ -89,7 +89,7 @@ ReportsStart start.CanNotStart command fault = (c : Bor (List ℕ)) × (fault �
 -- what playing the game of this number does, by its result: its PGN was written and flushed, and the game logged; or
 -- only a beginning of the PGN was written; or its engines could not be started. `w` and `l` are output and log before,
 -- `w'` and `l'` after
-abbrev pub PlayedOne : MatchPlan → ℕ → OutputState → OutputState → LogSeen → LogSeen → Result MatchEnd GamesFault
+abbrev pub PlayedOne : GamesPlan → ℕ → OutputState → OutputState → LogSeen → LogSeen → Result MatchEnd GamesFault
     → Type 0
 PlayedOne plan number w w' l l' (Ok end) =
     (game : Seen) × (notes : List Note) × IsOfPlan plan (record { game = game; end = end; notes = notes })
@@ -102,7 +102,7 @@ PlayedOne plan number w w' l l' (Err fault) = IsStartFault plan fault × (w' ≡
 
 -- what playing the games of a match does, by its result: each was written and logged, and the score counts them, up to
 -- and with one that has a fault; or the match broke off. `w` and `l` are output and log before, `w'` and `l'` after
-abbrev pub HasPlayed : MatchPlan → OutputState → OutputState → LogSeen → LogSeen → Result GamesPlayed GamesFault → Type 0
+abbrev pub HasPlayed : GamesPlan → OutputState → OutputState → LogSeen → LogSeen → Result GamesPlayed GamesFault → Type 0
 HasPlayed plan w w' l l' (Ok played) =
     (games : List GameRecord) × EndsGames plan games played.fault × (played.score ≡ score_of games)
     × Flushed w w' (game_texts plan games) × LogsGames plan.log l l' games
