@@ -33,6 +33,7 @@ SHORT = {
     "arbiter": "chess_arbiter",
     "devices_tests": "byte_devices_tests",
     "base_tests": "chess_base_tests",
+    "lines_tests": "text_lines_tests",
     "fen_tests": "chess_fen_tests",
     "boards_tests": "boards_tests",
     "game_tests": "chess_game_tests",
