@@ -4,8 +4,8 @@ ghost use Rattle.std.specs.Prelude.{◌≡◌, ◌≤◌, ◌<◌, ◌==◌, ◌
 ghost use Rattle.cecp_engine.specs.Levels.{level_of, base_of, in_seconds, colon_at, allotted, sessions};
 ghost use Rattle.chess_game.specs.declared.game.TheConstants.{MOST_MOVES};
 
-use text_lines::{argument, first_word, short_number, trim_start};
 use std::marker::Model;
+use text_lines::{argument, first_word, short_number, trim_start};
 
 /// A time control (CECP, version 2, command `level`): moves per session, 0 for one session without end, and a base and
 /// an increment in seconds.

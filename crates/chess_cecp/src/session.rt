@@ -28,11 +28,11 @@ use chess_base::{Position, Variant};
 use chess_fen::{read_fen_as, write_fen};
 use chess_game::{Comment, Game, Outcome, PlayRefusal};
 use chess_moves::Board;
-use text_lines::{Line, split_word};
 use chess_pgn::{Tags, write_pgn};
 use chess_text::{Reading, read_move};
 use std::alloc::{AllocError, Global};
 use std::marker::Model;
+use text_lines::{Line, split_word};
 
 /// The most bytes of a line that a session reads; a longer one is refused.
 pub const COMMAND_LEN: usize = 1024;

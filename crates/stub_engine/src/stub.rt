@@ -10,8 +10,8 @@ ghost use Rattle.stub_engine.specs.Stub.{after_remarks, after_opponent_move, pla
 use arrayvec::ArrayVec;
 use byte_devices::{Output, WriteFault, append, append_number, put, put_parts};
 use chess_cecp::{COMMAND_LEN, Command, Go, LineServer, read_command};
-use text_lines::{Line, first_word};
 use std::marker::Model;
+use text_lines::{Line, first_word};
 
 // The reply to `protover`.
 const FEATURES: &[u8] = b"feature ping=1 setboard=1 usermove=1 myname=\"stub\" done=1\n";

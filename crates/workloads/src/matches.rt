@@ -11,8 +11,8 @@ use chess_bits::{AttackTables, Bits};
 use chess_game::{Game, MOST_MOVES};
 use chess_match::{ENGINE_LINE_LEN, Ends, MatchEnd, Moments, Setup, Witness, run_match_watched};
 use chess_text::coordinate;
-use text_lines::Line;
 use std::alloc::{AllocError, Global};
+use text_lines::Line;
 
 /// What two engines send in a match, each engine's lines as one text.
 #[derive(Drop)]
