@@ -28,7 +28,7 @@ pub enum Fault {
     Write,
 }
 
-/// Answers lines one after another: a session, or the stub engine of chess_arbiter.
+/// Answers lines one after another: a session, or the stub of stub_engine.
 pub trait LineServer {
     ghost use Rattle.text_lines.specs.Lines.{LineSeen};
     ghost use Rattle.chess_cecp.specs.Serving.{Response};
