@@ -188,6 +188,6 @@ men_all p men board h =
     (λ k l. let low : k < 64 = omega (arith, l, board) in
     h k low ∙ sym (get_or-from_below 64 (man_in p) k None low))
 
--- no piece stands on a board before any is put there
+-- a board has no piece before any is put there
 pub none_put : (k : ℕ) → k < 64 → man_at (replicate 64 None) k ≡ None
 none_put k low = get_or-replicate 64 k None None low

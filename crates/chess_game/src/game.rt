@@ -324,6 +324,7 @@ impl<B: Board> Game<B> {
     }
 
     /// The position from which the game starts.
+    // Inlined: where a caller uses only a field or two, the compiler then drops the unpacking of the pieces.
     #[inline(always)]
     pub fn start(&self) -> Position
         ensures { result ≡ self.now.state.start }
@@ -356,6 +357,7 @@ impl<B: Board> Game<B> {
     }
 
     // The packed position after the first `ply` half-moves; at 0 the start.
+    // Inlined for the same reason as `start`.
     #[inline(always)]
     fn packed_at(&self, ply: usize) -> &PackedPosition
         requires { ply ≤ length self.now.state.moves }
@@ -369,6 +371,7 @@ impl<B: Board> Game<B> {
     }
 
     /// The position after the first `ply` half-moves; at 0 the start.
+    // Inlined for the same reason as `start`.
     #[inline(always)]
     pub fn position_at(&self, ply: usize) -> Position
         requires { ply ≤ length self.now.state.moves }

@@ -93,7 +93,8 @@ impl PackedMen {
         }
     }
 
-    // Puts a piece of this kind on each square of the set, in the colour that these sets have for the square.
+    // Puts a piece of this kind on each square of the set, in the colour that `colour_at` gives for that square.
+    // Inlined for `Game::start`, as `unpacked` is: the compiler drops it where no piece is used.
     #[inline(always)]
     fn put_kind(&self, men: &mut [Option<Man>; 64], set: SquareSet, kind: Kind)
         ensures length { length men.new ≡ 64 }
