@@ -25,11 +25,11 @@ ghost use Rattle.chess_match.specs.declared.block.TheConstants.{ANSWERS_LEN};
 ghost use Rattle.chess_match.specs.declared.run.TheConstants.{ENGINE_LINE_LEN};
 
 use crate::block::{Block, Blocks};
-use crate::giving::note_and_send;
 use crate::match_game::MatchGame;
 use crate::moments::Moments;
 use crate::phase::Phase;
 use crate::reason::{MatchFault, Reason, first_fault};
+use crate::send::note_and_send;
 use crate::state::{Actions, ENTRY, MatchState};
 use crate::witness::{NoWitness, Witness};
 use byte_devices::{Input, Output, ReadFault};
