@@ -1,4 +1,4 @@
-//! The program on the standard streams.
+//! The program on the arguments and the standard streams of this process.
 
 ghost use Rattle.std.specs.Prelude.{◌≡◌, ◌≢◌};
 ghost use Rattle.std.specs.IoError.{error_kind};
