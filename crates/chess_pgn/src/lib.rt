@@ -15,7 +15,7 @@ mod buffer;
 mod bytes;
 mod last_tag;
 mod laws;
-mod lines;
+mod line_writer;
 mod read;
 mod results;
 mod skips;

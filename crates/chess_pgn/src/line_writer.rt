@@ -1,6 +1,6 @@
 //! Lines of a game's text, each after the same prefix.
 
-ghost use Rattle.chess_pgn.specs.declared.lines.TheConstants.{LINE_LEN};
+ghost use Rattle.chess_pgn.specs.declared.line_writer.TheConstants.{LINE_LEN};
 ghost use Rattle.std.specs.Prelude.{◌≡◌, ◌+◌, ◌≤◌, ◌<◌, [], ◌∷◌, ◌++◌, length};
 ghost use Rattle.byte_devices.specs.Devices.{Puts};
 ghost use Rattle.chess_base.specs.Letters.{new_line};
