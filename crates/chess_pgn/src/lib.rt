@@ -17,7 +17,7 @@ mod last_tag;
 mod laws;
 mod line_writer;
 mod read;
-mod results;
+mod result_tag;
 mod skips;
 mod tag;
 mod tag_lines;
@@ -34,7 +34,7 @@ pub use laws::{
     lines_are_filled, normal_is_kept, pgn_is_read_back,
 };
 pub use read::{PgnEnd, PgnFault, PgnFaultKind, read_pgn};
-pub use results::{ResultTag, result_tag};
+pub use result_tag::{ResultTag, result_tag};
 pub use tags::Tags;
 pub use termination::Termination;
 pub use word::outcome_of;
