@@ -12,8 +12,8 @@ use Rattle.chess_text.specs.declared.reading.Reading.{Reading}
 use Rattle.chess_text.specs.declared.reading.Reading.TheVariants as reads
 use Rattle.chess_text.specs.Moves.{reading}
 use Rattle.chess_pgn.specs.declared.read.PgnFaultKind.TheVariants.{NoResult}
-use Rattle.chess_pgn.specs.declared.word.WordKind.{WordKind}
-use Rattle.chess_pgn.specs.declared.word.WordKind.TheVariants.{End, Number, Marks, Move}
+use Rattle.chess_pgn.specs.declared.word_kind.WordKind.{WordKind}
+use Rattle.chess_pgn.specs.declared.word_kind.WordKind.TheVariants.{End, Number, Marks, Move}
 use Rattle.chess_pgn.specs.GameRead.{SoFar, Step, On, Stop, fails, fen_step, tag_step, move_step, word_step, step, unless_full, go_on, game_of, nothing_read, pgn_read, termination_after}
 use Rattle.chess_pgn.specs.GameText.{start_lines_in, last_lines}
 use Rattle.chess_pgn.specs.LastTags.{is_marks}

@@ -8,7 +8,7 @@ ghost use Rattle.chess_pgn.specs.ties.Seen.{found_seen, token_seen};
 
 use crate::tag::Tag;
 use crate::token::{Token, after_blanks, next_token};
-use crate::word::{WordKind, word_kind};
+use crate::word_kind::{WordKind, word_kind};
 
 /// Whether more tags of the same game may come after this token: it is skipped, a tag, or marks such as `!?`.
 pub(crate) fn may_precede_tags(token: &Token<'_>) -> bool

@@ -25,7 +25,7 @@ mod tags;
 mod termination;
 mod token;
 mod variation;
-mod word;
+mod word_kind;
 mod write;
 
 pub use chess_game::{HowEnded, TagText};
@@ -37,5 +37,5 @@ pub use read::{PgnEnd, PgnFault, PgnFaultKind, read_pgn};
 pub use result_tag::{ResultTag, result_tag};
 pub use tags::Tags;
 pub use termination::Termination;
-pub use word::outcome_of;
+pub use word_kind::outcome_of;
 pub use write::write_pgn;

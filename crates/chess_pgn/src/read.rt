@@ -20,7 +20,7 @@ use crate::termination::Termination;
 use crate::token::{
     Token, TokenFault, after_blanks, after_byte_order_mark, next_token, split_word,
 };
-use crate::word::{WordKind, begins_from_a, is_number, word_kind};
+use crate::word_kind::{WordKind, begins_from_a, is_number, word_kind};
 use chess_base::{FenFault, Move, Position, Variant};
 use chess_fen::read_fen_as;
 use chess_game::{Comment, Game, Outcome, PlayRefusal};

@@ -6,7 +6,7 @@ ghost use Rattle.chess_pgn.specs.LastTags.{result_tag_of};
 
 use crate::last_tag::last_tag;
 use crate::token::after_byte_order_mark;
-use crate::word::outcome_of;
+use crate::word_kind::outcome_of;
 use chess_game::Outcome;
 
 /// The last tag `Result` of a game before its moves.
