@@ -1,10 +1,10 @@
-//! Results as they are declared and reported.
+//! The command `result`.
 
-ghost use Rattle.std.specs.Prelude.{◌≡◌, ◌≤◌, length};
+ghost use Rattle.std.specs.Prelude.{◌≡◌};
 ghost use Rattle.std.specs.Option.{option_map};
-ghost use Rattle.chess_cecp.specs.Declaring.{result_comment, read_result, claims_text};
+ghost use Rattle.chess_cecp.specs.Declaring.{result_comment, read_result};
 
-use chess_game::{Claims, Comment, Declared};
+use chess_game::{Comment, Declared};
 use chess_pgn::outcome_of;
 use text_lines::{argument, first_word};
 
@@ -37,18 +37,5 @@ pub(crate) fn read_result(text: &[u8]) -> Option<Declared>
             comment: Comment::cut(comment),
         }),
         None => None,
-    }
-}
-
-// Which draws can be claimed, as `showstate` writes it: `threefold+50`, `threefold`, `50` or `none`.
-pub(crate) fn claims_text(claims: Claims) -> &'static [u8]
-    ensures value { result.now ≡ claims_text claims }
-    ensures short { length result.now ≤ 12 }
-{
-    match (claims.threefold, claims.fifty_moves) {
-        (true, true) => b"threefold+50",
-        (true, false) => b"threefold",
-        (false, true) => b"50",
-        (false, false) => b"none",
     }
 }
