@@ -2,7 +2,7 @@
 
 ghost use Rattle.std.specs.Prelude.{◌≡◌, ◌≤◌, ◌<◌, ◌++◌, ◌∷◌, [], length, drop, take, List, ℕ};
 ghost use Rattle.chess_base.specs.Letters.{is_digit};
-ghost use Rattle.cecp_engine.specs.Items.{value_of, with_value, with_name, item_of, is_apart, is_one, ends_hello, quote_at, items_of, has_done, is_known, has_word, value_text, is_comma_or_blank};
+ghost use Rattle.cecp_engine.specs.Items.{value_of, with_value, with_name, item_of, is_apart, is_one, ends_handshake, quote_at, items_of, has_done, is_known, has_word, value_text, is_comma_or_blank};
 ghost use Rattle.cecp_engine.specs.ties.Taken.{said_again, fischerandom_again, value_read};
 ghost use Rattle.cecp_engine.specs.Seen.{value_seen, item_seen, item_read};
 ghost use Rattle.text_lines.specs.Words.{is_name_byte};
@@ -183,8 +183,8 @@ impl Item<'_> {
     }
 
     /// Whether this item is `done=1`, which ends the handshake.
-    pub fn ends_hello(&self) -> bool
-        ensures { result ≡ ends_hello (item_seen self.now) }
+    pub fn ends_handshake(&self) -> bool
+        ensures { result ≡ ends_handshake (item_seen self.now) }
     {
         self.name == b"done".as_slice() && self.value.is_one()
     }

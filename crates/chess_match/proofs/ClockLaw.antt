@@ -58,11 +58,11 @@ step r due m e f w =
     let P : Match → Type 0 = λ m'. IsInTime r.level m' in
     event_outcome r due m e P f (record {
       line = λ S text moment is h. record {
-        hello_ends = λ p d. heard r.level S _ m w;
-        hello_counts = λ p d k. heard r.level S _ m w;
-        hello_next = λ p s d. heard r.level S _ m w;
-        hello_judged = λ p s d c x. heard r.level S _ m w;
-        hello_done = λ p s d. heard r.level S _ m w;
+        handshake_ends = λ p d. heard r.level S _ m w;
+        handshake_counts = λ p d k. heard r.level S _ m w;
+        handshake_next = λ p s d. heard r.level S _ m w;
+        handshake_judged = λ p s d c x. heard r.level S _ m w;
+        handshake_done = λ p s d. heard r.level S _ m w;
         setup_ends = λ p reason n. w;
         setup_counts = λ p k n. w;
         setup_next = λ p s k. w;

@@ -22,7 +22,7 @@ use Rattle.chess_match.specs.ties.Steps.{IsSane}
 use Rattle.chess_match.specs.Transcript.{reads, opens, is_on, fits_next}
 use Rattle.chess_match.proofs.UnderWay.{steps_left}
 use Rattle.chess_match.specs.declared.phase.Phase.{Phase}
-use Rattle.chess_match.specs.declared.phase.Phase.TheVariants.{Hello, Setup, SendTurn, AwaitMove, AwaitPong, Over}
+use Rattle.chess_match.specs.declared.phase.Phase.TheVariants.{Handshake, Setup, SendTurn, AwaitMove, AwaitPong, Over}
 use Rattle.chess_match.specs.declared.state.MatchState.{MatchState}
 use Rattle.chess_match.proofs.Runs.{nothing_due}
 use Rattle.chess_match.proofs.Sane.{sane_over, sane_line}
@@ -105,7 +105,7 @@ others_hear_none S e r r' h h' is same kept =
 -- ---- what is left to do
 
 a_step : (p : Phase) (S : Colour) (n : ℕ) → reads p S ≡ true → steps_left p n ≡ 3 * n + 1
-a_step (Hello c) S n h = refl
+a_step (Handshake c) S n h = refl
 a_step (Setup c) S n h = refl
 a_step (AwaitMove c) S n h = refl
 a_step (AwaitPong c) S n h = refl
@@ -114,14 +114,14 @@ a_step (Over x) S n h = absurd cc
 
 two_steps : (p : Phase) (S : Colour) (n : ℕ) → opens p S ≡ true → steps_left p n ≡ 3 * n + 2
 two_steps (SendTurn c) S n h = refl
-two_steps (Hello c) S n h = absurd cc
+two_steps (Handshake c) S n h = absurd cc
 two_steps (Setup c) S n h = absurd cc
 two_steps (AwaitMove c) S n h = absurd cc
 two_steps (AwaitPong c) S n h = absurd cc
 two_steps (Over x) S n h = absurd cc
 
 few_steps : (p : Phase) (n : ℕ) → steps_left p n ≤ 3 * n + 2
-few_steps (Hello c) n = omega arith
+few_steps (Handshake c) n = omega arith
 few_steps (Setup c) n = omega arith
 few_steps (SendTurn c) n = omega arith
 few_steps (AwaitMove c) n = omega arith
@@ -137,7 +137,7 @@ line_less p p' S n n' h less = omega (arith, a_step p S n h, few_steps p' n', le
 over_less : (p p' : Phase) (S : Colour) (n n' : ℕ) → reads p S ≡ true → is_on p' ≡ false
     → steps_left p' n' < steps_left p n
 over_less p (Over x) S n n' h o = omega (arith, a_step p S n h)
-over_less p (Hello c) S n n' h o = absurd cc
+over_less p (Handshake c) S n n' h o = absurd cc
 over_less p (Setup c) S n n' h o = absurd cc
 over_less p (SendTurn c) S n n' h o = absurd cc
 over_less p (AwaitMove c) S n n' h o = absurd cc

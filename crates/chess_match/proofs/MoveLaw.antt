@@ -21,7 +21,7 @@ use Rattle.chess_base.specs.declared.man.Variant.{Variant}
 use Rattle.chess_base.specs.declared.man.Variant.TheVariants.{Normal, Fischerandom}
 use Rattle.chess_base.proofs.MenFacts.{same_colour-true}
 use Rattle.chess_match.specs.declared.phase.Phase.{Phase}
-use Rattle.chess_match.specs.declared.phase.Phase.TheVariants.{Hello, Setup, SendTurn, AwaitMove, AwaitPong, Over}
+use Rattle.chess_match.specs.declared.phase.Phase.TheVariants.{Handshake, Setup, SendTurn, AwaitMove, AwaitPong, Over}
 use Rattle.chess_match.specs.declared.reason.Reason.{Reason}
 use Rattle.chess_match.specs.declared.reason.Reason.TheVariants.{Decided, Faulted}
 use Rattle.chess_match.specs.declared.reason.MatchFault.{MatchFault}
@@ -62,7 +62,7 @@ texts-snoc r as_san S c before (x ∷ ms) m =
 -- no move is played before the first turn; a turn is of the side on move, which was sent the last move in its opening,
 -- and whose move is still to be sent to the other once it has moved
 abbrev pub OrderlyIn : Colour → Phase → List Move → Option Colour → Type 0
-OrderlyIn first (Hello c) played unsent_to = (played ≡ []) × (unsent_to ≡ None)
+OrderlyIn first (Handshake c) played unsent_to = (played ≡ []) × (unsent_to ≡ None)
 OrderlyIn first (Setup c) played unsent_to = (played ≡ []) × (unsent_to ≡ None)
 OrderlyIn first (SendTurn c) played unsent_to = (mover first played ≡ c) × (unsent_to ≡ None)
 OrderlyIn first (AwaitMove c) played unsent_to = (mover first played ≡ c) × (unsent_to ≡ None)
@@ -89,7 +89,7 @@ abbrev untold_text : Rules → Match → Colour → Option Colour → List (List
 untold_text r m O unsent_to = untold_by r O (seat m O).items m.played unsent_to
 
 abbrev entry_moves : Rules → Match → Colour → Phase → List (List ℕ)
-entry_moves r m O (Hello c) = []
+entry_moves r m O (Handshake c) = []
 entry_moves r m O (Setup c) = []
 entry_moves r m O (SendTurn c) = if same_colour c O then (if nat_lt 0 (length m.played) then last_text r m O else [])
     else []
@@ -162,7 +162,7 @@ end_moves r m O reason = flat_map-append move_sent (unsent_lines r m O m.unsent_
     ∙ append-nil (flat_map move_sent (unsent_lines r m O m.unsent_to)) ∙ untold_moves r m O m.unsent_to
 
 entry_told : (r : Rules) (m : Match) (O : Colour) (p : Phase) → moves_sent (entry_to r m O p) ≡ entry_moves r m O p
-entry_told r m O (Hello c) = at (same_colour c O)
+entry_told r m O (Handshake c) = at (same_colour c O)
   where
     at : (b : Bool) → flat_map move_sent (if b then Says (codes "xboard") ∷ Says (codes "protover 2") ∷ [] else []) ≡ []
     at true = refl
@@ -408,39 +408,39 @@ passes_goes r X S O m p o h =
 
 -- before the first move
 
-hello_over : (r : Rules) (X : List (List ℕ)) (S O : Colour) (items : List Item) (reason : Reason) (m : Match)
+handshake_over : (r : Rules) (X : List (List ℕ)) (S O : Colour) (items : List Item) (reason : Reason) (m : Match)
     → is_on m.phase ≡ true → is_unwritten reason O ≡ false
     → (m.played ≡ []) × (m.unsent_to ≡ None) → Sofar r X O m → Goes r X O m (over reason (take_items S items m))
-hello_over r X S O items reason m on n k h = (
+handshake_over r X S O items reason m on n k h = (
   over_told r X O false m.phase reason (take_items S items m) (leaves m.phase reason on) n
       (fresh r X O m (over reason (take_items S items m)) k.0 k.1 (hear_played S items m ∙ k.0) (hear_untold S items m ∙ k.1)
       h),
   tt,
 )
 
-hello_counts : (r : Rules) (X : List (List ℕ)) (S O : Colour) (items : List Item) (m : Match) → reads m.phase S ≡ true
+handshake_counts : (r : Rules) (X : List (List ℕ)) (S O : Colour) (items : List Item) (m : Match) → reads m.phase S ≡ true
     → (m.played ≡ []) × (m.unsent_to ≡ None) → Orderly r m → Sofar r X O m
     → (let m' = take_items S items m in Goes r X O m (record m' { count = m.count + 1 }))
-hello_counts r X White O items m here k o h = (
+handshake_counts r X White O items m here k o h = (
   stays_told r X O m.phase (let m' = take_items White items m in record m' { count = m.count + 1 })
       (reads_stays m.phase White here) (reads_on m.phase White here)
       (fresh r X O m (let m' = take_items White items m in record m' { count = m.count + 1 }) k.0 k.1 k.0 k.1 h),
   o,
 )
-hello_counts r X Black O items m here k o h = (
+handshake_counts r X Black O items m here k o h = (
   stays_told r X O m.phase (let m' = take_items Black items m in record m' { count = m.count + 1 })
       (reads_stays m.phase Black here) (reads_on m.phase Black here)
       (fresh r X O m (let m' = take_items Black items m in record m' { count = m.count + 1 }) k.0 k.1 k.0 k.1 h),
   o,
 )
 
-hello_enters : (r : Rules) (X : List (List ℕ)) (S O : Colour) (items : List Item) (m : Match) → (m.played ≡ [])
+handshake_enters : (r : Rules) (X : List (List ℕ)) (S O : Colour) (items : List Item) (m : Match) → (m.played ≡ [])
     × (m.unsent_to ≡ None) → Sofar r X O m
-    → (Goes r X O m (enter (Hello Black) (take_items S items m))) × (Goes r X O m (enter (Setup White) (take_items S items m)))
-hello_enters r X S O items m k h = (
+    → (Goes r X O m (enter (Handshake Black) (take_items S items m))) × (Goes r X O m (enter (Setup White) (take_items S items m)))
+handshake_enters r X S O items m k h = (
   (
-    quiet_told r X O m.phase (enter (Hello Black) (take_items S items m)) refl refl
-        (fresh r X O m (enter (Hello Black) (take_items S items m)) k.0 k.1 (hear_played S items m ∙ k.0)
+    quiet_told r X O m.phase (enter (Handshake Black) (take_items S items m)) refl refl
+        (fresh r X O m (enter (Handshake Black) (take_items S items m)) k.0 k.1 (hear_played S items m ∙ k.0)
         (hear_untold S items m ∙ k.1) h),
     (hear_played S items m ∙ k.0, hear_untold S items m ∙ k.1),
   ),
@@ -491,12 +491,12 @@ lines_go : (r : Rules) (X : List (List ℕ)) (S O : Colour) (kind : LineKind) (m
 lines_go r X S O kind moment m here o h =
     let on : is_on m.phase ≡ true = reads_on m.phase S here in
     record {
-      hello_ends = λ p d. hello_over r X S O (items_of_line kind) (Faulted S NoDone) m on refl
-          (orderly_in r m (Hello S) p o) h;
-      hello_counts = λ p d few. hello_counts r X S O (items_of_line kind) m here (orderly_in r m (Hello S) p o) o h;
-      hello_next = λ p s d. (hello_enters r X S O (items_of_line kind) m (orderly_in r m (Hello White) p o) h).0;
-      hello_judged = λ p s d c f. hello_judged c f (orderly_in r m (Hello Black) p o);
-      hello_done = λ p s d. (hello_enters r X S O (items_of_line kind) m (orderly_in r m (Hello Black) p o) h).1;
+      handshake_ends = λ p d. handshake_over r X S O (items_of_line kind) (Faulted S NoDone) m on refl
+          (orderly_in r m (Handshake S) p o) h;
+      handshake_counts = λ p d few. handshake_counts r X S O (items_of_line kind) m here (orderly_in r m (Handshake S) p o) o h;
+      handshake_next = λ p s d. (handshake_enters r X S O (items_of_line kind) m (orderly_in r m (Handshake White) p o) h).0;
+      handshake_judged = λ p s d c f. handshake_judged c f (orderly_in r m (Handshake Black) p o);
+      handshake_done = λ p s d. (handshake_enters r X S O (items_of_line kind) m (orderly_in r m (Handshake Black) p o) h).1;
       setup_ends = λ p reason n. ends_goes r X O reason m on (n O) h;
       setup_counts = λ p pong few. counts_goes r X S O (m.count + 1) m here o h;
       setup_next = λ p s pong. setup_enters r X O m (orderly_in r m (Setup White) p o) h;
@@ -516,9 +516,9 @@ lines_go r X S O kind moment m here o h =
       offers = λ none own theirs. offers_goes r X S O m here o h;
     }
 
-    hello_judged : (c : Colour) (f : MatchFault) → (m.played ≡ []) × (m.unsent_to ≡ None)
+    handshake_judged : (c : Colour) (f : MatchFault) → (m.played ≡ []) × (m.unsent_to ≡ None)
         → Goes r X O m (enter (Over (Faulted c f)) (take_items S (items_of_line kind) m))
-    hello_judged c f k = (
+    handshake_judged c f k = (
       judged_told r X O c f m.phase (take_items S (items_of_line kind) m) (hear_untold S (items_of_line kind) m ∙ k.1)
           (fresh r X O m (enter (Over (Faulted c f)) (take_items S (items_of_line kind) m)) k.0 k.1
           (hear_played S (items_of_line kind) m ∙ k.0) (hear_untold S (items_of_line kind) m ∙ k.1) h),
@@ -591,13 +591,13 @@ offers_none r Black O m here on some = rw (reads_stays m.phase Black here) refl
 lines_none : (r : Rules) (S O : Colour) (kind : LineKind) (moment : ℕ) (m : Match) → reads m.phase S ≡ true
     → Orderly r m → Lines r S kind moment m (λ m'. TellsNone r S O m m')
 lines_none r S O kind moment m here o = record {
-  hello_ends = λ p d on some. not_on on;
-  hello_counts = λ p d few. same_tells_none r S O m
+  handshake_ends = λ p d on some. not_on on;
+  handshake_counts = λ p d few. same_tells_none r S O m
       (let m' = take_items S (items_of_line kind) m in record m' { count = m.count + 1 }) (hear_phase S (items_of_line kind) m)
       here;
-  hello_next = λ p s d on some. if_nil (is_same_phase m.phase (Hello Black)) [] refl;
-  hello_judged = λ p s d c f on some. not_on on;
-  hello_done = λ p s d on some. if_nil (is_same_phase m.phase (Setup White)) [] refl;
+  handshake_next = λ p s d on some. if_nil (is_same_phase m.phase (Handshake Black)) [] refl;
+  handshake_judged = λ p s d c f on some. not_on on;
+  handshake_done = λ p s d on some. if_nil (is_same_phase m.phase (Setup White)) [] refl;
   setup_ends = λ p reason n on some. not_on on;
   setup_counts = λ p pong few. same_tells_none r S O m (record m { count = m.count + 1 }) refl here;
   setup_next = λ p s pong on some. if_nil (is_same_phase m.phase (Setup Black)) [] refl;
@@ -727,7 +727,7 @@ moves_are_told r T O f =
     first : moves_sent (sent r O T) ≡ moves_sent (joined_blocks (blocks_from r O start T))
     first = flat_map-append move_sent (lines_on_entering r start O) (joined_blocks (blocks_from r O start T))
         ∙ ap (λ (l : List (List ℕ)). l ++ moves_sent (joined_blocks (blocks_from r O start T)))
-        (entry_told r start O (Hello White))
+        (entry_told r start O (Handshake White))
 
 -- every match is orderly
 pub orderly : (r : Rules) (T : List Event) → fits r T ≡ true → Orderly r (match_of r T)
@@ -742,7 +742,7 @@ nothing_owed r m O (Some c) h = at m.phase (same_colour c O) h
         → (if b && (is_on p || false) then last_text r m O else []) ≡ []
     at (Over x) true h = refl
     at (Over x) false h = refl
-    at (Hello c) b h = cc
+    at (Handshake c) b h = cc
     at (Setup c) b h = cc
     at (SendTurn c) b h = cc
     at (AwaitMove c) b h = cc

@@ -13,7 +13,7 @@ use Rattle.chess_match.specs.Rules.{Rules}
 use Rattle.chess_match.specs.Sent.{SentLine, block, lines_on_entering}
 use Rattle.chess_match.specs.Transcript.{reads, opens, is_on, fits_next, fits_from, lines_of_engine, line_in, moments_of, has_fault, is_fault}
 use Rattle.chess_match.specs.declared.phase.Phase.{Phase}
-use Rattle.chess_match.specs.declared.phase.Phase.TheVariants.{Hello, Setup, SendTurn, AwaitMove, AwaitPong, Over}
+use Rattle.chess_match.specs.declared.phase.Phase.TheVariants.{Handshake, Setup, SendTurn, AwaitMove, AwaitPong, Over}
 use Rattle.chess_match.proofs.MoveLaw.{fits_on, not_on}
 use Rattle.chess_match.proofs.Outcomes.{and_first, and_second}
 use Rattle.chess_match.specs.ties.Steps.{match_from}
@@ -29,7 +29,7 @@ or_first false b h = refl
 
 -- one phase reads one side
 one_reads : (p : Phase) (c d : Colour) → reads p c ≡ true → reads p d ≡ true → c ≡ d
-one_reads (Hello x) c d h k = sym (same_colour-true x c h) ∙ same_colour-true x d k
+one_reads (Handshake x) c d h k = sym (same_colour-true x c h) ∙ same_colour-true x d k
 one_reads (Setup x) c d h k = sym (same_colour-true x c h) ∙ same_colour-true x d k
 one_reads (AwaitMove x) c d h k = sym (same_colour-true x c h) ∙ same_colour-true x d k
 one_reads (AwaitPong x) c d h k = sym (same_colour-true x c h) ∙ same_colour-true x d k
@@ -38,7 +38,7 @@ one_reads (Over x) c d h k = cc
 
 one_opens : (p : Phase) (c d : Colour) → opens p c ≡ true → opens p d ≡ true → c ≡ d
 one_opens (SendTurn x) c d h k = sym (same_colour-true x c h) ∙ same_colour-true x d k
-one_opens (Hello x) c d h k = cc
+one_opens (Handshake x) c d h k = cc
 one_opens (Setup x) c d h k = cc
 one_opens (AwaitMove x) c d h k = cc
 one_opens (AwaitPong x) c d h k = cc
@@ -47,7 +47,7 @@ one_opens (Over x) c d h k = cc
 -- a phase that reads opens no turn
 reads_or_opens : {A : Type 0} (p : Phase) (c d : Colour) → reads p c ≡ true → opens p d ≡ true → A
 reads_or_opens (SendTurn x) c d h k = cc
-reads_or_opens (Hello x) c d h k = cc
+reads_or_opens (Handshake x) c d h k = cc
 reads_or_opens (Setup x) c d h k = cc
 reads_or_opens (AwaitMove x) c d h k = cc
 reads_or_opens (AwaitPong x) c d h k = cc
@@ -205,7 +205,7 @@ same_event r s due due' m (FailsToRead c) (FailsToWrite d) T U a b g h i j = no_
 
 over_not_on : {A : Type 0} (p : Phase) → is_some (ending_in p) ≡ true → is_on p ≡ true → A
 over_not_on (Over x) h on = not_on on
-over_not_on (Hello c) h on = not_on h
+over_not_on (Handshake c) h on = not_on h
 over_not_on (Setup c) h on = not_on h
 over_not_on (SendTurn c) h on = not_on h
 over_not_on (AwaitMove c) h on = not_on h

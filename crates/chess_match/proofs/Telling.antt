@@ -117,13 +117,13 @@ lines_none : {A : Type 0} (f : SentLine → List A) (r : Rules) (S : Colour) (ki
     → InOpenings f → reads m.phase S ≡ true
     → Lines r S kind moment m (λ m'. TellsNone f r S m m')
 lines_none f r S kind moment m i here = record {
-  hello_ends = λ p d on some. not_on on;
-  hello_counts = λ p d few. same_tells_none f r S m
+  handshake_ends = λ p d on some. not_on on;
+  handshake_counts = λ p d few. same_tells_none f r S m
       (let m' = take_items S (items_of_line kind) m in record m' { count = m.count + 1 }) (hear_phase S (items_of_line kind) m)
       here;
-  hello_next = λ p s d. quiet_tells_none f r S m _ i refl;
-  hello_judged = λ p s d c x on some. not_on on;
-  hello_done = λ p s d. quiet_tells_none f r S m _ i refl;
+  handshake_next = λ p s d. quiet_tells_none f r S m _ i refl;
+  handshake_judged = λ p s d c x on some. not_on on;
+  handshake_done = λ p s d. quiet_tells_none f r S m _ i refl;
   setup_ends = λ p reason n on some. not_on on;
   setup_counts = λ p pong few. same_tells_none f r S m (record m { count = m.count + 1 }) refl here;
   setup_next = λ p s pong. quiet_tells_none f r S m _ i refl;

@@ -14,7 +14,7 @@ use Rattle.chess_match.specs.Rules.{Rules}
 use Rattle.chess_match.specs.Sent.{SentLine, block, lines_on_entering}
 use Rattle.chess_match.specs.Transcript.{is_on, reads, opens, match_of, fits_next, fits_from, lines_of_engine, has_fault}
 use Rattle.chess_match.specs.declared.phase.Phase.{Phase}
-use Rattle.chess_match.specs.declared.phase.Phase.TheVariants.{Hello, Setup, SendTurn, AwaitMove, AwaitPong, Over}
+use Rattle.chess_match.specs.declared.phase.Phase.TheVariants.{Handshake, Setup, SendTurn, AwaitMove, AwaitPong, Over}
 use Rattle.chess_match.specs.declared.reason.MatchFault.TheVariants.{NoDone, Write}
 use Rattle.chess_match.specs.declared.reason.Reason.TheVariants.{Decided, Faulted}
 use Rattle.chess_match.proofs.MoveLaw.{not_on, nothing_owed, moves_are_told}
@@ -27,9 +27,9 @@ use Rattle.chess_match.specs.ties.Steps.{match_from}
 
 -- the items that lines to come say
 abbrev said_ahead : Phase → Colour → List (Option (List ℕ)) → List Item
-said_ahead (Hello White) S ls = items_said ls
-said_ahead (Hello Black) Black ls = items_said ls
-said_ahead (Hello Black) White ls = []
+said_ahead (Handshake White) S ls = items_said ls
+said_ahead (Handshake Black) Black ls = items_said ls
+said_ahead (Handshake Black) White ls = []
 said_ahead (Setup c) S ls = []
 said_ahead (SendTurn c) S ls = []
 said_ahead (AwaitMove c) S ls = []
@@ -37,9 +37,9 @@ said_ahead (AwaitPong c) S ls = []
 said_ahead (Over x) S ls = []
 
 ahead_nil : (p : Phase) (S : Colour) → said_ahead p S [] ≡ []
-ahead_nil (Hello White) S = refl
-ahead_nil (Hello Black) White = refl
-ahead_nil (Hello Black) Black = refl
+ahead_nil (Handshake White) S = refl
+ahead_nil (Handshake Black) White = refl
+ahead_nil (Handshake Black) Black = refl
 ahead_nil (Setup c) S = refl
 ahead_nil (SendTurn c) S = refl
 ahead_nil (AwaitMove c) S = refl
@@ -56,7 +56,7 @@ Says d t m m' =
 
 -- no handshake is on
 abbrev is_greeted : Phase → Bool
-is_greeted (Hello c) = false
+is_greeted (Handshake c) = false
 is_greeted (Setup c) = true
 is_greeted (SendTurn c) = true
 is_greeted (AwaitMove c) = true
@@ -64,7 +64,7 @@ is_greeted (AwaitPong c) = true
 is_greeted (Over x) = true
 
 none_ahead : (p : Phase) (S : Colour) (ls : List (Option (List ℕ))) → is_greeted p ≡ true → said_ahead p S ls ≡ []
-none_ahead (Hello c) S ls h = cc
+none_ahead (Handshake c) S ls h = cc
 none_ahead (Setup c) S ls h = refl
 none_ahead (SendTurn c) S ls h = refl
 none_ahead (AwaitMove c) S ls h = refl
@@ -89,10 +89,10 @@ joined_items : (xs is ys : List Item) → xs ++ (is ++ ys) ≡ (xs ++ is) ++ ys
 joined_items xs is ys = sym (append_assoc xs is ys)
 
 -- a line of a handshake that isn't ended by it
-hello_on : (d : Colour) (t : Option (List ℕ)) (n : ℕ) (m : Match) → m.phase ≡ Hello d
+handshake_on : (d : Colour) (t : Option (List ℕ)) (n : ℕ) (m : Match) → m.phase ≡ Handshake d
     → has_done (items_of_line (line_kind t)) ≡ false
     → (let m' = take_items d (items_of_line (line_kind t)) m in Says d t m (record m' { count = n }))
-hello_on White t n m p h = ((λ on lines S. at lines S), (λ off. not_on (sym off ∙ rw p refl)))
+handshake_on White t n m p h = ((λ on lines S. at lines S), (λ off. not_on (sym off ∙ rw p refl)))
   where
     at : (lines : Colour → List (Option (List ℕ))) (S : Colour) → (seat m S).items
         ++ said_ahead m.phase S (with_line White t lines S)
@@ -100,7 +100,7 @@ hello_on White t n m p h = ((λ on lines S. at lines S), (λ off. not_on (sym of
         ++ said_ahead m.phase S (lines S))
     at lines White = rw (p, h) (joined_items m.white.items (items_of_line (line_kind t)) (items_said (lines White)))
     at lines Black = refl
-hello_on Black t n m p h = ((λ on lines S. at lines S), (λ off. not_on (sym off ∙ rw p refl)))
+handshake_on Black t n m p h = ((λ on lines S. at lines S), (λ off. not_on (sym off ∙ rw p refl)))
   where
     at : (lines : Colour → List (Option (List ℕ))) (S : Colour) → (seat m S).items
         ++ said_ahead m.phase S (with_line Black t lines S)
@@ -110,10 +110,10 @@ hello_on Black t n m p h = ((λ on lines S. at lines S), (λ off. not_on (sym of
     at lines White = rw p refl
 
 -- one that ends the match
-hello_over : (d : Colour) (t : Option (List ℕ)) (m m' : Match) → m.phase ≡ Hello d → is_on m'.phase ≡ false
+handshake_over : (d : Colour) (t : Option (List ℕ)) (m m' : Match) → m.phase ≡ Handshake d → is_on m'.phase ≡ false
     → m'.white.items ≡ (take_items d (items_of_line (line_kind t)) m).white.items → m'.black.items
     ≡ (take_items d (items_of_line (line_kind t)) m).black.items → Says d t m m'
-hello_over d t m m' p off w b = (
+handshake_over d t m m' p off w b = (
   (λ on. not_on (sym off ∙ on)),
   (λ off' S. at d p S ∙ sym (items_same (take_items d (items_of_line (line_kind t)) m) m' w b S)),
 )
@@ -122,7 +122,7 @@ hello_over d t m m' p off w b = (
     last true = append-nil (items_of_line (line_kind t))
     last false = append-nil (items_of_line (line_kind t))
 
-    at : (d : Colour) → m.phase ≡ Hello d → (S : Colour) → (seat m S).items
+    at : (d : Colour) → m.phase ≡ Handshake d → (S : Colour) → (seat m S).items
         ++ said_ahead m.phase S (with_line d t no_lines S) ≡ (seat (take_items d (items_of_line (line_kind t)) m) S).items
     at White p White = rw p (ap (λ (is : List Item). m.white.items ++ is)
         (last (has_done (items_of_line (line_kind t)))))
@@ -131,41 +131,41 @@ hello_over d t m m' p off w b = (
         (last (has_done (items_of_line (line_kind t)))))
     at Black p White = rw p (append-nil m.white.items)
 
-hello_next : (d : Colour) (t : Option (List ℕ)) (m : Match) → m.phase ≡ Hello White → d ≡ White
+handshake_next : (d : Colour) (t : Option (List ℕ)) (m : Match) → m.phase ≡ Handshake White → d ≡ White
     → has_done (items_of_line (line_kind t)) ≡ true
-    → Says d t m (enter (Hello Black) (take_items d (items_of_line (line_kind t)) m))
-hello_next White t m p s h = ((λ on lines S. at lines S), (λ off. not_on (sym off)))
+    → Says d t m (enter (Handshake Black) (take_items d (items_of_line (line_kind t)) m))
+handshake_next White t m p s h = ((λ on lines S. at lines S), (λ off. not_on (sym off)))
   where
     at : (lines : Colour → List (Option (List ℕ))) (S : Colour) → (seat m S).items
         ++ said_ahead m.phase S (with_line White t lines S)
-        ≡ (seat (enter (Hello Black) (take_items White (items_of_line (line_kind t)) m)) S).items
-        ++ said_ahead (Hello Black) S (lines S)
+        ≡ (seat (enter (Handshake Black) (take_items White (items_of_line (line_kind t)) m)) S).items
+        ++ said_ahead (Handshake Black) S (lines S)
     at lines White = rw (p, h) (joined_items m.white.items (items_of_line (line_kind t)) [])
     at lines Black = rw p refl
-hello_next Black t m p s h = cc
+handshake_next Black t m p s h = cc
 
-hello_done : (d : Colour) (t : Option (List ℕ)) (m : Match) → m.phase ≡ Hello Black → d ≡ Black
+handshake_done : (d : Colour) (t : Option (List ℕ)) (m : Match) → m.phase ≡ Handshake Black → d ≡ Black
     → has_done (items_of_line (line_kind t)) ≡ true
     → Says d t m (enter (Setup White) (take_items d (items_of_line (line_kind t)) m))
-hello_done Black t m p s h = ((λ on lines S. at lines S), (λ off. not_on (sym off)))
+handshake_done Black t m p s h = ((λ on lines S. at lines S), (λ off. not_on (sym off)))
   where
     at : (lines : Colour → List (Option (List ℕ))) (S : Colour) → (seat m S).items
         ++ said_ahead m.phase S (with_line Black t lines S)
         ≡ (seat (enter (Setup White) (take_items Black (items_of_line (line_kind t)) m)) S).items ++ []
     at lines Black = rw (p, h) (joined_items m.black.items (items_of_line (line_kind t)) [])
     at lines White = rw p refl
-hello_done White t m p s h = cc
+handshake_done White t m p s h = cc
 
 lines_say : (r : Rules) (d : Colour) (t : Option (List ℕ)) (n : ℕ) (m : Match)
     → Lines r d (line_kind t) n m (λ m'. Says d t m m')
 lines_say r d t n m = record {
-  hello_ends = λ p h. hello_over d t m (over (Faulted d NoDone) (take_items d (items_of_line (line_kind t)) m)) p refl refl
+  handshake_ends = λ p h. handshake_over d t m (over (Faulted d NoDone) (take_items d (items_of_line (line_kind t)) m)) p refl refl
       refl;
-  hello_counts = λ p h few. hello_on d t (m.count + 1) m p h;
-  hello_next = λ p s h. hello_next d t m p s h;
-  hello_judged = λ p s h b f. hello_over d t m (enter (Over (Faulted b f)) (take_items d (items_of_line (line_kind t)) m))
-      (p ∙ ap Hello (sym s)) refl refl refl;
-  hello_done = λ p s h. hello_done d t m p s h;
+  handshake_counts = λ p h few. handshake_on d t (m.count + 1) m p h;
+  handshake_next = λ p s h. handshake_next d t m p s h;
+  handshake_judged = λ p s h b f. handshake_over d t m (enter (Over (Faulted b f)) (take_items d (items_of_line (line_kind t)) m))
+      (p ∙ ap Handshake (sym s)) refl refl refl;
+  handshake_done = λ p s h. handshake_done d t m p s h;
   setup_ends = λ p reason w. greeted_says d t m (over reason m) (rw p refl) refl refl refl;
   setup_counts = λ p h few. greeted_says d t m (record m { count = m.count + 1 }) (rw p refl) (rw p refl) refl refl;
   setup_next = λ p s h. greeted_says d t m (enter (Setup Black) m) (rw p refl) refl refl refl;

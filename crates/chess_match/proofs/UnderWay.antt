@@ -13,7 +13,7 @@ use Rattle.chess_match.specs.ties.Represents.{Represents}
 use Rattle.chess_match.specs.ties.Steps.{IsSane}
 use Rattle.chess_match.specs.Transcript.{match_of, fits, blocks, lines_of_engine, moments_of, has_fault, is_on}
 use Rattle.chess_match.specs.declared.phase.Phase.{Phase}
-use Rattle.chess_match.specs.declared.phase.Phase.TheVariants.{Hello, Setup, SendTurn, AwaitMove, AwaitPong, Over}
+use Rattle.chess_match.specs.declared.phase.Phase.TheVariants.{Handshake, Setup, SendTurn, AwaitMove, AwaitPong, Over}
 use Rattle.chess_match.specs.declared.state.MatchState.{MatchState}
 use Rattle.chess_match.specs.declared.reason.MatchFault.TheVariants.{Ended, Read, Write}
 
@@ -43,7 +43,7 @@ pub record IsUnderWay (r : Rules) (T : List Event) (core : MatchState) (played :
 
 -- what is left to do, where so much can still be read
 abbrev pub steps_left : Phase → ℕ → ℕ
-steps_left (Hello c) n = 3 * n + 1
+steps_left (Handshake c) n = 3 * n + 1
 steps_left (Setup c) n = 3 * n + 1
 steps_left (SendTurn c) n = 3 * n + 2
 steps_left (AwaitMove c) n = 3 * n + 1

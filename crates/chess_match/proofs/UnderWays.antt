@@ -21,7 +21,7 @@ use Rattle.chess_match.specs.ties.Reported.{SendsIf}
 use Rattle.chess_match.specs.Transcript.{match_of, fits_next, is_on, opens, blocks, blocks_from, joined_blocks, lines_of_engine, moments_of, moment_in, has_fault, is_fault}
 use Rattle.chess_match.proofs.UnderWay.{IsHearing, HeardSoFar, IsUnderWay}
 use Rattle.chess_match.specs.declared.phase.Phase.{Phase}
-use Rattle.chess_match.specs.declared.phase.Phase.TheVariants.{Hello, Setup, SendTurn, AwaitMove, AwaitPong, Over}
+use Rattle.chess_match.specs.declared.phase.Phase.TheVariants.{Handshake, Setup, SendTurn, AwaitMove, AwaitPong, Over}
 use Rattle.chess_match.specs.declared.state.MatchState.{MatchState}
 use Rattle.chess_match.proofs.Flushes.{flushed_none, flushed_more}
 use Rattle.chess_match.proofs.HeardOn.{is_stop, heard_still, heard_more, not_both}
@@ -412,7 +412,7 @@ nothing_put false o b e n = subst (λ (ls : List SentLine). Flushed o o (bytes_o
 
 pub opens_on : (p : Phase) (S : Colour) → opens p S ≡ true → is_on p ≡ true
 opens_on (SendTurn c) S h = refl
-opens_on (Hello c) S h = refl
+opens_on (Handshake c) S h = refl
 opens_on (Setup c) S h = refl
 opens_on (AwaitMove c) S h = refl
 opens_on (AwaitPong c) S h = refl

@@ -13,7 +13,7 @@ use Rattle.chess_match.specs.Rules.{Rules}
 use Rattle.chess_match.specs.Sent.{SentLine, block, lines_on_entering}
 use Rattle.chess_match.specs.Transcript.{is_on, reads, opens, fits_next, fits_from}
 use Rattle.chess_match.specs.declared.phase.Phase.{Phase}
-use Rattle.chess_match.specs.declared.phase.Phase.TheVariants.{Hello, Setup, SendTurn, AwaitMove, AwaitPong, Over}
+use Rattle.chess_match.specs.declared.phase.Phase.TheVariants.{Handshake, Setup, SendTurn, AwaitMove, AwaitPong, Over}
 use Rattle.chess_match.specs.declared.reason.MatchFault.TheVariants.{NoDone}
 use Rattle.chess_match.specs.declared.reason.Reason.{Reason}
 use Rattle.chess_match.specs.declared.reason.Reason.TheVariants.{Decided, Faulted}
@@ -27,7 +27,7 @@ use Rattle.chess_match.specs.ties.Steps.{match_from}
 -- the moment of the opening, where a move of S is awaited
 abbrev awaited : Colour → Phase → ℕ → Option ℕ
 awaited S (AwaitMove c) opened = if same_colour c S then Some opened else None
-awaited S (Hello c) opened = None
+awaited S (Handshake c) opened = None
 awaited S (Setup c) opened = None
 awaited S (SendTurn c) opened = None
 awaited S (AwaitPong c) opened = None
@@ -127,13 +127,13 @@ decides_grow Black Black text move n m reason p =
 decides_grow White Black text move n m reason p = rw p ([], omega arith, refl, λ on. not_on on)
 decides_grow Black White text move n m reason p = rw p ([], omega arith, refl, λ on. not_on on)
 
-hello_counts : (S c : Colour) (items : List Item) (k : ℕ) (kind : LineKind) (n : ℕ) (m : Match) → m.phase ≡ Hello c
+handshake_counts : (S c : Colour) (items : List Item) (k : ℕ) (kind : LineKind) (n : ℕ) (m : Match) → m.phase ≡ Handshake c
     → (let m' = take_items c items m in Grows S kind n m (record m' { count = k }))
-hello_counts S White items k kind n m p =
-    let m' = take_items White items m in apart_grow S kind n m (record m' { count = k }) (Hello White) p refl refl refl
+handshake_counts S White items k kind n m p =
+    let m' = take_items White items m in apart_grow S kind n m (record m' { count = k }) (Handshake White) p refl refl refl
     (rw p refl)
-hello_counts S Black items k kind n m p =
-    let m' = take_items Black items m in apart_grow S kind n m (record m' { count = k }) (Hello Black) p refl refl refl
+handshake_counts S Black items k kind n m p =
+    let m' = take_items Black items m in apart_grow S kind n m (record m' { count = k }) (Handshake Black) p refl refl refl
     (rw p refl)
 
 offers_grow : (S c : Colour) (kind : LineKind) (n : ℕ) (m : Match) → is_move kind ≡ false
@@ -144,14 +144,14 @@ offers_grow S Black kind n m none = stays_grow S kind n m (offered Black m) refl
 lines_grow : (r : Rules) (S c : Colour) (kind : LineKind) (n : ℕ) (m : Match)
     → Lines r c kind n m (λ m'. Grows S kind n m m')
 lines_grow r S c kind n m = record {
-  hello_ends = λ p d. ends_grow S kind n m (over (Faulted c NoDone) (take_items c (items_of_line kind) m))
+  handshake_ends = λ p d. ends_grow S kind n m (over (Faulted c NoDone) (take_items c (items_of_line kind) m))
       (hear_used c (items_of_line kind) m).0 (hear_used c (items_of_line kind) m).1 refl;
-  hello_counts = λ p d few. hello_counts S c (items_of_line kind) (m.count + 1) kind n m p;
-  hello_next = λ p s d. apart_grow S kind n m (enter (Hello Black) (take_items c (items_of_line kind) m)) (Hello White) p refl
+  handshake_counts = λ p d few. handshake_counts S c (items_of_line kind) (m.count + 1) kind n m p;
+  handshake_next = λ p s d. apart_grow S kind n m (enter (Handshake Black) (take_items c (items_of_line kind) m)) (Handshake White) p refl
       (hear_used c (items_of_line kind) m).0 (hear_used c (items_of_line kind) m).1 refl;
-  hello_judged = λ p s d b f. ends_grow S kind n m (enter (Over (Faulted b f)) (take_items c (items_of_line kind) m))
+  handshake_judged = λ p s d b f. ends_grow S kind n m (enter (Over (Faulted b f)) (take_items c (items_of_line kind) m))
       (hear_used c (items_of_line kind) m).0 (hear_used c (items_of_line kind) m).1 refl;
-  hello_done = λ p s d. apart_grow S kind n m (enter (Setup White) (take_items c (items_of_line kind) m)) (Hello Black) p refl
+  handshake_done = λ p s d. apart_grow S kind n m (enter (Setup White) (take_items c (items_of_line kind) m)) (Handshake Black) p refl
       (hear_used c (items_of_line kind) m).0 (hear_used c (items_of_line kind) m).1 refl;
   setup_ends = λ p reason n'. ends_grow S kind n m (over reason m) refl refl refl;
   setup_counts = λ p pong few. apart_grow S kind n m (record m { count = m.count + 1 }) (Setup c) p refl refl refl
@@ -209,7 +209,7 @@ line_times : (S c : Colour) (p : Phase) (opened : ℕ) (text : Option (List ℕ)
     → turn_times S (awaited S p opened) (Line c text n ∷ T) ≡ taken (awaited S p opened) (line_kind text) n
     ++ turn_times S (awaited_then (awaited S p opened) (line_kind text)) T
 line_times S c (AwaitMove d) opened text n T h = before_line_times S c d opened text n T h
-line_times S c (Hello d) opened text n T h = refl
+line_times S c (Handshake d) opened text n T h = refl
 line_times S c (Setup d) opened text n T h = refl
 line_times S c (AwaitPong d) opened text n T h = refl
 line_times S c (SendTurn d) opened text n T h = refl

@@ -11,7 +11,7 @@ use Rattle.chess_match.specs.Match.{Match, Seat, seat, clock, ping_number}
 use Rattle.chess_match.specs.Reasons.{outcome_by_reason, comment_of}
 use Rattle.chess_match.specs.Rules.{Rules, is_fischerandom}
 use Rattle.chess_match.specs.declared.phase.Phase.{Phase}
-use Rattle.chess_match.specs.declared.phase.Phase.TheVariants.{Hello, Setup, SendTurn, AwaitMove, AwaitPong, Over}
+use Rattle.chess_match.specs.declared.phase.Phase.TheVariants.{Handshake, Setup, SendTurn, AwaitMove, AwaitPong, Over}
 use Rattle.chess_match.specs.declared.reason.MatchFault.TheVariants.{Write}
 use Rattle.chess_match.specs.declared.reason.Reason.{Reason}
 use Rattle.chess_match.specs.declared.reason.Reason.TheVariants.{Faulted}
@@ -115,7 +115,7 @@ is_unwritten _ S = false
 -- the lines that the side `S` is sent when the match `m` enters this phase: most phases have lines for one side only;
 -- at the end both are sent some, unless writing to `S` failed
 abbrev pub entry_to : Rules → Match → Colour → Phase → List SentLine
-entry_to r m S (Hello c) = list_if (same_colour c S) (Says (codes "xboard") ∷ Says (codes "protover 2") ∷ [])
+entry_to r m S (Handshake c) = list_if (same_colour c S) (Says (codes "xboard") ∷ Says (codes "protover 2") ∷ [])
 entry_to r m S (Setup c) = list_if (same_colour c S) (setup_lines r)
 entry_to r m S (SendTurn c) = list_if (same_colour c S) (opening_lines r m S)
 entry_to r m S (AwaitMove c) = []
@@ -131,7 +131,7 @@ lines_on_entering r m S = entry_to r m S m.phase
 -- whether going from the first phase to the second enters no new one: they are the same, or the match was over before.
 -- The opening of a turn (`SendTurn`) is always a new phase
 abbrev pub is_same_phase : Phase → Phase → Bool
-is_same_phase (Hello c) (Hello d) = same_colour c d
+is_same_phase (Handshake c) (Handshake d) = same_colour c d
 is_same_phase (Setup c) (Setup d) = same_colour c d
 is_same_phase (AwaitMove c) (AwaitMove d) = same_colour c d
 is_same_phase (AwaitPong c) (AwaitPong d) = same_colour c d

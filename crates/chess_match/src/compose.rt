@@ -185,7 +185,7 @@ fn add_entry<G: MatchGame>(block: &mut Block, core: &MatchState, game: &G, side:
         → block.new.items ≡ block.old.items ++ bytes_of (lines_on_entering r m side) }
 {
     match core.phase {
-        Phase::Hello(on) => {
+        Phase::Handshake(on) => {
             if same_colour(on, side) {
                 append(block, b"xboard\nprotover 2\n");
             }

@@ -217,7 +217,7 @@ fn awaited_in(phase: Phase) -> Awaited
     ensures { IsAwaited phase result }
 {
     match phase {
-        Phase::Hello(side) => Awaited::Line(side),
+        Phase::Handshake(side) => Awaited::Line(side),
         Phase::Setup(side) => Awaited::Line(side),
         Phase::AwaitMove(side) => Awaited::Line(side),
         Phase::AwaitPong(side) => Awaited::Line(side),

@@ -56,7 +56,7 @@ pub(crate) struct MatchState {
 pub(crate) const FLOOD_LEN: u32 = 10_000;
 
 /// So many lines in one handshake without `done=1` end the match.
-pub(crate) const HELLO_LEN: u32 = 1_000;
+pub(crate) const HANDSHAKE_LEN: u32 = 1_000;
 
 /// Nothing is sent.
 pub(crate) const NOTHING: Actions = Actions {
@@ -103,7 +103,7 @@ impl Player {
             self.features = self.features.heard(&item);
             note_name(&mut self.name, &item);
             add_answer(block, item.name);
-            if item.ends_hello() {
+            if item.ends_handshake() {
                 return true;
             }
             rest = behind;
@@ -118,7 +118,7 @@ impl MatchState {
         ensures { (r : Rules) → r.level ≡ level → Represents r result [] start }
     {
         MatchState {
-            phase: Phase::Hello(Colour::White),
+            phase: Phase::Handshake(Colour::White),
             white: Player::new(),
             black: Player::new(),
             clocks: Clocks::new(level),

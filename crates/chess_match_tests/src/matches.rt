@@ -208,7 +208,7 @@ fn white_behind(alloc: Global, count: usize) -> Result<Vec<u8>, Fail> {
 }
 
 // 999 lines before the handshake change nothing in a game to its mate.
-fn long_hello_on(rt: &impl Abort, alloc: Global, on: On) -> Result<(), Fail> {
+fn long_handshake_on(rt: &impl Abort, alloc: Global, on: On) -> Result<(), Fail> {
     let start = Position::initial();
     let white = white_behind(alloc, 999)?;
     let played = play(
@@ -236,9 +236,9 @@ fn long_hello_on(rt: &impl Abort, alloc: Global, on: On) -> Result<(), Fail> {
 }
 
 #[test]
-fn hellos_of_many_lines(rt: HostRuntime) -> Result<(), Fail> {
+fn handshakes_of_many_lines(rt: HostRuntime) -> Result<(), Fail> {
     for on in BOARDS {
-        long_hello_on(&rt, rt.alloc(), *on)?;
+        long_handshake_on(&rt, rt.alloc(), *on)?;
     }
     let white = white_behind(rt.alloc(), 1000)?;
     let input = MatchInput::of(white.as_slice(), BLACK);

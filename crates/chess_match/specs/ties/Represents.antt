@@ -14,7 +14,7 @@ use Rattle.chess_match.specs.Match.{Match, Seat, items_of_line}
 use Rattle.chess_match.specs.Rules.{Rules}
 use Rattle.chess_match.specs.Sent.{SentLine, Says, answers_to, lines_on_entering, block}
 use Rattle.chess_match.specs.declared.phase.Phase.{Phase}
-use Rattle.chess_match.specs.declared.phase.Phase.TheVariants.{Hello, AwaitPong}
+use Rattle.chess_match.specs.declared.phase.Phase.TheVariants.{Handshake, AwaitPong}
 use Rattle.chess_match.specs.declared.state.Player.{Player}
 use Rattle.chess_match.specs.declared.state.Actions.{Actions}
 use Rattle.chess_match.specs.declared.state.MatchState.{MatchState}
@@ -115,5 +115,5 @@ played_core core Black used texts = record core {
 
 -- the items of a line that comes in this phase; none unless the phase is a handshake, in which alone they count
 abbrev pub items_in : Phase → LineKind → List Item
-items_in (Hello c) kind = items_of_line kind
+items_in (Handshake c) kind = items_of_line kind
 items_in _ kind = []

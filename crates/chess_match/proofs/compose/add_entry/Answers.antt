@@ -3,14 +3,14 @@
 use Rattle.std.proofs.Common.{◌≡◌, ◌++◌, List, sym, ◌∙◌, refl, ap, true, false, ℕ}
 use Rattle.chess_base.specs.Men.{same_colour}
 use Rattle.chess_match.specs.Sent.{is_unwritten}
-use Rattle.chess_match.specs.declared.phase.Phase.TheVariants.{Hello, Setup, SendTurn, AwaitMove, AwaitPong, Over}
-use Rattle.chess_match.proofs.Sends.{entry_none, hello_bytes}
+use Rattle.chess_match.specs.declared.phase.Phase.TheVariants.{Handshake, Setup, SendTurn, AwaitMove, AwaitPong, Over}
+use Rattle.chess_match.proofs.Sends.{entry_none, handshake_bytes}
 use Rattle.chess_match.proofs.compose.add_entry.Goals as goal
 
 pub returns-else-same_colour : goal.returns-else-same_colour
 returns-else-same_colour g c r m p s =
-    let differs : same_colour c.in-Hello.on c.args.side ≡ false = sym c.same_colour.ensures ∙ c.if-same_colour.false in
-    entry_none r m c.args.side (Hello c.in-Hello.on) c.args.block.now.items (sym s.phase ∙ c.in-Hello.is)
+    let differs : same_colour c.in-Handshake.on c.args.side ≡ false = sym c.same_colour.ensures ∙ c.if-same_colour.false in
+    entry_none r m c.args.side (Handshake c.in-Handshake.on) c.args.block.now.items (sym s.phase ∙ c.in-Handshake.is)
     (rw differs refl)
 
 pub returns-else-same_colour-2 : goal.returns-else-same_colour-2
@@ -40,9 +40,9 @@ returns-in-AwaitMove g c r m p s =
 
 pub returns-then-same_colour : goal.returns-then-same_colour
 returns-then-same_colour g c r m p s =
-    let same : same_colour c.in-Hello.on c.args.side ≡ true = sym c.same_colour.ensures ∙ c.if-same_colour.true in
+    let same : same_colour c.in-Handshake.on c.args.side ≡ true = sym c.same_colour.ensures ∙ c.if-same_colour.true in
     c.append.ensures.text ∙ ap (λ (bs : List ℕ). c.args.block.now.items ++ bs)
-    (hello_bytes r m c.args.side c.in-Hello.on (sym s.phase ∙ c.in-Hello.is) same)
+    (handshake_bytes r m c.args.side c.in-Handshake.on (sym s.phase ∙ c.in-Handshake.is) same)
 
 pub returns-then-is_unwritten : goal.returns-then-is_unwritten
 returns-then-is_unwritten g c r m p s =
