@@ -9,7 +9,7 @@
 //! if let EngineLine::Features(text) = read_engine_line(b"feature ping=1 done=1") {
 //!     let mut rest = text;
 //!     while let Some((item, behind)) = next_item(rest) {
-//!         features = features.heard(&item);
+//!         features = features.with_item(&item);
 //!         rest = behind;
 //!     }
 //! }

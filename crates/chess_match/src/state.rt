@@ -100,7 +100,7 @@ impl Player {
     {
         let mut rest = text;
         while let Some((item, behind)) = next_item(rest) {
-            self.features = self.features.heard(&item);
+            self.features = self.features.with_item(&item);
             note_name(&mut self.name, &item);
             add_answer(block, item.name);
             if item.ends_handshake() {

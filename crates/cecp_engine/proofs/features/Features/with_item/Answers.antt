@@ -2,7 +2,7 @@
 -- (ItemRuns.features-snoc).
 use Rattle.cecp_engine.specs.Seen.{item_seen}
 use Rattle.cecp_engine.proofs.ItemRuns.{features-snoc}
-use Rattle.cecp_engine.proofs.features.Features.heard.Goals as goal
+use Rattle.cecp_engine.proofs.features.Features.with_item.Goals as goal
 
 pub returns : goal.returns
 returns c items e =
