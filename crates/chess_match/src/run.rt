@@ -167,7 +167,7 @@ pub fn run_match_watched<R: Input, W: Output, M: Moments, B: Board, L: Witness>(
                 core.open(side, moment);
             }
             Awaited::Line(side) => {
-                let heard = next_line(
+                let found = next_line(
                     &mut white.reader,
                     &mut black.reader,
                     &mut white_lines,
@@ -175,12 +175,12 @@ pub fn run_match_watched<R: Input, W: Output, M: Moments, B: Board, L: Witness>(
                     side,
                     &mut line,
                 );
-                let given = hear(
+                let given = take_next(
                     &mut core,
                     moments,
                     witness,
                     game,
-                    heard,
+                    found,
                     &line,
                     side,
                     &mut blocks.own,
@@ -475,7 +475,7 @@ fn said(line: &Line<ENGINE_LINE_LEN>) -> EngineLine<'_>
 
 // Takes a line of this side's engine, after reading the clock: the match goes on by the line, and the witness is given
 // it. Returns what is to be sent; the answers to the line's items go to `block`, which must be empty.
-fn hear_line<M: Moments, L: Witness, G: MatchGame>(
+fn take_line<M: Moments, L: Witness, G: MatchGame>(
     core: &mut MatchState,
     moments: &mut M,
     witness: &mut L,
@@ -489,7 +489,7 @@ fn hear_line<M: Moments, L: Witness, G: MatchGame>(
     requires empty { block.old.items ≡ [] }
     ensures rules { (r : Rules) → G.plays game.old r → G.plays game.new r }
     ensures origin { G.origin game.new ≡ G.origin game.old }
-    ensures heard { (moment : ℕ) × (items : List Item)
+    ensures taken { (moment : ℕ) × (items : List Item)
         × ReadsClock (M.coming moments.old) (M.coming moments.new) (moment_in (line_event side line.now moment))
         × WasNoted (L.noted witness.old) (L.noted witness.new) (Happened (line_event side line.now moment) ∷ [])
         × (block.new.items ≡ bytes_of (answers_to items))
@@ -503,15 +503,15 @@ fn hear_line<M: Moments, L: Witness, G: MatchGame>(
     core.line(game, said(line), moment, block)
 }
 
-// Takes what reading the next line of this side's engine gave (`heard`): the line in `line`, if there was one and `\n`
+// Takes what reading the next line of this side's engine gave (`found`): the line in `line`, if there was one and `\n`
 // ended it; else the end of its output or a fault, which end the match. Returns what is to be sent; the answers to the
 // line's items go to `block`, which must be empty.
-fn hear<M: Moments, L: Witness, G: MatchGame>(
+fn take_next<M: Moments, L: Witness, G: MatchGame>(
     core: &mut MatchState,
     moments: &mut M,
     witness: &mut L,
     game: &mut G,
-    heard: Result<bool, ReadFault>,
+    found: Result<bool, ReadFault>,
     line: &Line<ENGINE_LINE_LEN>,
     side: Colour,
     block: &mut Block,
@@ -521,19 +521,19 @@ fn hear<M: Moments, L: Witness, G: MatchGame>(
     requires empty { block.old.items ≡ [] }
     ensures rules { (r : Rules) → G.plays game.old r → G.plays game.new r }
     ensures origin { G.origin game.new ≡ G.origin game.old }
-    ensures heard { (moment : ℕ) × (items : List Item)
+    ensures taken { (moment : ℕ) × (items : List Item)
         × ReadsClock (M.coming moments.old) (M.coming moments.new)
-        (moment_in (event_read side moment (line_read heard line.now)))
+        (moment_in (event_read side moment (line_read found line.now)))
         × WasNoted (L.noted witness.old) (L.noted witness.new)
-        (Happened (event_read side moment (line_read heard line.now)) ∷ [])
+        (Happened (event_read side moment (line_read found line.now)) ∷ [])
         × (block.new.items ≡ bytes_of (answers_to items))
         × ((r : Rules) (m : Match) → G.plays game.old r → reads m.phase side ≡ true
         → Represents r core.old (G.played game.old) m
         → Goes r core.new (G.played game.new) result (items_to side items) m
-        (match_after r m (event_read side moment (line_read heard line.now)))) }
+        (match_after r m (event_read side moment (line_read found line.now)))) }
     ensures room { array_vec_len block.new ≤ ANSWERS_LEN }
 {
-    match heard {
+    match found {
         Err(_) => {
             witness.read_fails(side);
             core.read_fails(side)
@@ -544,7 +544,7 @@ fn hear<M: Moments, L: Witness, G: MatchGame>(
         }
         Ok(true) => {
             if is_parsed(line) {
-                hear_line(core, moments, witness, game, line, side, block)
+                take_line(core, moments, witness, game, line, side, block)
             } else {
                 witness.output_ends(side);
                 core.output_ends(side)

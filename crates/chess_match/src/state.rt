@@ -87,7 +87,7 @@ impl Player {
 
     /// Takes over the items of a `feature` line (`text` is the line without its first word), appends the answers to
     /// them to `block`, and returns whether `done=1` is among them.
-    pub(crate) fn hear(&mut self, text: &[u8], block: &mut Block) -> bool
+    pub(crate) fn take_items(&mut self, text: &[u8], block: &mut Block) -> bool
         requires { array_vec_len block.old + 4 * length text.now ≤ ANSWERS_LEN }
         ensures features { (items : List feature_items.Item) → self.old.features ≡ features_of items
             → self.new.features ≡ features_of (items ++ items_of text.now) }

@@ -7,7 +7,7 @@ use Rattle.chess_match.specs.Run.{text_read}
 use Rattle.chess_match.proofs.Delivers.{counted, few, undecided}
 use Rattle.chess_match.proofs.Going.{goes_as}
 use Rattle.chess_match.proofs.Runs.{asked_one}
-use Rattle.chess_match.proofs.run.hear_line.Goals as goal
+use Rattle.chess_match.proofs.run.take_line.Goals as goal
 
 pub line-requires-2 : goal.line-requires-2
 line-requires-2 g c =
@@ -20,8 +20,8 @@ line-requires-2 g c =
       empty = c.requires.empty;
     }
 
-pub returns-clause-heard : goal.returns-clause-heard
-returns-clause-heard g c = (
+pub returns-clause-taken : goal.returns-clause-taken
+returns-clause-taken g c = (
   c.now-moment.result,
   items_in c.args.core.now.phase (seen c.said.result),
   asked_one _ _ c.now-moment.result c.now-moment.ensures.moment c.now-moment.ensures.rest,
