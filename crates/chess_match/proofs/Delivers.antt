@@ -25,7 +25,7 @@ use Rattle.chess_match.specs.declared.texts.MoveTexts.{MoveTexts}
 use Rattle.chess_match.specs.ties.Texts.{AreOfLast}
 use Rattle.chess_match.proofs.Flushes.{flushed_none}
 use Rattle.chess_match.proofs.Going.{goes_with, nothing_to}
-use Rattle.chess_match.proofs.Runs.{asked_none}
+use Rattle.chess_match.proofs.LongerTranscripts.{asked_none}
 use Rattle.chess_match.specs.Reasons.{by_colour}
 
 -- where the last move is still to be sent, its texts are kept
@@ -238,17 +238,17 @@ noted_bare plays core played core' played' given text S coming notes notes' e no
       (goes r m p h s),
 )
 
-pub heard_failed : {E : Type 0} (P : Event → Type 0) (S : Colour) (moment : ℕ) (result : Result (Option LineSeen) E)
+pub event_failed : {E : Type 0} (P : Event → Type 0) (S : Colour) (moment : ℕ) (result : Result (Option LineSeen) E)
     (x : E) → result ≡ Err x → P (FailsToRead S) → P (event_read S moment result)
-heard_failed P S moment result x e p = subst (λ v. P (event_read S moment v)) (sym e) p
+event_failed P S moment result x e p = subst (λ v. P (event_read S moment v)) (sym e) p
 
-pub heard_none : {E : Type 0} (P : Event → Type 0) (S : Colour) (moment : ℕ) (result : Result (Option LineSeen) E)
+pub event_none : {E : Type 0} (P : Event → Type 0) (S : Colour) (moment : ℕ) (result : Result (Option LineSeen) E)
     → result ≡ Ok None → P (OutputEnds S) → P (event_read S moment result)
-heard_none P S moment result e p = subst (λ v. P (event_read S moment v)) (sym e) p
+event_none P S moment result e p = subst (λ v. P (event_read S moment v)) (sym e) p
 
-pub heard_last : {E : Type 0} (P : Event → Type 0) (S : Colour) (moment : ℕ) (result : Result (Option LineSeen) E)
+pub event_last : {E : Type 0} (P : Event → Type 0) (S : Colour) (moment : ℕ) (result : Result (Option LineSeen) E)
     (line : LineSeen) → result ≡ Ok (Some line) → line.ended ≡ false → P (OutputEnds S)
     → P (event_read S moment result)
-heard_last P S moment result line e f p =
+event_last P S moment result line e f p =
     subst (λ v. P (event_read S moment v)) (sym e)
     (subst (λ (b : Bool). P (if b then Line S (text_read line) moment else OutputEnds S)) (sym f) p)

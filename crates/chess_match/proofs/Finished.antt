@@ -24,7 +24,7 @@ use Rattle.chess_match.specs.Run.{RanBefore}
 use Rattle.chess_match.specs.ties.Represents.{name_by}
 use Rattle.chess_match.specs.ties.Reported.{IsReported}
 use Rattle.chess_match.specs.Transcript.{match_of, engine_name}
-use Rattle.chess_match.proofs.UnderWay.{IsUnderWay}
+use Rattle.chess_match.proofs.RunInvariant.{IsUnderWay}
 use Rattle.chess_match.specs.declared.phase.Phase.TheVariants.{Over}
 use Rattle.chess_match.specs.declared.reason.Reason.{Reason}
 use Rattle.chess_match.specs.declared.run.Failed.{Failed}
@@ -106,7 +106,7 @@ ran g h h' start level T core reason failed end nw nb nw' nb' held ow ob ow' ob'
         record {
           fitting = u.fitting;
           ending = sym u.stands.phase ∙ over;
-          read = λ S. ((u.heard S).0, (u.heard S).1);
+          read = λ S. ((u.outputs S).0, (u.outputs S).1);
           written = u.written;
           failing = u.failing;
           moments = u.moments;

@@ -562,44 +562,44 @@ abbrev told_now : Rules → Match → Match → Colour → List (List ℕ)
 told_now r m m' O = if is_same_phase m.phase m'.phase then [] else entry_moves r m' O m'.phase
 
 -- where a line gives its own engine something to send, and the match goes on, the other engine is sent no move
-abbrev TellsNone : Rules → Colour → Colour → Match → Match → Type 0
-TellsNone r S O m m' = is_on m'.phase ≡ true → 0 < length (block r m m' S) → told_now r m m' O ≡ []
+abbrev SendsNone : Rules → Colour → Colour → Match → Match → Type 0
+SendsNone r S O m m' = is_on m'.phase ≡ true → 0 < length (block r m m' S) → told_now r m m' O ≡ []
 
 pub not_on : {A : Type 0} → false ≡ true → A
 not_on h = cc
 
-same_tells_none : (r : Rules) (S O : Colour) (m m' : Match) → m'.phase ≡ m.phase → reads m.phase S ≡ true
-    → TellsNone r S O m m'
-same_tells_none r S O m m' e here on some = rw (e, reads_stays m.phase S here) refl
+same_sends_none : (r : Rules) (S O : Colour) (m m' : Match) → m'.phase ≡ m.phase → reads m.phase S ≡ true
+    → SendsNone r S O m m'
+same_sends_none r S O m m' e here on some = rw (e, reads_stays m.phase S here) refl
 
 opening_apart : (r : Rules) (S : Colour) (m : Match) → m.phase ≡ AwaitPong S → block r m (open_turn (other S) m) S ≡ []
 opening_apart r White m p = plain_block r m (open_turn Black m) false refl refl (rw p refl) White
 opening_apart r Black m p = plain_block r m (open_turn White m) false refl refl (rw p refl) Black
 
-passes_none : (r : Rules) (S O : Colour) (m : Match) → m.phase ≡ AwaitPong S → TellsNone r S O m (open_turn (other S) m)
+passes_none : (r : Rules) (S O : Colour) (m : Match) → m.phase ≡ AwaitPong S → SendsNone r S O m (open_turn (other S) m)
 passes_none r S O m p on some = let none : 0 < 0 = rw (opening_apart r S m p) at some in absurd (omega (arith, none))
 
 plays_none : (r : Rules) (S O : Colour) (move : Move) (used : ℕ) (m : Match)
-    → TellsNone r S O m (played_by S move used m)
+    → SendsNone r S O m (played_by S move used m)
 plays_none r White O move used m on some = if_nil (is_same_phase m.phase (AwaitPong White)) [] refl
 plays_none r Black O move used m on some = if_nil (is_same_phase m.phase (AwaitPong Black)) [] refl
 
-offers_none : (r : Rules) (S O : Colour) (m : Match) → reads m.phase S ≡ true → TellsNone r S O m (offered S m)
+offers_none : (r : Rules) (S O : Colour) (m : Match) → reads m.phase S ≡ true → SendsNone r S O m (offered S m)
 offers_none r White O m here on some = rw (reads_stays m.phase White here) refl
 offers_none r Black O m here on some = rw (reads_stays m.phase Black here) refl
 
 lines_none : (r : Rules) (S O : Colour) (kind : LineKind) (moment : ℕ) (m : Match) → reads m.phase S ≡ true
-    → Orderly r m → Lines r S kind moment m (λ m'. TellsNone r S O m m')
+    → Orderly r m → Lines r S kind moment m (λ m'. SendsNone r S O m m')
 lines_none r S O kind moment m here o = record {
   handshake_ends = λ p d on some. not_on on;
-  handshake_counts = λ p d few. same_tells_none r S O m
+  handshake_counts = λ p d few. same_sends_none r S O m
       (let m' = take_items S (items_of_line kind) m in record m' { count = m.count + 1 }) (hear_phase S (items_of_line kind) m)
       here;
   handshake_next = λ p s d on some. if_nil (is_same_phase m.phase (Handshake Black)) [] refl;
   handshake_judged = λ p s d c f on some. not_on on;
   handshake_done = λ p s d on some. if_nil (is_same_phase m.phase (Setup White)) [] refl;
   setup_ends = λ p reason n on some. not_on on;
-  setup_counts = λ p pong few. same_tells_none r S O m (record m { count = m.count + 1 }) refl here;
+  setup_counts = λ p pong few. same_sends_none r S O m (record m { count = m.count + 1 }) refl here;
   setup_next = λ p s pong on some. if_nil (is_same_phase m.phase (Setup Black)) [] refl;
   setup_done = λ p s pong on some. opens_none (orderly_in r m (Setup Black) p o).0;
   before = λ p. record {
@@ -610,10 +610,10 @@ lines_none r S O kind moment m here o = record {
   behind = λ p. record { row = row; passes = λ none. passes_none r S O m p };
 }
   where
-    row : InTurn r S kind m (λ m'. TellsNone r S O m m')
+    row : InTurn r S kind m (λ m'. SendsNone r S O m m')
     row = record {
       ends = λ reason n on some. not_on on;
-      counts = λ none few. same_tells_none r S O m (record m { count = m.count + 1 }) refl here;
+      counts = λ none few. same_sends_none r S O m (record m { count = m.count + 1 }) refl here;
       offers = λ none own theirs. offers_none r S O m here;
     }
 
@@ -627,7 +627,7 @@ dropped_line : (r : Rules) (O S d : Colour) (t : Option (List ℕ)) (n : ℕ) (d
     → fits_next (block r m (match_after r m (Line S t n))) (match_after r m (Line S t n)) (FailsToWrite d) ≡ true → Orderly r m
     → same_colour S d ≡ true → told_now r m (match_after r m (Line S t n)) O ≡ []
 dropped_line r O S d t n due m T f g o e =
-    line_outcome r S (line_kind t) n m (λ m'. TellsNone r S O m m') f (lines_none r S O (line_kind t) n m f o)
+    line_outcome r S (line_kind t) n m (λ m'. SendsNone r S O m m') f (lines_none r S O (line_kind t) n m f o)
     (and_first (is_on (match_after r m (Line S t n)).phase) _ g)
     (rw (same_colour-true S d e) (ltb-true 0 (length (block r m (match_after r m (Line S t n)) d))
     (and_second (is_on (match_after r m (Line S t n)).phase) _ g)))

@@ -12,7 +12,7 @@ use Rattle.chess_match.specs.Sent.{SentLine, block, lines_on_entering, bytes_of}
 use Rattle.chess_match.specs.Transcript.{match_of, is_on, is_fault, joined_blocks}
 use Rattle.chess_match.specs.ties.Delivering.{broken_notes}
 use Rattle.chess_match.proofs.Blocks.{lines_at, joined_block}
-use Rattle.chess_match.proofs.Runs.{is_sound, dropped_alone, dropped-longer, kept_at}
+use Rattle.chess_match.proofs.LongerTranscripts.{is_sound, dropped_alone, dropped-longer, kept_at}
 use Rattle.chess_match.specs.ties.Steps.{match_from}
 use Rattle.chess_match.specs.declared.reason.MatchFault.TheVariants.{Write}
 

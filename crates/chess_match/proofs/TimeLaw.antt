@@ -26,7 +26,7 @@ use Rattle.chess_match.specs.declared.reason.Reason.{Reason}
 use Rattle.chess_match.specs.declared.reason.Reason.TheVariants.{Decided, Faulted}
 use Rattle.chess_match.proofs.Blocks.{if_nil}
 use Rattle.chess_match.proofs.Outcomes.{Lines, InTurn, line_outcome, opens_at}
-use Rattle.chess_match.proofs.Telling.{now, gathered, unsent, InOpenings}
+use Rattle.chess_match.proofs.LinesOfOneKind.{now, gathered, unsent, InOpenings}
 use Rattle.chess_match.proofs.Going.{is_opening, offered, sum-snoc}
 use Rattle.chess_match.proofs.Seats.{hear_used, items_same, used_same}
 use Rattle.chess_match.proofs.Blocks.{told_more}

@@ -16,12 +16,12 @@ use Rattle.chess_match.specs.Transcript.{match_of, reads, opens}
 use Rattle.chess_match.specs.declared.phase.Phase.{Phase}
 use Rattle.chess_match.proofs.Delivers.{both_sides}
 use Rattle.chess_match.proofs.Finished.{ran, told_outcome}
-use Rattle.chess_match.proofs.LinesRead.{heard_less, heard_sane}
-use Rattle.chess_match.proofs.RunSteps.{rules_level, plays_anew, plays_on, begun, heard_on, opened_left}
+use Rattle.chess_match.proofs.LinesRead.{event_less, event_sane}
+use Rattle.chess_match.proofs.DriverSteps.{rules_level, plays_anew, plays_on, begun, event_on, opened_left}
 use Rattle.chess_match.proofs.Sends.{no_answers}
 use Rattle.chess_match.proofs.Going.{to_own, to_other}
-use Rattle.chess_match.proofs.Runs.{asked_one}
-use Rattle.chess_match.proofs.UnderWays.{opened_step, delivered_by}
+use Rattle.chess_match.proofs.LongerTranscripts.{asked_one}
+use Rattle.chess_match.proofs.RunInvariantKept.{opened_step, delivered_by}
 use Rattle.chess_match.proofs.run.run_match_watched.Goals as goal
 use Rattle.chess_match.specs.Reasons.{by_colour}
 
@@ -127,7 +127,7 @@ deliver-failed-requires-in-Line-clause-last g c =
       r,
       match_after r m (event_read S h.0 found),
       (h.5 r m plays reading i.1.stands).stands,
-      (heard_sane r m S h.0 found i.1.sane).unsent_to,
+      (event_sane r m S h.0 found i.1.sane).unsent_to,
     )
 
 pub take_next-given-requires-clause-empty : goal.take_next-given-requires-clause-empty
@@ -150,7 +150,7 @@ events-smaller g c =
     let d = delivered_by r _ _ _ _ (block r m (match_after r m (event_read S h.0 found))) S _ _ _ _ _
     goes.gives (c.deliver-failed-in-Line.ensures.delivered r _ (items_to S h.1) (c.take_next-given.ensures.rules r plays)
     goes.stands (h.4 ∙ ap (λ (is : List Item). bytes_of (answers_to is)) (sym (to_own S h.1))) (to_other S h.1)) in
-    heard_less r c.events.core.phase c.deliver-failed-in-Line.new.core _ m S h.0 found _
+    event_less r c.events.core.phase c.deliver-failed-in-Line.new.core _ m S h.0 found _
     (by_colour (g.R.Input.seen c.events.white.reader) (g.R.Input.seen c.events.black.reader))
     (by_colour (g.R.Input.seen c.next_line-found.new.white) (g.R.Input.seen c.next_line-found.new.black))
     (by_colour c.events.white_lines c.events.black_lines)
@@ -171,7 +171,7 @@ events-preserved g c =
     let d = delivered_by r _ _ _ _ (block r m (match_after r m (event_read S h.0 found))) S _ _ _ _ _
     goes.gives (c.deliver-failed-in-Line.ensures.delivered r _ (items_to S h.1) (c.take_next-given.ensures.rules r plays)
     goes.stands (h.4 ∙ ap (λ (is : List Item). bytes_of (answers_to is)) (sym (to_own S h.1))) (to_other S h.1)) in
-    let u = heard_on r i.0 S h.0 found c.events.core c.deliver-failed-in-Line.new.core _ _
+    let u = event_on r i.0 S h.0 found c.events.core c.deliver-failed-in-Line.new.core _ _
     (by_colour c.events.failed.white c.events.failed.black)
     (by_colour c.deliver-failed-in-Line.result.white c.deliver-failed-in-Line.result.black)
     (by_colour (g.R.Input.seen c.args.white.now.reader) (g.R.Input.seen c.args.black.now.reader))

@@ -6,7 +6,7 @@ use Rattle.chess_match.specs.declared.phase.Phase.{Phase}
 use Rattle.chess_match.specs.Run.{text_read}
 use Rattle.chess_match.proofs.Delivers.{counted, few, undecided}
 use Rattle.chess_match.proofs.Going.{goes_as}
-use Rattle.chess_match.proofs.Runs.{asked_one}
+use Rattle.chess_match.proofs.LongerTranscripts.{asked_one}
 use Rattle.chess_match.proofs.run.take_line.Goals as goal
 
 pub line-requires-2 : goal.line-requires-2

@@ -73,16 +73,16 @@ InOpenings f = (r : Rules) (m : Match) (S : Colour) (p : Phase) → is_opening p
     ≡ []
 
 -- where a line of S gives S something to send, the other is sent none of these
-abbrev TellsNone : {A : Type 0} → (SentLine → List A) → Rules → Colour → Match → Match → Type 0
-TellsNone f r S m m' = is_on m'.phase ≡ true → 0 < length (block r m m' S) → now f r (other S) m m' ≡ []
+abbrev SendsNone : {A : Type 0} → (SentLine → List A) → Rules → Colour → Match → Match → Type 0
+SendsNone f r S m m' = is_on m'.phase ≡ true → 0 < length (block r m m' S) → now f r (other S) m m' ≡ []
 
-same_tells_none : {A : Type 0} (f : SentLine → List A) (r : Rules) (S : Colour) (m m' : Match) → m'.phase ≡ m.phase
-    → reads m.phase S ≡ true → TellsNone f r S m m'
-same_tells_none f r S m m' e here on some = rw (e, reads_stays m.phase S here) refl
+same_sends_none : {A : Type 0} (f : SentLine → List A) (r : Rules) (S : Colour) (m m' : Match) → m'.phase ≡ m.phase
+    → reads m.phase S ≡ true → SendsNone f r S m m'
+same_sends_none f r S m m' e here on some = rw (e, reads_stays m.phase S here) refl
 
-quiet_tells_none : {A : Type 0} (f : SentLine → List A) (r : Rules) (S : Colour) (m m' : Match) → InOpenings f
-    → is_opening m'.phase ≡ false → TellsNone f r S m m'
-quiet_tells_none f r S m m' i e on some =
+quiet_sends_none : {A : Type 0} (f : SentLine → List A) (r : Rules) (S : Colour) (m m' : Match) → InOpenings f
+    → is_opening m'.phase ≡ false → SendsNone f r S m m'
+quiet_sends_none f r S m m' i e on some =
     if_nil (is_same_phase m.phase m'.phase) (flat_map f (lines_on_entering r m' (other S))) (i r m' (other S) m'.phase e)
 
 opening_apart : (r : Rules) (S c : Colour) (m : Match) → same_colour c S ≡ false → is_same_phase m.phase (SendTurn c)
@@ -94,52 +94,52 @@ sends_nothing [] e some = absurd (omega (arith, some))
 sends_nothing (x ∷ xs) e some = cc
 
 -- of an opening: it is the other's, and S is sent nothing; or it is of S, and the other is sent nothing
-opens_tells_none : {A : Type 0} (f : SentLine → List A) (r : Rules) (S c : Colour) (m : Match)
-    → is_same_phase m.phase (SendTurn c) ≡ false → TellsNone f r S m (open_turn c m)
-opens_tells_none f r White White m out on some = rw out refl
-opens_tells_none f r Black Black m out on some = rw out refl
-opens_tells_none f r White Black m out on some =
+opens_sends_none : {A : Type 0} (f : SentLine → List A) (r : Rules) (S c : Colour) (m : Match)
+    → is_same_phase m.phase (SendTurn c) ≡ false → SendsNone f r S m (open_turn c m)
+opens_sends_none f r White White m out on some = rw out refl
+opens_sends_none f r Black Black m out on some = rw out refl
+opens_sends_none f r White Black m out on some =
     sends_nothing (block r m (open_turn Black m) White) (opening_apart r White Black m refl out) some
-opens_tells_none f r Black White m out on some =
+opens_sends_none f r Black White m out on some =
     sends_nothing (block r m (open_turn White m) Black) (opening_apart r Black White m refl out) some
 
 plays_none : {A : Type 0} (f : SentLine → List A) (r : Rules) (S : Colour) (move : Move) (used : ℕ) (m : Match)
-    → InOpenings f → TellsNone f r S m (played_by S move used m)
-plays_none f r White move used m i = quiet_tells_none f r White m (played_by White move used m) i refl
-plays_none f r Black move used m i = quiet_tells_none f r Black m (played_by Black move used m) i refl
+    → InOpenings f → SendsNone f r S m (played_by S move used m)
+plays_none f r White move used m i = quiet_sends_none f r White m (played_by White move used m) i refl
+plays_none f r Black move used m i = quiet_sends_none f r Black m (played_by Black move used m) i refl
 
 offers_none : {A : Type 0} (f : SentLine → List A) (r : Rules) (S : Colour) (m : Match) → reads m.phase S ≡ true
-    → TellsNone f r S m (offered S m)
-offers_none f r White m here = same_tells_none f r White m (offered White m) refl here
-offers_none f r Black m here = same_tells_none f r Black m (offered Black m) refl here
+    → SendsNone f r S m (offered S m)
+offers_none f r White m here = same_sends_none f r White m (offered White m) refl here
+offers_none f r Black m here = same_sends_none f r Black m (offered Black m) refl here
 
 lines_none : {A : Type 0} (f : SentLine → List A) (r : Rules) (S : Colour) (kind : LineKind) (moment : ℕ) (m : Match)
     → InOpenings f → reads m.phase S ≡ true
-    → Lines r S kind moment m (λ m'. TellsNone f r S m m')
+    → Lines r S kind moment m (λ m'. SendsNone f r S m m')
 lines_none f r S kind moment m i here = record {
   handshake_ends = λ p d on some. not_on on;
-  handshake_counts = λ p d few. same_tells_none f r S m
+  handshake_counts = λ p d few. same_sends_none f r S m
       (let m' = take_items S (items_of_line kind) m in record m' { count = m.count + 1 }) (hear_phase S (items_of_line kind) m)
       here;
-  handshake_next = λ p s d. quiet_tells_none f r S m _ i refl;
+  handshake_next = λ p s d. quiet_sends_none f r S m _ i refl;
   handshake_judged = λ p s d c x on some. not_on on;
-  handshake_done = λ p s d. quiet_tells_none f r S m _ i refl;
+  handshake_done = λ p s d. quiet_sends_none f r S m _ i refl;
   setup_ends = λ p reason n on some. not_on on;
-  setup_counts = λ p pong few. same_tells_none f r S m (record m { count = m.count + 1 }) refl here;
-  setup_next = λ p s pong. quiet_tells_none f r S m _ i refl;
-  setup_done = λ p s pong. opens_tells_none f r S r.first m (rw p refl);
+  setup_counts = λ p pong few. same_sends_none f r S m (record m { count = m.count + 1 }) refl here;
+  setup_next = λ p s pong. quiet_sends_none f r S m _ i refl;
+  setup_done = λ p s pong. opens_sends_none f r S r.first m (rw p refl);
   before = λ p. record {
     row = row;
     plays = λ text move is reading room timely. plays_none f r S move (moment - m.opened) m i;
     decides = λ text move v is reading room timely on some. not_on on;
   };
-  behind = λ p. record { row = row; passes = λ none. opens_tells_none f r S (other S) m (rw p refl) };
+  behind = λ p. record { row = row; passes = λ none. opens_sends_none f r S (other S) m (rw p refl) };
 }
   where
-    row : InTurn r S kind m (λ m'. TellsNone f r S m m')
+    row : InTurn r S kind m (λ m'. SendsNone f r S m m')
     row = record {
       ends = λ reason n on some. not_on on;
-      counts = λ none few. same_tells_none f r S m (record m { count = m.count + 1 }) refl here;
+      counts = λ none few. same_sends_none f r S m (record m { count = m.count + 1 }) refl here;
       offers = λ none own theirs. offers_none f r S m here;
     }
 
@@ -167,7 +167,7 @@ unsent f r S i due m (Line c t n) (FailsToWrite d ∷ T) fits h =
         let same : c ≡ d = same_colour-true c d (and_first (same_colour c d) _ h) in
         let apart : S ≡ other d = other_is d S (not-true (same_colour d S) (and_second (same_colour c d) _ h)) in
         let is : S ≡ other c = apart ∙ ap other (sym same) in
-        rw is (line_outcome r c (line_kind t) n m (λ m''. TellsNone f r c m m'') here
+        rw is (line_outcome r c (line_kind t) n m (λ m''. SendsNone f r c m m'') here
         (lines_none f r c (line_kind t) n m i here)
         (and_first (is_on (match_after r m (Line c t n)).phase) _ g)
         (rw same (ltb-true 0 (length (block r m (match_after r m (Line c t n)) d))

@@ -95,19 +95,19 @@ is_of : (r : Rules) (T U : List Event) (reason : Reason) (failed : Colour → Bo
     → IsTranscript r U reason failed w w' coming coming' → ShowsAll w w' coming
     → ((S : Colour) → ReadFrom S U (w.reader S) (w'.reader S) (given S))
     → ((S : Colour) → has_fault Read S T ≡ has_fault Read S U) → IsOf (given_by T given coming) U
-is_of r T U reason failed w w' coming coming' given i t heard same = record {
-  lines = λ S. (heard S).lines;
-  ends = λ S h. (((heard S).at_end h).0, same S ∙ no_failure r S (lines_on_entering r start) start U i.fitting h);
-  failures = λ S h. ((heard S).at_failure h, same S ∙ h);
+is_of r T U reason failed w w' coming coming' given i t outputs same = record {
+  lines = λ S. (outputs S).lines;
+  ends = λ S h. (((outputs S).at_end h).0, same S ∙ no_failure r S (lines_on_entering r start) start U i.fitting h);
+  failures = λ S h. ((outputs S).at_failure h, same S ∙ h);
   moments = λ n h. told_moment (coming n) (slice_get (moments_of U) n) (t.moments n) (i.moments.known n h);
   writes = λ S. none_written (failed S) (has_fault Write S U)
       (none_failed (failed S) (w.writer S) (w'.writer S) (blocks r S U) (t.writes S) (t.quiet S) (i.written S))
       (i.failing S);
 }
 
-heard_alike : (S : Colour) (T U : List Event) (old new : InputState) (a b : List ℕ) → is_some old.known_bytes ≡ true
+outputs_alike : (S : Colour) (T U : List Event) (old new : InputState) (a b : List ℕ) → is_some old.known_bytes ≡ true
     → ReadFrom S T old new a → ReadFrom S U old new b → ReadFrom S U old new a
-heard_alike S T U old new a b known h k =
+outputs_alike S T U old new a b known h k =
     subst (λ (given : List ℕ). ReadFrom S U old new given)
     (sym (one_given old.known_bytes new.known_bytes a b known h.bytes k.bytes)) k
 
@@ -119,7 +119,7 @@ only_one_of_a_run r T U reason reason' failed failed' w w' coming coming' i j t 
     only_one r (given_by T (λ S. (i.read S).0) coming) T U i.fitting j.fitting (has_ended i.ending) (has_ended j.ending)
     (is_of r T T reason failed w w' coming coming' (λ S. (i.read S).0) i t (λ S. (i.read S).1) (λ S. refl))
     (is_of r T U reason' failed' w w' coming coming' (λ S. (i.read S).0) j t
-    (λ S. heard_alike S T U (w.reader S) (w'.reader S) (i.read S).0 (j.read S).0 (t.bytes S)
+    (λ S. outputs_alike S T U (w.reader S) (w'.reader S) (i.read S).0 (j.read S).0 (t.bytes S)
     (i.read S).1 (j.read S).1)
     (λ S. one_rise (w.reader S).failure_count (w'.reader S).failure_count (has_fault Read S T)
     (has_fault Read S U) (t.reads S) (i.read S).1.failures (j.read S).1.failures))

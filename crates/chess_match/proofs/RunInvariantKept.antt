@@ -9,7 +9,7 @@ use Rattle.chess_base.specs.Men.{other, same_colour}
 use Rattle.chess_base.proofs.MenFacts.{same_colour-true}
 use Rattle.text_lines.specs.Lines.{Held, nothing_held}
 use Rattle.chess_match.specs.ties.Delivering.{AllSent, OneFailed, Delivered, first_in}
-use Rattle.chess_match.proofs.Hearing.{Hearing, HearsAt, is_heard_of}
+use Rattle.chess_match.proofs.EngineOutput.{OutputSoFar, OutputAt, is_of_output}
 use Rattle.chess_match.specs.Match.{Match, Event, Line, Opened, OutputEnds, FailsToRead, FailsToWrite, start, match_after}
 use Rattle.chess_match.specs.Notes.{Noted, WasNoted, Happened, both_notes, first_sent, notes_of}
 use Rattle.chess_match.specs.Rules.{Rules}
@@ -19,14 +19,14 @@ use Rattle.chess_match.specs.ties.Represents.{Represents, Goes, given_block, not
 use Rattle.chess_match.specs.ties.Steps.{IsSane}
 use Rattle.chess_match.specs.ties.Reported.{SendsIf}
 use Rattle.chess_match.specs.Transcript.{match_of, fits_next, is_on, opens, blocks, blocks_from, joined_blocks, lines_of_engine, moments_of, moment_in, has_fault, is_fault}
-use Rattle.chess_match.proofs.UnderWay.{IsHearing, HeardSoFar, IsUnderWay}
+use Rattle.chess_match.proofs.RunInvariant.{IsStillRead, ReadSoFar, IsUnderWay}
 use Rattle.chess_match.specs.declared.phase.Phase.{Phase}
 use Rattle.chess_match.specs.declared.phase.Phase.TheVariants.{Handshake, Setup, SendTurn, AwaitMove, AwaitPong, Over}
 use Rattle.chess_match.specs.declared.state.MatchState.{MatchState}
 use Rattle.chess_match.proofs.Flushes.{flushed_none, flushed_more}
-use Rattle.chess_match.proofs.HeardOn.{is_stop, heard_still, heard_more, not_both}
-use Rattle.chess_match.proofs.Hears.{hearing_start}
-use Rattle.chess_match.proofs.Runs.{is_sound, match_of-append, IsTail, no_tail, failed_tail, moments_more, has_fault-append, fits-append, nothing_due, blocks-append, block_alone, sent_more, written_more, all_sent, asked_none, asked_more}
+use Rattle.chess_match.proofs.OutputByEvents.{is_stop, still_read, output_longer, not_both}
+use Rattle.chess_match.proofs.OutputByCalls.{output_start}
+use Rattle.chess_match.proofs.LongerTranscripts.{is_sound, match_of-append, IsTail, no_tail, failed_tail, moments_more, has_fault-append, fits-append, nothing_due, blocks-append, block_alone, sent_more, written_more, all_sent, asked_none, asked_more}
 use Rattle.chess_match.proofs.Notings.{noted_none, noted_more, noted_as, noted_on, noted_broken, noted_start, noted_start_broken, both_by, broken_by}
 use Rattle.chess_match.proofs.Sane.{sane_start, sane_over, sane_opened}
 use Rattle.chess_match.specs.declared.reason.MatchFault.TheVariants.{Ended, Read, Write}
@@ -48,10 +48,10 @@ sound_write S (FailsToWrite c) h = absurd cc
 
 -- what was read of S, one event more
 so_far_on : (S : Colour) (T : List Event) (e : Event) (U : List Event) (on on' : Bool) (r r' r'' : InputState)
-    (h h' : Held) → IsTail U → on ≡ true → (is_stop e ≡ true → on' ≡ false) → HearsAt S e r' r'' h h'
-    → HeardSoFar S T on r r' h → HeardSoFar S (T ++ e ∷ U) on' r r'' h'
-so_far_on S T e U on on' r r' r'' h h' t is stop hears s =
-    heard_more S T e U on' r r' r'' h h' s.0 t stop hears (s.2 is)
+    (h h' : Held) → IsTail U → on ≡ true → (is_stop e ≡ true → on' ≡ false) → OutputAt S e r' r'' h h'
+    → ReadSoFar S T on r r' h → ReadSoFar S (T ++ e ∷ U) on' r r'' h'
+so_far_on S T e U on on' r r' r'' h h' t is stop came s =
+    output_longer S T e U on' r r' r'' h h' s.0 t stop came (s.2 is)
 
 -- no write had failed
 no_failure_yet : (S : Colour) (T U : List Event) (failed failed' : Bool) → failed ≡ false
@@ -74,21 +74,21 @@ pub all_step : (r : Rules) (T : List Event) (e : Event) (core core' : MatchState
     → WasNoted notes' between (Happened e ∷ [])
     → is_on (match_of r T).phase ≡ true → is_sound e ≡ true → fits_next nothing_due (match_of r T) e ≡ true
     → IsSane r (match_after r (match_of r T) e)
-    → ((S : Colour) → HearsAt S e (n' S) (n'' S) (held S) (held' S)) → ReadsClock coming' coming'' (moment_in e)
+    → ((S : Colour) → OutputAt S e (n' S) (n'' S) (held S) (held' S)) → ReadsClock coming' coming'' (moment_in e)
     → AllSent r core' played' (match_after r (match_of r T) e) (λ S. block r (match_of r T) (match_after r (match_of r T) e) S)
     first w' w'' failed' between notes''
     → IsUnderWay r (T ++ e ∷ []) core' played' failed' n n'' held' w w'' coming coming'' notes notes''
 all_step r T e core core' played played' failed failed' n n' n'' held held' w w' w'' coming coming' coming'' notes
-    notes' between notes'' first turn u line on sound fit sane hears asked all =
+    notes' between notes'' first turn u line on sound fit sane came asked all =
     let due : Colour → List SentLine = λ S. block r (match_of r T) (match_after r (match_of r T) e) S in
     let now : match_of r (T ++ e ∷ []) ≡ match_after r (match_of r T) e = match_of-append r T (e ∷ []) in
     record {
       fitting = fits-append r T e [] sound u.fitting (ap (λ b. b && true) fit);
       stands = subst (λ (x : Match). Represents r core' played' x) (sym now) all.stands;
       sane = subst (λ (x : Match). IsSane r x) (sym now) sane;
-      heard = λ S. subst (λ (x : Match). HeardSoFar S (T ++ e ∷ []) (is_on x.phase) (n S) (n'' S) (held' S)) (sym now)
+      outputs = λ S. subst (λ (x : Match). ReadSoFar S (T ++ e ∷ []) (is_on x.phase) (n S) (n'' S) (held' S)) (sym now)
           (so_far_on S T e [] (is_on (match_of r T).phase) (is_on (match_after r (match_of r T) e).phase) (n S) (n' S) (n'' S)
-          (held S) (held' S) no_tail on (stopped r (match_of r T) e) (hears S) (u.heard S));
+          (held S) (held' S) no_tail on (stopped r (match_of r T) e) (came S) (u.outputs S));
       written = λ S. subst (λ (bs : List (List SentLine)). Written (failed' S) (w S) (w'' S) bs)
           (sym (blocks-append r S T e [] sound ∙ ap (λ (bs : List (List SentLine)). blocks r S T ++ bs)
           (block_alone r S (match_of r T) e sound)))
@@ -185,13 +185,13 @@ pub failed_step : (r : Rules) (T : List Event) (d : Colour) (text : Option (List
     → WasNoted notes' between (Happened (Line d text k) ∷ [])
     → is_on (match_of r T).phase ≡ true → fits_next nothing_due (match_of r T) (Line d text k) ≡ true
     → IsSane r (match_after r (match_of r T) (Line d text k))
-    → ((S : Colour) → HearsAt S (Line d text k) (n' S) (n'' S) (held S) (held' S)) → ReadsClock coming' coming'' (k ∷ [])
+    → ((S : Colour) → OutputAt S (Line d text k) (n' S) (n'' S) (held S) (held' S)) → ReadsClock coming' coming'' (k ∷ [])
     → OneFailed r core' played' (match_after r (match_of r T) (Line d text k))
     (λ S. block r (match_of r T) (match_after r (match_of r T) (Line d text k)) S) d w' w'' failed' between notes'' c
     → IsUnderWay r (T ++ Line d text k ∷ FailsToWrite c ∷ []) core' played' failed' n n'' held' w w'' coming coming''
     notes notes''
 failed_step r T d text k core core' played played' failed failed' n n' n'' held held' w w' w'' coming coming' coming''
-    notes notes' between notes'' c u line on fit sane hears asked one =
+    notes notes' between notes'' c u line on fit sane came asked one =
     let e : Event = Line d text k in
     let m : Match = match_of r T in
     let U : List Event = FailsToWrite c ∷ [] in
@@ -203,9 +203,9 @@ failed_step r T d text k core core' played played' failed failed' n n' n'' held 
           ∙ ap (λ b. b && true) (lt-ltb 0 (length (block r m (match_after r m e) c)) one.some));
       stands = subst (λ (x : Match). Represents r core' played' x) (sym now) one.stands;
       sane = subst (λ (x : Match). IsSane r x) (sym now) (sane_over r (match_after r m e) _ sane);
-      heard = λ S. subst (λ (x : Match). HeardSoFar S (T ++ e ∷ U) (is_on x.phase) (n S) (n'' S) (held' S)) (sym now)
+      outputs = λ S. subst (λ (x : Match). ReadSoFar S (T ++ e ∷ U) (is_on x.phase) (n S) (n'' S) (held' S)) (sym now)
           (so_far_on S T e U (is_on m.phase) false (n S) (n' S) (n'' S) (held S) (held' S) (failed_tail c) on
-          (λ h. refl) (hears S) (u.heard S));
+          (λ h. refl) (came S) (u.outputs S));
       written = λ S. subst (λ (bs : List (List SentLine)). Written (failed' S) (w S) (w'' S) bs)
           (sym (blocks-append r S T e U refl))
           (by_either (λ X. Written (failed' X) (w X) (w'' X) (blocks r X T ++ blocks_from r X m (e ∷ U))) c
@@ -270,17 +270,17 @@ delivered_by r core played m due due' first w w' failed notes notes' e (inr (c, 
 
 -- ---- the start
 
-just_heard : (S : Colour) (T : List Event) (on : Bool) (r : InputState) (h : Held) → h ≡ nothing_held
-    → lines_of_engine S T ≡ [] → has_fault Ended S T ≡ false → has_fault Read S T ≡ false → HeardSoFar S T on r r h
-just_heard S T on r h none l e f =
-    let s : IsHearing S T r r nothing_held [] =
+just_begun : (S : Colour) (T : List Event) (on : Bool) (r : InputState) (h : Held) → h ≡ nothing_held
+    → lines_of_engine S T ≡ [] → has_fault Ended S T ≡ false → has_fault Read S T ≡ false → ReadSoFar S T on r r h
+just_begun S T on r h none l e f =
+    let s : IsStillRead S T r r nothing_held [] =
     record {
-      hearing = subst (λ (ts : List (Option (List ℕ))). Hearing r r nothing_held [] ts) (sym l)
-          (hearing_start r);
+      output = subst (λ (ts : List (Option (List ℕ))). OutputSoFar r r nothing_held [] ts) (sym l)
+          (output_start r);
       unended = e;
       unfailed = f;
     } in
-    subst (λ (x : Held). HeardSoFar S T on r r x) (sym none) ([], heard_still S T r r nothing_held [] s, λ o. s)
+    subst (λ (x : Held). ReadSoFar S T on r r x) (sym none) ([], still_read S T r r nothing_held [] s, λ o. s)
 
 first_block : (f : Bool) (w w' : OutputState) (b : List SentLine) → SendsIf f w w' (bytes_of b)
     → Written f w w' (b ∷ [])
@@ -296,7 +296,7 @@ all_started r core played failed n held w w' coming notes notes' none s = record
   fitting = refl;
   stands = s.stands;
   sane = sane_start r;
-  heard = λ S. just_heard S [] true (n S) (held S) (none S) refl refl refl;
+  outputs = λ S. just_begun S [] true (n S) (held S) (none S) refl refl refl;
   written = λ S. first_block (failed S) (w S) (w' S) (lines_on_entering r start S) (s.puts S);
   fine = s.fine;
   failing = λ S h. absurd cc;
@@ -323,7 +323,7 @@ one_started r core played failed n held w w' coming notes notes' White none s = 
   fitting = ap (λ b. b && true) (lt-ltb 0 (length (lines_on_entering r start White)) s.some);
   stands = s.stands;
   sane = sane_over r start _ (sane_start r);
-  heard = λ S. just_heard S (FailsToWrite White ∷ []) false (n S) (held S) (none S) refl refl refl;
+  outputs = λ S. just_begun S (FailsToWrite White ∷ []) false (n S) (held S) (none S) refl refl refl;
   written = λ S. by_either (λ X. Written (failed X) (w X) (w' X) (blocks r X (FailsToWrite White ∷ []))) White
       (broken_start (failed White) (w White) (w' White) (lines_on_entering r start White) s.fails s.broke)
       (other_start r (failed Black) (w Black) (w' Black) _ s.others) S;
@@ -358,50 +358,50 @@ pub event_step : (r : Rules) (T : List Event) (e : Event) (d : Colour) (core cor
     (notes notes' between notes'' : Noted)
     → IsUnderWay r T core played failed n n' held w w' coming coming' notes notes'
     → WasNoted notes' between (Happened e ∷ [])
-    → is_heard_of d e ≡ true → is_on (match_of r T).phase ≡ true → fits_next nothing_due (match_of r T) e ≡ true
+    → is_of_output d e ≡ true → is_on (match_of r T).phase ≡ true → fits_next nothing_due (match_of r T) e ≡ true
     → IsSane r (match_after r (match_of r T) e)
-    → ((S : Colour) → HearsAt S e (n' S) (n'' S) (held S) (held' S)) → ReadsClock coming' coming'' (moment_in e)
+    → ((S : Colour) → OutputAt S e (n' S) (n'' S) (held S) (held' S)) → ReadsClock coming' coming'' (moment_in e)
     → Delivered r core' played' (match_after r (match_of r T) e) (λ S. block r (match_of r T) (match_after r (match_of r T) e) S) d
     w' w'' failed' between notes''
     → (T' : List Event) × IsUnderWay r T' core' played' failed' n n'' held' w w'' coming coming'' notes notes''
 event_step r T (Line c text k) d core core' played played' failed failed' n n' n'' held held' w w' w'' coming coming'
-    coming'' notes notes' between notes'' u line is on fit sane hears asked (inl s) = (
+    coming'' notes notes' between notes'' u line is on fit sane came asked (inl s) = (
       T ++ Line c text k ∷ [],
       all_step r T (Line c text k) core core' played played' failed failed' n n' n'' held held'
-          w w' w'' coming coming' coming'' notes notes' between notes'' c refl u line on refl fit sane hears asked
+          w w' w'' coming coming' coming'' notes notes' between notes'' c refl u line on refl fit sane came asked
           (sent_by r _ _ _ _ d c _ _ _ _ _ (same_colour-true c d is) s),
     )
 event_step r T (OutputEnds c) d core core' played played' failed failed' n n' n'' held held' w w' w'' coming coming'
-    coming'' notes notes' between notes'' u line is on fit sane hears asked (inl s) = (
+    coming'' notes notes' between notes'' u line is on fit sane came asked (inl s) = (
       T ++ OutputEnds c ∷ [],
       all_step r T (OutputEnds c) core core' played played' failed failed' n n' n'' held held' w
-          w' w'' coming coming' coming'' notes notes' between notes'' c refl u line on refl fit sane hears asked
+          w' w'' coming coming' coming'' notes notes' between notes'' c refl u line on refl fit sane came asked
           (sent_by r _ _ _ _ d c _ _ _ _ _ (same_colour-true c d is) s),
     )
 event_step r T (FailsToRead c) d core core' played played' failed failed' n n' n'' held held' w w' w'' coming coming'
-    coming'' notes notes' between notes'' u line is on fit sane hears asked (inl s) = (
+    coming'' notes notes' between notes'' u line is on fit sane came asked (inl s) = (
       T ++ FailsToRead c ∷ [],
       all_step r T (FailsToRead c) core core' played played' failed failed' n n' n'' held held'
-          w w' w'' coming coming' coming'' notes notes' between notes'' c refl u line on refl fit sane hears asked
+          w w' w'' coming coming' coming'' notes notes' between notes'' c refl u line on refl fit sane came asked
           (sent_by r _ _ _ _ d c _ _ _ _ _ (same_colour-true c d is) s),
     )
 event_step r T (Line c text k) d core core' played played' failed failed' n n' n'' held held' w w' w'' coming coming'
-    coming'' notes notes' between notes'' u line is on fit sane hears asked (inr (x, s)) = (
+    coming'' notes notes' between notes'' u line is on fit sane came asked (inr (x, s)) = (
       T ++ Line c text k ∷ FailsToWrite x ∷ [],
       failed_step r T c text k core core' played played' failed failed' n n' n'' held held' w w' w''
-          coming coming' coming'' notes notes' between notes'' x u line on fit sane hears asked
+          coming coming' coming'' notes notes' between notes'' x u line on fit sane came asked
           (subst (λ (y : Colour). OneFailed r core' played' (match_after r (match_of r T) (Line c text k))
           (λ S. block r (match_of r T) (match_after r (match_of r T) (Line c text k)) S) y w' w'' failed' between notes'' x)
           (sym (same_colour-true c d is)) s),
     )
 event_step r T (OutputEnds c) d core core' played played' failed failed' n n' n'' held held' w w' w'' coming coming'
-    coming'' notes notes' between notes'' u line is on fit sane hears asked (inr (x, s)) = let no : false ≡ true = s.on in absurd cc
+    coming'' notes notes' between notes'' u line is on fit sane came asked (inr (x, s)) = let no : false ≡ true = s.on in absurd cc
 event_step r T (FailsToRead c) d core core' played played' failed failed' n n' n'' held held' w w' w'' coming coming'
-    coming'' notes notes' between notes'' u line is on fit sane hears asked (inr (x, s)) = let no : false ≡ true = s.on in absurd cc
+    coming'' notes notes' between notes'' u line is on fit sane came asked (inr (x, s)) = let no : false ≡ true = s.on in absurd cc
 event_step r T (Opened c k) d core core' played played' failed failed' n n' n'' held held' w w' w'' coming coming'
-    coming'' notes notes' between notes'' u line is on fit sane hears asked s = absurd cc
+    coming'' notes notes' between notes'' u line is on fit sane came asked s = absurd cc
 event_step r T (FailsToWrite c) d core core' played played' failed failed' n n' n'' held held' w w' w'' coming coming'
-    coming'' notes notes' between notes'' u line is on fit sane hears asked s = absurd cc
+    coming'' notes notes' between notes'' u line is on fit sane came asked s = absurd cc
 
 -- ---- the moment at the end of an opening
 

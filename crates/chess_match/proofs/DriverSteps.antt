@@ -12,7 +12,7 @@ use Rattle.chess_game.specs.Game as game
 use Rattle.chess_game.specs.Game.{from_start}
 use Rattle.chess_match.specs.ties.Chess.{Plays}
 use Rattle.chess_match.specs.ties.Delivering.{Delivered, event_read}
-use Rattle.chess_match.proofs.Hearing.{HearsAt}
+use Rattle.chess_match.proofs.EngineOutput.{OutputAt}
 use Rattle.cecp_engine.specs.Levels.{LevelSeen}
 use Rattle.chess_match.specs.Match.{Match, Event, start, match_after}
 use Rattle.chess_match.specs.Notes.{Noted, WasNoted, Happened}
@@ -21,13 +21,13 @@ use Rattle.chess_match.specs.Run.{ReadsClock}
 use Rattle.chess_match.specs.Sent.{block, lines_on_entering}
 use Rattle.chess_match.specs.ties.Represents.{given_block, nothing_said}
 use Rattle.chess_match.specs.Transcript.{match_of, reads, opens, moment_in}
-use Rattle.chess_match.proofs.UnderWay.{IsUnderWay, steps_left}
+use Rattle.chess_match.proofs.RunInvariant.{IsUnderWay, steps_left}
 use Rattle.chess_match.specs.declared.phase.Phase.{Phase}
 use Rattle.chess_match.specs.declared.phase.Phase.TheVariants.{AwaitMove}
 use Rattle.chess_match.specs.declared.state.MatchState.{MatchState}
 use Rattle.chess_match.proofs.Going.{reads_on}
-use Rattle.chess_match.proofs.LinesRead.{heard_of, heard_of_none, heard_fits, heard_sane, own_hears, others_hear_none, opened_less}
-use Rattle.chess_match.proofs.UnderWays.{by_either, delivered_by, started, event_step}
+use Rattle.chess_match.proofs.LinesRead.{event_of, event_of_none, event_fits, event_sane, own_output_at, no_output_of_others, opened_less}
+use Rattle.chess_match.proofs.RunInvariantKept.{by_either, delivered_by, started, event_step}
 use Rattle.chess_match.specs.declared.run.TheConstants.{ENGINE_LINE_LEN}
 
 -- ---- the start
@@ -69,7 +69,7 @@ begun r core played failed n held w w' coming notes notes' none d =
 
 -- ---- a line, an end, or a read that failed
 
-pub heard_on : {E : Type 0} (r : Rules) (T : List Event) (S : Colour) (moment : ℕ) (result : Result (Option LineSeen) E)
+pub event_on : {E : Type 0} (r : Rules) (T : List Event) (S : Colour) (moment : ℕ) (result : Result (Option LineSeen) E)
     (core core' : MatchState) (played played' : List Move) (failed failed' : Colour → Bool) (n n' n'' : Colour → InputState)
     (held held' : Colour → Held)
     (w w' w'' : Colour → OutputState) (coming coming' coming'' : ℕ → Option ℕ)
@@ -83,19 +83,19 @@ pub heard_on : {E : Type 0} (r : Rules) (T : List Event) (S : Colour) (moment : 
     (block r (match_of r T) (match_after r (match_of r T) (event_read S moment result))) S w' w'' failed'
     between notes''
     → (T' : List Event) × IsUnderWay r T' core' played' failed' n n'' held' w w'' coming coming'' notes notes''
-heard_on r T S moment result core core' played played' failed failed' n n' n'' held held' w w' w'' coming coming'
+event_on r T S moment result core core' played played' failed failed' n n' n'' held held' w w' w'' coming coming'
     coming'' notes notes' between notes'' u reading next same kept asked line d =
     let e : Event = event_read S moment result in
     let m : Match = match_of r T in
     let reading' : reads m.phase S ≡ true = ap (λ (p : Phase). reads p S) (sym u.stands.phase) ∙ reading in
     event_step r T e S core core' played played' failed failed' n n' n'' held held' w w' w'' coming coming' coming''
     notes notes' between notes'' u line
-    (heard_of S moment result) (reads_on m.phase S reading')
-    (heard_fits m S moment result reading') (heard_sane r m S moment result u.sane)
-    (by_either (λ X. HearsAt X e (n' X) (n'' X) (held X) (held' X)) S
-    (own_hears S moment (n' S) (n'' S) (held S) (held' S) result next)
-    (others_hear_none (other S) e (n' (other S)) (n'' (other S)) (held (other S)) (held' (other S))
-    (heard_of_none S moment result) same kept))
+    (event_of S moment result) (reads_on m.phase S reading')
+    (event_fits m S moment result reading') (event_sane r m S moment result u.sane)
+    (by_either (λ X. OutputAt X e (n' X) (n'' X) (held X) (held' X)) S
+    (own_output_at S moment (n' S) (n'' S) (held S) (held' S) result next)
+    (no_output_of_others (other S) e (n' (other S)) (n'' (other S)) (held (other S)) (held' (other S))
+    (event_of_none S moment result) same kept))
     asked d
 
 -- ---- what is left to do

@@ -4,7 +4,7 @@ use Rattle.chess_base.specs.declared.man.Colour.{Colour}
 use Rattle.chess_base.specs.declared.man.Move.{Move}
 use Rattle.byte_devices.specs.Devices.{InputState, OutputState}
 use Rattle.text_lines.specs.Lines.{Held}
-use Rattle.chess_match.proofs.Hearing.{Hearing}
+use Rattle.chess_match.proofs.EngineOutput.{OutputSoFar}
 use Rattle.chess_match.specs.Match.{Event}
 use Rattle.chess_match.specs.Notes.{Noted, WasNoted, notes_of}
 use Rattle.chess_match.specs.Rules.{Rules}
@@ -18,14 +18,14 @@ use Rattle.chess_match.specs.declared.state.MatchState.{MatchState}
 use Rattle.chess_match.specs.declared.reason.MatchFault.TheVariants.{Ended, Read, Write}
 
 -- S's engine is still read
-pub record IsHearing (S : Colour) (T : List Event) (r r' : InputState) (held : Held) (given : List ℕ) : Type 0 where
-  pub hearing : Hearing r r' held given (lines_of_engine S T)
+pub record IsStillRead (S : Colour) (T : List Event) (r r' : InputState) (held : Held) (given : List ℕ) : Type 0 where
+  pub output : OutputSoFar r r' held given (lines_of_engine S T)
   pub unended : has_fault Ended S T ≡ false
   pub unfailed : has_fault Read S T ≡ false
 
 -- these bytes came from S's engine, and while the match is on it is still read
-abbrev pub HeardSoFar : Colour → List Event → Bool → InputState → InputState → Held → Type 0
-HeardSoFar S T on r r' held = (given : List ℕ) × ReadFrom S T r r' given × (on ≡ true → IsHearing S T r r' held given)
+abbrev pub ReadSoFar : Colour → List Event → Bool → InputState → InputState → Held → Type 0
+ReadSoFar S T on r r' held = (given : List ℕ) × ReadFrom S T r r' given × (on ≡ true → IsStillRead S T r r' held given)
 
 -- core, game, devices and witness agree with the transcript T
 pub record IsUnderWay (r : Rules) (T : List Event) (core : MatchState) (played : List Move) (failed : Colour → Bool)
@@ -34,7 +34,7 @@ pub record IsUnderWay (r : Rules) (T : List Event) (core : MatchState) (played :
   pub fitting : fits r T ≡ true
   pub stands : Represents r core played (match_of r T)
   pub sane : IsSane r (match_of r T)
-  pub heard : (S : Colour) → HeardSoFar S T (is_on (match_of r T).phase) (n S) (n' S) (held S)
+  pub outputs : (S : Colour) → ReadSoFar S T (is_on (match_of r T).phase) (n S) (n' S) (held S)
   pub written : (S : Colour) → Written (failed S) (w S) (w' S) (blocks r S T)
   pub fine : is_on (match_of r T).phase ≡ true → (S : Colour) → failed S ≡ false
   pub failing : (S : Colour) → has_fault Write S T ≡ true → failed S ≡ true
