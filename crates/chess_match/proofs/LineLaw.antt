@@ -54,33 +54,33 @@ at_most_one false = omega arith
 
 -- one line more
 
-heard_ends : (r : Rules) (k : ℕ) (S : Colour) (items : List Item) (reason : Reason) (m : Match) → FewIn r k (Handshake S) m
+few_at_end : (r : Rules) (k : ℕ) (S : Colour) (items : List Item) (reason : Reason) (m : Match) → FewIn r k (Handshake S) m
     → Few r (k + 1) (over reason (take_items S items m))
-heard_ends r k White items reason m w = omega (arith, w.0, w.1)
-heard_ends r k Black items reason m w = omega (arith, w.0, w.1)
+few_at_end r k White items reason m w = omega (arith, w.0, w.1)
+few_at_end r k Black items reason m w = omega (arith, w.0, w.1)
 
-heard_counts : (r : Rules) (k : ℕ) (S : Colour) (items : List Item) (m : Match) → m.phase ≡ Handshake S
+few_counted : (r : Rules) (k : ℕ) (S : Colour) (items : List Item) (m : Match) → m.phase ≡ Handshake S
     → FewIn r k (Handshake S) m → m.count + 1 < 1000
     → (let m' = take_items S items m in Few r (k + 1) (record m' { count = m.count + 1 }))
-heard_counts r k White items m e w few = from_phase r (k + 1)
+few_counted r k White items m e w few = from_phase r (k + 1)
     (let m' = take_items White items m in record m' { count = m.count + 1 }) (Handshake White) e (omega (arith, w.0), few, w.2)
-heard_counts r k Black items m e w few = from_phase r (k + 1)
+few_counted r k Black items m e w few = from_phase r (k + 1)
     (let m' = take_items Black items m in record m' { count = m.count + 1 }) (Handshake Black) e (omega (arith, w.0), few, w.2)
 
-heard_next : (r : Rules) (k : ℕ) (S : Colour) (items : List Item) (m : Match) → S ≡ White → FewIn r k (Handshake White) m
+few_at_next : (r : Rules) (k : ℕ) (S : Colour) (items : List Item) (m : Match) → S ≡ White → FewIn r k (Handshake White) m
     → Few r (k + 1) (enter (Handshake Black) (take_items S items m))
-heard_next r k White items m s w = (omega (arith, w.0, w.1), omega arith, w.2)
-heard_next r k Black items m s w = cc
+few_at_next r k White items m s w = (omega (arith, w.0, w.1), omega arith, w.2)
+few_at_next r k Black items m s w = cc
 
-heard_done : (r : Rules) (k : ℕ) (S : Colour) (items : List Item) (m : Match) → S ≡ Black → FewIn r k (Handshake Black) m
+few_at_done : (r : Rules) (k : ℕ) (S : Colour) (items : List Item) (m : Match) → S ≡ Black → FewIn r k (Handshake Black) m
     → Few r (k + 1) (enter (Setup White) (take_items S items m))
-heard_done r k Black items m s w = (omega (arith, w.0, w.1), omega arith, w.2)
-heard_done r k White items m s w = cc
+few_at_done r k Black items m s w = (omega (arith, w.0, w.1), omega arith, w.2)
+few_at_done r k White items m s w = cc
 
-heard_judged : (r : Rules) (k : ℕ) (S : Colour) (items : List Item) (reason : Reason) (m : Match) → S ≡ Black
+few_judged : (r : Rules) (k : ℕ) (S : Colour) (items : List Item) (reason : Reason) (m : Match) → S ≡ Black
     → FewIn r k (Handshake Black) m → Few r (k + 1) (enter (Over reason) (take_items S items m))
-heard_judged r k Black items reason m s w = omega (arith, w.0, w.1)
-heard_judged r k White items reason m s w = cc
+few_judged r k Black items reason m s w = omega (arith, w.0, w.1)
+few_judged r k White items reason m s w = cc
 
 setup_over : (r : Rules) (k : ℕ) (S : Colour) (reason : Reason) (m : Match) → FewIn r k (Setup S) m
     → Few r (k + 1) (over reason m)
@@ -170,11 +170,11 @@ few_over r k reason m w = at m.phase w
 lines : (r : Rules) (k : ℕ) (S : Colour) (kind : LineKind) (moment : ℕ) (m : Match) → Few r k m
     → Lines r S kind moment m (λ m'. Few r (k + 1) m')
 lines r k S kind moment m w = record {
-  handshake_ends = λ p d. heard_ends r k S (items_of_line kind) Agreed m (into_phase r k m (Handshake S) p w);
-  handshake_counts = λ p d few. heard_counts r k S (items_of_line kind) m p (into_phase r k m (Handshake S) p w) few;
-  handshake_next = λ p s d. heard_next r k S (items_of_line kind) m s (into_phase r k m (Handshake White) p w);
-  handshake_judged = λ p s d c x. heard_judged r k S (items_of_line kind) Agreed m s (into_phase r k m (Handshake Black) p w);
-  handshake_done = λ p s d. heard_done r k S (items_of_line kind) m s (into_phase r k m (Handshake Black) p w);
+  handshake_ends = λ p d. few_at_end r k S (items_of_line kind) Agreed m (into_phase r k m (Handshake S) p w);
+  handshake_counts = λ p d few. few_counted r k S (items_of_line kind) m p (into_phase r k m (Handshake S) p w) few;
+  handshake_next = λ p s d. few_at_next r k S (items_of_line kind) m s (into_phase r k m (Handshake White) p w);
+  handshake_judged = λ p s d c x. few_judged r k S (items_of_line kind) Agreed m s (into_phase r k m (Handshake Black) p w);
+  handshake_done = λ p s d. few_at_done r k S (items_of_line kind) m s (into_phase r k m (Handshake Black) p w);
   setup_ends = λ p reason n. setup_over r k S reason m (into_phase r k m (Setup S) p w);
   setup_counts = λ p pong few. setup_more r k S m p (into_phase r k m (Setup S) p w) few;
   setup_next = λ p s pong. setup_next (into_phase r k m (Setup White) p w);

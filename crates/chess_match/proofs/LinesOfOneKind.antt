@@ -22,7 +22,7 @@ use Rattle.chess_match.specs.declared.reason.Reason.TheVariants.{Faulted}
 use Rattle.chess_match.proofs.Blocks.{if_nil, of_block, joined_at}
 use Rattle.chess_match.proofs.MoveLaw.{not_on}
 use Rattle.chess_match.proofs.Outcomes.{Lines, InTurn, line_outcome, and_first, and_second}
-use Rattle.chess_match.proofs.Going.{hear_phase, is_opening, offered, plain_block, reads_stays}
+use Rattle.chess_match.proofs.Going.{items_phase, is_opening, offered, plain_block, reads_stays}
 use Rattle.chess_match.specs.ties.Steps.{match_from}
 
 -- what S is sent of a kind where a match goes from m to m'
@@ -119,7 +119,7 @@ lines_none : {A : Type 0} (f : SentLine → List A) (r : Rules) (S : Colour) (ki
 lines_none f r S kind moment m i here = record {
   handshake_ends = λ p d on some. not_on on;
   handshake_counts = λ p d few. same_sends_none f r S m
-      (let m' = take_items S (items_of_line kind) m in record m' { count = m.count + 1 }) (hear_phase S (items_of_line kind) m)
+      (let m' = take_items S (items_of_line kind) m in record m' { count = m.count + 1 }) (items_phase S (items_of_line kind) m)
       here;
   handshake_next = λ p s d. quiet_sends_none f r S m _ i refl;
   handshake_judged = λ p s d c x on some. not_on on;

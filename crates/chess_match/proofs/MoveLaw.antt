@@ -28,8 +28,8 @@ use Rattle.chess_match.specs.declared.reason.MatchFault.{MatchFault}
 use Rattle.chess_match.specs.declared.reason.MatchFault.TheVariants.{NoDone, Ended, Read, Write}
 use Rattle.chess_match.proofs.Blocks.{if_nil, of_block, joined_at}
 use Rattle.chess_match.proofs.Outcomes.{Lines, InTurn, line_outcome, opens_at, and_first, and_second}
-use Rattle.chess_match.proofs.Going.{hear_phase, leaves, offered, plain_block, reads_on, reads_stays}
-use Rattle.chess_match.proofs.Seats.{hear_played, hear_untold, items_same}
+use Rattle.chess_match.proofs.Going.{items_phase, leaves, offered, plain_block, reads_on, reads_stays}
+use Rattle.chess_match.proofs.Seats.{items_played, items_unsent_to, items_same}
 use Rattle.chess_match.proofs.Blocks.{told_more}
 use Rattle.cecp_engine.specs.Levels.{level_text}
 use Rattle.chess_match.specs.ties.Steps.{match_from}
@@ -413,7 +413,7 @@ handshake_over : (r : Rules) (X : List (List ℕ)) (S O : Colour) (items : List 
     → (m.played ≡ []) × (m.unsent_to ≡ None) → Sofar r X O m → Goes r X O m (over reason (take_items S items m))
 handshake_over r X S O items reason m on n k h = (
   over_told r X O false m.phase reason (take_items S items m) (leaves m.phase reason on) n
-      (fresh r X O m (over reason (take_items S items m)) k.0 k.1 (hear_played S items m ∙ k.0) (hear_untold S items m ∙ k.1)
+      (fresh r X O m (over reason (take_items S items m)) k.0 k.1 (items_played S items m ∙ k.0) (items_unsent_to S items m ∙ k.1)
       h),
   tt,
 )
@@ -440,15 +440,15 @@ handshake_enters : (r : Rules) (X : List (List ℕ)) (S O : Colour) (items : Lis
 handshake_enters r X S O items m k h = (
   (
     quiet_told r X O m.phase (enter (Handshake Black) (take_items S items m)) refl refl
-        (fresh r X O m (enter (Handshake Black) (take_items S items m)) k.0 k.1 (hear_played S items m ∙ k.0)
-        (hear_untold S items m ∙ k.1) h),
-    (hear_played S items m ∙ k.0, hear_untold S items m ∙ k.1),
+        (fresh r X O m (enter (Handshake Black) (take_items S items m)) k.0 k.1 (items_played S items m ∙ k.0)
+        (items_unsent_to S items m ∙ k.1) h),
+    (items_played S items m ∙ k.0, items_unsent_to S items m ∙ k.1),
   ),
   (
     quiet_told r X O m.phase (enter (Setup White) (take_items S items m)) refl refl
-        (fresh r X O m (enter (Setup White) (take_items S items m)) k.0 k.1 (hear_played S items m ∙ k.0)
-        (hear_untold S items m ∙ k.1) h),
-    (hear_played S items m ∙ k.0, hear_untold S items m ∙ k.1),
+        (fresh r X O m (enter (Setup White) (take_items S items m)) k.0 k.1 (items_played S items m ∙ k.0)
+        (items_unsent_to S items m ∙ k.1) h),
+    (items_played S items m ∙ k.0, items_unsent_to S items m ∙ k.1),
   ),
 )
 
@@ -519,9 +519,9 @@ lines_go r X S O kind moment m here o h =
     handshake_judged : (c : Colour) (f : MatchFault) → (m.played ≡ []) × (m.unsent_to ≡ None)
         → Goes r X O m (enter (Over (Faulted c f)) (take_items S (items_of_line kind) m))
     handshake_judged c f k = (
-      judged_told r X O c f m.phase (take_items S (items_of_line kind) m) (hear_untold S (items_of_line kind) m ∙ k.1)
+      judged_told r X O c f m.phase (take_items S (items_of_line kind) m) (items_unsent_to S (items_of_line kind) m ∙ k.1)
           (fresh r X O m (enter (Over (Faulted c f)) (take_items S (items_of_line kind) m)) k.0 k.1
-          (hear_played S (items_of_line kind) m ∙ k.0) (hear_untold S (items_of_line kind) m ∙ k.1) h),
+          (items_played S (items_of_line kind) m ∙ k.0) (items_unsent_to S (items_of_line kind) m ∙ k.1) h),
       tt,
     )
 
@@ -593,7 +593,7 @@ lines_none : (r : Rules) (S O : Colour) (kind : LineKind) (moment : ℕ) (m : Ma
 lines_none r S O kind moment m here o = record {
   handshake_ends = λ p d on some. not_on on;
   handshake_counts = λ p d few. same_sends_none r S O m
-      (let m' = take_items S (items_of_line kind) m in record m' { count = m.count + 1 }) (hear_phase S (items_of_line kind) m)
+      (let m' = take_items S (items_of_line kind) m in record m' { count = m.count + 1 }) (items_phase S (items_of_line kind) m)
       here;
   handshake_next = λ p s d on some. if_nil (is_same_phase m.phase (Handshake Black)) [] refl;
   handshake_judged = λ p s d c f on some. not_on on;

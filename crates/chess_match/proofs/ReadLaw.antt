@@ -22,7 +22,7 @@ use Rattle.chess_match.proofs.OneLaw.{over_stops}
 use Rattle.chess_match.proofs.Orders.{Kept, step}
 use Rattle.chess_match.proofs.Outcomes.{Lines, line_outcome, opens_at, and_first, and_second}
 use Rattle.chess_match.proofs.Going.{offered}
-use Rattle.chess_match.proofs.Seats.{hear_played}
+use Rattle.chess_match.proofs.Seats.{items_played}
 use Rattle.chess_match.specs.ties.Steps.{match_from}
 
 -- the `move` lines to come of an engine, in this phase
@@ -296,13 +296,13 @@ played_phase Black move used m = (refl, refl)
 lines_step : (r : Rules) (d : Colour) (t : Option (List ℕ)) (n : ℕ) (m : Match) → Orderly r m
     → Lines r d (line_kind t) n m (λ m'. Steps r d t m m')
 lines_step r d t n m o = record {
-  handshake_ends = λ p h. over_steps r d t m (over (Faulted d NoDone) (take_items d items m)) refl (hear_played d items m);
+  handshake_ends = λ p h. over_steps r d t m (over (Faulted d NoDone) (take_items d items m)) refl (items_played d items m);
   handshake_counts = λ p h few. handshake_counts r d t items (m.count + 1) m p h;
-  handshake_next = λ p s h. on_steps r d t m (enter (Handshake Black) (take_items d items m)) refl (hear_played d items m)
+  handshake_next = λ p s h. on_steps r d t m (enter (Handshake Black) (take_items d items m)) refl (items_played d items m)
       (λ lines S. rw p (handshake_next d t lines S s h));
   handshake_judged = λ p s h b f. over_steps r d t m (enter (Over (Faulted b f)) (take_items d items m)) refl
-      (hear_played d items m);
-  handshake_done = λ p s h. on_steps r d t m (enter (Setup White) (take_items d items m)) refl (hear_played d items m)
+      (items_played d items m);
+  handshake_done = λ p s h. on_steps r d t m (enter (Setup White) (take_items d items m)) refl (items_played d items m)
       (λ lines S. rw p (handshake_done d t lines S s h));
   setup_ends = λ p reason w. over_steps r d t m (over reason m) refl refl;
   setup_counts = λ p h few. on_steps r d t m (record m { count = m.count + 1 }) (rw p refl) refl

@@ -28,7 +28,7 @@ use Rattle.chess_match.proofs.Blocks.{if_nil}
 use Rattle.chess_match.proofs.Outcomes.{Lines, InTurn, line_outcome, opens_at}
 use Rattle.chess_match.proofs.LinesOfOneKind.{now, gathered, unsent, InOpenings}
 use Rattle.chess_match.proofs.Going.{is_opening, offered, sum-snoc}
-use Rattle.chess_match.proofs.Seats.{hear_used, items_same, used_same}
+use Rattle.chess_match.proofs.Seats.{items_used, items_same, used_same}
 use Rattle.chess_match.proofs.Blocks.{told_more}
 
 -- ---- the lines
@@ -464,7 +464,7 @@ handshake_goes : (own : Bool) (r : Rules) (S c d : Colour) (X : List ℕ) (items
     × (Times own r S X (enter (Setup White) (take_items c items m)))
     × (Times own r S X (enter (Over reason) (take_items c items m))) × (Times own r S X (over reason (take_items c items m)))
 handshake_goes own r S c d X items n p m h reason =
-    let u = hear_used c items m in
+    let u = items_used c items m in
     let used : (m' : Match) → m'.white.used ≡ m.white.used → m'.black.used ≡ m.black.used
     → (seat m' (told_of own S)).used ≡ [] = λ m' w b. used_same m m' w b (told_of own S) ∙ h.1 in (
       (h.0, used (enter (Handshake Black) (take_items c items m)) u.0 u.1),

@@ -21,7 +21,7 @@ use Rattle.chess_match.proofs.MoveLaw.{not_on}
 use Rattle.chess_match.proofs.OneLaw.{over_stops}
 use Rattle.chess_match.proofs.Outcomes.{Lines, InTurn, line_outcome, opens_at, and_first, and_second}
 use Rattle.chess_match.proofs.Going.{offered}
-use Rattle.chess_match.proofs.Seats.{hear_used, used_same}
+use Rattle.chess_match.proofs.Seats.{items_used, used_same}
 use Rattle.chess_match.specs.ties.Steps.{match_from}
 
 -- the moment of the opening, where a move of S is awaited
@@ -145,14 +145,14 @@ lines_grow : (r : Rules) (S c : Colour) (kind : LineKind) (n : ℕ) (m : Match)
     → Lines r c kind n m (λ m'. Grows S kind n m m')
 lines_grow r S c kind n m = record {
   handshake_ends = λ p d. ends_grow S kind n m (over (Faulted c NoDone) (take_items c (items_of_line kind) m))
-      (hear_used c (items_of_line kind) m).0 (hear_used c (items_of_line kind) m).1 refl;
+      (items_used c (items_of_line kind) m).0 (items_used c (items_of_line kind) m).1 refl;
   handshake_counts = λ p d few. handshake_counts S c (items_of_line kind) (m.count + 1) kind n m p;
   handshake_next = λ p s d. apart_grow S kind n m (enter (Handshake Black) (take_items c (items_of_line kind) m)) (Handshake White) p refl
-      (hear_used c (items_of_line kind) m).0 (hear_used c (items_of_line kind) m).1 refl;
+      (items_used c (items_of_line kind) m).0 (items_used c (items_of_line kind) m).1 refl;
   handshake_judged = λ p s d b f. ends_grow S kind n m (enter (Over (Faulted b f)) (take_items c (items_of_line kind) m))
-      (hear_used c (items_of_line kind) m).0 (hear_used c (items_of_line kind) m).1 refl;
+      (items_used c (items_of_line kind) m).0 (items_used c (items_of_line kind) m).1 refl;
   handshake_done = λ p s d. apart_grow S kind n m (enter (Setup White) (take_items c (items_of_line kind) m)) (Handshake Black) p refl
-      (hear_used c (items_of_line kind) m).0 (hear_used c (items_of_line kind) m).1 refl;
+      (items_used c (items_of_line kind) m).0 (items_used c (items_of_line kind) m).1 refl;
   setup_ends = λ p reason n'. ends_grow S kind n m (over reason m) refl refl refl;
   setup_counts = λ p pong few. apart_grow S kind n m (record m { count = m.count + 1 }) (Setup c) p refl refl refl
       (rw p refl);

@@ -11,7 +11,7 @@ use Rattle.chess_match.specs.ties.Represents.{Represents}
 use Rattle.chess_match.specs.declared.reason.MatchFault.TheVariants.{NoDone}
 use Rattle.chess_match.specs.declared.reason.Reason.TheVariants.{Faulted}
 use Rattle.chess_match.specs.declared.phase.Phase.TheVariants.{Over}
-use Rattle.chess_match.proofs.Going.{handshake_goes, hear_phase, one_core}
+use Rattle.chess_match.proofs.Going.{handshake_goes, items_phase, one_core}
 use Rattle.chess_match.proofs.state.MatchState.handshake_line.Goals as goal
 use Rattle.chess_base.proofs.MenFacts.{same_colour-self}
 
@@ -51,7 +51,7 @@ returns-else-self-ge-HANDSHAKE_LEN-clause-goes g c r m p at s =
     let few : nat_le 1000 (m.count + 1) ≡ false =
     lt-leb 1000 (m.count + 1) (omega (arith, s.count, c.take_line_items-done.ensures.count, c.if-self-ge-HANDSHAKE_LEN.false)) in
     let stays : is_same_phase m.phase (take_items c.args.side (items_of_line (seen c.args.line)) m).phase ≡ true =
-    rw (hear_phase c.args.side (items_of_line (seen c.args.line)) m, at) (same_colour-self c.args.side) in
+    rw (items_phase c.args.side (items_of_line (seen c.args.line)) m, at) (same_colour-self c.args.side) in
     let more : c.take_line_items-done.new.self.count + 1 ≡ m.count + 1 = omega (arith, s.count, c.take_line_items-done.ensures.count) in
     rw (done, few) (handshake_goes r c.take_line_items-done.new.self _ _ c.args.side (items_of_line (seen c.args.line))
     (take_items c.args.side (items_of_line (seen c.args.line)) m).phase (m.count + 1) true m st stays
