@@ -6,7 +6,7 @@ use Rattle.arbiter_cli.specs.Plans.{IsReading}
 use Rattle.arbiter_cli.specs.declared.plan.Plan.{Plan}
 use Rattle.arbiter_cli.specs.declared.plan.Plan.TheVariants.{Session, Verify, Stub, Match}
 use Rattle.arbiter_cli.specs.declared.fault.WordsFault.{WordsFault}
-use Rattle.arbiter_cli.specs.declared.fault.WordsFault.TheVariants as words
+use Rattle.arbiter_cli.specs.declared.fault.WordsFault.TheVariants as faults
 use Rattle.byte_devices.specs.Devices.{InputState, OutputState, Sends}
 use Rattle.byte_devices.specs.declared.traits.WriteFault.{WriteFault}
 use Rattle.chess_cecp.specs.declared.run.End.{End}
@@ -90,10 +90,10 @@ RanHelp w w' status =
 -- what is done with arguments that ask for nothing, by their fault: help and the version go to the output (`w` before,
 -- `w'` after), all else to the error output, of which nothing is said here. `status` is the exit status
 abbrev pub ReportsArguments : WordsFault → OutputState → OutputState → ℕ → Type 0
-ReportsArguments (words.Words e) w w' status =
+ReportsArguments (faults.Words e) w w' status =
     ((kind_of e ≢ DisplayHelp) → (kind_of e ≢ DisplayVersion) → (w' ≡ w) × (status ≡ 2))
     × ((kind_of e ≡ DisplayHelp) ⊎ (kind_of e ≡ DisplayVersion) → RanHelp w w' status)
-ReportsArguments words.NoMemory w w' status = (w' ≡ w) × (status ≡ 1)
+ReportsArguments faults.NoMemory w w' status = (w' ≡ w) × (status ≡ 1)
 ReportsArguments fault w w' status = (w' ≡ w) × (status ≡ 2)
 
 -- what the games of a match are played by, as the plan of the arguments has it
@@ -122,13 +122,13 @@ abbrev pub RanPlan : Result Plan WordsFault → InputState → InputState → Ou
     → Type 0
 RanPlan (Ok Session) r r' w w' l l' status = RanSession r r' w w' status
 RanPlan (Ok (Verify plan)) r r' w w' l l' status = RanVerify plan r r' w w' status
-RanPlan (Ok (Stub words)) r r' w w' l l' status = RanServer stub_response (waiting words.items) r r' w w' status
+RanPlan (Ok (Stub arguments)) r r' w w' l l' status = RanServer stub_response (waiting arguments.items) r r' w w' status
 RanPlan (Ok (Match plan)) r r' w w' l l' status = (r' ≡ r) × RanMatch plan w w' l l' status
 RanPlan (Err fault) r r' w w' l l' status = (r' ≡ r) × ReportsArguments fault w w' status
 
--- what the program does with the arguments `words`: it reads them, and does what they ask for. `r`, `w` and `l` are
+-- what the program does with these arguments: it reads them, and does what they ask for. `r`, `w` and `l` are
 -- input, output and error output before, `r'`, `w'` and `l'` after; `status` is the exit status
 abbrev pub RanProgram : List Text → InputState → InputState → OutputState → OutputState → LogSeen → LogSeen → ℕ
     → Type 0
-RanProgram words r r' w w' l l' status = (read : Result Plan WordsFault) × IsReading words read
+RanProgram arguments r r' w w' l l' status = (read : Result Plan WordsFault) × IsReading arguments read
     × RanPlan read r r' w w' l l' status

@@ -13,25 +13,25 @@ use std::io::{self, ErrorKind};
 use std::process::ExitCode;
 
 // The arguments after the program's name.
-fn words_of(rt: &HostRuntime) -> io::Result<Vec<String>> {
-    let mut words = Vec::new(rt.alloc());
-    for word in env::args(rt)?.skip(1) {
-        words.push(word).map_err(AllocError::from)?;
+fn arguments_of(rt: &HostRuntime) -> io::Result<Vec<String>> {
+    let mut arguments = Vec::new(rt.alloc());
+    for argument in env::args(rt)?.skip(1) {
+        arguments.push(argument).map_err(AllocError::from)?;
     }
-    Ok(words)
+    Ok(arguments)
 }
 
 // Runs the program on the arguments and the standard streams of this process, and returns its exit status.
 fn status_of(rt: &HostRuntime) -> io::Result<u8> {
-    let owned = words_of(rt)?;
-    let mut words = Vec::new(rt.alloc());
-    for word in &owned {
-        words.push(word.as_str()).map_err(AllocError::from)?;
+    let owned = arguments_of(rt)?;
+    let mut arguments = Vec::new(rt.alloc());
+    for argument in &owned {
+        arguments.push(argument.as_str()).map_err(AllocError::from)?;
     }
     Ok(run_program(
         rt,
         rt.alloc(),
-        words.as_slice(),
+        arguments.as_slice(),
         &mut Counted::reading(rt.stdin()),
         &mut Counted::writing(rt.stdout()),
         &mut Log::new(Counted::writing(rt.stderr())),
@@ -39,7 +39,7 @@ fn status_of(rt: &HostRuntime) -> io::Result<u8> {
 }
 
 // Why the arguments could not be read: no memory for them, or one of them is no UTF-8.
-fn words_fault(error: &io::Error) -> ProgramFault
+fn arguments_fault(error: &io::Error) -> ProgramFault
     ensures memory { error_kind error.now ≡ ErrorKind.OutOfMemory → result ≡ ProgramFault.NoMemory }
     ensures others { error_kind error.now ≢ ErrorKind.OutOfMemory → result ≡ ProgramFault.WrongWords }
 {
@@ -56,7 +56,7 @@ pub fn run(rt: &HostRuntime) -> ExitCode {
     match status_of(rt) {
         Ok(status) => ExitCode::from(status),
         Err(error) => {
-            let fault = words_fault(&error);
+            let fault = arguments_fault(&error);
             report(&mut Counted::writing(rt.stderr()), &fault);
             ExitCode::from(fault.status())
         }

@@ -2,8 +2,8 @@
 //! and what may be said with them.
 //!
 //! ```
-//! let words = ["e2e4", "offer", "resign"];
-//! let mut stub = Stub::new(&words);
+//! let arguments = ["e2e4", "offer", "resign"];
+//! let mut stub = Stub::new(&arguments);
 //! let end = serve_lines(&mut input, &mut output, &mut stub)?;
 //! ```
 #![tactic(auto)]

@@ -6,10 +6,10 @@ use Rattle.clap.specs.declared.error.kind.ErrorKind.TheVariants.{DisplayHelp, Di
 use Rattle.arbiter_cli.specs.Plans.{IsReading}
 use Rattle.arbiter_cli.specs.laws.Laws.{AreRefused}
 use Rattle.arbiter_cli.specs.declared.fault.WordsFault.{WordsFault}
-use Rattle.arbiter_cli.specs.declared.fault.WordsFault.TheVariants as words
+use Rattle.arbiter_cli.specs.declared.fault.WordsFault.TheVariants as faults
 use Rattle.arbiter_cli.specs.declared.plan.Plan.{Plan}
 use Rattle.byte_devices.specs.Devices.{OutputState}
-use Rattle.chess_arbiter.specs.laws.Laws.{RefusesWords, ShowsHelp}
+use Rattle.chess_arbiter.specs.laws.Laws.{RefusesArguments, ShowsHelp}
 use Rattle.chess_arbiter.specs.Program.{RanHelp, ReportsArguments}
 
 no_fault : (k : ErrorKind) (kinds : Kinds) → kinds ≡ [] → kinds ≡ k ∷ [] → ⊥
@@ -24,17 +24,17 @@ the_fault k x kinds one among = only_one k x (subst (IsAmong x) one among)
 
 -- they are refused by that kind, or for being out of memory
 abbrev pub IsRefusal : ErrorKind → WordsFault → Type 0
-IsRefusal k (words.Words e) = kind_of e ≡ k
-IsRefusal k words.NoMemory = Unit {0}
+IsRefusal k (faults.Words e) = kind_of e ≡ k
+IsRefusal k faults.NoMemory = Unit {0}
 IsRefusal k _ = ⊥
 
 refusal : (ws : List Text) (k : ErrorKind) (fault : WordsFault) → AreRefused ws (k ∷ []) → IsReading ws (Err fault)
     → IsRefusal k fault
-refusal ws k (words.Words e) one (names, are, among) = the_fault k (kind_of e) _ (one names) among
-refusal ws k words.NoMemory one is = tt
-refusal ws k words.BadLevel one (names, are, (none, named, is)) = absurd (no_fault k _ none (one names))
-refusal ws k (words.BadFen f) one (names, are, (none, named, is)) = absurd (no_fault k _ none (one names))
-refusal ws k words.BadDate one (names, are, (none, named, is)) = absurd (no_fault k _ none (one names))
+refusal ws k (faults.Words e) one (names, are, among) = the_fault k (kind_of e) _ (one names) among
+refusal ws k faults.NoMemory one is = tt
+refusal ws k faults.BadLevel one (names, are, (none, named, is)) = absurd (no_fault k _ none (one names))
+refusal ws k (faults.BadFen f) one (names, are, (none, named, is)) = absurd (no_fault k _ none (one names))
+refusal ws k faults.BadDate one (names, are, (none, named, is)) = absurd (no_fault k _ none (one names))
 
 no_plan : (ws : List Text) (k : ErrorKind) (plan : Plan) → AreRefused ws (k ∷ []) → IsReading ws (Ok plan) → ⊥
 no_plan ws k plan one (names, are, (none, is)) = no_fault k _ none (one names)
@@ -44,12 +44,12 @@ no_plan ws k plan one (names, are, (none, is)) = no_fault k _ none (one names)
 shown : (k : ErrorKind) (fault : WordsFault) (w w' : OutputState) (status : ℕ)
     → (k ≡ DisplayHelp) ⊎ (k ≡ DisplayVersion) → IsRefusal k fault → ReportsArguments fault w w' status
     → RanHelp w w' status
-shown k (words.Words e) w w' status help is told =
+shown k (faults.Words e) w w' status help is told =
     told.1 (subst (λ x. (x ≡ DisplayHelp) ⊎ (x ≡ DisplayVersion)) (sym is) help)
-shown k words.NoMemory w w' status help is (same, ends) = inr (same, ends)
-shown k words.BadLevel w w' status help is told = absurd is
-shown k (words.BadFen f) w w' status help is told = absurd is
-shown k words.BadDate w w' status help is told = absurd is
+shown k faults.NoMemory w w' status help is (same, ends) = inr (same, ends)
+shown k faults.BadLevel w w' status help is told = absurd is
+shown k (faults.BadFen f) w w' status help is told = absurd is
+shown k faults.BadDate w w' status help is told = absurd is
 
 pub shows_help : (ws : List Text) (k : ErrorKind) → (k ≡ DisplayHelp) ⊎ (k ≡ DisplayVersion) → AreRefused ws (k ∷ [])
     → ShowsHelp ws
@@ -61,15 +61,15 @@ shows_help ws k help one r r' w w' l l' status (Err fault, is, (same, told)) =
 
 refused : (k : ErrorKind) (fault : WordsFault) (w w' : OutputState) (status : ℕ) → k ≢ DisplayHelp → k ≢ DisplayVersion
     → IsRefusal k fault → ReportsArguments fault w w' status → (w' ≡ w) × ((status ≡ 2) ⊎ (status ≡ 1))
-refused k (words.Words e) w w' status help version is told =
+refused k (faults.Words e) w w' status help version is told =
     let t = told.0 (λ x. help (sym is ∙ x)) (λ x. version (sym is ∙ x)) in (t.0, inl t.1)
-refused k words.NoMemory w w' status help version is (same, ends) = (same, inr ends)
-refused k words.BadLevel w w' status help version is told = absurd is
-refused k (words.BadFen f) w w' status help version is told = absurd is
-refused k words.BadDate w w' status help version is told = absurd is
+refused k faults.NoMemory w w' status help version is (same, ends) = (same, inr ends)
+refused k faults.BadLevel w w' status help version is told = absurd is
+refused k (faults.BadFen f) w w' status help version is told = absurd is
+refused k faults.BadDate w w' status help version is told = absurd is
 
-pub refuses_words : (ws : List Text) (k : ErrorKind) → k ≢ DisplayHelp → k ≢ DisplayVersion → AreRefused ws (k ∷ [])
-    → RefusesWords ws
-refuses_words ws k help version one r r' w w' l l' status (Ok plan, is, ran) = absurd (no_plan ws k plan one is)
-refuses_words ws k help version one r r' w w' l l' status (Err fault, is, (same, told)) =
+pub refuses_arguments : (ws : List Text) (k : ErrorKind) → k ≢ DisplayHelp → k ≢ DisplayVersion → AreRefused ws (k ∷ [])
+    → RefusesArguments ws
+refuses_arguments ws k help version one r r' w w' l l' status (Ok plan, is, ran) = absurd (no_plan ws k plan one is)
+refuses_arguments ws k help version one r r' w w' l l' status (Err fault, is, (same, told)) =
     let t = refused k fault w w' status help version (refusal ws k fault one is) told in (same, t.0, t.1)
