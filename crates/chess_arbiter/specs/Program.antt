@@ -30,7 +30,7 @@ use Rattle.match_runner.specs.declared.games.GamesFault.{GamesFault}
 use Rattle.match_runner.specs.declared.plan.GamesPlan.{GamesPlan}
 use Rattle.match_runner.specs.Log.{LogSeen}
 use Rattle.stub_engine.specs.Stub.{stub_response, waiting}
-use Rattle.chess_arbiter.specs.declared.fault.ProgramFault.TheVariants.{WrongWords}
+use Rattle.chess_arbiter.specs.declared.fault.ProgramFault.TheVariants.{InvalidArguments}
 use Rattle.chess_game.specs.declared.game.TheConstants.{MOST_MOVES}
 
 -- the exit status after something that may fail: 1 if the result is an error, else 0
@@ -39,7 +39,7 @@ status_of result = if is_ok result then 0 else 1
 
 -- the exit status of a fault: 2 for invalid arguments, else 1
 abbrev pub fault_status : ProgramFault → ℕ
-fault_status WrongWords = 2
+fault_status InvalidArguments = 2
 fault_status _ = 1
 
 -- the server `respond`, which began in the state `s`, answered the lines of the input on the output, up to the input's

@@ -41,11 +41,11 @@ fn status_of(rt: &HostRuntime) -> io::Result<u8> {
 // Why the arguments could not be read: no memory for them, or one of them is no UTF-8.
 fn arguments_fault(error: &io::Error) -> ProgramFault
     ensures memory { error_kind error.now ≡ ErrorKind.OutOfMemory → result ≡ ProgramFault.NoMemory }
-    ensures others { error_kind error.now ≢ ErrorKind.OutOfMemory → result ≡ ProgramFault.WrongWords }
+    ensures others { error_kind error.now ≢ ErrorKind.OutOfMemory → result ≡ ProgramFault.InvalidArguments }
 {
     match error.kind() {
         ErrorKind::OutOfMemory => ProgramFault::NoMemory,
-        _ => ProgramFault::WrongWords,
+        _ => ProgramFault::InvalidArguments,
     }
 }
 

@@ -316,7 +316,7 @@ const FAULTS: [(ProgramFault, &str, u8); 4] = [
     (ProgramFault::ReadFailed, "read failed", 1),
     (ProgramFault::WriteFailed, "write failed", 1),
     (ProgramFault::NoMemory, "no memory", 1),
-    (ProgramFault::WrongWords, "wrong words", 2),
+    (ProgramFault::InvalidArguments, "wrong words", 2),
 ];
 
 #[test]
