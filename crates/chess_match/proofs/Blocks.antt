@@ -8,7 +8,7 @@ use Rattle.chess_base.specs.Men.{other}
 use Rattle.cecp_engine.specs.Items.{Item, takes}
 use Rattle.chess_match.specs.Match.{Match, Event, seat}
 use Rattle.chess_match.specs.Rules.{Rules}
-use Rattle.chess_match.specs.Sent.{SentLine, answer_words, Says, answers_to, block, lines_on_entering, is_same_phase, draw_line}
+use Rattle.chess_match.specs.Sent.{SentLine, answer_text, Says, answers_to, block, lines_on_entering, is_same_phase, draw_line}
 use Rattle.chess_match.specs.Transcript.{block_at, joined_blocks}
 
 pub if_nil : {A : Type 0} (b : Bool) (xs : List A) → xs ≡ [] → (if b then [] else xs) ≡ []
@@ -31,7 +31,7 @@ of_block {A} f a r m m' S =
   where
     answers : (items : List Item) → flat_map f (answers_to items) ≡ []
     answers [] = refl
-    answers (i ∷ items) = rw (a (answer_words i.name)) (answers items)
+    answers (i ∷ items) = rw (a (answer_text i.name)) (answers items)
 
     offer : (b : Bool) → flat_map f (if b then Says (codes "draw") ∷ [] else []) ≡ []
     offer true = rw (a (codes "draw")) refl

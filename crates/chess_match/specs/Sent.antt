@@ -32,26 +32,26 @@ pub data SentLine : Type 0 where
   Otim : (centiseconds : ℕ) → SentLine
 
 -- the answer to an item of a `feature` line: `accepted ping`, or `rejected` and the name if it is not known
-abbrev pub answer_words : List ℕ → List ℕ
-answer_words name = (if is_known name then codes "accepted " else codes "rejected ") ++ name
+abbrev pub answer_text : List ℕ → List ℕ
+answer_text name = (if is_known name then codes "accepted " else codes "rejected ") ++ name
 
 -- the text of a line without `\n`: `usermove e2e4`, `time 30000`
-abbrev pub words_of : SentLine → List ℕ
-words_of (Says text) = text
-words_of (MoveSent prefixed text) = list_if prefixed (codes "usermove ") ++ text
-words_of (Time n) = codes "time " ++ decimal n
-words_of (Otim n) = codes "otim " ++ decimal n
+abbrev pub text_of : SentLine → List ℕ
+text_of (Says text) = text
+text_of (MoveSent prefixed text) = list_if prefixed (codes "usermove ") ++ text
+text_of (Time n) = codes "time " ++ decimal n
+text_of (Otim n) = codes "otim " ++ decimal n
 
 -- the bytes of these lines one after another, each with `\n` at its end
 unfoldable pub bytes_of : List SentLine → List ℕ
 bytes_of [] = []
-bytes_of (l ∷ ls) = words_of l ++ new_line ∷ bytes_of ls
+bytes_of (l ∷ ls) = text_of l ++ new_line ∷ bytes_of ls
 
 -- ---- what a phase gives
 
 -- the lines that answer these items of `feature` lines, one for each, in their order
 abbrev pub answers_to : List Item → List SentLine
-answers_to items = map (λ i. Says (answer_words i.name)) items
+answers_to items = map (λ i. Says (answer_text i.name)) items
 
 -- the line `setboard FEN` for the start's FEN, as a list of one; empty if none is sent (`None`)
 abbrev pub start_lines : Option (List ℕ) → List SentLine

@@ -11,7 +11,7 @@ use Rattle.chess_match.specs.Notes.{Noted, WasNoted, Happened, Note, both_notes}
 use Rattle.chess_match.specs.Reasons.{by_colour}
 use Rattle.chess_match.specs.Rules.{Rules}
 use Rattle.chess_match.specs.Run.{text_read, Flushed}
-use Rattle.chess_match.specs.Sent.{SentLine, block, bytes_of, answer_words}
+use Rattle.chess_match.specs.Sent.{SentLine, block, bytes_of, answer_text}
 use Rattle.chess_match.specs.ties.Represents.{Represents}
 use Rattle.chess_match.specs.ties.Reported.{SendsIf}
 use Rattle.chess_match.specs.Transcript.{is_on}
@@ -98,4 +98,4 @@ HasLast core played = (r : Rules) × (m : Match) × Represents r core played m
 
 -- the line that answers an item of this name, with its `\n`: `accepted ping`, or `rejected` and the name
 abbrev pub answer_line : List ℕ → List ℕ
-answer_line name = answer_words name ++ new_line ∷ []
+answer_line name = answer_text name ++ new_line ∷ []
