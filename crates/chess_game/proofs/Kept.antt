@@ -150,19 +150,19 @@ all_more : (f : Hashing) (xs : List PlayedMove) (x : PlayedMove) → AllHave f x
 all_more f [] x all here = (here, tt)
 all_more f (y ∷ ys) x all here = (all.0, all_more f ys x all.1 here)
 
-pub words_more : (f : Hashing) (start : Hashed) (xs : List PlayedMove) (x : PlayedMove) → HaveHashes f start xs
+pub hashes_more : (f : Hashing) (start : Hashed) (xs : List PlayedMove) (x : PlayedMove) → HaveHashes f start xs
     → HasHash f x.reached
     → HaveHashes f start (xs ++ x ∷ [])
-words_more f start xs x h here = record { start = h.start; behind = all_more f xs x h.behind here }
+hashes_more f start xs x h here = record { start = h.start; behind = all_more f xs x h.behind here }
 
 all_fewer : (f : Hashing) (xs : List PlayedMove) (x : PlayedMove) → AllHave f (xs ++ x ∷ []) → AllHave f xs
 all_fewer f [] x all = tt
 all_fewer f (y ∷ ys) x all = (all.0, all_fewer f ys x all.1)
 
-pub words_fewer : (f : Hashing) (start : Hashed) (xs ys : List PlayedMove) (x : PlayedMove) → HaveHashes f start xs
+pub hashes_fewer : (f : Hashing) (start : Hashed) (xs ys : List PlayedMove) (x : PlayedMove) → HaveHashes f start xs
     → xs ≡ ys ++ x ∷ []
     → HaveHashes f start ys
-words_fewer f start xs ys x h is = record { start = h.start; behind = all_fewer f ys x (subst (AllHave f) is h.behind) }
+hashes_fewer f start xs ys x h is = record { start = h.start; behind = all_fewer f ys x (subst (AllHave f) is h.behind) }
 
 -- ---- room
 

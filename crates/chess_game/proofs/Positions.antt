@@ -38,16 +38,16 @@ known_is start xs zero known f = known
 known_is start [] (suc k) known f = known
 known_is start (x ∷ xs) (suc k) known f = known_is x.reached xs k f.1 f.2
 
-word_is : (f : Hashing) (start : Hashed) (xs : List PlayedMove) (k : ℕ) → HasHash f start → AllHave f xs
+hash_is : (f : Hashing) (start : Hashed) (xs : List PlayedMove) (k : ℕ) → HasHash f start → AllHave f xs
     → HasHash f (known_at start xs k)
 unfolding known_at
-word_is f start xs zero here all = here
-word_is f start [] (suc k) here all = here
-word_is f start (x ∷ xs) (suc k) here all = word_is f x.reached xs k all.0 all.1
+hash_is f start xs zero here all = here
+hash_is f start [] (suc k) here all = here
+hash_is f start (x ∷ xs) (suc k) here all = hash_is f x.reached xs k all.0 all.1
 
-pub word_of_known : (f : Hashing) (start : Hashed) (xs : List PlayedMove) (k : ℕ) → HaveHashes f start xs
+pub hash_of_known : (f : Hashing) (start : Hashed) (xs : List PlayedMove) (k : ℕ) → HaveHashes f start xs
     → HasHash f (known_at start xs k)
-word_of_known f start xs k words = word_is f start xs k words.start words.behind
+hash_of_known f start xs k hashes = hash_is f start xs k hashes.start hashes.behind
 
 -- all are sound, where the last one is
 pub sound_is : (start : Hashed) (xs : List PlayedMove) (k : ℕ) → Follows start.position xs

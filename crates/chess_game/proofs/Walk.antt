@@ -13,16 +13,16 @@ use Rattle.chess_game.specs.declared.game.PlayedMove.{PlayedMove}
 use Rattle.chess_game.specs.declared.index.TheConstants.{BUCKETS}
 use Rattle.chess_game.specs.declared.repetition.Hashed.{Hashed}
 use Rattle.chess_game.proofs.Counting.{seen, counted, one_if}
-use Rattle.chess_game.proofs.EqualWords.{equal_words, same_alike}
+use Rattle.chess_game.proofs.EqualHashes.{equal_hashes, same_alike}
 use Rattle.chess_game.proofs.Kept.{at_end}
 use Rattle.chess_game.proofs.Latest.{latest_low, latest_passes, count_low, count_alike, count_here, count_fails, count_first, count_none, skipped}
-use Rattle.chess_game.proofs.Positions.{known_place, word_of_known, sound_is}
+use Rattle.chess_game.proofs.Positions.{known_place, hash_of_known, sound_is}
 use Rattle.chess_game.proofs.SameSelf.{same_self}
 
 -- what a walk rests on: the positions of a game, and one that is looked for
 pub record IsSought (start : Hashed) (xs : List PlayedMove) (now : Hashed) : Type 0 where
   pub follows : Follows start.position xs
-  pub words : (f : Hashing) × HaveHashes f start xs × HasHash f now
+  pub hashes : (f : Hashing) × HaveHashes f start xs × HasHash f now
   pub sound : IsSound (position_after start.position (moves_of xs))
   pub sound_now : IsSound now.position
 
@@ -30,13 +30,13 @@ pub record IsSought (start : Hashed) (xs : List PlayedMove) (now : Hashed) : Typ
 met_there : (start : Hashed) (xs : List PlayedMove) (now : Hashed) (k : ℕ) → IsSought start xs now → k < suc (length xs)
     → is_same_at start xs now.position k ≡ true → is_in start xs (bucket now) k ≡ true
 met_there start xs now k s h met =
-    let f = s.words.0 in
-    let words : (known_at start xs k).word ≡ now.word =
-    word_of_known f start xs k s.words.1
-    ∙ equal_words f (known_at start xs k).position now.position (sound_is start xs k s.follows s.sound h) s.sound_now
+    let f = s.hashes.0 in
+    let hashes : (known_at start xs k).hash ≡ now.hash =
+    hash_of_known f start xs k s.hashes.1
+    ∙ equal_hashes f (known_at start xs k).position now.position (sound_is start xs k s.follows s.sound h) s.sound_now
     met
-    ∙ sym s.words.2 in
-    eq-eqb (bucket (known_at start xs k)) (bucket now) (ap (λ w. w % BUCKETS) words)
+    ∙ sym s.hashes.2 in
+    eq-eqb (bucket (known_at start xs k)) (bucket now) (ap (λ w. w % BUCKETS) hashes)
 
 -- a walk is at a position of the bucket, and none after it is the same
 pub record IsAlong (start : Hashed) (xs : List PlayedMove) (now : Hashed) (at : ℕ) : Type 0 where

@@ -40,7 +40,7 @@ fn bucket(known: &Hashed) -> usize
     ensures value { result ≡ bucket known.now }
     ensures low { result < BUCKETS }
 {
-    (known.word % BUCKETS as u64) as usize
+    (known.hash % BUCKETS as u64) as usize
 }
 
 // The number of the earliest position of the game that can be the same as `now`, which one more move than
@@ -76,7 +76,7 @@ fn count_same(head: u16, start: &Hashed, played_moves: &[PlayedMove], now: &Hash
     requires now { IsKnown now.now }
     requires follows { Follows start.now.position played_moves.now }
     requires made { IsNext start.now played_moves.now now.now }
-    requires words { (f : Hashing) × HaveHashes f start.now played_moves.now × HasHash f now.now }
+    requires hashes { (f : Hashing) × HaveHashes f start.now played_moves.now × HasHash f now.now }
     requires few { length played_moves.now < MOST_MOVES }
     requires entries { HaveEntries start.now played_moves.now }
     requires head { head ≡ latest_below (is_in start.now played_moves.now (bucket now.now)) (suc (length played_moves.now)) }
@@ -136,7 +136,7 @@ impl Index {
         requires known { IsKnown reached.now }
         requires follows { Follows start.now.position played_moves.now }
         requires made { IsNext start.now played_moves.now reached.now }
-        requires words { (f : Hashing) × HaveHashes f start.now played_moves.now × HasHash f reached.now }
+        requires hashes { (f : Hashing) × HaveHashes f start.now played_moves.now × HasHash f reached.now }
         requires few { length played_moves.now < MOST_MOVES }
         requires indexed { IsIndexed self.old.heads.items start.now played_moves.now }
         ensures { (x : PlayedMove) → x.reached ≡ reached.now → x.entry ≡ result

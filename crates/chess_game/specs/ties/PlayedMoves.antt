@@ -31,7 +31,7 @@ Hashing = Men → Colour → Rights → ℕ
 
 -- the hash that is kept with a position is that of the position, by the definition f
 abbrev pub HasHash : Hashing → Hashed → Type 0
-HasHash f k = k.word ≡ f k.position.men k.position.side k.position.rights
+HasHash f k = k.hash ≡ f k.position.men k.position.side k.position.rights
 
 -- the hashes that are kept with two positions are by one and the same definition
 abbrev pub ShareHashing : Hashed → Hashed → Type 0
@@ -67,7 +67,7 @@ Follows p (x ∷ xs) = WasPlayed p x x.reached.position × IsKnown x.reached × 
 pub record IsKept (f : Hashing) (start : Hashed) (played_moves : List PlayedMove) (board : Setup) : Type 0 where
   pub known : IsKnown start
   pub follows : Follows start.position played_moves
-  pub words : HaveHashes f start played_moves
+  pub hashes : HaveHashes f start played_moves
   pub at_end : board ≡ position_after start.position (moves_of played_moves)
 
 -- no verdict came before the last of these moves

@@ -5,7 +5,7 @@ use Rattle.chess_game.specs.Line.{position_after}
 use Rattle.chess_game.specs.ties.Buckets.{IsIndexed}
 use Rattle.chess_game.specs.ties.PlayedMoves.{moves_of, Follows}
 use Rattle.chess_game.specs.declared.game.PlayedMove.{PlayedMove}
-use Rattle.chess_game.proofs.Kept.{taken, fewer, words_fewer}
+use Rattle.chess_game.proofs.Kept.{taken, fewer, hashes_fewer}
 use Rattle.chess_game.proofs.Judged.{unended_fewer, last_is}
 use Rattle.chess_game.proofs.game.Game.take_back.Goals as goal
 
@@ -29,8 +29,8 @@ invariant_of-self-in-Some g c = (
     known = c.self.invariant.0.known;
     follows = fewer c.self.inside.start.position c.self.inside.played_moves.items c.pop.new.self.items c.in-Some.played_move
         c.self.invariant.0.follows c.in-Some.ensures.items;
-    words = words_fewer g.B.Board.word_of c.self.inside.start c.self.inside.played_moves.items c.pop.new.self.items
-        c.in-Some.played_move c.self.invariant.0.words c.in-Some.ensures.items;
+    hashes = hashes_fewer g.B.Board.word_of c.self.inside.start c.self.inside.played_moves.items c.pop.new.self.items
+        c.in-Some.played_move c.self.invariant.0.hashes c.in-Some.ensures.items;
     at_end = c.take_back.ensures.back (position_after c.self.inside.start.position (moves_of c.pop.new.self.items))
         (taken c.self.inside.start.position c.self.inside.played_moves.items c.pop.new.self.items c.in-Some.played_move
         _ _ _ c.self.invariant.0.follows c.in-Some.ensures.items c.self.invariant.0.at_end

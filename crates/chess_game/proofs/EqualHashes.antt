@@ -77,10 +77,10 @@ rights_equal r q e =
 
 -- ---- hashes
 
-pub equal_words : (f : Hashing) (p q : Setup) → IsSound p → IsSound q → is_same_position p q ≡ true
+pub equal_hashes : (f : Hashing) (p q : Setup) → IsSound p → IsSound q → is_same_position p q ≡ true
     → f p.men p.side p.rights ≡ f q.men q.side q.rights
 unfolding is_same_position
-equal_words f p q this that e =
+equal_hashes f p q this that e =
     let sides = same_colour p.side q.side in
     let men = same_men p.men q.men in
     let rights = same_rights p.rights q.rights in
@@ -111,9 +111,9 @@ same_alike p q r this that e =
 
 -- so hashes that differ tell positions apart
 pub told_apart : (f : Hashing) (x y : Hashed) → IsSound x.position → IsSound y.position → HasHash f x → HasHash f y
-    → not (x.word == y.word) ≡ true → is_same_position x.position y.position ≡ false
-told_apart f x y this that has_word other_has differ =
+    → not (x.hash == y.hash) ≡ true → is_same_position x.position y.position ≡ false
+told_apart f x y this that has_hash other_has differ =
     false_from_ne_true (is_same_position x.position y.position)
-    (λ e. let one : x.word ≡ y.word = has_word ∙ equal_words f x.position y.position this that e ∙ sym other_has in
-    let met : (x.word == y.word) ≡ true = eq-eqb x.word y.word one in
+    (λ e. let one : x.hash ≡ y.hash = has_hash ∙ equal_hashes f x.position y.position this that e ∙ sym other_has in
+    let met : (x.hash == y.hash) ≡ true = eq-eqb x.hash y.hash one in
     true≢false (sym differ ∙ ap not met))
