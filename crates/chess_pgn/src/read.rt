@@ -249,7 +249,7 @@ fn end_game<B: Board>(game: &mut Game<B>, outcome: Outcome)
 // is known before the word.
 #[tactic(auto, using(crate::proofs::GameReads::termination_has_bytes))]
 #[inline(always)]
-fn read_word<B: Board>(
+fn apply_word<B: Board>(
     game: &mut Game<B>,
     progress: Progress,
     offset: usize,
@@ -280,7 +280,7 @@ fn read_word<B: Board>(
 
 // Takes a tag, whose string begins at `offset`: a FEN sets the game's start. `progress` is what is known before the
 // tag.
-fn read_tag<B: Board>(
+fn apply_tag<B: Board>(
     game: &mut Game<B>,
     progress: Progress,
     tag: &Tag<'_>,
@@ -308,7 +308,7 @@ fn read_tag<B: Board>(
 // Takes a token, which begins at `offset` in a text of `len` bytes, and returns whether reading goes on or the game
 // ended. `progress` is what is known before the token.
 #[inline(always)]
-fn read_token<B: Board>(
+fn apply_token<B: Board>(
     game: &mut Game<B>,
     progress: Progress,
     len: usize,
@@ -329,8 +329,8 @@ fn read_token<B: Board>(
             kind: PgnFaultKind::NoResult,
             offset,
         }),
-        Token::Tag(tag) => read_tag(game, progress, tag, len - tag.left),
-        Token::Word(word) => read_word(game, progress, offset, word),
+        Token::Tag(tag) => apply_tag(game, progress, tag, len - tag.left),
+        Token::Word(word) => apply_word(game, progress, offset, word),
     }
 }
 
@@ -465,7 +465,7 @@ fn read_normal_tags<B: Board>(
             Variant::Normal => {}
             Variant::Fischerandom => return None,
         }
-        match read_token(game, progress, text.len(), offset, &token) {
+        match apply_token(game, progress, text.len(), offset, &token) {
             Ok(Step::On(further)) => progress = further,
             Ok(Step::Ended(_)) => return None,
             Err(_) => return None,
@@ -492,7 +492,7 @@ fn begin_game<B: Board>(text: &[u8], at: usize, game: &mut Game<B>) -> (Progress
 // Plays the move that a word denotes in the current position, and returns whether one was played. If the word denotes no
 // one legal move, or the game is over or full, nothing changes.
 #[inline(always)]
-fn takes_move<B: Board>(game: &mut Game<B>, word: &[u8]) -> bool
+fn try_move<B: Board>(game: &mut Game<B>, word: &[u8]) -> bool
     requires { game.old.state.declared ≡ None }
     ensures limit { game.new.limit ≡ game.old.limit }
     ensures taken { IsTaken result game.old game.new
@@ -512,7 +512,7 @@ fn takes_move<B: Board>(game: &mut Game<B>, word: &[u8]) -> bool
 // of none (no bytes), nothing is taken, and nothing changes.
 #[tactic(auto, using(crate::proofs::PgnWords::from_a_kind, crate::proofs::PgnWords::number_kind))]
 #[inline(always)]
-fn takes_word<B: Board>(game: &mut Game<B>, word: &[u8]) -> bool
+fn try_word<B: Board>(game: &mut Game<B>, word: &[u8]) -> bool
     requires { game.old.state.declared ≡ None }
     ensures limit { game.new.limit ≡ game.old.limit }
     ensures some { result ≡ true → 0 < length word.now }
@@ -520,14 +520,14 @@ fn takes_word<B: Board>(game: &mut Game<B>, word: &[u8]) -> bool
         (λ g offset. word_step game.old.limit g offset word.now (word_kind word.now)) }
 {
     if begins_from_a(word) {
-        takes_move(game, word)
+        try_move(game, word)
     } else {
         is_number(word)
     }
 }
 
 // Takes numbers and moves from `at` on, and what is skipped after each, as long as nothing else comes; returns the
-// offset after them. `progress` is what is known before and after. The general way (`next_token`, `read_token`) would
+// offset after them. `progress` is what is known before and after. The general way (`next_token`, `apply_token`) would
 // take the same words one by one; this is faster.
 #[inline(always)]
 fn take_words<B: Board>(
@@ -543,7 +543,7 @@ fn take_words<B: Board>(
     let mut offset = at;
     loop {
         let (word, behind) = split_word(&text[offset..]);
-        if !takes_word(game, word) {
+        if !try_word(game, word) {
             return offset;
         }
         *progress = progress.begun();
@@ -577,7 +577,7 @@ pub fn read_pgn<B: Board>(
     loop {
         match next_token(text, offset) {
             Ok(Some((token, behind))) => {
-                match read_token(game, progress, text.len(), offset, &token)? {
+                match apply_token(game, progress, text.len(), offset, &token)? {
                     Step::On(further) => progress = further,
                     Step::Ended(end) => return Ok(Some(end)),
                 }
