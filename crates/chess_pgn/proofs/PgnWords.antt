@@ -20,7 +20,7 @@ use Rattle.chess_pgn.specs.declared.word_kind.WordKind.{WordKind}
 use Rattle.chess_pgn.specs.declared.word_kind.WordKind.TheVariants.{End, Number, Marks, Move}
 use Rattle.chess_text.specs.laws.Laws.{is_san_byte, begins_with_letter}
 use Rattle.chess_pgn.specs.Tokens.{Word, is_word_byte, token_at, begins_line}
-use Rattle.chess_pgn.specs.ties.Begins.{begins_from_a}
+use Rattle.chess_pgn.specs.ties.Begins.{begins_as_move}
 use Rattle.chess_base.specs.Letters.{is_digit, is_letter}
 use Rattle.chess_pgn.specs.Words.{outcome_of, word_kind}
 use Rattle.chess_pgn.proofs.Walk.{NextToken, next_token}
@@ -223,21 +223,21 @@ move_kind (c ∷ cs) h =
 
 -- ---- words that begin with `A` or a byte after it
 
-from_a_no_outcome : (o : Outcome) → begins_from_a (outcome_text o) ≡ false
+from_a_no_outcome : (o : Outcome) → begins_as_move (outcome_text o) ≡ false
 from_a_no_outcome WhiteWins = refl
 from_a_no_outcome BlackWins = refl
 from_a_no_outcome Draw = refl
 from_a_no_outcome Unfinished = refl
 
-pub from_a_kind : (word : List ℕ) → begins_from_a word ≡ true → word_kind word ≡ Move
-from_a_kind [] h = absurd (cc)
-from_a_kind (c ∷ cs) h =
+pub begins_as_move_kind : (word : List ℕ) → begins_as_move word ≡ true → word_kind word ≡ Move
+begins_as_move_kind [] h = absurd (cc)
+begins_as_move_kind (c ∷ cs) h =
     let first : 65 ≤ c = grind (arith, nat_tests) in
     let digit : nat_le c 57 ≡ false = grind (arith, nat_tests) in
     let stroke : eqb c 33 ≡ false = grind (arith, nat_tests) in
     let query : eqb c 63 ≡ false = grind (arith, nat_tests) in
     let low : nat_le 48 c ≡ true = grind (arith, nat_tests) in
-    ap (kind_by (c ∷ cs)) (no_outcome begins_from_a (c ∷ cs) from_a_no_outcome h) ∙ rw (low, digit, stroke, query) refl
+    ap (kind_by (c ∷ cs)) (no_outcome begins_as_move (c ∷ cs) from_a_no_outcome h) ∙ rw (low, digit, stroke, query) refl
 
 -- digits alone are no outcome
 pub digits_no_outcome : (word : List ℕ) → list_all is_digit word ≡ true → outcome_of word ≡ None

@@ -20,7 +20,7 @@ use crate::termination::Termination;
 use crate::token::{
     Token, TokenFault, after_blanks, after_byte_order_mark, next_token, split_word,
 };
-use crate::word_kind::{WordKind, begins_from_a, is_number, word_kind};
+use crate::word_kind::{WordKind, begins_as_move, is_number, word_kind};
 use chess_base::{FenFault, Move, Position, Variant};
 use chess_fen::read_fen_as;
 use chess_game::{Comment, Game, Outcome, PlayRefusal};
@@ -510,7 +510,7 @@ fn try_move<B: Board>(game: &mut Game<B>, word: &[u8]) -> bool
 
 // Takes a word that is a number, or whose move is played, and returns whether it is such a word. Of any other word, and
 // of none (no bytes), nothing is taken, and nothing changes.
-#[tactic(auto, using(crate::proofs::PgnWords::from_a_kind, crate::proofs::PgnWords::number_kind))]
+#[tactic(auto, using(crate::proofs::PgnWords::begins_as_move_kind, crate::proofs::PgnWords::number_kind))]
 #[inline(always)]
 fn try_word<B: Board>(game: &mut Game<B>, word: &[u8]) -> bool
     requires { game.old.state.declared ≡ None }
@@ -519,7 +519,7 @@ fn try_word<B: Board>(game: &mut Game<B>, word: &[u8]) -> bool
     ensures taken { IsTaken result game.old game.new
         (λ g offset. word_step game.old.limit g offset word.now (word_kind word.now)) }
 {
-    if begins_from_a(word) {
+    if begins_as_move(word) {
         try_move(game, word)
     } else {
         is_number(word)

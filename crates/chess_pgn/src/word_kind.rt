@@ -4,7 +4,7 @@ ghost use Rattle.std.specs.Prelude.{◌≡◌, ◌&&◌, ◌||◌, ◌==◌, len
 ghost use Rattle.std.specs.List.{list_all};
 ghost use Rattle.chess_base.specs.Letters.{byte, is_digit};
 ghost use Rattle.chess_pgn.specs.Words.{outcome_of, word_kind};
-ghost use Rattle.chess_pgn.specs.ties.Begins.{begins_from_a};
+ghost use Rattle.chess_pgn.specs.ties.Begins.{begins_as_move};
 
 use crate::bytes::is_digit;
 use chess_game::Outcome;
@@ -57,8 +57,8 @@ fn has_marks_alone(word: &[u8]) -> bool
 }
 
 // Whether a word's first byte is `A` or greater: a letter or `_`. No outcome, number or mark begins so.
-pub(crate) fn begins_from_a(word: &[u8]) -> bool
-    ensures { result ≡ begins_from_a word.now }
+pub(crate) fn begins_as_move(word: &[u8]) -> bool
+    ensures { result ≡ begins_as_move word.now }
 {
     match word {
         [first, ..] => *first >= b'A',
@@ -69,7 +69,7 @@ pub(crate) fn begins_from_a(word: &[u8]) -> bool
 // What a word is, found without the short cut that most words are moves and begin with a letter.
 #[tactic(auto, using(crate::proofs::PgnWords::number_kind))]
 #[inline(never)]
-fn low_word_kind(word: &[u8]) -> WordKind
+fn general_word_kind(word: &[u8]) -> WordKind
     ensures { result ≡ word_kind word.now }
 {
     if has_digits_alone(word) {
@@ -84,14 +84,14 @@ fn low_word_kind(word: &[u8]) -> WordKind
 }
 
 /// What a word is. Most words are moves that begin with a letter, so this is tested first.
-#[tactic(auto, using(crate::proofs::PgnWords::from_a_kind))]
+#[tactic(auto, using(crate::proofs::PgnWords::begins_as_move_kind))]
 #[inline(always)]
 pub(crate) fn word_kind(word: &[u8]) -> WordKind
     ensures { result ≡ word_kind word.now }
 {
-    if begins_from_a(word) {
+    if begins_as_move(word) {
         WordKind::Move
     } else {
-        low_word_kind(word)
+        general_word_kind(word)
     }
 }
