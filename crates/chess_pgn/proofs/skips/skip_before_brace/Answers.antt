@@ -1,6 +1,6 @@
 use Rattle.std.proofs.Common.{◌≡◌, ◌∙◌, length, ap, length-drop, arith}
 use Rattle.chess_pgn.proofs.Skipped.{from_brace}
-use Rattle.chess_pgn.proofs.skips.near_brace.Goals as goal
+use Rattle.chess_pgn.proofs.skips.skip_before_brace.Goals as goal
 
 pub loop-rest-preserved : goal.loop-rest-preserved
 loop-rest-preserved c =
