@@ -21,7 +21,7 @@ use Rattle.chess_text.specs.declared.reading.Reading.TheVariants as reads
 use Rattle.chess_text.specs.Moves.{reading}
 use Rattle.chess_pgn.specs.Words.{word_kind}
 use Rattle.chess_pgn.specs.Tokens.{Token, Skip, Tag, Word, Bad_tag, Unclosed_comment, Unclosed_variation, Bad, after_byte_order_mark, after_brace, token_at, begins_line, tokens_from}
-use Rattle.chess_pgn.specs.GameRead.{SoFar, Step, On, Stop, unless_full, move_step, word_step, fen_step, tag_step, step, go_on, game_of, nothing_read, tagged_variant, tokens_read, pgn_read}
+use Rattle.chess_pgn.specs.GameRead.{SoFar, Step, On, Stop, unless_full, move_step, word_step, fen_step, tag_step, step, read_rest_with, game_of, nothing_read, tagged_variant, tokens_read, pgn_read}
 use Rattle.chess_pgn.specs.LastTags.{may_precede_tags, named_tag}
 use Rattle.chess_pgn.specs.ties.GameSteps.{so_far, begun, IsReadOn, ReadsAlike, IsTaken, GoesOn, step_seen}
 use Rattle.chess_pgn.specs.ties.Seen.{SkipsTo}
@@ -168,9 +168,9 @@ told_last text from v here t ts r is may = ap (λ b. cond b (variant_from (varia
 stepped : (limit : ℕ) (text : List ℕ) (from : ℕ) (game : Seen) (p : Progress) (here : ℕ) (t : Token)
     (ts : List (ℕ × Token)) (after : Step) → Reads limit text from game p here
     → tokens_from text here ≡ (length text - here, t) ∷ ts → after ≡ step game.limit (length text) (so_far game.state p)
-    (length text - here) t → go_on after (λ g. game_of limit (length text) g ts) ≡ pgn_read limit text from
+    (length text - here) t → read_rest_with after (λ g. game_of limit (length text) g ts) ≡ pgn_read limit text from
 stepped limit text from game p here t ts after r is step_is =
-    ap (λ s. go_on s (λ g. game_of limit (length text) g ts))
+    ap (λ s. read_rest_with s (λ g. game_of limit (length text) g ts))
     (step_is ∙ ap (λ n. step n (length text) (so_far game.state p) (length text - here) t) r.same_limit)
     ∙ ap (game_of limit (length text) (so_far game.state p)) (sym is)
     ∙ r.whole
@@ -233,7 +233,7 @@ more_normal limit text from game new p q here behind t found r is later h may na
       (keeps game.limit (length text) (so_far game.state p) (length text - here) t r.undeclared);
   same_limit = same ∙ r.same_limit;
   whole =
-      ap (λ s. go_on s (λ g. game_of limit (length text) g (tokens_from text behind)))
+      ap (λ s. read_rest_with s (λ g. game_of limit (length text) g (tokens_from text behind)))
       (step_is ∙ ap (λ n. step n (length text) (so_far game.state p) (length text - here) t) r.same_limit)
       ∙ ap (game_of limit (length text) (so_far game.state p)) (sym is) ∙ r.whole;
 }
@@ -339,7 +339,7 @@ one_more text from old game new before p q here behind there word taken g is lat
           (keeps game.limit (length text) (so_far game.state p) (length text - here) (Word word) g.undeclared);
       same_limit = same ∙ g.same_limit;
       whole = sym (alike old.limit (so_far new.state q))
-          ∙ ap (λ s. go_on s (λ h. game_of old.limit (length text) h (tokens_from text behind)))
+          ∙ ap (λ s. read_rest_with s (λ h. game_of old.limit (length text) h (tokens_from text behind)))
           (step_is ∙ ap (λ n. step n (length text) (so_far game.state p) (length text - here) (Word word)) g.same_limit)
           ∙ ap (game_of old.limit (length text) (so_far game.state p)) (sym is)
           ∙ g.whole;

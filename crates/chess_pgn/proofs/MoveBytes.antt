@@ -15,7 +15,7 @@ use Rattle.chess_pgn.specs.declared.read.PgnEnd.{PgnEnd}
 use Rattle.chess_pgn.specs.declared.read.PgnFault.{PgnFault}
 use Rattle.chess_pgn.specs.declared.word_kind.WordKind.{WordKind}
 use Rattle.chess_pgn.specs.declared.word_kind.WordKind.TheVariants.{End, Number, Marks, Move}
-use Rattle.chess_pgn.specs.GameRead.{SoFar, GameRead, Step, On, Stop, unless_full, move_step, word_step, fen_step, tag_step, step, go_on, game_of, at_text_end, nothing_read, tagged_variant, pgn_read}
+use Rattle.chess_pgn.specs.GameRead.{SoFar, GameRead, Step, On, Stop, unless_full, move_step, word_step, fen_step, tag_step, step, read_rest_with, game_of, at_text_end, nothing_read, tagged_variant, pgn_read}
 use Rattle.chess_pgn.specs.laws.Offsets.{HalfMovesHaveBytes}
 use Rattle.chess_pgn.specs.Tokens.{Token, Skip, Tag, Word, Bad_tag, Unclosed_comment, Unclosed_variation, Bad, token_at, tokens_of, after_byte_order_mark, begins_line, tokens_from}
 use Rattle.chess_pgn.specs.Words.{word_kind}
@@ -84,7 +84,7 @@ further first from done most moves (Err x) h k f = tt
 
 gone_on : (first from done : ℕ) (s : Step) (later : SoFar → GameRead) → first + 1 ≤ from → StepFits first done s
     → ((h : SoFar) → Fits from (length h.state.moves) (length (later h).state.moves) (later h).answer)
-    → Fits first done (length (go_on s later).state.moves) (go_on s later).answer
+    → Fits first done (length (read_rest_with s later).state.moves) (read_rest_with s later).answer
 gone_on first from done (On g) later h k f = further first from done (length g.state.moves)
     (length (later g).state.moves) (later g).answer h k (f g)
 gone_on first from done (Stop r) later h k f = k

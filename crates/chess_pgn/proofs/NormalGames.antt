@@ -14,7 +14,7 @@ use Rattle.chess_text.specs.Moves.{reading}
 use Rattle.chess_pgn.specs.declared.read.PgnFaultKind.TheVariants.{NoResult}
 use Rattle.chess_pgn.specs.declared.word_kind.WordKind.{WordKind}
 use Rattle.chess_pgn.specs.declared.word_kind.WordKind.TheVariants.{End, Number, Marks, Move}
-use Rattle.chess_pgn.specs.GameRead.{SoFar, Step, On, Stop, fails, fen_step, tag_step, move_step, word_step, step, unless_full, go_on, game_of, nothing_read, pgn_read, termination_after}
+use Rattle.chess_pgn.specs.GameRead.{SoFar, Step, On, Stop, fails, fen_step, tag_step, move_step, word_step, step, unless_full, read_rest_with, game_of, nothing_read, pgn_read, termination_after}
 use Rattle.chess_pgn.specs.GameText.{start_lines_in, last_lines}
 use Rattle.chess_pgn.specs.LastTags.{is_marks}
 use Rattle.chess_pgn.specs.laws.Normal.{normal_tag_step, normal_step, normal_game_of, normal_read, is_mark_word, names_no_variant, NormalIsKept}
@@ -116,13 +116,13 @@ same_game : (limit total : ℕ) (g : SoFar) (ts : List (ℕ × Token)) → g.sta
     → game_of limit total g ts ≡ normal_game_of limit total g ts
 same_game limit total g [] normal = refl
 same_game limit total g (t ∷ ts) normal =
-    ap (λ s. go_on s (λ h. game_of limit total h ts)) (same_step limit total g normal t.0 t.1)
+    ap (λ s. read_rest_with s (λ h. game_of limit total h ts)) (same_step limit total g normal t.0 t.1)
     ∙ by_step ts (λ h n. same_game limit total h ts n) (normal_step limit total g t.0 t.1)
     (keeps limit total g normal t.0 t.1)
   where
     by_step : (ts : List (ℕ × Token)) → ((h : SoFar) → h.state.start.variant ≡ Normal
         → game_of limit total h ts ≡ normal_game_of limit total h ts) → (s : Step) → IsNormal s
-        → go_on s (λ h. game_of limit total h ts) ≡ go_on s (λ h. normal_game_of limit total h ts)
+        → read_rest_with s (λ h. game_of limit total h ts) ≡ read_rest_with s (λ h. normal_game_of limit total h ts)
     by_step ts later (On h) n = later h n
     by_step ts later (Stop read) n = refl
 

@@ -19,7 +19,7 @@ use Rattle.chess_game.specs.declared.results.Outcome.TheVariants.{WhiteWins, Bla
 use Rattle.chess_pgn.specs.declared.termination.Termination.{Termination}
 use Rattle.chess_pgn.specs.declared.termination.Termination.TheVariants as ending
 use Rattle.chess_pgn.specs.Terminations.{termination_text, termination_named}
-use Rattle.chess_pgn.specs.GameRead.{SoFar, GameRead, On, Stop, declared_after, move_step, word_step, fen_step, step, go_on, game_of}
+use Rattle.chess_pgn.specs.GameRead.{SoFar, GameRead, On, Stop, declared_after, move_step, word_step, fen_step, step, read_rest_with, game_of}
 use Rattle.chess_text.specs.Moves.{reading}
 use Rattle.chess_text.specs.San.{san}
 use Rattle.chess_pgn.specs.Tokens.{Token, Skip, Tag, Word, is_word_byte, token_at, tokens_of}
@@ -84,7 +84,7 @@ termination_back ending.Unterminated = refl
 module _ (limit total : ℕ) where
   -- what follows the first token's step
   behind_step : SoFar → ℕ → Token × List ℕ → ℕ → ℕ → GameRead
-  behind_step g c t left most = go_on (step limit total g left t.0)
+  behind_step g c t left most = read_rest_with (step limit total g left t.0)
       (λ h. game_of limit total h (tokens_of most (eqb c 10) t.1))
 
   -- reading goes on after a token
@@ -96,7 +96,7 @@ module _ (limit total : ℕ) where
       let few : length behind ≤ length rest =
       subst (λ (t : Token × List ℕ). length t.1 ≤ length rest) is (shorter begins c rest) in
       ap (λ (t : Token × List ℕ). behind_step g c t (suc (length rest)) (length rest)) is
-      ∙ ap (λ s. go_on s (λ k. game_of limit total k (tokens_of (length rest) (eqb c 10) behind))) next
+      ∙ ap (λ s. read_rest_with s (λ k. game_of limit total k (tokens_of (length rest) (eqb c 10) behind))) next
       ∙ ap (game_of limit total h) (enough (length rest) (length behind) (eqb c 10) behind few (omega arith))
 
   -- reading ends at a token
@@ -106,7 +106,7 @@ module _ (limit total : ℕ) where
   unfolding tokens_of behind_step
   token_ends g begins c rest token behind r is next =
       ap (λ (t : Token × List ℕ). behind_step g c t (suc (length rest)) (length rest)) is
-      ∙ ap (λ s. go_on s (λ k. game_of limit total k (tokens_of (length rest) (eqb c 10) behind))) next
+      ∙ ap (λ s. read_rest_with s (λ k. game_of limit total k (tokens_of (length rest) (eqb c 10) behind))) next
 
   -- ---- skipped bytes
 

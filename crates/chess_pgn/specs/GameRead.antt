@@ -137,15 +137,15 @@ at_text_end total g =
 
 -- what was read in the end: if the step says that reading goes on, what `later` gives for the game so far; else what
 -- the step stopped with
-abbrev pub go_on : Step → (SoFar → GameRead) → GameRead
-go_on (On g) later = later g
-go_on (Stop read) later = read
+abbrev pub read_rest_with : Step → (SoFar → GameRead) → GameRead
+read_rest_with (On g) later = later g
+read_rest_with (Stop read) later = read
 
 -- what was read in the end, from the game so far (`g`) and the tokens that are left, each after how many bytes are left
 -- where it begins. `limit` is the most half-moves of a game, `total` the text's length
 abbrev pub game_of : ℕ → ℕ → SoFar → List (ℕ × Token) → GameRead
 game_of limit total g [] = at_text_end total g
-game_of limit total g (t ∷ ts) = go_on (step limit total g t.0 t.1) (λ h. game_of limit total h ts)
+game_of limit total g (t ∷ ts) = read_rest_with (step limit total g t.0 t.1) (λ h. game_of limit total h ts)
 
 -- what is known before the first token: the game is at the initial position of this variant, and nothing else was met
 abbrev pub nothing_read : Variant → SoFar

@@ -10,7 +10,7 @@ use Rattle.chess_pgn.specs.declared.read.PgnFaultKind.TheVariants.{NoResult}
 use Rattle.chess_pgn.specs.declared.termination.Termination.{Termination}
 use Rattle.chess_pgn.specs.declared.word_kind.WordKind.{WordKind}
 use Rattle.chess_pgn.specs.declared.word_kind.WordKind.TheVariants.{End, Number, Marks, Move}
-use Rattle.chess_pgn.specs.GameRead.{SoFar, GameRead, Step, On, fails, fen_step, termination_after, step, at_text_end, go_on, pgn_read}
+use Rattle.chess_pgn.specs.GameRead.{SoFar, GameRead, Step, On, fails, fen_step, termination_after, step, at_text_end, read_rest_with, pgn_read}
 use Rattle.chess_fen.specs.Writing.{is_initial}
 use Rattle.chess_pgn.specs.GameText.{fen_lines, further_lines}
 use Rattle.chess_pgn.specs.Terminations.{termination_text}
@@ -56,7 +56,7 @@ normal_step limit total g left Bad = step limit total g left Bad
 -- is the most half-moves of a game, `total` the text's length
 abbrev pub normal_game_of : ℕ → ℕ → SoFar → List (ℕ × Token) → GameRead
 normal_game_of limit total g [] = at_text_end total g
-normal_game_of limit total g (t ∷ ts) = go_on (normal_step limit total g t.0 t.1) (λ h. normal_game_of limit total h ts)
+normal_game_of limit total g (t ∷ ts) = read_rest_with (normal_step limit total g t.0 t.1) (λ h. normal_game_of limit total h ts)
 
 -- what is read of these tokens, if there were no Chess960: a game from the initial position of normal chess on. `limit`
 -- is the most half-moves of a game, `total` the text's length
