@@ -14,7 +14,7 @@ use Rattle.chess_pgn.proofs.TagScans.{last_from, last_step}
 use Rattle.chess_pgn.proofs.TokenPlaces.{token_within}
 
 abbrev pub InText : ℕ → Option Tag → Type 0
-InText total tag = IfSome tag (λ t. t.left ≤ total)
+InText total tag = IfSome tag (λ t. t.to_end ≤ total)
 
 pub record Reads (text name : List ℕ) (from : ℕ) (last : Option Tag) (here : ℕ) : Type 0 where
   pub offset : here ≤ length text

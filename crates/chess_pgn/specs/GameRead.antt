@@ -118,16 +118,16 @@ tag_step g name text offset =
 -- ---- tokens, in a text of so many bytes; each with how many bytes are left where it begins
 
 -- what follows from one token for the game so far (`g`). `limit` is the most half-moves of a game, `total` the text's
--- length, and `left` how many bytes are left from the token on, so that its offset is `total - left`
+-- length, and `to_end` how many bytes are left from the token on, so that its offset is `total - to_end`
 abbrev pub step : ℕ → ℕ → SoFar → ℕ → Token → Step
-step limit total g left Skip = On g
-step limit total g left (Tag name text string) =
-    if g.is_begun then fails g NoResult (total - left) else tag_step g name text (total - string)
-step limit total g left (Word word) = word_step limit g (total - left) word (word_kind word)
-step limit total g left Bad_tag = fails g (if g.is_begun then NoResult else BadTag) (total - left)
-step limit total g left (Unclosed_comment brace) = fails g UnclosedComment (total - brace)
-step limit total g left Unclosed_variation = fails g UnclosedVariation (total - left)
-step limit total g left Bad = fails g BadToken (total - left)
+step limit total g to_end Skip = On g
+step limit total g to_end (Tag name text string) =
+    if g.is_begun then fails g NoResult (total - to_end) else tag_step g name text (total - string)
+step limit total g to_end (Word word) = word_step limit g (total - to_end) word (word_kind word)
+step limit total g to_end Bad_tag = fails g (if g.is_begun then NoResult else BadTag) (total - to_end)
+step limit total g to_end (Unclosed_comment brace) = fails g UnclosedComment (total - brace)
+step limit total g to_end Unclosed_variation = fails g UnclosedVariation (total - to_end)
+step limit total g to_end Bad = fails g BadToken (total - to_end)
 
 -- what was read if the text ends here, before an outcome mark: no game (`None`), or the fault NoResult at the end if a
 -- tag, number or move was met. `g` is the game so far, `total` the text's length

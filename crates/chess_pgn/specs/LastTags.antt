@@ -18,14 +18,14 @@ is_marks _ = false
 -- after this token more tags of the same game may come: it is skipped, a tag, or marks such as `!?`
 abbrev pub may_precede_tags : Token → Bool
 may_precede_tags Skip = true
-may_precede_tags (Tag name text left) = true
+may_precede_tags (Tag name text to_end) = true
 may_precede_tags (Word word) = is_marks (word_kind word)
 may_precede_tags _ = false
 
 -- the text of a token that is a tag with the given name, and how many bytes of the game's text are left where that text
 -- begins; none for any other token
 abbrev pub named_tag : List ℕ → Token → Option (List ℕ × ℕ)
-named_tag name (Tag other text left) = if bytes_eq other name then Some (text, left) else None
+named_tag name (Tag other text to_end) = if bytes_eq other name then Some (text, to_end) else None
 named_tag name _ = None
 
 -- the last tag with that name among a game's tags, which end before the first number, move, outcome or fault: its text,

@@ -38,7 +38,7 @@ pub(crate) fn named_tag<'t>(name: &[u8], token: &Token<'t>) -> Option<Tag<'t>>
 pub(crate) fn last_tag<'t>(text: &'t [u8], at: usize, name: &[u8]) -> Option<Tag<'t>>
     requires { at ≤ length text.now }
     ensures tag { found_seen result ≡ last_tag name.now (tokens_from text.now at) }
-    ensures within { IfSome result (λ tag. tag.left ≤ length text.now) }
+    ensures within { IfSome result (λ tag. tag.to_end ≤ length text.now) }
 {
     let mut offset = at;
     let mut last = None;

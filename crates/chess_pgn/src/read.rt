@@ -329,7 +329,7 @@ fn apply_token<B: Board>(
             kind: PgnFaultKind::NoResult,
             offset,
         }),
-        Token::Tag(tag) => apply_tag(game, progress, tag, len - tag.left),
+        Token::Tag(tag) => apply_tag(game, progress, tag, len - tag.to_end),
         Token::Word(word) => apply_word(game, progress, offset, word),
     }
 }
@@ -351,9 +351,9 @@ fn reported_fault(fault: TokenFault, progress: Progress, len: usize, offset: usi
             kind: PgnFaultKind::BadTag,
             offset,
         },
-        TokenFault::UnclosedComment { left } => PgnFault {
+        TokenFault::UnclosedComment { to_end } => PgnFault {
             kind: PgnFaultKind::UnclosedComment,
-            offset: len - left,
+            offset: len - to_end,
         },
         TokenFault::UnclosedVariation => PgnFault {
             kind: PgnFaultKind::UnclosedVariation,

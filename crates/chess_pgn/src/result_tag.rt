@@ -30,7 +30,7 @@ pub fn result_tag(text: &[u8], at: usize) -> Option<ResultTag>
     let tag = last_tag(text, after_byte_order_mark(text, at), b"Result")?;
     Some(ResultTag {
         outcome: outcome_of(tag.text),
-        offset: text.len() - tag.left,
+        offset: text.len() - tag.to_end,
         len: tag.text.len(),
     })
 }

@@ -45,7 +45,7 @@ pub(crate) fn after_variation(text: &[u8]) -> Result<&[u8], TokenFault>
     let mut depth = 0;
     while let [byte, others @ ..] = rest {
         let Some(behind) = after_part(line_begins, *byte, others) else {
-            return Err(TokenFault::UnclosedComment { left: rest.len() });
+            return Err(TokenFault::UnclosedComment { to_end: rest.len() });
         };
         let Some(open) = depth_after(depth, *byte) else {
             return Ok(behind);

@@ -41,16 +41,16 @@ normal_tag_step g name text offset =
     })
 
 -- what follows from one token for the game so far (`g`), if there were no Chess960. `limit` is the most half-moves of a
--- game, `total` the text's length, and `left` how many bytes are left from the token on
+-- game, `total` the text's length, and `to_end` how many bytes are left from the token on
 abbrev pub normal_step : ℕ → ℕ → SoFar → ℕ → Token → Step
-normal_step limit total g left (Tag name text string) =
-    if g.is_begun then fails g NoResult (total - left) else normal_tag_step g name text (total - string)
-normal_step limit total g left Skip = step limit total g left Skip
-normal_step limit total g left (Word word) = step limit total g left (Word word)
-normal_step limit total g left Bad_tag = step limit total g left Bad_tag
-normal_step limit total g left (Unclosed_comment brace) = step limit total g left (Unclosed_comment brace)
-normal_step limit total g left Unclosed_variation = step limit total g left Unclosed_variation
-normal_step limit total g left Bad = step limit total g left Bad
+normal_step limit total g to_end (Tag name text string) =
+    if g.is_begun then fails g NoResult (total - to_end) else normal_tag_step g name text (total - string)
+normal_step limit total g to_end Skip = step limit total g to_end Skip
+normal_step limit total g to_end (Word word) = step limit total g to_end (Word word)
+normal_step limit total g to_end Bad_tag = step limit total g to_end Bad_tag
+normal_step limit total g to_end (Unclosed_comment brace) = step limit total g to_end (Unclosed_comment brace)
+normal_step limit total g to_end Unclosed_variation = step limit total g to_end Unclosed_variation
+normal_step limit total g to_end Bad = step limit total g to_end Bad
 
 -- what is read in the end, from the game so far (`g`) and the tokens that are left, if there were no Chess960. `limit`
 -- is the most half-moves of a game, `total` the text's length
@@ -68,11 +68,11 @@ normal_read limit total tokens = normal_game_of limit total
 
 -- whether a token is a tag Variant
 abbrev pub names_variant : Token → Bool
-names_variant (Tag name text left) = bytes_eq name (codes "Variant")
+names_variant (Tag name text to_end) = bytes_eq name (codes "Variant")
 names_variant Skip = false
 names_variant (Word word) = false
 names_variant Bad_tag = false
-names_variant (Unclosed_comment left) = false
+names_variant (Unclosed_comment to_end) = false
 names_variant Unclosed_variation = false
 names_variant Bad = false
 
@@ -86,10 +86,10 @@ is_mark_word (End o) = false
 -- after this token no tag of the game may follow: it is a number, a move, an outcome, or can't be read
 abbrev pub ends_tags : Token → Bool
 ends_tags Skip = false
-ends_tags (Tag name text left) = false
+ends_tags (Tag name text to_end) = false
 ends_tags (Word word) = not (is_mark_word (word_kind word))
 ends_tags Bad_tag = true
-ends_tags (Unclosed_comment left) = true
+ends_tags (Unclosed_comment to_end) = true
 ends_tags Unclosed_variation = true
 ends_tags Bad = true
 

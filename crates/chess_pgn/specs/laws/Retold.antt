@@ -48,19 +48,19 @@ is_outcome Move = false
 abbrev pub begins : Token → Bool
 begins (Word word) = is_number_or_move (word_kind word)
 begins Skip = false
-begins (Tag name text left) = false
+begins (Tag name text to_end) = false
 begins Bad_tag = false
-begins (Unclosed_comment left) = false
+begins (Unclosed_comment to_end) = false
 begins Unclosed_variation = false
 begins Bad = false
 
 -- whether a token is a tag, number or move, so that a text with it has a game
 abbrev pub counts : Token → Bool
-counts (Tag name text left) = true
+counts (Tag name text to_end) = true
 counts (Word word) = is_number_or_move (word_kind word)
 counts Skip = false
 counts Bad_tag = false
-counts (Unclosed_comment left) = false
+counts (Unclosed_comment to_end) = false
 counts Unclosed_variation = false
 counts Bad = false
 
@@ -75,10 +75,10 @@ is_fen name = bytes_eq name (codes "FEN")
 -- move (`begun` says if that came), where FEN must denote a sound position of the variant `v`
 abbrev pub can_be_taken : Variant → Bool → Token → Bool
 can_be_taken v begun Skip = true
-can_be_taken v begun (Tag name text left) = not begun && (not (is_fen name) || is_ok (fen_reading_as v text))
+can_be_taken v begun (Tag name text to_end) = not begun && (not (is_fen name) || is_ok (fen_reading_as v text))
 can_be_taken v begun (Word word) = not (is_outcome (word_kind word))
 can_be_taken v begun Bad_tag = false
-can_be_taken v begun (Unclosed_comment left) = false
+can_be_taken v begun (Unclosed_comment to_end) = false
 can_be_taken v begun Unclosed_variation = false
 can_be_taken v begun Bad = false
 
@@ -101,9 +101,9 @@ if_move word Move = word ∷ []
 abbrev pub move_words_of : Token → List (List ℕ)
 move_words_of (Word word) = if_move word (word_kind word)
 move_words_of Skip = []
-move_words_of (Tag name text left) = []
+move_words_of (Tag name text to_end) = []
 move_words_of Bad_tag = []
-move_words_of (Unclosed_comment left) = []
+move_words_of (Unclosed_comment to_end) = []
 move_words_of Unclosed_variation = []
 move_words_of Bad = []
 
@@ -120,11 +120,11 @@ if_read p (Err fault) = p
 -- the game's start after one more token: what a tag FEN denotes, read as one of the variant `v`; else `p`, the start so
 -- far
 abbrev pub start_by : Variant → Setup → Token → Setup
-start_by v p (Tag name text left) = if is_fen name then if_read p (fen_reading_as v text) else p
+start_by v p (Tag name text to_end) = if is_fen name then if_read p (fen_reading_as v text) else p
 start_by v p Skip = p
 start_by v p (Word word) = p
 start_by v p Bad_tag = p
-start_by v p (Unclosed_comment left) = p
+start_by v p (Unclosed_comment to_end) = p
 start_by v p Unclosed_variation = p
 start_by v p Bad = p
 
@@ -136,11 +136,11 @@ tagged_start v p (t ∷ ts) = tagged_start v (start_by v p t.1) ts
 
 -- what is known of Termination after one more token: what a tag Termination names; else `o`, what was known so far
 abbrev pub termination_by_token : Option Termination → Token → Option Termination
-termination_by_token o (Tag name text left) = termination_after o name text
+termination_by_token o (Tag name text to_end) = termination_after o name text
 termination_by_token o Skip = o
 termination_by_token o (Word word) = o
 termination_by_token o Bad_tag = o
-termination_by_token o (Unclosed_comment left) = o
+termination_by_token o (Unclosed_comment to_end) = o
 termination_by_token o Unclosed_variation = o
 termination_by_token o Bad = o
 
@@ -192,18 +192,18 @@ fen_fault (Ok start) = None
 fen_fault (Err fault) = Some (BadFen fault)
 
 -- why a token can't be taken in the game `s` of the variant `v`, with the fault's offset; none if it can. `limit` is
--- the most half-moves of a game, `total` the text's length, `left` how many bytes are left from the token on; `begun`:
+-- the most half-moves of a game, `total` the text's length, `to_end` how many bytes are left from the token on; `begun`:
 -- a number or move came before it
 abbrev pub token_fault : ℕ → ℕ → Variant → Bool → State → ℕ → Token → Option PgnFault
-token_fault limit total v begun s left Skip = None
-token_fault limit total v begun s left (Tag name text string) =
-    if begun then fault_at (total - left) (Some NoResult)
+token_fault limit total v begun s to_end Skip = None
+token_fault limit total v begun s to_end (Tag name text string) =
+    if begun then fault_at (total - to_end) (Some NoResult)
     else (if is_fen name then fault_at (total - string) (fen_fault (fen_reading_as v text)) else None)
-token_fault limit total v begun s left (Word word) = fault_at (total - left) (word_fault limit s word (word_kind word))
-token_fault limit total v begun s left Bad_tag = fault_at (total - left) (Some (if begun then NoResult else BadTag))
-token_fault limit total v begun s left (Unclosed_comment brace) = fault_at (total - brace) (Some UnclosedComment)
-token_fault limit total v begun s left Unclosed_variation = fault_at (total - left) (Some UnclosedVariation)
-token_fault limit total v begun s left Bad = fault_at (total - left) (Some BadToken)
+token_fault limit total v begun s to_end (Word word) = fault_at (total - to_end) (word_fault limit s word (word_kind word))
+token_fault limit total v begun s to_end Bad_tag = fault_at (total - to_end) (Some (if begun then NoResult else BadTag))
+token_fault limit total v begun s to_end (Unclosed_comment brace) = fault_at (total - brace) (Some UnclosedComment)
+token_fault limit total v begun s to_end Unclosed_variation = fault_at (total - to_end) (Some UnclosedVariation)
+token_fault limit total v begun s to_end Bad = fault_at (total - to_end) (Some BadToken)
 
 -- ---- the game
 
