@@ -112,9 +112,9 @@ game_in limit total (suc n) begins g (c ∷ rest) =
 
 -- ---- the offset where reading begins
 
-pub behind : (text : List ℕ) (at : ℕ) → at ≤ length text → (at ≤ after_byte_order_mark text at)
+pub not_before : (text : List ℕ) (at : ℕ) → at ≤ length text → (at ≤ after_byte_order_mark text at)
     × (after_byte_order_mark text at ≤ length text)
-behind text at h = pick (λ (n : ℕ). (at ≤ n) × (n ≤ length text))
+not_before text at h = pick (λ (n : ℕ). (at ≤ n) × (n ≤ length text))
     (eqb at 0 && bytes_eq (take 3 text) (239 ∷ 187 ∷ 191 ∷ [])) _ _ (λ e. mark (and_parts (eqb at 0) _ e))
     (λ _. (omega arith, h))
   where
@@ -131,7 +131,7 @@ unfolding pgn_read tokens_from
 fault_in_place limit text at h =
     let offset : ℕ = after_byte_order_mark text at in
     let g : SoFar = nothing_read (tagged_variant (tokens_from text offset)) in
-    let later = behind text at h in
+    let later = not_before text at h in
     let low = later.0 in
     let high = later.1 in
     let left = length-drop offset text in

@@ -20,7 +20,7 @@ use Rattle.chess_pgn.specs.laws.Offsets.{HalfMovesHaveBytes}
 use Rattle.chess_pgn.specs.Tokens.{Token, Skip, Tag, Word, Bad_tag, Unclosed_comment, Unclosed_variation, Bad, token_at, tokens_of, after_byte_order_mark, begins_line, tokens_from}
 use Rattle.chess_pgn.specs.Words.{word_kind}
 use Rattle.chess_pgn.proofs.Cuts.{pick}
-use Rattle.chess_pgn.proofs.FaultPlaces.{behind}
+use Rattle.chess_pgn.proofs.FaultPlaces.{not_before}
 use Rattle.chess_pgn.proofs.Walk.{shorter}
 
 -- from an offset on, after so many half-moves
@@ -119,7 +119,7 @@ unfolding pgn_read tokens_from
 half_moves_have_bytes limit text at h =
     let offset : ℕ = after_byte_order_mark text at in
     let g : SoFar = nothing_read (tagged_variant (tokens_from text offset)) in
-    let inside = behind text at h in
+    let inside = not_before text at h in
     let low = inside.0 in
     let high = inside.1 in
     let left = length-drop offset text in

@@ -189,7 +189,7 @@ module _ (limit total : ℕ) where
       let open_yet : verdict start done ≡ None =
       ap (verdict start) (sym here) ∙ whole.unended (length done) (omega arith) in
       let room : length done < limit = omega (arith, whole.few) in
-      let behind = moves_read law told start all whole o rest r ended false (after p m) (done ++ m ∷ []) ms
+      let tail = moves_read law told start all whole o rest r ended false (after p m) (done ++ m ∷ []) ms
       (append_assoc done (m ∷ []) ms ∙ same) (last-more start done m ∙ ap (λ q. after q m) at)
       (law p m sound line.0) line.1 in
       let tokens : move_tokens is_first p (m ∷ ms) ++ o ∷ [] ≡ number_token p.side is_first p.fullmove
@@ -200,5 +200,5 @@ module _ (limit total : ℕ) where
       (leb-true _ _ sound.fullmove_high) (λ x b k.
       token_read (read_so_far told start done x) (read_so_far told start (done ++ m ∷ []) true) b k (san p m) more rest
       r (san_takes limit total (read_so_far told start done x) p m sound line.0 at open_yet room)
-      (omega (arith, (san_short p m sound line.0).0)) (behind true false (next_column k (san p m)))) is_begun
+      (omega (arith, (san_short p m sound line.0).0)) (tail true false (next_column k (san p m)))) is_begun
       begins column

@@ -208,12 +208,12 @@ no_mark (b ∷ before) c rest e = let some : eqb (suc (length before)) 0 ≡ fal
     rw some refl
 
 -- reading from the offset after `before` on
-read_behind : (limit : ℕ) (before text : List ℕ) (v : Variant) → after_byte_order_mark (before ++ text) (length before)
+read_after : (limit : ℕ) (before text : List ℕ) (v : Variant) → after_byte_order_mark (before ++ text) (length before)
     ≡ length before → told_on Normal (begins_line (before ++ text) (length before)) text ≡ v
     → pgn_read limit (before ++ text) (length before) ≡ read_on limit (length (before ++ text)) (nothing_read v)
     (begins_line (before ++ text) (length before)) text
 unfolding pgn_read tokens_from
-read_behind limit before text v offset told =
+read_after limit before text v offset told =
     let whole : List ℕ = before ++ text in
     let fewer : length text ≤ length whole = omega (arith, length-append before text) in
     ap (λ at. tokens_read limit (length whole) (tokens_from whole at)) offset
@@ -279,7 +279,7 @@ pgn_law after_law law initial limit tags s before rest texts h =
     (record { start = s.start; moves = s.moves; declared = None }) (outcome_now s)
     (total - length (o ++ 10 ∷ 10 ∷ rest) + length o) =
     ap (λ text. pgn_read limit text (length before)) (append_assoc before written rest)
-    ∙ read_behind limit before (written ++ rest) s.start.variant offset
+    ∙ read_after limit before (written ++ rest) s.start.variant offset
     (variant_is tags texts s h.start (begins_line (before ++ (written ++ rest)) (length before)) rest)
     ∙ text_read limit total after_law law initial tags texts s h
     (begins_line (before ++ (written ++ rest)) (length before)) rest in
@@ -289,7 +289,7 @@ pgn_law after_law law initial limit tags s before rest texts h =
       outcome = same_outcome (verdict_now s) s.declared;
       offset = total - length (o ++ 10 ∷ 10 ∷ rest) + length o;
       answer = refl;
-      behind = omega (
+      two_before_end = omega (
         arith,
         length-append before (written ++ rest),
         length-append written rest,

@@ -103,13 +103,13 @@ word_first begins [] some h = absurd (omega (arith, some))
 word_first begins (c ∷ rest) some h =
     sym (ap (token_at begins c) (take_rest (c ∷ rest) 1) ∙ begins_word begins c rest h)
 
-pub next_word : (text : List ℕ) (at : ℕ) (xs word behind : List ℕ) → at ≤ length text
+pub next_word : (text : List ℕ) (at : ℕ) (xs word tail : List ℕ) → at ≤ length text
     → xs ≡ take (length text - at) (drop at text) → 1 ≤ length xs → is_word_byte (get_or xs 0 0) ≡ true
-    → word ≡ take_while is_word_byte xs → behind ≡ drop (prefix_len is_word_byte xs) xs
-    → NextToken text at (Word word) behind
-next_word text at xs word behind h is some first taken left =
-    next_token text at (begins_line text at) xs h refl is some (Word word) behind
-    (ap (λ w. (Word w, behind)) taken ∙ ap (λ r. (Word (take_while is_word_byte xs), r)) left
+    → word ≡ take_while is_word_byte xs → tail ≡ drop (prefix_len is_word_byte xs) xs
+    → NextToken text at (Word word) tail
+next_word text at xs word tail h is some first taken left =
+    next_token text at (begins_line text at) xs h refl is some (Word word) tail
+    (ap (λ w. (Word w, tail)) taken ∙ ap (λ r. (Word (take_while is_word_byte xs), r)) left
     ∙ word_first (begins_line text at) xs some first)
 
 -- what passes at a text's front begins with its first byte
@@ -123,12 +123,12 @@ run_first p (c ∷ xs) some = by_test (p c) refl
     by_test false e = absurd (omega (arith, rw e at some))
 
 -- a word that is no empty one is the next token
-pub some_word : (text : List ℕ) (at : ℕ) (xs word behind : List ℕ) → at ≤ length text
+pub some_word : (text : List ℕ) (at : ℕ) (xs word tail : List ℕ) → at ≤ length text
     → xs ≡ take (length text - at) (drop at text) → word ≡ take_while is_word_byte xs
-    → behind ≡ drop (prefix_len is_word_byte xs) xs → 0 < length word → NextToken text at (Word word) behind
-some_word text at xs word behind h is taken left some =
+    → tail ≡ drop (prefix_len is_word_byte xs) xs → 0 < length word → NextToken text at (Word word) tail
+some_word text at xs word tail h is taken left some =
     let first = run_first is_word_byte xs (subst (λ w. 0 < length w) taken some) in
-    next_word text at xs word behind h is first.0 first.1 taken left
+    next_word text at xs word tail h is first.0 first.1 taken left
 
 pub word_token : (begins : Bool) (c : ℕ) (cs : List ℕ) (d : ℕ) (rest : List ℕ) → list_all is_word_byte (c ∷ cs) ≡ true
     → is_word_byte d ≡ false → token_at begins c (cs ++ d ∷ rest) ≡ (Word (c ∷ cs), d ∷ rest)

@@ -39,27 +39,27 @@ use Rattle.chess_pgn.proofs.Walk.{enough, shorter}
 abbrev pub told_on : Variant → Bool → List ℕ → Variant
 told_on v begins text = variant_from v (tokens_of (length text) begins text)
 
-behind : Variant → ℕ → Token × List ℕ → ℕ → Variant
-behind v c t most =
+variant_then : Variant → ℕ → Token × List ℕ → ℕ → Variant
+variant_then v c t most =
     cond (may_precede_tags t.0) (variant_from (variant_told v t.0) (tokens_of most (eqb c 10) t.1)) v
 
 token_tells : (v u : Variant) (begins : Bool) (c : ℕ) (rest : List ℕ) (token : Token) (more : List ℕ)
     → token_at begins c rest ≡ (token, more) → may_precede_tags token ≡ true → variant_told v token ≡ u
     → told_on v begins (c ∷ rest) ≡ told_on u (eqb c 10) more
-unfolding tokens_of behind
+unfolding tokens_of variant_then
 token_tells v u begins c rest token more is may told =
     let few : length more ≤ length rest = subst (λ (t : Token × List ℕ). length t.1 ≤ length rest) is
     (shorter begins c rest) in
-    ap (λ (t : Token × List ℕ). behind v c t (length rest)) is
+    ap (λ (t : Token × List ℕ). variant_then v c t (length rest)) is
     ∙ ap (λ b. cond b (variant_from (variant_told v token) (tokens_of (length rest) (eqb c 10) more)) v) may
     ∙ ap (λ w. variant_from w (tokens_of (length rest) (eqb c 10) more)) told
     ∙ ap (variant_from u) (enough (length rest) (length more) (eqb c 10) more few (omega arith))
 
 token_stops : (v : Variant) (begins : Bool) (c : ℕ) (rest : List ℕ) (token : Token) (more : List ℕ)
     → token_at begins c rest ≡ (token, more) → may_precede_tags token ≡ false → told_on v begins (c ∷ rest) ≡ v
-unfolding tokens_of behind
+unfolding tokens_of variant_then
 token_stops v begins c rest token more is may =
-    ap (λ (t : Token × List ℕ). behind v c t (length rest)) is
+    ap (λ (t : Token × List ℕ). variant_then v c t (length rest)) is
     ∙ ap (λ b. cond b (variant_from (variant_told v token) (tokens_of (length rest) (eqb c 10) more)) v) may
 
 line_end_tells : (v : Variant) (begins : Bool) (rest : List ℕ) → told_on v begins (10 ∷ rest) ≡ told_on v true rest

@@ -117,10 +117,10 @@ tag_at text = do
 
 -- ---- tokens
 
--- the token of a `{` comment and the text after it. `behind` is the text after its `}`, or `None` if that is missing,
+-- the token of a `{` comment and the text after it. `after` is the text after its `}`, or `None` if that is missing,
 -- which is a fault; `to_end` counts the bytes from its `{` on
 abbrev pub comment_at : ℕ → Option (List ℕ) → Token × List ℕ
-comment_at to_end behind = option_map_or (λ rest. (Skip, rest)) behind (Unclosed_comment to_end, [])
+comment_at to_end after = option_map_or (λ rest. (Skip, rest)) after (Unclosed_comment to_end, [])
 
 -- the first token of the text `c ∷ rest`, and the text after it, which is empty after a token that can't be read.
 -- `line_begins`: `c` is the first byte of a line, where `%` skips the line

@@ -44,12 +44,12 @@ pub(crate) fn last_tag<'t>(text: &'t [u8], at: usize, name: &[u8]) -> Option<Tag
     let mut last = None;
     loop {
         match next_token(text, offset) {
-            Ok(Some((token, behind))) => {
+            Ok(Some((token, token_end))) => {
                 if !may_precede_tags(&token) {
                     return last;
                 }
                 last = named_tag(name, &token).or(last);
-                offset = after_blanks(text, behind);
+                offset = after_blanks(text, token_end);
             }
             Ok(None) | Err(_) => return last,
         }

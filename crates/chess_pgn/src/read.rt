@@ -405,8 +405,8 @@ fn tagged_variant(text: &[u8], at: usize) -> Variant
 #[inline(always)]
 fn after_comment(text: &[u8], at: usize) -> Option<usize>
     requires { at ≤ length text.now }
-    ensures { IfSome result (λ behind.
-        ReadsAlike text.now at behind × (at < behind) × (behind ≤ length text.now)) }
+    ensures { IfSome result (λ end.
+        ReadsAlike text.now at end × (at < end) × (end ≤ length text.now)) }
 {
     let [first, rest @ ..] = &text[at..] else {
         return None;
@@ -415,7 +415,7 @@ fn after_comment(text: &[u8], at: usize) -> Option<usize>
         return None;
     }
     match after_brace(rest) {
-        Some(behind) => Some(text.len() - behind.len()),
+        Some(tail) => Some(text.len() - tail.len()),
         None => None,
     }
 }
@@ -426,13 +426,13 @@ fn after_comment(text: &[u8], at: usize) -> Option<usize>
 fn after_skipped(text: &[u8], at: usize) -> usize
     requires { at ≤ length text.now }
     ensures alike { ReadsAlike text.now at result }
-    ensures behind { at ≤ result }
+    ensures forward { at ≤ result }
     ensures within { result ≤ length text.now }
 {
     let first = after_blanks(text, at);
     let mut offset = first;
-    while let Some(behind) = after_comment(text, offset) {
-        offset = after_blanks(text, behind);
+    while let Some(comment_end) = after_comment(text, offset) {
+        offset = after_blanks(text, comment_end);
     }
     offset
 }
@@ -455,7 +455,7 @@ fn read_normal_tags<B: Board>(
         let Ok(next) = next_token(text, offset) else {
             return None;
         };
-        let Some((token, behind)) = next else {
+        let Some((token, token_end)) = next else {
             return Some((progress, offset));
         };
         if !may_precede_tags(&token) {
@@ -470,7 +470,7 @@ fn read_normal_tags<B: Board>(
             Ok(Step::Ended(_)) => return None,
             Err(_) => return None,
         }
-        offset = after_blanks(text, behind);
+        offset = after_blanks(text, token_end);
     }
 }
 
@@ -542,12 +542,12 @@ fn take_words<B: Board>(
 {
     let mut offset = at;
     loop {
-        let (word, behind) = split_word(&text[offset..]);
+        let (word, tail) = split_word(&text[offset..]);
         if !try_word(game, word) {
             return offset;
         }
         *progress = progress.begun();
-        offset = after_skipped(text, text.len() - behind.len());
+        offset = after_skipped(text, text.len() - tail.len());
     }
 }
 
@@ -576,12 +576,12 @@ pub fn read_pgn<B: Board>(
     let (mut progress, mut offset) = begin_game(text, after_byte_order_mark(text, at), game);
     loop {
         match next_token(text, offset) {
-            Ok(Some((token, behind))) => {
+            Ok(Some((token, token_end))) => {
                 match apply_token(game, progress, text.len(), offset, &token)? {
                     Step::On(further) => progress = further,
                     Step::Ended(end) => return Ok(Some(end)),
                 }
-                offset = take_words(text, after_skipped(text, behind), game, &mut progress);
+                offset = take_words(text, after_skipped(text, token_end), game, &mut progress);
             }
             Ok(None) if progress.is_met => {
                 return Err(PgnFault {

@@ -145,11 +145,11 @@ pub(crate) fn next_token(text: &[u8], at: usize) -> Result<Option<(Token<'_>, us
         return Ok(None);
     };
     if is_word_byte(*first) {
-        let (word, behind) = split_word(to_end);
-        return Ok(Some((Token::Word(word), text.len() - behind.len())));
+        let (word, tail) = split_word(to_end);
+        return Ok(Some((Token::Word(word), text.len() - tail.len())));
     }
     match read_token(begins_line(text, at), *first, rest, to_end) {
-        Ok((token, behind)) => Ok(Some((token, text.len() - behind.len()))),
+        Ok((token, tail)) => Ok(Some((token, text.len() - tail.len()))),
         Err(fault) => Err(fault),
     }
 }
@@ -160,7 +160,7 @@ pub(crate) fn next_token(text: &[u8], at: usize) -> Result<Option<(Token<'_>, us
 pub(crate) fn after_blanks(text: &[u8], at: usize) -> usize
     requires { at ≤ length text.now }
     ensures skips { SkipsTo text.now at result }
-    ensures behind { at ≤ result }
+    ensures forward { at ≤ result }
     ensures within { result ≤ length text.now }
 {
     let mut offset = at;
@@ -174,7 +174,7 @@ pub(crate) fn after_blanks(text: &[u8], at: usize) -> usize
 pub(crate) fn after_byte_order_mark(text: &[u8], at: usize) -> usize
     requires { at ≤ length text.now }
     ensures offset { result ≡ after_byte_order_mark text.now at }
-    ensures behind { at ≤ result }
+    ensures forward { at ≤ result }
     ensures within { result ≤ length text.now }
 {
     if at == 0 && text.starts_with(&[0xEF, 0xBB, 0xBF]) {

@@ -67,7 +67,7 @@ ReadsAlike text a b = (limit : ℕ) (g : SoFar)
 -- Reading on from `here` gives what reading from `from` on gives. `limit` is the most half-moves
 pub record IsReadOn (limit : ℕ) (text : List ℕ) (from : ℕ) (game : Seen) (progress : Progress) (here : ℕ)
     : Type 0 where
-  pub behind : from ≤ here
+  pub forward : from ≤ here
   pub offset : here ≤ length text
   pub undeclared : game.state.declared ≡ None
   pub whole : game_of limit (length text) (so_far game.state progress) (tokens_from text here)
@@ -77,7 +77,7 @@ pub record IsReadOn (limit : ℕ) (text : List ℕ) (from : ℕ) (game : Seen) (
 -- reading on gives the same from both
 pub record GoesOn (text : List ℕ) (from : ℕ) (old : Seen) (before : Progress) (here : ℕ) (new : Seen)
     (after : Progress) : Type 0 where
-  pub behind : from ≤ here
+  pub forward : from ≤ here
   pub offset : here ≤ length text
   pub undeclared : new.state.declared ≡ None
   pub same_limit : new.limit ≡ old.limit

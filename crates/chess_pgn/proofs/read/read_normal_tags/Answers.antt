@@ -21,10 +21,10 @@ loop-next-preserved g c =
     let next = rw c.in-Some.is at c.in-Ok.ensures in
     let step_is = rw c.in-Ok-On.field-0-is at c.in-Ok-On.ensures.step in
     let more = more_normal c.args.game.now.limit c.args.text.now c.args.at c.loop-next.game c.apply_token.new.game
-    c.loop-next.progress c.in-Ok-On.further c.loop-next.offset c.in-Some.behind (token_seen c.in-Some.token)
+    c.loop-next.progress c.in-Ok-On.further c.loop-next.offset c.in-Some.token_end (token_seen c.in-Some.token)
     (found_seen c.named_tag.result) c.loop-next.invariant next.0 next.1 next.2
     (sym c.if-not-may_precede_tags.false ∙ c.may_precede_tags.ensures) c.named_tag.ensures c.in-Normal.ensures
     c.in-Ok-On.ensures.limit step_is in
-    normal_on c.args.game.now.limit c.args.text.now c.args.at c.apply_token.new.game c.in-Ok-On.further c.in-Some.behind
-    c.after_blanks-offset.result more c.after_blanks-offset.ensures.skips c.after_blanks-offset.ensures.behind
+    normal_on c.args.game.now.limit c.args.text.now c.args.at c.apply_token.new.game c.in-Ok-On.further c.in-Some.token_end
+    c.after_blanks-offset.result more c.after_blanks-offset.ensures.skips c.after_blanks-offset.ensures.forward
     c.after_blanks-offset.ensures.within

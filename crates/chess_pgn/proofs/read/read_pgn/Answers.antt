@@ -18,10 +18,10 @@ loop-token-preserved g c =
     let next = rw c.in-Ok-Some.field-0-is at c.in-Ok-Some.ensures in
     let step_is = rw c.in-On.is at c.in_ok-further-in-Ok-Some.ensures.step in
     let before = more c.args.game.now.limit c.args.text.now c.args.at c.loop-token.game c.apply_token.new.game
-    c.loop-token.progress c.in-On.further c.loop-token.offset c.in-Ok-Some.behind (token_seen c.in-Ok-Some.token)
+    c.loop-token.progress c.in-On.further c.loop-token.offset c.in-Ok-Some.token_end (token_seen c.in-Ok-Some.token)
     c.loop-token.invariant next.0 next.1 next.2 c.apply_token.ensures.limit step_is in
     let skipped = alike c.args.game.now.limit c.args.text.now c.args.at c.apply_token.new.game c.in-On.further
-    c.in-Ok-Some.behind c.after_skipped.result before c.after_skipped.ensures.alike c.after_skipped.ensures.behind
+    c.in-Ok-Some.token_end c.after_skipped.result before c.after_skipped.ensures.alike c.after_skipped.ensures.forward
     c.after_skipped.ensures.within in
     further c.args.game.now.limit c.args.text.now c.args.at c.apply_token.new.game c.take_words-offset.new.game
     c.in-On.further c.take_words-offset.new.progress c.after_skipped.result c.take_words-offset.result skipped
