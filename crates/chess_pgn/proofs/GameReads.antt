@@ -26,8 +26,8 @@ use Rattle.chess_pgn.specs.LastTags.{may_precede_tags, named_tag}
 use Rattle.chess_pgn.specs.ties.GameSteps.{so_far, begun, IsReadOn, ReadsAlike, IsTaken, GoesOn, step_seen}
 use Rattle.chess_pgn.specs.ties.Seen.{SkipsTo}
 use Rattle.chess_pgn.proofs.Cuts.{pick}
-use Rattle.chess_pgn.proofs.SkippedTokens.{skips_alike, skips_tell}
-use Rattle.chess_pgn.proofs.TagScans.{variant_or, variant_told, variant_from, variants_are}
+use Rattle.chess_pgn.proofs.SkippedTokens.{skips_alike, skips_say}
+use Rattle.chess_pgn.proofs.TagScans.{variant_or, variant_said, variant_from, variants_are}
 use Rattle.chess_pgn.proofs.Walk.{NextToken, next_token}
 
 -- ---- nothing is declared before the game's end, and nothing after a fault
@@ -141,27 +141,27 @@ first old game start v p text here restarted initial variant none h =
 
 -- ---- the loop over tags: what is left gives the whole
 
-pub record Tells (text : List ℕ) (from : ℕ) (v : Variant) (here : ℕ) : Type 0 where
+pub record Says (text : List ℕ) (from : ℕ) (v : Variant) (here : ℕ) : Type 0 where
   pub offset : here ≤ length text
   pub whole : variant_from v (tokens_from text here) ≡ tagged_variant (tokens_from text from)
 
-pub tells_begun : (text : List ℕ) (from : ℕ) → from ≤ length text → Tells text from Normal from
-tells_begun text from h = record { offset = h; whole = variants_are (tokens_from text from) }
+pub says_begun : (text : List ℕ) (from : ℕ) → from ≤ length text → Says text from Normal from
+says_begun text from h = record { offset = h; whole = variants_are (tokens_from text from) }
 
-pub told_more : (text : List ℕ) (from : ℕ) (v u : Variant) (here onward : ℕ) (t : Token) → Tells text from v here
+pub said_more : (text : List ℕ) (from : ℕ) (v u : Variant) (here onward : ℕ) (t : Token) → Says text from v here
     → tokens_from text here ≡ (length text - here, t) ∷ tokens_from text onward → onward ≤ length text
-    → true ≡ may_precede_tags t → u ≡ variant_told v t → Tells text from u onward
-told_more text from v u here onward t r is h may told = record {
+    → true ≡ may_precede_tags t → u ≡ variant_said v t → Says text from u onward
+said_more text from v u here onward t r is h may said = record {
   offset = h;
-  whole = ap (λ w. variant_from w (tokens_from text onward)) told
-      ∙ ap (λ b. cond b (variant_from (variant_told v t) (tokens_from text onward)) v) may
+  whole = ap (λ w. variant_from w (tokens_from text onward)) said
+      ∙ ap (λ b. cond b (variant_from (variant_said v t) (tokens_from text onward)) v) may
       ∙ ap (variant_from v) (sym is) ∙ r.whole;
 }
 
-pub told_last : (text : List ℕ) (from : ℕ) (v : Variant) (here : ℕ) (t : Token) (ts : List (ℕ × Token))
-    → Tells text from v here → tokens_from text here ≡ (length text - here, t) ∷ ts → false ≡ may_precede_tags t
+pub said_last : (text : List ℕ) (from : ℕ) (v : Variant) (here : ℕ) (t : Token) (ts : List (ℕ × Token))
+    → Says text from v here → tokens_from text here ≡ (length text - here, t) ∷ ts → false ≡ may_precede_tags t
     → v ≡ tagged_variant (tokens_from text from)
-told_last text from v here t ts r is may = ap (λ b. cond b (variant_from (variant_told v t) ts) v) may
+said_last text from v here t ts r is may = ap (λ b. cond b (variant_from (variant_said v t) ts) v) may
     ∙ ap (variant_from v) (sym is) ∙ r.whole
 
 -- a token: what its step gives is gone on with
@@ -194,7 +194,7 @@ more limit text from game new p q here onward t r is later h same step_is = reco
 pub record ReadsNormal (limit : ℕ) (text : List ℕ) (from : ℕ) (game : Seen) (progress : Progress) (here : ℕ)
     : Type 0 where
   pub forward : from ≤ here
-  pub tells : Tells text from Normal here
+  pub says : Says text from Normal here
   pub undeclared : game.state.declared ≡ None
   pub same_limit : game.limit ≡ limit
   pub whole : game_of limit (length text) (so_far game.state progress) (tokens_from text here)
@@ -210,7 +210,7 @@ first_normal old game start p text here restarted initial none h =
     in
     record {
       forward = omega arith;
-      tells = tells_begun text here h;
+      says = says_begun text here h;
       undeclared = ap (λ s. s.declared) state;
       same_limit = ap (λ g. g.limit) restarted;
       whole =
@@ -226,9 +226,9 @@ pub more_normal : (limit : ℕ) (text : List ℕ) (from : ℕ) (game new : Seen)
     → Normal ≡ variant_or Normal found → new.limit ≡ game.limit
     → On (so_far new.state q) ≡ step game.limit (length text) (so_far game.state p) (length text - here) t
     → ReadsNormal limit text from new q onward
-more_normal limit text from game new p q here onward t found r is later h may named told same step_is = record {
+more_normal limit text from game new p q here onward t found r is later h may named said same step_is = record {
   forward = (let before = r.forward in omega (arith, before, later));
-  tells = told_more text from Normal Normal here onward t r.tells is h may (told ∙ ap (variant_or Normal) named);
+  says = said_more text from Normal Normal here onward t r.says is h may (said ∙ ap (variant_or Normal) named);
   undeclared = subst Undeclared (sym step_is)
       (keeps game.limit (length text) (so_far game.state p) (length text - here) t r.undeclared);
   same_limit = same ∙ r.same_limit;
@@ -245,10 +245,10 @@ pub normal_begun : (limit : ℕ) (text : List ℕ) (from : ℕ) (game : Seen) (p
     → IsReadOn limit text from game p here
 normal_begun limit text from game p here t ts r is may = record {
   forward = r.forward;
-  offset = r.tells.offset;
+  offset = r.says.offset;
   undeclared = r.undeclared;
   whole = r.whole ∙ ap (λ u. game_of limit (length text) (nothing_read u) (tokens_from text from))
-      (told_last text from Normal here t ts r.tells is may);
+      (said_last text from Normal here t ts r.says is may);
 }
 
 -- no more tokens
@@ -256,10 +256,10 @@ pub normal_ended : (limit : ℕ) (text : List ℕ) (from : ℕ) (game : Seen) (p
     → ReadsNormal limit text from game p here → tokens_from text here ≡ [] → IsReadOn limit text from game p here
 normal_ended limit text from game p here r is = record {
   forward = r.forward;
-  offset = r.tells.offset;
+  offset = r.says.offset;
   undeclared = r.undeclared;
   whole = r.whole ∙ ap (λ u. game_of limit (length text) (nothing_read u) (tokens_from text from))
-      (ap (variant_from Normal) (sym is) ∙ r.tells.whole);
+      (ap (variant_from Normal) (sym is) ∙ r.says.whole);
 }
 
 -- what is skipped after a tag
@@ -268,7 +268,7 @@ pub normal_on : (limit : ℕ) (text : List ℕ) (from : ℕ) (game : Seen) (p : 
     → ReadsNormal limit text from game p there
 normal_on limit text from game p here there r skips onward within = record {
   forward = (let before = r.forward in omega (arith, before, onward));
-  tells = record { offset = within; whole = sym (skips_tell text here there skips Normal) ∙ r.tells.whole };
+  says = record { offset = within; whole = sym (skips_say text here there skips Normal) ∙ r.says.whole };
   undeclared = r.undeclared;
   same_limit = r.same_limit;
   whole = sym (skips_alike text here there skips limit (so_far game.state p)) ∙ r.whole;

@@ -79,7 +79,7 @@ pub tags_are : (prefix before last_before : List ℕ) (t : Tags) (outcome : Outc
     → termination ≡ termination_of t.ended outcome → before ≡ prefix → last_before ≡ prefix
     → HasParts (ended prefix (roster_lines t outcome)) (ended before (further_lines start termination))
     (last_before ++ [] ++ 10 ∷ []) (ended prefix (tag_lines t s ++ [] ∷ []))
-tags_are prefix before last_before t outcome start termination s o is told b l =
+tags_are prefix before last_before t outcome start termination s o is said b l =
     let line : List ℕ → List ℕ = λ text. prefix ++ text ++ 10 ∷ [] in
     let roster : List (List ℕ) = roster_lines t (outcome_now s) in
     let tail : List (List ℕ) = further_lines s.start (termination_of t.ended (outcome_now s)) in
@@ -89,7 +89,7 @@ tags_are prefix before last_before t outcome start termination s o is told b l =
           ∙ ap (λ v. v ++ flat_map line ([] ∷ [])) (flat_map-append line roster tail)
           ∙ append_assoc (flat_map line roster) (flat_map line tail) (flat_map line ([] ∷ []))
           ∙ ap (λ v. flat_map line roster ++ (flat_map line tail ++ v)) (append-nil (line []))
-          ∙ rw (b, l, told, o, is) refl;
+          ∙ rw (b, l, said, o, is) refl;
     }
 
 -- a game's tags, its moves, and an empty line

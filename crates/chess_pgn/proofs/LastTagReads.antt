@@ -4,7 +4,7 @@ use Rattle.std.specs.Option.{option_or}
 use Rattle.std.specs.Str.{bytes_eq}
 use Rattle.chess_pgn.specs.LastTags.{may_precede_tags, named_tag, last_tag}
 use Rattle.chess_pgn.specs.Tokens.{Token, Skip, Word, Bad_tag, Unclosed_comment, Unclosed_variation, Bad, tokens_from}
-use Rattle.chess_pgn.specs.Tokens as told
+use Rattle.chess_pgn.specs.Tokens as tokens
 use Rattle.chess_pgn.specs.declared.tag.Tag.{Tag}
 use Rattle.chess_pgn.specs.ties.GameSteps.{IsWithin}
 use Rattle.chess_pgn.specs.ties.Seen.{found_seen, SkipsTo}
@@ -35,7 +35,7 @@ Within total tag = IfSome tag (λ t. t.1 ≤ total)
 
 named_within : (total n : ℕ) (name : List ℕ) (t : Token) → IsWithin (total - n) t → Within total (named_tag name t)
 named_within total n name Skip h = tt
-named_within total n name (told.Tag other text left) h =
+named_within total n name (tokens.Tag other text left) h =
     pick (Within total) (bytes_eq other name) _ _ (λ _. omega (arith, h)) (λ _. tt)
 named_within total n name (Word word) h = tt
 named_within total n name Bad_tag h = tt

@@ -30,13 +30,13 @@ both : (a b : Bool) → (not a && b) ≡ true → (a ≡ false) × (b ≡ true)
 both true b e = absurd (cc)
 both false b e = (refl, e)
 
-normal_told : (ts : List (ℕ × Token)) → names_no_variant ts ≡ true → variant_from Normal ts ≡ Normal
-normal_told [] h = refl
-normal_told ((left, Skip) ∷ ts) h = normal_told ts h
-normal_told ((left, Tag name text string) ∷ ts) h =
+normal_said : (ts : List (ℕ × Token)) → names_no_variant ts ≡ true → variant_from Normal ts ≡ Normal
+normal_said [] h = refl
+normal_said ((left, Skip) ∷ ts) h = normal_said ts h
+normal_said ((left, Tag name text string) ∷ ts) h =
     let none = both (bytes_eq name (codes "Variant")) (names_no_variant ts) h in
-    rw none.0 (normal_told ts none.1)
-normal_told ((left, Word word) ∷ ts) h = by_kind (λ e. normal_told ts e) (word_kind word) h
+    rw none.0 (normal_said ts none.1)
+normal_said ((left, Word word) ∷ ts) h = by_kind (λ e. normal_said ts e) (word_kind word) h
   where
     by_kind : (names_no_variant ts ≡ true → variant_from Normal ts ≡ Normal) → (k : WordKind)
         → cond (not (is_mark_word k)) true (not false && names_no_variant ts) ≡ true
@@ -45,10 +45,10 @@ normal_told ((left, Word word) ∷ ts) h = by_kind (λ e. normal_told ts e) (wor
     by_kind later Number e = refl
     by_kind later Marks e = later e
     by_kind later Move e = refl
-normal_told ((left, Bad_tag) ∷ ts) h = refl
-normal_told ((left, Unclosed_comment brace) ∷ ts) h = refl
-normal_told ((left, Unclosed_variation) ∷ ts) h = refl
-normal_told ((left, Bad) ∷ ts) h = refl
+normal_said ((left, Bad_tag) ∷ ts) h = refl
+normal_said ((left, Unclosed_comment brace) ∷ ts) h = refl
+normal_said ((left, Unclosed_variation) ∷ ts) h = refl
+normal_said ((left, Bad) ∷ ts) h = refl
 
 -- ---- steps of a game of normal chess
 
@@ -135,7 +135,7 @@ read_so : (limit : ℕ) (text : List ℕ) (at : ℕ) → names_no_variant (token
 unfolding pgn_read
 read_so limit text at none =
     let tokens : List (ℕ × Token) = tokens_from text (after_byte_order_mark text at) in
-    ap (λ v. game_of limit (length text) (nothing_read v) tokens) (sym (variants_are tokens) ∙ normal_told tokens none)
+    ap (λ v. game_of limit (length text) (nothing_read v) tokens) (sym (variants_are tokens) ∙ normal_said tokens none)
     ∙ same_game limit (length text) (nothing_read Normal) tokens (initial_variant Normal)
     ∙ ap (λ p. normal_game_of limit (length text)
     (record { state = from_start p; is_met = false; is_begun = false; termination = None }) tokens) initial_is

@@ -14,7 +14,7 @@ loop-next-init g c =
 pub apply_token-requires-clause-within : goal.apply_token-requires-clause-within
 apply_token-requires-clause-within g c =
     token_within c.args.text.now c.loop-next.offset (token_seen c.in-Some.token) _
-    c.loop-next.invariant.tells.offset (rw c.in-Some.is at c.in-Ok.ensures).0
+    c.loop-next.invariant.says.offset (rw c.in-Some.is at c.in-Ok.ensures).0
 
 pub loop-next-preserved : goal.loop-next-preserved
 loop-next-preserved g c =
