@@ -2,7 +2,7 @@ use Rattle.std.proofs.Common.{ap, ◌∙◌}
 use Rattle.chess_fen.specs.Reading.{setup_in}
 use Rattle.chess_fen.specs.Texts.{fields_of}
 use Rattle.chess_fen.proofs.FirstField.{setup-menless}
-use Rattle.chess_fen.proofs.reading.menless_fault.Goals as goal
+use Rattle.chess_fen.proofs.reading.no_pieces_fault.Goals as goal
 
 pub returns-in-Some-read_fields : goal.returns-in-Some-read_fields
 returns-in-Some-read_fields c = λ v.
