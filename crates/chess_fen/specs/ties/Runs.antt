@@ -55,14 +55,14 @@ pub record RankIsPlaced (text : List ℕ) (rank : ℕ) (old new : List (Option M
   pub below : take (8 * rank) new ≡ take (8 * rank) old
 
 -- a text goes on with a slash and then `rest`, so that the next rank begins there
-pub record StrokeIsRead (text rest : List ℕ) : Type 0 where
+pub record SlashIsRead (text rest : List ℕ) : Type 0 where
   pub on : (lower : ℕ) → (row above : List (Option Man)) → length row ≡ 8
       → placing (suc lower) row above text ≡ placing lower [] (row ++ above) rest
   pub back : behind text ≡ behind rest
 
 -- no other rank follows in a text
-abbrev pub NoStrokeIsRead : List ℕ → Type 0
-NoStrokeIsRead text = (lower : ℕ) → (row above : List (Option Man)) → length row ≡ 8
+abbrev pub NoSlashIsRead : List ℕ → Type 0
+NoSlashIsRead text = (lower : ℕ) → (row above : List (Option Man)) → length row ≡ 8
     → placing (suc lower) row above text ≡ None
 
 -- whether the placement ends where a text begins
