@@ -304,11 +304,11 @@ named_by men c w text (Some s) st e =
     let r = one_named men c w s text n (sym e) in
     (r.0, r.1, r.2, r.3, some_says men c w r.1 s n r.4, all_none men c w r.0 r.5, all_none men c w r.2 r.6)
 
-told_by : (men : Men) (c : Colour) (w : CastlingSide) (text : List ℕ) (o : Option ℕ)
+said_by : (men : Men) (c : Colour) (w : CastlingSide) (text : List ℕ) (o : Option ℕ)
     → right_is_sound_at Fischerandom men c w o ≡ true → RightIsNamed text men c w o
     → o ≡ right_after_letters men c w None text
-told_by men c w text None st h = sym (skipped men c w None text (all_unnamed men c w text h))
-told_by men c w text (Some s) st h =
+said_by men c w text None st h = sym (skipped men c w None text (all_unnamed men c w text h))
+said_by men c w text (Some s) st h =
     let front : right_after_letters men c w None h.0 ≡ None = skipped men c w None h.0 (all_unnamed men c w h.0 h.5) in
     let here : named_square men c w h.1 ≡ Some s = named_some men c w h.1 s (beside men c w s st) h.4 in
     let back : right_after_letters men c w (Some s) h.2 ≡ Some s =
@@ -359,5 +359,5 @@ rights_named text p e sound = (
   )),
   (λ h. denoted_of text p (subst (λ v. IsCastling v text) (sym e) h.0)
       (λ c w. of_held p.variant p.men text c w (right_of p.rights c w) e
-      (told_by p.men c w text (right_of p.rights c w) (stands_of p e sound c w) (h.1 c w)))),
+      (said_by p.men c w text (right_of p.rights c w) (stands_of p e sound c w) (h.1 c w)))),
 )

@@ -9,13 +9,13 @@ use Rattle.std.proofs.lemmas.List.Splits.{length-slice_split}
 use Rattle.chess_base.specs.declared.man.Man.{Man}
 use Rattle.chess_fen.specs.ManLetters.{man_with_letter}
 use Rattle.chess_fen.specs.Texts.{squares_of, rank_after, squares_by_ranks, placement_of}
-use Rattle.chess_fen.specs.ties.Runs.{at_lower, last_rank, placing, behind, NoRankIsRead, RankIsPlaced, SlashIsRead, NoSlashIsRead, Ends, PlacementIsRead}
+use Rattle.chess_fen.specs.ties.Runs.{at_lower, last_rank, placing, from_space, NoRankIsRead, RankIsPlaced, SlashIsRead, NoSlashIsRead, Ends, PlacementIsRead}
 use Rattle.chess_fen.proofs.Ranks.{no_man, all_none, placing_over}
 
 abbrev no_board : Option (List (Option Man))
 no_board = None
 
--- ---- behind a rank
+-- ---- after a rank
 
 -- each byte that stands for squares stands for at least one
 some_squares : (c : ℕ) (s : List (Option Man)) → squares_of c ≡ Some s → 0 < length s
@@ -166,7 +166,7 @@ placing-read text = placing-parts 7 [] [] text ∙ by_list (parted text) (some_p
 -- their squares are still empty
 pub record Placing (text : List ℕ) (men : List (Option Man)) (rest : List ℕ) (left : ℕ) : Type 0 where
   pub on : placing (left - 1) [] (drop (8 * left) men) rest ≡ placing 7 [] [] text
-  pub back : behind rest ≡ behind text
+  pub back : from_space rest ≡ from_space text
   pub empty : take (8 * left) men ≡ replicate (8 * left) None
   pub some : 0 < left
 
@@ -184,7 +184,7 @@ pub no_rank : (text men rest : _) (left : ℕ) → Placing text men rest left �
 no_rank text men rest left so_far none =
     sym (placing-read text) ∙ sym so_far.on ∙ none (left - 1) (drop (8 * left) men)
 
--- what is read by a rank, before what comes behind it
+-- what is read by a rank, before what comes after it
 by_rank : (text men new rest ended : _) (left : ℕ) → 0 < left → Placing text men rest left
     → (p : RankIsPlaced rest (left - 1) men new ended)
     → placing (left - 1) p.row (drop (8 * left) men) ended ≡ placement_of (before_first (λ b. eqb b 32) text)

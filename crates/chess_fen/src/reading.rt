@@ -58,7 +58,7 @@ fn read_rights(variant: Variant, men: &[Option<Man>; 64], text: &[u8]) -> Option
     }
 }
 
-// The position with these pieces that a FEN's fields behind the first denote, read from left to right, sound or not; or
+// The position with these pieces that a FEN's fields after the first denote, read from left to right, sound or not; or
 // the fault of the first of them that denotes nothing. A fullmove number of 0 is read as 1.
 fn setup_with(
     variant: Variant,

@@ -1,4 +1,4 @@
--- The first field is read while the text is cut (FirstField); behind it the text is cut into the others.
+-- The first field is read while the text is cut (FirstField); after it the text is cut into the others.
 use Rattle.std.proofs.Common.{ap, sym, ◌∙◌}
 use Rattle.std.specs.Prelude.{◌==◌}
 use Rattle.std.specs.List.{before_first}
