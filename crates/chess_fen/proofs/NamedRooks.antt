@@ -15,7 +15,7 @@ use Rattle.chess_base.specs.Men.{Men, man_at, is_man, first_rank}
 use Rattle.chess_base.specs.Castling.{home_square, king_square, is_to_side, right_is_sound, right_of}
 use Rattle.chess_base.specs.ties.Splits.{right_is_sound_at}
 use Rattle.chess_fen.specs.Texts.{first_letter, names_file}
-use Rattle.chess_fen.specs.RightNames.{side_letter, is_towards, nowhere, outer_rook, named_square, only_one_of}
+use Rattle.chess_fen.specs.RightNames.{side_letter, is_towards, nowhere, outer_rook, named_square, one_or_nowhere}
 use Rattle.chess_fen.specs.ties.Loops.{edge_file, rook_among, right_after_letters}
 use Rattle.chess_fen.specs.Denotation.{IsCastling, IsHeld, DenotesRights}
 use Rattle.chess_base.specs.Sound.{IsSound}
@@ -32,7 +32,7 @@ IsUnnamed men c w l = named_square men c w l ≡ None
 
 stays_by : (men : Men) (c : Colour) (w : CastlingSide) (s : ℕ) (xs : List ℕ) (o : Option ℕ)
     → ((t : ℕ) → right_after_letters men c w (Some t) xs ≡ None → ⊥)
-    → right_after_letters men c w (only_one_of (Some s) o) xs ≡ None → ⊥
+    → right_after_letters men c w (one_or_nowhere (Some s) o) xs ≡ None → ⊥
 stays_by men c w s xs None rec e = rec s e
 stays_by men c w s xs (Some t) rec e = rec nowhere e
 
@@ -45,7 +45,7 @@ stays_found men c w s (x ∷ xs) e = stays_by men c w s xs (named_square men c w
 kept_by : (men : Men) (c : Colour) (w : CastlingSide) (s t x : ℕ) (xs : List ℕ) → t ≢ nowhere → (o : Option ℕ)
     → named_square men c w x ≡ o
     → ((u : ℕ) → right_after_letters men c w (Some u) xs ≡ Some t → (u ≡ t) × AllByRecursion (IsUnnamed men c w) xs)
-    → right_after_letters men c w (only_one_of (Some s) o) xs ≡ Some t
+    → right_after_letters men c w (one_or_nowhere (Some s) o) xs ≡ Some t
     → (s ≡ t) × AllByRecursion (IsUnnamed men c w) (x ∷ xs)
 kept_by men c w s t x xs n None at rec e = let r = rec s e in (r.0, (at, r.1))
 kept_by men c w s t x xs n (Some u) at rec e = let r = rec nowhere e in absurd (n (sym r.0))
@@ -92,7 +92,7 @@ skipped : (men : Men) (c : Colour) (w : CastlingSide) (found : Option ℕ) (ls :
     → AllByRecursion (IsUnnamed men c w) ls → right_after_letters men c w found ls ≡ found
 skipped men c w found [] h = refl
 skipped men c w found (x ∷ xs) h =
-    ap (λ o. right_after_letters men c w o xs) (ap (only_one_of found) h.0 ∙ only-none found)
+    ap (λ o. right_after_letters men c w o xs) (ap (one_or_nowhere found) h.0 ∙ only-none found)
     ∙ skipped men c w found xs h.1
 
 -- ---- the outermost rook
