@@ -76,11 +76,11 @@ fn read_value(text: &[u8]) -> Option<(Value<'_>, &[u8])>
 {
     match text {
         [] => None,
-        [first, behind @ ..] => {
+        [first, tail @ ..] => {
             if *first == b'"' {
-                let at = quote_at(behind);
-                if at < behind.len() {
-                    Some((Value::Quoted(&behind[..at]), &behind[at + 1..]))
+                let at = quote_at(tail);
+                if at < tail.len() {
+                    Some((Value::Quoted(&tail[..at]), &tail[at + 1..]))
                 } else {
                     None
                 }
@@ -117,11 +117,11 @@ pub fn next_item(text: &[u8]) -> Option<(Item<'_>, &[u8])>
     }
     match &text[len..] {
         [] => None,
-        [first, behind @ ..] => {
+        [first, tail @ ..] => {
             if *first != b'=' {
                 return None;
             }
-            match read_value(behind) {
+            match read_value(tail) {
                 None => None,
                 Some((value, rest)) => {
                     if is_apart(rest) {

@@ -8,9 +8,9 @@
 //! let mut features = Features::new();
 //! if let EngineLine::Features(text) = read_engine_line(b"feature ping=1 done=1") {
 //!     let mut rest = text;
-//!     while let Some((item, behind)) = next_item(rest) {
+//!     while let Some((item, tail)) = next_item(rest) {
 //!         features = features.with_item(&item);
-//!         rest = behind;
+//!         rest = tail;
 //!     }
 //! }
 //! let level = Level::read(b"40 5 0").ok_or("a level")?;

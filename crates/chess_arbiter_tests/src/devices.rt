@@ -117,12 +117,12 @@ fn check_beginning(
     answers: &[u8],
     is_cut: bool,
 ) -> Result<(), Fail> {
-    let behind = outcome
+    let further = outcome
         .output
         .strip_prefix(answers)
         .ok_or("the answers to whole lines")?;
-    let lines = behind.iter().filter(|byte| **byte == b'\n').count();
-    assert!(rt; lines <= 2 && (is_cut || behind.is_empty()));
+    let lines = further.iter().filter(|byte| **byte == b'\n').count();
+    assert!(rt; lines <= 2 && (is_cut || further.is_empty()));
     is_equal(rt, &outcome.errors.as_slice(), &b"".as_slice());
     is_equal(rt, &outcome.status, &0);
     Ok(())

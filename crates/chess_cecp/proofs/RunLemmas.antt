@@ -175,7 +175,7 @@ waited r r' r'' held given more done f (inr (few, none)) =
 
 -- where the known bytes have lines, the first of them are those that are done, and that one
 abbrev pub BeginsWith : List LineSeen → LineSeen → List ℕ → Type 0
-BeginsWith done line xs = (behind : List LineSeen) × (lines COMMAND_LEN xs ≡ done ++ line ∷ behind)
+BeginsWith done line xs = (later : List LineSeen) × (lines COMMAND_LEN xs ≡ done ++ line ∷ later)
 
 -- what holds of the bytes that were given, however they go on, holds of the known bytes
 known_front : (a b : Option (List ℕ)) (bs : List ℕ) (P : List ℕ → Type 0) → Consumes a b bs
@@ -310,17 +310,17 @@ go_on {S} {respond} E {r} {r'} {r''} {w} {w'} {w''} {s} {s'} {s''} {held} {held'
 
 -- lines up to the one with which the server ends
 ended_answered : {S : Type 0} (respond : Server S) (s s' s'' : S) (done : List LineSeen) (line : LineSeen)
-    (behind ls : List LineSeen)
-    → s' ≡ (responses respond s done).state → (responses respond s done).ends ≡ false → ls ≡ done ++ line ∷ behind
+    (later ls : List LineSeen)
+    → s' ≡ (responses respond s done).state → (responses respond s done).ends ≡ false → ls ≡ done ++ line ∷ later
     → s'' ≡ (respond s' line).state → (respond s' line).ends ≡ true
     → Answered respond s s'' ((responses respond s done).text ++ (respond s' line).text) true ls
-ended_answered respond s s' s'' done line behind ls state goes_on e next over =
+ended_answered respond s s' s'' done line later ls state goes_on e next over =
     let front = (responses respond s done).text in
     let last = (responses respond s done).state in
     let here : (respond last line).ends ≡ true = ap (λ v. (respond v line).ends) (sym state) ∙ over in
-    ap (responses respond s) e ∙ responses_on respond s done (line ∷ behind) goes_on
+    ap (responses respond s) e ∙ responses_on respond s done (line ∷ later) goes_on
     ∙ ap (with_front front)
-    (stops (respond last line) (responses respond (respond last line).state behind) here
+    (stops (respond last line) (responses respond (respond last line).state later) here
     ∙ ap (λ v. respond v line) (sym state))
     ∙ by_fields front (respond s' line) s'' true next over
 
@@ -353,7 +353,7 @@ by_line {respond} {r} {w} {w'} {w''} {s} {s'} {s''} {done} line f (all, told, af
         (
           ended_answered respond s s' s'' done line after _ f.state f.goes_on at.lines next over,
           IfSome_then r.known_bytes at.known
-              (λ xs (behind, e). ended_answered respond s s' s'' done line behind _ f.state f.goes_on e next over),
+              (λ xs (later, e). ended_answered respond s s' s'' done line later _ f.state f.goes_on e next over),
         ),
         both.flushed,
       ),
@@ -387,7 +387,7 @@ by_write {respond} {r} {w} {w'} {w''} {s} {done} line f (all, told, after, at) (
           refl,
           next ∙ ap (λ v. (respond v line).state) f.state,
           IfSome_then r.known_bytes at.known
-              (λ xs (behind, e). (behind, e ∙ sym (append_assoc done (line ∷ []) behind))),
+              (λ xs (later, e). (later, e ∙ sym (append_assoc done (line ∷ []) later))),
           both.unflushed,
         ),
       ),
@@ -481,8 +481,8 @@ by_read {respond} e {r} {r'} {r''} {s} {s'} {held'} {given} {done} f (more, byte
     f.lines false more ∙ ap (λ v. done ++ v) got.whole ∙ append-nil done in
     let both : Consumes r.known_bytes r''.known_bytes (given ++ more) =
     consumes_more r.known_bytes r'.known_bytes r''.known_bytes given more f.bytes bytes in
-    let P : List ℕ → Type 0 = λ xs. (behind : List LineSeen)
-    × (lines COMMAND_LEN xs ≡ whole COMMAND_LEN (given ++ more) ++ behind) in (
+    let P : List ℕ → Type 0 = λ xs. (later : List LineSeen)
+    × (lines COMMAND_LEN xs ≡ whole COMMAND_LEN (given ++ more) ++ later) in (
       record { read = given ++ more; end_reported = false; written = (responses respond s done).text },
       (
         record {

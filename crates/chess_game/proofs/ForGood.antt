@@ -81,7 +81,7 @@ pub never_grows : ReserveNeverGrows → (p : Setup) (xs : List PlayedMove) → F
 never_grows law p [] f = omega arith
 never_grows law p (x ∷ xs) f =
     let one : reserve (after p x.made).men ≤ reserve p.men = law p x.made f.0.sound f.0.legal in
-    let behind : reserve (position_after (after p x.made) (moves_of xs)).men ≤ reserve (after p x.made).men =
+    let later : reserve (position_after (after p x.made) (moves_of xs)).men ≤ reserve (after p x.made).men =
     subst (λ v. reserve (position_after v (moves_of xs)).men ≤ reserve v.men) f.0.left
     (never_grows law x.reached.position xs f.2) in
     omega arith
@@ -96,10 +96,10 @@ fallen grows falls start (y ∷ ys) zero zero d f h zeroed before =
     let p = start.position in
     let lower : reserve (after p y.made).men < reserve p.men =
     falls p y.made f.0.sound f.0.legal (subst (λ v. v.halfmove ≡ 0) f.0.left zeroed) in
-    let behind : reserve (position_after (after p y.made) (moves_of ys)).men ≤ reserve (after p y.made).men =
+    let later : reserve (position_after (after p y.made) (moves_of ys)).men ≤ reserve (after p y.made).men =
     subst (λ v. reserve (position_after v (moves_of ys)).men ≤ reserve v.men) f.0.left
     (never_grows grows y.reached.position ys f.2) in
-    omega (arith, lower, behind)
+    omega (arith, lower, later)
 fallen grows falls start (y ∷ ys) (suc k) zero d f h zeroed before =
     let p = start.position in
     let one : reserve y.reached.position.men ≤ reserve p.men = subst (λ v. reserve v.men ≤ reserve p.men) (sym f.0.left)

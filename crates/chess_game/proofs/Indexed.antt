@@ -69,9 +69,9 @@ count_before start xs y q n h =
     count_alike (is_same_at start (xs ++ y ∷ []) q) (is_same_at start xs q) n
     (λ k l. ap (λ v. is_same_position v.position q) (known_before start xs y k (omega (arith, l, h))))
 
-entry_behind : (start : Hashed) (xs : List PlayedMove) (y : PlayedMove) (k : ℕ) (x : PlayedMove) → k ≤ length xs
+entry_later : (start : Hashed) (xs : List PlayedMove) (y : PlayedMove) (k : ℕ) (x : PlayedMove) → k ≤ length xs
     → HasEntry start xs k x → HasEntry start (xs ++ y ∷ []) k x
-entry_behind start xs y k x h entry = record {
+entry_later start xs y k x h entry = record {
   earlier = entry.earlier ∙ sym (latest_before start xs y (bucket x.reached) (suc k) (omega arith));
   count = entry.count ∙ ap suc (sym (count_before start xs y x.reached.position (suc k) (omega arith)));
 }
@@ -94,12 +94,12 @@ entries_more start xs y entries entry k d h = by_test (k == length xs) refl
     by_test true e =
         subst (λ n. HasEntry start (xs ++ y ∷ []) n (get_or (xs ++ y ∷ []) n d)) (sym (eqb-true k (length xs) e))
         (subst (HasEntry start (xs ++ y ∷ []) (length xs)) (sym (get_or-append_seam xs y [] d))
-        (entry_behind start xs y (length xs) y (omega arith) entry))
+        (entry_later start xs y (length xs) y (omega arith) entry))
     by_test false e =
         let other = differs k (length xs) e in
         let low : k < length xs = let l = long xs y in omega (arith, h, l, other) in
         subst (HasEntry start (xs ++ y ∷ []) k) (sym (get_or_append_left xs (y ∷ []) d k low))
-        (entry_behind start xs y k (get_or xs k d) (omega (arith, low)) (entries k d low))
+        (entry_later start xs y k (get_or xs k d) (omega (arith, low)) (entries k d low))
 
 entries_fewer : (start : Hashed) (xs : List PlayedMove) (y : PlayedMove) → HaveEntries start (xs ++ y ∷ []) → HaveEntries start xs
 entries_fewer start xs y entries k d h =

@@ -29,11 +29,11 @@ pub at_place : (p : Setup) (xs : List PlayedMove) (k : ℕ) (d : PlayedMove) →
 at_place p [] k d f h = absurd (omega arith)
 at_place p (y ∷ ys) zero d f h = record { known = f.1; reached = f.0.left }
 at_place p (y ∷ ys) (suc k) d f h =
-    let behind = at_place y.reached.position ys k d f.2 (omega arith) in
+    let later = at_place y.reached.position ys k d f.2 (omega arith) in
     let one_more : suc k + 1 ≡ suc (k + 1) = omega arith in
     record {
-      known = behind.known;
-      reached = behind.reached ∙ ap (λ v. position_after v (take (k + 1) (moves_of ys))) f.0.left
+      known = later.known;
+      reached = later.reached ∙ ap (λ v. position_after v (take (k + 1) (moves_of ys))) f.0.left
           ∙ ap (λ n. position_after p (take n (moves_of (y ∷ ys)))) (sym one_more);
     }
 
@@ -153,7 +153,7 @@ all_more f (y ∷ ys) x all here = (all.0, all_more f ys x all.1 here)
 pub hashes_more : (f : Hashing) (start : Hashed) (xs : List PlayedMove) (x : PlayedMove) → HaveHashes f start xs
     → HasHash f x.reached
     → HaveHashes f start (xs ++ x ∷ [])
-hashes_more f start xs x h here = record { start = h.start; behind = all_more f xs x h.behind here }
+hashes_more f start xs x h here = record { start = h.start; later = all_more f xs x h.later here }
 
 all_fewer : (f : Hashing) (xs : List PlayedMove) (x : PlayedMove) → AllHave f (xs ++ x ∷ []) → AllHave f xs
 all_fewer f [] x all = tt
@@ -162,7 +162,7 @@ all_fewer f (y ∷ ys) x all = (all.0, all_fewer f ys x all.1)
 pub hashes_fewer : (f : Hashing) (start : Hashed) (xs ys : List PlayedMove) (x : PlayedMove) → HaveHashes f start xs
     → xs ≡ ys ++ x ∷ []
     → HaveHashes f start ys
-hashes_fewer f start xs ys x h is = record { start = h.start; behind = all_fewer f ys x (subst (AllHave f) is h.behind) }
+hashes_fewer f start xs ys x h is = record { start = h.start; later = all_fewer f ys x (subst (AllHave f) is h.later) }
 
 -- ---- room
 
@@ -172,7 +172,7 @@ pub pushed : {A E : Type 0} (r : Result A E) (xs ys zs : List PlayedMove) → is
 pushed (Ok v) xs ys zs h e = e
 pushed (Err v) xs ys zs h e = cc
 
--- the list of all played moves after `x` was pushed behind `xs`: what is before the last place, the move there, and the
+-- the list of all played moves after `x` was pushed after `xs`: what is before the last place, the move there, and the
 -- list with another move there
 pub record Last (xs : List PlayedMove) (x : PlayedMove) (all : List PlayedMove) (last : ℕ) : Type 0 where
   pub earlier : take last all ≡ xs
@@ -212,9 +212,9 @@ pub record Split (xs : List PlayedMove) (x : PlayedMove) (front back : List Play
 
 pub split_last : (xs all ys : List PlayedMove) (x : PlayedMove) (last : ℕ) (front back : List PlayedMove) (d : PlayedMove)
     → Last xs x all last → ys ≡ all → front ≡ take last ys → back ≡ drop last ys → Split xs x front back d
-split_last xs all ys x last front back d p same before behind = record {
+split_last xs all ys x last front back d p same before later = record {
   earlier = before ∙ ap (take last) same ∙ p.earlier;
-  latest = ap (λ zs. get_or zs 0 d) (behind ∙ ap (drop last) same) ∙ p.latest d;
+  latest = ap (λ zs. get_or zs 0 d) (later ∙ ap (drop last) same) ∙ p.latest d;
 }
 
 -- what the game shows with one more move

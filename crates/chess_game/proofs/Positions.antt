@@ -47,7 +47,7 @@ hash_is f start (x ∷ xs) (suc k) here all = hash_is f x.reached xs k all.0 all
 
 pub hash_of_known : (f : Hashing) (start : Hashed) (xs : List PlayedMove) (k : ℕ) → HaveHashes f start xs
     → HasHash f (known_at start xs k)
-hash_of_known f start xs k hashes = hash_is f start xs k hashes.start hashes.behind
+hash_of_known f start xs k hashes = hash_is f start xs k hashes.start hashes.later
 
 -- all are sound, where the last one is
 pub sound_is : (start : Hashed) (xs : List PlayedMove) (k : ℕ) → Follows start.position xs

@@ -167,13 +167,13 @@ seen-count_below : (start : Hashed) (xs : List PlayedMove) (q : Setup)
 unfolding count_below known_at
 seen-count_below start [] q = omega arith
 seen-count_below start (x ∷ xs) q =
-    let behind = seen-count_below x.reached xs q in
+    let later = seen-count_below x.reached xs q in
     let cons : count_by (λ z. is_same_position z.reached.position q) (x ∷ xs) ≡ seen x.reached.position xs q =
     sum_by-cons (λ z. one_if (is_same_position z.reached.position q)) x xs in
     let first : count_below (is_same_at start (x ∷ xs) q) (suc (suc (length xs)))
     ≡ one_if (is_same_position start.position q) + count_below (is_same_at x.reached xs q) (suc (length xs)) =
     count_first (is_same_at start (x ∷ xs) q) (suc (length xs)) in
-    omega (arith, behind, cons, first)
+    omega (arith, later, cons, first)
 
 rep_is : (start : Hashed) (xs : List PlayedMove) → Follows start.position xs
     → count_below (is_same_at start xs (position_after start.position (moves_of xs))) (suc (length xs)) ≡ repetition_count start.position (moves_of xs)

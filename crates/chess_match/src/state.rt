@@ -99,14 +99,14 @@ impl Player {
         ensures len { array_vec_len block.new ≤ array_vec_len block.old + 4 * length text.now }
     {
         let mut rest = text;
-        while let Some((item, behind)) = next_item(rest) {
+        while let Some((item, tail)) = next_item(rest) {
             self.features = self.features.with_item(&item);
             note_name(&mut self.name, &item);
             add_answer(block, item.name);
             if item.ends_handshake() {
                 return true;
             }
-            rest = behind;
+            rest = tail;
         }
         false
     }

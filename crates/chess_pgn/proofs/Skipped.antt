@@ -54,7 +54,7 @@ gap_blank_more begins (c ∷ rest) next h e is =
     gap_blank true c rest line blank = rw (line, blank) refl
     gap_blank false c rest line blank = rw blank refl
 
--- from the first closing brace of the first n bytes on, or behind all n
+-- from the first closing brace of the first n bytes on, or after all n
 pub skip_before_brace : (n : ℕ) (text : List ℕ)
     → after_brace (drop (position_or_len (λ c. c == 125) (take n text)) text) ≡ after_brace text
 skip_before_brace zero text = refl

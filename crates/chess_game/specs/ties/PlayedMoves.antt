@@ -40,7 +40,7 @@ ShareHashing x y = (f : Hashing) × HasHash f x × HasHash f y
 -- the hashes that are kept with the start and with each position that a played move reached are by the definition f
 pub record HaveHashes (f : Hashing) (first : Hashed) (played_moves : List PlayedMove) : Type 0 where
   pub start : HasHash f first
-  pub behind : AllByRecursion (λ (x : PlayedMove). HasHash f x.reached) played_moves
+  pub later : AllByRecursion (λ (x : PlayedMove). HasHash f x.reached) played_moves
 
 -- what has to be saved of position p to take back a move that captured this piece, or none
 abbrev pub saved_with : Setup → Option Man → Saved
