@@ -44,32 +44,32 @@ no_plan ws k plan one (names, are, (none, is)) = no_fault k _ none (one names)
 shown : (k : ErrorKind) (fault : WordsFault) (w w' : OutputState) (status : ℕ)
     → (k ≡ DisplayHelp) ⊎ (k ≡ DisplayVersion) → IsRefusal k fault → ReportsArguments fault w w' status
     → RanHelp w w' status
-shown k (faults.Words e) w w' status help is told =
-    told.1 (subst (λ x. (x ≡ DisplayHelp) ⊎ (x ≡ DisplayVersion)) (sym is) help)
+shown k (faults.Words e) w w' status help is reported =
+    reported.1 (subst (λ x. (x ≡ DisplayHelp) ⊎ (x ≡ DisplayVersion)) (sym is) help)
 shown k faults.NoMemory w w' status help is (same, ends) = inr (same, ends)
-shown k faults.BadLevel w w' status help is told = absurd is
-shown k (faults.BadFen f) w w' status help is told = absurd is
-shown k faults.BadDate w w' status help is told = absurd is
+shown k faults.BadLevel w w' status help is reported = absurd is
+shown k (faults.BadFen f) w w' status help is reported = absurd is
+shown k faults.BadDate w w' status help is reported = absurd is
 
 pub shows_help : (ws : List Text) (k : ErrorKind) → (k ≡ DisplayHelp) ⊎ (k ≡ DisplayVersion) → AreRefused ws (k ∷ [])
     → ShowsHelp ws
 shows_help ws k help one r r' w w' l l' status (Ok plan, is, ran) = absurd (no_plan ws k plan one is)
-shows_help ws k help one r r' w w' l l' status (Err fault, is, (same, told)) =
-    (same, shown k fault w w' status help (refusal ws k fault one is) told)
+shows_help ws k help one r r' w w' l l' status (Err fault, is, (same, reported)) =
+    (same, shown k fault w w' status help (refusal ws k fault one is) reported)
 
 -- ---- other kinds
 
 refused : (k : ErrorKind) (fault : WordsFault) (w w' : OutputState) (status : ℕ) → k ≢ DisplayHelp → k ≢ DisplayVersion
     → IsRefusal k fault → ReportsArguments fault w w' status → (w' ≡ w) × ((status ≡ 2) ⊎ (status ≡ 1))
-refused k (faults.Words e) w w' status help version is told =
-    let t = told.0 (λ x. help (sym is ∙ x)) (λ x. version (sym is ∙ x)) in (t.0, inl t.1)
+refused k (faults.Words e) w w' status help version is reported =
+    let t = reported.0 (λ x. help (sym is ∙ x)) (λ x. version (sym is ∙ x)) in (t.0, inl t.1)
 refused k faults.NoMemory w w' status help version is (same, ends) = (same, inr ends)
-refused k faults.BadLevel w w' status help version is told = absurd is
-refused k (faults.BadFen f) w w' status help version is told = absurd is
-refused k faults.BadDate w w' status help version is told = absurd is
+refused k faults.BadLevel w w' status help version is reported = absurd is
+refused k (faults.BadFen f) w w' status help version is reported = absurd is
+refused k faults.BadDate w w' status help version is reported = absurd is
 
 pub refuses_arguments : (ws : List Text) (k : ErrorKind) → k ≢ DisplayHelp → k ≢ DisplayVersion → AreRefused ws (k ∷ [])
     → RefusesArguments ws
 refuses_arguments ws k help version one r r' w w' l l' status (Ok plan, is, ran) = absurd (no_plan ws k plan one is)
-refuses_arguments ws k help version one r r' w w' l l' status (Err fault, is, (same, told)) =
-    let t = refused k fault w w' status help version (refusal ws k fault one is) told in (same, t.0, t.1)
+refuses_arguments ws k help version one r r' w w' l l' status (Err fault, is, (same, reported)) =
+    let t = refused k fault w w' status help version (refusal ws k fault one is) reported in (same, t.0, t.1)

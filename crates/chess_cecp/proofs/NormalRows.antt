@@ -115,22 +115,22 @@ moves_shown s e =
     ∙ ap normal_moves_line ((texts_kept (current s) normal).moves ∙ ap normal_moves (last_kept s.start e s.moves))
 
 -- the text of a state, by what it shows
-told : State → ℕ → Setup → Claims → Option Verdict → List ℕ
-told s n p c v =
+state_line : State → ℕ → Setup → Claims → Option Verdict → List ℕ
+state_line s n p c v =
     decimal (length s.moves)
     ++ (codes " rep " ++ (decimal n ++ (codes " clock " ++ (decimal p.halfmove
     ++ (codes " claims " ++ (claims_text c ++ (codes " verdict " ++ (verdict_text v
     ++ (codes " declared " ++ declared_text s.declared)))))))))
 
 state_kept : (s : State) → s.start.variant ≡ Normal → state_text s ≡ normal_state_text s
-unfolding state_text normal_state_text told
+unfolding state_text normal_state_text state_line
 state_kept s e =
-    ap (λ n. told s n (current s) (claims s.start s.moves) (verdict_now s)) (rep_kept s.start e s.moves)
-    ∙ ap (λ p. told s (normal_rep s.start s.moves) p (claims s.start s.moves) (verdict_now s))
+    ap (λ n. state_line s n (current s) (claims s.start s.moves) (verdict_now s)) (rep_kept s.start e s.moves)
+    ∙ ap (λ p. state_line s (normal_rep s.start s.moves) p (claims s.start s.moves) (verdict_now s))
     (last_kept s.start e s.moves)
-    ∙ ap (λ c. told s (normal_rep s.start s.moves) (normal_current s) c (verdict_now s))
+    ∙ ap (λ c. state_line s (normal_rep s.start s.moves) (normal_current s) c (verdict_now s))
     (claims_kept s.start e s.moves)
-    ∙ ap (told s (normal_rep s.start s.moves) (normal_current s) (normal_claims s.start s.moves))
+    ∙ ap (state_line s (normal_rep s.start s.moves) (normal_current s) (normal_claims s.start s.moves))
     (verdict_kept s.start e s.moves)
 
 pub normal_rows : (tags : Tags) (limit : ℕ) (s : State) (text argument : List ℕ) (command : Command)

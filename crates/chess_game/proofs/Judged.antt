@@ -67,7 +67,7 @@ last_is xs ys x is =
 
 -- a game that is not over has no verdict
 pub no_verdict : (s : State) (over : Bool) → over ≡ is_over s → over ≡ false → verdict s.start s.moves ≡ None
-no_verdict s over told not_over = by_verdict (verdict s.start s.moves) (sym not_over ∙ told)
+no_verdict s over said not_over = by_verdict (verdict s.start s.moves) (sym not_over ∙ said)
   where
     by_verdict : (w : Option Verdict) → false ≡ (is_some w || is_some s.declared) → w ≡ None
     by_verdict None h = refl

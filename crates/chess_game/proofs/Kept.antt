@@ -232,7 +232,7 @@ pub room : (limit : ℕ) (p : Setup) (xs : List PlayedMove) (d : Option Declared
     → record { limit = limit; state = record { start = p; moves = moves_of xs; declared = d } } ≡ g
     → (full : Bool) → full ≡ is_full g → full ≡ false → length xs < limit
 room limit p xs d g view full is not_full =
-    let told : is_full (record { limit = limit; state = record { start = p; moves = moves_of xs; declared = d } })
+    let said : is_full (record { limit = limit; state = record { start = p; moves = moves_of xs; declared = d } })
     ≡ false = ap is_full view ∙ sym is ∙ not_full in
     let len = length-map xs (λ (x : PlayedMove). x.made) in
-    grind (arith, nat_tests, told, len)
+    grind (arith, nat_tests, said, len)

@@ -206,12 +206,12 @@ module _ (options : VerifyOptions) (r r' r'' : InputState) (w w' : OutputState) 
       ap (reports_of options.strict) (law false text ∙ so.due false more
       (subst (λ b. MayFollow b false more) (sym next.2) tt)
       ∙ ap (λ ps. so.done ++ ps) next.3 ∙ append-nil so.done) in
-      let told = subst (λ xs. Took w w' (report_lines options text 1 xs)) (sym all) (so.took more) in
-      by_fault fault next.1 told
+      let written = subst (λ xs. Took w w' (report_lines options text 1 xs)) (sym all) (so.took more) in
+      by_fault fault next.1 written
     where
       by_fault : (e : PieceFault) → IsCause r r'' (so.text ++ next.0) e
           → Took w w' (collection_lines options false (so.text ++ next.0))
           → VerifiesCollection options r r'' w w' (Err (piece_fault e))
-      by_fault piece.ReadFailed cause told = (so.text ++ next.0, cause, told)
-      by_fault piece.NoMemory cause told = (so.text ++ next.0, cause, told)
-      by_fault piece.InputTooLong (read, many) told = (so.text ++ next.0, read, many, told)
+      by_fault piece.ReadFailed cause written = (so.text ++ next.0, cause, written)
+      by_fault piece.NoMemory cause written = (so.text ++ next.0, cause, written)
+      by_fault piece.InputTooLong (read, many) written = (so.text ++ next.0, read, many, written)

@@ -159,7 +159,7 @@ pub record SoFar (plan : GamesPlan) (w w' : OutputState) (l l' : LogSeen) (numbe
     pub numbered : number ≡ 1 + length games
     pub few : length games ≤ plan.games
     pub counted : score ≡ score_of games
-    pub told : Flushed w w' (game_texts plan games)
+    pub written : Flushed w w' (game_texts plan games)
     pub logged : LogsGames plan.log l l' games
 
 pub start : (plan : GamesPlan) (w : OutputState) (l : LogSeen) → SoFar plan w w l l 1 no_score []
@@ -168,7 +168,7 @@ start plan w l = record {
   numbered = omega arith;
   few = omega arith;
   counted = refl;
-  told = flushed_none w;
+  written = flushed_none w;
   logged = log_none plan.log l;
 }
 
@@ -180,11 +180,11 @@ module _ (plan : GamesPlan) (w w' w'' : OutputState) (l l' l'' : LogSeen) (numbe
       logs_if plan.log l l' l'' games g s.logged
       (subst (λ n. LogsGame (logged_side plan n) l' l'' g.notes) s.numbered log)
 
-  told_more : (g : GameRecord) → Sent w' w'' (game_text plan number g)
+  written_more : (g : GameRecord) → Sent w' w'' (game_text plan number g)
       → Flushed w w'' (game_texts plan (games ++ g ∷ []))
-  told_more g sent =
+  written_more g sent =
       rw (texts_more plan games g) (flushed_more w w' w'' (game_texts plan games)
-      (game_text plan (1 + length games) g) s.told
+      (game_text plan (1 + length games) g) s.written
       (subst (λ n. Sent w' w'' (game_text plan n g)) s.numbered sent))
 
   counted_more : (g : GameRecord) → number ≤ 65535
@@ -206,7 +206,7 @@ module _ (plan : GamesPlan) (w w' w'' : OutputState) (l l' l'' : LogSeen) (numbe
         numbered = omega (arith, n, longer);
         few = omega (arith, n, longer, le);
         counted = counted_more g small;
-        told = told_more g sent;
+        written = written_more g sent;
         logged = logged_on g log;
       }
 
@@ -222,7 +222,7 @@ module _ (plan : GamesPlan) (w w' w'' : OutputState) (l l' l'' : LogSeen) (numbe
         games ++ g ∷ [],
         (games, g, refl, s.games_sound, of, is, omega (arith, n, longer), le),
         counted_more g small,
-        told_more g sent,
+        written_more g sent,
         logged_on g log,
       )
 
@@ -238,7 +238,7 @@ module _ (plan : GamesPlan) (w w' w'' : OutputState) (l l' l'' : LogSeen) (numbe
         omega (arith, n, le),
         of,
         subst (λ k. Begins begun (game_text plan k next)) m begins,
-        failed_behind w w' w'' (game_texts plan games) begun s.told failed,
+        failed_behind w w' w'' (game_texts plan games) begun s.written failed,
         logged_on next log,
       )
   broke NoMemory le (is, same, log) =
@@ -247,7 +247,7 @@ module _ (plan : GamesPlan) (w w' w'' : OutputState) (l l' l'' : LogSeen) (numbe
         s.games_sound,
         omega (arith, n, le),
         is,
-        subst (λ v. Flushed w v (game_texts plan games)) (sym same) s.told,
+        subst (λ v. Flushed w v (game_texts plan games)) (sym same) s.written,
         subst (λ v. LogsGames plan.log l v games) (sym log) s.logged,
       )
   broke (CanNotStart command) le (is, same, log) =
@@ -256,7 +256,7 @@ module _ (plan : GamesPlan) (w w' w'' : OutputState) (l l' l'' : LogSeen) (numbe
         s.games_sound,
         omega (arith, n, le),
         is,
-        subst (λ v. Flushed w v (game_texts plan games)) (sym same) s.told,
+        subst (λ v. Flushed w v (game_texts plan games)) (sym same) s.written,
         subst (λ v. LogsGames plan.log l v games) (sym log) s.logged,
       )
   broke (Game k text) le (is, same, log) = absurd is
@@ -267,7 +267,7 @@ pub all_played : (plan : GamesPlan) (w w' : OutputState) (l l' : LogSeen) (numbe
 all_played plan w w' l l' number score games s past =
     let n = s.numbered in
     let few = s.few in
-    (games, (s.games_sound, omega (arith, n, few, past)), s.counted, s.told, s.logged)
+    (games, (s.games_sound, omega (arith, n, few, past)), s.counted, s.written, s.logged)
 
 -- ---- the end of a match
 
@@ -289,16 +289,16 @@ module _ (plan : GamesPlan) (w w' w'' : OutputState) (l l' : LogSeen) (played : 
       flushed_more w w' w'' (game_texts plan h.0) (score_line (score_of h.0)) h.3
       (subst (λ v. Sent w' w'' (score_line v)) h.2 sent)
 
-  pub all_told : Sent w' w'' (score_line played.score) → played.fault ≡ None
+  pub all_written : Sent w' w'' (score_line played.score) → played.fault ≡ None
       → RanGames plan w w'' l l' (Ok (tt {0}))
-  all_told sent none = (h.0, subst (EndsGames plan h.0) none h.1, score_sent sent, h.4)
+  all_written sent none = (h.0, subst (EndsGames plan h.0) none h.1, score_sent sent, h.4)
 
-  pub fault_told : (number : ℕ) (side : Colour) (fault : MatchFault) (text : Bor (List ℕ))
+  pub fault_written : (number : ℕ) (side : Colour) (fault : MatchFault) (text : Bor (List ℕ))
       → text.now ≡ comment_of (Faulted side fault)
       → Sent w' w'' (score_line played.score) → played.fault ≡ Some (number, side, fault)
       → RanGames plan w w'' l l' (Err (Game number text))
-  fault_told number side fault text told sent is =
-      (h.0, side, fault, subst (EndsGames plan h.0) is h.1, told, score_sent sent, h.4)
+  fault_written number side fault text written sent is =
+      (h.0, side, fault, subst (EndsGames plan h.0) is h.1, written, score_sent sent, h.4)
 
   pub score_broken : BreaksOff w' w'' (score_line played.score) → RanGames plan w w'' l l' (Err WriteFailed)
   score_broken (begun, begins, failed) = inr (
