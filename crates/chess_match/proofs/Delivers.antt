@@ -17,7 +17,7 @@ use Rattle.chess_match.specs.Sent.{SentLine, answers_to, block, bytes_of}
 use Rattle.chess_match.specs.ties.Represents.{Represents, Goes, clocks_of, items_to, nothing_said}
 use Rattle.chess_match.specs.ties.Steps.{IsSane, in_turn}
 use Rattle.chess_match.specs.ties.Reported.{SendsIf}
-use Rattle.chess_match.specs.Run.{ReadsClock, text_read}
+use Rattle.chess_match.specs.Run.{ClockReadings, text_read}
 use Rattle.chess_match.specs.Transcript.{is_on, reads, moment_in}
 use Rattle.chess_match.specs.declared.state.MatchState.{MatchState}
 use Rattle.chess_match.specs.declared.state.Actions.{Actions}
@@ -215,7 +215,7 @@ undecided r core played m s sane h = ap (λ (ms : List Move). r.verdict ms) s.mo
 abbrev pub IsNoted : (Rules → Type 0) → MatchState → List Move → MatchState → List Move → Actions → List ℕ → Colour → (ℕ → Option ℕ)
     → (ℕ → Option ℕ) → Noted → Noted → Event → Type 0
 IsNoted plays core played core' played' given text S coming coming' notes notes' e =
-    (items : List Item) × ReadsClock coming coming' (moment_in e)
+    (items : List Item) × ClockReadings coming coming' (moment_in e)
     × WasNoted notes notes' (Happened e ∷ [])
     × (text ≡ bytes_of (answers_to items))
     × ((r : Rules) (m : Match) → plays r → reads m.phase S ≡ true → Represents r core played m
@@ -231,7 +231,7 @@ pub noted_bare : (plays : Rules → Type 0) (core : MatchState) (played : List M
 unfolding bytes_of
 noted_bare plays core played core' played' given text S coming notes notes' e none empty noted goes = (
   [],
-  subst (λ (ms : List ℕ). ReadsClock coming coming ms) (sym none) (asked_none coming),
+  subst (λ (ms : List ℕ). ClockReadings coming coming ms) (sym none) (asked_none coming),
   noted,
   empty,
   λ r m p h s. goes_with r core' played' given nothing_said (items_to S []) m (match_after r m e) (nothing_to S)

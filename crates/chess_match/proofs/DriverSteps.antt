@@ -17,7 +17,7 @@ use Rattle.cecp_engine.specs.Levels.{LevelSeen}
 use Rattle.chess_match.specs.Match.{Match, Event, start, match_after}
 use Rattle.chess_match.specs.Notes.{Noted, WasNoted, Happened}
 use Rattle.chess_match.specs.Rules.{Rules, rules_of}
-use Rattle.chess_match.specs.Run.{ReadsClock}
+use Rattle.chess_match.specs.Run.{ClockReadings}
 use Rattle.chess_match.specs.Sent.{block, lines_on_entering}
 use Rattle.chess_match.specs.ties.Represents.{given_block, nothing_said}
 use Rattle.chess_match.specs.Transcript.{match_of, reads, opens, moment_in}
@@ -77,7 +77,7 @@ pub event_on : {E : Type 0} (r : Rules) (T : List Event) (S : Colour) (moment : 
     → IsUnderWay r T core played failed n n' held w w' coming coming' notes notes' → reads core.phase S ≡ true
     → NextLine ENGINE_LINE_LEN (n' S) (n'' S) (held S) (held' S) result → n'' (other S) ≡ n' (other S)
     → held' (other S) ≡ held (other S)
-    → ReadsClock coming' coming'' (moment_in (event_read S moment result))
+    → ClockReadings coming' coming'' (moment_in (event_read S moment result))
     → WasNoted notes' between (Happened (event_read S moment result) ∷ [])
     → Delivered r core' played' (match_after r (match_of r T) (event_read S moment result))
     (block r (match_of r T) (match_after r (match_of r T) (event_read S moment result))) S w' w'' failed'

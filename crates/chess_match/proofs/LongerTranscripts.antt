@@ -7,7 +7,7 @@ use Rattle.chess_base.specs.declared.man.Colour.{Colour}
 use Rattle.byte_devices.specs.Devices.{OutputState}
 use Rattle.chess_match.specs.Match.{Match, Event, Line, Opened, OutputEnds, FailsToRead, FailsToWrite, start, match_after}
 use Rattle.chess_match.specs.Rules.{Rules}
-use Rattle.chess_match.specs.Run.{Flushed, Written, ReadsClock}
+use Rattle.chess_match.specs.Run.{Flushed, Written, ClockReadings}
 use Rattle.chess_match.specs.Sent.{SentLine, block, lines_on_entering, bytes_of}
 use Rattle.chess_match.specs.ties.Reported.{SendsIf}
 use Rattle.chess_match.specs.Transcript.{match_of, fits_from, fits_next, fits, is_dropped, is_fault, block_at, blocks_from, blocks, joined_blocks, line_in, lines_of_engine, moment_in, moments_of, has_fault}
@@ -216,7 +216,7 @@ some_of : {P Q : ℕ → Type 0} (o : Option ℕ) → ((t : ℕ) → P t → Q t
 some_of None f h = h
 some_of (Some t) f h = f t h
 
-pub asked_none : (coming : ℕ → Option ℕ) → ReadsClock coming coming []
+pub asked_none : (coming : ℕ → Option ℕ) → ClockReadings coming coming []
 asked_none coming = record { known = λ n h. absurd (omega (arith, h)); rest = λ n. ap coming (sym (zero-add n)) }
 
 first_told : (coming : ℕ → Option ℕ) (moment n : ℕ) → IfSome (coming 0) (λ t. moment ≡ t) → n < 1
@@ -225,7 +225,7 @@ first_told coming moment zero h few = some_of (coming 0) (λ t e. ap Some e) h
 first_told coming moment (suc n) h few = absurd (omega (arith, few))
 
 pub asked_one : (coming coming' : ℕ → Option ℕ) (moment : ℕ) → IfSome (coming 0) (λ t. moment ≡ t)
-    → ((n : ℕ) → coming' n ≡ coming (n + 1)) → ReadsClock coming coming' (moment ∷ [])
+    → ((n : ℕ) → coming' n ≡ coming (n + 1)) → ClockReadings coming coming' (moment ∷ [])
 asked_one coming coming' moment h rest = record {
   known = λ n few. first_told coming moment n h few;
   rest = λ n. let e : n + 1 ≡ 1 + n = omega arith in rest n ∙ ap coming e;
@@ -242,7 +242,7 @@ told_at (x ∷ xs) ys c c' (suc n) a b e h =
     told_at xs ys (λ k. c (suc k)) c' n (λ k f. a (suc k) (omega (arith, f))) b
     (λ k. let s : length (x ∷ xs) + k ≡ suc (length xs + k) = omega arith in e k ∙ ap c s) (omega (arith, h))
 
-pub asked_more : (c c' c'' : ℕ → Option ℕ) (xs ys : List ℕ) → ReadsClock c c' xs → ReadsClock c' c'' ys → ReadsClock c c'' (xs ++ ys)
+pub asked_more : (c c' c'' : ℕ → Option ℕ) (xs ys : List ℕ) → ClockReadings c c' xs → ClockReadings c' c'' ys → ClockReadings c c'' (xs ++ ys)
 asked_more c c' c'' xs ys a b = record {
   known = λ n h. told_at xs ys c c' n a.known b.known a.rest h;
   rest = λ n. let s : length xs + (length ys + n) ≡ length (xs ++ ys) + n = omega (arith, length-append xs ys) in

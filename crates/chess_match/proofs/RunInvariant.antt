@@ -8,7 +8,7 @@ use Rattle.chess_match.proofs.EngineOutput.{OutputSoFar}
 use Rattle.chess_match.specs.Match.{Event}
 use Rattle.chess_match.specs.Notes.{Noted, WasNoted, notes_of}
 use Rattle.chess_match.specs.Rules.{Rules}
-use Rattle.chess_match.specs.Run.{ReadFrom, Written, ReadsClock}
+use Rattle.chess_match.specs.Run.{ReadFrom, Written, ClockReadings}
 use Rattle.chess_match.specs.ties.Represents.{Represents}
 use Rattle.chess_match.specs.ties.Steps.{IsSane}
 use Rattle.chess_match.specs.Transcript.{match_of, fits, blocks, lines_of_engine, moments_of, has_fault, is_on}
@@ -38,7 +38,7 @@ pub record IsUnderWay (r : Rules) (T : List Event) (core : MatchState) (played :
   pub written : (S : Colour) → Written (failed S) (w S) (w' S) (blocks r S T)
   pub fine : is_on (match_of r T).phase ≡ true → (S : Colour) → failed S ≡ false
   pub failing : (S : Colour) → has_fault Write S T ≡ true → failed S ≡ true
-  pub moments : ReadsClock coming coming' (moments_of T)
+  pub moments : ClockReadings coming coming' (moments_of T)
   pub noted : WasNoted notes notes' (notes_of r T)
 
 -- what is left to do, where so much can still be read

@@ -13,7 +13,7 @@ use Rattle.chess_match.proofs.EngineOutput.{OutputSoFar, OutputAt, is_of_output}
 use Rattle.chess_match.specs.Match.{Match, Event, Line, Opened, OutputEnds, FailsToRead, FailsToWrite, start, match_after}
 use Rattle.chess_match.specs.Notes.{Noted, WasNoted, Happened, both_notes, first_sent, notes_of}
 use Rattle.chess_match.specs.Rules.{Rules}
-use Rattle.chess_match.specs.Run.{Flushed, Written, ReadsClock}
+use Rattle.chess_match.specs.Run.{Flushed, Written, ClockReadings}
 use Rattle.chess_match.specs.Sent.{SentLine, block, lines_on_entering, bytes_of}
 use Rattle.chess_match.specs.ties.Represents.{Represents, Goes, given_block, nothing_said}
 use Rattle.chess_match.specs.ties.Steps.{IsSane}
@@ -74,7 +74,7 @@ pub all_step : (r : Rules) (T : List Event) (e : Event) (core core' : MatchState
     → WasNoted notes' between (Happened e ∷ [])
     → is_on (match_of r T).phase ≡ true → is_sound e ≡ true → fits_next nothing_due (match_of r T) e ≡ true
     → IsSane r (match_after r (match_of r T) e)
-    → ((S : Colour) → OutputAt S e (n' S) (n'' S) (held S) (held' S)) → ReadsClock coming' coming'' (moment_in e)
+    → ((S : Colour) → OutputAt S e (n' S) (n'' S) (held S) (held' S)) → ClockReadings coming' coming'' (moment_in e)
     → AllSent r core' played' (match_after r (match_of r T) e) (λ S. block r (match_of r T) (match_after r (match_of r T) e) S)
     first w' w'' failed' between notes''
     → IsUnderWay r (T ++ e ∷ []) core' played' failed' n n'' held' w w'' coming coming'' notes notes''
@@ -99,7 +99,7 @@ all_step r T e core core' played played' failed failed' n n' n'' held held' w w'
       failing = λ S. no_failure_yet S T (e ∷ []) (failed S) (failed' S) (u.fine on S) (u.failing S)
           (λ h. let no : is_fault Write S e || false ≡ false = ap (λ b. b || false) (sound_write S e sound) in not_both _ no
           h);
-      moments = subst (λ (ms : List ℕ). ReadsClock coming coming'' ms) (sym (moments_more T e [] no_tail))
+      moments = subst (λ (ms : List ℕ). ClockReadings coming coming'' ms) (sym (moments_more T e [] no_tail))
           (asked_more coming coming' coming'' (moments_of T) (moment_in e) u.moments asked);
       noted = noted_as notes notes'' _ (notes_of r (T ++ e ∷ [])) (noted_on r T e sound)
           (noted_more notes notes' notes'' (notes_of r T) _ u.noted
@@ -185,7 +185,7 @@ pub failed_step : (r : Rules) (T : List Event) (d : Colour) (text : Option (List
     → WasNoted notes' between (Happened (Line d text k) ∷ [])
     → is_on (match_of r T).phase ≡ true → fits_next nothing_due (match_of r T) (Line d text k) ≡ true
     → IsSane r (match_after r (match_of r T) (Line d text k))
-    → ((S : Colour) → OutputAt S (Line d text k) (n' S) (n'' S) (held S) (held' S)) → ReadsClock coming' coming'' (k ∷ [])
+    → ((S : Colour) → OutputAt S (Line d text k) (n' S) (n'' S) (held S) (held' S)) → ClockReadings coming' coming'' (k ∷ [])
     → OneFailed r core' played' (match_after r (match_of r T) (Line d text k))
     (λ S. block r (match_of r T) (match_after r (match_of r T) (Line d text k)) S) d w' w'' failed' between notes'' c
     → IsUnderWay r (T ++ Line d text k ∷ FailsToWrite c ∷ []) core' played' failed' n n'' held' w w'' coming coming''
@@ -218,7 +218,7 @@ failed_step r T d text k core core' played played' failed failed' n n' n'' held 
       fine = λ h. let no : false ≡ true = subst (λ (x : Match). is_on x.phase ≡ true) now h in absurd cc;
       failing = λ S. no_failure_yet S T (e ∷ U) (failed S) (failed' S) (u.fine on S) (u.failing S)
           (own_fails c failed' one.fails S);
-      moments = subst (λ (ms : List ℕ). ReadsClock coming coming'' ms) (sym (moments_more T e U (failed_tail c)))
+      moments = subst (λ (ms : List ℕ). ClockReadings coming coming'' ms) (sym (moments_more T e U (failed_tail c)))
           (asked_more coming coming' coming'' (moments_of T) (k ∷ []) u.moments asked);
       noted = noted_as notes notes'' _ (notes_of r (T ++ e ∷ U)) (noted_broken r T d c text k one.on)
           (noted_more notes notes' notes'' (notes_of r T) _ u.noted
@@ -360,7 +360,7 @@ pub event_step : (r : Rules) (T : List Event) (e : Event) (d : Colour) (core cor
     → WasNoted notes' between (Happened e ∷ [])
     → is_of_output d e ≡ true → is_on (match_of r T).phase ≡ true → fits_next nothing_due (match_of r T) e ≡ true
     → IsSane r (match_after r (match_of r T) e)
-    → ((S : Colour) → OutputAt S e (n' S) (n'' S) (held S) (held' S)) → ReadsClock coming' coming'' (moment_in e)
+    → ((S : Colour) → OutputAt S e (n' S) (n'' S) (held S) (held' S)) → ClockReadings coming' coming'' (moment_in e)
     → Delivered r core' played' (match_after r (match_of r T) e) (λ S. block r (match_of r T) (match_after r (match_of r T) e) S) d
     w' w'' failed' between notes''
     → (T' : List Event) × IsUnderWay r T' core' played' failed' n n'' held' w w'' coming coming'' notes notes''
@@ -433,7 +433,7 @@ pub opened_step : (r : Rules) (T : List Event) (d : Colour) (k : ℕ) (core core
     (coming coming' coming'' : ℕ → Option ℕ) (notes notes' notes'' : Noted)
     → IsUnderWay r T core played failed n n' held w w' coming coming' notes notes'
     → WasNoted notes' notes'' (Happened (Opened d k) ∷ []) → opens (match_of r T).phase d ≡ true
-    → ReadsClock coming' coming'' (k ∷ [])
+    → ClockReadings coming' coming'' (k ∷ [])
     → Goes r core' played (record { draw = None; entered = false }) nothing_said (match_of r T)
     (match_after r (match_of r T) (Opened d k))
     → IsUnderWay r (T ++ Opened d k ∷ []) core' played failed n n' held w w' coming coming'' notes notes''

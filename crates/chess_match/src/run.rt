@@ -14,7 +14,7 @@ ghost use Rattle.chess_match.specs.Match.{Match, FailsToWrite, match_after};
 ghost use Rattle.chess_match.specs.Notes.{WasNoted, Happened, given_note, both_notes};
 ghost use Rattle.chess_match.specs.Reasons.{declared_at, by_colour};
 ghost use Rattle.chess_match.specs.Rules.{Rules};
-ghost use Rattle.chess_match.specs.Run.{Ports, MatchRan, RanBefore, ReadsClock, text_read};
+ghost use Rattle.chess_match.specs.Run.{Ports, MatchRan, RanBefore, ClockReadings, text_read};
 ghost use Rattle.cecp_engine.specs.Seen.{seen};
 ghost use Rattle.chess_match.specs.Sent.{block, bytes_of, answers_to};
 ghost use Rattle.chess_match.specs.ties.Represents.{Represents, Goes, given_block, items_to};
@@ -490,7 +490,7 @@ fn take_line<M: Moments, L: Witness, G: MatchGame>(
     ensures rules { (r : Rules) → G.plays game.old r → G.plays game.new r }
     ensures origin { G.origin game.new ≡ G.origin game.old }
     ensures taken { (moment : ℕ) × (items : List Item)
-        × ReadsClock (M.coming moments.old) (M.coming moments.new) (moment_in (line_event side line.now moment))
+        × ClockReadings (M.coming moments.old) (M.coming moments.new) (moment_in (line_event side line.now moment))
         × WasNoted (L.noted witness.old) (L.noted witness.new) (Happened (line_event side line.now moment) ∷ [])
         × (block.new.items ≡ bytes_of (answers_to items))
         × ((r : Rules) (m : Match) → G.plays game.old r → reads m.phase side ≡ true
@@ -522,7 +522,7 @@ fn take_next<M: Moments, L: Witness, G: MatchGame>(
     ensures rules { (r : Rules) → G.plays game.old r → G.plays game.new r }
     ensures origin { G.origin game.new ≡ G.origin game.old }
     ensures taken { (moment : ℕ) × (items : List Item)
-        × ReadsClock (M.coming moments.old) (M.coming moments.new)
+        × ClockReadings (M.coming moments.old) (M.coming moments.new)
         (moment_in (event_read side moment (line_read found line.now)))
         × WasNoted (L.noted witness.old) (L.noted witness.new)
         (Happened (event_read side moment (line_read found line.now)) ∷ [])
