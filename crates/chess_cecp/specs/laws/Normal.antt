@@ -120,7 +120,7 @@ normal_row_of tags limit s text argument BadNumber = refuses s (codes "Error (ba
 normal_row_of tags limit s text argument Unknown = refuses s (codes "Error (unknown command): ") text
 
 -- whether this command does in a game of normal chess what it does in the table of commands for normal chess alone
-abbrev pub keeps_its_row : Command → Bool
-keeps_its_row Variant = false
-keeps_its_row (Protover n) = false
-keeps_its_row command = true
+abbrev pub has_normal_row : Command → Bool
+has_normal_row Variant = false
+has_normal_row (Protover n) = false
+has_normal_row command = true
