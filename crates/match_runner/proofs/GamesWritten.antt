@@ -25,7 +25,7 @@ use Rattle.chess_match.specs.declared.reason.Reason.TheVariants.{Faulted}
 use Rattle.chess_match.specs.declared.run.MatchEnd.{MatchEnd}
 use Rattle.chess_match.proofs.Flushes.{flushed_none, failed_behind}
 use Rattle.match_runner.specs.Games.{EndsGames, GameRecord, IsOfPlan, LogsGames, RanGames, SoundGames, count_of, first_side, game_logs, game_text, game_texts, match_text, score_line, score_of}
-use Rattle.match_runner.specs.ties.Playing.{HasPlayed, LogsGame, PlayedOne, RanAndLogged, logged_side, no_score, plus, score_after}
+use Rattle.match_runner.specs.ties.Playing.{HasPlayed, LogsGame, PlayedGame, RanAndLogged, logged_side, no_score, plus, score_after}
 use Rattle.match_runner.specs.Log.{LogSeen, Logged, RanNoted, log_text}
 use Rattle.match_runner.proofs.Logged.{logged_more, logs_none}
 use Rattle.match_runner.specs.declared.games.GamesFault.{GamesFault}
@@ -226,7 +226,7 @@ module _ (plan : GamesPlan) (w w' w'' : OutputState) (l l' l'' : LogSeen) (numbe
         logged_on g log,
       )
 
-  pub broke : (fault : GamesFault) → number ≤ plan.games → PlayedOne plan number w' w'' l' l'' (Err fault)
+  pub broke : (fault : GamesFault) → number ≤ plan.games → PlayedGame plan number w' w'' l' l'' (Err fault)
       → HasPlayed plan w w'' l l'' (Err fault)
   broke WriteFailed le (next, of, (begun, begins, failed), log) =
       let n = s.numbered in

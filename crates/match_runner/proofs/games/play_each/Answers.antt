@@ -22,10 +22,10 @@ pub returns-in-Err : goal.returns-in-Err
 returns-in-Err g c =
     let w = g.W.Output.seen c.args.output.now in
     let w' = g.W.Output.seen c.loop-number.output in
-    let w'' = g.W.Output.seen c.play_one.new.output in
+    let w'' = g.W.Output.seen c.start_and_play.new.output in
     let l = log_seen (g.E.Output.seen c.args.log.now.output) c.args.log.now.pending in
     let l' = log_seen (g.E.Output.seen c.loop-number.log.output) c.loop-number.log.pending in
-    let l'' = log_seen (g.E.Output.seen c.play_one.new.log.output) c.play_one.new.log.pending in
+    let l'' = log_seen (g.E.Output.seen c.start_and_play.new.log.output) c.start_and_play.new.log.pending in
     let le : c.loop-number.number + 1 ≤ c.args.plan.now.games =
     (let t = c.loop-number-test.true in let e = c.game_count.ensures.value in omega (arith, t, e)) in
     broke c.args.plan.now w w' w'' l l' l'' (c.loop-number.number + 1) c.loop-number.score c.loop-number.invariant.1
@@ -36,10 +36,10 @@ returns-in-Some g c =
     let plan = c.args.plan.now in
     let w = g.W.Output.seen c.args.output.now in
     let w' = g.W.Output.seen c.loop-number.output in
-    let w'' = g.W.Output.seen c.play_one.new.output in
+    let w'' = g.W.Output.seen c.start_and_play.new.output in
     let l = log_seen (g.E.Output.seen c.args.log.now.output) c.args.log.now.pending in
     let l' = log_seen (g.E.Output.seen c.loop-number.log.output) c.loop-number.log.pending in
-    let l'' = log_seen (g.E.Output.seen c.play_one.new.log.output) c.play_one.new.log.pending in
+    let l'' = log_seen (g.E.Output.seen c.start_and_play.new.log.output) c.start_and_play.new.log.pending in
     let number = c.loop-number.number + 1 in
     let le : number ≤ plan.games = (let t = c.loop-number-test.true in let e = c.game_count.ensures.value in omega (arith, t, e)) in
     let small : number ≤ 65535 =
@@ -60,10 +60,10 @@ loop-number-preserved g c =
     let plan = c.args.plan.now in
     let w = g.W.Output.seen c.args.output.now in
     let w' = g.W.Output.seen c.loop-number.output in
-    let w'' = g.W.Output.seen c.play_one.new.output in
+    let w'' = g.W.Output.seen c.start_and_play.new.output in
     let l = log_seen (g.E.Output.seen c.args.log.now.output) c.args.log.now.pending in
     let l' = log_seen (g.E.Output.seen c.loop-number.log.output) c.loop-number.log.pending in
-    let l'' = log_seen (g.E.Output.seen c.play_one.new.log.output) c.play_one.new.log.pending in
+    let l'' = log_seen (g.E.Output.seen c.start_and_play.new.log.output) c.start_and_play.new.log.pending in
     let number = c.loop-number.number + 1 in
     let le : number ≤ plan.games = (let t = c.loop-number-test.true in let e = c.game_count.ensures.value in omega (arith, t, e)) in
     let small : number ≤ 65535 =
@@ -74,7 +74,7 @@ loop-number-preserved g c =
     let counted : c.after-score.result ≡ score_after (first_side number) c.in-Ok.end.outcome c.loop-number.score =
     c.after-score.ensures ∙ ap (λ side. score_after side c.in-Ok.end.outcome c.loop-number.score) c.first_side.ensures in
     let games = c.loop-number.invariant.1 ++ recorded ∷ [] in (
-      c.play_one.ensures.limit,
+      c.start_and_play.ensures.limit,
       games,
       subst (λ (v : Score). SoFar plan w w'' l l'' (number + 1) v games) (sym counted)
           (one_more plan w w' w'' l l' l'' number c.loop-number.score c.loop-number.invariant.1
