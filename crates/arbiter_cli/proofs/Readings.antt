@@ -119,7 +119,8 @@ plan_fault names texts (request.Match m) f none is h =
 pub planned_reading : (names : Lent) (texts : List Text) → AreVariants names → faults_in names texts ≡ []
     → (s : Request) → IsRequestOf (asked names texts) s
     → (r : Result Plan WordsFault) → IfOk r (IsPlanned s) → IfErr r (IsPlanFault s) → IsReading texts r
-planned_reading names texts are none s is (Ok plan) p f = (names, are, (none, planned_plan (asked names texts) s plan is p))
+planned_reading names texts are none s is (Ok plan) p f =
+    (names, are, (none, planned_plan (asked names texts) s plan is p))
 planned_reading names texts are none s is (Err e) p f = (names, are, plan_fault names texts s e none is f)
 
 -- ---- the command that was entered

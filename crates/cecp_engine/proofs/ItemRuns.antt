@@ -119,9 +119,11 @@ pub item_room : (text : List ℕ) (p : Item × List ℕ) → item_of text ≡ So
     → (0 < length p.0.name) × (length p.0.name + length p.1 + 2 ≤ length text)
 unfolding item_of
 item_room text p e =
-    let h = with_name_shorter (take (prefix_len is_name_byte text) text) (drop (prefix_len is_name_byte text) text) p e in
+    let h = with_name_shorter (take (prefix_len is_name_byte text) text) (drop (prefix_len is_name_byte text) text) p e
+    in
     let all : length (take (prefix_len is_name_byte text) text) + length (drop (prefix_len is_name_byte text) text)
-    ≡ length text = sym (length-append (take (prefix_len is_name_byte text) text) (drop (prefix_len is_name_byte text) text))
+    ≡ length text = sym (length-append (take (prefix_len is_name_byte text) text)
+    (drop (prefix_len is_name_byte text) text))
     ∙ ap (λ (l : List ℕ). length l) (take-append-drop (prefix_len is_name_byte text) text) in
     let named : length p.0.name ≡ length (take (prefix_len is_name_byte text) text) =
     ap (λ (l : List ℕ). length l) h.0 in
@@ -216,7 +218,8 @@ some_at : (rest : List ℕ) (p : Item × List ℕ) → item_of rest ≡ Some p �
     → items_of rest ≡ p.0 ∷ items_of p.1
 some_at rest p e f = items_of-step rest ∙ ap (items_by items_of) e ∙ rw f refl
 
-last_at : (rest : List ℕ) (p : Item × List ℕ) → item_of rest ≡ Some p → ends_handshake p.0 ≡ true → items_of rest ≡ p.0 ∷ []
+last_at : (rest : List ℕ) (p : Item × List ℕ) → item_of rest ≡ Some p → ends_handshake p.0 ≡ true
+    → items_of rest ≡ p.0 ∷ []
 last_at rest p e f = items_of-step rest ∙ ap (items_by items_of) e ∙ rw f refl
 
 pub none_at : (rest : List ℕ) → item_of rest ≡ None → items_of rest ≡ []

@@ -17,8 +17,8 @@
 //! let left = Clocks::new(level).remaining(Colour::White);
 //! ```
 //!
-//! Then `features.ping` is true, and `left` is 300,000. A handshake ends with the item of which `ends_handshake()` is true,
-//! here `done=1`.
+//! Then `features.ping` is true, and `left` is 300,000. A handshake ends with the item of which `ends_handshake()` is
+//! true, here `done=1`.
 #![tactic(auto)]
 
 mod clocks;

@@ -23,15 +23,16 @@ shorter xs ys lt e = let same : length xs ≡ length ys = ap length e in absurd 
 -- a plan that was read of arguments that ask for that command
 read_argument : PlansAreNamed → (arguments : List Text) (name : Text) (plan : Plan) → AskFor arguments name
     → IsReading arguments (Ok plan) → name ≡ command_name plan
-read_argument named arguments name plan a (names, are, (none, is)) = sym (a.named names) ∙ named (asked names arguments) plan is
+read_argument named arguments name plan a (names, are, (none, is)) = sym (a.named names)
+    ∙ named (asked names arguments) plan is
 
 -- arguments that are taken and ask for no match are refused for being out of memory alone
 abbrev IsWant : WordsFault → Type 0
 IsWant faults.NoMemory = Unit {0}
 IsWant _ = ⊥
 
-refused_argument : (arguments : List Text) (name : Text) (fault : WordsFault) → AskFor arguments name → (name ≡ codes "match" → ⊥)
-    → IsReading arguments (Err fault) → IsWant fault
+refused_argument : (arguments : List Text) (name : Text) (fault : WordsFault) → AskFor arguments name
+    → (name ≡ codes "match" → ⊥) → IsReading arguments (Err fault) → IsWant fault
 refused_argument ws name (faults.Words e) a other (names, are, among) =
     absurd (subst (IsAmong (kind_of e)) (a.taken names) among)
 refused_argument ws name faults.NoMemory a other is = tt
@@ -48,8 +49,8 @@ no_match_by_session e = shorter (codes "match") (codes "session") (lit< tt) (sym
 no_match_by_verify : codes "verify" ≡ codes "match" → ⊥
 no_match_by_verify e = shorter (codes "match") (codes "verify") (lit< tt) (sym e)
 
-session_or_want : (fault : WordsFault) (r r' : InputState) (w w' : OutputState) (l l' : LogSeen) (status : ℕ) → IsWant fault
-    → RanPlan (Err fault) r r' w w' l l' status → RanSession r r' w w' status
+session_or_want : (fault : WordsFault) (r r' : InputState) (w w' : OutputState) (l l' : LogSeen) (status : ℕ)
+    → IsWant fault → RanPlan (Err fault) r r' w w' l l' status → RanSession r r' w w' status
 session_or_want faults.NoMemory r r' w w' l l' status want (same, (kept, is)) =
     inr (same, kept, is)
 session_or_want (faults.Words e) r r' w w' l l' status want ran = absurd want
@@ -65,8 +66,8 @@ nothing_read r r' same = subst (λ v. HasRead false r v []) (sym same) (record {
   at_end = λ e. absurd (cc);
 })
 
-verify_or_want : (fault : WordsFault) (r r' : InputState) (w w' : OutputState) (l l' : LogSeen) (status : ℕ) → IsWant fault
-    → RanPlan (Err fault) r r' w w' l l' status → RanVerify bare_plan r r' w w' status
+verify_or_want : (fault : WordsFault) (r r' : InputState) (w w' : OutputState) (l l' : LogSeen) (status : ℕ)
+    → IsWant fault → RanPlan (Err fault) r r' w w' l l' status → RanVerify bare_plan r r' w w' status
 verify_or_want faults.NoMemory r r' w w' l l' status want (same, (kept, is)) =
     (Err verifying.NoMemory, ([], inl (nothing_read r r' same), kept), is)
 verify_or_want (faults.Words e) r r' w w' l l' status want ran = absurd want
@@ -88,15 +89,16 @@ serves named ws a (Ok (Stub s)) is r r' w w' l l' status ran =
 serves named ws a (Ok (Match m)) is r r' w w' l l' status ran =
     absurd (no_match_by_session (read_argument named ws (codes "session") (Match m) a is))
 serves named ws a (Err fault) is r r' w w' l l' status ran =
-    session_or_want fault r r' w w' l l' status (refused_argument ws (codes "session") fault a no_match_by_session is) ran
+    session_or_want fault r r' w w' l l' status (refused_argument ws (codes "session") fault a no_match_by_session is)
+    ran
 
 -- `verify` alone sets none of its flags
 without_flags : VerifyIsAsAsked → (arguments : List Text) (v : VerifyPlan) → VerifyAsBare arguments
     → IsReading arguments (Ok (Verify v)) → v ≡ bare_plan
 without_flags denoted ws v bare (names, are, (none, is)) = denoted (asked names ws) v is ∙ bare names
 
-verifies : PlansAreNamed → VerifyIsAsAsked → (arguments : List Text) → AskFor arguments (codes "verify") → VerifyAsBare arguments
-    → (read : Result Plan WordsFault) → IsReading arguments read
+verifies : PlansAreNamed → VerifyIsAsAsked → (arguments : List Text) → AskFor arguments (codes "verify")
+    → VerifyAsBare arguments → (read : Result Plan WordsFault) → IsReading arguments read
     → (r r' : InputState) (w w' : OutputState) (l l' : LogSeen) (status : ℕ) → RanPlan read r r' w w' l l' status
     → RanVerify bare_plan r r' w w' status
 verifies named denoted ws a bare (Ok Session) is r r' w w' l l' status ran =
@@ -104,16 +106,19 @@ verifies named denoted ws a bare (Ok Session) is r r' w w' l l' status ran =
 verifies named denoted ws a bare (Ok (Verify v)) is r r' w w' l l' status ran =
     subst (λ (plan : VerifyPlan). RanVerify plan r r' w w' status) (without_flags denoted ws v bare is) ran
 verifies named denoted ws a bare (Ok (Stub s)) is r r' w w' l l' status ran =
-    absurd (shorter (codes "stub") (codes "verify") (lit< tt) (sym (read_argument named ws (codes "verify") (Stub s) a is)))
+    absurd (shorter (codes "stub") (codes "verify") (lit< tt)
+    (sym (read_argument named ws (codes "verify") (Stub s) a is)))
 verifies named denoted ws a bare (Ok (Match m)) is r r' w w' l l' status ran =
     absurd (no_match_by_verify (read_argument named ws (codes "verify") (Match m) a is))
 verifies named denoted ws a bare (Err fault) is r r' w w' l l' status ran =
     verify_or_want fault r r' w w' l l' status (refused_argument ws (codes "verify") fault a no_match_by_verify is) ran
 
-pub serves_session : PlansAreNamed → (arguments : List Text) → AskFor arguments (codes "session") → ServesSession arguments
+pub serves_session : PlansAreNamed → (arguments : List Text) → AskFor arguments (codes "session")
+    → ServesSession arguments
 serves_session named ws a r r' w w' l l' status (read, is, ran) = serves named ws a read is r r' w w' l l' status ran
 
 pub verifies_games : PlansAreNamed → VerifyIsAsAsked → (arguments : List Text) → AskFor arguments (codes "verify")
     → VerifyAsBare arguments → VerifiesGames arguments
-verifies_games named denoted ws a bare r r' w w' l l' status (read, is, ran) = verifies named denoted ws a bare read is r r'
+verifies_games named denoted ws a bare r r' w w' l l' status (read, is, ran) =
+    verifies named denoted ws a bare read is r r'
     w w' l l' status ran

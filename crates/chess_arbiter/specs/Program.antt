@@ -118,8 +118,8 @@ RanMatch plan w w' l l' status =
 
 -- the program did what its arguments ask for (the plan), or reported why they ask for nothing (the fault). `r`, `w` and
 -- `l` are input, output and error output before, `r'`, `w'` and `l'` after; `status` is the exit status
-abbrev pub RanPlan : Result Plan WordsFault → InputState → InputState → OutputState → OutputState → LogSeen → LogSeen → ℕ
-    → Type 0
+abbrev pub RanPlan : Result Plan WordsFault → InputState → InputState → OutputState → OutputState → LogSeen
+    → LogSeen → ℕ → Type 0
 RanPlan (Ok Session) r r' w w' l l' status = RanSession r r' w w' status
 RanPlan (Ok (Verify plan)) r r' w w' l l' status = RanVerify plan r r' w w' status
 RanPlan (Ok (Stub arguments)) r r' w w' l l' status = RanServer stub_response (waiting arguments.items) r r' w w' status

@@ -189,8 +189,8 @@ fn help<W: Output, E: Output, D: Display>(
     status_of(report_help(outcome, errors))
 }
 
-// Reports why the arguments ask for nothing, and returns the exit status: help and the version go to the output, all else
-// to the error output.
+// Reports why the arguments ask for nothing, and returns the exit status: help and the version go to the output, all
+// else to the error output.
 fn report_arguments<W: Output, E: Output>(
     alloc: Global,
     fault: &WordsFault,
@@ -272,7 +272,8 @@ pub fn run_program<'a, P: Processes + Clock, R: Input, W: Output, E: Output>(
     output: &mut W,
     errors: &mut Log<E>,
 ) -> u8
-    ensures { RanProgram (map (λ w. w.now) arguments.entry.now) (R.seen input.old) (R.seen input.new) (W.seen output.old)
+    ensures { RanProgram (map (λ w. w.now) arguments.entry.now) (R.seen input.old) (R.seen input.new)
+        (W.seen output.old)
         (W.seen output.new) (log_seen (E.seen errors.old.output) errors.old.pending)
         (log_seen (E.seen errors.new.output) errors.new.pending) result }
 {

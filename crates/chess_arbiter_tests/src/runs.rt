@@ -116,8 +116,8 @@ pub fn check_output(
     run(host, arguments, input, devices).check(rt, Wanted::without_errors(output, status));
 }
 
-/// A run of the program over memory: its arguments and its input, the calls of the input and of the output that fail (0:
-/// none does), what it is to write, and its status.
+/// A run of the program over memory: its arguments and its input, the calls of the input and of the output that fail
+/// (0: none does), what it is to write, and its status.
 pub struct ProgramRun {
     pub arguments: &'static [&'static str],
     pub input: &'static [u8],

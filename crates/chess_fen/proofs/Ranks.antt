@@ -137,7 +137,8 @@ step text row file i r so_far h at some fits =
     put row file r.squares r.first so_far.eight so_far.empty some fits in (
       (λ left above. rw taken (sym (at_drop_more (placing left (take file row) above) text i 0 h
           ∙ goes_on left (take file row) above c (drop (i + 1) text) s is) ∙ so_far.on left above)),
-      sym (at_drop_more from_space text i 0 h ∙ from_space-on c (drop (i + 1) text) (another c 32 s refl is)) ∙ so_far.back,
+      sym (at_drop_more from_space text i 0 h ∙ from_space-on c (drop (i + 1) text) (another c 32 s refl is))
+          ∙ so_far.back,
     )
 
 pub more : (text : List ℕ) (row : List (Option Man)) (file i : ℕ) (r : Run) → RowSoFar text row file i → i < length text

@@ -46,8 +46,8 @@ beside_by men c w s (Some k) at e =
       side = two.1;
     }
 
-pub beside : (men : Men) (c : Colour) (w : CastlingSide) (s : ℕ) → right_is_sound_at Fischerandom men c w (Some s) ≡ true
-    → Beside men c w s
+pub beside : (men : Men) (c : Colour) (w : CastlingSide) (s : ℕ) → right_is_sound_at Fischerandom men c w (Some s)
+    ≡ true → Beside men c w s
 beside men c w s e = beside_by men c w s (king_square men c) refl
     (and_parts (is_beside c w (king_square men c) s) (is_man c Rook (man_at men s)) e).0
 

@@ -128,8 +128,8 @@ says None None None (Some d) = record { letters = refl; first = refl; second = r
 says None None None None = record { letters = refl; first = refl; second = refl; third = refl; fourth = refl }
 
 -- an available right in normal chess has its rook on its corner
-on_corner : (men : Men) (c : Colour) (w : CastlingSide) (right : Option ℕ) → right_is_sound_at Normal men c w right ≡ true
-    → cond (is_some right) (Some (home_square c (rook_file w))) None ≡ right
+on_corner : (men : Men) (c : Colour) (w : CastlingSide) (right : Option ℕ) → right_is_sound_at Normal men c w right
+    ≡ true → cond (is_some right) (Some (home_square c (rook_file w))) None ≡ right
 on_corner men c w None e = refl
 on_corner men c w (Some s) e =
     let outer = and_parts (eqb s (home_square c (rook_file w)) && is_man c King (man_at men (home_square c 4)))
@@ -302,8 +302,8 @@ ranks_read (suc n) men above h =
     let squares : List (Option Man) = take 8 (drop (8 * n) men) in
     let eight : length squares ≡ 8 = omega (arith, length-take 8 (drop (8 * n) men), length-drop (8 * n) men) in
     let at : 8 * suc n ≡ 8 * n + 8 = omega arith in
-    ap (option_and_then (λ r. squares_by_ranks (r ++ above) (map fen_rank (ranks_down n men)))) (rank-text squares eight)
-    ∙ ranks_read n men (squares ++ above) (omega arith)
+    ap (option_and_then (λ r. squares_by_ranks (r ++ above) (map fen_rank (ranks_down n men))))
+    (rank-text squares eight) ∙ ranks_read n men (squares ++ above) (omega arith)
     ∙ ap Some (sym (append_assoc (take (8 * n) men) squares above)
     ∙ ap (λ r. r ++ above) (sym (ap (λ k. take k men) at ∙ take-add (8 * n) 8 men)))
 

@@ -93,7 +93,8 @@ equal_hashes f p q this that e =
     (λ i. f (a i) (b i) (c i))
 
 -- what is the same as one of two positions that are the same is the same as the other
-pub same_alike : (p q r : Setup) → IsSound q → IsSound r → is_same_position q r ≡ true → is_same_position p q ≡ is_same_position p r
+pub same_alike : (p q r : Setup) → IsSound q → IsSound r → is_same_position q r ≡ true → is_same_position p q
+    ≡ is_same_position p r
 unfolding is_same_position
 same_alike p q r this that e =
     let sides = same_colour q.side r.side in

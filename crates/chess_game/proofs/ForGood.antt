@@ -86,7 +86,8 @@ never_grows law p (x ∷ xs) f =
     (never_grows law x.reached.position xs f.2) in
     omega arith
 
--- where the played move k was reached by a capture or a pawn move, each position before it has more in reserve than the last
+-- where the played move k was reached by a capture or a pawn move, each position before it has more in reserve than the
+-- last
 fallen : ReserveNeverGrows → ReserveFallsForGood → (start : Hashed) (xs : List PlayedMove) (k j : ℕ) (d : PlayedMove)
     → Follows start.position xs → k < length xs → (get_or xs k d).reached.position.halfmove ≡ 0 → j ≤ k
     → reserve (position_after start.position (moves_of xs)).men < reserve (known_at start xs j).position.men
@@ -152,7 +153,8 @@ none_is_same grows falls start xs now m s known follows made zeroed j h =
     (ap (λ (v : PlayedMove). v.reached.position.halfmove) (get_or-append_seam xs x [] x) ∙ zeroed) j (omega (arith, h))
 
 -- where the played move k was reached by one, it is the same as none before that
-pub none_is_same_before : ReserveNeverGrows → ReserveFallsForGood → (start : Hashed) (xs : List PlayedMove) (now : Hashed)
+pub none_is_same_before : ReserveNeverGrows → ReserveFallsForGood → (start : Hashed) (xs : List PlayedMove)
+    (now : Hashed)
     (m : Move) (s : Saved) → IsKnown now → Follows start.position xs
     → WasMade (position_after start.position (moves_of xs)) m s now.position
     → (k : ℕ) (d : PlayedMove) → k < length xs → (get_or xs k d).reached.position.halfmove ≡ 0

@@ -51,10 +51,12 @@ hash_of_known f start xs k hashes = hash_is f start xs k hashes.start hashes.lat
 
 -- all are sound, where the last one is
 pub sound_is : (start : Hashed) (xs : List PlayedMove) (k : ℕ) → Follows start.position xs
-    → IsSound (position_after start.position (moves_of xs)) → k < suc (length xs) → IsSound (known_at start xs k).position
+    → IsSound (position_after start.position (moves_of xs)) → k < suc (length xs)
+    → IsSound (known_at start xs k).position
 unfolding known_at
 sound_is start [] zero f sound h = sound
 sound_is start [] (suc k) f sound h = absurd (omega arith)
 sound_is start (x ∷ xs) zero f sound h = f.0.sound
 sound_is start (x ∷ xs) (suc k) f sound h =
-    sound_is x.reached xs k f.2 (subst (λ v. IsSound (position_after v (moves_of xs))) (sym f.0.left) sound) (omega arith)
+    sound_is x.reached xs k f.2 (subst (λ v. IsSound (position_after v (moves_of xs))) (sym f.0.left) sound)
+    (omega arith)

@@ -79,7 +79,8 @@ step r due m e f w =
     })
 
 in_time : (r : Rules) (T : List Event) → fits r T ≡ true → IsInTime r.level (match_of r T)
-in_time r T f = kept_by r (λ m. IsInTime r.level m) (step r) (lines_on_entering r start) start T f (omega arith, omega arith)
+in_time r T f = kept_by r (λ m. IsInTime r.level m) (step r) (lines_on_entering r start) start T f
+    (omega arith, omega arith)
 
 sums : (given used : ℕ) → used ≤ given → given - used + used ≡ given
 sums given used h = omega (arith, h)

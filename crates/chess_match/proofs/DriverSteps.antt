@@ -70,7 +70,8 @@ begun r core played failed n held w w' coming notes notes' none d =
 -- ---- a line, an end, or a read that failed
 
 pub event_on : {E : Type 0} (r : Rules) (T : List Event) (S : Colour) (moment : ℕ) (result : Result (Option LineSeen) E)
-    (core core' : MatchState) (played played' : List Move) (failed failed' : Colour → Bool) (n n' n'' : Colour → InputState)
+    (core core' : MatchState) (played played' : List Move) (failed failed' : Colour → Bool) (n n' n'' : Colour
+    → InputState)
     (held held' : Colour → Held)
     (w w' w'' : Colour → OutputState) (coming coming' coming'' : ℕ → Option ℕ)
     (notes notes' between notes'' : Noted)

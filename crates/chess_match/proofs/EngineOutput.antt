@@ -12,13 +12,14 @@ use Rattle.chess_match.specs.Run.{text_read}
 use Rattle.chess_match.specs.declared.run.TheConstants.{ENGINE_LINE_LEN}
 
 -- these bytes came, of them these lines were given, and the rest is held; no end was reported, and no read failed
-pub record OutputSoFar (old new : InputState) (held : Held) (given : List ℕ) (texts : List (Option (List ℕ))) : Type 0 where
-  pub bytes : Consumes old.known_bytes new.known_bytes given
-  pub lines : (outputs : List LineSeen) × (map text_read outputs ≡ texts)
-      × ((at_end : Bool) (rest : List ℕ) → stream_lines ENGINE_LINE_LEN at_end (given ++ rest) ≡ outputs
-      ++ lines_held ENGINE_LINE_LEN at_end held rest)
-  pub ends : new.end_count ≡ old.end_count
-  pub failures : new.failure_count ≡ old.failure_count
+pub record OutputSoFar (old new : InputState) (held : Held) (given : List ℕ) (texts : List (Option (List ℕ))) : Type 0
+  where
+    pub bytes : Consumes old.known_bytes new.known_bytes given
+    pub lines : (outputs : List LineSeen) × (map text_read outputs ≡ texts)
+        × ((at_end : Bool) (rest : List ℕ) → stream_lines ENGINE_LINE_LEN at_end (given ++ rest) ≡ outputs
+        ++ lines_held ENGINE_LINE_LEN at_end held rest)
+    pub ends : new.end_count ≡ old.end_count
+    pub failures : new.failure_count ≡ old.failure_count
 
 -- the end was reported, and all lines were given
 pub record OutputEnded (old new : InputState) (given : List ℕ) (texts : List (Option (List ℕ))) : Type 0 where

@@ -32,8 +32,8 @@ AreFew limit k (Setup Black) count n offers = (k ≤ 12000 + count) × (count < 
 AreFew limit k (SendTurn c) count n offers = (k ≤ 22000 + 10002 * n) × (count < 10000) × (n ≤ limit)
 AreFew limit k (AwaitMove c) count n offers = (k ≤ 22000 + 10002 * n + count + one_if (offers c)) × (count < 10000)
     × (n ≤ limit)
-AreFew limit k (AwaitPong c) count n offers = (k + 10001 ≤ 22000 + 10002 * n + count + one_if (offers c)) × (count < 10000)
-    × (n ≤ limit)
+AreFew limit k (AwaitPong c) count n offers = (k + 10001 ≤ 22000 + 10002 * n + count + one_if (offers c))
+    × (count < 10000) × (n ≤ limit)
 AreFew limit k (Over reason) count n offers = k ≤ 22000 + 10002 * (limit + 1)
 
 abbrev Few : Rules → ℕ → Match → Type 0
@@ -54,8 +54,8 @@ at_most_one false = omega arith
 
 -- one line more
 
-few_at_end : (r : Rules) (k : ℕ) (S : Colour) (items : List Item) (reason : Reason) (m : Match) → FewIn r k (Handshake S) m
-    → Few r (k + 1) (over reason (take_items S items m))
+few_at_end : (r : Rules) (k : ℕ) (S : Colour) (items : List Item) (reason : Reason) (m : Match)
+    → FewIn r k (Handshake S) m → Few r (k + 1) (over reason (take_items S items m))
 few_at_end r k White items reason m w = omega (arith, w.0, w.1)
 few_at_end r k Black items reason m w = omega (arith, w.0, w.1)
 
@@ -63,17 +63,19 @@ few_counted : (r : Rules) (k : ℕ) (S : Colour) (items : List Item) (m : Match)
     → FewIn r k (Handshake S) m → m.count + 1 < 1000
     → (let m' = take_items S items m in Few r (k + 1) (record m' { count = m.count + 1 }))
 few_counted r k White items m e w few = from_phase r (k + 1)
-    (let m' = take_items White items m in record m' { count = m.count + 1 }) (Handshake White) e (omega (arith, w.0), few, w.2)
+    (let m' = take_items White items m in record m' { count = m.count + 1 }) (Handshake White) e
+    (omega (arith, w.0), few, w.2)
 few_counted r k Black items m e w few = from_phase r (k + 1)
-    (let m' = take_items Black items m in record m' { count = m.count + 1 }) (Handshake Black) e (omega (arith, w.0), few, w.2)
+    (let m' = take_items Black items m in record m' { count = m.count + 1 }) (Handshake Black) e
+    (omega (arith, w.0), few, w.2)
 
-few_at_next : (r : Rules) (k : ℕ) (S : Colour) (items : List Item) (m : Match) → S ≡ White → FewIn r k (Handshake White) m
-    → Few r (k + 1) (enter (Handshake Black) (take_items S items m))
+few_at_next : (r : Rules) (k : ℕ) (S : Colour) (items : List Item) (m : Match) → S ≡ White
+    → FewIn r k (Handshake White) m → Few r (k + 1) (enter (Handshake Black) (take_items S items m))
 few_at_next r k White items m s w = (omega (arith, w.0, w.1), omega arith, w.2)
 few_at_next r k Black items m s w = cc
 
-few_at_done : (r : Rules) (k : ℕ) (S : Colour) (items : List Item) (m : Match) → S ≡ Black → FewIn r k (Handshake Black) m
-    → Few r (k + 1) (enter (Setup White) (take_items S items m))
+few_at_done : (r : Rules) (k : ℕ) (S : Colour) (items : List Item) (m : Match) → S ≡ Black
+    → FewIn r k (Handshake Black) m → Few r (k + 1) (enter (Setup White) (take_items S items m))
 few_at_done r k Black items m s w = (omega (arith, w.0, w.1), omega arith, w.2)
 few_at_done r k White items m s w = cc
 
@@ -173,7 +175,8 @@ lines r k S kind moment m w = record {
   handshake_ends = λ p d. few_at_end r k S (items_of_line kind) Agreed m (into_phase r k m (Handshake S) p w);
   handshake_counts = λ p d few. few_counted r k S (items_of_line kind) m p (into_phase r k m (Handshake S) p w) few;
   handshake_next = λ p s d. few_at_next r k S (items_of_line kind) m s (into_phase r k m (Handshake White) p w);
-  handshake_judged = λ p s d c x. few_judged r k S (items_of_line kind) Agreed m s (into_phase r k m (Handshake Black) p w);
+  handshake_judged = λ p s d c x. few_judged r k S (items_of_line kind) Agreed m s
+      (into_phase r k m (Handshake Black) p w);
   handshake_done = λ p s d. few_at_done r k S (items_of_line kind) m s (into_phase r k m (Handshake Black) p w);
   setup_ends = λ p reason n. setup_over r k S reason m (into_phase r k m (Setup S) p w);
   setup_counts = λ p pong few. setup_more r k S m p (into_phase r k m (Setup S) p w) few;
@@ -186,7 +189,8 @@ lines r k S kind moment m w = record {
       offers = λ none own theirs. before_offers r k S m p (into_phase r k m (AwaitMove S) p w) own;
     };
     plays = λ text move is reading room timely. plays_more r k S move _ m (into_phase r k m (AwaitMove S) p w) room;
-    decides = λ text move v is reading room timely. before_over r k S (Decided v) m (into_phase r k m (AwaitMove S) p w);
+    decides = λ text move v is reading room timely. before_over r k S (Decided v) m
+        (into_phase r k m (AwaitMove S) p w);
   };
   behind = λ p. record {
     row = record {
@@ -226,13 +230,17 @@ few r due m (Line S t n ∷ T) k f w =
     (and_second (reads m.phase S) _ f) next in
     omega (arith, h)
 few r due m (Opened S n ∷ T) k f w =
-    few r (block r m (match_after r m (Opened S n))) (match_after r m (Opened S n)) T k (and_second (opens m.phase S) _ f)
+    few r (block r m (match_after r m (Opened S n))) (match_after r m (Opened S n)) T k
+    (and_second (opens m.phase S) _ f)
     (few_opened r k S n m (and_first (opens m.phase S) _ f) w)
-few r due m (OutputEnds S ∷ T) k f w = few r (block r m (match_after r m (OutputEnds S))) (match_after r m (OutputEnds S)) T k
+few r due m (OutputEnds S ∷ T) k f w = few r (block r m (match_after r m (OutputEnds S)))
+    (match_after r m (OutputEnds S)) T k
     (and_second (fits_next due m (OutputEnds S)) _ f) (few_over r k Agreed m w)
-few r due m (FailsToRead S ∷ T) k f w = few r (block r m (match_after r m (FailsToRead S))) (match_after r m (FailsToRead S)) T k
+few r due m (FailsToRead S ∷ T) k f w = few r (block r m (match_after r m (FailsToRead S)))
+    (match_after r m (FailsToRead S)) T k
     (and_second (fits_next due m (FailsToRead S)) _ f) (few_over r k Agreed m w)
-few r due m (FailsToWrite S ∷ T) k f w = few r (block r m (match_after r m (FailsToWrite S))) (match_after r m (FailsToWrite S)) T k
+few r due m (FailsToWrite S ∷ T) k f w = few r (block r m (match_after r m (FailsToWrite S)))
+    (match_after r m (FailsToWrite S)) T k
     (and_second (fits_next due m (FailsToWrite S)) _ f) (few_over r k Agreed m w)
 
 pub lines_are_few : LinesAreFew

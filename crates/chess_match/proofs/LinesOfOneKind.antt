@@ -46,12 +46,13 @@ gathered f a r S Q step unsent due m [] X fits q = rw (append-nil X) q
 gathered {A} f a r S Q step unsent due m (e ∷ T) X fits q =
     joined_more X (now f r S m (match_after r m e)) (flat_map f (joined_blocks (blocks_from r S (match_after r m e) T)))
     (λ (l : List A). Q l (match_from r (match_after r m e) T)) (told (is_dropped e T S || is_fault Write S e) refl)
-    (gathered f a r S Q step unsent (block r m (match_after r m e)) (match_after r m e) T (X ++ now f r S m (match_after r m e))
+    (gathered f a r S Q step unsent (block r m (match_after r m e)) (match_after r m e) T
+    (X ++ now f r S m (match_after r m e))
     (and_second (fits_next due m e) _ fits)
     (step due m e X (and_first (fits_next due m e) _ fits) q))
   where
-    at : (b : Bool) → is_dropped e T S || is_fault Write S e ≡ b → flat_map f (if b then [] else block r m (match_after r m e) S)
-        ≡ now f r S m (match_after r m e)
+    at : (b : Bool) → is_dropped e T S || is_fault Write S e ≡ b
+        → flat_map f (if b then [] else block r m (match_after r m e) S) ≡ now f r S m (match_after r m e)
     at true h = sym (unsent due m e T fits h)
     at false h = of_block f a r m (match_after r m e) S
 
@@ -83,7 +84,8 @@ same_sends_none f r S m m' e here on some = rw (e, reads_stays m.phase S here) r
 quiet_sends_none : {A : Type 0} (f : SentLine → List A) (r : Rules) (S : Colour) (m m' : Match) → InOpenings f
     → is_opening m'.phase ≡ false → SendsNone f r S m m'
 quiet_sends_none f r S m m' i e on some =
-    if_nil (is_same_phase m.phase m'.phase) (flat_map f (lines_on_entering r m' (other S))) (i r m' (other S) m'.phase e)
+    if_nil (is_same_phase m.phase m'.phase) (flat_map f (lines_on_entering r m' (other S)))
+    (i r m' (other S) m'.phase e)
 
 opening_apart : (r : Rules) (S c : Colour) (m : Match) → same_colour c S ≡ false → is_same_phase m.phase (SendTurn c)
     ≡ false → block r m (open_turn c m) S ≡ []
@@ -119,7 +121,8 @@ lines_none : {A : Type 0} (f : SentLine → List A) (r : Rules) (S : Colour) (ki
 lines_none f r S kind moment m i here = record {
   handshake_ends = λ p d on some. not_on on;
   handshake_counts = λ p d few. same_sends_none f r S m
-      (let m' = take_items S (items_of_line kind) m in record m' { count = m.count + 1 }) (items_phase S (items_of_line kind) m)
+      (let m' = take_items S (items_of_line kind) m in record m' { count = m.count + 1 })
+      (items_phase S (items_of_line kind) m)
       here;
   handshake_next = λ p s d. quiet_sends_none f r S m _ i refl;
   handshake_judged = λ p s d c x on some. not_on on;
@@ -154,13 +157,15 @@ pub unsent : {A : Type 0} (f : SentLine → List A) (r : Rules) (S : Colour) →
     → (due : Colour → List SentLine) (m : Match) (e : Event) (T : List Event) → fits_from r due m (e ∷ T) ≡ true
     → is_dropped e T S || is_fault Write S e ≡ true → now f r S m (match_after r m e) ≡ []
 unsent f r S i due m (FailsToWrite c) T fits h =
-    if_nil (is_same_phase m.phase (Over (Faulted c Write))) (flat_map f (lines_on_entering r (over (Faulted c Write) m) S))
+    if_nil (is_same_phase m.phase (Over (Faulted c Write)))
+    (flat_map f (lines_on_entering r (over (Faulted c Write) m) S))
     (i r (over (Faulted c Write) m) S (Over (Faulted c Write)) refl)
 unsent f r S i due m (Line c t n) (FailsToWrite d ∷ T) fits h =
     dropped (and_first (reads m.phase c) _ fits) (and_first _ _ (and_second (reads m.phase c) _ fits))
     (sym (or-false (same_colour c d && not (same_colour d S))) ∙ h)
   where
-    dropped : reads m.phase c ≡ true → fits_next (block r m (match_after r m (Line c t n))) (match_after r m (Line c t n))
+    dropped : reads m.phase c ≡ true → fits_next (block r m (match_after r m (Line c t n)))
+        (match_after r m (Line c t n))
         (FailsToWrite d) ≡ true → same_colour c d && not (same_colour d S) ≡ true
         → now f r S m (match_after r m (Line c t n)) ≡ []
     dropped here g h =

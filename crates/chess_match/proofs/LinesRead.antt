@@ -149,7 +149,8 @@ one_less : (S : Colour) (f f' : Colour → ℕ) → f' S < f S → f' (other S) 
 one_less White f f' l e = omega (arith, l, e)
 one_less Black f f' l e = omega (arith, l, e)
 
-over_after : (r : Rules) (core : MatchState) (played : List Move) (m : Match) (due : Colour → List SentLine) (first : Colour)
+over_after : (r : Rules) (core : MatchState) (played : List Move) (m : Match) (due : Colour → List SentLine)
+    (first : Colour)
     (w w' : Colour → OutputState) (failed : Colour → Bool) (notes notes' : Noted) → is_on m.phase ≡ false
     → Delivered r core played m due first w w' failed notes notes' → is_on core.phase ≡ false
 over_after r core played m due first w w' failed notes notes' o (inl s) = ap is_on s.stands.phase ∙ o
@@ -165,11 +166,14 @@ pub event_less : {E : Type 0} (r : Rules) (p : Phase) (core : MatchState) (playe
     notes notes'
     → steps_left core.phase (work (n' White) (h' White) + work (n' Black) (h' Black)) < steps_left p
     (work (n White) (h White) + work (n Black) (h Black))
-event_less r p core played m S moment (Err x) due n n' h h' w w' failed notes notes' reading (more, b, waits, got) same kept d =
+event_less r p core played m S moment (Err x) due n n' h h' w w' failed notes notes' reading (more, b, waits, got)
+    same kept d =
     over_less p core.phase S _ _ reading (over_after r core played _ due S w w' failed notes notes' refl d)
-event_less r p core played m S moment (Ok None) due n n' h h' w w' failed notes notes' reading (more, b, waits, got) same kept d =
+event_less r p core played m S moment (Ok None) due n n' h h' w w' failed notes notes' reading (more, b, waits, got)
+    same kept d =
     over_less p core.phase S _ _ reading (over_after r core played _ due S w w' failed notes notes' refl d)
-event_less r p core played m S moment (Ok (Some line)) due n n' h h' w w' failed notes notes' reading (more, b, waits, got) same kept
+event_less r p core played m S moment (Ok (Some line)) due n n' h h' w w' failed notes notes' reading
+    (more, b, waits, got) same kept
     d = by_whether line.ended refl got
   where
     by_whether : (x : Bool) → line.ended ≡ x → MatchBool x (GotLine ENGINE_LINE_LEN (n S) (n' S) (h S) (h' S) more line)
@@ -184,5 +188,6 @@ event_less r p core played m S moment (Ok (Some line)) due n n' h h' w w' failed
         over_less p core.phase S _ _ reading
         (over_after r core played _ due S w w' failed notes notes' refl
         (subst (λ (v : Bool).
-        Delivered r core played (match_after r m (if v then Line S (text_read line) moment else OutputEnds S)) due S w w'
+        Delivered r core played (match_after r m (if v then Line S (text_read line) moment else OutputEnds S)) due S w
+        w'
         failed notes notes') e d))

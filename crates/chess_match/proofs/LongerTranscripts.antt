@@ -35,7 +35,8 @@ match_of-append r T U = match_from-append r start T U
 
 -- ---- what passed
 
-lines_of-append : (S : Colour) (T U : List Event) → lines_of_engine S (T ++ U) ≡ lines_of_engine S T ++ lines_of_engine S U
+lines_of-append : (S : Colour) (T U : List Event) → lines_of_engine S (T ++ U) ≡ lines_of_engine S T
+    ++ lines_of_engine S U
 lines_of-append S [] U = refl
 lines_of-append S (x ∷ T) U = ap (λ ls. line_in S x ++ ls) (lines_of-append S T U)
     ∙ sym (append_assoc (line_in S x) (lines_of_engine S T) (lines_of_engine S U))
@@ -112,7 +113,8 @@ fits_from-append : (r : Rules) (due : Colour → List SentLine) (m : Match) (T :
     → fits_from r due m (T ++ e ∷ U) ≡ true
 fits_from-append r due m [] e U h f n = rw (due_alike due nothing_due m e h) n
 fits_from-append r due m (x ∷ T) e U h f n =
-    let parts : (fits_next due m x ≡ true) × (fits_from r (block r m (match_after r m x)) (match_after r m x) T ≡ true) =
+    let parts : (fits_next due m x ≡ true)
+    × (fits_from r (block r m (match_after r m x)) (match_after r m x) T ≡ true) =
     both (fits_next due m x) _ f in
     rw (parts.0) (fits_from-append r (block r m (match_after r m x)) (match_after r m x) T e U h parts.1 n)
 
@@ -129,7 +131,8 @@ dropped_alone (OutputEnds c) S = refl
 dropped_alone (FailsToRead c) S = refl
 dropped_alone (FailsToWrite c) S = refl
 
-pub dropped-longer : (x y : Event) (T U : List Event) (S : Colour) → is_dropped x (y ∷ T ++ U) S ≡ is_dropped x (y ∷ T) S
+pub dropped-longer : (x y : Event) (T U : List Event) (S : Colour) → is_dropped x (y ∷ T ++ U) S
+    ≡ is_dropped x (y ∷ T) S
 dropped-longer (Line c t n) (Line d u k) T U S = refl
 dropped-longer (Line c t n) (Opened d k) T U S = refl
 dropped-longer (Line c t n) (OutputEnds d) T U S = refl
@@ -242,7 +245,8 @@ told_at (x ∷ xs) ys c c' (suc n) a b e h =
     told_at xs ys (λ k. c (suc k)) c' n (λ k f. a (suc k) (omega (arith, f))) b
     (λ k. let s : length (x ∷ xs) + k ≡ suc (length xs + k) = omega arith in e k ∙ ap c s) (omega (arith, h))
 
-pub asked_more : (c c' c'' : ℕ → Option ℕ) (xs ys : List ℕ) → ClockReadings c c' xs → ClockReadings c' c'' ys → ClockReadings c c'' (xs ++ ys)
+pub asked_more : (c c' c'' : ℕ → Option ℕ) (xs ys : List ℕ) → ClockReadings c c' xs → ClockReadings c' c'' ys
+    → ClockReadings c c'' (xs ++ ys)
 asked_more c c' c'' xs ys a b = record {
   known = λ n h. told_at xs ys c c' n a.known b.known a.rest h;
   rest = λ n. let s : length xs + (length ys + n) ≡ length (xs ++ ys) + n = omega (arith, length-append xs ys) in

@@ -173,6 +173,7 @@ unfolding bytes_of
 noted_start_broken r =
     let last : Colour → List SentLine = lines_at r start (FailsToWrite White) [] in
     ap (λ (l : List Note). both_notes White (λ S. lines_on_entering r start S) ++ Happened (FailsToWrite White) ∷ l)
-    (both_by White (λ S. if same_colour White S then [] else block r start (match_after r start (FailsToWrite White)) S) last
+    (both_by White (λ S. if same_colour White S then [] else block r start (match_after r start (FailsToWrite White)) S)
+    last
     (λ S. sym (joined_block (same_colour White S) (block r start (match_after r start (FailsToWrite White)) S)))
     ∙ sym (append-nil (both_notes White last)))

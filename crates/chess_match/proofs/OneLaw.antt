@@ -123,19 +123,25 @@ cons_not_nil : {A B : Type 0} (x : A) (xs ys : List A) → ys ≡ x ∷ xs → y
 cons_not_nil x xs ys e n = cc
 
 ended_none : (r : Rules) (s : Streams) (m : Match) (c : Colour) (T : List Event)
-    → fits_from r (block r m (match_after r m (OutputEnds c))) (match_after r m (OutputEnds c)) T ≡ true → IsOf s (OutputEnds c ∷ T)
-    → (s.lines c ≡ []) × (s.fails c ≡ false)
+    → fits_from r (block r m (match_after r m (OutputEnds c))) (match_after r m (OutputEnds c)) T ≡ true
+    → IsOf s (OutputEnds c ∷ T) → (s.lines c ≡ []) × (s.fails c ≡ false)
 ended_none r s m c T f i =
-    let k = i.ends c (or_left (same_colour c c) (has_fault Ended c T) (same_colour-self c)) in
-    (no_line r (block r m (match_after r m (OutputEnds c))) (match_after r m (OutputEnds c)) c T (s.lines c) refl f k.0, k.1)
+    let k = i.ends c (or_left (same_colour c c) (has_fault Ended c T) (same_colour-self c)) in (
+      no_line r (block r m (match_after r m (OutputEnds c))) (match_after r m (OutputEnds c)) c T (s.lines c)
+          refl f k.0,
+      k.1,
+    )
 
 failed_none : (r : Rules) (s : Streams) (m : Match) (c : Colour) (T : List Event)
     → fits_from r (block r m (match_after r m (FailsToRead c))) (match_after r m (FailsToRead c)) T ≡ true
     → IsOf s (FailsToRead c ∷ T)
     → (s.lines c ≡ []) × (s.fails c ≡ true)
 failed_none r s m c T f i =
-    let k = i.failures c (or_left (same_colour c c) (has_fault Read c T) (same_colour-self c)) in
-    (no_line r (block r m (match_after r m (FailsToRead c))) (match_after r m (FailsToRead c)) c T (s.lines c) refl f k.0, k.1)
+    let k = i.failures c (or_left (same_colour c c) (has_fault Read c T) (same_colour-self c)) in (
+      no_line r (block r m (match_after r m (FailsToRead c))) (match_after r m (FailsToRead c)) c T (s.lines c)
+          refl f k.0,
+      k.1,
+    )
 
 no_write : {A : Type 0} (s : Streams) (c : Colour) (T : List Event) → IsOf s (FailsToWrite c ∷ T) → A
 no_write s c T i = not_on (sym (or_first (same_colour c c) (has_fault Write c T) (i.writes c)) ∙ same_colour-self c)
@@ -225,7 +231,8 @@ one_from r s due due' m (e ∷ T) (d ∷ U) f g x y i j =
     let goes_too : Goes r m d U = and_second (fits_next due' m d) _ g in
     let same : e ≡ d = same_event r s due due' m e d T U (and_first (fits_next due m e) _ f)
     (and_first (fits_next due' m d) _ g) goes_on goes_too i j in
-    joined same (one_from r (behind e s) (block r m (match_after r m e)) (block r m (match_after r m e)) (match_after r m e) T U goes_on
+    joined same (one_from r (behind e s) (block r m (match_after r m e)) (block r m (match_after r m e))
+    (match_after r m e) T U goes_on
     (subst (λ (v : Event). Goes r m v U) (sym same) goes_too) x
     (subst (λ (v : Event). is_some (ending_in (match_from r (match_after r m v) U).phase) ≡ true) (sym same) y)
     (is_of_behind s e T i)
@@ -235,4 +242,5 @@ one_from r s due due' m (e ∷ T) (d ∷ U) f g x y i j =
     joined a b = rw (a, b) refl
 
 pub only_one : OnlyOne
-only_one r s T U f g x y i j = one_from r s (lines_on_entering r start) (lines_on_entering r start) start T U f g x y i j
+only_one r s T U f g x y i j = one_from r s (lines_on_entering r start) (lines_on_entering r start) start T
+    U f g x y i j

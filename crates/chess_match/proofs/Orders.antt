@@ -95,8 +95,8 @@ plays_kept r Black move used m p k =
       used_more r Black Black m.played move m.black.used used e refl k.2,
     )
 
-items_kept : (r : Rules) (S : Colour) (items : List Item) (m m' : Match) → m'.white.used ≡ (take_items S items m).white.used
-    → m'.black.used ≡ (take_items S items m).black.used
+items_kept : (r : Rules) (S : Colour) (items : List Item) (m m' : Match) → m'.white.used
+    ≡ (take_items S items m).white.used → m'.black.used ≡ (take_items S items m).black.used
     → m'.played ≡ (take_items S items m).played → Orderly r m' → Kept r m → Kept r m'
 items_kept r White items m m' w b p o k = kept_over r m m' w b p o k
 items_kept r Black items m m' w b p o k = kept_over r m m' w b p o k
@@ -121,14 +121,17 @@ offers_kept r Black m k = k
 lines_kept : (r : Rules) (S : Colour) (kind : LineKind) (moment : ℕ) (m : Match) → Kept r m
     → Lines r S kind moment m (λ m'. Kept r m')
 lines_kept r S kind moment m k = record {
-  handshake_ends = λ p d. items_kept r S (items_of_line kind) m (over (Faulted S NoDone) (take_items S (items_of_line kind) m)) refl
+  handshake_ends = λ p d. items_kept r S (items_of_line kind) m
+      (over (Faulted S NoDone) (take_items S (items_of_line kind) m)) refl
       refl refl tt k;
   handshake_counts = λ p d few. handshake_kept r S (items_of_line kind) (m.count + 1) m k;
-  handshake_next = λ p s d. items_kept r S (items_of_line kind) m (enter (Handshake Black) (take_items S (items_of_line kind) m)) refl
+  handshake_next = λ p s d. items_kept r S (items_of_line kind) m
+      (enter (Handshake Black) (take_items S (items_of_line kind) m)) refl
       refl refl (none_yet r S White (items_of_line kind) m p k) k;
   handshake_judged = λ p s d c f. items_kept r S (items_of_line kind) m
       (enter (Over (Faulted c f)) (take_items S (items_of_line kind) m)) refl refl refl tt k;
-  handshake_done = λ p s d. items_kept r S (items_of_line kind) m (enter (Setup White) (take_items S (items_of_line kind) m)) refl
+  handshake_done = λ p s d. items_kept r S (items_of_line kind) m
+      (enter (Setup White) (take_items S (items_of_line kind) m)) refl
       refl refl (none_yet r S Black (items_of_line kind) m p k) k;
   setup_ends = λ p reason n. (tt, k.1, k.2);
   setup_counts = λ p pong few. k;

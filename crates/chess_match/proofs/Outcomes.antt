@@ -147,7 +147,8 @@ setup_outcome r S kind m P ends counts pong =
 -- in its handshake
 pub handshake_outcome : (r : Rules) (S : Colour) (items : List Item) (m : Match) (P : Match → Type 0)
     → (has_done items ≡ false → P (over (Faulted S NoDone) (take_items S items m)))
-    → (has_done items ≡ false → m.count + 1 < 1000 → (let m' = take_items S items m in P (record m' { count = m.count + 1 })))
+    → (has_done items ≡ false → m.count + 1 < 1000
+    → (let m' = take_items S items m in P (record m' { count = m.count + 1 })))
     → (has_done items ≡ true → P (greeted r S (take_items S items m))) → P (handshake_line r S items m)
 unfolding handshake_line
 handshake_outcome r White items m P ends counts done =
@@ -204,9 +205,11 @@ line_outcome r S kind moment m P h l = at m.phase S refl h l
   where
     at : (p : Phase) (S : Colour) → m.phase ≡ p → reads p S ≡ true → Lines r S kind moment m P
         → P (after_kind r p kind moment m)
-    at (Handshake White) White e h l = handshake_outcome r White (items_of_line kind) m P (l.handshake_ends e) (l.handshake_counts e)
+    at (Handshake White) White e h l = handshake_outcome r White (items_of_line kind) m P (l.handshake_ends e)
+        (l.handshake_counts e)
         (l.handshake_next e refl)
-    at (Handshake Black) Black e h l = handshake_outcome r Black (items_of_line kind) m P (l.handshake_ends e) (l.handshake_counts e)
+    at (Handshake Black) Black e h l = handshake_outcome r Black (items_of_line kind) m P (l.handshake_ends e)
+        (l.handshake_counts e)
         (λ done. judged_outcome r (take_items Black (items_of_line kind) m) P (l.handshake_judged e refl done)
         (l.handshake_done e refl done))
     at (Handshake White) Black e h l = cc

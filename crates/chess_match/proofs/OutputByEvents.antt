@@ -39,7 +39,11 @@ pub still_read : (S : Colour) (T : List Event) (r r' : InputState) (h : Held) (g
     → IsStillRead S T r r' h given → ReadFrom S T r r' given
 still_read S T r r' h given s = record {
   bytes = s.output.bytes;
-  lines = (map text_read (lines_held ENGINE_LINE_LEN false h []), first_lines r r' h given (lines_of_engine S T) s.output);
+  lines = (
+    map text_read (lines_held ENGINE_LINE_LEN false h []),
+    first_lines r r' h given
+        (lines_of_engine S T) s.output,
+  );
   ends = s.output.ends ∙ ap (λ b. risen_if b r.end_count) (sym s.unended);
   failures = s.output.failures ∙ ap (λ b. risen_if b r.failure_count) (sym s.unfailed);
   at_end = λ e. not_both (has_fault Ended S T) s.unended e;
@@ -112,7 +116,8 @@ output_of_others : (S : Colour) (T : List Event) (e : Event) (U : List Event) (r
 output_of_others S T e U r r' r'' h h' given t f (same, kept) s = record {
   output = rw (same, kept)
       (output_texts r r' h given (lines_of_engine S T) (lines_of_engine S (T ++ e ∷ U))
-      (sym (lines_more S T e U t ∙ ap (λ ls. lines_of_engine S T ++ ls) (no_line S e f) ∙ append-nil (lines_of_engine S T)))
+      (sym (lines_more S T e U t ∙ ap (λ ls. lines_of_engine S T ++ ls) (no_line S e f)
+      ∙ append-nil (lines_of_engine S T)))
       s.output);
   unended = end_more S T e U t s.unended ∙ no_end S e f;
   unfailed = failure_more S T e U t s.unfailed ∙ no_failure S e f;
@@ -132,7 +137,8 @@ still : (S : Colour) (T : List Event) (on : Bool) (r r' : InputState) (h : Held)
     → IsStillRead S T r r' h given → ReadSoFar S T on r r' h
 still S T on r r' h given s = (given, still_read S T r r' h given s, λ e. s)
 
-own_output : (S : Colour) (T : List Event) (e : Event) (U : List Event) (on : Bool) (r r' r'' : InputState) (h h' : Held)
+own_output : (S : Colour) (T : List Event) (e : Event) (U : List Event) (on : Bool) (r r' r'' : InputState)
+    (h h' : Held)
     (given more : List ℕ) → IsTail U → is_of_output S e ≡ true → (is_stop e ≡ true → on ≡ false)
     → Consumes r'.known_bytes r''.known_bytes more → Reports e r' r'' h h' more → IsStillRead S T r r' h given
     → ReadSoFar S (T ++ e ∷ U) on r r'' h'
@@ -150,7 +156,8 @@ own_output S T (OutputEnds c) U on r r' r'' h h' given more t is stop b (inl (li
   given ++ more,
   read_to_end S (T ++ OutputEnds c ∷ U) r r'' (given ++ more) (lines_of_engine S T)
       (output_last r r' r'' h h' given more (lines_of_engine S T) line s.output b got)
-      (lines_more S T (OutputEnds c) U t ∙ append-nil (lines_of_engine S T)) (end_more S T (OutputEnds c) U t s.unended ∙ is)
+      (lines_more S T (OutputEnds c) U t ∙ append-nil (lines_of_engine S T))
+      (end_more S T (OutputEnds c) U t s.unended ∙ is)
       (failure_more S T (OutputEnds c) U t s.unfailed),
   λ e. not_both on (stop refl) e,
 )
@@ -158,7 +165,8 @@ own_output S T (OutputEnds c) U on r r' r'' h h' given more t is stop b (inr got
   given ++ more,
   read_to_end S (T ++ OutputEnds c ∷ U) r r'' (given ++ more) (lines_of_engine S T)
       (output_none r r' r'' h h' given more (lines_of_engine S T) s.output b got)
-      (lines_more S T (OutputEnds c) U t ∙ append-nil (lines_of_engine S T)) (end_more S T (OutputEnds c) U t s.unended ∙ is)
+      (lines_more S T (OutputEnds c) U t ∙ append-nil (lines_of_engine S T))
+      (end_more S T (OutputEnds c) U t s.unended ∙ is)
       (failure_more S T (OutputEnds c) U t s.unfailed),
   λ e. not_both on (stop refl) e,
 )
@@ -166,7 +174,8 @@ own_output S T (FailsToRead c) U on r r' r'' h h' given more t is stop b got s =
   given ++ more,
   read_to_fault S (T ++ FailsToRead c ∷ U) r r'' (given ++ more) (lines_of_engine S T)
       (output_fault r r' r'' h h' given more (lines_of_engine S T) s.output b got)
-      (lines_more S T (FailsToRead c) U t ∙ append-nil (lines_of_engine S T)) (end_more S T (FailsToRead c) U t s.unended)
+      (lines_more S T (FailsToRead c) U t ∙ append-nil (lines_of_engine S T))
+      (end_more S T (FailsToRead c) U t s.unended)
       (failure_more S T (FailsToRead c) U t s.unfailed ∙ is),
   λ e. not_both on (stop refl) e,
 )
@@ -183,4 +192,5 @@ output_longer S T e U on r r' r'' h h' given t stop came s = by_whom (is_of_outp
         → MatchBool b ((more : List ℕ) × Consumes r'.known_bytes r''.known_bytes more × Reports e r' r'' h h' more)
         ((r'' ≡ r') × (h' ≡ h)) → ReadSoFar S (T ++ e ∷ U) on r r'' h'
     by_whom true is (more, b, tells) = own_output S T e U on r r' r'' h h' given more t is stop b tells s
-    by_whom false is same = still S (T ++ e ∷ U) on r r'' h' given (output_of_others S T e U r r' r'' h h' given t is same s)
+    by_whom false is same = still S (T ++ e ∷ U) on r r'' h' given
+        (output_of_others S T e U r r' r'' h h' given t is same s)

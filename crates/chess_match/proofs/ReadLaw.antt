@@ -271,9 +271,11 @@ turn_same Black t lines Black h = rw h refl
 handshake_counts : (r : Rules) (d : Colour) (t : Option (List ℕ)) (items : List Item) (n : ℕ) (m : Match) → m.phase
     ≡ Handshake d → has_done (items_of_line (line_kind t)) ≡ false
     → (let m' = take_items d items m in Steps r d t m (record m' { count = n }))
-handshake_counts r White t items n m p h = let m' = take_items White items m in on_steps r White t m (record m' { count = n })
+handshake_counts r White t items n m p h = let m' = take_items White items m in
+    on_steps r White t m (record m' { count = n })
     (rw p refl) refl (λ lines S. rw p (handshake_same White t lines S h))
-handshake_counts r Black t items n m p h = let m' = take_items Black items m in on_steps r Black t m (record m' { count = n })
+handshake_counts r Black t items n m p h = let m' = take_items Black items m in
+    on_steps r Black t m (record m' { count = n })
     (rw p refl) refl (λ lines S. rw p (handshake_same Black t lines S h))
 
 before_same : (r : Rules) (d : Colour) (t : Option (List ℕ)) (m m' : Match) → m.phase ≡ AwaitMove d → m'.phase ≡ m.phase
@@ -296,9 +298,11 @@ played_phase Black move used m = (refl, refl)
 lines_step : (r : Rules) (d : Colour) (t : Option (List ℕ)) (n : ℕ) (m : Match) → Orderly r m
     → Lines r d (line_kind t) n m (λ m'. Steps r d t m m')
 lines_step r d t n m o = record {
-  handshake_ends = λ p h. over_steps r d t m (over (Faulted d NoDone) (take_items d items m)) refl (items_played d items m);
+  handshake_ends = λ p h. over_steps r d t m (over (Faulted d NoDone) (take_items d items m)) refl
+      (items_played d items m);
   handshake_counts = λ p h few. handshake_counts r d t items (m.count + 1) m p h;
-  handshake_next = λ p s h. on_steps r d t m (enter (Handshake Black) (take_items d items m)) refl (items_played d items m)
+  handshake_next = λ p s h. on_steps r d t m (enter (Handshake Black) (take_items d items m)) refl
+      (items_played d items m)
       (λ lines S. rw p (handshake_next d t lines S s h));
   handshake_judged = λ p s h b f. over_steps r d t m (enter (Over (Faulted b f)) (take_items d items m)) refl
       (items_played d items m);
@@ -386,12 +390,14 @@ reads_from r due m (Line d t n ∷ T) f k =
     (and_second (reads m.phase d) _ f)
     (line_outcome r d (line_kind t) n m (λ m'. Steps r d t m m') (and_first (reads m.phase d) _ f)
     (lines_step r d t n m k.0))
-    (reads_from r (block r m (match_after r m (Line d t n))) (match_after r m (Line d t n)) T (and_second (reads m.phase d) _ f)
+    (reads_from r (block r m (match_after r m (Line d t n))) (match_after r m (Line d t n)) T
+    (and_second (reads m.phase d) _ f)
     (step r due m (Line d t n) (and_first (reads m.phase d) _ f) k))
 reads_from r due m (Opened d n ∷ T) f k =
     opened_on r m d n (match_from r (match_after r m (Opened d n)) T) (lines_by T)
     (opens_at m.phase d (and_first (opens m.phase d) _ f))
-    (reads_from r (block r m (match_after r m (Opened d n))) (match_after r m (Opened d n)) T (and_second (opens m.phase d) _ f)
+    (reads_from r (block r m (match_after r m (Opened d n))) (match_after r m (Opened d n)) T
+    (and_second (opens m.phase d) _ f)
     (step r due m (Opened d n) (and_first (opens m.phase d) _ f) k))
 reads_from r due m (OutputEnds d ∷ T) f k =
     stopped r m (match_after r m (OutputEnds d)) (block r m (match_after r m (OutputEnds d))) T refl refl
@@ -411,5 +417,6 @@ moves_are_read r T f =
   where
     read : (more : List Move) × ((match_of r T).played ≡ more)
         × AreRead r [] more (moves_of (lines_of_engine r.first T)) (moves_of (lines_of_engine (other r.first) T))
-        → AreRead r [] (match_of r T).played (moves_of (lines_of_engine r.first T)) (moves_of (lines_of_engine (other r.first) T))
+        → AreRead r [] (match_of r T).played (moves_of (lines_of_engine r.first T))
+        (moves_of (lines_of_engine (other r.first) T))
     read h = rw h.1 h.2

@@ -75,7 +75,8 @@ pub all_step : (r : Rules) (T : List Event) (e : Event) (core core' : MatchState
     → is_on (match_of r T).phase ≡ true → is_sound e ≡ true → fits_next nothing_due (match_of r T) e ≡ true
     → IsSane r (match_after r (match_of r T) e)
     → ((S : Colour) → OutputAt S e (n' S) (n'' S) (held S) (held' S)) → ClockReadings coming' coming'' (moment_in e)
-    → AllSent r core' played' (match_after r (match_of r T) e) (λ S. block r (match_of r T) (match_after r (match_of r T) e) S)
+    → AllSent r core' played' (match_after r (match_of r T) e)
+    (λ S. block r (match_of r T) (match_after r (match_of r T) e) S)
     first w' w'' failed' between notes''
     → IsUnderWay r (T ++ e ∷ []) core' played' failed' n n'' held' w w'' coming coming'' notes notes''
 all_step r T e core core' played played' failed failed' n n' n'' held held' w w' w'' coming coming' coming'' notes
@@ -87,7 +88,8 @@ all_step r T e core core' played played' failed failed' n n' n'' held held' w w'
       stands = subst (λ (x : Match). Represents r core' played' x) (sym now) all.stands;
       sane = subst (λ (x : Match). IsSane r x) (sym now) sane;
       outputs = λ S. subst (λ (x : Match). ReadSoFar S (T ++ e ∷ []) (is_on x.phase) (n S) (n'' S) (held' S)) (sym now)
-          (so_far_on S T e [] (is_on (match_of r T).phase) (is_on (match_after r (match_of r T) e).phase) (n S) (n' S) (n'' S)
+          (so_far_on S T e [] (is_on (match_of r T).phase) (is_on (match_after r (match_of r T) e).phase) (n S)
+          (n' S) (n'' S)
           (held S) (held' S) no_tail on (stopped r (match_of r T) e) (came S) (u.outputs S));
       written = λ S. subst (λ (bs : List (List SentLine)). Written (failed' S) (w S) (w'' S) bs)
           (sym (blocks-append r S T e [] sound ∙ ap (λ (bs : List (List SentLine)). blocks r S T ++ bs)
@@ -97,7 +99,8 @@ all_step r T e core core' played played' failed failed' n n' n'' held held' w w'
           (all_sent (failed S) (w S) (w' S) (blocks r S T) (u.fine on S) (u.written S)) (all.puts S));
       fine = λ h. all.fine (subst (λ (x : Match). is_on x.phase ≡ true) now h);
       failing = λ S. no_failure_yet S T (e ∷ []) (failed S) (failed' S) (u.fine on S) (u.failing S)
-          (λ h. let no : is_fault Write S e || false ≡ false = ap (λ b. b || false) (sound_write S e sound) in not_both _ no
+          (λ h. let no : is_fault Write S e || false ≡ false = ap (λ b. b || false) (sound_write S e sound) in
+          not_both _ no
           h);
       moments = subst (λ (ms : List ℕ). ClockReadings coming coming'' ms) (sym (moments_more T e [] no_tail))
           (asked_more coming coming' coming'' (moments_of T) (moment_in e) u.moments asked);
@@ -120,9 +123,10 @@ flushed_both w w' v bs t n = subst (λ (text : List ℕ). Flushed w v text) (app
 two_blocks : (r : Rules) (m : Match) (d c : Colour) (text : Option (List ℕ)) (k : ℕ) (first : Colour) → d ≡ first
     → (f : Bool) (w w' w'' : OutputState) (bs : List (List SentLine)) → Flushed w w' (bytes_of (joined_blocks bs))
     → ((v : OutputState)
-    × Flushed w' v (bytes_of (if same_colour c first then [] else block r m (match_after r m (Line d text k)) (other c)))
-    × SendsIf f v w''
-    (bytes_of (block r (match_after r m (Line d text k)) (match_after r (match_after r m (Line d text k)) (FailsToWrite c))
+    × Flushed w' v (bytes_of (if same_colour c first then []
+    else block r m (match_after r m (Line d text k)) (other c))) × SendsIf f v w''
+    (bytes_of (block r (match_after r m (Line d text k)) (match_after r (match_after r m (Line d text k))
+    (FailsToWrite c))
     (other c))))
     → Written f w w'' (bs ++ blocks_from r (other c) m (Line d text k ∷ FailsToWrite c ∷ []))
 unfolding bytes_of
@@ -133,13 +137,15 @@ two_blocks r m Black Black text k Black e f w w' w'' bs t (v, took, puts) =
 two_blocks r m White Black text k White e f w w' w'' bs t (v, took, puts) =
     subst (λ (all : List (List SentLine)). Written f w w'' all)
     (append_assoc bs (block r m (match_after r m (Line White text k)) White ∷ [])
-    (block r (match_after r m (Line White text k)) (match_after r (match_after r m (Line White text k)) (FailsToWrite Black))
+    (block r (match_after r m (Line White text k)) (match_after r (match_after r m (Line White text k))
+    (FailsToWrite Black))
     White ∷ [])) (written_more f w v w'' (bs ++ block r m (match_after r m (Line White text k)) White ∷ []) _
     (sent_more w w' v bs _ t took) puts)
 two_blocks r m Black White text k Black e f w w' w'' bs t (v, took, puts) =
     subst (λ (all : List (List SentLine)). Written f w w'' all)
     (append_assoc bs (block r m (match_after r m (Line Black text k)) Black ∷ [])
-    (block r (match_after r m (Line Black text k)) (match_after r (match_after r m (Line Black text k)) (FailsToWrite White))
+    (block r (match_after r m (Line Black text k)) (match_after r (match_after r m (Line Black text k))
+    (FailsToWrite White))
     Black ∷ [])) (written_more f w v w'' (bs ++ block r m (match_after r m (Line Black text k)) Black ∷ []) _
     (sent_more w w' v bs _ t took) puts)
 two_blocks r m White White text k Black e f w w' w'' bs t p = absurd cc
@@ -185,8 +191,8 @@ pub failed_step : (r : Rules) (T : List Event) (d : Colour) (text : Option (List
     → WasNoted notes' between (Happened (Line d text k) ∷ [])
     → is_on (match_of r T).phase ≡ true → fits_next nothing_due (match_of r T) (Line d text k) ≡ true
     → IsSane r (match_after r (match_of r T) (Line d text k))
-    → ((S : Colour) → OutputAt S (Line d text k) (n' S) (n'' S) (held S) (held' S)) → ClockReadings coming' coming'' (k ∷ [])
-    → OneFailed r core' played' (match_after r (match_of r T) (Line d text k))
+    → ((S : Colour) → OutputAt S (Line d text k) (n' S) (n'' S) (held S) (held' S))
+    → ClockReadings coming' coming'' (k ∷ []) → OneFailed r core' played' (match_after r (match_of r T) (Line d text k))
     (λ S. block r (match_of r T) (match_after r (match_of r T) (Line d text k)) S) d w' w'' failed' between notes'' c
     → IsUnderWay r (T ++ Line d text k ∷ FailsToWrite c ∷ []) core' played' failed' n n'' held' w w'' coming coming''
     notes notes''
@@ -195,11 +201,12 @@ failed_step r T d text k core core' played played' failed failed' n n' n'' held 
     let e : Event = Line d text k in
     let m : Match = match_of r T in
     let U : List Event = FailsToWrite c ∷ [] in
-    let now : match_of r (T ++ e ∷ U) ≡ match_after r (match_after r m e) (FailsToWrite c) = match_of-append r T (e ∷ U) in
+    let now : match_of r (T ++ e ∷ U) ≡ match_after r (match_after r m e) (FailsToWrite c) =
+    match_of-append r T (e ∷ U) in
     record {
       fitting = fits-append r T e U refl u.fitting (
-          ap (λ b. b && ((is_on (match_after r m e).phase && nat_lt 0 (length (block r m (match_after r m e) c))) && true)) fit
-          ∙ ap (λ b. (b && nat_lt 0 (length (block r m (match_after r m e) c))) && true) one.on
+          ap (λ b. b && ((is_on (match_after r m e).phase && nat_lt 0 (length (block r m (match_after r m e) c)))
+          && true)) fit ∙ ap (λ b. (b && nat_lt 0 (length (block r m (match_after r m e) c))) && true) one.on
           ∙ ap (λ b. b && true) (lt-ltb 0 (length (block r m (match_after r m e) c)) one.some));
       stands = subst (λ (x : Match). Represents r core' played' x) (sym now) one.stands;
       sane = subst (λ (x : Match). IsSane r x) (sym now) (sane_over r (match_after r m e) _ sane);
@@ -239,7 +246,8 @@ all_by r core played m due due' first w w' failed notes notes' e s = record {
   noted = noted_as notes notes' _ _ (both_by (first_in m first) due due' e) s.noted;
 }
 
-one_by : (r : Rules) (core : MatchState) (played : List Move) (m : Match) (due due' : Colour → List SentLine) (first : Colour)
+one_by : (r : Rules) (core : MatchState) (played : List Move) (m : Match) (due due' : Colour → List SentLine)
+    (first : Colour)
     (w w' : Colour → OutputState) (failed : Colour → Bool) (notes notes' : Noted) (c : Colour)
     → ((S : Colour) → due S ≡ due' S)
     → OneFailed r core played m due first w w' failed notes notes' c
@@ -318,7 +326,8 @@ one_started : (r : Rules) (core : MatchState) (played : List Move) (failed : Col
     (c : Colour) → ((S : Colour) → held S ≡ nothing_held)
     → OneFailed r core played start (λ S. lines_on_entering r start S) White w w' failed notes notes' c
     → IsUnderWay r (FailsToWrite c ∷ []) core played failed n n held w w' coming coming notes notes'
-one_started r core played failed n held w w' coming notes notes' Black none s = let no : 0 < 0 = s.some in absurd (omega (arith, no))
+one_started r core played failed n held w w' coming notes notes' Black none s = let no : 0 < 0 = s.some in
+    absurd (omega (arith, no))
 one_started r core played failed n held w w' coming notes notes' White none s = record {
   fitting = ap (λ b. b && true) (lt-ltb 0 (length (lines_on_entering r start White)) s.some);
   stands = s.stands;
@@ -352,7 +361,8 @@ sent_by : (r : Rules) (core : MatchState) (played : List Move) (m : Match) (due 
 sent_by r core played m due d c w w' failed notes notes' e s =
     subst (λ (x : Colour). AllSent r core played m due x w w' failed notes notes') (sym e) s
 
-pub event_step : (r : Rules) (T : List Event) (e : Event) (d : Colour) (core core' : MatchState) (played played' : List Move)
+pub event_step : (r : Rules) (T : List Event) (e : Event) (d : Colour) (core core' : MatchState)
+    (played played' : List Move)
     (failed failed' : Colour → Bool) (n n' n'' : Colour → InputState) (held held' : Colour → Held)
     (w w' w'' : Colour → OutputState) (coming coming' coming'' : ℕ → Option ℕ)
     (notes notes' between notes'' : Noted)
@@ -361,7 +371,8 @@ pub event_step : (r : Rules) (T : List Event) (e : Event) (d : Colour) (core cor
     → is_of_output d e ≡ true → is_on (match_of r T).phase ≡ true → fits_next nothing_due (match_of r T) e ≡ true
     → IsSane r (match_after r (match_of r T) e)
     → ((S : Colour) → OutputAt S e (n' S) (n'' S) (held S) (held' S)) → ClockReadings coming' coming'' (moment_in e)
-    → Delivered r core' played' (match_after r (match_of r T) e) (λ S. block r (match_of r T) (match_after r (match_of r T) e) S) d
+    → Delivered r core' played' (match_after r (match_of r T) e)
+    (λ S. block r (match_of r T) (match_after r (match_of r T) e) S) d
     w' w'' failed' between notes''
     → (T' : List Event) × IsUnderWay r T' core' played' failed' n n'' held' w w'' coming coming'' notes notes''
 event_step r T (Line c text k) d core core' played played' failed failed' n n' n'' held held' w w' w'' coming coming'
@@ -391,13 +402,16 @@ event_step r T (Line c text k) d core core' played played' failed failed' n n' n
       failed_step r T c text k core core' played played' failed failed' n n' n'' held held' w w' w''
           coming coming' coming'' notes notes' between notes'' x u line on fit sane came asked
           (subst (λ (y : Colour). OneFailed r core' played' (match_after r (match_of r T) (Line c text k))
-          (λ S. block r (match_of r T) (match_after r (match_of r T) (Line c text k)) S) y w' w'' failed' between notes'' x)
+          (λ S. block r (match_of r T) (match_after r (match_of r T) (Line c text k)) S) y w' w'' failed'
+          between notes'' x)
           (sym (same_colour-true c d is)) s),
     )
 event_step r T (OutputEnds c) d core core' played played' failed failed' n n' n'' held held' w w' w'' coming coming'
-    coming'' notes notes' between notes'' u line is on fit sane came asked (inr (x, s)) = let no : false ≡ true = s.on in absurd cc
+    coming'' notes notes' between notes'' u line is on fit sane came asked (inr (x, s)) = let no : false ≡ true =
+    s.on in absurd cc
 event_step r T (FailsToRead c) d core core' played played' failed failed' n n' n'' held held' w w' w'' coming coming'
-    coming'' notes notes' between notes'' u line is on fit sane came asked (inr (x, s)) = let no : false ≡ true = s.on in absurd cc
+    coming'' notes notes' between notes'' u line is on fit sane came asked (inr (x, s)) = let no : false ≡ true =
+    s.on in absurd cc
 event_step r T (Opened c k) d core core' played played' failed failed' n n' n'' held held' w w' w'' coming coming'
     coming'' notes notes' between notes'' u line is on fit sane came asked s = absurd cc
 event_step r T (FailsToWrite c) d core core' played played' failed failed' n n' n'' held held' w w' w'' coming coming'
@@ -441,7 +455,8 @@ opened_step r T d k core core' played failed n n' held w w' coming coming' comin
     asked goes =
     let on : is_on (match_of r T).phase ≡ true = opens_on (match_of r T).phase d opening in
     all_step r T (Opened d k) core core' played played failed failed n n' n' held held w w' w' coming coming' coming''
-    notes notes' notes'' notes'' White refl u line on refl opening (sane_opened r (match_of r T) d k opening u.sane) (λ S. (refl, refl)) asked
+    notes notes' notes'' notes'' White refl u line on refl opening (sane_opened r (match_of r T) d k opening u.sane)
+    (λ S. (refl, refl)) asked
     (record {
       stands = goes.stands;
       puts = λ S. nothing_put (failed S) (w' S) _ (u.fine on S)

@@ -123,7 +123,8 @@ handshake_over d t m m' p off w b = (
     last false = append-nil (items_of_line (line_kind t))
 
     at : (d : Colour) → m.phase ≡ Handshake d → (S : Colour) → (seat m S).items
-        ++ said_ahead m.phase S (with_line d t no_lines S) ≡ (seat (take_items d (items_of_line (line_kind t)) m) S).items
+        ++ said_ahead m.phase S (with_line d t no_lines S)
+        ≡ (seat (take_items d (items_of_line (line_kind t)) m) S).items
     at White p White = rw p (ap (λ (is : List Item). m.white.items ++ is)
         (last (has_done (items_of_line (line_kind t)))))
     at White p Black = rw p (append-nil m.black.items)
@@ -159,11 +160,13 @@ handshake_done White t m p s h = cc
 lines_say : (r : Rules) (d : Colour) (t : Option (List ℕ)) (n : ℕ) (m : Match)
     → Lines r d (line_kind t) n m (λ m'. Says d t m m')
 lines_say r d t n m = record {
-  handshake_ends = λ p h. handshake_over d t m (over (Faulted d NoDone) (take_items d (items_of_line (line_kind t)) m)) p refl refl
+  handshake_ends = λ p h. handshake_over d t m (over (Faulted d NoDone) (take_items d (items_of_line (line_kind t)) m))
+      p refl refl
       refl;
   handshake_counts = λ p h few. handshake_on d t (m.count + 1) m p h;
   handshake_next = λ p s h. handshake_next d t m p s h;
-  handshake_judged = λ p s h b f. handshake_over d t m (enter (Over (Faulted b f)) (take_items d (items_of_line (line_kind t)) m))
+  handshake_judged = λ p s h b f. handshake_over d t m
+      (enter (Over (Faulted b f)) (take_items d (items_of_line (line_kind t)) m))
       (p ∙ ap Handshake (sym s)) refl refl refl;
   handshake_done = λ p s h. handshake_done d t m p s h;
   setup_ends = λ p reason w. greeted_says d t m (over reason m) (rw p refl) refl refl refl;
@@ -238,11 +241,15 @@ said_from r due m (Line d t n ∷ T) f =
     line_goes_on r m (match_after r m (Line d t n)) d t n (block r m (match_after r m (Line d t n))) T
     (and_second (reads m.phase d) _ f)
     (line_outcome r d (line_kind t) n m (λ m'. Says d t m m') (and_first (reads m.phase d) _ f) (lines_say r d t n m))
-    (said_from r (block r m (match_after r m (Line d t n))) (match_after r m (Line d t n)) T (and_second (reads m.phase d) _ f))
+    (said_from r (block r m (match_after r m (Line d t n))) (match_after r m (Line d t n)) T
+    (and_second (reads m.phase d) _ f))
 said_from r due m (Opened d n ∷ T) f =
-    opened_on r m d n T (match_from r (match_after r m (Opened d n)) T) (opens_at m.phase d (and_first (opens m.phase d) _ f))
-    (said_from r (block r m (match_after r m (Opened d n))) (match_after r m (Opened d n)) T (and_second (opens m.phase d) _ f))
-said_from r due m (OutputEnds d ∷ T) f = stopped r m (match_after r m (OutputEnds d)) (block r m (match_after r m (OutputEnds d))) T
+    opened_on r m d n T (match_from r (match_after r m (Opened d n)) T)
+    (opens_at m.phase d (and_first (opens m.phase d) _ f))
+    (said_from r (block r m (match_after r m (Opened d n))) (match_after r m (Opened d n)) T
+    (and_second (opens m.phase d) _ f))
+said_from r due m (OutputEnds d ∷ T) f = stopped r m (match_after r m (OutputEnds d))
+    (block r m (match_after r m (OutputEnds d))) T
     refl refl refl (and_second (fits_next due m (OutputEnds d)) _ f)
 said_from r due m (FailsToRead d ∷ T) f =
     stopped r m (match_after r m (FailsToRead d)) (block r m (match_after r m (FailsToRead d))) T refl refl refl
@@ -274,7 +281,8 @@ each_is_sent_the_others r T f = ((match_of r T).played, moves_are_read r T f, to
     told : (O : Colour) → (rest : List (List ℕ)) × (length rest ≤ 1)
         × (is_some (ending r T) ≡ true → has_fault Write O T ≡ false → rest ≡ [])
         × (moves_sent (sent r O T) ++ rest
-        ≡ texts_from r (takes (codes "san") (items_said (lines_of_engine O T))) (other O) r.first [] (match_of r T).played)
+        ≡ texts_from r (takes (codes "san") (items_said (lines_of_engine O T))) (other O) r.first []
+        (match_of r T).played)
     told O = (
       owed_to r (match_of r T) O (match_of r T).unsent_to (has_fault Write O T),
       owed_short r (match_of r T) O (match_of r T).unsent_to (has_fault Write O T),

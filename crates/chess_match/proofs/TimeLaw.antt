@@ -164,8 +164,8 @@ in_openings own r m S (Over reason) e = at (is_unwritten reason S)
     at false = end_times own r m S reason
 in_openings own r m S (SendTurn c) e = cc
 
-opening_told : (own : Bool) (r : Rules) (m : Match) (S c : Colour) → flat_map (numbers own) (entry_to r m S (SendTurn c))
-    ≡ (if same_colour c S then clock_told own r m S else [])
+opening_told : (own : Bool) (r : Rules) (m : Match) (S c : Colour)
+    → flat_map (numbers own) (entry_to r m S (SendTurn c)) ≡ (if same_colour c S then clock_told own r m S else [])
 opening_told own r m S c = at (same_colour c S)
   where
     at : (b : Bool) → flat_map (numbers own) (if b then opening_lines r m S else [])
@@ -443,7 +443,8 @@ decides_goes own r S c X move used v m h =
     (over_times own r S X (takes (codes "time") (seat m' S).items) (seat m' (told_of own S)).used (AwaitPong c)
     (played_times own r S c X move used m h)))
 
-turn_goes : (own : Bool) (r : Rules) (S c : Colour) (X : List ℕ) (m : Match) → is_same_phase m.phase (SendTurn c) ≡ false
+turn_goes : (own : Bool) (r : Rules) (S c : Colour) (X : List ℕ) (m : Match) → is_same_phase m.phase (SendTurn c)
+    ≡ false
     → (X ++ (if same_colour c S then clock_told own r m S else [])) ++ pending own (SendTurn c) S (clock_told own r m S)
     ≡ all_told (is_whole own r S) r (takes (codes "time") (seat m S).items) (seat m (told_of own S)).used
     → Goes own r S X m (open_turn c m)
@@ -458,11 +459,12 @@ turn_goes own r S c X m out h =
     carried_turn i u = rw (i, u) h
 
 -- in a handshake nothing was sent, and no move made
-handshake_goes : (own : Bool) (r : Rules) (S c d : Colour) (X : List ℕ) (items : List Item) (n : ℕ) (p : Phase) (m : Match)
-    → TimesOf own r S (Handshake d) X m → (reason : Reason)
+handshake_goes : (own : Bool) (r : Rules) (S c d : Colour) (X : List ℕ) (items : List Item) (n : ℕ)
+    (p : Phase) (m : Match) → TimesOf own r S (Handshake d) X m → (reason : Reason)
     → (Times own r S X (enter (Handshake Black) (take_items c items m)))
     × (Times own r S X (enter (Setup White) (take_items c items m)))
-    × (Times own r S X (enter (Over reason) (take_items c items m))) × (Times own r S X (over reason (take_items c items m)))
+    × (Times own r S X (enter (Over reason) (take_items c items m)))
+    × (Times own r S X (over reason (take_items c items m)))
 handshake_goes own r S c d X items n p m h reason =
     let u = items_used c items m in
     let used : (m' : Match) → m'.white.used ≡ m.white.used → m'.black.used ≡ m.black.used
@@ -473,8 +475,8 @@ handshake_goes own r S c d X items n p m h reason =
       empty_over own r S X _ _ h.0 (used (over reason (take_items c items m)) u.0 u.1),
     )
 
-handshake_counts : (own : Bool) (r : Rules) (S c : Colour) (X : List ℕ) (items : List Item) (n : ℕ) (m : Match) → m.phase
-    ≡ Handshake c → TimesOf own r S (Handshake c) X m
+handshake_counts : (own : Bool) (r : Rules) (S c : Colour) (X : List ℕ) (items : List Item) (n : ℕ) (m : Match)
+    → m.phase ≡ Handshake c → TimesOf own r S (Handshake c) X m
     → (let m' = take_items c items m in Goes own r S X m (record m' { count = n }))
 handshake_counts own r S White X items n m p h =
     let m' = take_items White items m in
@@ -506,8 +508,10 @@ lines_go own r S c X kind moment m here h = record {
       (handshake p (Faulted c NoDone)).3;
   handshake_counts = λ p d few. handshake_counts own r S c X (items_of_line kind) (m.count + 1) m p
       (times_in own r S X m (Handshake c) p h);
-  handshake_next = λ p s d. quiet_goes own r S X m (enter (Handshake Black) (take_items c (items_of_line kind) m)) refl (handshake_at p).0;
-  handshake_judged = λ p s d b f. quiet_goes own r S X m (enter (Over (Faulted b f)) (take_items c (items_of_line kind) m)) refl
+  handshake_next = λ p s d. quiet_goes own r S X m (enter (Handshake Black) (take_items c (items_of_line kind) m)) refl
+      (handshake_at p).0;
+  handshake_judged = λ p s d b f. quiet_goes own r S X m
+      (enter (Over (Faulted b f)) (take_items c (items_of_line kind) m)) refl
       (handshake_judged p (Faulted b f)).2;
   handshake_done = λ p s d. quiet_goes own r S X m (enter (Setup White) (take_items c (items_of_line kind) m)) refl
       (handshake_judged p (Faulted c NoDone)).1;
@@ -545,13 +549,16 @@ lines_go own r S c X kind moment m here h = record {
         × (Times own r S X (enter (Setup White) (take_items c (items_of_line kind) m)))
         × (Times own r S X (enter (Over reason) (take_items c (items_of_line kind) m)))
         × (Times own r S X (over reason (take_items c (items_of_line kind) m)))
-    handshake p reason = handshake_goes own r S c c X (items_of_line kind) 0 m.phase m (times_in own r S X m (Handshake c) p h) reason
+    handshake p reason = handshake_goes own r S c c X (items_of_line kind) 0 m.phase m
+        (times_in own r S X m (Handshake c) p h) reason
 
-    handshake_at : m.phase ≡ Handshake White → (Times own r S X (enter (Handshake Black) (take_items c (items_of_line kind) m)))
+    handshake_at : m.phase ≡ Handshake White
+        → (Times own r S X (enter (Handshake Black) (take_items c (items_of_line kind) m)))
         × (Times own r S X (enter (Setup White) (take_items c (items_of_line kind) m)))
         × (Times own r S X (enter (Over (Faulted c NoDone)) (take_items c (items_of_line kind) m)))
         × (Times own r S X (over (Faulted c NoDone) (take_items c (items_of_line kind) m)))
-    handshake_at p = handshake_goes own r S c White X (items_of_line kind) 0 m.phase m (times_in own r S X m (Handshake White) p h)
+    handshake_at p = handshake_goes own r S c White X (items_of_line kind) 0 m.phase m
+        (times_in own r S X m (Handshake White) p h)
         (Faulted c NoDone)
 
     handshake_judged : m.phase ≡ Handshake Black → (reason : Reason)

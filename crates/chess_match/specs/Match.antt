@@ -74,7 +74,15 @@ vacant = record { items = []; used = []; offers = false }
 -- a match before its first event: White's handshake is awaited
 abbrev pub start : Match
 start =
-    record { phase = Handshake White; white = vacant; black = vacant; played = []; unsent_to = None; count = 0; opened = 0 }
+    record {
+      phase = Handshake White;
+      white = vacant;
+      black = vacant;
+      played = [];
+      unsent_to = None;
+      count = 0;
+      opened = 0;
+    }
 
 -- ---- ways to go on
 

@@ -104,7 +104,8 @@ unsent_lines r m S unsent_to = option_map_or (λ c. list_if (same_colour c S) (l
 -- `result 1-0 {Black resigns}`, and `quit`
 unfoldable pub end_lines : Rules → Match → Colour → Reason → List SentLine
 end_lines r m S reason =
-    unsent_lines r m S m.unsent_to ++ (Says (codes "result " ++ result_text (outcome_by_reason reason) (comment_of reason))
+    unsent_lines r m S m.unsent_to
+    ++ (Says (codes "result " ++ result_text (outcome_by_reason reason) (comment_of reason))
     ∷ Says (codes "quit") ∷ [])
 
 -- whether this reason, for which a match ended, is that writing to the side `S` failed
@@ -141,7 +142,8 @@ is_same_phase _ _ = false
 -- the line `draw` for the engine `own`, if its opponent's offer of a draw was opened between the opponent's states
 -- `old` and `new`; as a list of one, empty if there was no such offer or `own` has `draw=0`
 abbrev pub draw_line : Seat → Seat → Seat → List SentLine
-draw_line own old new = list_if (not old.offers && new.offers && takes (codes "draw") own.items) (Says (codes "draw") ∷ [])
+draw_line own old new = list_if (not old.offers && new.offers && takes (codes "draw") own.items)
+    (Says (codes "draw") ∷ [])
 
 -- the lines that the side `S` is sent when an event takes the match from `m` to `m'`: answers to its items, the
 -- other's draw offer, and those of a new phase

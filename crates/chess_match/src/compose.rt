@@ -219,7 +219,8 @@ fn add_entry<G: MatchGame>(block: &mut Block, core: &MatchState, game: &G, side:
 #[tactic(auto, unfolding(crate::specs::Sent::bytes_of))]
 pub(crate) fn add_offer(block: &mut Block, given: Actions, side: Colour)
     requires { array_vec_len block.old + 10 ≤ BLOCK_LEN }
-    ensures text { block.new.items ≡ block.old.items ++ bytes_of (lines_if_to given.draw side (Says (codes "draw") ∷ [])) }
+    ensures text { block.new.items ≡ block.old.items
+        ++ bytes_of (lines_if_to given.draw side (Says (codes "draw") ∷ [])) }
     ensures len { array_vec_len block.new ≤ array_vec_len block.old + 10 }
 {
     match given.draw {

@@ -126,7 +126,8 @@ pub fn run_match_watched<R: Input, W: Output, M: Moments, B: Board, L: Witness>(
     game: &mut Game<B>,
     witness: &mut L,
 ) -> MatchEnd
-    ensures ran { RanBefore (L.noted witness.old) (L.noted witness.new) setup.now.start setup.now.level game.old game.new result
+    ensures ran { RanBefore (L.noted witness.old) (L.noted witness.new) setup.now.start setup.now.level game.old
+        game.new result
         (record {
           reader = by_colour (R.seen white.old.reader) (R.seen black.old.reader);
           writer = by_colour (W.seen white.old.writer) (W.seen black.old.writer);
@@ -495,7 +496,8 @@ fn take_line<M: Moments, L: Witness, G: MatchGame>(
         × (block.new.items ≡ bytes_of (answers_to items))
         × ((r : Rules) (m : Match) → G.plays game.old r → reads m.phase side ≡ true
         → Represents r core.old (G.played game.old) m
-        → Goes r core.new (G.played game.new) result (items_to side items) m (match_after r m (line_event side line.now moment))) }
+        → Goes r core.new (G.played game.new) result (items_to side items) m
+        (match_after r m (line_event side line.now moment))) }
     ensures room { array_vec_len block.new ≤ ANSWERS_LEN }
 {
     let moment = moments.now();
@@ -556,7 +558,8 @@ fn take_next<M: Moments, L: Witness, G: MatchGame>(
 // Declares the outcome and the comment of the reason in the game, unless the board has a verdict.
 fn declare<B: Board>(game: &mut Game<B>, reason: Reason)
     requires { game.old.state.declared ≡ None }
-    ensures { game.new ≡ with_state game.old (with_declared game.old.state (declared_at (verdict_now game.old.state) reason)) }
+    ensures { game.new ≡ with_state game.old
+        (with_declared game.old.state (declared_at (verdict_now game.old.state) reason)) }
 {
     if game.verdict().is_some() {
         return;

@@ -73,7 +73,8 @@ pub(crate) fn note_and_send<W: Output, L: Witness, G: MatchGame>(
     requires room { array_vec_len block.old ≤ ANSWERS_LEN }
     ensures sends { (r : Rules) (m : Match) (items : Colour → List Item) → G.plays game.now r
         → Represents r core.now (G.played game.now) m → block.old.items ≡ bytes_of (answers_to (items side))
-        → SendsIf (is_err result) (W.seen writer.old) (W.seen writer.new) (bytes_of (given_block r given items m side)) }
+        → SendsIf (is_err result) (W.seen writer.old) (W.seen writer.new)
+        (bytes_of (given_block r given items m side)) }
     ensures due { (r : Rules) (m : Match) (items : Colour → List Item) → G.plays game.now r
         → Represents r core.now (G.played game.now) m → block.old.items ≡ bytes_of (answers_to (items side))
         → IsErr result → 0 < length (given_block r given items m side) }

@@ -49,8 +49,8 @@ impl MatchState {
     // ends the match.
     pub(crate) fn ignore(&mut self, side: Colour) -> Actions
         requires { self.old.count < FLOOD_LEN }
-        ensures { (r : Rules) (played : List Move) (m : Match) → reads m.phase side ≡ true → Represents r self.old played m
-            → Goes r self.new played result nothing_said m (ignore side m) }
+        ensures { (r : Rules) (played : List Move) (m : Match) → reads m.phase side ≡ true
+            → Represents r self.old played m → Goes r self.new played result nothing_said m (ignore side m) }
     {
         if self.count + 1 >= FLOOD_LEN {
             return self.finish(Reason::Faulted(side, MatchFault::Flood));

@@ -18,10 +18,12 @@ placed_after_is : (prefix : List ℕ) (column : ℕ) (ts : List (List ℕ)) → 
 placed_after_is prefix column [] some short = let e : eqb column 0 ≡ false = grind (arith, nat_tests) in rw e refl
 placed_after_is prefix column (t ∷ ts) some short =
     let e : eqb column 0 ≡ false = grind (arith, nat_tests) in
-    rw e (by_test (leb (column + 1 + length t) 79) (placed_after_is prefix (column + 1 + length t) ts (omega arith) short.1)
+    rw e (by_test (leb (column + 1 + length t) 79) (placed_after_is prefix (column + 1 + length t) ts
+    (omega arith) short.1)
     (placed_after_is prefix (length t) ts short.0.0 short.1))
   where
-    by_test : (b : Bool) → filled_from prefix (column + 1 + length t) ts ≡ placed_after prefix (column + 1 + length t) ts
+    by_test : (b : Bool) → filled_from prefix (column + 1 + length t) ts
+        ≡ placed_after prefix (column + 1 + length t) ts
         → filled_from prefix (length t) ts ≡ placed_after prefix (length t) ts
         → cond b (32 ∷ t) (10 ∷ prefix ++ t) ++ filled_from prefix (cond b (column + 1 + length t) (length t)) ts
         ≡ cond b (32 ∷ t ++ placed_after prefix (column + 1 + length t) ts)
@@ -183,7 +185,8 @@ one_line prefix t ts rest text h next =
     ∙ sym (append_assoc (prefix ++ line_text (t ∷ ts)) (10 ∷ []) text)
 
 lines_are : (prefix t : List ℕ) (ts : List (List ℕ)) (others : List (List (List ℕ))) → AreFilled ((t ∷ ts) ∷ others)
-    → prefix ++ t ++ placed_after prefix (length t) (ts ++ tokens_in others) ≡ flat_map (ended prefix) ((t ∷ ts) ∷ others)
+    → prefix ++ t ++ placed_after prefix (length t) (ts ++ tokens_in others)
+    ≡ flat_map (ended prefix) ((t ∷ ts) ∷ others)
 lines_are prefix t ts [] h = one_line prefix t ts [] [] h refl
 lines_are prefix t ts ([] ∷ lines) h = absurd h
 lines_are prefix t ts ((u ∷ us) ∷ lines) h =

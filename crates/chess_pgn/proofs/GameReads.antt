@@ -106,8 +106,8 @@ pub record Reads (limit : ℕ) (text : List ℕ) (from : ℕ) (game : Seen) (pro
       from
 
 pub read_from : (limit : ℕ) (game : Seen) (p : Progress) (text : List ℕ) (from begin here : ℕ)
-    → IsReadOn limit text begin game p here → game.limit ≡ limit → begin ≡ after_byte_order_mark text from → from ≤ begin
-    → Reads limit text from game p here
+    → IsReadOn limit text begin game p here → game.limit ≡ limit → begin ≡ after_byte_order_mark text from
+    → from ≤ begin → Reads limit text from game p here
 unfolding pgn_read
 read_from limit game p text from begin here r same is onward = record {
   forward = (let before = r.forward in omega (arith, before, onward));

@@ -157,8 +157,8 @@ moves_are prefix before outcome column col end s none b is o e =
 one_placed : (prefix before text token : List ℕ) (column col : ℕ) → before ≡ prefix → col ≡ column → text ≡ token
     → wrapped_token before col text ≡ placed_all prefix column (token ∷ [])
 one_placed prefix before text token column col p c t =
-    ap (λ v. wrapped_token v col text) p ∙ ap (λ n. wrapped_token prefix n text) c ∙ ap (λ v. wrapped_token prefix column v) t
-    ∙ sym (append-nil (wrapped_token prefix column token))
+    ap (λ v. wrapped_token v col text) p ∙ ap (λ n. wrapped_token prefix n text) c
+    ∙ ap (λ v. wrapped_token prefix column v) t ∙ sym (append-nil (wrapped_token prefix column token))
 
 -- the number could not be put
 pub number_broke : (a b : OutputState) (w prefix : List ℕ) (column : ℕ) (f : Bool) (p q : Setup) (m : Move) → q ≡ p
@@ -194,7 +194,8 @@ pub move_put : (a b c : OutputState) (w x y prefix before text : List ℕ) (colu
     (m : Move) → q ≡ p → before ≡ prefix → col ≡ column_after_all column (number_token q.side f q.fullmove)
     → text ≡ san p m
     → TookSome a b w x (placed_all prefix column (number_token q.side f q.fullmove))
-    → TookSome b c x y (wrapped_token before col text) → TookSome a c w y (placed_all prefix column (tokens_of_move f p m))
+    → TookSome b c x y (wrapped_token before col text)
+    → TookSome a c w y (placed_all prefix column (tokens_of_move f p m))
 move_put a b c w x y prefix before text column col f p q m same pre is said h k =
     let number : List (List ℕ) = number_token p.side f p.fullmove in
     let here : col ≡ column_after_all column number =

@@ -130,8 +130,8 @@ initial_is : initial_setup_of Normal ≡ initial_setup
 unfolding initial_setup
 initial_is = refl
 
-read_so : (limit : ℕ) (text : List ℕ) (at : ℕ) → names_no_variant (tokens_from text (after_byte_order_mark text at)) ≡ true
-    → pgn_read limit text at ≡ normal_read limit (length text) (tokens_from text (after_byte_order_mark text at))
+read_so : (limit : ℕ) (text : List ℕ) (at : ℕ) → names_no_variant (tokens_from text (after_byte_order_mark text at))
+    ≡ true → pgn_read limit text at ≡ normal_read limit (length text) (tokens_from text (after_byte_order_mark text at))
 unfolding pgn_read
 read_so limit text at none =
     let tokens : List (ℕ × Token) = tokens_from text (after_byte_order_mark text at) in

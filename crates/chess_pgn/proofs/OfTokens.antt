@@ -317,7 +317,8 @@ module _ (limit total : ℕ) (v : Variant) where
     tag_leaves true e = fen_leaves e (fen_reading_as g.state.start.variant text) (same _ refl)
     tag_leaves false e =
         more done left (Tag name text string) g _ s
-        (quiet done (Tag name text string) g true g.is_begun (termination_after g.termination name text) s refl (rw e refl)
+        (quiet done (Tag name text string) g true g.is_begun (termination_after g.termination name text) s
+        refl (rw e refl)
         (rw (open_yet, e) refl) (or-true g.is_met) (or-false g.is_begun) refl)
 
   -- ---- all tokens
@@ -354,7 +355,8 @@ module _ (limit total : ℕ) (v : Variant) where
   }
     where
       at_end : (met : Bool) → list_any (λ t. counts t.1) done ≡ met
-          → StopsAt limit total v done [] g.state (cond met (Err (record { kind = NoResult; offset = total })) (Ok None))
+          → StopsAt limit total v done [] g.state
+          (cond met (Err (record { kind = NoResult; offset = total })) (Ok None))
       at_end true e = (s.undeclared, e, refl)
       at_end false e = (s.undeclared, e)
   of_tokens tokens done (t ∷ ts) g all s = by_step tokens done t ts all
@@ -363,7 +365,8 @@ module _ (limit total : ℕ) (v : Variant) where
     where
       by_step : (tokens done : List (ℕ × Token)) (t : ℕ × Token) (ts : List (ℕ × Token)) → done ++ t ∷ ts ≡ tokens
           → ((k : SoFar) → IsSoFar (done ++ t ∷ []) k → IsOfTokens limit total v tokens (game_of limit total k ts))
-          → (x : Step) → Leaves done t x → IsOfTokens limit total v tokens (read_rest_with x (λ k. game_of limit total k ts))
+          → (x : Step) → Leaves done t x → IsOfTokens limit total v tokens
+          (read_rest_with x (λ k. game_of limit total k ts))
       by_step tokens done t ts all later (Stop r) k =
           record {
             taken = done;

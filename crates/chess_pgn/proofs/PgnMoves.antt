@@ -105,7 +105,8 @@ read_so_far t start done is_begun = record {
   termination = t;
 }
 
-last-more : (start : Setup) (done : List Move) (m : Move) → position_after start (done ++ m ∷ []) ≡ after (position_after start done) m
+last-more : (start : Setup) (done : List Move) (m : Move) → position_after start (done ++ m ∷ [])
+    ≡ after (position_after start done) m
 last-more start [] m = refl
 last-more start (x ∷ done) m = last-more (after start x) done m
 
@@ -141,7 +142,8 @@ module _ (limit total : ℕ) where
       ≡ ended_game g.termination g.state o (total - length (outcome_text o ++ 10 ∷ rest) + length (outcome_text o))
   outcome_read g begins column o rest =
       let t : List ℕ = outcome_text o in
-      ap (read_on limit total g begins) (append_assoc (wrapped_token [] column t) (line_close (next_column column t)) rest)
+      ap (read_on limit total g begins)
+      (append_assoc (wrapped_token [] column t) (line_close (next_column column t)) rest)
       ∙ placed_read g begins column t (line_close (next_column column t) ++ rest) _ (λ b.
       ap (λ xs. read_on limit total g b (t ++ (xs ++ rest)))
       (close_after (next_column column t) (column_after column t (outcome_some o)))
@@ -176,8 +178,8 @@ module _ (limit total : ℕ) where
 
   pub moves_read : AfterIsSound → (said : Option Termination) (start : Setup) (all : List Move) → IsWhole start all
       → (last_token rest : List ℕ) (r : GameRead) → Reads said start all (last_token ∷ []) rest r
-      → (is_first : Bool) (p : Setup) (done ms : List Move) → done ++ ms ≡ all → position_after start done ≡ p → IsSound p
-      → IsLine p ms → Reads said start done (move_tokens is_first p ms ++ last_token ∷ []) rest r
+      → (is_first : Bool) (p : Setup) (done ms : List Move) → done ++ ms ≡ all → position_after start done
+      ≡ p → IsSound p → IsLine p ms → Reads said start done (move_tokens is_first p ms ++ last_token ∷ []) rest r
   moves_read law said start all whole o rest r ended is_first p done [] same at sound line is_begun begins column =
       ap (λ d. read_on limit total (read_so_far said start d is_begun) begins (filled_from [] column (o ∷ []) ++ rest))
       (sym (append-nil done) ∙ same) ∙ ended is_begun begins column

@@ -272,8 +272,8 @@ digit_in_word c h = by_letter (is_letter c) (is_digit c) h
   where
     by_letter : (a b : Bool) → b ≡ true
         → ((a || (b || eqb c 95))
-        || (eqb c 43 || (eqb c 35 || (eqb c 61 || (eqb c 45 || (eqb c 47 || (eqb c 33 || (eqb c 63 || (eqb c 58 || false)))))))))
-        ≡ true
+        || (eqb c 43 || (eqb c 35
+        || (eqb c 61 || (eqb c 45 || (eqb c 47 || (eqb c 33 || (eqb c 63 || (eqb c 58 || false))))))))) ≡ true
     by_letter true b e = refl
     by_letter false true e = refl
     by_letter false false e = cc

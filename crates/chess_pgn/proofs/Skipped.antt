@@ -92,4 +92,5 @@ no_brace xs mask is long none =
 pub some_brace : (xs : List ℕ) (mask : ℕ) → mask ≡ mask_l (map (λ x. eqb x 125) xs) → length xs ≡ 32 → mask ≢ 0
     → count_trailing_zeros 64 mask ≡ position_or_len (λ c. c == 125) xs
 some_brace xs mask is long some =
-    ap (λ m. count_trailing_zeros 64 m) is ∙ trailing_mask_l (λ x. eqb x 125) 64 xs (omega (arith, long)) (omega (arith, is, some))
+    ap (λ m. count_trailing_zeros 64 m) is ∙ trailing_mask_l (λ x. eqb x 125) 64 xs (omega (arith, long))
+    (omega (arith, is, some))

@@ -18,7 +18,8 @@ pub onto-nil : (o : Option (List ℕ × List ℕ)) → onto [] o ≡ o
 onto-nil None = refl
 onto-nil (Some found) = refl
 
-pub onto-append : (front more : List ℕ) (o : Option (List ℕ × List ℕ)) → onto (front ++ more) o ≡ onto front (onto more o)
+pub onto-append : (front more : List ℕ) (o : Option (List ℕ × List ℕ)) → onto (front ++ more) o
+    ≡ onto front (onto more o)
 onto-append front more None = refl
 onto-append front more (Some found) = ap (λ xs. Some (xs, found.1)) (append_assoc front more found.0)
 

@@ -31,7 +31,8 @@ named_tag name _ = None
 -- the last tag with that name among a game's tags, which end before the first number, move, outcome or fault: its text,
 -- and how many bytes are left where that begins. Each token comes after how many bytes are left at it
 abbrev pub last_tag : List ℕ → List (ℕ × Token) → Option (List ℕ × ℕ)
-last_tag name tokens = last_or None (filter_map (λ t. named_tag name t.1) (take_while (λ t. may_precede_tags t.1) tokens))
+last_tag name tokens = last_or None
+    (filter_map (λ t. named_tag name t.1) (take_while (λ t. may_precede_tags t.1) tokens))
 
 -- the last tag Result of the game that is read from the offset `at` on: the outcome that it names, if any, and the
 -- offset and the length of its string; none if the game has no tag Result

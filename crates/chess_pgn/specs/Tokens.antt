@@ -67,7 +67,8 @@ variation_at (Some comment) line_begins (suc depth) (c ∷ rest) =
 variation_at None line_begins (suc depth) (c ∷ rest) =
     if line_begins && c == byte "%" || c == byte ";"
     then variation_at (Some (new_line, Unclosed_variation)) false (suc depth) rest
-    else (if c == byte "{" then variation_at (Some (byte "}", Unclosed_comment (length (c ∷ rest)))) false (suc depth) rest
+    else (if c == byte "{" then variation_at (Some (byte "}", Unclosed_comment (length (c ∷ rest)))) false
+    (suc depth) rest
     else (if c == byte "(" then variation_at None false (suc (suc depth)) rest
     else (if c == byte ")" then variation_at None false depth rest
     else variation_at None (c == new_line) (suc depth) rest)))

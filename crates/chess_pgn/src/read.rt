@@ -489,8 +489,8 @@ fn begin_game<B: Board>(text: &[u8], at: usize, game: &mut Game<B>) -> (Progress
     (Progress::none(), at)
 }
 
-// Plays the move that a word denotes in the current position, and returns whether one was played. If the word denotes no
-// one legal move, or the game is over or full, nothing changes.
+// Plays the move that a word denotes in the current position, and returns whether one was played. If the word denotes
+// no one legal move, or the game is over or full, nothing changes.
 #[inline(always)]
 fn try_move<B: Board>(game: &mut Game<B>, word: &[u8]) -> bool
     requires { game.old.state.declared ≡ None }

@@ -154,8 +154,8 @@ pub(crate) fn next_token(text: &[u8], at: usize) -> Result<Option<(Token<'_>, us
     }
 }
 
-/// Skips white space and dots from the offset `at` on, and returns the offset after them. [`next_token`] would skip them
-/// one by one; this is faster.
+/// Skips white space and dots from the offset `at` on, and returns the offset after them. [`next_token`] would skip
+/// them one by one; this is faster.
 #[inline(always)]
 pub(crate) fn after_blanks(text: &[u8], at: usize) -> usize
     requires { at ≤ length text.now }

@@ -223,8 +223,10 @@ fn play_game<'a, 't, C: Clock, P: OpenProcess + Drop, M: Moments, W: Output, E: 
         (log_seen (E.seen log.old.output) log.old.pending) (log_seen (E.seen log.new.output) log.new.pending)
         plan.now.start plan.now.level game.old game.new end
         (record {
-          reader = by_colour (⟦<Counted<P::Stdout> as Input>⟧.seen white.ends.reader) (⟦<Counted<P::Stdout> as Input>⟧.seen black.ends.reader);
-          writer = by_colour (⟦<Counted<P::Stdin> as Output>⟧.seen white.ends.writer) (⟦<Counted<P::Stdin> as Output>⟧.seen black.ends.writer);
+          reader = by_colour (⟦<Counted<P::Stdout> as Input>⟧.seen white.ends.reader)
+              (⟦<Counted<P::Stdout> as Input>⟧.seen black.ends.reader);
+          writer = by_colour (⟦<Counted<P::Stdin> as Output>⟧.seen white.ends.writer)
+              (⟦<Counted<P::Stdin> as Output>⟧.seen black.ends.writer);
         }) }
 {
     let Engine {

@@ -31,9 +31,11 @@ remarks_by : (argument : Bor (List ℕ)) (arguments : Arguments) (o : Option (Li
     → remarks (argument ∷ arguments) ≡ before_others o (remarks arguments)
 unfolding remarks
 remarks_by argument arguments None e =
-    ap (λ b. flat_map said_of (take (cond b (1 + prefix_len is_remark arguments) 0) (argument ∷ arguments))) (ap is_some e)
+    ap (λ b. flat_map said_of (take (cond b (1 + prefix_len is_remark arguments) 0) (argument ∷ arguments)))
+    (ap is_some e)
 remarks_by argument arguments (Some text) e =
-    ap (λ b. flat_map said_of (take (cond b (1 + prefix_len is_remark arguments) 0) (argument ∷ arguments))) (ap is_some e)
+    ap (λ b. flat_map said_of (take (cond b (1 + prefix_len is_remark arguments) 0) (argument ∷ arguments)))
+    (ap is_some e)
     ∙ ap (λ k. flat_map said_of (take k (argument ∷ arguments))) (one_suc (prefix_len is_remark arguments))
     ∙ ap (λ o. unwrap_or o [] ++ flat_map said_of (take (prefix_len is_remark arguments) arguments)) e
 
@@ -51,10 +53,12 @@ unfolding after_remarks
 after_by argument arguments true e =
     ap (λ b. drop (cond b (1 + prefix_len is_remark arguments) 0) (argument ∷ arguments)) e
     ∙ ap (λ k. drop k (argument ∷ arguments)) (one_suc (prefix_len is_remark arguments))
-after_by argument arguments false e = ap (λ b. drop (cond b (1 + prefix_len is_remark arguments) 0) (argument ∷ arguments)) e
+after_by argument arguments false e =
+    ap (λ b. drop (cond b (1 + prefix_len is_remark arguments) 0) (argument ∷ arguments)) e
 
 after_one : (argument : Bor (List ℕ)) (arguments : Arguments)
-    → after_remarks (argument ∷ arguments) ≡ (if is_some (remark argument.now) then after_remarks arguments else argument ∷ arguments)
+    → after_remarks (argument ∷ arguments) ≡ (if is_some (remark argument.now) then after_remarks arguments
+    else argument ∷ arguments)
 after_one argument arguments = after_by argument arguments (is_remark argument) refl
 
 -- ---- so far
@@ -75,15 +79,17 @@ module _ (arguments : Arguments) (at : ℕ) (d : Bor (List ℕ)) (text : List �
       ap remarks (drop_more arguments at d lt) ∙ remarks_one (get_or arguments at d) (drop (at + 1) arguments)
       ∙ ap (λ o. before_others o (remarks (drop (at + 1) arguments))) is
 
-  pub more : (from : ℕ) (w w' w'' : OutputState) (before : List ℕ) → SoFar arguments from at w w' before → Took w' w'' text
-      → SoFar arguments from (at + 1) w w'' (before ++ text)
+  pub more : (from : ℕ) (w w' w'' : OutputState) (before : List ℕ) → SoFar arguments from at w w' before
+      → Took w' w'' text → SoFar arguments from (at + 1) w w'' (before ++ text)
   more from w w' w'' before s h = record {
     took = took_more w w' w'' before text s.took h;
-    rest = append_assoc before text (remarks (drop (at + 1) arguments)) ∙ ap (λ v. before ++ v) (sym said_here) ∙ s.rest;
+    rest = append_assoc before text (remarks (drop (at + 1) arguments)) ∙ ap (λ v. before ++ v) (sym said_here)
+        ∙ s.rest;
   }
 
   pub broken : {E : Type 0} (from : ℕ) (w w' w'' : OutputState) (before : List ℕ) (r : Result (Unit {0}) E)
-      → SoFar arguments from at w w' before → BreaksOff w' w'' text → IsErr r → Puts w w'' r (remarks (drop from arguments))
+      → SoFar arguments from at w w' before → BreaksOff w' w'' text → IsErr r
+      → Puts w w'' r (remarks (drop from arguments))
   broken from w w' w'' before r s h failed =
       puts_exit w w'' r (remarks (drop from arguments))
       (subst (BreaksOff w w'') (ap (λ v. before ++ v) (sym said_here) ∙ s.rest)
@@ -92,8 +98,8 @@ module _ (arguments : Arguments) (at : ℕ) (d : Bor (List ℕ)) (text : List �
       failed
 
 -- an argument that is none, or no argument
-no_more : (arguments : Arguments) (from at : ℕ) (w w' : OutputState) (before : List ℕ) → SoFar arguments from at w w' before
-    → remarks (drop at arguments) ≡ [] → Took w w' (remarks (drop from arguments))
+no_more : (arguments : Arguments) (from at : ℕ) (w w' : OutputState) (before : List ℕ)
+    → SoFar arguments from at w w' before → remarks (drop at arguments) ≡ [] → Took w w' (remarks (drop from arguments))
 no_more arguments from at w w' before s none =
     subst (Took w w') (sym (append-nil before) ∙ ap (λ v. before ++ v) (sym none) ∙ s.rest) s.took
 
@@ -123,16 +129,18 @@ pub after_more : (arguments : Arguments) (at : ℕ) (d : Bor (List ℕ)) → at 
     → after_remarks (drop at arguments) ≡ after_remarks (drop (at + 1) arguments)
 after_more arguments at d lt is =
     ap after_remarks (drop_more arguments at d lt) ∙ after_one (get_or arguments at d) (drop (at + 1) arguments)
-    ∙ ap (λ b. if b then after_remarks (drop (at + 1) arguments) else get_or arguments at d ∷ drop (at + 1) arguments) is
+    ∙ ap (λ b. if b then after_remarks (drop (at + 1) arguments) else get_or arguments at d ∷ drop (at + 1) arguments)
+    is
 
 pub after_other : (arguments : Arguments) (at : ℕ) (d : Bor (List ℕ)) → at < length arguments
     → is_some (remark (get_or arguments at d).now) ≡ false → after_remarks (drop at arguments) ≡ drop at arguments
 after_other arguments at d lt is =
     ap after_remarks (drop_more arguments at d lt) ∙ after_one (get_or arguments at d) (drop (at + 1) arguments)
-    ∙ ap (λ b. if b then after_remarks (drop (at + 1) arguments) else get_or arguments at d ∷ drop (at + 1) arguments) is
-    ∙ sym (drop_more arguments at d lt)
+    ∙ ap (λ b. if b then after_remarks (drop (at + 1) arguments) else get_or arguments at d ∷ drop (at + 1) arguments)
+    is ∙ sym (drop_more arguments at d lt)
 
-pub after_end : (arguments : Arguments) (at : ℕ) → length arguments ≤ at → after_remarks (drop at arguments) ≡ drop at arguments
+pub after_end : (arguments : Arguments) (at : ℕ) → length arguments ≤ at → after_remarks (drop at arguments)
+    ≡ drop at arguments
 after_end arguments at past =
     at_drop_all after_remarks arguments at past ∙ after_none ∙ sym (at_drop_all (λ v. v) arguments at past)
 

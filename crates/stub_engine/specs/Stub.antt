@@ -89,7 +89,8 @@ stub_row s text Go = turn s.arguments
 stub_row s text UserMove = after_opponent_move s
 stub_row s text Unknown = if bytes_eq (word_of text) (codes "usermove") then after_opponent_move s else stub_says s []
 stub_row s text Quit = record (stub_says s []) { ends = true }
-stub_row s text Silent = if bytes_eq (word_of text) (codes "force") then stub_says (waiting s.arguments) [] else stub_says s []
+stub_row s text Silent = if bytes_eq (word_of text) (codes "force") then stub_says (waiting s.arguments) []
+    else stub_says s []
 stub_row s text _ = stub_says s []
 
 -- what a stub (an engine that plays the arguments that it is given) in the state `s` does with a line: it obeys the

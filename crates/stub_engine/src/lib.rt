@@ -1,5 +1,5 @@
-//! An engine for tests, a stub: by the Chess Engine Communication Protocol it plays the arguments that it is given, moves
-//! and what may be said with them.
+//! An engine for tests, a stub: by the Chess Engine Communication Protocol it plays the arguments that it is given,
+//! moves and what may be said with them.
 //!
 //! ```
 //! let arguments = ["e2e4", "offer", "resign"];

@@ -58,7 +58,8 @@ normal_move_row limit s text =
 abbrev pub normal_result_row : State → List ℕ → Option Declared → Response State
 normal_result_row s text None = refuses s (codes "Error (bad result): ") text
 normal_result_row s text (Some d) =
-    if contradicts_verdict (normal_verdict_now s) d.outcome then refuses s (codes "Error (the board says otherwise): ") text
+    if contradicts_verdict (normal_verdict_now s) d.outcome
+    then refuses s (codes "Error (the board says otherwise): ") text
     else becomes (with_declared s (Some d))
 
 -- the answer to `claim` in the game `s`: a draw by threefold repetition or 50 moves, if the game is not over and the

@@ -84,8 +84,8 @@ pub record OneFailed (r : Rules) (core : MatchState) (played : List Move) (m : M
 -- which ended the match. `m` is the match after that event, before any failed write; `core` and the moves `played` are
 -- the code's state after all. `failed` says to which sides a write failed; `w` and `w'` are the engines' inputs before
 -- and after, `notes` and `notes'` the witness
-abbrev pub Delivered : Rules → MatchState → List Move → Match → (Colour → List SentLine) → Colour → (Colour → OutputState)
-    → (Colour → OutputState) → (Colour → Bool) → Noted → Noted → Type 0
+abbrev pub Delivered : Rules → MatchState → List Move → Match → (Colour → List SentLine) → Colour
+    → (Colour → OutputState) → (Colour → OutputState) → (Colour → Bool) → Noted → Noted → Type 0
 Delivered r core played m due first w w' failed notes notes' =
     AllSent r core played m due first w w' failed notes notes'
     ⊎ ((c : Colour) × OneFailed r core played m due first w w' failed notes notes' c)

@@ -69,7 +69,8 @@ nothing_said S = []
 -- what the side `S` is sent after the answers to its items, by the code's `given`: `draw`, if the other offered one,
 -- and the lines of the phase of `m`, if it was entered
 abbrev pub after_answers : Rules → Actions → Match → Colour → List SentLine
-after_answers r given m S = lines_if_to given.draw S (Says (codes "draw") ∷ []) ++ (if given.entered then lines_on_entering r m S else [])
+after_answers r given m S = lines_if_to given.draw S (Says (codes "draw") ∷ [])
+    ++ (if given.entered then lines_on_entering r m S else [])
 
 -- all that the side `S` is sent at an event, after which the match is `m`: answers to its `items`, and by the code's
 -- `given` an offer of a draw and the lines of a new phase

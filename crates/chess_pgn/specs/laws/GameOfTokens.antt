@@ -192,14 +192,15 @@ fen_fault (Ok start) = None
 fen_fault (Err fault) = Some (BadFen fault)
 
 -- why a token can't be taken in the game `s` of the variant `v`, with the fault's offset; none if it can. `limit` is
--- the most half-moves of a game, `total` the text's length, `to_end` how many bytes are left from the token on; `begun`:
--- a number or move came before it
+-- the most half-moves of a game, `total` the text's length, `to_end` how many bytes are left from the token on;
+-- `begun`: a number or move came before it
 abbrev pub token_fault : ℕ → ℕ → Variant → Bool → State → ℕ → Token → Option PgnFault
 token_fault limit total v begun s to_end Skip = None
 token_fault limit total v begun s to_end (Tag name text string) =
     if begun then fault_at (total - to_end) (Some NoResult)
     else (if is_fen name then fault_at (total - string) (fen_fault (fen_reading_as v text)) else None)
-token_fault limit total v begun s to_end (Word word) = fault_at (total - to_end) (word_fault limit s word (word_kind word))
+token_fault limit total v begun s to_end (Word word) =
+    fault_at (total - to_end) (word_fault limit s word (word_kind word))
 token_fault limit total v begun s to_end Bad_tag = fault_at (total - to_end) (Some (if begun then NoResult else BadTag))
 token_fault limit total v begun s to_end (Unclosed_comment brace) = fault_at (total - brace) (Some UnclosedComment)
 token_fault limit total v begun s to_end Unclosed_variation = fault_at (total - to_end) (Some UnclosedVariation)

@@ -56,7 +56,8 @@ normal_step limit total g to_end Bad = step limit total g to_end Bad
 -- is the most half-moves of a game, `total` the text's length
 abbrev pub normal_game_of : ℕ → ℕ → SoFar → List (ℕ × Token) → GameRead
 normal_game_of limit total g [] = at_text_end total g
-normal_game_of limit total g (t ∷ ts) = read_rest_with (normal_step limit total g t.0 t.1) (λ h. normal_game_of limit total h ts)
+normal_game_of limit total g (t ∷ ts) = read_rest_with (normal_step limit total g t.0 t.1)
+    (λ h. normal_game_of limit total h ts)
 
 -- what is read of these tokens, if there were no Chess960: a game from the initial position of normal chess on. `limit`
 -- is the most half-moves of a game, `total` the text's length
@@ -103,5 +104,6 @@ names_no_variant (t ∷ ts) = if ends_tags t.1 then true else not (names_variant
 pub record NormalIsKept : Type 0 where
   pub written : (start : Setup) (termination : Termination) → start.variant ≡ Normal
       → further_lines start termination ≡ normal_further_lines start termination
-  pub read : (limit : ℕ) (text : List ℕ) (at : ℕ) → IsTrue (names_no_variant (tokens_from text (after_byte_order_mark text at)))
+  pub read : (limit : ℕ) (text : List ℕ) (at : ℕ)
+      → IsTrue (names_no_variant (tokens_from text (after_byte_order_mark text at)))
       → pgn_read limit text at ≡ normal_read limit (length text) (tokens_from text (after_byte_order_mark text at))

@@ -47,8 +47,8 @@ EndsIn first last (Ok (does.On p)) = Unit {0}
 EndsIn first last (Ok (does.Ended end)) = (first < end.offset) × (end.offset ≤ last)
 EndsIn first last (Err fault) = Unit {0}
 
--- the places that a token names are inside the token and what follows: at most `to_end` bytes, those from its first byte
--- on, are left at each
+-- the places that a token names are inside the token and what follows: at most `to_end` bytes, those from its first
+-- byte on, are left at each
 abbrev pub IsWithin : ℕ → Token → Type 0
 IsWithin to_end Skip = Unit {0}
 IsWithin to_end (Tag name text string) = string ≤ to_end

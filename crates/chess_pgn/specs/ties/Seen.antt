@@ -53,8 +53,8 @@ IsNextToken text at (Ok (Some r)) = (tokens_from text at ≡ (length text - at, 
     × (at < r.1) × (r.1 ≤ length text)
 IsNextToken text at (Err f) = tokens_from text at ≡ (length text - at, fault_seen f) ∷ []
 
--- from the offset `a` to the offset `b` the text has only tokens that are skipped; `to_ends` are how many bytes are left at
--- each of them
+-- from the offset `a` to the offset `b` the text has only tokens that are skipped; `to_ends` are how many bytes are
+-- left at each of them
 abbrev pub SkipsTo : List ℕ → ℕ → ℕ → Type 0
 SkipsTo text a b = (to_ends : List ℕ)
     × (tokens_from text a ≡ map (λ to_end. (to_end, tokens.Skip)) to_ends ++ tokens_from text b)

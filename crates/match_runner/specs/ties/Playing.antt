@@ -102,7 +102,8 @@ PlayedGame plan number w w' l l' (Err fault) = IsStartFault plan fault × (w' �
 
 -- what playing the games of a match does, by its result: each was written and logged, and the score counts them, up to
 -- and with one that has a fault; or the match broke off. `w` and `l` are output and log before, `w'` and `l'` after
-abbrev pub HasPlayed : GamesPlan → OutputState → OutputState → LogSeen → LogSeen → Result GamesPlayed GamesFault → Type 0
+abbrev pub HasPlayed : GamesPlan → OutputState → OutputState → LogSeen → LogSeen
+    → Result GamesPlayed GamesFault → Type 0
 HasPlayed plan w w' l l' (Ok played) =
     (games : List GameRecord) × EndsGames plan games played.fault × (played.score ≡ score_of games)
     × Flushed w w' (game_texts plan games) × LogsGames plan.log l l' games

@@ -7,7 +7,8 @@ use Rattle.cecp_engine.proofs.item.has_word.Given as goal
 
 abbrev pub invariant-loop-at : goal.invariant-loop-at
 invariant-loop-at l = record {
-  pieces : list_any (λ piece. bytes_eq piece l.word) (slice_split is_comma_or_blank l.text) ≡ has_word_after l.word (take (l.at - l.from) (drop l.from l.text))
+  pieces : list_any (λ piece. bytes_eq piece l.word) (slice_split is_comma_or_blank l.text)
+      ≡ has_word_after l.word (take (l.at - l.from) (drop l.from l.text))
       (drop l.at l.text);
   in_order : l.from ≤ l.at;
   in_range : l.at ≤ length l.text;

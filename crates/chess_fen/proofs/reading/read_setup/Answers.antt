@@ -11,7 +11,8 @@ use Rattle.chess_fen.proofs.reading.read_setup.Goals as goal
 pub no_pieces_fault-requires : goal.no_pieces_fault-requires
 no_pieces_fault-requires c =
     λ field fields all.
-    first_is_menless c.args.text.now c.skip_spaces-front.result.now c.skip_spaces-front.ensures c.in_default.ensures.none
+    first_is_menless c.args.text.now c.skip_spaces-front.result.now c.skip_spaces-front.ensures
+    c.in_default.ensures.none
     field fields (fields_of-skip c.args.text.now ∙ ap fields_of (sym c.skip_spaces-front.ensures) ∙ all)
 
 pub returns-in_default : goal.returns-in_default

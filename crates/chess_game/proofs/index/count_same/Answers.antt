@@ -47,7 +47,8 @@ is_same-requires-clause-this c =
 
 pub overflow_add-result : goal.overflow_add-result
 overflow_add-result c =
-    let few = walk_few c.args.start.now c.args.played_moves.now c.args.now.now c.loop-at.at c.index-played_moves-at.result
+    let few = walk_few c.args.start.now c.args.played_moves.now c.args.now.now c.loop-at.at
+    c.index-played_moves-at.result
     c.requires.entries c.loop-at.invariant c.loop-at-test.true c.index-played_moves-at.is in
     omega (arith, few, c.requires.few)
 

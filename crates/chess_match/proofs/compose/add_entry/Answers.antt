@@ -9,7 +9,8 @@ use Rattle.chess_match.proofs.compose.add_entry.Goals as goal
 
 pub returns-else-same_colour : goal.returns-else-same_colour
 returns-else-same_colour g c r m p s =
-    let differs : same_colour c.in-Handshake.on c.args.side ≡ false = sym c.same_colour.ensures ∙ c.if-same_colour.false in
+    let differs : same_colour c.in-Handshake.on c.args.side ≡ false = sym c.same_colour.ensures
+    ∙ c.if-same_colour.false in
     entry_none r m c.args.side (Handshake c.in-Handshake.on) c.args.block.now.items (sym s.phase ∙ c.in-Handshake.is)
     (rw differs refl)
 
@@ -36,7 +37,8 @@ returns-else-same_colour-4 g c r m p s =
 
 pub returns-in-AwaitMove : goal.returns-in-AwaitMove
 returns-in-AwaitMove g c r m p s =
-    entry_none r m c.args.side (AwaitMove c.in-AwaitMove.field-0) c.args.block.now.items (sym s.phase ∙ c.in-AwaitMove.is) refl
+    entry_none r m c.args.side (AwaitMove c.in-AwaitMove.field-0) c.args.block.now.items
+    (sym s.phase ∙ c.in-AwaitMove.is) refl
 
 pub returns-then-same_colour : goal.returns-then-same_colour
 returns-then-same_colour g c r m p s =

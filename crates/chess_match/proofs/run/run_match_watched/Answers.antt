@@ -148,7 +148,8 @@ events-smaller g c =
     let h = c.take_next-given.ensures.taken in
     let goes = h.5 r m plays reading i.1.stands in
     let d = delivered_by r _ _ _ _ (block r m (match_after r m (event_read S h.0 found))) S _ _ _ _ _
-    goes.gives (c.deliver-failed-in-Line.ensures.delivered r _ (items_to S h.1) (c.take_next-given.ensures.rules r plays)
+    goes.gives (c.deliver-failed-in-Line.ensures.delivered r _ (items_to S h.1)
+    (c.take_next-given.ensures.rules r plays)
     goes.stands (h.4 ∙ ap (λ (is : List Item). bytes_of (answers_to is)) (sym (to_own S h.1))) (to_other S h.1)) in
     event_less r c.events.core.phase c.deliver-failed-in-Line.new.core _ m S h.0 found _
     (by_colour (g.R.Input.seen c.events.white.reader) (g.R.Input.seen c.events.black.reader))
@@ -169,7 +170,8 @@ events-preserved g c =
     let h = c.take_next-given.ensures.taken in
     let goes = h.5 r m plays reading i.1.stands in
     let d = delivered_by r _ _ _ _ (block r m (match_after r m (event_read S h.0 found))) S _ _ _ _ _
-    goes.gives (c.deliver-failed-in-Line.ensures.delivered r _ (items_to S h.1) (c.take_next-given.ensures.rules r plays)
+    goes.gives (c.deliver-failed-in-Line.ensures.delivered r _ (items_to S h.1)
+    (c.take_next-given.ensures.rules r plays)
     goes.stands (h.4 ∙ ap (λ (is : List Item). bytes_of (answers_to is)) (sym (to_own S h.1))) (to_other S h.1)) in
     let u = event_on r i.0 S h.0 found c.events.core c.deliver-failed-in-Line.new.core _ _
     (by_colour c.events.failed.white c.events.failed.black)

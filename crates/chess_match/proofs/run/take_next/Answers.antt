@@ -8,8 +8,10 @@ use Rattle.chess_match.proofs.run.take_next.Goals as goal
 
 pub returns-in-Err-clause-taken : goal.returns-in-Err-clause-taken
 returns-in-Err-clause-taken g c =
-    let n = event_failed (IsNoted (g.G.MatchGame.plays c.args.game.now) c.args.core.now (g.G.MatchGame.played c.args.game.now)
-    c.read_fails-in-Err.new.self (g.G.MatchGame.played c.args.game.now) c.read_fails-in-Err.result c.args.block.now.items
+    let n = event_failed (IsNoted (g.G.MatchGame.plays c.args.game.now) c.args.core.now
+    (g.G.MatchGame.played c.args.game.now)
+    c.read_fails-in-Err.new.self (g.G.MatchGame.played c.args.game.now) c.read_fails-in-Err.result
+    c.args.block.now.items
     c.args.side (g.M.Moments.coming c.args.moments.now) (g.M.Moments.coming c.args.moments.now)
     (g.L.Witness.noted c.args.witness.now) (g.L.Witness.noted c.read_fails.new.self))
     c.args.side 0 (line_read c.args.found c.args.line.now) c.in-Err.field-0
@@ -20,7 +22,8 @@ returns-in-Err-clause-taken g c =
 
 pub returns-in-Ok-false-clause-taken : goal.returns-in-Ok-false-clause-taken
 returns-in-Ok-false-clause-taken g c =
-    let n = event_none (IsNoted (g.G.MatchGame.plays c.args.game.now) c.args.core.now (g.G.MatchGame.played c.args.game.now)
+    let n = event_none (IsNoted (g.G.MatchGame.plays c.args.game.now) c.args.core.now
+    (g.G.MatchGame.played c.args.game.now)
     c.output_ends-in-Ok-false-2.new.self (g.G.MatchGame.played c.args.game.now) c.output_ends-in-Ok-false-2.result
     c.args.block.now.items
     c.args.side (g.M.Moments.coming c.args.moments.now) (g.M.Moments.coming c.args.moments.now)
@@ -34,7 +37,8 @@ returns-in-Ok-false-clause-taken g c =
 
 pub returns-else-is_parsed-clause-taken : goal.returns-else-is_parsed-clause-taken
 returns-else-is_parsed-clause-taken g c =
-    let n = event_last (IsNoted (g.G.MatchGame.plays c.args.game.now) c.args.core.now (g.G.MatchGame.played c.args.game.now)
+    let n = event_last (IsNoted (g.G.MatchGame.plays c.args.game.now) c.args.core.now
+    (g.G.MatchGame.played c.args.game.now)
     c.output_ends-else-is_parsed.new.self (g.G.MatchGame.played c.args.game.now) c.output_ends-else-is_parsed.result
     c.args.block.now.items c.args.side (g.M.Moments.coming c.args.moments.now)
     (g.M.Moments.coming c.args.moments.now) (g.L.Witness.noted c.args.witness.now)

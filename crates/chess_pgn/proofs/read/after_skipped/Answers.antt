@@ -17,7 +17,8 @@ loop-comment_end-preserved c =
     let comment = c.in-Some.ensures in
     let blanks = c.after_blanks-offset.ensures in
     record {
-      alike = alike_on c.args.text.now c.args.at c.loop-comment_end.offset c.in-Some.comment_end c.after_blanks-offset.result
+      alike = alike_on c.args.text.now c.args.at c.loop-comment_end.offset c.in-Some.comment_end
+          c.after_blanks-offset.result
           before.alike comment.0
           (skips_alike c.args.text.now c.in-Some.comment_end c.after_blanks-offset.result blanks.skips);
       forward = omega (arith, before.forward, comment.1, blanks.forward);

@@ -25,6 +25,7 @@ loop-next-preserved g c =
     (found_seen c.named_tag.result) c.loop-next.invariant next.0 next.1 next.2
     (sym c.if-not-may_precede_tags.false ∙ c.may_precede_tags.ensures) c.named_tag.ensures c.in-Normal.ensures
     c.in-Ok-On.ensures.limit step_is in
-    normal_on c.args.game.now.limit c.args.text.now c.args.at c.apply_token.new.game c.in-Ok-On.further c.in-Some.token_end
+    normal_on c.args.game.now.limit c.args.text.now c.args.at c.apply_token.new.game c.in-Ok-On.further
+    c.in-Some.token_end
     c.after_blanks-offset.result more c.after_blanks-offset.ensures.skips c.after_blanks-offset.ensures.forward
     c.after_blanks-offset.ensures.within

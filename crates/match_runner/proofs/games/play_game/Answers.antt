@@ -1,5 +1,6 @@
 -- The game that the match left is one of the plan, since it began with a limit of 20,000 half-moves, which stays
--- (GamesWritten.limit_kept). What was written is its text with the tags of its end, or a beginning of it, and it was logged.
+-- (GamesWritten.limit_kept). What was written is its text with the tags of its end, or a beginning of it, and it was
+-- logged.
 use Rattle.std.proofs.Common.{[], ◌∙◌, Option, refl, subst}
 use Rattle.byte_devices.specs.Devices.{BreaksOff, Sent}
 use Rattle.chess_base.specs.declared.man.Colour.{Colour}

@@ -40,7 +40,8 @@ returns g c =
     let l' = log_seen (g.E.Output.seen c.play_each.new.log.output) c.play_each.new.log.pending in
     let played = c.in-Ok-play_each.played in
     let is : played.fault ≡ Some (c.in-Some.number, c.in-Some.side, c.in-Some.fault) = search rules in
-    fault_written c.args.plan.now w w' w'' l l' played c.in-Ok-play_each.ensures c.in-Some.number c.in-Some.side c.in-Some.fault
+    fault_written c.args.plan.now w w' w'' l l' played c.in-Ok-play_each.ensures c.in-Some.number c.in-Some.side
+    c.in-Some.fault
     c.fault_text.result c.fault_text.ensures
     (is_sent w' w'' c.write_score.result (score_line played.score) c.write_score.ensures
     (sym c.is_err.ensures.value ∙ c.if-is_err.false)) is

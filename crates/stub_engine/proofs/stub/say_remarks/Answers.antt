@@ -20,7 +20,8 @@ returns-in_default g c =
 pub returns-in_err-put : goal.returns-in_err-put
 returns-in_err-put g c =
     let is : c.remark.result ≡ Some c.in-Some.text = search rules in
-    broken c.args.arguments.now c.loop-at.at _ c.in-Some.text.now c.loop-at-test.true (sym c.remark.ensures ∙ ap texts is)
+    broken c.args.arguments.now c.loop-at.at _ c.in-Some.text.now c.loop-at-test.true (sym c.remark.ensures
+    ∙ ap texts is)
     c.args.from _ _ _ _ c.from_residual.result
     c.loop-at.invariant.1 c.in_err-put.ensures c.from_residual.ensures.0
 
@@ -28,7 +29,8 @@ pub loop-at-preserved : goal.loop-at-preserved
 loop-at-preserved g c =
     let is : c.remark.result ≡ Some c.in-Some.text = search rules in (
       _,
-      more c.args.arguments.now c.loop-at.at _ c.in-Some.text.now c.loop-at-test.true (sym c.remark.ensures ∙ ap texts is)
+      more c.args.arguments.now c.loop-at.at _ c.in-Some.text.now c.loop-at-test.true (sym c.remark.ensures
+          ∙ ap texts is)
           c.args.from _ _ _ _ c.loop-at.invariant.1 c.in_ok-put.ensures,
     )
 

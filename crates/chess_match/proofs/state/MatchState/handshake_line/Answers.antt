@@ -20,11 +20,13 @@ unfolding handshake_line
 returns-then-done-clause-goes g c r m p at s =
     let st : Represents r c.take_line_items-done.new.self (g.G.MatchGame.played c.args.game.now)
     (take_items c.args.side (items_of_line (seen c.args.line)) m) = c.take_line_items-done.ensures.taken r _ m s in
-    let done : has_done (items_of_line (seen c.args.line)) ≡ true = sym c.take_line_items-done.ensures.done ∙ c.if-done.true in
+    let done : has_done (items_of_line (seen c.args.line)) ≡ true = sym c.take_line_items-done.ensures.done
+    ∙ c.if-done.true in
     let on : greeted r c.args.side (take_items c.args.side (items_of_line (seen c.args.line)) m)
     ≡ enter c.phase_after_handshake-self.result (take_items c.args.side (items_of_line (seen c.args.line)) m) =
     c.phase_after_handshake-self.ensures.greeted r _ p st in
-    let differs : is_same_phase m.phase c.phase_after_handshake-self.result ≡ false = rw at c.phase_after_handshake-self.ensures.leaves in
+    let differs : is_same_phase m.phase c.phase_after_handshake-self.result ≡ false =
+    rw at c.phase_after_handshake-self.ensures.leaves in
     rw (done, on) (handshake_goes r c.take_line_items-done.new.self _ _ c.args.side (items_of_line (seen c.args.line))
     c.phase_after_handshake-self.result 0 false m st differs refl)
 
@@ -33,7 +35,8 @@ unfolding handshake_line
 returns-then-self-ge-HANDSHAKE_LEN-clause-goes g c r m p at s =
     let st : Represents r c.take_line_items-done.new.self (g.G.MatchGame.played c.args.game.now)
     (take_items c.args.side (items_of_line (seen c.args.line)) m) = c.take_line_items-done.ensures.taken r _ m s in
-    let done : has_done (items_of_line (seen c.args.line)) ≡ false = sym c.take_line_items-done.ensures.done ∙ c.if-done.false in
+    let done : has_done (items_of_line (seen c.args.line)) ≡ false = sym c.take_line_items-done.ensures.done
+    ∙ c.if-done.false in
     let many : nat_le 1000 (m.count + 1) ≡ true =
     le-leb 1000 (m.count + 1) (omega (arith, s.count, c.take_line_items-done.ensures.count)) in
     let differs : is_same_phase m.phase (Over (Faulted c.args.side NoDone)) ≡ false = rw at refl in
@@ -47,12 +50,15 @@ unfolding handshake_line
 returns-else-self-ge-HANDSHAKE_LEN-clause-goes g c r m p at s =
     let st : Represents r c.take_line_items-done.new.self (g.G.MatchGame.played c.args.game.now)
     (take_items c.args.side (items_of_line (seen c.args.line)) m) = c.take_line_items-done.ensures.taken r _ m s in
-    let done : has_done (items_of_line (seen c.args.line)) ≡ false = sym c.take_line_items-done.ensures.done ∙ c.if-done.false in
+    let done : has_done (items_of_line (seen c.args.line)) ≡ false = sym c.take_line_items-done.ensures.done
+    ∙ c.if-done.false in
     let few : nat_le 1000 (m.count + 1) ≡ false =
-    lt-leb 1000 (m.count + 1) (omega (arith, s.count, c.take_line_items-done.ensures.count, c.if-self-ge-HANDSHAKE_LEN.false)) in
+    lt-leb 1000 (m.count + 1)
+    (omega (arith, s.count, c.take_line_items-done.ensures.count, c.if-self-ge-HANDSHAKE_LEN.false)) in
     let stays : is_same_phase m.phase (take_items c.args.side (items_of_line (seen c.args.line)) m).phase ≡ true =
     rw (items_phase c.args.side (items_of_line (seen c.args.line)) m, at) (same_colour-self c.args.side) in
-    let more : c.take_line_items-done.new.self.count + 1 ≡ m.count + 1 = omega (arith, s.count, c.take_line_items-done.ensures.count) in
+    let more : c.take_line_items-done.new.self.count + 1 ≡ m.count + 1 =
+    omega (arith, s.count, c.take_line_items-done.ensures.count) in
     rw (done, few) (handshake_goes r c.take_line_items-done.new.self _ _ c.args.side (items_of_line (seen c.args.line))
     (take_items c.args.side (items_of_line (seen c.args.line)) m).phase (m.count + 1) true m st stays
     (one_core c.take_line_items-done.new.self _ _ _ _ st.phase more))
