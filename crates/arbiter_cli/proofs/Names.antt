@@ -5,7 +5,7 @@ use Rattle.arbiter_cli.specs.declared.plan.Plan.TheVariants.{Session, Verify, St
 pub plan_named : PlansAreNamed
 plan_named p Session is = is
 plan_named p (Verify v) is = is.0
-plan_named p (Stub words) is = is.0
+plan_named p (Stub arguments) is = is.0
 plan_named p (Match plan) is = is.0
 
 -- a plan to verify has the flags that the arguments set

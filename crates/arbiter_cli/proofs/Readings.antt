@@ -103,7 +103,7 @@ match_fault names texts BadDate none name m is h = (none, name, judged_fault _ m
 planned_plan : (p : Text × List Row) (s : Request) (plan : Plan) → IsRequestOf p s → IsPlanned s plan → IsPlanOf p plan
 planned_plan p request.Session plan is e = subst (IsPlanOf p) (sym e) is
 planned_plan p (request.Verify v) plan is e = subst (IsPlanOf p) (sym e) is
-planned_plan p (request.Stub words) plan is e = subst (IsPlanOf p) (sym e) is
+planned_plan p (request.Stub arguments) plan is e = subst (IsPlanOf p) (sym e) is
 planned_plan p (request.Match m) plan is e =
     subst (IsPlanOf p) (sym e.1) (is.0, match_judged p.1 m is.1 e.0 e.2)
 
@@ -111,7 +111,7 @@ plan_fault : (names : Lent) (texts : List Text) (s : Request) (f : WordsFault) �
     → IsRequestOf (asked names texts) s → IsPlanFault s f → IsReadBy names texts (Err f)
 plan_fault names texts request.Session f none is h = absurd h
 plan_fault names texts (request.Verify v) f none is h = absurd h
-plan_fault names texts (request.Stub words) f none is h = absurd h
+plan_fault names texts (request.Stub arguments) f none is h = absurd h
 plan_fault names texts (request.Match m) f none is h =
     match_fault names texts f none is.0 m is.1 h
 
@@ -119,7 +119,8 @@ plan_fault names texts (request.Match m) f none is h =
 pub planned_reading : (names : Lent) (texts : List Text) → AreVariants names → faults_in names texts ≡ []
     → (s : Request) → IsRequestOf (asked names texts) s
     → (r : Result Plan WordsFault) → IfOk r (IsPlanned s) → IfErr r (IsPlanFault s) → IsReading texts r
-planned_reading names texts are none s is (Ok plan) p f = (names, are, (none, planned_plan (asked names texts) s plan is p))
+planned_reading names texts are none s is (Ok plan) p f =
+    (names, are, (none, planned_plan (asked names texts) s plan is p))
 planned_reading names texts are none s is (Err e) p f = (names, are, plan_fault names texts s e none is f)
 
 -- ---- the command that was entered

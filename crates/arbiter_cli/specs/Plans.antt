@@ -90,21 +90,21 @@ pub record IsMatchPlan (rows : List Row) (plan : MatchPlan) : Type 0 where
 abbrev pub IsPlanOf : Text × List Row → Plan → Type 0
 IsPlanOf p Session = p.0 ≡ codes "session"
 IsPlanOf p (Verify v) = (p.0 ≡ codes "verify") × (v ≡ verify_plan_of p.1)
-IsPlanOf p (Stub words) = (p.0 ≡ codes "stub")
-    × (map (λ w. w.now) words.items ≡ unwrap_or (all_of (codes "words") p.1) [])
+IsPlanOf p (Stub arguments) = (p.0 ≡ codes "stub")
+    × (map (λ w. w.now) arguments.items ≡ unwrap_or (all_of (codes "words") p.1) [])
 IsPlanOf p (Match plan) = (p.0 ≡ codes "match") × IsMatchPlan p.1 plan
 
--- the result of reading the arguments `words` is right. A plan is returned only if `clap` finds no fault in them, and
+-- the result of reading these arguments is right. A plan is returned only if `clap` finds no fault in them, and
 -- so is a fault of level, FEN or date, which only a match has; else one of the faults that `clap` may find. Out of
 -- memory may be reported for any arguments. `names` are those that `--variant` takes
 abbrev pub IsReadBy : Lent → List Text → Result Plan WordsFault → Type 0
-IsReadBy names words (Ok plan) = (faults_in names words ≡ []) × IsPlanOf (asked names words) plan
-IsReadBy names words (Err (Words e)) = IsAmong (kind_of e) (faults_in names words)
-IsReadBy names words (Err NoMemory) = ⊤
-IsReadBy names words (Err f) = (faults_in names words ≡ []) × ((asked names words).0 ≡ codes "match")
-    × (level_and_start (asked names words).1 ≡ Err f)
+IsReadBy names arguments (Ok plan) = (faults_in names arguments ≡ []) × IsPlanOf (asked names arguments) plan
+IsReadBy names arguments (Err (Words e)) = IsAmong (kind_of e) (faults_in names arguments)
+IsReadBy names arguments (Err NoMemory) = ⊤
+IsReadBy names arguments (Err f) = (faults_in names arguments ≡ []) × ((asked names arguments).0 ≡ codes "match")
+    × (level_and_start (asked names arguments).1 ≡ Err f)
 
--- the result of reading the arguments `words` is right by the grammar of the command line, wherever in memory its names
+-- the result of reading these arguments is right by the grammar of the command line, wherever in memory its names
 -- of variants are
 abbrev pub IsReading : List Text → Result Plan WordsFault → Type 0
-IsReading words result = (names : Lent) × AreVariants names × IsReadBy names words result
+IsReading arguments result = (names : Lent) × AreVariants names × IsReadBy names arguments result

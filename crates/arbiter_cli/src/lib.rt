@@ -1,8 +1,8 @@
 //! The arguments of the command line: what they ask for.
 //!
 //! ```
-//! let words = ["verify", "--quiet"];
-//! if let Plan::Verify(plan) = read_words(alloc, &words)? {
+//! let arguments = ["verify", "--quiet"];
+//! if let Plan::Verify(plan) = read_words(alloc, &arguments)? {
 //!     assert!(plan.quiet && !plan.keep_going);
 //! }
 //! ```

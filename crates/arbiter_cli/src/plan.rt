@@ -116,7 +116,7 @@ pub(crate) fn planned<'a>(request: Request<'a>) -> Result<Plan<'a>, WordsFault>
     match request {
         Request::Session => Ok(Plan::Session),
         Request::Verify(plan) => Ok(Plan::Verify(plan)),
-        Request::Stub(words) => Ok(Plan::Stub(words)),
+        Request::Stub(arguments) => Ok(Plan::Stub(arguments)),
         Request::Match(request) => match validate(&request) {
             Ok(plan) => Ok(Plan::Match(plan)),
             Err(fault) => Err(fault),

@@ -24,10 +24,10 @@ fn entered<'m, 'a>(matches: &'m ArgMatches<'a>) -> Option<(&'a str, &'m ArgMatch
 /// # Errors
 /// If `clap` refuses the arguments or asks to show help or the version, if memory runs out, and if level, FEN or date
 /// of a match is invalid (the first of them).
-pub fn read_words<'a>(alloc: Global, words: &'a [&'a str]) -> Result<Plan<'a>, WordsFault>
-    ensures { IsReading (map (λ w. w.now) words.entry.now) result }
+pub fn read_words<'a>(alloc: Global, arguments: &'a [&'a str]) -> Result<Plan<'a>, WordsFault>
+    ensures { IsReading (map (λ w. w.now) arguments.entry.now) result }
 {
-    let matches = match parse(alloc, words) {
+    let matches = match parse(alloc, arguments) {
         Ok(matches) => matches,
         Err(error) => return Err(refusal(error)),
     };

@@ -68,7 +68,7 @@ fn stub_arguments<'a>(alloc: Global, found: &ArgMatches<'a>) -> Result<Vec<&'a s
         ≡ unwrap_or (all_of (codes "words") (rows_of (found_of found.now))) []) }
 {
     match found.get_strs("words") {
-        Some(words) => words.to_vec(alloc),
+        Some(arguments) => arguments.to_vec(alloc),
         None => Ok(Vec::new(alloc)),
     }
 }
@@ -136,12 +136,12 @@ pub(crate) fn request_in<'a>(
         return Ok(Request::Verify(verify_plan(found)));
     }
     if name == "stub" {
-        let words = stub_arguments(alloc, found)?;
-        return Ok(Request::Stub(words));
+        let arguments = stub_arguments(alloc, found)?;
+        return Ok(Request::Stub(arguments));
     }
     if name == "match" {
         return match match_request(found) {
-            Some(words) => Ok(Request::Match(words)),
+            Some(arguments) => Ok(Request::Match(arguments)),
             None => unreachable!(),
         };
     }

@@ -108,8 +108,8 @@ const VERIFY: [(&[&str], bool, bool, bool, bool); 16] = [
 // The arguments of `verify` go together in any order.
 #[test]
 fn verify_by_its_options(rt: HostRuntime) -> Result<(), Fail> {
-    for (words, keep_going, quiet, strict, explain) in &VERIFY {
-        let Plan::Verify(plan) = read_words(rt.alloc(), words)? else {
+    for (arguments, keep_going, quiet, strict, explain) in &VERIFY {
+        let Plan::Verify(plan) = read_words(rt.alloc(), arguments)? else {
             return Err(Fail::new("another plan"));
         };
         is_equal(
@@ -135,12 +135,12 @@ const STUBS: [(&[&str], usize); 3] = [
 
 #[test]
 fn a_stub_keeps_its_arguments(rt: HostRuntime) -> Result<(), Fail> {
-    for (words, count) in &STUBS {
-        let Plan::Stub(found) = read_words(rt.alloc(), words)? else {
+    for (arguments, count) in &STUBS {
+        let Plan::Stub(found) = read_words(rt.alloc(), arguments)? else {
             return Err(Fail::new("another plan"));
         };
         is_equal(&rt, &found.len(), count);
-        assert!(rt; words.ends_with(found.as_slice()));
+        assert!(rt; arguments.ends_with(found.as_slice()));
     }
     Ok(())
 }
@@ -148,7 +148,7 @@ fn a_stub_keeps_its_arguments(rt: HostRuntime) -> Result<(), Fail> {
 // Arguments of `match`, and what they ask for; `level` is the moves per session, the base and the increment, both in
 // seconds.
 struct MatchRow {
-    words: &'static [&'static str],
+    arguments: &'static [&'static str],
     white: &'static str,
     black: &'static str,
     level: [u32; 3],
@@ -161,7 +161,7 @@ struct MatchRow {
 
 const MATCHES: [MatchRow; 4] = [
     MatchRow {
-        words: &["match", "--white", "a b", "--black=c"],
+        arguments: &["match", "--white", "a b", "--black=c"],
         white: "a b",
         black: "c",
         level: [40, 300, 0],
@@ -172,7 +172,7 @@ const MATCHES: [MatchRow; 4] = [
         log: false,
     },
     MatchRow {
-        words: &[
+        arguments: &[
             "match",
             "--date",
             "2026.11.23",
@@ -198,7 +198,7 @@ const MATCHES: [MatchRow; 4] = [
         log: true,
     },
     MatchRow {
-        words: &[
+        arguments: &[
             "match",
             "--white",
             "x",
@@ -217,7 +217,7 @@ const MATCHES: [MatchRow; 4] = [
         log: false,
     },
     MatchRow {
-        words: &[
+        arguments: &[
             "match",
             "--white",
             "x",
@@ -262,7 +262,7 @@ fn check_match(rt: &impl Abort, plan: &MatchPlan<'_>, row: &MatchRow) {
 #[test]
 fn a_match_by_its_options(rt: HostRuntime) -> Result<(), Fail> {
     for row in &MATCHES {
-        let Plan::Match(plan) = read_words(rt.alloc(), row.words)? else {
+        let Plan::Match(plan) = read_words(rt.alloc(), row.arguments)? else {
             return Err(Fail::new("another plan"));
         };
         check_match(&rt, &plan, row);
@@ -387,8 +387,8 @@ const FAULTS: [(&[&str], &str); 8] = [
 // Arguments that ask for nothing: what is reported of them.
 #[test]
 fn faults_are_reported(rt: HostRuntime) -> Result<(), Fail> {
-    for (words, wanted) in &FAULTS {
-        let Err(fault) = read_words(rt.alloc(), words) else {
+    for (arguments, wanted) in &FAULTS {
+        let Err(fault) = read_words(rt.alloc(), arguments) else {
             return Err(Fail::new("a plan"));
         };
         let shown = format!(in rt.alloc(); "{fault}")?;
@@ -476,8 +476,8 @@ const OTHERS: [(&[&str], i32); 39] = [
 // Arguments that are none of the program's forms, or ask for help: the status that `clap` gives them.
 #[test]
 fn other_arguments_are_refused(rt: HostRuntime) -> Result<(), Fail> {
-    for (words, status) in &OTHERS {
-        match read_words(rt.alloc(), words) {
+    for (arguments, status) in &OTHERS {
+        match read_words(rt.alloc(), arguments) {
             Err(WordsFault::Words(error)) => is_equal(&rt, &error.exit_code(), status),
             _ => return Err(Fail::new("not clap's fault")),
         }

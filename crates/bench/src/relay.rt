@@ -48,9 +48,9 @@ fn goes_on(setup: &Setup, m: Move) -> bool {
 // of those before it; else the one at that index.
 fn next_move<B: Board>(board: &B, place: usize) -> Option<Move> {
     let moves = board.legal_moves();
-    let (front, behind) = moves.as_slice().split_at_checked(place)?;
+    let (front, tail) = moves.as_slice().split_at_checked(place)?;
     let setup = board.setup();
-    for m in behind {
+    for m in tail {
         if goes_on(setup, *m) {
             return Some(*m);
         }
@@ -60,7 +60,7 @@ fn next_move<B: Board>(board: &B, place: usize) -> Option<Move> {
             return Some(*m);
         }
     }
-    behind.first().copied()
+    tail.first().copied()
 }
 
 // Appends an engine's lines for a move to `said`: `move e2e4`, and `pong` with this number, the answer to the `ping`

@@ -9,7 +9,7 @@ use Rattle.text_lines.specs.Lines.{without_front_blanks}
 use Rattle.text_lines.proofs.Parts.{wfb_short}
 use Rattle.text_lines.specs.Words.{is_name_byte}
 use Rattle.std.specs.List.{prefix_len}
-use Rattle.cecp_engine.specs.Items.{Item, Value, Digits, Quoted, quote_at, value_of, is_apart, with_value, with_name, item_of, ends_hello, first_items, items_of, has_done, last_said, takes, is_one, value_text, has_word, plays_fischerandom}
+use Rattle.cecp_engine.specs.Items.{Item, Value, Digits, Quoted, quote_at, value_of, is_apart, with_value, with_name, item_of, ends_handshake, first_items, items_of, has_done, last_said, takes, is_one, value_text, has_word, plays_fischerandom}
 use Rattle.cecp_engine.specs.ties.Taken.{said_again, fischerandom_again}
 use Rattle.cecp_engine.specs.Seen.{features_of}
 use Rattle.cecp_engine.specs.declared.features.Features.{Features}
@@ -119,9 +119,11 @@ pub item_room : (text : List ℕ) (p : Item × List ℕ) → item_of text ≡ So
     → (0 < length p.0.name) × (length p.0.name + length p.1 + 2 ≤ length text)
 unfolding item_of
 item_room text p e =
-    let h = with_name_shorter (take (prefix_len is_name_byte text) text) (drop (prefix_len is_name_byte text) text) p e in
+    let h = with_name_shorter (take (prefix_len is_name_byte text) text) (drop (prefix_len is_name_byte text) text) p e
+    in
     let all : length (take (prefix_len is_name_byte text) text) + length (drop (prefix_len is_name_byte text) text)
-    ≡ length text = sym (length-append (take (prefix_len is_name_byte text) text) (drop (prefix_len is_name_byte text) text))
+    ≡ length text = sym (length-append (take (prefix_len is_name_byte text) text)
+    (drop (prefix_len is_name_byte text) text))
     ∙ ap (λ (l : List ℕ). length l) (take-append-drop (prefix_len is_name_byte text) text) in
     let named : length p.0.name ≡ length (take (prefix_len is_name_byte text) text) =
     ap (λ (l : List ℕ). length l) h.0 in
@@ -136,13 +138,13 @@ item_shorter text p e = let h = item_room text p e in omega (arith, h.1)
 
 abbrev pub items_by : (List ℕ → List Item) → Option (Item × List ℕ) → List Item
 items_by more None = []
-items_by more (Some p) = if ends_hello p.0 then p.0 ∷ [] else p.0 ∷ more p.1
+items_by more (Some p) = if ends_handshake p.0 then p.0 ∷ [] else p.0 ∷ more p.1
 
 first_items-by : (n : ℕ) (text : List ℕ) → first_items (suc n) text ≡ items_by (first_items n) (item_of text)
 first_items-by n text = at (item_of text)
   where
     at : (o : Option (Item × List ℕ))
-        → option_map_or (λ (p : Item × List ℕ). if ends_hello p.0 then p.0 ∷ [] else p.0 ∷ first_items n p.1) o []
+        → option_map_or (λ (p : Item × List ℕ). if ends_handshake p.0 then p.0 ∷ [] else p.0 ∷ first_items n p.1) o []
         ≡ items_by (first_items n) o
     at None = refl
     at (Some p) = refl
@@ -155,7 +157,7 @@ none_left (c ∷ cs) h = absurd (omega arith)
 same_by : (f g : List ℕ → List Item) (o : Option (Item × List ℕ)) → ((p : Item × List ℕ) → o ≡ Some p → f p.1 ≡ g p.1)
     → items_by f o ≡ items_by g o
 same_by f g None h = refl
-same_by f g (Some p) h = ap (λ (is : List Item). if ends_hello p.0 then p.0 ∷ [] else p.0 ∷ is) (h p refl)
+same_by f g (Some p) h = ap (λ (is : List Item). if ends_handshake p.0 then p.0 ∷ [] else p.0 ∷ is) (h p refl)
 
 -- as many leaves as a text has bytes are enough
 enough : (n k : ℕ) (text : List ℕ) → length text ≤ n → length text ≤ k → first_items n text ≡ first_items k text
@@ -212,18 +214,19 @@ pub record SoFar (text rest : List ℕ) (read : List Item) : Type 0 where
   pub items : items_of text ≡ read ++ items_of rest
   pub going : has_done (items_of text) ≡ has_done (items_of rest)
 
-some_at : (rest : List ℕ) (p : Item × List ℕ) → item_of rest ≡ Some p → ends_hello p.0 ≡ false
+some_at : (rest : List ℕ) (p : Item × List ℕ) → item_of rest ≡ Some p → ends_handshake p.0 ≡ false
     → items_of rest ≡ p.0 ∷ items_of p.1
 some_at rest p e f = items_of-step rest ∙ ap (items_by items_of) e ∙ rw f refl
 
-last_at : (rest : List ℕ) (p : Item × List ℕ) → item_of rest ≡ Some p → ends_hello p.0 ≡ true → items_of rest ≡ p.0 ∷ []
+last_at : (rest : List ℕ) (p : Item × List ℕ) → item_of rest ≡ Some p → ends_handshake p.0 ≡ true
+    → items_of rest ≡ p.0 ∷ []
 last_at rest p e f = items_of-step rest ∙ ap (items_by items_of) e ∙ rw f refl
 
 pub none_at : (rest : List ℕ) → item_of rest ≡ None → items_of rest ≡ []
 none_at rest e = items_of-step rest ∙ ap (items_by items_of) e
 
 pub so_far_more : (text rest : List ℕ) (items : List Item) (p : Item × List ℕ) → SoFar text rest items
-    → item_of rest ≡ Some p → ends_hello p.0 ≡ false → SoFar text p.1 (items ++ p.0 ∷ [])
+    → item_of rest ≡ Some p → ends_handshake p.0 ≡ false → SoFar text p.1 (items ++ p.0 ∷ [])
 unfolding has_done
 so_far_more text rest items p s e f = record {
   items = s.items ∙ ap (λ (is : List Item). items ++ is) (some_at rest p e f)
@@ -232,7 +235,7 @@ so_far_more text rest items p s e f = record {
 }
 
 pub so_far_done : (text rest : List ℕ) (items : List Item) (p : Item × List ℕ) → SoFar text rest items
-    → item_of rest ≡ Some p → ends_hello p.0 ≡ true
+    → item_of rest ≡ Some p → ends_handshake p.0 ≡ true
     → (items_of text ≡ items ++ p.0 ∷ []) × (has_done (items_of text) ≡ true)
 unfolding has_done
 so_far_done text rest items p s e f = (

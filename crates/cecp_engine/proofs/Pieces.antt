@@ -9,11 +9,11 @@ use Rattle.std.proofs.lemmas.List.{drop_more}
 use Rattle.cecp_engine.specs.Items.{is_comma_or_blank}
 
 -- the rest of a text after a piece is cut at commas, spaces and tabs, and one of the pieces is this word
-abbrev pub has_word_behind : List ℕ → List ℕ → List ℕ → Bool
-has_word_behind word piece [] = bytes_eq piece word
-has_word_behind word piece (c ∷ cs) =
-    if is_comma_or_blank c then bytes_eq piece word || has_word_behind word [] cs
-    else has_word_behind word (piece ++ c ∷ []) cs
+abbrev pub has_word_after : List ℕ → List ℕ → List ℕ → Bool
+has_word_after word piece [] = bytes_eq piece word
+has_word_after word piece (c ∷ cs) =
+    if is_comma_or_blank c then bytes_eq piece word || has_word_after word [] cs
+    else has_word_after word (piece ++ c ∷ []) cs
 
 -- the pieces with a piece put before the first
 abbrev after_piece : List ℕ → List (List ℕ) → List (List ℕ)
@@ -39,10 +39,10 @@ after_none p (c ∷ cs) = at (p c) (slice_split p cs)
     at false (first ∷ pieces) = refl
 
 cut_at : (word piece : List ℕ) (c : ℕ) (cs : List ℕ) (b : Bool)
-    → ((p : List ℕ) → is_any word (after_piece p (slice_split is_comma_or_blank cs)) ≡ has_word_behind word p cs)
+    → ((p : List ℕ) → is_any word (after_piece p (slice_split is_comma_or_blank cs)) ≡ has_word_after word p cs)
     → is_any word (after_piece piece
     (cond b ([] ∷ slice_split is_comma_or_blank cs) (onto_first c (slice_split is_comma_or_blank cs))))
-    ≡ (if b then bytes_eq piece word || has_word_behind word [] cs else has_word_behind word (piece ++ c ∷ []) cs)
+    ≡ (if b then bytes_eq piece word || has_word_after word [] cs else has_word_after word (piece ++ c ∷ []) cs)
 cut_at word piece c cs true rest =
     ap (λ (l : List ℕ). bytes_eq l word || is_any word (slice_split is_comma_or_blank cs)) (append-nil piece)
     ∙ ap (λ (b : Bool). bytes_eq piece word || b)
@@ -50,15 +50,15 @@ cut_at word piece c cs true rest =
 cut_at word piece c cs false rest =
     sym (ap (is_any word) (after_byte piece c (slice_split is_comma_or_blank cs))) ∙ rest (piece ++ c ∷ [])
 
-cut_behind : (word piece text : List ℕ)
-    → is_any word (after_piece piece (slice_split is_comma_or_blank text)) ≡ has_word_behind word piece text
-cut_behind word piece [] = rw (append-nil piece) (or-false (bytes_eq piece word))
-cut_behind word piece (c ∷ cs) = cut_at word piece c cs (is_comma_or_blank c) (λ p. cut_behind word p cs)
+cut_after : (word piece text : List ℕ)
+    → is_any word (after_piece piece (slice_split is_comma_or_blank text)) ≡ has_word_after word piece text
+cut_after word piece [] = rw (append-nil piece) (or-false (bytes_eq piece word))
+cut_after word piece (c ∷ cs) = cut_at word piece c cs (is_comma_or_blank c) (λ p. cut_after word p cs)
 
 -- a text that is cut before its first byte
 pub cut_at_once : (word text : List ℕ)
-    → list_any (λ piece. bytes_eq piece word) (slice_split is_comma_or_blank text) ≡ has_word_behind word [] text
-cut_at_once word text = sym (ap (is_any word) (after_none is_comma_or_blank text)) ∙ cut_behind word [] text
+    → list_any (λ piece. bytes_eq piece word) (slice_split is_comma_or_blank text) ≡ has_word_after word [] text
+cut_at_once word text = sym (ap (is_any word) (after_none is_comma_or_blank text)) ∙ cut_after word [] text
 
 piece_more : (text : List ℕ) (from at : ℕ) → from ≤ at → at < length text
     → take (at + 1 - from) (drop from text) ≡ take (at - from) (drop from text) ++ get_or text at 0 ∷ []
@@ -74,19 +74,19 @@ piece_more (c ∷ cs) (suc from) (suc at) o h =
     rw (more, less) (piece_more cs from at (omega (arith, o)) (omega (arith, h)))
 
 by_byte : (word piece : List ℕ) (c : ℕ) (cs : List ℕ) (b : Bool) → is_comma_or_blank c ≡ b
-    → has_word_behind word piece (c ∷ cs)
-    ≡ (if b then bytes_eq piece word || has_word_behind word [] cs else has_word_behind word (piece ++ c ∷ []) cs)
+    → has_word_after word piece (c ∷ cs)
+    ≡ (if b then bytes_eq piece word || has_word_after word [] cs else has_word_after word (piece ++ c ∷ []) cs)
 by_byte word piece c cs b e = rw e refl
 
 -- a byte of a piece
 pub over_byte : (word text : List ℕ) (from at : ℕ) → from ≤ at → at < length text
     → is_comma_or_blank (get_or text at 0) ≡ false
-    → has_word_behind word (take (at - from) (drop from text)) (drop at text) ≡ has_word_behind word
+    → has_word_after word (take (at - from) (drop from text)) (drop at text) ≡ has_word_after word
     (take (at + 1 - from) (drop from text)) (drop (at + 1) text)
 over_byte word text from at o h e =
-    ap (λ (rest : List ℕ). has_word_behind word (take (at - from) (drop from text)) rest) (drop_more text at 0 h)
+    ap (λ (rest : List ℕ). has_word_after word (take (at - from) (drop from text)) rest) (drop_more text at 0 h)
     ∙ by_byte word (take (at - from) (drop from text)) (get_or text at 0) (drop (at + 1) text) false e
-    ∙ ap (λ (piece : List ℕ). has_word_behind word piece (drop (at + 1) text)) (sym (piece_more text from at o h))
+    ∙ ap (λ (piece : List ℕ). has_word_after word piece (drop (at + 1) text)) (sym (piece_more text from at o h))
 
 nothing_taken : (n : ℕ) (xs : List ℕ) → take (n - n) xs ≡ []
 nothing_taken n xs = let e : n - n ≡ 0 = omega arith in rw e refl
@@ -94,11 +94,11 @@ nothing_taken n xs = let e : n - n ≡ 0 = omega arith in rw e refl
 -- a byte after a piece that isn't the word
 pub over_mark : (word text : List ℕ) (from at : ℕ) → at < length text → is_comma_or_blank (get_or text at 0) ≡ true
     → bytes_eq (take (at - from) (drop from text)) word ≡ false
-    → has_word_behind word (take (at - from) (drop from text)) (drop at text) ≡ has_word_behind word
+    → has_word_after word (take (at - from) (drop from text)) (drop at text) ≡ has_word_after word
     (take (at + 1 - (at + 1)) (drop (at + 1) text)) (drop (at + 1) text)
 over_mark word text from at h e other =
-    ap (λ (rest : List ℕ). has_word_behind word (take (at - from) (drop from text)) rest) (drop_more text at 0 h)
+    ap (λ (rest : List ℕ). has_word_after word (take (at - from) (drop from text)) rest) (drop_more text at 0 h)
     ∙ by_byte word (take (at - from) (drop from text)) (get_or text at 0) (drop (at + 1) text) true e
-    ∙ ap (λ b. b || has_word_behind word [] (drop (at + 1) text)) other
-    ∙ ap (λ (piece : List ℕ). has_word_behind word piece (drop (at + 1) text))
+    ∙ ap (λ b. b || has_word_after word [] (drop (at + 1) text)) other
+    ∙ ap (λ (piece : List ℕ). has_word_after word piece (drop (at + 1) text))
     (sym (nothing_taken (at + 1) (drop (at + 1) text)))

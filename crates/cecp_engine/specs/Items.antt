@@ -63,15 +63,15 @@ is_one (Digits ds) = bytes_eq ds (codes "1")
 is_one (Quoted cs) = false
 
 -- whether an item is `done=1`, which ends the handshake
-abbrev pub ends_hello : Item → Bool
-ends_hello i = bytes_eq i.name (codes "done") && is_one i.value
+abbrev pub ends_handshake : Item → Bool
+ends_handshake i = bytes_eq i.name (codes "done") && is_one i.value
 
 -- the items of a text, at most as many as the number says: up to a malformed one, without it, or up to and with
 -- `done=1`
 abbrev pub first_items : ℕ → List ℕ → List Item
 first_items zero text = []
 first_items (suc n) text =
-    option_map_or (λ p. if ends_hello p.0 then p.0 ∷ [] else p.0 ∷ first_items n p.1) (item_of text) []
+    option_map_or (λ p. if ends_handshake p.0 then p.0 ∷ [] else p.0 ∷ first_items n p.1) (item_of text) []
 
 -- the items of a `feature` line: up to a malformed one, without it, or up to and with `done=1`. The text's length is a
 -- bound on their number, since each takes at least three bytes
@@ -80,7 +80,7 @@ items_of text = first_items (length text) text
 
 -- whether `done=1`, which ends the handshake, is among these items
 unfoldable pub has_done : List Item → Bool
-has_done items = list_any ends_hello items
+has_done items = list_any ends_handshake items
 
 -- ---- what an engine says by its items
 

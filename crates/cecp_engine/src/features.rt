@@ -37,7 +37,7 @@ impl Features {
     }
 
     /// Which features the engine has on after one more item, such as `ping=1`.
-    pub fn heard(self, item: &Item<'_>) -> Self
+    pub fn with_item(self, item: &Item<'_>) -> Self
         ensures { (items : List feature_items.Item) → self ≡ features_of items
             → result ≡ features_of (items ++ item_seen item.now ∷ []) }
     {

@@ -2,7 +2,7 @@
 
 ghost use Rattle.std.specs.Prelude.{◌≡◌, ◌≤◌, ◌<◌, ◌++◌, ◌∷◌, [], length, drop, take, List, ℕ};
 ghost use Rattle.chess_base.specs.Letters.{is_digit};
-ghost use Rattle.cecp_engine.specs.Items.{value_of, with_value, with_name, item_of, is_apart, is_one, ends_hello, quote_at, items_of, has_done, is_known, has_word, value_text, is_comma_or_blank};
+ghost use Rattle.cecp_engine.specs.Items.{value_of, with_value, with_name, item_of, is_apart, is_one, ends_handshake, quote_at, items_of, has_done, is_known, has_word, value_text, is_comma_or_blank};
 ghost use Rattle.cecp_engine.specs.ties.Taken.{said_again, fischerandom_again, value_read};
 ghost use Rattle.cecp_engine.specs.Seen.{value_seen, item_seen, item_read};
 ghost use Rattle.text_lines.specs.Words.{is_name_byte};
@@ -76,11 +76,11 @@ fn read_value(text: &[u8]) -> Option<(Value<'_>, &[u8])>
 {
     match text {
         [] => None,
-        [first, behind @ ..] => {
+        [first, tail @ ..] => {
             if *first == b'"' {
-                let at = quote_at(behind);
-                if at < behind.len() {
-                    Some((Value::Quoted(&behind[..at]), &behind[at + 1..]))
+                let at = quote_at(tail);
+                if at < tail.len() {
+                    Some((Value::Quoted(&tail[..at]), &tail[at + 1..]))
                 } else {
                     None
                 }
@@ -117,11 +117,11 @@ pub fn next_item(text: &[u8]) -> Option<(Item<'_>, &[u8])>
     }
     match &text[len..] {
         [] => None,
-        [first, behind @ ..] => {
+        [first, tail @ ..] => {
             if *first != b'=' {
                 return None;
             }
-            match read_value(behind) {
+            match read_value(tail) {
                 None => None,
                 Some((value, rest)) => {
                     if is_apart(rest) {
@@ -183,8 +183,8 @@ impl Item<'_> {
     }
 
     /// Whether this item is `done=1`, which ends the handshake.
-    pub fn ends_hello(&self) -> bool
-        ensures { result ≡ ends_hello (item_seen self.now) }
+    pub fn ends_handshake(&self) -> bool
+        ensures { result ≡ ends_handshake (item_seen self.now) }
     {
         self.name == b"done".as_slice() && self.value.is_one()
     }

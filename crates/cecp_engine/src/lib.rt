@@ -8,17 +8,17 @@
 //! let mut features = Features::new();
 //! if let EngineLine::Features(text) = read_engine_line(b"feature ping=1 done=1") {
 //!     let mut rest = text;
-//!     while let Some((item, behind)) = next_item(rest) {
-//!         features = features.heard(&item);
-//!         rest = behind;
+//!     while let Some((item, tail)) = next_item(rest) {
+//!         features = features.with_item(&item);
+//!         rest = tail;
 //!     }
 //! }
 //! let level = Level::read(b"40 5 0").ok_or("a level")?;
 //! let left = Clocks::new(level).remaining(Colour::White);
 //! ```
 //!
-//! Then `features.ping` is true, and `left` is 300,000. A handshake ends with the item of which `ends_hello()` is true,
-//! here `done=1`.
+//! Then `features.ping` is true, and `left` is 300,000. A handshake ends with the item of which `ends_handshake()` is
+//! true, here `done=1`.
 #![tactic(auto)]
 
 mod clocks;

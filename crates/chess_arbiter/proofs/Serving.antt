@@ -22,5 +22,5 @@ pub server_ran : {S : Type 0} (respond : Server S) (start : S) (r r' : InputStat
     (outcome : Result End Fault) (status : ℕ)
     → s ≡ start → (t : Transcript) × SessionRan respond r r' w w' s s' t outcome → status ≡ status_of (served outcome)
     → RanServer respond start r r' w w' status
-server_ran respond start r r' w w' s s' outcome status is (t, ran) told =
-    (outcome, s', t, subst (λ v. SessionRan respond r r' w w' v s' t outcome) is ran, told ∙ served_status outcome)
+server_ran respond start r r' w w' s s' outcome status is (t, ran) reported =
+    (outcome, s', t, subst (λ v. SessionRan respond r r' w w' v s' t outcome) is ran, reported ∙ served_status outcome)

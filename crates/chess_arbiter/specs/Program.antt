@@ -6,7 +6,7 @@ use Rattle.arbiter_cli.specs.Plans.{IsReading}
 use Rattle.arbiter_cli.specs.declared.plan.Plan.{Plan}
 use Rattle.arbiter_cli.specs.declared.plan.Plan.TheVariants.{Session, Verify, Stub, Match}
 use Rattle.arbiter_cli.specs.declared.fault.WordsFault.{WordsFault}
-use Rattle.arbiter_cli.specs.declared.fault.WordsFault.TheVariants as words
+use Rattle.arbiter_cli.specs.declared.fault.WordsFault.TheVariants as faults
 use Rattle.byte_devices.specs.Devices.{InputState, OutputState, Sends}
 use Rattle.byte_devices.specs.declared.traits.WriteFault.{WriteFault}
 use Rattle.chess_cecp.specs.declared.run.End.{End}
@@ -30,7 +30,7 @@ use Rattle.match_runner.specs.declared.games.GamesFault.{GamesFault}
 use Rattle.match_runner.specs.declared.plan.GamesPlan.{GamesPlan}
 use Rattle.match_runner.specs.Log.{LogSeen}
 use Rattle.stub_engine.specs.Stub.{stub_response, waiting}
-use Rattle.chess_arbiter.specs.declared.fault.ProgramFault.TheVariants.{WrongWords}
+use Rattle.chess_arbiter.specs.declared.fault.ProgramFault.TheVariants.{InvalidArguments}
 use Rattle.chess_game.specs.declared.game.TheConstants.{MOST_MOVES}
 
 -- the exit status after something that may fail: 1 if the result is an error, else 0
@@ -39,7 +39,7 @@ status_of result = if is_ok result then 0 else 1
 
 -- the exit status of a fault: 2 for invalid arguments, else 1
 abbrev pub fault_status : ProgramFault → ℕ
-fault_status WrongWords = 2
+fault_status InvalidArguments = 2
 fault_status _ = 1
 
 -- the server `respond`, which began in the state `s`, answered the lines of the input on the output, up to the input's
@@ -90,10 +90,10 @@ RanHelp w w' status =
 -- what is done with arguments that ask for nothing, by their fault: help and the version go to the output (`w` before,
 -- `w'` after), all else to the error output, of which nothing is said here. `status` is the exit status
 abbrev pub ReportsArguments : WordsFault → OutputState → OutputState → ℕ → Type 0
-ReportsArguments (words.Words e) w w' status =
+ReportsArguments (faults.Words e) w w' status =
     ((kind_of e ≢ DisplayHelp) → (kind_of e ≢ DisplayVersion) → (w' ≡ w) × (status ≡ 2))
     × ((kind_of e ≡ DisplayHelp) ⊎ (kind_of e ≡ DisplayVersion) → RanHelp w w' status)
-ReportsArguments words.NoMemory w w' status = (w' ≡ w) × (status ≡ 1)
+ReportsArguments faults.NoMemory w w' status = (w' ≡ w) × (status ≡ 1)
 ReportsArguments fault w w' status = (w' ≡ w) × (status ≡ 2)
 
 -- what the games of a match are played by, as the plan of the arguments has it
@@ -118,17 +118,17 @@ RanMatch plan w w' l l' status =
 
 -- the program did what its arguments ask for (the plan), or reported why they ask for nothing (the fault). `r`, `w` and
 -- `l` are input, output and error output before, `r'`, `w'` and `l'` after; `status` is the exit status
-abbrev pub RanPlan : Result Plan WordsFault → InputState → InputState → OutputState → OutputState → LogSeen → LogSeen → ℕ
-    → Type 0
+abbrev pub RanPlan : Result Plan WordsFault → InputState → InputState → OutputState → OutputState → LogSeen
+    → LogSeen → ℕ → Type 0
 RanPlan (Ok Session) r r' w w' l l' status = RanSession r r' w w' status
 RanPlan (Ok (Verify plan)) r r' w w' l l' status = RanVerify plan r r' w w' status
-RanPlan (Ok (Stub words)) r r' w w' l l' status = RanServer stub_response (waiting words.items) r r' w w' status
+RanPlan (Ok (Stub arguments)) r r' w w' l l' status = RanServer stub_response (waiting arguments.items) r r' w w' status
 RanPlan (Ok (Match plan)) r r' w w' l l' status = (r' ≡ r) × RanMatch plan w w' l l' status
 RanPlan (Err fault) r r' w w' l l' status = (r' ≡ r) × ReportsArguments fault w w' status
 
--- what the program does with the arguments `words`: it reads them, and does what they ask for. `r`, `w` and `l` are
+-- what the program does with these arguments: it reads them, and does what they ask for. `r`, `w` and `l` are
 -- input, output and error output before, `r'`, `w'` and `l'` after; `status` is the exit status
 abbrev pub RanProgram : List Text → InputState → InputState → OutputState → OutputState → LogSeen → LogSeen → ℕ
     → Type 0
-RanProgram words r r' w w' l l' status = (read : Result Plan WordsFault) × IsReading words read
+RanProgram arguments r r' w w' l l' status = (read : Result Plan WordsFault) × IsReading arguments read
     × RanPlan read r r' w w' l l' status

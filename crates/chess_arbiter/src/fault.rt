@@ -22,7 +22,7 @@ pub enum ProgramFault {
     NoMemory,
     /// The program's arguments could not be had, as where one of them is no UTF-8.
     #[error("wrong words")]
-    WrongWords,
+    InvalidArguments,
 }
 
 impl ProgramFault {
@@ -32,7 +32,7 @@ impl ProgramFault {
     {
         match self {
             ProgramFault::ReadFailed | ProgramFault::WriteFailed | ProgramFault::NoMemory => 1,
-            ProgramFault::WrongWords => 2,
+            ProgramFault::InvalidArguments => 2,
         }
     }
 }

@@ -6,7 +6,7 @@ ghost use Rattle.chess_game.specs.declared.game.TheConstants.{MOST_MOVES};
 ghost use Rattle.chess_cecp.specs.declared.session.TheConstants.{COMMAND_LEN};
 ghost use Rattle.chess_match.specs.declared.run.TheConstants.{ENGINE_LINE_LEN};
 ghost use Rattle.pgn_pieces.specs.declared.pieces.TheConstants.{PIECE_LEN};
-ghost use Rattle.chess_arbiter.specs.laws.Laws.{RefusesWords, ServesSession, ShowsHelp, VerifiesGames};
+ghost use Rattle.chess_arbiter.specs.laws.Laws.{RefusesArguments, ServesSession, ShowsHelp, VerifiesGames};
 
 use arbiter_cli::{
     plain_arguments_are_refused, plain_arguments_are_taken, plans_are_named, verify_is_as_asked,
@@ -30,7 +30,7 @@ pub fn plain_arguments_do_what_they_say()
 pub fn refused_arguments_are_reported()
     ensures help { ShowsHelp (codes "--help" ∷ []) }
     ensures version { ShowsHelp (codes "--version" ∷ []) }
-    ensures bare_match { RefusesWords (codes "match" ∷ []) }
+    ensures bare_match { RefusesArguments (codes "match" ∷ []) }
 {
     // The prover wants this law of the arguments: how each of them is refused.
     plain_arguments_are_refused();

@@ -86,18 +86,18 @@ fn session<R: Input, W: Output, E: Output>(
     status_of(report_served(outcome, errors))
 }
 
-// Runs a stub, an engine that plays the arguments `words`, on the input and the output, and returns the exit status: 0,
+// Runs a stub, an engine that plays these arguments, on the input and the output, and returns the exit status: 0,
 // or 1 if input or output failed.
 fn stub<R: Input, W: Output, E: Output>(
-    words: &[&str],
+    arguments: &[&str],
     input: &mut R,
     output: &mut W,
     errors: &mut E,
 ) -> u8
-    ensures { RanServer stub_response (waiting words.now) (R.seen input.old) (R.seen input.new) (W.seen output.old)
+    ensures { RanServer stub_response (waiting arguments.now) (R.seen input.old) (R.seen input.new) (W.seen output.old)
         (W.seen output.new) result }
 {
-    let mut stub = Stub::new(words);
+    let mut stub = Stub::new(arguments);
     let outcome = serve_lines(input, output, &mut stub);
     status_of(report_served(outcome, errors))
 }
@@ -189,8 +189,8 @@ fn help<W: Output, E: Output, D: Display>(
     status_of(report_help(outcome, errors))
 }
 
-// Reports why the arguments ask for nothing, and returns the exit status: help and the version go to the output, all else
-// to the error output.
+// Reports why the arguments ask for nothing, and returns the exit status: help and the version go to the output, all
+// else to the error output.
 fn report_arguments<W: Output, E: Output>(
     alloc: Global,
     fault: &WordsFault,
@@ -267,23 +267,24 @@ fn matched<P: Processes + Clock, W: Output, E: Output>(
 pub fn run_program<'a, P: Processes + Clock, R: Input, W: Output, E: Output>(
     rt: &P,
     alloc: Global,
-    words: &'a [&'a str],
+    arguments: &'a [&'a str],
     input: &mut R,
     output: &mut W,
     errors: &mut Log<E>,
 ) -> u8
-    ensures { RanProgram (map (λ w. w.now) words.entry.now) (R.seen input.old) (R.seen input.new) (W.seen output.old)
+    ensures { RanProgram (map (λ w. w.now) arguments.entry.now) (R.seen input.old) (R.seen input.new)
+        (W.seen output.old)
         (W.seen output.new) (log_seen (E.seen errors.old.output) errors.old.pending)
         (log_seen (E.seen errors.new.output) errors.new.pending) result }
 {
-    let plan = match read_words(alloc, words) {
+    let plan = match read_words(alloc, arguments) {
         Ok(plan) => plan,
         Err(fault) => return report_arguments(alloc, &fault, output, &mut errors.output),
     };
     match plan {
         Plan::Session => session(alloc, input, output, &mut errors.output),
         Plan::Verify(plan) => verified(alloc, plan, input, output, &mut errors.output),
-        Plan::Stub(words) => stub(words.as_slice(), input, output, &mut errors.output),
+        Plan::Stub(arguments) => stub(arguments.as_slice(), input, output, &mut errors.output),
         Plan::Match(plan) => matched(rt, alloc, &plan, output, errors),
     }
 }

@@ -114,7 +114,7 @@ fn collections_in_all_pieces(rt: HostRuntime) {
 fn check_two_reads(
     rt: &impl Abort,
     host: &HostRuntime,
-    words: &[&str],
+    arguments: &[&str],
     text: &'static [u8],
     at: usize,
     wanted: Wanted<'_>,
@@ -125,7 +125,7 @@ fn check_two_reads(
         inner: 0,
         back,
     };
-    run_on(host, words, parts).check(rt, wanted);
+    run_on(host, arguments, parts).check(rt, wanted);
     Ok(())
 }
 
@@ -133,12 +133,12 @@ fn check_two_reads(
 pub fn check_each_cut(
     rt: &impl Abort,
     host: &HostRuntime,
-    words: &[&str],
+    arguments: &[&str],
     text: &'static [u8],
     wanted: Wanted<'_>,
 ) -> Result<(), Fail> {
     for at in 0..=text.len() {
-        check_two_reads(rt, host, words, text, at, wanted)?;
+        check_two_reads(rt, host, arguments, text, at, wanted)?;
     }
     Ok(())
 }
@@ -195,7 +195,7 @@ fn lines_known(given: usize) -> &'static [u8] {
 pub fn check_failed_read(
     rt: &impl Abort,
     host: &HostRuntime,
-    words: &[&str],
+    arguments: &[&str],
     text: &[u8],
     given: usize,
     lines: &[u8],
@@ -210,7 +210,7 @@ pub fn check_failed_read(
         errors: b"arbiter: read failed\n",
         status: 1,
     };
-    run(host, words, text, devices).check(rt, wanted);
+    run(host, arguments, text, devices).check(rt, wanted);
 }
 
 // Exactly the lines of the pieces whose end was read are written, also where the read of the input's end fails.
@@ -227,7 +227,7 @@ fn collections_whose_reads_fail(rt: HostRuntime) {
 pub fn check_failed_write(
     rt: &impl Abort,
     host: &HostRuntime,
-    words: &[&str],
+    arguments: &[&str],
     text: &[u8],
     taken: usize,
     lines: &[u8],
@@ -242,7 +242,7 @@ pub fn check_failed_write(
         errors: b"arbiter: write failed\n",
         status: 1,
     };
-    run(host, words, text, devices).check(rt, wanted);
+    run(host, arguments, text, devices).check(rt, wanted);
     Ok(())
 }
 

@@ -10,13 +10,13 @@ type Line = (&'static [u8], &'static [u8]);
 
 /// Arguments of the program, and lines to it.
 struct Talk {
-    words: &'static [&'static str],
+    arguments: &'static [&'static str],
     lines: &'static [Line],
 }
 
 const TALKS: [Talk; 3] = [
     Talk {
-        words: &[],
+        arguments: &[],
         lines: &[
             (b"new\n", b""),
             (b"e2e4\n", b""),
@@ -30,7 +30,7 @@ const TALKS: [Talk; 3] = [
         ],
     },
     Talk {
-        words: &["session"],
+        arguments: &["session"],
         lines: &[
             (b"f3\r\n", b""),
             (b"\n", b""),
@@ -46,7 +46,7 @@ const TALKS: [Talk; 3] = [
         ],
     },
     Talk {
-        words: &["stub", "e2e4", "offer", "d2d4"],
+        arguments: &["stub", "e2e4", "offer", "d2d4"],
         lines: &[
             (b"xboard\n", b""),
             (
@@ -97,7 +97,7 @@ fn check_talk(rt: &impl Abort, host: &HostRuntime, talk: &Talk) -> Result<(), Fa
     let input = input_of(host.alloc(), talk.lines)?;
     let (answers, _) = answered(host.alloc(), talk.lines, input.len())?;
     let wanted = Wanted::without_errors(answers.as_slice(), 0);
-    check_in_all_pieces(rt, host, talk.words, input.as_slice(), wanted);
+    check_in_all_pieces(rt, host, talk.arguments, input.as_slice(), wanted);
     Ok(())
 }
 
@@ -117,12 +117,12 @@ fn check_beginning(
     answers: &[u8],
     is_cut: bool,
 ) -> Result<(), Fail> {
-    let behind = outcome
+    let further = outcome
         .output
         .strip_prefix(answers)
         .ok_or("the answers to whole lines")?;
-    let lines = behind.iter().filter(|byte| **byte == b'\n').count();
-    assert!(rt; lines <= 2 && (is_cut || behind.is_empty()));
+    let lines = further.iter().filter(|byte| **byte == b'\n').count();
+    assert!(rt; lines <= 2 && (is_cut || further.is_empty()));
     is_equal(rt, &outcome.errors.as_slice(), &b"".as_slice());
     is_equal(rt, &outcome.status, &0);
     Ok(())
@@ -138,7 +138,7 @@ fn check_cut(
 ) -> Result<(), Fail> {
     let (answers, read) = answered(host.alloc(), talk.lines, given)?;
     let front = input.get(..given).ok_or("a beginning")?;
-    let outcome = run(host, talk.words, front, SOUND);
+    let outcome = run(host, talk.arguments, front, SOUND);
     check_beginning(rt, &outcome, answers.as_slice(), read < given)
 }
 
@@ -180,7 +180,7 @@ fn check_failed_read(
         errors: READ_FAILED,
         status: 1,
     };
-    run(host, talk.words, input, devices).check(rt, wanted);
+    run(host, talk.arguments, input, devices).check(rt, wanted);
     Ok(())
 }
 
@@ -215,7 +215,7 @@ fn check_taken(rt: &impl Abort, outcome: &Outcome, answers: &[u8]) {
 fn check_each_write(
     rt: &impl Abort,
     host: &HostRuntime,
-    words: &[&str],
+    arguments: &[&str],
     input: &[u8],
     answers: &[u8],
 ) {
@@ -226,7 +226,7 @@ fn check_each_write(
             write_fails: call,
             ..SOUND
         };
-        let outcome = run(host, words, input, devices);
+        let outcome = run(host, arguments, input, devices);
         check_taken(rt, &outcome, answers);
         assert!(rt; outcome.output.len() >= taken_before);
         taken_before = outcome.output.len();
@@ -241,7 +241,13 @@ fn check_each_write(
 fn check_failed_writes(rt: &impl Abort, host: &HostRuntime, talk: &Talk) -> Result<(), Fail> {
     let input = input_of(host.alloc(), talk.lines)?;
     let (answers, _) = answered(host.alloc(), talk.lines, input.len())?;
-    check_each_write(rt, host, talk.words, input.as_slice(), answers.as_slice());
+    check_each_write(
+        rt,
+        host,
+        talk.arguments,
+        input.as_slice(),
+        answers.as_slice(),
+    );
     Ok(())
 }
 
@@ -263,7 +269,7 @@ fn check_nothing_taken(rt: &impl Abort, host: &HostRuntime, talk: &Talk) -> Resu
         errors: WRITE_FAILED,
         status: 1,
     };
-    run(host, talk.words, input.as_slice(), devices).check(rt, wanted);
+    run(host, talk.arguments, input.as_slice(), devices).check(rt, wanted);
     Ok(())
 }
 

@@ -14,14 +14,14 @@ use std::{env, fs};
 #[test]
 fn acts_as_the_program(rt: HostRuntime) -> Result<(), Fail> {
     let owned = env::args(&rt)?.skip(2).collect::<Vec<String>>(rt.alloc())?;
-    let mut words = Vec::new(rt.alloc());
-    for word in &owned {
-        words.push(word.as_str())?;
+    let mut arguments = Vec::new(rt.alloc());
+    for argument in &owned {
+        arguments.push(argument.as_str())?;
     }
     let _status = run_program(
         &rt,
         rt.alloc(),
-        words.as_slice(),
+        arguments.as_slice(),
         &mut Counted::reading(rt.stdin()),
         &mut Counted::writing(rt.stdout()),
         &mut Log::new(Counted::writing(rt.stderr())),
@@ -30,7 +30,7 @@ fn acts_as_the_program(rt: HostRuntime) -> Result<(), Fail> {
 }
 
 // The command of a stub that plays these arguments.
-fn stub(rt: &HostRuntime, words: &str) -> Result<String, Fail> {
+fn stub(rt: &HostRuntime, arguments: &str) -> Result<String, Fail> {
     let program = env::args(rt)?.next().ok_or("the program's name")?;
     Ok(format!(in rt.alloc(); "{program} engines::acts_as_the_program stub {words}")?)
 }
@@ -113,20 +113,20 @@ const PLAYED: [Played; 7] = [
 ];
 
 // The arguments of a match between these commands.
-fn words_of<'a>(
+fn arguments_of<'a>(
     alloc: Global,
     white: &'a str,
     black: &'a str,
     others: &[&'static str],
 ) -> Result<Vec<&'a str>, Fail> {
-    let mut words = Vec::new(alloc);
-    for word in ["match", "--white", white, "--black", black] {
-        words.push(word)?;
+    let mut arguments = Vec::new(alloc);
+    for argument in ["match", "--white", white, "--black", black] {
+        arguments.push(argument)?;
     }
-    for word in others {
-        words.push(*word)?;
+    for argument in others {
+        arguments.push(*argument)?;
     }
-    Ok(words)
+    Ok(arguments)
 }
 
 // Plays a match over processes between stubs that play these arguments.
@@ -140,8 +140,8 @@ fn play_stubs(
 ) -> Result<Outcome, Fail> {
     let white = stub(rt, white)?;
     let black = stub(rt, black)?;
-    let words = words_of(rt.alloc(), white.as_str(), black.as_str(), others)?;
-    Ok(run(rt, words.as_slice(), input, devices))
+    let arguments = arguments_of(rt.alloc(), white.as_str(), black.as_str(), others)?;
+    Ok(run(rt, arguments.as_slice(), input, devices))
 }
 
 // Plays a match over processes.
@@ -274,19 +274,25 @@ fn engines_leave_nothing_behind(rt: HostRuntime) -> Result<(), Fail> {
 }
 
 // Asserts that a match ends before a game, with that report.
-fn check_early_end(rt: &impl Abort, host: &HostRuntime, words: &[&str], errors: &[u8], status: u8) {
+fn check_early_end(
+    rt: &impl Abort,
+    host: &HostRuntime,
+    arguments: &[&str],
+    errors: &[u8],
+    status: u8,
+) {
     let wanted = Wanted {
         output: b"",
         errors,
         status,
     };
-    run(host, words, b"", SOUND).check(rt, wanted);
+    run(host, arguments, b"", SOUND).check(rt, wanted);
 }
 
 // Asserts that a match between these commands can not start, with that report.
 fn check_no_start(rt: &impl Abort, host: &HostRuntime, white: &str, black: &str, errors: &[u8]) {
-    let words = ["match", "--white", white, "--black", black];
-    check_early_end(rt, host, &words, errors, 1);
+    let arguments = ["match", "--white", white, "--black", black];
+    check_early_end(rt, host, &arguments, errors, 1);
 }
 
 #[test]
@@ -348,8 +354,8 @@ const OUT_OF_FORM: [(&[&str], &[u8]); 4] = [
 
 #[test]
 fn matches_out_of_form(rt: HostRuntime) {
-    for (words, errors) in &OUT_OF_FORM {
-        check_early_end(&rt, &rt, words, errors, 2);
+    for (arguments, errors) in &OUT_OF_FORM {
+        check_early_end(&rt, &rt, arguments, errors, 2);
     }
 }
 
@@ -368,7 +374,7 @@ fn check_broken(rt: &impl Abort, broken: &Outcome, whole: &[u8]) {
 fn play_failed(
     rt: &impl Abort,
     host: &HostRuntime,
-    words: &[&str],
+    arguments: &[&str],
     whole: &[u8],
     write_fails: u64,
 ) {
@@ -377,13 +383,13 @@ fn play_failed(
         write_fails,
         ..SOUND
     };
-    check_broken(rt, &run(host, words, b"", devices), whole);
+    check_broken(rt, &run(host, arguments, b"", devices), whole);
 }
 
 // Plays a match whose output fails at each of its calls.
-fn play_broken(rt: &impl Abort, host: &HostRuntime, words: &[&str], whole: &[u8]) {
+fn play_broken(rt: &impl Abort, host: &HostRuntime, arguments: &[&str], whole: &[u8]) {
     for write_fails in 1..=6 {
-        play_failed(rt, host, words, whole, write_fails);
+        play_failed(rt, host, arguments, whole, write_fails);
     }
 }
 
@@ -391,10 +397,10 @@ fn play_broken(rt: &impl Abort, host: &HostRuntime, words: &[&str], whole: &[u8]
 #[test]
 fn a_match_on_a_failed_output(rt: HostRuntime) -> Result<(), Fail> {
     let stub = stub(&rt, "")?;
-    let words = words_of(rt.alloc(), stub.as_str(), stub.as_str(), &["--games", "2"])?;
-    let whole = run(&rt, words.as_slice(), b"", SOUND);
+    let arguments = arguments_of(rt.alloc(), stub.as_str(), stub.as_str(), &["--games", "2"])?;
+    let whole = run(&rt, arguments.as_slice(), b"", SOUND);
     is_equal(&rt, &whole.status, &0);
-    play_broken(&rt, &rt, words.as_slice(), whole.output.as_slice());
+    play_broken(&rt, &rt, arguments.as_slice(), whole.output.as_slice());
     Ok(())
 }
 
@@ -403,13 +409,13 @@ fn a_match_on_a_failed_output(rt: HostRuntime) -> Result<(), Fail> {
 fn a_failed_output_after_a_fault(rt: HostRuntime) -> Result<(), Fail> {
     let white = stub(&rt, "end")?;
     let black = stub(&rt, "")?;
-    let words = words_of(rt.alloc(), white.as_str(), black.as_str(), &[])?;
-    let whole = run(&rt, words.as_slice(), b"", SOUND);
+    let arguments = arguments_of(rt.alloc(), white.as_str(), black.as_str(), &[])?;
+    let whole = run(&rt, arguments.as_slice(), b"", SOUND);
     for write_fails in 1..=4 {
         play_failed(
             &rt,
             &rt,
-            words.as_slice(),
+            arguments.as_slice(),
             whole.output.as_slice(),
             write_fails,
         );
@@ -429,9 +435,9 @@ const BY_NAMELESS: &str =
 #[test]
 fn an_engine_without_a_name(rt: HostRuntime) -> Result<(), Fail> {
     let white = stub(&rt, "")?;
-    let words = words_of(rt.alloc(), white.as_str(), NAMELESS, &[])?;
+    let arguments = arguments_of(rt.alloc(), white.as_str(), NAMELESS, &[])?;
     let wanted = Wanted::without_errors(BY_NAMELESS.as_bytes(), 0);
-    run(&rt, words.as_slice(), b"", SOUND).check(&rt, wanted);
+    run(&rt, arguments.as_slice(), b"", SOUND).check(&rt, wanted);
     Ok(())
 }
 
@@ -464,7 +470,7 @@ fn moments_rise(rt: HostRuntime) {
 // Runs of a stub over memory.
 const STUB_RUNS: [ProgramRun; 13] = [
     ProgramRun {
-        words: &["stub", "e2e4", "offer"],
+        arguments: &["stub", "e2e4", "offer"],
         input: b"protover 2\nping 3\ngo\nusermove e7e5\n",
         fails: (0, 0),
         output: b"feature ping=1 setboard=1 usermove=1 myname=\"stub\" done=1\npong 3\nmove e2e4\noffer draw\nresign\n",
@@ -472,7 +478,7 @@ const STUB_RUNS: [ProgramRun; 13] = [
         status: 0,
     },
     ProgramRun {
-        words: &["stub"],
+        arguments: &["stub"],
         input: b"xboard\nnew\nusermove e2e4\nforce\nlevel 40 5 0\ntime 3\ndraw\n\nping x\nusermove\nundo\n?\nresult * {x}\n",
         fails: (0, 0),
         output: b"",
@@ -481,7 +487,7 @@ const STUB_RUNS: [ProgramRun; 13] = [
     },
     // It plays from `go` on, up to `new` or `force`.
     ProgramRun {
-        words: &["stub", "a", "b", "c"],
+        arguments: &["stub", "a", "b", "c"],
         input: b"usermove x\ngo\nusermove x\nforce\nusermove x\ngo\nnew\nusermove x\ngo\n",
         fails: (0, 0),
         output: b"move a\nmove b\nmove c\nresign\n",
@@ -490,7 +496,7 @@ const STUB_RUNS: [ProgramRun; 13] = [
     },
     // `usermove` without a move is one of the other side too.
     ProgramRun {
-        words: &["stub", "a", "b"],
+        arguments: &["stub", "a", "b"],
         input: b"usermove\ngo\nusermove\n usermove \nusermoves\nforce\nusermove\n",
         fails: (0, 0),
         output: b"move a\nmove b\nresign\n",
@@ -498,7 +504,7 @@ const STUB_RUNS: [ProgramRun; 13] = [
         status: 0,
     },
     ProgramRun {
-        words: &[
+        arguments: &[
             "stub", "e2e4", "claim", "offer", "claim", "offers", "resign", "offer",
         ],
         input: b"go\r\n usermove x \nusermove x\nusermove x\n",
@@ -508,7 +514,7 @@ const STUB_RUNS: [ProgramRun; 13] = [
         status: 0,
     },
     ProgramRun {
-        words: &["stub", "end", "e2e4"],
+        arguments: &["stub", "end", "e2e4"],
         input: b"go\nping 1\n",
         fails: (0, 0),
         output: b"mov",
@@ -516,7 +522,7 @@ const STUB_RUNS: [ProgramRun; 13] = [
         status: 0,
     },
     ProgramRun {
-        words: &["stub", "e2e4"],
+        arguments: &["stub", "e2e4"],
         input: b"quit\ngo\n",
         fails: (0, 0),
         output: b"",
@@ -524,7 +530,7 @@ const STUB_RUNS: [ProgramRun; 13] = [
         status: 0,
     },
     ProgramRun {
-        words: &["stub"],
+        arguments: &["stub"],
         input: b"ping 007",
         fails: (0, 0),
         output: b"pong 7\n",
@@ -533,7 +539,7 @@ const STUB_RUNS: [ProgramRun; 13] = [
     },
     // The first argument is played, whatever it is; it is longer than a line that is put together.
     ProgramRun {
-        words: &["stub", "0123456789012345678901234567890123456789"],
+        arguments: &["stub", "0123456789012345678901234567890123456789"],
         input: b"go\n",
         fails: (0, 0),
         output: b"move 0123456789012345678901234567890123456789\n",
@@ -541,7 +547,7 @@ const STUB_RUNS: [ProgramRun; 13] = [
         status: 0,
     },
     ProgramRun {
-        words: &["stub", "offer"],
+        arguments: &["stub", "offer"],
         input: b"go\n",
         fails: (0, 0),
         output: b"move offer\n",
@@ -549,7 +555,7 @@ const STUB_RUNS: [ProgramRun; 13] = [
         status: 0,
     },
     ProgramRun {
-        words: &["stub", "e2e4"],
+        arguments: &["stub", "e2e4"],
         input: b"ping 1\nping 2\ngo\n",
         fails: (2, 0),
         output: b"pong 1\npong 2\nmove e2e4\n",
@@ -557,7 +563,7 @@ const STUB_RUNS: [ProgramRun; 13] = [
         status: 1,
     },
     ProgramRun {
-        words: &["stub", "e2e4"],
+        arguments: &["stub", "e2e4"],
         input: b"ping 1\nping 2\ngo\n",
         fails: (0, 3),
         output: b"pong 1\n",
@@ -565,7 +571,7 @@ const STUB_RUNS: [ProgramRun; 13] = [
         status: 1,
     },
     ProgramRun {
-        words: &["stub", "e2e4"],
+        arguments: &["stub", "e2e4"],
         input: b"ping 1\nping 2\ngo\n",
         fails: (0, 4),
         output: b"pong 1\npong 2\n",

@@ -136,8 +136,8 @@ const KINDS: [(&[&str], &[u8], &[u8], u8); 20] = [
 
 #[test]
 fn faults_are_explained(rt: HostRuntime) {
-    for (words, text, lines, status) in &KINDS {
-        check_output(&rt, &rt, words, text, SOUND, lines, *status);
+    for (arguments, text, lines, status) in &KINDS {
+        check_output(&rt, &rt, arguments, text, SOUND, lines, *status);
     }
 }
 
@@ -294,9 +294,9 @@ const PLACES: [(&[&str], &[u8], &[u8], u8); 23] = [
 
 #[test]
 fn places_in_all_pieces(rt: HostRuntime) {
-    for (words, text, lines, status) in &PLACES {
+    for (arguments, text, lines, status) in &PLACES {
         let wanted = Wanted::without_errors(lines, *status);
-        check_in_all_pieces(&rt, &rt, words, text, wanted);
+        check_in_all_pieces(&rt, &rt, arguments, text, wanted);
     }
 }
 

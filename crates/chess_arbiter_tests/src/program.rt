@@ -8,7 +8,7 @@ use std::test::Fail;
 
 const RUNS: [ProgramRun; 21] = [
     ProgramRun {
-        words: &[],
+        arguments: &[],
         input: b"new\ne2e4\nping 7\nundo\nshowfen\nquit\nshowfen\n",
         fails: (0, 0),
         output: b"pong 7\n# fen rnbqkbnr/pppppppp/8/8/8/8/PPPPPPPP/RNBQKBNR w KQkq - 0 1\n",
@@ -16,7 +16,7 @@ const RUNS: [ProgramRun; 21] = [
         status: 0,
     },
     ProgramRun {
-        words: &[],
+        arguments: &[],
         input: b"",
         fails: (0, 0),
         output: b"",
@@ -24,7 +24,7 @@ const RUNS: [ProgramRun; 21] = [
         status: 0,
     },
     ProgramRun {
-        words: &["session"],
+        arguments: &["session"],
         input: b"ping 7",
         fails: (0, 0),
         output: b"pong 7\n",
@@ -32,7 +32,7 @@ const RUNS: [ProgramRun; 21] = [
         status: 0,
     },
     ProgramRun {
-        words: &["session", "session"],
+        arguments: &["session", "session"],
         input: b"ping 7\n",
         fails: (0, 0),
         output: b"",
@@ -40,7 +40,7 @@ const RUNS: [ProgramRun; 21] = [
         status: 2,
     },
     ProgramRun {
-        words: &["help"],
+        arguments: &["help"],
         input: b"ping 7\n",
         fails: (0, 0),
         output: b"",
@@ -48,7 +48,7 @@ const RUNS: [ProgramRun; 21] = [
         status: 2,
     },
     ProgramRun {
-        words: &["--version"],
+        arguments: &["--version"],
         input: b"ping 7\n",
         fails: (0, 0),
         output: b"arbiter 0.1.0\n",
@@ -56,7 +56,7 @@ const RUNS: [ProgramRun; 21] = [
         status: 0,
     },
     ProgramRun {
-        words: &[""],
+        arguments: &[""],
         input: b"ping 7\n",
         fails: (0, 0),
         output: b"",
@@ -64,7 +64,7 @@ const RUNS: [ProgramRun; 21] = [
         status: 2,
     },
     ProgramRun {
-        words: &[],
+        arguments: &[],
         input: b"ping 1\nping 2",
         fails: (2, 0),
         output: b"pong 1\n",
@@ -72,7 +72,7 @@ const RUNS: [ProgramRun; 21] = [
         status: 1,
     },
     ProgramRun {
-        words: &[],
+        arguments: &[],
         input: b"ping 1\nping 2\n",
         fails: (0, 3),
         output: b"pong 1\n",
@@ -80,7 +80,7 @@ const RUNS: [ProgramRun; 21] = [
         status: 1,
     },
     ProgramRun {
-        words: &["verify"],
+        arguments: &["verify"],
         input: b"1. e4 *",
         fails: (2, 0),
         output: b"",
@@ -88,7 +88,7 @@ const RUNS: [ProgramRun; 21] = [
         status: 1,
     },
     ProgramRun {
-        words: &["verify"],
+        arguments: &["verify"],
         input: b"1. e4 *",
         fails: (0, 1),
         output: b"",
@@ -97,7 +97,7 @@ const RUNS: [ProgramRun; 21] = [
     },
     // The second line's write, and the flush at the end.
     ProgramRun {
-        words: &["verify"],
+        arguments: &["verify"],
         input: b"* *",
         fails: (0, 2),
         output: b"game 1: 0 half-moves, *\n",
@@ -105,7 +105,7 @@ const RUNS: [ProgramRun; 21] = [
         status: 1,
     },
     ProgramRun {
-        words: &["verify"],
+        arguments: &["verify"],
         input: b"1. e4 *",
         fails: (0, 2),
         output: b"game 1: 1 half-moves, *\n",
@@ -113,7 +113,7 @@ const RUNS: [ProgramRun; 21] = [
         status: 1,
     },
     ProgramRun {
-        words: &["verify", "x"],
+        arguments: &["verify", "x"],
         input: b"*",
         fails: (0, 0),
         output: b"",
@@ -122,7 +122,7 @@ const RUNS: [ProgramRun; 21] = [
     },
     // The line of the counts, and the flush after it.
     ProgramRun {
-        words: &["verify", "--keep-going", "--quiet"],
+        arguments: &["verify", "--keep-going", "--quiet"],
         input: b"1. e4 *",
         fails: (0, 1),
         output: b"",
@@ -130,7 +130,7 @@ const RUNS: [ProgramRun; 21] = [
         status: 1,
     },
     ProgramRun {
-        words: &["verify", "--keep-going", "--quiet"],
+        arguments: &["verify", "--keep-going", "--quiet"],
         input: b"1. e4 *",
         fails: (0, 2),
         output: b"games 1 half-moves 1 faults 0\n",
@@ -138,7 +138,7 @@ const RUNS: [ProgramRun; 21] = [
         status: 1,
     },
     ProgramRun {
-        words: &["verify", "--keep-going"],
+        arguments: &["verify", "--keep-going"],
         input: b"1. e4 *",
         fails: (2, 0),
         output: b"",
@@ -146,7 +146,7 @@ const RUNS: [ProgramRun; 21] = [
         status: 1,
     },
     ProgramRun {
-        words: &["verify", "--strict"],
+        arguments: &["verify", "--strict"],
         input: b"* *",
         fails: (0, 2),
         output: b"game 1: 0 half-moves, *\n",
@@ -155,7 +155,7 @@ const RUNS: [ProgramRun; 21] = [
     },
     // The line of a fault, and the flush after the counts.
     ProgramRun {
-        words: &["verify", "--strict", "--quiet"],
+        arguments: &["verify", "--strict", "--quiet"],
         input: b"1. e5 *",
         fails: (0, 1),
         output: b"",
@@ -163,7 +163,7 @@ const RUNS: [ProgramRun; 21] = [
         status: 1,
     },
     ProgramRun {
-        words: &["verify", "--strict", "--keep-going"],
+        arguments: &["verify", "--strict", "--keep-going"],
         input: b"1. e4 *",
         fails: (0, 3),
         output: b"game 1: 1 half-moves, *\ngames 1 half-moves 1 faults 0\n",
@@ -172,7 +172,7 @@ const RUNS: [ProgramRun; 21] = [
     },
     // The flush of the first answer.
     ProgramRun {
-        words: &["session"],
+        arguments: &["session"],
         input: b"ping 1\nping 2\n",
         fails: (0, 2),
         output: b"pong 1\n",
@@ -290,8 +290,8 @@ fn check_help(rt: &impl Abort, outcome: &Outcome, named: &[&str]) -> Result<(), 
 
 #[test]
 fn help_names_the_options(rt: HostRuntime) -> Result<(), Fail> {
-    for (words, named) in &HELP {
-        check_help(&rt, &run(&rt, words, b"ping 1\n", SOUND), named)?;
+    for (arguments, named) in &HELP {
+        check_help(&rt, &run(&rt, arguments, b"ping 1\n", SOUND), named)?;
     }
     Ok(())
 }
@@ -316,7 +316,7 @@ const FAULTS: [(ProgramFault, &str, u8); 4] = [
     (ProgramFault::ReadFailed, "read failed", 1),
     (ProgramFault::WriteFailed, "write failed", 1),
     (ProgramFault::NoMemory, "no memory", 1),
-    (ProgramFault::WrongWords, "wrong words", 2),
+    (ProgramFault::InvalidArguments, "wrong words", 2),
 ];
 
 #[test]

@@ -61,11 +61,18 @@ impl Read for Parts {
 }
 
 /// Runs the program on what a reader gives, with output and error output in memory.
-pub fn run_on<R: Read + Drop>(rt: &HostRuntime, words: &[&str], reader: R) -> Outcome {
+pub fn run_on<R: Read + Drop>(rt: &HostRuntime, arguments: &[&str], reader: R) -> Outcome {
     let mut input = Counted::reading(reader);
     let mut output = Counted::writing(Vec::<u8>::new(rt.alloc()));
     let mut errors = Log::new(Counted::writing(Vec::<u8>::new(rt.alloc())));
-    let status = run_program(rt, rt.alloc(), words, &mut input, &mut output, &mut errors);
+    let status = run_program(
+        rt,
+        rt.alloc(),
+        arguments,
+        &mut input,
+        &mut output,
+        &mut errors,
+    );
     Outcome {
         output: output.into_writer(),
         errors: errors.into_output().into_writer(),

@@ -63,7 +63,7 @@ pub struct Outcome {
 }
 
 /// Runs the program over memory. Its contract stays in here: tests compare values.
-pub fn run(rt: &HostRuntime, words: &[&str], input: &[u8], devices: Devices) -> Outcome {
+pub fn run(rt: &HostRuntime, arguments: &[&str], input: &[u8], devices: Devices) -> Outcome {
     let mut reader = Counted::reading(PieceReader::new(
         input,
         devices.piece.max(1),
@@ -79,7 +79,14 @@ pub fn run(rt: &HostRuntime, words: &[&str], input: &[u8], devices: Devices) -> 
         1024,
         devices.errors_fail,
     )));
-    let status = run_program(rt, rt.alloc(), words, &mut reader, &mut output, &mut errors);
+    let status = run_program(
+        rt,
+        rt.alloc(),
+        arguments,
+        &mut reader,
+        &mut output,
+        &mut errors,
+    );
     Outcome {
         output: output.into_writer().bytes,
         errors: errors.into_output().into_writer().bytes,
@@ -100,19 +107,19 @@ impl Outcome {
 pub fn check_output(
     rt: &impl Abort,
     host: &HostRuntime,
-    words: &[&str],
+    arguments: &[&str],
     input: &[u8],
     devices: Devices,
     output: &[u8],
     status: u8,
 ) {
-    run(host, words, input, devices).check(rt, Wanted::without_errors(output, status));
+    run(host, arguments, input, devices).check(rt, Wanted::without_errors(output, status));
 }
 
-/// A run of the program over memory: its arguments and its input, the calls of the input and of the output that fail (0:
-/// none does), what it is to write, and its status.
+/// A run of the program over memory: its arguments and its input, the calls of the input and of the output that fail
+/// (0: none does), what it is to write, and its status.
 pub struct ProgramRun {
-    pub words: &'static [&'static str],
+    pub arguments: &'static [&'static str],
     pub input: &'static [u8],
     pub fails: (u64, u64),
     pub output: &'static [u8],
@@ -133,7 +140,7 @@ impl ProgramRun {
             errors: self.errors,
             status: self.status,
         };
-        run(host, self.words, self.input, devices).check(rt, wanted);
+        run(host, self.arguments, self.input, devices).check(rt, wanted);
     }
 }
 
@@ -147,7 +154,7 @@ pub fn is_text(rt: &impl Abort, text: &[u8], wanted: &str) -> Result<(), Fail> {
 pub fn check_in_all_pieces(
     rt: &impl Abort,
     host: &HostRuntime,
-    words: &[&str],
+    arguments: &[&str],
     input: &[u8],
     wanted: Wanted<'_>,
 ) {
@@ -158,7 +165,7 @@ pub fn check_in_all_pieces(
                 taken,
                 ..SOUND
             };
-            run(host, words, input, devices).check(rt, wanted);
+            run(host, arguments, input, devices).check(rt, wanted);
         }
     }
 }

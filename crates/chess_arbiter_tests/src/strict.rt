@@ -175,7 +175,7 @@ const COLLECTION: &[u8] =
     b"[Event \"a\"]\n[Result \"1-0\"]\n1. e4 0-1 1. d4 *\n[Event \"b\"]\n1. f3 e5 2. g4 Qh4 * 1. d4 *\n[Event \"c\"]\n1. d4 *\n";
 
 // Arguments, and what is written of the collection.
-const BY_WORDS: [(&[&str], &[u8]); 4] = [
+const BY_ARGUMENTS: [(&[&str], &[u8]); 4] = [
     (
         &["verify", "--strict", "--keep-going"],
         b"game 1: result differs at byte 21\ngame 2: board says otherwise at byte 76\ngame 3: 1 half-moves, *\ngames 1 half-moves 1 faults 2\n",
@@ -196,7 +196,7 @@ const BY_WORDS: [(&[&str], &[u8]); 4] = [
 
 #[test]
 fn contradictions_end_their_piece(rt: HostRuntime) {
-    for (words, lines) in &BY_WORDS {
-        check_output(&rt, &rt, words, COLLECTION, SOUND, lines, 1);
+    for (arguments, lines) in &BY_ARGUMENTS {
+        check_output(&rt, &rt, arguments, COLLECTION, SOUND, lines, 1);
     }
 }

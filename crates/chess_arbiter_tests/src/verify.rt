@@ -118,7 +118,7 @@ fn more_than_16_mebibytes_are_too_long(rt: HostRuntime) {
 }
 
 // Texts as they are verified by options of `verify`: what is reported, and the status.
-const BY_WORDS: [(&[&str], &[u8], &[u8], u8); 13] = [
+const BY_ARGUMENTS: [(&[&str], &[u8], &[u8], u8); 13] = [
     (
         &["verify", "--keep-going"],
         COLLECTION,
@@ -200,10 +200,10 @@ const BY_WORDS: [(&[&str], &[u8], &[u8], u8); 13] = [
 
 #[test]
 fn games_verified_by_arguments(rt: HostRuntime) {
-    for (words, text, output, status) in &BY_WORDS {
+    for (arguments, text, output, status) in &BY_ARGUMENTS {
         for piece in [1, 7, 100] {
             let devices = Devices { piece, ..SOUND };
-            check_output(&rt, &rt, words, text, devices, output, *status);
+            check_output(&rt, &rt, arguments, text, devices, output, *status);
         }
     }
 }
@@ -264,23 +264,23 @@ const LONG: [(&[&str], &[u8], usize, &[u8], &[u8], u8); 6] = [
 fn check_long(
     rt: &impl Abort,
     host: &HostRuntime,
-    words: &[&str],
+    arguments: &[&str],
     text: Parts,
     lines: &[u8],
     status: u8,
 ) {
-    let outcome = run_on(host, words, text);
+    let outcome = run_on(host, arguments, text);
     assert!(rt; outcome.output.as_slice() == lines && outcome.status == status);
 }
 
 #[test]
 fn texts_with_long_comments(rt: HostRuntime) {
-    for (words, front, inner, back, lines, status) in &LONG {
+    for (arguments, front, inner, back, lines, status) in &LONG {
         let text = Parts {
             front,
             inner: *inner,
             back,
         };
-        check_long(&rt, &rt, words, text, lines, *status);
+        check_long(&rt, &rt, arguments, text, lines, *status);
     }
 }

@@ -59,7 +59,8 @@ setboard_on s (Err fault) = refl
 result_on : (s : State) (text : List ℕ) (d : Option Declared) → GoesOn (result_row s text d)
 result_on s text None = refl
 result_on s text (Some d) =
-    by_test (contradicts_verdict (verdict_now s) d.outcome) (refuses s (codes "Error (the board says otherwise): ") text)
+    by_test (contradicts_verdict (verdict_now s) d.outcome)
+    (refuses s (codes "Error (the board says otherwise): ") text)
     (becomes (with_declared s (Some d))) refl refl
 
 claimed_on : (s : State) (c : Claims) → GoesOn (claimed s c)

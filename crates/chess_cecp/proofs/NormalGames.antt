@@ -85,7 +85,8 @@ counted : (q : Setup) → q.variant ≡ Normal → (p : Setup) → p.variant ≡
 counted q h p e [] =
     counted_one (λ x. is_same_position x q) (λ x. normal_same x q) p [] [] (same_kept p q e h) refl
 counted q h p e (m ∷ ms) =
-    counted_one (λ x. is_same_position x q) (λ x. normal_same x q) p (positions_of (after p m) ms) (normal_line (normal_after p m) ms)
+    counted_one (λ x. is_same_position x q) (λ x. normal_same x q) p (positions_of (after p m) ms)
+    (normal_line (normal_after p m) ms)
     (same_kept p q e h)
     (counted q h (after p m) (stays p m ∙ e) ms
     ∙ ap (λ r. count_by (λ x. normal_same x q) (normal_line r ms)) ((rules_kept p e).after m))
@@ -110,13 +111,15 @@ judged p ms n =
 pub verdict_kept : (p : Setup) → p.variant ≡ Normal → (ms : List Move) → verdict p ms ≡ normal_verdict p ms
 unfolding verdict normal_verdict judged
 verdict_kept p e ms =
-    ap (λ all. judged (position_after p ms) all (repetition_count p ms)) (texts_kept (position_after p ms) (last_stays p ms ∙ e)).moves
+    ap (λ all. judged (position_after p ms) all (repetition_count p ms))
+    (texts_kept (position_after p ms) (last_stays p ms ∙ e)).moves
     ∙ ap (λ q. judged q (normal_moves q) (repetition_count p ms)) (last_kept p e ms)
     ∙ ap (judged (normal_last p ms) (normal_moves (normal_last p ms))) (rep_kept p e ms)
 
 pub claims_kept : (p : Setup) → p.variant ≡ Normal → (ms : List Move) → claims p ms ≡ normal_claims p ms
 claims_kept p e ms =
-    ap (λ (n : ℕ). record { threefold = nat_le 3 n; fifty_moves = nat_le 100 (position_after p ms).halfmove }) (rep_kept p e ms)
+    ap (λ (n : ℕ). record { threefold = nat_le 3 n; fifty_moves = nat_le 100 (position_after p ms).halfmove })
+    (rep_kept p e ms)
     ∙ ap (λ (q : Setup). record { threefold = nat_le 3 (normal_rep p ms); fifty_moves = nat_le 100 q.halfmove })
     (last_kept p e ms)
 

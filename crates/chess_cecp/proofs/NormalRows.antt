@@ -29,7 +29,7 @@ use Rattle.chess_cecp.specs.declared.command.Command.{Command}
 use Rattle.chess_cecp.specs.declared.command.Command.TheVariants.{New, SetBoard, UserMove, BareMove, Undo, Remove, Declare, Claim, Ping, Protover, Variant, Go, ShowFen, ShowMoves, ShowState, ShowPgn, Quit, Silent, BadNumber, Unknown}
 use Rattle.chess_cecp.specs.Declaring.{read_result, claims_text, verdict_text, declared_text, state_text}
 use Rattle.chess_cecp.specs.Session.{row, says, refuses, becomes, becomes_judged, verdict_line, setboard_row, reading_row, move_row, result_row, claimed, claim_row, moves_line, joined_line}
-use Rattle.chess_cecp.specs.laws.Normal.{normal_becomes_judged, normal_setboard_row, normal_reading_row, normal_move_row, normal_result_row, normal_claim_row, normal_moves_line, normal_state_text, normal_row_of, keeps_its_row}
+use Rattle.chess_cecp.specs.laws.Normal.{normal_becomes_judged, normal_setboard_row, normal_reading_row, normal_move_row, normal_result_row, normal_claim_row, normal_moves_line, normal_state_text, normal_row_of, has_normal_row}
 use Rattle.chess_cecp.specs.laws.NormalGame.{normal_current, normal_rep, normal_claims, normal_is_over}
 use Rattle.chess_cecp.proofs.NormalGames.{initial_kept, last_stays, last_kept, rep_kept, verdict_kept, claims_kept, over_kept, pgn_kept}
 
@@ -115,26 +115,26 @@ moves_shown s e =
     ∙ ap normal_moves_line ((texts_kept (current s) normal).moves ∙ ap normal_moves (last_kept s.start e s.moves))
 
 -- the text of a state, by what it shows
-told : State → ℕ → Setup → Claims → Option Verdict → List ℕ
-told s n p c v =
+state_line : State → ℕ → Setup → Claims → Option Verdict → List ℕ
+state_line s n p c v =
     decimal (length s.moves)
     ++ (codes " rep " ++ (decimal n ++ (codes " clock " ++ (decimal p.halfmove
     ++ (codes " claims " ++ (claims_text c ++ (codes " verdict " ++ (verdict_text v
     ++ (codes " declared " ++ declared_text s.declared)))))))))
 
 state_kept : (s : State) → s.start.variant ≡ Normal → state_text s ≡ normal_state_text s
-unfolding state_text normal_state_text told
+unfolding state_text normal_state_text state_line
 state_kept s e =
-    ap (λ n. told s n (current s) (claims s.start s.moves) (verdict_now s)) (rep_kept s.start e s.moves)
-    ∙ ap (λ p. told s (normal_rep s.start s.moves) p (claims s.start s.moves) (verdict_now s))
+    ap (λ n. state_line s n (current s) (claims s.start s.moves) (verdict_now s)) (rep_kept s.start e s.moves)
+    ∙ ap (λ p. state_line s (normal_rep s.start s.moves) p (claims s.start s.moves) (verdict_now s))
     (last_kept s.start e s.moves)
-    ∙ ap (λ c. told s (normal_rep s.start s.moves) (normal_current s) c (verdict_now s))
+    ∙ ap (λ c. state_line s (normal_rep s.start s.moves) (normal_current s) c (verdict_now s))
     (claims_kept s.start e s.moves)
-    ∙ ap (told s (normal_rep s.start s.moves) (normal_current s) (normal_claims s.start s.moves))
+    ∙ ap (state_line s (normal_rep s.start s.moves) (normal_current s) (normal_claims s.start s.moves))
     (verdict_kept s.start e s.moves)
 
 pub normal_rows : (tags : Tags) (limit : ℕ) (s : State) (text argument : List ℕ) (command : Command)
-    → s.start.variant ≡ Normal → keeps_its_row command ≡ true →
+    → s.start.variant ≡ Normal → has_normal_row command ≡ true →
     row tags limit s text argument command ≡ normal_row_of tags limit s text argument command
 normal_rows tags limit s text argument New e h = ap (λ start. becomes (from_start start)) initial_kept
 normal_rows tags limit s text argument SetBoard e h = set_kept s e argument

@@ -90,7 +90,8 @@ setboard_keeps s (Err fault) = λ h. refl
 result_keeps : (s : State) (text : List ℕ) (d : Option Declared) → KeepsRefused s (result_row s text d)
 result_keeps s text None = λ h. refl
 result_keeps s text (Some d) =
-    by_test (contradicts_verdict (verdict_now s) d.outcome) s (refuses s (codes "Error (the board says otherwise): ") text)
+    by_test (contradicts_verdict (verdict_now s) d.outcome) s
+    (refuses s (codes "Error (the board says otherwise): ") text)
     (becomes (with_declared s (Some d)))
     (λ h. refl)
     (accepted s (becomes (with_declared s (Some d))) refl)

@@ -126,8 +126,8 @@ pub record SoFar {S : Type 0} (respond : Server S) (r r' : InputState) (w w' : O
   pub took : SentAll w w' (responses respond s done).text
   pub state : s' ≡ (responses respond s done).state
   pub goes_on : (responses respond s done).ends ≡ false
-  pub lines : (told : Bool) (rest : List ℕ)
-      → stream_lines COMMAND_LEN told (given ++ rest) ≡ done ++ lines_held COMMAND_LEN told held rest
+  pub lines : (reported : Bool) (rest : List ℕ)
+      → stream_lines COMMAND_LEN reported (given ++ rest) ≡ done ++ lines_held COMMAND_LEN reported held rest
   pub on_demand : length (whole COMMAND_LEN (before_piece r'.last_len given)) ≤ length done
   pub failures : r'.failure_count ≡ r.failure_count
   pub ends : r'.end_count ≡ r.end_count
@@ -145,7 +145,7 @@ start respond r w s = record {
   took = sent_none w;
   state = refl;
   goes_on = refl;
-  lines = λ told rest. refl;
+  lines = λ reported rest. refl;
   on_demand = (let e : whole COMMAND_LEN (before_piece r.last_len [])
       ≡ [] = ap (whole COMMAND_LEN) (no_bytes r.last_len) ∙ nothing_whole in omega (arith, ap length e));
   failures = refl;
@@ -175,7 +175,7 @@ waited r r' r'' held given more done f (inr (few, none)) =
 
 -- where the known bytes have lines, the first of them are those that are done, and that one
 abbrev pub BeginsWith : List LineSeen → LineSeen → List ℕ → Type 0
-BeginsWith done line xs = (behind : List LineSeen) × (lines COMMAND_LEN xs ≡ done ++ line ∷ behind)
+BeginsWith done line xs = (later : List LineSeen) × (lines COMMAND_LEN xs ≡ done ++ line ∷ later)
 
 -- what holds of the bytes that were given, however they go on, holds of the known bytes
 known_front : (a b : Option (List ℕ)) (bs : List ℕ) (P : List ℕ → Type 0) → Consumes a b bs
@@ -185,14 +185,14 @@ known_front (Some x) None bs P p h = absurd p
 known_front (Some x) (Some y) bs P p h = subst P (sym p) (h y)
 
 -- a line was reached: the lines that were given are those that are done, and that one, and what follows it
-pub record Reached (r r' : InputState) (given : List ℕ) (told : Bool) (done : List LineSeen) (line : LineSeen)
+pub record Reached (r r' : InputState) (given : List ℕ) (reported : Bool) (done : List LineSeen) (line : LineSeen)
     (after : List LineSeen) : Type 0 where
   pub bytes : Consumes r.known_bytes r'.known_bytes given
-  pub lines : stream_lines COMMAND_LEN told given ≡ done ++ line ∷ after
+  pub lines : stream_lines COMMAND_LEN reported given ≡ done ++ line ∷ after
   pub known : IfSome r.known_bytes (BeginsWith done line)
   pub on_demand : length (whole COMMAND_LEN (before_piece r'.last_len given)) ≤ length done
   pub failures : r'.failure_count ≡ r.failure_count
-  pub ends : r'.end_count ≡ risen_if told r.end_count
+  pub ends : r'.end_count ≡ risen_if reported r.end_count
 
 pub of_true : (b : Bool) (P Q : Type 0) → b ≡ true → MatchBool b P Q → P
 of_true true P Q e p = p
@@ -241,8 +241,8 @@ reached_last r r' r'' held held' given more done line f bytes waits got = record
 
 -- where a line was reached
 abbrev pub IsReached : InputState → InputState → List LineSeen → LineSeen → Type 0
-IsReached r r' done line = (given : List ℕ) × (told : Bool) × (after : List LineSeen)
-    × Reached r r' given told done line after
+IsReached r r' done line = (given : List ℕ) × (reported : Bool) × (after : List LineSeen)
+    × Reached r r' given reported done line after
 
 reached_by : {S : Type 0} {respond : Server S} (b : Bool) (E : Type 0) (r r' r'' : InputState) {w w' : OutputState}
     {s s' : S} (held held' : Held) (given : List ℕ) (done : List LineSeen) (line : LineSeen)
@@ -296,9 +296,9 @@ go_on {S} {respond} E {r} {r'} {r''} {w} {w'} {w''} {s} {s'} {s''} {held} {held'
             (sent_more w w' w'' (responses respond s done).text (respond s' line).text f.took took);
         state = next ∙ ap (λ (v : Response S). v.state) all;
         goes_on = ap (λ (v : Response S). v.ends) (sym all) ∙ on;
-        lines = λ told rest. ap (stream_lines COMMAND_LEN told) (append_assoc given more rest)
-            ∙ f.lines told (more ++ rest) ∙ ap (λ v. done ++ v) (g.lines told rest)
-            ∙ sym (append_assoc done (line ∷ []) (lines_held COMMAND_LEN told held' rest));
+        lines = λ reported rest. ap (stream_lines COMMAND_LEN reported) (append_assoc given more rest)
+            ∙ f.lines reported (more ++ rest) ∙ ap (λ v. done ++ v) (g.lines reported rest)
+            ∙ sym (append_assoc done (line ∷ []) (lines_held COMMAND_LEN reported held' rest));
         on_demand = (let a = waited r r' r'' held given more done f waits in omega
             (arith, length-append done (line ∷ [])));
         failures = g.failures ∙ f.failures;
@@ -310,17 +310,17 @@ go_on {S} {respond} E {r} {r'} {r''} {w} {w'} {w''} {s} {s'} {s''} {held} {held'
 
 -- lines up to the one with which the server ends
 ended_answered : {S : Type 0} (respond : Server S) (s s' s'' : S) (done : List LineSeen) (line : LineSeen)
-    (behind ls : List LineSeen)
-    → s' ≡ (responses respond s done).state → (responses respond s done).ends ≡ false → ls ≡ done ++ line ∷ behind
+    (later ls : List LineSeen)
+    → s' ≡ (responses respond s done).state → (responses respond s done).ends ≡ false → ls ≡ done ++ line ∷ later
     → s'' ≡ (respond s' line).state → (respond s' line).ends ≡ true
     → Answered respond s s'' ((responses respond s done).text ++ (respond s' line).text) true ls
-ended_answered respond s s' s'' done line behind ls state goes_on e next over =
+ended_answered respond s s' s'' done line later ls state goes_on e next over =
     let front = (responses respond s done).text in
     let last = (responses respond s done).state in
     let here : (respond last line).ends ≡ true = ap (λ v. (respond v line).ends) (sym state) ∙ over in
-    ap (responses respond s) e ∙ responses_on respond s done (line ∷ behind) goes_on
+    ap (responses respond s) e ∙ responses_on respond s done (line ∷ later) goes_on
     ∙ ap (with_front front)
-    (stops (respond last line) (responses respond (respond last line).state behind) here
+    (stops (respond last line) (responses respond (respond last line).state later) here
     ∙ ap (λ v. respond v line) (sym state))
     ∙ by_fields front (respond s' line) s'' true next over
 
@@ -330,11 +330,11 @@ pub by_line : {S : Type 0} {respond : Server S} {r r' r'' : InputState} {w w' w'
     → SoFar respond r r' w w' s s' held given done → IsReached r r'' done line
     → Sent w' w'' (respond s' line).text → s'' ≡ (respond s' line).state → (respond s' line).ends ≡ true
     → (t : Transcript) × SessionRan respond r r'' w w'' s s'' t (Ok Quit)
-by_line {respond} {r} {w} {w'} {w''} {s} {s'} {s''} {done} line f (all, told, after, at) took next over =
+by_line {respond} {r} {w} {w'} {w''} {s} {s'} {s''} {done} line f (all, reported, after, at) took next over =
     let text : List ℕ = (responses respond s done).text ++ (respond s' line).text in
     let both : SentAll w w'' text =
     sent_more w w' w'' (responses respond s done).text (respond s' line).text f.took took in (
-      record { read = all; end_reported = told; written = text },
+      record { read = all; end_reported = reported; written = text },
       (
         record {
           read = at.bytes;
@@ -353,7 +353,7 @@ by_line {respond} {r} {w} {w'} {w''} {s} {s'} {s''} {done} line f (all, told, af
         (
           ended_answered respond s s' s'' done line after _ f.state f.goes_on at.lines next over,
           IfSome_then r.known_bytes at.known
-              (λ xs (behind, e). ended_answered respond s s' s'' done line behind _ f.state f.goes_on e next over),
+              (λ xs (later, e). ended_answered respond s s' s'' done line later _ f.state f.goes_on e next over),
         ),
         both.flushed,
       ),
@@ -365,10 +365,10 @@ pub by_write : {S : Type 0} {respond : Server S} {r r' r'' : InputState} {w w' w
     → SoFar respond r r' w w' s s' held given done → IsReached r r'' done line
     → BreaksOff w' w'' (respond s' line).text → s'' ≡ (respond s' line).state
     → (t : Transcript) × SessionRan respond r r'' w w'' s s'' t (Err Write)
-by_write {respond} {r} {w} {w'} {w''} {s} {done} line f (all, told, after, at) (start, (rest, is), broke) next =
+by_write {respond} {r} {w} {w'} {w''} {s} {done} line f (all, reported, after, at) (start, (rest, is), broke) next =
     let both : SentSome w w'' (responses respond s done).text start =
     sent_some w w' w'' (responses respond s done).text start f.took broke in (
-      record { read = all; end_reported = told; written = (responses respond s done).text ++ start },
+      record { read = all; end_reported = reported; written = (responses respond s done).text ++ start },
       (
         record {
           read = at.bytes;
@@ -387,7 +387,7 @@ by_write {respond} {r} {w} {w'} {w''} {s} {done} line f (all, told, after, at) (
           refl,
           next ∙ ap (λ v. (respond v line).state) f.state,
           IfSome_then r.known_bytes at.known
-              (λ xs (behind, e). (behind, e ∙ sym (append_assoc done (line ∷ []) behind))),
+              (λ xs (later, e). (later, e ∙ sym (append_assoc done (line ∷ []) later))),
           both.unflushed,
         ),
       ),
@@ -481,8 +481,8 @@ by_read {respond} e {r} {r'} {r''} {s} {s'} {held'} {given} {done} f (more, byte
     f.lines false more ∙ ap (λ v. done ++ v) got.whole ∙ append-nil done in
     let both : Consumes r.known_bytes r''.known_bytes (given ++ more) =
     consumes_more r.known_bytes r'.known_bytes r''.known_bytes given more f.bytes bytes in
-    let P : List ℕ → Type 0 = λ xs. (behind : List LineSeen)
-    × (lines COMMAND_LEN xs ≡ whole COMMAND_LEN (given ++ more) ++ behind) in (
+    let P : List ℕ → Type 0 = λ xs. (later : List LineSeen)
+    × (lines COMMAND_LEN xs ≡ whole COMMAND_LEN (given ++ more) ++ later) in (
       record { read = given ++ more; end_reported = false; written = (responses respond s done).text },
       (
         record {
@@ -505,10 +505,10 @@ by_read {respond} e {r} {r'} {r''} {s} {s'} {held'} {given} {done} f (more, byte
       ),
     )
 
-pub over_told : (b : Bool) (go : Go) → go ≡ (if b then goes.Quit else goes.On) → go ≡ goes.Quit → b ≡ true
-over_told true go h k = refl
-over_told false go h k = cc
+pub over_said : (b : Bool) (go : Go) → go ≡ (if b then goes.Quit else goes.On) → go ≡ goes.Quit → b ≡ true
+over_said true go h k = refl
+over_said false go h k = cc
 
-pub on_told : (b : Bool) (go : Go) → go ≡ (if b then goes.Quit else goes.On) → go ≡ goes.On → b ≡ false
-on_told true go h k = cc
-on_told false go h k = refl
+pub on_said : (b : Bool) (go : Go) → go ≡ (if b then goes.Quit else goes.On) → go ≡ goes.On → b ≡ false
+on_said true go h k = cc
+on_said false go h k = refl

@@ -50,6 +50,7 @@ claims_text c =
 unfoldable pub state_text : State → List ℕ
 state_text s =
     decimal (length s.moves)
-    ++ (codes " rep " ++ (decimal (repetition_count s.start s.moves) ++ (codes " clock " ++ (decimal (current s).halfmove
+    ++ (codes " rep " ++ (decimal (repetition_count s.start s.moves)
+    ++ (codes " clock " ++ (decimal (current s).halfmove
     ++ (codes " claims " ++ (claims_text (claims s.start s.moves) ++ (codes " verdict " ++ (verdict_text (verdict_now s)
     ++ (codes " declared " ++ declared_text s.declared)))))))))

@@ -85,8 +85,8 @@ ByWrite respond r w w' s s' t last_len =
 -- what a run `t` of the server `respond` does, by its result: it ends by a line such as `quit`, by the input's end, or
 -- by a device that fails; each answer is flushed before more is read. `r`, `w` and `s` are input, output and server
 -- before, `r'`, `w'` and `s'` after
-abbrev pub SessionRan : {S : Type 0} → Server S → InputState → InputState → OutputState → OutputState → S → S → Transcript
-    → Result End Fault → Type 0
+abbrev pub SessionRan : {S : Type 0} → Server S → InputState → InputState → OutputState → OutputState → S
+    → S → Transcript → Result End Fault → Type 0
 SessionRan respond r r' w w' s s' t (Ok Quit) = FitsDevices r r' w w' t false false × ByLine respond s t r'.last_len
     × AnsweredAll respond r s s' t true × LeavesUnflushed w w' []
 SessionRan respond r r' w w' s s' t (Ok InputEnded) = FitsDevices r r' w w' t false false × (t.end_reported ≡ true)

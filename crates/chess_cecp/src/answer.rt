@@ -9,14 +9,13 @@ ghost use Rattle.chess_base.specs.Letters.{space};
 ghost use Rattle.chess_text.specs.San.{shown_move};
 ghost use Rattle.chess_base.specs.Faults.{fen_fault_name};
 ghost use Rattle.chess_game.specs.Results.{result_text};
-ghost use Rattle.chess_cecp.specs.Declaring.{verdict_text, declared_text, state_text};
+ghost use Rattle.chess_cecp.specs.Declaring.{verdict_text, declared_text, claims_text, state_text};
 ghost use Rattle.chess_cecp.specs.Session.{moves_line, result_line, verdict_line, feature_text, joined_line};
 
-use crate::declaring::claims_text;
 use arrayvec::ArrayVec;
 use byte_devices::{append, append_number};
 use chess_base::{FenFault, Move, Position};
-use chess_game::{Declared, Game, Outcome, Verdict};
+use chess_game::{Claims, Declared, Game, Outcome, Verdict};
 use chess_moves::Board;
 use chess_text::move_text;
 
@@ -141,6 +140,19 @@ fn write_declared_text(answer: &mut Answer, declared: Option<&Declared>)
     match declared {
         Some(declared) => write_result_text(answer, declared.outcome, declared.comment.as_bytes()),
         None => append(answer, b"none"),
+    }
+}
+
+// Which draws can be claimed, as `showstate` writes it: `threefold+50`, `threefold`, `50` or `none`.
+fn claims_text(claims: Claims) -> &'static [u8]
+    ensures value { result.now ≡ claims_text claims }
+    ensures short { length result.now ≤ 12 }
+{
+    match (claims.threefold, claims.fifty_moves) {
+        (true, true) => b"threefold+50",
+        (true, false) => b"threefold",
+        (false, true) => b"50",
+        (false, false) => b"none",
     }
 }
 

@@ -7,7 +7,7 @@ ghost use Rattle.chess_pgn.specs.declared.tags.Tags.{Tags};
 ghost use Rattle.chess_cecp.specs.declared.command.Command.{Command};
 ghost use Rattle.chess_cecp.specs.Held.{SessionSeen};
 ghost use Rattle.text_lines.specs.Lines.{LineSeen};
-ghost use Rattle.chess_cecp.specs.laws.Normal.{normal_row_of, keeps_its_row};
+ghost use Rattle.chess_cecp.specs.laws.Normal.{normal_row_of, has_normal_row};
 ghost use Rattle.chess_cecp.specs.Session.{row, session_response, IsRefusal};
 
 /// States a law and does nothing: a line that is refused (`Error ..`, `Illegal move ..`, `tellusererror ..`) leaves
@@ -21,6 +21,6 @@ pub fn refusals_change_nothing()
 /// table of commands for normal chess alone says.
 pub fn normal_chess_keeps_its_rows()
     ensures { (tags : Tags) (limit : ℕ) (s : State) (text argument : List ℕ) (command : Command)
-        → s.start.variant ≡ Normal → keeps_its_row command ≡ true
+        → s.start.variant ≡ Normal → has_normal_row command ≡ true
         → row tags limit s text argument command ≡ normal_row_of tags limit s text argument command }
 {}

@@ -9,8 +9,8 @@
 
 mod answer;
 mod command;
-mod declaring;
 mod laws;
+mod result_command;
 mod run;
 mod session;
 

@@ -22,7 +22,7 @@ use crate::answer::{
     write_pong, write_result, write_state, write_verdict,
 };
 use crate::command::{Command, named_command};
-use crate::declaring::read_result;
+use crate::result_command::read_result;
 use byte_devices::{Output, WriteFault, send};
 use chess_base::{Position, Variant};
 use chess_fen::{read_fen_as, write_fen};

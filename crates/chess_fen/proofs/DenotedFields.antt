@@ -33,7 +33,8 @@ read_on_top (text ∷ texts) above whole e =
   where
     by_rank : ((row : List (Option Man)) → squares_by_ranks (row ++ above) texts ≡ Some whole
         → ReadOnTop texts (row ++ above) whole) → (o : Option (List (Option Man))) → rank_of text ≡ o
-        → option_and_then (λ row. squares_by_ranks (row ++ above) texts) o ≡ Some whole → ReadOnTop (text ∷ texts) above whole
+        → option_and_then (λ row. squares_by_ranks (row ++ above) texts) o ≡ Some whole
+        → ReadOnTop (text ∷ texts) above whole
     by_rank later None is e = absurd cc
     by_rank later (Some row) is e =
         let r = later row e in

@@ -84,18 +84,18 @@ rank-denoted (c ∷ cs) before row s =
 -- ---- and back
 
 -- a rank that is read after some squares
-pub record ReadBehind (text : List ℕ) (before whole : List (Option Man)) : Type 0 where
+pub record ReadAfter (text : List ℕ) (before whole : List (Option Man)) : Type 0 where
   pub row : List (Option Man)
   pub denotes : DenotesSquares text row
   pub parts : whole ≡ before ++ row
   pub eight : length whole ≡ 8
 
-read_behind : (text : List ℕ) (before whole : List (Option Man)) → rank_after before text ≡ Some whole
-    → ReadBehind text before whole
-read_behind [] before whole e = by_test (eqb (length before) 8) refl e
+read_after : (text : List ℕ) (before whole : List (Option Man)) → rank_after before text ≡ Some whole
+    → ReadAfter text before whole
+read_after [] before whole e = by_test (eqb (length before) 8) refl e
   where
     by_test : (b : Bool) → eqb (length before) 8 ≡ b → cond b (Some before) None ≡ Some whole
-        → ReadBehind [] before whole
+        → ReadAfter [] before whole
     by_test true t e =
         let same : before ≡ whole = cc in
         let eight : length before ≡ 8 = grind (arith, nat_tests) in
@@ -106,13 +106,13 @@ read_behind [] before whole e = by_test (eqb (length before) 8) refl e
           eight = ap length (sym same) ∙ eight;
         }
     by_test false t e = absurd cc
-read_behind (c ∷ cs) before whole e = by_squares (λ first h. read_behind cs (before ++ first) whole h) (squares_of c)
+read_after (c ∷ cs) before whole e = by_squares (λ first h. read_after cs (before ++ first) whole h) (squares_of c)
     refl e
   where
     by_squares : ((first : List (Option Man)) → rank_after (before ++ first) cs ≡ Some whole
-        → ReadBehind cs (before ++ first) whole) → (o : Option (List (Option Man))) → squares_of c ≡ o
+        → ReadAfter cs (before ++ first) whole) → (o : Option (List (Option Man))) → squares_of c ≡ o
         → option_and_then (λ squares. rank_after (before ++ squares) cs) o ≡ Some whole
-        → ReadBehind (c ∷ cs) before whole
+        → ReadAfter (c ∷ cs) before whole
     by_squares later None is e = absurd cc
     by_squares later (Some first) is e =
         let r = later first e in
@@ -124,7 +124,7 @@ read_behind (c ∷ cs) before whole e = by_squares (λ first h. read_behind cs (
         }
 
 pub denoted-rank : (text : List ℕ) (row : List (Option Man)) → rank_of text ≡ Some row → DenotesRank text row
-denoted-rank text row e = let r = read_behind text [] row
+denoted-rank text row e = let r = read_after text [] row
     e in (subst (DenotesSquares text) (sym r.parts) r.denotes, r.eight)
 
 pub rank-of_denoted : (text : List ℕ) (row : List (Option Man)) → DenotesRank text row → rank_of text ≡ Some row

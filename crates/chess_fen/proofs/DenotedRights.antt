@@ -138,5 +138,6 @@ denoted-by_letters Fischerandom men text c w = refl
 
 pub by_letters-denoted : (v : Variant) (men : Men) (text : List ℕ) (c : Colour) (w : CastlingSide) (right : Option ℕ)
     → IsHeld v men text c w right → right_by_letters v men text c w ≡ right
-by_letters-denoted Normal men text c w right s = right-denoted (side_letter c w) text right (home_square c (rook_file w)) s
+by_letters-denoted Normal men text c w right s = right-denoted (side_letter c w) text right
+    (home_square c (rook_file w)) s
 by_letters-denoted Fischerandom men text c w right s = sym s

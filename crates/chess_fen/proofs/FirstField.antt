@@ -9,7 +9,7 @@ use Rattle.chess_base.specs.declared.man.Variant.{Variant}
 use Rattle.chess_fen.specs.Reading.{setup_by}
 use Rattle.chess_fen.specs.Texts.{placement_of, fields_of}
 use Rattle.chess_fen.specs.ties.Fields.{setup_with}
-use Rattle.chess_fen.specs.ties.Runs.{PlacementIsRead, behind}
+use Rattle.chess_fen.specs.ties.Runs.{PlacementIsRead, from_space}
 use Rattle.chess_fen.proofs.Splits.{no_fields, next_fields}
 
 -- a text without its first spaces
@@ -18,7 +18,7 @@ skipped text = drop (position_or_len (λ b. not (eqb b 32)) text) text
 
 -- the field at the front of what is left, if it is not empty, is the first of all
 first_of : (text front : List ℕ) → front ≡ skipped text → 0 < length front
-    → fields_of text ≡ before_first (λ b. eqb b 32) front ∷ fields_of (behind front)
+    → fields_of text ≡ before_first (λ b. eqb b 32) front ∷ fields_of (from_space front)
 first_of text front is some = next_fields text front _ _ is some refl refl
 
 heads : {A : Type 0} (x y : A) (xs ys : List A) → x ∷ xs ≡ y ∷ ys → y ≡ x

@@ -15,7 +15,7 @@ use Rattle.chess_base.specs.Men.{Men, man_at, is_man, first_rank}
 use Rattle.chess_base.specs.Castling.{home_square, king_square, is_to_side, right_is_sound, right_of}
 use Rattle.chess_base.specs.ties.Splits.{right_is_sound_at}
 use Rattle.chess_fen.specs.Texts.{first_letter, names_file}
-use Rattle.chess_fen.specs.RightNames.{side_letter, is_towards, nowhere, outer_rook, named_square, only_one_of}
+use Rattle.chess_fen.specs.RightNames.{side_letter, is_towards, nowhere, outer_rook, named_square, one_or_nowhere}
 use Rattle.chess_fen.specs.ties.Loops.{edge_file, rook_among, right_after_letters}
 use Rattle.chess_fen.specs.Denotation.{IsCastling, IsHeld, DenotesRights}
 use Rattle.chess_base.specs.Sound.{IsSound}
@@ -32,7 +32,7 @@ IsUnnamed men c w l = named_square men c w l ≡ None
 
 stays_by : (men : Men) (c : Colour) (w : CastlingSide) (s : ℕ) (xs : List ℕ) (o : Option ℕ)
     → ((t : ℕ) → right_after_letters men c w (Some t) xs ≡ None → ⊥)
-    → right_after_letters men c w (only_one_of (Some s) o) xs ≡ None → ⊥
+    → right_after_letters men c w (one_or_nowhere (Some s) o) xs ≡ None → ⊥
 stays_by men c w s xs None rec e = rec s e
 stays_by men c w s xs (Some t) rec e = rec nowhere e
 
@@ -45,7 +45,7 @@ stays_found men c w s (x ∷ xs) e = stays_by men c w s xs (named_square men c w
 kept_by : (men : Men) (c : Colour) (w : CastlingSide) (s t x : ℕ) (xs : List ℕ) → t ≢ nowhere → (o : Option ℕ)
     → named_square men c w x ≡ o
     → ((u : ℕ) → right_after_letters men c w (Some u) xs ≡ Some t → (u ≡ t) × AllByRecursion (IsUnnamed men c w) xs)
-    → right_after_letters men c w (only_one_of (Some s) o) xs ≡ Some t
+    → right_after_letters men c w (one_or_nowhere (Some s) o) xs ≡ Some t
     → (s ≡ t) × AllByRecursion (IsUnnamed men c w) (x ∷ xs)
 kept_by men c w s t x xs n None at rec e = let r = rec s e in (r.0, (at, r.1))
 kept_by men c w s t x xs n (Some u) at rec e = let r = rec nowhere e in absurd (n (sym r.0))
@@ -92,7 +92,7 @@ skipped : (men : Men) (c : Colour) (w : CastlingSide) (found : Option ℕ) (ls :
     → AllByRecursion (IsUnnamed men c w) ls → right_after_letters men c w found ls ≡ found
 skipped men c w found [] h = refl
 skipped men c w found (x ∷ xs) h =
-    ap (λ o. right_after_letters men c w o xs) (ap (only_one_of found) h.0 ∙ only-none found)
+    ap (λ o. right_after_letters men c w o xs) (ap (one_or_nowhere found) h.0 ∙ only-none found)
     ∙ skipped men c w found xs h.1
 
 -- ---- the outermost rook
@@ -304,11 +304,11 @@ named_by men c w text (Some s) st e =
     let r = one_named men c w s text n (sym e) in
     (r.0, r.1, r.2, r.3, some_says men c w r.1 s n r.4, all_none men c w r.0 r.5, all_none men c w r.2 r.6)
 
-told_by : (men : Men) (c : Colour) (w : CastlingSide) (text : List ℕ) (o : Option ℕ)
+said_by : (men : Men) (c : Colour) (w : CastlingSide) (text : List ℕ) (o : Option ℕ)
     → right_is_sound_at Fischerandom men c w o ≡ true → RightIsNamed text men c w o
     → o ≡ right_after_letters men c w None text
-told_by men c w text None st h = sym (skipped men c w None text (all_unnamed men c w text h))
-told_by men c w text (Some s) st h =
+said_by men c w text None st h = sym (skipped men c w None text (all_unnamed men c w text h))
+said_by men c w text (Some s) st h =
     let front : right_after_letters men c w None h.0 ≡ None = skipped men c w None h.0 (all_unnamed men c w h.0 h.5) in
     let here : named_square men c w h.1 ≡ Some s = named_some men c w h.1 s (beside men c w s st) h.4 in
     let back : right_after_letters men c w (Some s) h.2 ≡ Some s =
@@ -359,5 +359,5 @@ rights_named text p e sound = (
   )),
   (λ h. denoted_of text p (subst (λ v. IsCastling v text) (sym e) h.0)
       (λ c w. of_held p.variant p.men text c w (right_of p.rights c w) e
-      (told_by p.men c w text (right_of p.rights c w) (stands_of p e sound c w) (h.1 c w)))),
+      (said_by p.men c w text (right_of p.rights c w) (stands_of p e sound c w) (h.1 c w)))),
 )

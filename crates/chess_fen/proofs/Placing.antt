@@ -9,13 +9,13 @@ use Rattle.std.proofs.lemmas.List.Splits.{length-slice_split}
 use Rattle.chess_base.specs.declared.man.Man.{Man}
 use Rattle.chess_fen.specs.ManLetters.{man_with_letter}
 use Rattle.chess_fen.specs.Texts.{squares_of, rank_after, squares_by_ranks, placement_of}
-use Rattle.chess_fen.specs.ties.Runs.{at_lower, last_rank, placing, behind, NoRankIsRead, RankIsPlaced, StrokeIsRead, NoStrokeIsRead, Ends, PlacementIsRead}
+use Rattle.chess_fen.specs.ties.Runs.{at_lower, last_rank, placing, from_space, NoRankIsRead, RankIsPlaced, SlashIsRead, NoSlashIsRead, Ends, PlacementIsRead}
 use Rattle.chess_fen.proofs.Ranks.{no_man, all_none, placing_over}
 
 abbrev no_board : Option (List (Option Man))
 no_board = None
 
--- ---- behind a rank
+-- ---- after a rank
 
 -- each byte that stands for squares stands for at least one
 some_squares : (c : ℕ) (s : List (Option Man)) → squares_of c ≡ Some s → 0 < length s
@@ -46,7 +46,7 @@ full left row above c cs eight = by_squares (squares_of c) refl
         let more = some_squares c s is in
         placing_over left (row ++ s) above cs (omega (arith, length-append row s, eight, more))
 
-pub no_stroke : (text : List ℕ) → get_or text 0 0 ≢ 47 → NoStrokeIsRead text
+pub no_stroke : (text : List ℕ) → get_or text 0 0 ≢ 47 → NoSlashIsRead text
 no_stroke [] other = λ lower row above eight. refl
 no_stroke (c ∷ cs) other = λ lower row above eight.
     (let stroke : eqb c 47 ≡ false = grind (arith, nat_tests, other) in
@@ -166,7 +166,7 @@ placing-read text = placing-parts 7 [] [] text ∙ by_list (parted text) (some_p
 -- their squares are still empty
 pub record Placing (text : List ℕ) (men : List (Option Man)) (rest : List ℕ) (left : ℕ) : Type 0 where
   pub on : placing (left - 1) [] (drop (8 * left) men) rest ≡ placing 7 [] [] text
-  pub back : behind rest ≡ behind text
+  pub back : from_space rest ≡ from_space text
   pub empty : take (8 * left) men ≡ replicate (8 * left) None
   pub some : 0 < left
 
@@ -184,7 +184,7 @@ pub no_rank : (text men rest : _) (left : ℕ) → Placing text men rest left �
 no_rank text men rest left so_far none =
     sym (placing-read text) ∙ sym so_far.on ∙ none (left - 1) (drop (8 * left) men)
 
--- what is read by a rank, before what comes behind it
+-- what is read by a rank, before what comes after it
 by_rank : (text men new rest ended : _) (left : ℕ) → 0 < left → Placing text men rest left
     → (p : RankIsPlaced rest (left - 1) men new ended)
     → placing (left - 1) p.row (drop (8 * left) men) ended ≡ placement_of (before_first (λ b. eqb b 32) text)
@@ -193,7 +193,7 @@ by_rank text men new rest ended left some so_far p =
 
 -- where no slash follows, and another rank should
 pub no_more : (text men new rest ended : _) (left : ℕ) → 1 < left → Placing text men rest left
-    → RankIsPlaced rest (left - 1) men new ended → NoStrokeIsRead ended
+    → RankIsPlaced rest (left - 1) men new ended → NoSlashIsRead ended
     → placement_of (before_first (λ b. eqb b 32) text) ≡ None
 no_more text men new rest ended left some so_far p none =
     let lower : left - 1 ≡ suc (left - 2) = omega arith in
@@ -208,7 +208,7 @@ above_is left row old new some above =
     let on : 8 * (left - 1) + 8 ≡ 8 * left = omega arith in above ∙ ap (λ k. row ++ drop k old) on
 
 pub placed_on : (text men new rest ended next : _) (left : ℕ) → 1 < left → Placing text men rest left
-    → RankIsPlaced rest (left - 1) men new ended → StrokeIsRead ended next → Placing text new next (left - 1)
+    → RankIsPlaced rest (left - 1) men new ended → SlashIsRead ended next → Placing text new next (left - 1)
 placed_on text men new rest ended next left some so_far p stroke =
     let lower : left - 1 ≡ suc (left - 2) = omega arith in
     let twice : left - 1 - 1 ≡ left - 2 = omega arith in

@@ -9,7 +9,7 @@ use Rattle.std.proofs.Math.Seq.{take-add}
 use Rattle.chess_base.specs.declared.man.Man.{Man}
 use Rattle.chess_fen.specs.declared.letters.Run.{Run}
 use Rattle.chess_fen.specs.Texts.{squares_of}
-use Rattle.chess_fen.specs.ties.Runs.{squares_in, at_lower, last_rank, placing, behind, RankIsRead, NoRankIsRead}
+use Rattle.chess_fen.specs.ties.Runs.{squares_in, at_lower, last_rank, placing, from_space, RankIsRead, NoRankIsRead}
 
 abbrev pub no_man : Option Man
 no_man = None
@@ -76,8 +76,8 @@ goes_on left row above c cs s is =
     let stroke : eqb c 47 ≡ false = another c 47 s refl is in
     rw (space, stroke, is) refl
 
-pub behind-on : (c : ℕ) (cs : List ℕ) → eqb c 32 ≡ false → behind (c ∷ cs) ≡ behind cs
-behind-on c cs e =
+pub from_space-on : (c : ℕ) (cs : List ℕ) → eqb c 32 ≡ false → from_space (c ∷ cs) ≡ from_space cs
+from_space-on c cs e =
     let next : 1 + position_or_len (λ b. eqb b 32) cs ≡ suc (position_or_len (λ b. eqb b 32) cs) = omega arith in
     rw (e, next) refl
 
@@ -87,7 +87,7 @@ behind-on c cs e =
 pub record RowSoFar (text : List ℕ) (row : List (Option Man)) (file i : ℕ) : Type 0 where
   pub on : (left : ℕ) → (above : List (Option Man))
       → placing left (take file row) above (drop i text) ≡ placing left [] above text
-  pub back : behind (drop i text) ≡ behind text
+  pub back : from_space (drop i text) ≡ from_space text
   pub empty : drop file row ≡ replicate (8 - file) None
   pub eight : length row ≡ 8
   pub within : file < 8
@@ -128,7 +128,7 @@ step : (text : List ℕ) (row : List (Option Man)) (file i : ℕ) (r : Run) → 
     → ((left : ℕ) → (above : List (Option Man))
     → placing left (take (file + r.squares) (set row file r.first)) above (drop (i + 1) text)
     ≡ placing left [] above text)
-    × (behind (drop (i + 1) text) ≡ behind text)
+    × (from_space (drop (i + 1) text) ≡ from_space text)
 step text row file i r so_far h at some fits =
     let c = get_or text i 0 in
     let s = r.first ∷ replicate (r.squares - 1) None in
@@ -137,7 +137,8 @@ step text row file i r so_far h at some fits =
     put row file r.squares r.first so_far.eight so_far.empty some fits in (
       (λ left above. rw taken (sym (at_drop_more (placing left (take file row) above) text i 0 h
           ∙ goes_on left (take file row) above c (drop (i + 1) text) s is) ∙ so_far.on left above)),
-      sym (at_drop_more behind text i 0 h ∙ behind-on c (drop (i + 1) text) (another c 32 s refl is)) ∙ so_far.back,
+      sym (at_drop_more from_space text i 0 h ∙ from_space-on c (drop (i + 1) text) (another c 32 s refl is))
+          ∙ so_far.back,
     )
 
 pub more : (text : List ℕ) (row : List (Option Man)) (file i : ℕ) (r : Run) → RowSoFar text row file i → i < length text

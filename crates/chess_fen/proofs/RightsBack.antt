@@ -18,7 +18,7 @@ use Rattle.chess_base.specs.Men.{Men, man_at, is_man, other, first_rank}
 use Rattle.chess_base.specs.Castling.{home_square, king_square, is_to_side, is_beside, right_of}
 use Rattle.chess_base.specs.ties.Splits.{right_is_sound_at}
 use Rattle.chess_fen.specs.Texts.{times, first_letter, names_file, may_name_right}
-use Rattle.chess_fen.specs.RightNames.{side_letter, is_towards, named_square, only_one_of}
+use Rattle.chess_fen.specs.RightNames.{side_letter, is_towards, named_square, one_or_nowhere}
 use Rattle.chess_fen.specs.ties.Loops.{right_after_letters}
 use Rattle.chess_fen.specs.Writing.{right_text, or_dash, rights_text}
 use Rattle.chess_fen.specs.Denotation.{IsCastling}
@@ -46,8 +46,8 @@ beside_by men c w s (Some k) at e =
       side = two.1;
     }
 
-pub beside : (men : Men) (c : Colour) (w : CastlingSide) (s : ℕ) → right_is_sound_at Fischerandom men c w (Some s) ≡ true
-    → Beside men c w s
+pub beside : (men : Men) (c : Colour) (w : CastlingSide) (s : ℕ) → right_is_sound_at Fischerandom men c w (Some s)
+    ≡ true → Beside men c w s
 beside men c w s e = beside_by men c w s (king_square men c) refl
     (and_parts (is_beside c w (king_square men c) s) (is_man c Rook (man_at men s)) e).0
 
@@ -116,7 +116,7 @@ named_other_colour : (men : Men) (c : Colour) (w : CastlingSide) (s : ℕ)
 named_other_colour men c w s = rw (no_side_letter c (other c) w (file s) (file_in s), other_file c (file s) (file_in s))
     refl
 
-pub only-none : (o : Option ℕ) → only_one_of o None ≡ o
+pub only-none : (o : Option ℕ) → one_or_nowhere o None ≡ o
 only-none None = refl
 only-none (Some s) = refl
 
@@ -130,19 +130,19 @@ side_text : (men : Men) (c : Colour) (w : CastlingSide) (found o : Option ℕ)
     → right_is_sound_at Fischerandom men c w o ≡ true
     → right_after_letters men c (other_side w) found (right_text Fischerandom c w o) ≡ found
 side_text men c w found None e = refl
-side_text men c w found (Some s) e = ap (only_one_of found) (named_other_side men c w s (beside men c w s e))
+side_text men c w found (Some s) e = ap (one_or_nowhere found) (named_other_side men c w s (beside men c w s e))
     ∙ only-none found
 
 colour_text : (men : Men) (c : Colour) (w u : CastlingSide) (found o : Option ℕ)
     → right_after_letters men (other c) u found (right_text Fischerandom c w o) ≡ found
 colour_text men c w u found None = refl
-colour_text men c w u found (Some s) = ap (only_one_of found) (named_other_colour men c u s) ∙ only-none found
+colour_text men c w u found (Some s) = ap (one_or_nowhere found) (named_other_colour men c u s) ∙ only-none found
 
 pub after-append : (men : Men) (c : Colour) (w : CastlingSide) (found : Option ℕ) (xs ys : List ℕ)
     → right_after_letters men c w found (xs ++ ys)
     ≡ right_after_letters men c w (right_after_letters men c w found xs) ys
 after-append men c w found [] ys = refl
-after-append men c w found (x ∷ xs) ys = after-append men c w (only_one_of found (named_square men c w x)) xs ys
+after-append men c w found (x ∷ xs) ys = after-append men c w (one_or_nowhere found (named_square men c w x)) xs ys
 
 after-dash : (men : Men) (c : Colour) (w : CastlingSide) (xs : List ℕ)
     → right_after_letters men c w None (or_dash xs) ≡ right_after_letters men c w None xs

@@ -46,11 +46,11 @@ own = numerals_by_fold _ (search rules) value_after (search rules)
 abbrev pub DigitBytes : List ℕ → Type 0
 DigitBytes ds = AllByRecursion (λ c. (48 ≤ c) × (c ≤ 57)) ds
 
-tells_bytes : IsDigitsTest DigitBytes
-tells_bytes = record { empty = tt; parts = λ c cs p. (search rules, p.1); more = λ c cs d p. (search rules, p) }
+says_bytes : IsDigitsTest DigitBytes
+says_bytes = record { empty = tt; parts = λ c cs p. (search rules, p.1); more = λ c cs d p. (search rules, p) }
 
 pub own_bytes : IsNumeralModel DigitBytes (value_after 0)
-own_bytes = numerals_by_fold _ tells_bytes value_after (search rules)
+own_bytes = numerals_by_fold _ says_bytes value_after (search rules)
 
 digits_from : (ds : List ℕ) → DigitBytes ds → From 48 ds
 digits_from [] p = tt
@@ -76,60 +76,60 @@ text_by a b c d =
     rights_text Normal
     (record { white = record { king_side = a; queen_side = b }; black = record { king_side = c; queen_side = d } })
 
-record Tells (a b c d : Option ℕ) : Type 0 where
+record Says (a b c d : Option ℕ) : Type 0 where
   letters : is_castling Normal (text_by a b c d) ≡ true
   first : occurs (byte "K") (text_by a b c d) ≡ is_some a
   second : occurs (byte "Q") (text_by a b c d) ≡ is_some b
   third : occurs (byte "k") (text_by a b c d) ≡ is_some c
   fourth : occurs (byte "q") (text_by a b c d) ≡ is_some d
 
-tells : (a b c d : Option ℕ) → Tells a b c d
+says : (a b c d : Option ℕ) → Says a b c d
 unfolding may_name_right
-tells (Some a) (Some b) (Some c) (Some d) =
+says (Some a) (Some b) (Some c) (Some d) =
     record { letters = refl; first = refl; second = refl; third = refl; fourth = refl }
-tells (Some a) (Some b) (Some c) None = record {
+says (Some a) (Some b) (Some c) None = record {
   letters = refl;
   first = refl;
   second = refl;
   third = refl;
   fourth = refl;
 }
-tells (Some a) (Some b) None (Some d) = record {
+says (Some a) (Some b) None (Some d) = record {
   letters = refl;
   first = refl;
   second = refl;
   third = refl;
   fourth = refl;
 }
-tells (Some a) (Some b) None None = record { letters = refl; first = refl; second = refl; third = refl; fourth = refl }
-tells (Some a) None (Some c) (Some d) = record {
+says (Some a) (Some b) None None = record { letters = refl; first = refl; second = refl; third = refl; fourth = refl }
+says (Some a) None (Some c) (Some d) = record {
   letters = refl;
   first = refl;
   second = refl;
   third = refl;
   fourth = refl;
 }
-tells (Some a) None (Some c) None = record { letters = refl; first = refl; second = refl; third = refl; fourth = refl }
-tells (Some a) None None (Some d) = record { letters = refl; first = refl; second = refl; third = refl; fourth = refl }
-tells (Some a) None None None = record { letters = refl; first = refl; second = refl; third = refl; fourth = refl }
-tells None (Some b) (Some c) (Some d) = record {
+says (Some a) None (Some c) None = record { letters = refl; first = refl; second = refl; third = refl; fourth = refl }
+says (Some a) None None (Some d) = record { letters = refl; first = refl; second = refl; third = refl; fourth = refl }
+says (Some a) None None None = record { letters = refl; first = refl; second = refl; third = refl; fourth = refl }
+says None (Some b) (Some c) (Some d) = record {
   letters = refl;
   first = refl;
   second = refl;
   third = refl;
   fourth = refl;
 }
-tells None (Some b) (Some c) None = record { letters = refl; first = refl; second = refl; third = refl; fourth = refl }
-tells None (Some b) None (Some d) = record { letters = refl; first = refl; second = refl; third = refl; fourth = refl }
-tells None (Some b) None None = record { letters = refl; first = refl; second = refl; third = refl; fourth = refl }
-tells None None (Some c) (Some d) = record { letters = refl; first = refl; second = refl; third = refl; fourth = refl }
-tells None None (Some c) None = record { letters = refl; first = refl; second = refl; third = refl; fourth = refl }
-tells None None None (Some d) = record { letters = refl; first = refl; second = refl; third = refl; fourth = refl }
-tells None None None None = record { letters = refl; first = refl; second = refl; third = refl; fourth = refl }
+says None (Some b) (Some c) None = record { letters = refl; first = refl; second = refl; third = refl; fourth = refl }
+says None (Some b) None (Some d) = record { letters = refl; first = refl; second = refl; third = refl; fourth = refl }
+says None (Some b) None None = record { letters = refl; first = refl; second = refl; third = refl; fourth = refl }
+says None None (Some c) (Some d) = record { letters = refl; first = refl; second = refl; third = refl; fourth = refl }
+says None None (Some c) None = record { letters = refl; first = refl; second = refl; third = refl; fourth = refl }
+says None None None (Some d) = record { letters = refl; first = refl; second = refl; third = refl; fourth = refl }
+says None None None None = record { letters = refl; first = refl; second = refl; third = refl; fourth = refl }
 
 -- an available right in normal chess has its rook on its corner
-on_corner : (men : Men) (c : Colour) (w : CastlingSide) (right : Option ℕ) → right_is_sound_at Normal men c w right ≡ true
-    → cond (is_some right) (Some (home_square c (rook_file w))) None ≡ right
+on_corner : (men : Men) (c : Colour) (w : CastlingSide) (right : Option ℕ) → right_is_sound_at Normal men c w right
+    ≡ true → cond (is_some right) (Some (home_square c (rook_file w))) None ≡ right
 on_corner men c w None e = refl
 on_corner men c w (Some s) e =
     let outer = and_parts (eqb s (home_square c (rook_file w)) && is_man c King (man_at men (home_square c 4)))
@@ -152,22 +152,22 @@ record AllStand (v : Variant) (men : Men) (r : Rights) : Type 0 where
 right_read : (men : Men) (r : Rights) → AllStand Normal men r → (c : Colour) (w : CastlingSide)
     → right_by_letters Normal men (rights_text Normal r) c w ≡ right_of r c w
 right_read men r s White KingSide = ap (λ b. cond b (Some 7) None)
-    (tells r.white.king_side r.white.queen_side r.black.king_side r.black.queen_side).first
+    (says r.white.king_side r.white.queen_side r.black.king_side r.black.queen_side).first
     ∙ on_corner men White KingSide r.white.king_side s.a
 right_read men r s White QueenSide = ap (λ b. cond b (Some 0) None)
-    (tells r.white.king_side r.white.queen_side r.black.king_side r.black.queen_side).second
+    (says r.white.king_side r.white.queen_side r.black.king_side r.black.queen_side).second
     ∙ on_corner men White QueenSide r.white.queen_side s.b
 right_read men r s Black KingSide = ap (λ b. cond b (Some 63) None)
-    (tells r.white.king_side r.white.queen_side r.black.king_side r.black.queen_side).third
+    (says r.white.king_side r.white.queen_side r.black.king_side r.black.queen_side).third
     ∙ on_corner men Black KingSide r.black.king_side s.c
 right_read men r s Black QueenSide = ap (λ b. cond b (Some 56) None)
-    (tells r.white.king_side r.white.queen_side r.black.king_side r.black.queen_side).fourth
+    (says r.white.king_side r.white.queen_side r.black.king_side r.black.queen_side).fourth
     ∙ on_corner men Black QueenSide r.black.queen_side s.d
 
 are_read : (v : Variant) (men : Men) (r : Rights) → AllStand v men r → ReadBack v men r
 are_read Normal men r s =
     record {
-      letters = (tells r.white.king_side r.white.queen_side r.black.king_side r.black.queen_side).letters;
+      letters = (says r.white.king_side r.white.queen_side r.black.king_side r.black.queen_side).letters;
       rights = right_read men r s;
     }
 are_read Fischerandom men r s =
@@ -302,8 +302,8 @@ ranks_read (suc n) men above h =
     let squares : List (Option Man) = take 8 (drop (8 * n) men) in
     let eight : length squares ≡ 8 = omega (arith, length-take 8 (drop (8 * n) men), length-drop (8 * n) men) in
     let at : 8 * suc n ≡ 8 * n + 8 = omega arith in
-    ap (option_and_then (λ r. squares_by_ranks (r ++ above) (map fen_rank (ranks_down n men)))) (rank-text squares eight)
-    ∙ ranks_read n men (squares ++ above) (omega arith)
+    ap (option_and_then (λ r. squares_by_ranks (r ++ above) (map fen_rank (ranks_down n men))))
+    (rank-text squares eight) ∙ ranks_read n men (squares ++ above) (omega arith)
     ∙ ap Some (sym (append_assoc (take (8 * n) men) squares above)
     ∙ ap (λ r. r ++ above) (sym (ap (λ k. take k men) at ∙ take-add (8 * n) 8 men)))
 

@@ -48,10 +48,10 @@ pub record IsWhole {A : Type 0} (p : A → Bool) (xs : List A) : Type 0 where
 -- or at its first element that passes
 pub record IsCut {A : Type 0} (p : A → Bool) (xs : List A) : Type 0 where
   pub at : A
-  pub behind : List A
+  pub tail : List A
   pub passes : p at ≡ true
-  pub rest : drop (position_or_len p xs) xs ≡ at ∷ behind
-  pub split : slice_split p xs ≡ before_first p xs ∷ slice_split p behind
+  pub rest : drop (position_or_len p xs) xs ≡ at ∷ tail
+  pub split : slice_split p xs ≡ before_first p xs ∷ slice_split p tail
 
 pub cut : {A : Type 0} (p : A → Bool) (xs : List A) → IsWhole p xs ⊎ IsCut p xs
 cut p [] = inl (record { rest = refl; front = refl; split = refl })
@@ -61,7 +61,7 @@ cut {A} p (x ∷ xs) = by_test (p x) refl (cut p xs)
     next = omega arith
 
     by_test : (b : Bool) → p x ≡ b → IsWhole p xs ⊎ IsCut p xs → IsWhole p (x ∷ xs) ⊎ IsCut p (x ∷ xs)
-    by_test true e more = inr (record { at = x; behind = xs; passes = e; rest = rw e refl; split = rw e refl })
+    by_test true e more = inr (record { at = x; tail = xs; passes = e; rest = rw e refl; split = rw e refl })
     by_test false e (inl w) =
         inl (record {
           rest = rw (e, next) w.rest;
@@ -71,7 +71,7 @@ cut {A} p (x ∷ xs) = by_test (p x) refl (cut p xs)
     by_test false e (inr c) =
         inr (record {
           at = c.at;
-          behind = c.behind;
+          tail = c.tail;
           passes = c.passes;
           rest = rw (e, next) c.rest;
           split = rw (e, next, c.split) refl;
@@ -109,6 +109,6 @@ next_fields text from front back is some f b =
     begins (inl w) = absurd (omega (arith, ap length (is ∙ w.rest)))
     begins (inr c) =
         let first : eqb c.at 32 ≡ false = grind (arith, nat_tests, c.passes) in
-        let next : 1 + position_or_len (λ b. eqb b 32) c.behind ≡ suc (position_or_len (λ b. eqb b 32) c.behind) =
+        let next : 1 + position_or_len (λ b. eqb b 32) c.tail ≡ suc (position_or_len (λ b. eqb b 32) c.tail) =
         omega arith in
         rw (is ∙ c.rest, first, next) (omega arith)

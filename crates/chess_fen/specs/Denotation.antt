@@ -80,12 +80,13 @@ pub record DenotesRights (text : List ℕ) (p : Setup) : Type 0 where
 -- the text, a FEN's fourth field, denotes this en passant target: a dash for none, else the name of a square on rank 3
 -- or 6
 abbrev pub DenotesTarget : List ℕ → Option ℕ → Type 0
-DenotesTarget text target = (text ≡ target_text target) × IfSome target (λ square. (rank square ≡ 2) ⊎ (rank square ≡ 5))
+DenotesTarget text target = (text ≡ target_text target)
+    × IfSome target (λ square. (rank square ≡ 2) ⊎ (rank square ≡ 5))
 
 -- the text is one to six digits, which denote the number n
 abbrev pub DenotesNumber : List ℕ → ℕ → Type 0
-DenotesNumber text n = (0 < length text) × (length text ≤ 6) × AllByRecursion (λ c. (byte "0" ≤ c) × (c ≤ byte "9")) text
-    × (n ≡ digits_value 10 text)
+DenotesNumber text n = (0 < length text) × (length text ≤ 6)
+    × AllByRecursion (λ c. (byte "0" ≤ c) × (c ≤ byte "9")) text × (n ≡ digits_value 10 text)
 
 -- the fields after the target denote the halfmove clock and the fullmove number: there are none (then 0 and 1), or
 -- both; a fullmove number of 0 is read as 1

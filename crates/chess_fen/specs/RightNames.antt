@@ -74,10 +74,10 @@ named_square men c w letter =
 
 -- of the rook's squares that two letters name for one right: the one that is named, if only one is; none if none is;
 -- `nowhere` (then the position is unsound) if both are
-abbrev pub only_one_of : Option ℕ → Option ℕ → Option ℕ
-only_one_of None o = o
-only_one_of (Some s) None = Some s
-only_one_of (Some s) (Some t) = Some nowhere
+abbrev pub one_or_nowhere : Option ℕ → Option ℕ → Option ℕ
+one_or_nowhere None o = o
+one_or_nowhere (Some s) None = Some s
+one_or_nowhere (Some s) (Some t) = Some nowhere
 
 -- ---- both
 
@@ -85,4 +85,4 @@ only_one_of (Some s) (Some t) = Some nowhere
 -- don't name it
 abbrev pub right_by_letters : Variant → Men → List ℕ → Colour → CastlingSide → Option ℕ
 right_by_letters Normal men letters c w = right_named letters (side_letter c w) (home_square c (rook_file w))
-right_by_letters Fischerandom men letters c w = fold only_one_of None (map (named_square men c w) letters)
+right_by_letters Fischerandom men letters c w = fold one_or_nowhere None (map (named_square men c w) letters)

@@ -49,7 +49,8 @@ squares_by_ranks above (text ∷ texts) = option_and_then (λ row. squares_by_ra
 -- the pieces that a FEN's first field denotes: eight ranks, rank 8 first, with a slash between them; none for any other
 -- text
 abbrev pub placement_of : List ℕ → Option (List (Option Man))
-placement_of text = let ranks = slice_split (λ c. c == stroke) text in if length ranks == 8 then squares_by_ranks [] ranks else
+placement_of text = let ranks = slice_split (λ c. c == stroke) text in if length ranks == 8
+    then squares_by_ranks [] ranks else
     None
 
 -- ---- castling

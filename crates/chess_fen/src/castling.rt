@@ -2,7 +2,7 @@
 
 ghost use Rattle.std.specs.Prelude.{◌≡◌, ◌<◌, [], None, codes};
 ghost use Rattle.chess_fen.specs.Texts.{occurs, times, may_name_right, first_letter, names_file, is_castling};
-ghost use Rattle.chess_fen.specs.RightNames.{side_letter, right_letter, right_named, outer_rook, is_left_of, is_towards, named_square, only_one_of, right_by_letters};
+ghost use Rattle.chess_fen.specs.RightNames.{side_letter, right_letter, right_named, outer_rook, is_left_of, is_towards, named_square, one_or_nowhere, right_by_letters};
 ghost use Rattle.chess_fen.specs.ties.Loops.{edge_file, right_after_letters};
 ghost use Rattle.chess_base.specs.Castling.{home_square, king_square, rook_file, rights_by};
 ghost use Rattle.chess_base.specs.declared.man.CastlingSide.TheVariants.{KingSide, QueenSide};
@@ -202,8 +202,8 @@ fn named_square(
 // Chess960: a castling right's rook square from two letters, each of which gives a square if it names the right: the
 // one given, `None` if none is. If both are given, it is square 24 (a4), where no right can have its rook, so that the
 // text is refused.
-fn only_one_of(first: Option<Square>, second: Option<Square>) -> Option<Square>
-    ensures { result ≡ only_one_of first second }
+fn one_or_nowhere(first: Option<Square>, second: Option<Square>) -> Option<Square>
+    ensures { result ≡ one_or_nowhere first second }
 {
     match (first, second) {
         (None, second) => second,
@@ -226,7 +226,7 @@ fn right_of_letters(
 {
     let mut found = None;
     for &letter in letters {
-        found = only_one_of(
+        found = one_or_nowhere(
             found,
             named_square(men, king, colour, castling_side, letter),
         );

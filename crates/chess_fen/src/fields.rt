@@ -53,7 +53,7 @@ pub(crate) fn next_field(text: &[u8]) -> Option<(&[u8], &[u8])>
     }
 }
 
-// The fields of a FEN behind the first; where the counters are left out, they are 0 and 1.
+// The fields of a FEN after the first; where the counters are left out, they are 0 and 1.
 #[derive(Clone, Copy)]
 pub(crate) struct Fields<'a> {
     pub side: &'a [u8],
@@ -63,7 +63,7 @@ pub(crate) struct Fields<'a> {
     pub fullmove: &'a [u8],
 }
 
-// Cuts what is behind a FEN's first field into its fields, of which three or five are between spaces: without the
+// Cuts what is after a FEN's first field into its fields, of which three or five are between spaces: without the
 // counters these are 0 and 1. `None` for any other number of fields.
 pub(crate) fn read_fields(text: &[u8]) -> Option<Fields<'_>>
     ensures { FieldsAre result (fields_of text.now) }

@@ -4,7 +4,7 @@ ghost use Rattle.std.specs.Prelude.{◌≡◌, ◌<◌, ◌+◌, ◌*◌, ◌==�
 ghost use Rattle.std.specs.List.{before_first};
 ghost use Rattle.chess_base.specs.Letters.{space};
 ghost use Rattle.chess_fen.specs.Texts.{placement_of};
-ghost use Rattle.chess_fen.specs.ties.Runs.{NoRankIsRead, RankIsPlaced, StrokeIsRead, NoStrokeIsRead, Ends, PlacementIsRead};
+ghost use Rattle.chess_fen.specs.ties.Runs.{NoRankIsRead, RankIsPlaced, SlashIsRead, NoSlashIsRead, Ends, PlacementIsRead};
 
 use crate::rank::read_rank;
 use chess_base::Man;
@@ -21,9 +21,9 @@ fn place_rank<'t>(text: &'t [u8], men: &mut [Option<Man>; 64], rank: usize) -> O
 }
 
 // The text after the `/` between two ranks; `None` if it does not begin with one.
-fn after_stroke(text: &[u8]) -> Option<&[u8]>
-    ensures read { IfSome result (λ rest. StrokeIsRead text.now rest.now) }
-    ensures none { IfNone result (NoStrokeIsRead text.now) }
+fn after_slash(text: &[u8]) -> Option<&[u8]>
+    ensures read { IfSome result (λ rest. SlashIsRead text.now rest.now) }
+    ensures none { IfNone result (NoSlashIsRead text.now) }
 {
     let [first, rest @ ..] = text else {
         return None;
@@ -52,7 +52,7 @@ pub(crate) fn read_placement<'t>(text: &'t [u8], men: &mut [Option<Man>; 64]) ->
     let mut rest = text;
     for rank in (1..8).rev() {
         let ended = place_rank(rest, men, rank)?;
-        rest = after_stroke(ended)?;
+        rest = after_slash(ended)?;
     }
     let ended = place_rank(rest, men, 0)?;
     if ends_field(ended) { Some(ended) } else { None }

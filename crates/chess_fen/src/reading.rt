@@ -58,7 +58,7 @@ fn read_rights(variant: Variant, men: &[Option<Man>; 64], text: &[u8]) -> Option
     }
 }
 
-// The position with these pieces that a FEN's fields behind the first denote, read from left to right, sound or not; or
+// The position with these pieces that a FEN's fields after the first denote, read from left to right, sound or not; or
 // the fault of the first of them that denotes nothing. A fullmove number of 0 is read as 1.
 fn setup_with(
     variant: Variant,
@@ -87,7 +87,7 @@ fn setup_with(
 // The fault of a text whose first field, if it has one, denotes no pieces: a wrong number of fields, or that field.
 // Kept out of line, since few texts need it.
 #[inline(never)]
-fn menless_fault(text: &[u8]) -> FenFault
+fn no_pieces_fault(text: &[u8]) -> FenFault
     requires { (field : List ℕ) → (fields : List (List ℕ)) → fields_of text.now ≡ field ∷ fields
         → placement_of field ≡ None }
     ensures { (v : Variant) → setup_in v (fields_of text.now) ≡ Err result }
@@ -110,7 +110,7 @@ fn read_setup(variant: Variant, text: &[u8]) -> Result<Setup, FenFault>
     let mut men = [None; 64];
     let front = skip_spaces(text);
     let Some(rest) = read_placement(front, &mut men) else {
-        return Err(menless_fault(front));
+        return Err(no_pieces_fault(front));
     };
     match read_fields(rest) {
         None => Err(FenFault::Fields),

@@ -15,7 +15,7 @@ use Rattle.chess_game.specs.Ends.{is_kind}
 use Rattle.chess_game.specs.Same.{same_man, same_men}
 use Rattle.chess_game.specs.ties.Packed.{man_of, man_in, men_in, IsPackedAt, ArePacked}
 use Rattle.chess_game.specs.declared.packed.PackedMen.{PackedMen}
-use Rattle.chess_game.proofs.EqualWords.{places_equal}
+use Rattle.chess_game.proofs.EqualHashes.{places_equal}
 use Rattle.chess_game.proofs.SameSelf.{man_self}
 
 -- ---- White's pieces

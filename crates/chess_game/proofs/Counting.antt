@@ -19,11 +19,14 @@ pub seen-line : (p : Setup) (xs : List PlayedMove) (q : Setup) → Follows p xs
     → count_by (λ r. is_same_position r q) (positions_of p (moves_of xs)) ≡ seen p xs q
 seen-line p [] q f = sum_by-cons (λ r. one_if (is_same_position r q)) p []
 seen-line p (x ∷ xs) q f =
-    let behind : count_by (λ r. is_same_position r q) (positions_of (after p x.made) (moves_of xs)) ≡ seen x.reached.position xs q =
-    subst (λ v. count_by (λ r. is_same_position r q) (positions_of v (moves_of xs)) ≡ seen x.reached.position xs q) f.0.left
+    let later : count_by (λ r. is_same_position r q) (positions_of (after p x.made) (moves_of xs))
+    ≡ seen x.reached.position xs q =
+    subst (λ v. count_by (λ r. is_same_position r q) (positions_of v (moves_of xs)) ≡ seen x.reached.position xs q)
+    f.0.left
     (seen-line x.reached.position xs q f.2) in
     sum_by-cons (λ r. one_if (is_same_position r q)) p (positions_of (after p x.made) (moves_of xs))
-    ∙ ap (λ n. one_if (is_same_position p q) + n) (behind ∙ sym (sum_by-cons (λ y. one_if (is_same_position y.reached.position q)) x xs))
+    ∙ ap (λ n. one_if (is_same_position p q) + n)
+    (later ∙ sym (sum_by-cons (λ y. one_if (is_same_position y.reached.position q)) x xs))
 
 pub counted : (p : Setup) (xs : List PlayedMove) (q : Setup) → Follows p xs → q ≡ position_after p (moves_of xs)
     → seen p xs q ≡ repetition_count p (moves_of xs)

@@ -81,12 +81,13 @@ pub never_grows : ReserveNeverGrows → (p : Setup) (xs : List PlayedMove) → F
 never_grows law p [] f = omega arith
 never_grows law p (x ∷ xs) f =
     let one : reserve (after p x.made).men ≤ reserve p.men = law p x.made f.0.sound f.0.legal in
-    let behind : reserve (position_after (after p x.made) (moves_of xs)).men ≤ reserve (after p x.made).men =
+    let later : reserve (position_after (after p x.made) (moves_of xs)).men ≤ reserve (after p x.made).men =
     subst (λ v. reserve (position_after v (moves_of xs)).men ≤ reserve v.men) f.0.left
     (never_grows law x.reached.position xs f.2) in
     omega arith
 
--- where the played move k was reached by a capture or a pawn move, each position before it has more in reserve than the last
+-- where the played move k was reached by a capture or a pawn move, each position before it has more in reserve than the
+-- last
 fallen : ReserveNeverGrows → ReserveFallsForGood → (start : Hashed) (xs : List PlayedMove) (k j : ℕ) (d : PlayedMove)
     → Follows start.position xs → k < length xs → (get_or xs k d).reached.position.halfmove ≡ 0 → j ≤ k
     → reserve (position_after start.position (moves_of xs)).men < reserve (known_at start xs j).position.men
@@ -96,10 +97,10 @@ fallen grows falls start (y ∷ ys) zero zero d f h zeroed before =
     let p = start.position in
     let lower : reserve (after p y.made).men < reserve p.men =
     falls p y.made f.0.sound f.0.legal (subst (λ v. v.halfmove ≡ 0) f.0.left zeroed) in
-    let behind : reserve (position_after (after p y.made) (moves_of ys)).men ≤ reserve (after p y.made).men =
+    let later : reserve (position_after (after p y.made) (moves_of ys)).men ≤ reserve (after p y.made).men =
     subst (λ v. reserve (position_after v (moves_of ys)).men ≤ reserve v.men) f.0.left
     (never_grows grows y.reached.position ys f.2) in
-    omega (arith, lower, behind)
+    omega (arith, lower, later)
 fallen grows falls start (y ∷ ys) (suc k) zero d f h zeroed before =
     let p = start.position in
     let one : reserve y.reached.position.men ≤ reserve p.men = subst (λ v. reserve v.men ≤ reserve p.men) (sym f.0.left)
@@ -152,7 +153,8 @@ none_is_same grows falls start xs now m s known follows made zeroed j h =
     (ap (λ (v : PlayedMove). v.reached.position.halfmove) (get_or-append_seam xs x [] x) ∙ zeroed) j (omega (arith, h))
 
 -- where the played move k was reached by one, it is the same as none before that
-pub none_is_same_before : ReserveNeverGrows → ReserveFallsForGood → (start : Hashed) (xs : List PlayedMove) (now : Hashed)
+pub none_is_same_before : ReserveNeverGrows → ReserveFallsForGood → (start : Hashed) (xs : List PlayedMove)
+    (now : Hashed)
     (m : Move) (s : Saved) → IsKnown now → Follows start.position xs
     → WasMade (position_after start.position (moves_of xs)) m s now.position
     → (k : ℕ) (d : PlayedMove) → k < length xs → (get_or xs k d).reached.position.halfmove ≡ 0

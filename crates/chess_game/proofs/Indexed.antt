@@ -69,9 +69,9 @@ count_before start xs y q n h =
     count_alike (is_same_at start (xs ++ y ∷ []) q) (is_same_at start xs q) n
     (λ k l. ap (λ v. is_same_position v.position q) (known_before start xs y k (omega (arith, l, h))))
 
-entry_behind : (start : Hashed) (xs : List PlayedMove) (y : PlayedMove) (k : ℕ) (x : PlayedMove) → k ≤ length xs
+entry_later : (start : Hashed) (xs : List PlayedMove) (y : PlayedMove) (k : ℕ) (x : PlayedMove) → k ≤ length xs
     → HasEntry start xs k x → HasEntry start (xs ++ y ∷ []) k x
-entry_behind start xs y k x h entry = record {
+entry_later start xs y k x h entry = record {
   earlier = entry.earlier ∙ sym (latest_before start xs y (bucket x.reached) (suc k) (omega arith));
   count = entry.count ∙ ap suc (sym (count_before start xs y x.reached.position (suc k) (omega arith)));
 }
@@ -86,22 +86,23 @@ entry_before start xs y k x h entry = record {
 long : (xs : List PlayedMove) (y : PlayedMove) → length (xs ++ y ∷ []) ≡ suc (length xs)
 long xs y = let e = length-append xs (y ∷ []) in omega (arith, e)
 
-entries_more : (start : Hashed) (xs : List PlayedMove) (y : PlayedMove) → HaveEntries start xs → HasEntry start xs (length xs) y
-    → HaveEntries start (xs ++ y ∷ [])
+entries_more : (start : Hashed) (xs : List PlayedMove) (y : PlayedMove) → HaveEntries start xs
+    → HasEntry start xs (length xs) y → HaveEntries start (xs ++ y ∷ [])
 entries_more start xs y entries entry k d h = by_test (k == length xs) refl
   where
     by_test : (c : Bool) → (k == length xs) ≡ c → HasEntry start (xs ++ y ∷ []) k (get_or (xs ++ y ∷ []) k d)
     by_test true e =
         subst (λ n. HasEntry start (xs ++ y ∷ []) n (get_or (xs ++ y ∷ []) n d)) (sym (eqb-true k (length xs) e))
         (subst (HasEntry start (xs ++ y ∷ []) (length xs)) (sym (get_or-append_seam xs y [] d))
-        (entry_behind start xs y (length xs) y (omega arith) entry))
+        (entry_later start xs y (length xs) y (omega arith) entry))
     by_test false e =
         let other = differs k (length xs) e in
         let low : k < length xs = let l = long xs y in omega (arith, h, l, other) in
         subst (HasEntry start (xs ++ y ∷ []) k) (sym (get_or_append_left xs (y ∷ []) d k low))
-        (entry_behind start xs y k (get_or xs k d) (omega (arith, low)) (entries k d low))
+        (entry_later start xs y k (get_or xs k d) (omega (arith, low)) (entries k d low))
 
-entries_fewer : (start : Hashed) (xs : List PlayedMove) (y : PlayedMove) → HaveEntries start (xs ++ y ∷ []) → HaveEntries start xs
+entries_fewer : (start : Hashed) (xs : List PlayedMove) (y : PlayedMove) → HaveEntries start (xs ++ y ∷ [])
+    → HaveEntries start xs
 entries_fewer start xs y entries k d h =
     let l = long xs y in
     entry_before start xs y k (get_or xs k d) (omega (arith, h))
@@ -126,7 +127,8 @@ begun table start b clean is = subst (λ v. IsIndexed (set table v 1) start []) 
   entries = λ k d h. absurd (omega arith);
 })
 
-pub pushed_index : (table : List ℕ) (start : Hashed) (xs : List PlayedMove) (y : PlayedMove) (b n : ℕ) → IsIndexed table start xs
+pub pushed_index : (table : List ℕ) (start : Hashed) (xs : List PlayedMove) (y : PlayedMove) (b n : ℕ)
+    → IsIndexed table start xs
     → b ≡ bucket y.reached → n ≡ suc (suc (length xs)) → y.entry.earlier ≡ get_or table (bucket y.reached) 0
     → y.entry.count ≡ suc (count_below (is_same_at start xs y.reached.position) (suc (length xs)))
     → IsIndexed (set table b n) start (xs ++ y ∷ [])
@@ -157,7 +159,8 @@ popped_index table start xs y b index is =
     let len = index.buckets in
     let entry = entry_last start xs y index.entries in
     let there : bucket (known_at start zs (suc (length xs))) ≡ bucket y.reached = ap bucket (known_last start xs y) in
-    let link : y.entry.earlier ≡ latest_below (is_in start zs (bucket (known_at start zs (suc (length xs))))) (suc (length xs))
+    let link : y.entry.earlier ≡ latest_below (is_in start zs (bucket (known_at start zs (suc (length xs)))))
+    (suc (length xs))
     = entry.earlier ∙ sym (latest_before start xs y (bucket y.reached) (suc (length xs)) (omega arith))
     ∙ ap (λ v. latest_below (is_in start zs v) (suc (length xs))) (sym there) in
     let whole : HaveHeads table start zs (suc (suc (length xs))) = subst (HaveHeads table start zs)
@@ -179,11 +182,13 @@ pub heads_back : (table : List ℕ) (start : Hashed) (xs : List PlayedMove) (lef
     → x ≡ get_or xs (left - 1) x → b ≡ bucket x.reached
     → HaveHeads (set table b x.entry.earlier) start xs (suc (left - 1))
 heads_back table start xs left x b len entries heads some h played_move is =
-    let entry = subst (HasEntry start xs (left - 1)) (sym played_move) (entries (left - 1) x (omega (arith, some, h))) in
+    let entry = subst (HasEntry start xs (left - 1)) (sym played_move) (entries (left - 1) x (omega (arith, some, h)))
+    in
     let next : left ≡ suc (left - 1) = omega (arith, some) in
     let there : bucket (known_at start xs (suc (left - 1))) ≡ bucket x.reached = ap bucket
     (known_place start xs (left - 1) x (omega (arith, some, h)) ∙ ap (λ v. v.reached) (sym played_move)) in
-    let link : x.entry.earlier ≡ latest_below (is_in start xs (bucket (known_at start xs (suc (left - 1))))) (suc (left - 1)) =
+    let link : x.entry.earlier ≡ latest_below (is_in start xs (bucket (known_at start xs (suc (left - 1)))))
+    (suc (left - 1)) =
     entry.earlier ∙ ap (λ v. latest_below (is_in start xs v) (suc (left - 1))) (sym there) in
     let whole : HaveHeads table start xs (suc (suc (left - 1))) =
     subst (HaveHeads table start xs) (ap suc next) heads in

@@ -46,9 +46,9 @@ pub unended_fewer : (p : Setup) (xs ys : List PlayedMove) (x : PlayedMove) → I
 unended_fewer p xs ys x unended is =
     let all : moves_of xs ≡ moves_of ys ++ x.made ∷ [] = ap moves_of is
     ∙ map-append (λ (y : PlayedMove). y.made) ys (x ∷ []) in
-    let behind = fewer p (moves_of ys) x.made
+    let later = fewer p (moves_of ys) x.made
     (subst (λ ms. (k : ℕ) → k < length ms → verdict p (take k ms) ≡ None) all unended.before) in
-    record { before = λ k h. behind k (omega arith) }
+    record { before = λ k h. later k (omega arith) }
 
 at_the_end : (ms : List Move) (m : Move) → slice_get (ms ++ m ∷ []) (length ms) ≡ Some m
 at_the_end [] m = refl
@@ -67,7 +67,7 @@ last_is xs ys x is =
 
 -- a game that is not over has no verdict
 pub no_verdict : (s : State) (over : Bool) → over ≡ is_over s → over ≡ false → verdict s.start s.moves ≡ None
-no_verdict s over told not_over = by_verdict (verdict s.start s.moves) (sym not_over ∙ told)
+no_verdict s over said not_over = by_verdict (verdict s.start s.moves) (sym not_over ∙ said)
   where
     by_verdict : (w : Option Verdict) → false ≡ (is_some w || is_some s.declared) → w ≡ None
     by_verdict None h = refl

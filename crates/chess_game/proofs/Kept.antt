@@ -29,11 +29,11 @@ pub at_place : (p : Setup) (xs : List PlayedMove) (k : ℕ) (d : PlayedMove) →
 at_place p [] k d f h = absurd (omega arith)
 at_place p (y ∷ ys) zero d f h = record { known = f.1; reached = f.0.left }
 at_place p (y ∷ ys) (suc k) d f h =
-    let behind = at_place y.reached.position ys k d f.2 (omega arith) in
+    let later = at_place y.reached.position ys k d f.2 (omega arith) in
     let one_more : suc k + 1 ≡ suc (k + 1) = omega arith in
     record {
-      known = behind.known;
-      reached = behind.reached ∙ ap (λ v. position_after v (take (k + 1) (moves_of ys))) f.0.left
+      known = later.known;
+      reached = later.reached ∙ ap (λ v. position_after v (take (k + 1) (moves_of ys))) f.0.left
           ∙ ap (λ n. position_after p (take n (moves_of (y ∷ ys)))) (sym one_more);
     }
 
@@ -92,7 +92,8 @@ pub record Added (p : Setup) (xs : List PlayedMove) (x : PlayedMove) (board : Se
   pub at_end : board ≡ position_after p (moves_of (xs ++ x ∷ []))
 
 -- what was saved is the captured piece, and the rest as it was before the move
-pub kept_as : (p q : Setup) (x : PlayedMove) (s : Saved) → x.captured ≡ s.captured → WasMade p x.made s q → WasPlayed p x q
+pub kept_as : (p q : Setup) (x : PlayedMove) (s : Saved) → x.captured ≡ s.captured → WasMade p x.made s q
+    → WasPlayed p x q
 unfolding saved_of
 kept_as p q x s same made = record {
   sound = made.sound;
@@ -112,7 +113,8 @@ added p xs x s before after f at captured made reached known =
 
 -- the position of a move that was made at the end of the line
 pub made_at_end : (p : Setup) (xs ys : List PlayedMove) (m : Move) (s : Saved) (before after q : Setup) → ys ≡ xs
-    → before ≡ position_after p (moves_of xs) → WasMade before m s after → q ≡ after → WasMade (position_after p (moves_of ys)) m s q
+    → before ≡ position_after p (moves_of xs) → WasMade before m s after → q ≡ after
+    → WasMade (position_after p (moves_of ys)) m s q
 made_at_end p xs ys m s before after q list at made reached =
     subst (λ (zs : List PlayedMove). WasMade (position_after p (moves_of zs)) m s q) (sym list)
     (subst (λ v. WasMade v m s q) at (subst (WasMade before m s) (sym reached) made))
@@ -125,7 +127,8 @@ follows_fewer p (y ∷ ys) x f = (f.0, f.1, follows_fewer y.reached.position ys 
 made-last : (p : Setup) (xs : List PlayedMove) (x : PlayedMove) → Follows p (xs ++ x ∷ [])
     → WasPlayed (position_after p (moves_of xs)) x (position_after p (moves_of (xs ++ x ∷ [])))
 made-last p [] x f = subst (WasPlayed p x) f.0.left f.0
-made-last p (y ∷ ys) x f = subst (λ v. WasPlayed (position_after v (moves_of ys)) x (position_after v (moves_of (ys ++ x ∷ []))))
+made-last p (y ∷ ys) x f =
+    subst (λ v. WasPlayed (position_after v (moves_of ys)) x (position_after v (moves_of (ys ++ x ∷ []))))
     f.0.left (made-last y.reached.position ys x f.2)
 
 -- the last played move holds the position that was left, and `s` is what the position before it saved
@@ -133,7 +136,8 @@ pub taken : (p : Setup) (xs ys : List PlayedMove) (x : PlayedMove) (s : Saved) (
     → xs ≡ ys ++ x ∷ [] → q ≡ position_after p (moves_of xs) → before ≡ position_after p (moves_of ys)
     → s ≡ saved_with before x.captured → WasMade (position_after p (moves_of ys)) x.made s q
 taken p xs ys x s before q f is at here saved =
-    subst (λ t. WasMade (position_after p (moves_of ys)) x.made t q) (sym (saved ∙ ap (λ v. saved_with v x.captured) here))
+    subst (λ t. WasMade (position_after p (moves_of ys)) x.made t q)
+    (sym (saved ∙ ap (λ v. saved_with v x.captured) here))
     (subst (WasPlayed (position_after p (moves_of ys)) x) (ap (λ v. position_after p (moves_of v)) (sym is) ∙ sym at)
     (made-last p ys x (subst (Follows p) is f)))
 
@@ -146,23 +150,24 @@ fewer p xs ys x f is = follows_fewer p ys x (subst (Follows p) is f)
 abbrev pub AllHave : Hashing → List PlayedMove → Type 0
 AllHave f xs = AllByRecursion (λ (x : PlayedMove). HasHash f x.reached) xs
 
-all_more : (f : Hashing) (xs : List PlayedMove) (x : PlayedMove) → AllHave f xs → HasHash f x.reached → AllHave f (xs ++ x ∷ [])
+all_more : (f : Hashing) (xs : List PlayedMove) (x : PlayedMove) → AllHave f xs → HasHash f x.reached
+    → AllHave f (xs ++ x ∷ [])
 all_more f [] x all here = (here, tt)
 all_more f (y ∷ ys) x all here = (all.0, all_more f ys x all.1 here)
 
-pub words_more : (f : Hashing) (start : Hashed) (xs : List PlayedMove) (x : PlayedMove) → HaveHashes f start xs
+pub hashes_more : (f : Hashing) (start : Hashed) (xs : List PlayedMove) (x : PlayedMove) → HaveHashes f start xs
     → HasHash f x.reached
     → HaveHashes f start (xs ++ x ∷ [])
-words_more f start xs x h here = record { start = h.start; behind = all_more f xs x h.behind here }
+hashes_more f start xs x h here = record { start = h.start; later = all_more f xs x h.later here }
 
 all_fewer : (f : Hashing) (xs : List PlayedMove) (x : PlayedMove) → AllHave f (xs ++ x ∷ []) → AllHave f xs
 all_fewer f [] x all = tt
 all_fewer f (y ∷ ys) x all = (all.0, all_fewer f ys x all.1)
 
-pub words_fewer : (f : Hashing) (start : Hashed) (xs ys : List PlayedMove) (x : PlayedMove) → HaveHashes f start xs
+pub hashes_fewer : (f : Hashing) (start : Hashed) (xs ys : List PlayedMove) (x : PlayedMove) → HaveHashes f start xs
     → xs ≡ ys ++ x ∷ []
     → HaveHashes f start ys
-words_fewer f start xs ys x h is = record { start = h.start; behind = all_fewer f ys x (subst (AllHave f) is h.behind) }
+hashes_fewer f start xs ys x h is = record { start = h.start; later = all_fewer f ys x (subst (AllHave f) is h.later) }
 
 -- ---- room
 
@@ -172,7 +177,7 @@ pub pushed : {A E : Type 0} (r : Result A E) (xs ys zs : List PlayedMove) → is
 pushed (Ok v) xs ys zs h e = e
 pushed (Err v) xs ys zs h e = cc
 
--- the list of all played moves after `x` was pushed behind `xs`: what is before the last place, the move there, and the
+-- the list of all played moves after `x` was pushed after `xs`: what is before the last place, the move there, and the
 -- list with another move there
 pub record Last (xs : List PlayedMove) (x : PlayedMove) (all : List PlayedMove) (last : ℕ) : Type 0 where
   pub earlier : take last all ≡ xs
@@ -210,11 +215,12 @@ pub record Split (xs : List PlayedMove) (x : PlayedMove) (front back : List Play
   pub earlier : front ≡ xs
   pub latest : get_or back 0 d ≡ x
 
-pub split_last : (xs all ys : List PlayedMove) (x : PlayedMove) (last : ℕ) (front back : List PlayedMove) (d : PlayedMove)
+pub split_last : (xs all ys : List PlayedMove) (x : PlayedMove) (last : ℕ) (front back : List PlayedMove)
+    (d : PlayedMove)
     → Last xs x all last → ys ≡ all → front ≡ take last ys → back ≡ drop last ys → Split xs x front back d
-split_last xs all ys x last front back d p same before behind = record {
+split_last xs all ys x last front back d p same before later = record {
   earlier = before ∙ ap (take last) same ∙ p.earlier;
-  latest = ap (λ zs. get_or zs 0 d) (behind ∙ ap (drop last) same) ∙ p.latest d;
+  latest = ap (λ zs. get_or zs 0 d) (later ∙ ap (drop last) same) ∙ p.latest d;
 }
 
 -- what the game shows with one more move
@@ -232,7 +238,7 @@ pub room : (limit : ℕ) (p : Setup) (xs : List PlayedMove) (d : Option Declared
     → record { limit = limit; state = record { start = p; moves = moves_of xs; declared = d } } ≡ g
     → (full : Bool) → full ≡ is_full g → full ≡ false → length xs < limit
 room limit p xs d g view full is not_full =
-    let told : is_full (record { limit = limit; state = record { start = p; moves = moves_of xs; declared = d } })
+    let said : is_full (record { limit = limit; state = record { start = p; moves = moves_of xs; declared = d } })
     ≡ false = ap is_full view ∙ sym is ∙ not_full in
     let len = length-map xs (λ (x : PlayedMove). x.made) in
-    grind (arith, nat_tests, told, len)
+    grind (arith, nat_tests, said, len)

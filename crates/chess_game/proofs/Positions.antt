@@ -38,23 +38,25 @@ known_is start xs zero known f = known
 known_is start [] (suc k) known f = known
 known_is start (x ∷ xs) (suc k) known f = known_is x.reached xs k f.1 f.2
 
-word_is : (f : Hashing) (start : Hashed) (xs : List PlayedMove) (k : ℕ) → HasHash f start → AllHave f xs
+hash_is : (f : Hashing) (start : Hashed) (xs : List PlayedMove) (k : ℕ) → HasHash f start → AllHave f xs
     → HasHash f (known_at start xs k)
 unfolding known_at
-word_is f start xs zero here all = here
-word_is f start [] (suc k) here all = here
-word_is f start (x ∷ xs) (suc k) here all = word_is f x.reached xs k all.0 all.1
+hash_is f start xs zero here all = here
+hash_is f start [] (suc k) here all = here
+hash_is f start (x ∷ xs) (suc k) here all = hash_is f x.reached xs k all.0 all.1
 
-pub word_of_known : (f : Hashing) (start : Hashed) (xs : List PlayedMove) (k : ℕ) → HaveHashes f start xs
+pub hash_of_known : (f : Hashing) (start : Hashed) (xs : List PlayedMove) (k : ℕ) → HaveHashes f start xs
     → HasHash f (known_at start xs k)
-word_of_known f start xs k words = word_is f start xs k words.start words.behind
+hash_of_known f start xs k hashes = hash_is f start xs k hashes.start hashes.later
 
 -- all are sound, where the last one is
 pub sound_is : (start : Hashed) (xs : List PlayedMove) (k : ℕ) → Follows start.position xs
-    → IsSound (position_after start.position (moves_of xs)) → k < suc (length xs) → IsSound (known_at start xs k).position
+    → IsSound (position_after start.position (moves_of xs)) → k < suc (length xs)
+    → IsSound (known_at start xs k).position
 unfolding known_at
 sound_is start [] zero f sound h = sound
 sound_is start [] (suc k) f sound h = absurd (omega arith)
 sound_is start (x ∷ xs) zero f sound h = f.0.sound
 sound_is start (x ∷ xs) (suc k) f sound h =
-    sound_is x.reached xs k f.2 (subst (λ v. IsSound (position_after v (moves_of xs))) (sym f.0.left) sound) (omega arith)
+    sound_is x.reached xs k f.2 (subst (λ v. IsSound (position_after v (moves_of xs))) (sym f.0.left) sound)
+    (omega arith)

@@ -24,7 +24,8 @@ either_parts false true true d = refl
 either_parts false true false d = refl
 either_parts false false c d = refl
 
-any_either : {A : Type 0} (f g : A → Bool) (xs : List A) → list_any (λ x. f x || g x) xs ≡ (list_any f xs || list_any g xs)
+any_either : {A : Type 0} (f g : A → Bool) (xs : List A) → list_any (λ x. f x || g x) xs
+    ≡ (list_any f xs || list_any g xs)
 any_either f g [] = refl
 any_either f g (x ∷ xs) = ap (λ b. (f x || g x) || b) (any_either f g xs)
     ∙ either_parts (f x) (g x) (list_any f xs) (list_any g xs)
@@ -39,7 +40,8 @@ any_below f men zero h = refl
 any_below f men (suc n) h = ap (λ m. list_any f (take m men)) (next n) ∙ list_any_more f men n None (omega arith)
     ∙ ap (λ b. b || f (man_at men n)) (any_below f men n (omega arith))
 
-any_square : (f : Option Man → Bool) (men : Men) → length men ≡ 64 → list_any f men ≡ some_square (λ k. f (man_at men k))
+any_square : (f : Option Man → Bool) (men : Men) → length men ≡ 64 → list_any f men
+    ≡ some_square (λ k. f (man_at men k))
 unfolding some_square
 any_square f men whole = ap (list_any f) (sym (take-length men)) ∙ ap (λ n. list_any f (take n men)) whole
     ∙ any_below f men 64 (omega (arith, whole))

@@ -127,7 +127,8 @@ more_put p kind men left rest i s old all here inside taken h =
 
     same : (k : ℕ) → k < 64 → put_at p rest kind k (man_at (set men i man) k) ≡ put_at p all kind k (man_at old k)
     same k low = elim (cases_eq k s) [
-      | inl is ↦ subst (λ n. put_at p rest kind n (man_at (set men i man) n) ≡ put_at p all kind n (man_at old n)) (sym is)
+      | inl is ↦ subst (λ n. put_at p rest kind n (man_at (set men i man) n) ≡ put_at p all kind n (man_at old n))
+          (sym is)
           (on_it ∙ h.same s inside)
       | inr apart ↦ off_it k low apart ∙ h.same k low
     ]

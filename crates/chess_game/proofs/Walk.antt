@@ -13,16 +13,16 @@ use Rattle.chess_game.specs.declared.game.PlayedMove.{PlayedMove}
 use Rattle.chess_game.specs.declared.index.TheConstants.{BUCKETS}
 use Rattle.chess_game.specs.declared.repetition.Hashed.{Hashed}
 use Rattle.chess_game.proofs.Counting.{seen, counted, one_if}
-use Rattle.chess_game.proofs.EqualWords.{equal_words, same_alike}
+use Rattle.chess_game.proofs.EqualHashes.{equal_hashes, same_alike}
 use Rattle.chess_game.proofs.Kept.{at_end}
 use Rattle.chess_game.proofs.Latest.{latest_low, latest_passes, count_low, count_alike, count_here, count_fails, count_first, count_none, skipped}
-use Rattle.chess_game.proofs.Positions.{known_place, word_of_known, sound_is}
+use Rattle.chess_game.proofs.Positions.{known_place, hash_of_known, sound_is}
 use Rattle.chess_game.proofs.SameSelf.{same_self}
 
 -- what a walk rests on: the positions of a game, and one that is looked for
 pub record IsSought (start : Hashed) (xs : List PlayedMove) (now : Hashed) : Type 0 where
   pub follows : Follows start.position xs
-  pub words : (f : Hashing) × HaveHashes f start xs × HasHash f now
+  pub hashes : (f : Hashing) × HaveHashes f start xs × HasHash f now
   pub sound : IsSound (position_after start.position (moves_of xs))
   pub sound_now : IsSound now.position
 
@@ -30,25 +30,26 @@ pub record IsSought (start : Hashed) (xs : List PlayedMove) (now : Hashed) : Typ
 met_there : (start : Hashed) (xs : List PlayedMove) (now : Hashed) (k : ℕ) → IsSought start xs now → k < suc (length xs)
     → is_same_at start xs now.position k ≡ true → is_in start xs (bucket now) k ≡ true
 met_there start xs now k s h met =
-    let f = s.words.0 in
-    let words : (known_at start xs k).word ≡ now.word =
-    word_of_known f start xs k s.words.1
-    ∙ equal_words f (known_at start xs k).position now.position (sound_is start xs k s.follows s.sound h) s.sound_now
+    let f = s.hashes.0 in
+    let hashes : (known_at start xs k).hash ≡ now.hash =
+    hash_of_known f start xs k s.hashes.1
+    ∙ equal_hashes f (known_at start xs k).position now.position (sound_is start xs k s.follows s.sound h) s.sound_now
     met
-    ∙ sym s.words.2 in
-    eq-eqb (bucket (known_at start xs k)) (bucket now) (ap (λ w. w % BUCKETS) words)
+    ∙ sym s.hashes.2 in
+    eq-eqb (bucket (known_at start xs k)) (bucket now) (ap (λ w. w % BUCKETS) hashes)
 
 -- a walk is at a position of the bucket, and none after it is the same
 pub record IsAlong (start : Hashed) (xs : List PlayedMove) (now : Hashed) (at : ℕ) : Type 0 where
   pub low : at ≤ suc (length xs)
   pub there : (k : ℕ) → at ≡ suc k → is_in start xs (bucket now) k ≡ true
-  pub rest : count_below (is_same_at start xs now.position) (suc (length xs)) ≡ count_below (is_same_at start xs now.position) at
+  pub rest : count_below (is_same_at start xs now.position) (suc (length xs))
+      ≡ count_below (is_same_at start xs now.position) at
 
 -- at the latest position of the bucket below n, where none from n on is the same
 along : (start : Hashed) (xs : List PlayedMove) (now : Hashed) (at n : ℕ) → IsSought start xs now → n ≤ suc (length xs)
     → at ≡ latest_below (is_in start xs (bucket now)) n
-    → count_below (is_same_at start xs now.position) (suc (length xs)) ≡ count_below (is_same_at start xs now.position) n
-    → IsAlong start xs now at
+    → count_below (is_same_at start xs now.position) (suc (length xs))
+    ≡ count_below (is_same_at start xs now.position) n → IsAlong start xs now at
 along start xs now at n s h is rest =
     let t = is_in start xs (bucket now) in
     let low = latest_low t n in
@@ -82,8 +83,8 @@ is_place start xs now at x entries a some is =
       low = omega (arith, some, few);
     }
 
-pub walk_goes_on : (start : Hashed) (xs : List PlayedMove) (now : Hashed) (at : ℕ) (x : PlayedMove) → IsSought start xs now
-    → HaveEntries start xs → IsAlong start xs now at → 1 < at → x ≡ get_or xs (at - 2) x
+pub walk_goes_on : (start : Hashed) (xs : List PlayedMove) (now : Hashed) (at : ℕ) (x : PlayedMove)
+    → IsSought start xs now → HaveEntries start xs → IsAlong start xs now at → 1 < at → x ≡ get_or xs (at - 2) x
     → is_same_position x.reached.position now.position ≡ false
     → IsAlong start xs now x.entry.earlier
 walk_goes_on start xs now at x s entries a some is other =
@@ -92,8 +93,8 @@ walk_goes_on start xs now at x s entries a some is other =
     eqb-true (bucket (known_at start xs (suc (at - 2)))) (bucket now) (a.there (suc (at - 2)) p.next) in
     let link : x.entry.earlier ≡ latest_below (is_in start xs (bucket now)) (suc (at - 2)) = p.entry.earlier
     ∙ ap (λ v. latest_below (is_in start xs v) (suc (at - 2))) (sym (ap bucket p.known) ∙ there) in
-    let off : is_same_at start xs now.position (suc (at - 2)) ≡ false = ap (λ v. is_same_position v.position now.position) p.known
-    ∙ other in
+    let off : is_same_at start xs now.position (suc (at - 2)) ≡ false =
+    ap (λ v. is_same_position v.position now.position) p.known ∙ other in
     let low = p.low in
     along start xs now x.entry.earlier (suc (at - 2)) s (omega (arith, low)) link
     (a.rest ∙ ap (count_below (is_same_at start xs now.position)) p.next
@@ -107,8 +108,8 @@ walk_smaller start xs now at x entries a some is =
     let low = latest_low (is_in start xs (bucket x.reached)) (suc (at - 2)) in
     omega (arith, link, low, some)
 
-pub walk_found : (start : Hashed) (xs : List PlayedMove) (now : Hashed) (at : ℕ) (x : PlayedMove) → IsSought start xs now
-    → HaveEntries start xs → IsAlong start xs now at → 1 < at → x ≡ get_or xs (at - 2) x
+pub walk_found : (start : Hashed) (xs : List PlayedMove) (now : Hashed) (at : ℕ) (x : PlayedMove)
+    → IsSought start xs now → HaveEntries start xs → IsAlong start xs now at → 1 < at → x ≡ get_or xs (at - 2) x
     → is_same_position x.reached.position now.position ≡ true
     → x.entry.count + 1 ≡ suc (count_below (is_same_at start xs now.position) (suc (length xs)))
 walk_found start xs now at x s entries a some is met =
@@ -116,8 +117,8 @@ walk_found start xs now at x s entries a some is met =
     let low = p.low in
     let sound : IsSound x.reached.position = subst (λ v. IsSound v.position) p.known
     (sound_is start xs (suc (at - 2)) s.follows s.sound (omega (arith, low))) in
-    let here : is_same_at start xs now.position (suc (at - 2)) ≡ true = ap (λ v. is_same_position v.position now.position) p.known
-    ∙ met in
+    let here : is_same_at start xs now.position (suc (at - 2)) ≡ true =
+    ap (λ v. is_same_position v.position now.position) p.known ∙ met in
     let all : count_below (is_same_at start xs now.position) (suc (length xs))
     ≡ suc (count_below (is_same_at start xs now.position) (suc (at - 2))) = a.rest
     ∙ ap (count_below (is_same_at start xs now.position)) p.next
@@ -144,12 +145,13 @@ pub walk_ends : (start : Hashed) (xs : List PlayedMove) (now : Hashed) (at : ℕ
 unfolding count_below
 walk_ends start xs now at a none = ap suc (sym (a.rest ∙ ap (count_below (is_same_at start xs now.position)) none))
 
-pub walk_ends_at_start : (start : Hashed) (xs : List PlayedMove) (now : Hashed) (at : ℕ) → IsAlong start xs now at → at ≡ 1
-    → 1 + cond (is_same_position start.position now.position) 1 0
+pub walk_ends_at_start : (start : Hashed) (xs : List PlayedMove) (now : Hashed) (at : ℕ)
+    → IsAlong start xs now at → at ≡ 1 → 1 + cond (is_same_position start.position now.position) 1 0
     ≡ suc (count_below (is_same_at start xs now.position) (suc (length xs)))
 unfolding count_below known_at
 walk_ends_at_start start xs now at a one =
-    let all : count_below (is_same_at start xs now.position) (suc (length xs)) ≡ count_below (is_same_at start xs now.position) 1 = a.rest
+    let all : count_below (is_same_at start xs now.position) (suc (length xs))
+    ≡ count_below (is_same_at start xs now.position) 1 = a.rest
     ∙ ap (count_below (is_same_at start xs now.position)) one in
     omega (arith, all)
 
@@ -167,16 +169,17 @@ seen-count_below : (start : Hashed) (xs : List PlayedMove) (q : Setup)
 unfolding count_below known_at
 seen-count_below start [] q = omega arith
 seen-count_below start (x ∷ xs) q =
-    let behind = seen-count_below x.reached xs q in
+    let later = seen-count_below x.reached xs q in
     let cons : count_by (λ z. is_same_position z.reached.position q) (x ∷ xs) ≡ seen x.reached.position xs q =
     sum_by-cons (λ z. one_if (is_same_position z.reached.position q)) x xs in
     let first : count_below (is_same_at start (x ∷ xs) q) (suc (suc (length xs)))
     ≡ one_if (is_same_position start.position q) + count_below (is_same_at x.reached xs q) (suc (length xs)) =
     count_first (is_same_at start (x ∷ xs) q) (suc (length xs)) in
-    omega (arith, behind, cons, first)
+    omega (arith, later, cons, first)
 
 rep_is : (start : Hashed) (xs : List PlayedMove) → Follows start.position xs
-    → count_below (is_same_at start xs (position_after start.position (moves_of xs))) (suc (length xs)) ≡ repetition_count start.position (moves_of xs)
+    → count_below (is_same_at start xs (position_after start.position (moves_of xs))) (suc (length xs))
+    ≡ repetition_count start.position (moves_of xs)
 rep_is start xs f =
     sym (seen-count_below start xs (position_after start.position (moves_of xs)))
     ∙ counted start.position xs (position_after start.position (moves_of xs)) f refl
@@ -191,8 +194,8 @@ rep_alone start xs f none =
     count_here (is_same_at start [] start.position) 0 (same_self start.position) in
     sym one ∙ rep_is start [] tt)
 
-pub rep_kept : (start : Hashed) (xs : List PlayedMove) (d : PlayedMove) → Follows start.position xs → HaveEntries start xs
-    → 0 < length xs
+pub rep_kept : (start : Hashed) (xs : List PlayedMove) (d : PlayedMove) → Follows start.position xs
+    → HaveEntries start xs → 0 < length xs
     → (get_or xs (length xs - 1) d).entry.count ≡ repetition_count start.position (moves_of xs)
 rep_kept start xs d f entries some =
     let x = get_or xs (length xs - 1) d in

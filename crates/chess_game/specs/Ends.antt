@@ -77,4 +77,7 @@ verdict_comment SeventyFiveMoves = codes "75-move rule"
 -- what the player on move may claim a draw by, after the moves ms from `start`: the position is there for the third
 -- time (9.2); there were 50 moves of each side, 100 half-moves, without a pawn move or capture (9.3)
 abbrev pub claims : Setup → List Move → Claims
-claims start ms = record { threefold = nat_le 3 (repetition_count start ms); fifty_moves = nat_le 100 (position_after start ms).halfmove }
+claims start ms = record {
+  threefold = nat_le 3 (repetition_count start ms);
+  fifty_moves = nat_le 100 (position_after start ms).halfmove;
+}

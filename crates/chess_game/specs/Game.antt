@@ -115,7 +115,8 @@ contradicts_verdict verdict o = option_map_or (λ v. not (same_outcome (verdict_
 
 -- the game once the result d was to be declared: with d declared, or unchanged if a verdict has another outcome
 abbrev pub after_declare : Seen → Declared → Seen
-after_declare g d = if contradicts_verdict (verdict_now g.state) d.outcome then g else with_state g (with_declared g.state (Some d))
+after_declare g d = if contradicts_verdict (verdict_now g.state) d.outcome then g
+    else with_state g (with_declared g.state (Some d))
 
 -- the error for declaring a result with outcome o, if a verdict has another outcome; else none
 abbrev pub declare_refusal : Seen → Outcome → Option BoardSaysOtherwise

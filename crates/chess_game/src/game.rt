@@ -310,7 +310,8 @@ impl<B: Board> Game<B> {
     pub fn declare_open(&mut self, outcome: Outcome, comment: Comment)
         requires { verdict_now self.old.state ≡ None }
         ensures { self.new
-            ≡ with_state self.old (with_declared self.old.state (Some (record { outcome = outcome; comment = comment }))) }
+            ≡ with_state self.old (with_declared self.old.state
+            (Some (record { outcome = outcome; comment = comment }))) }
     {
         let declared = Declared { outcome, comment };
         self.declared = Some(declared);

@@ -40,15 +40,15 @@ fn bucket(known: &Hashed) -> usize
     ensures value { result ≡ bucket known.now }
     ensures low { result < BUCKETS }
 {
-    (known.word % BUCKETS as u64) as usize
+    (known.hash % BUCKETS as u64) as usize
 }
 
 // The number of the earliest position of the game that can be the same as `now`, which one more move than
 // `played_moves` gave. None from before the last capture or pawn move can; the halfmove clock shows when that was.
 fn oldest(played_moves: &[PlayedMove], now: &Hashed) -> usize
     requires { IsKnown now.now }
-    ensures { (start : Hashed) → Follows start.position played_moves.now → IsNext start played_moves.now now.now → (k : ℕ)
-        → k < result → is_same_at start played_moves.now now.now.position k ≡ false }
+    ensures { (start : Hashed) → Follows start.position played_moves.now → IsNext start played_moves.now now.now
+        → (k : ℕ) → k < result → is_same_at start played_moves.now now.now.position k ≡ false }
 {
     // The prover wants this law: the reserve of the pieces falls with each capture and pawn move, and never grows.
     reserve_never_grows();
@@ -76,11 +76,13 @@ fn count_same(head: u16, start: &Hashed, played_moves: &[PlayedMove], now: &Hash
     requires now { IsKnown now.now }
     requires follows { Follows start.now.position played_moves.now }
     requires made { IsNext start.now played_moves.now now.now }
-    requires words { (f : Hashing) × HaveHashes f start.now played_moves.now × HasHash f now.now }
+    requires hashes { (f : Hashing) × HaveHashes f start.now played_moves.now × HasHash f now.now }
     requires few { length played_moves.now < MOST_MOVES }
     requires entries { HaveEntries start.now played_moves.now }
-    requires head { head ≡ latest_below (is_in start.now played_moves.now (bucket now.now)) (suc (length played_moves.now)) }
-    ensures { result ≡ suc (count_below (is_same_at start.now played_moves.now now.now.position) (suc (length played_moves.now))) }
+    requires head { head ≡ latest_below (is_in start.now played_moves.now (bucket now.now))
+        (suc (length played_moves.now)) }
+    ensures { result ≡ suc (count_below (is_same_at start.now played_moves.now now.now.position)
+        (suc (length played_moves.now))) }
 {
     // The prover wants this fact: a position is sound, so it has an element for each of the 64 squares.
     let _sound = now.position.halfmove();
@@ -136,7 +138,7 @@ impl Index {
         requires known { IsKnown reached.now }
         requires follows { Follows start.now.position played_moves.now }
         requires made { IsNext start.now played_moves.now reached.now }
-        requires words { (f : Hashing) × HaveHashes f start.now played_moves.now × HasHash f reached.now }
+        requires hashes { (f : Hashing) × HaveHashes f start.now played_moves.now × HasHash f reached.now }
         requires few { length played_moves.now < MOST_MOVES }
         requires indexed { IsIndexed self.old.heads.items start.now played_moves.now }
         ensures { (x : PlayedMove) → x.reached ≡ reached.now → x.entry ≡ result
@@ -156,16 +158,18 @@ impl Index {
     // that its entry links to.
     fn remove(&mut self, played_move: &PlayedMove)
         requires { length self.old.heads.items ≡ BUCKETS }
-        ensures { self.new.heads.items ≡ set self.old.heads.items (bucket played_move.now.reached) played_move.now.entry.earlier }
+        ensures { self.new.heads.items ≡ set self.old.heads.items (bucket played_move.now.reached)
+            played_move.now.entry.earlier }
     {
         self.heads[bucket(&played_move.reached)] = played_move.entry.earlier;
     }
 
     // Removes the last position of a game, the one that this played move reached.
     pub(crate) fn pop(&mut self, played_move: &PlayedMove)
-        requires { (start : Hashed) × (xs : List PlayedMove) × IsIndexed self.old.heads.items start (xs ++ played_move.now ∷ []) }
-        ensures { (start : Hashed) (xs : List PlayedMove) → IsIndexed self.old.heads.items start (xs ++ played_move.now ∷ [])
-            → IsIndexed self.new.heads.items start xs }
+        requires { (start : Hashed) × (xs : List PlayedMove) × IsIndexed self.old.heads.items start
+            (xs ++ played_move.now ∷ []) }
+        ensures { (start : Hashed) (xs : List PlayedMove) → IsIndexed self.old.heads.items start
+            (xs ++ played_move.now ∷ []) → IsIndexed self.new.heads.items start xs }
     {
         self.remove(played_move);
     }

@@ -60,7 +60,8 @@ fn white_squares<B: Board>(board: &B) -> SquareSet
 // The squares that are in exactly one of the two sets.
 fn difference(these: SquareSet, those: SquareSet) -> SquareSet
     ensures { (k : ℕ) → k < 64
-        → contains result k ≡ ((contains these k && not (contains those k)) || (contains those k && not (contains these k))) }
+        → contains result k ≡ ((contains these k && not (contains those k))
+        || (contains those k && not (contains these k))) }
 {
     these.without(those).union(those.without(these))
 }

@@ -18,7 +18,7 @@ use chess_moves::Board;
 pub(crate) struct Hashed {
     pub(crate) position: PackedPosition,
     pub(crate) live_target: Option<Square>,
-    pub(crate) word: u64,
+    pub(crate) hash: u64,
 }
 
 impl Hashed {
@@ -28,14 +28,14 @@ impl Hashed {
     pub(crate) fn on<B: Board>(board: &B) -> Self
         ensures position { result.position ≡ B.position board.now }
         ensures known { IsKnown result }
-        ensures word { HasHash B.word_of result }
+        ensures hash { HasHash B.word_of result }
     {
         let live_target = live_target(board);
-        let word = board.word();
+        let hash = board.word();
         Hashed {
             position: PackedPosition::of(board),
             live_target,
-            word,
+            hash,
         }
     }
 
@@ -47,7 +47,7 @@ impl Hashed {
         // The prover wants this fact of both: a position is sound, so it has an element for each of the 64 squares.
         let _this = self.position.halfmove();
         let _that = other.position.halfmove();
-        self.word != other.word
+        self.hash != other.hash
     }
 
     // Whether the two positions are the same (Laws of Chess 2023, article 9.2.3).
@@ -55,7 +55,7 @@ impl Hashed {
     pub(crate) fn is_same(&self, other: &Hashed) -> bool
         requires this { IsKnown self.now }
         requires other { IsKnown other.now }
-        requires words { ShareHashing self.now other.now }
+        requires hashes { ShareHashing self.now other.now }
         ensures { result ≡ is_same_position self.now.position other.now.position }
     {
         // Most positions differ in their hashes, so pieces and rights are seldom looked at.
@@ -73,7 +73,7 @@ impl Hashed {
     pub(crate) fn times_same(&self, other: &Hashed) -> u32
         requires this { IsKnown self.now }
         requires other { IsKnown other.now }
-        requires words { ShareHashing self.now other.now }
+        requires hashes { ShareHashing self.now other.now }
         ensures { result ≡ cond (is_same_position self.now.position other.now.position) 1 0 }
     {
         if self.is_same(other) { 1 } else { 0 }

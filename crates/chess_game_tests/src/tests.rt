@@ -40,7 +40,7 @@ impl Calls {
     }
 
     // How often the hash was asked for since this was last asked.
-    fn words_since(&self) -> u32 {
+    fn hashes_since(&self) -> u32 {
         self.word.replace(0)
     }
 }
@@ -1244,11 +1244,11 @@ fn each_move_is_made_once(rt: HostRuntime) -> Result<(), Fail> {
 }
 
 fn was_asked(rt: &impl Abort, calls: &Calls, times: u32) {
-    is_equal(rt, &calls.words_since(), &times);
+    is_equal(rt, &calls.hashes_since(), &times);
 }
 
 // The hash is asked for where a move is played, and not where it is refused.
-fn is_asked_for_its_word_once(
+fn is_asked_for_its_hash_once(
     rt: &impl Abort,
     game: &mut Game<ZeroHashBoard<'_>>,
     calls: &Calls,
@@ -1260,14 +1260,14 @@ fn is_asked_for_its_word_once(
     was_asked(rt, calls, 0);
 }
 
-fn are_asked_for_their_words_once(
+fn are_asked_for_their_hashes_once(
     rt: &impl Abort,
     game: &mut Game<ZeroHashBoard<'_>>,
     calls: &Calls,
     moves: &[&[u8; 4]],
 ) {
     for squares in moves {
-        is_asked_for_its_word_once(rt, game, calls, squares);
+        is_asked_for_its_hash_once(rt, game, calls, squares);
     }
 }
 
@@ -1294,7 +1294,7 @@ fn each_position_is_asked_for_its_hash_once(rt: HostRuntime) -> Result<(), Fail>
     restart(&mut game, INITIAL)?;
     was_asked(&rt, &calls, 1);
     let there_and_back = &MOVES[..8];
-    are_asked_for_their_words_once(&rt, &mut game, &calls, there_and_back);
+    are_asked_for_their_hashes_once(&rt, &mut game, &calls, there_and_back);
     all_go(&rt, &mut game, NOT_ASKED)?;
     are_taken_back(&rt, &mut game, there_and_back);
     has_repetitions(&rt, &game, 1);

@@ -8,7 +8,7 @@ use Rattle.chess_base.specs.Men.{other}
 use Rattle.cecp_engine.specs.Items.{Item, takes}
 use Rattle.chess_match.specs.Match.{Match, Event, seat}
 use Rattle.chess_match.specs.Rules.{Rules}
-use Rattle.chess_match.specs.Sent.{SentLine, answer_words, Says, answers_to, block, lines_on_entering, is_same_phase, draw_line}
+use Rattle.chess_match.specs.Sent.{SentLine, answer_text, Says, answers_to, block, lines_on_entering, is_same_phase, draw_line}
 use Rattle.chess_match.specs.Transcript.{block_at, joined_blocks}
 
 pub if_nil : {A : Type 0} (b : Bool) (xs : List A) → xs ≡ [] → (if b then [] else xs) ≡ []
@@ -18,12 +18,14 @@ if_nil false xs e = e
 -- moves and times come of a phase alone
 pub of_block : {A : Type 0} (f : SentLine → List A) → ((text : List ℕ) → f (Says text) ≡ [])
     → (r : Rules) (m m' : Match) (S : Colour)
-    → flat_map f (block r m m' S) ≡ (if is_same_phase m.phase m'.phase then [] else flat_map f (lines_on_entering r m' S))
+    → flat_map f (block r m m' S)
+    ≡ (if is_same_phase m.phase m'.phase then [] else flat_map f (lines_on_entering r m' S))
 unfolding block
 of_block {A} f a r m m' S =
     flat_map-append f (answers_to (drop (length (seat m S).items) (seat m' S).items)) _
     ∙ ap (λ (l : List A). l ++ flat_map f (draw_line (seat m' S) (seat m (other S)) (seat m' (other S))
-    ++ (if is_same_phase m.phase m'.phase then [] else lines_on_entering r m' S))) (answers (drop (length (seat m S).items) (seat m' S).items))
+    ++ (if is_same_phase m.phase m'.phase then [] else lines_on_entering r m' S)))
+    (answers (drop (length (seat m S).items) (seat m' S).items))
     ∙ flat_map-append f (draw_line (seat m' S) (seat m (other S)) (seat m' (other S))) _
     ∙ ap (λ (l : List A). l ++ flat_map f (if is_same_phase m.phase m'.phase then [] else lines_on_entering r m' S))
     (offer (not (seat m (other S)).offers && (seat m' (other S)).offers && takes (codes "draw") (seat m' S).items))
@@ -31,7 +33,7 @@ of_block {A} f a r m m' S =
   where
     answers : (items : List Item) → flat_map f (answers_to items) ≡ []
     answers [] = refl
-    answers (i ∷ items) = rw (a (answer_words i.name)) (answers items)
+    answers (i ∷ items) = rw (a (answer_text i.name)) (answers items)
 
     offer : (b : Bool) → flat_map f (if b then Says (codes "draw") ∷ [] else []) ≡ []
     offer true = rw (a (codes "draw")) refl

@@ -29,10 +29,10 @@ used_more level xs x w timely =
     let grows : allotted level (length xs) ≤ allotted level (length xs + 1) = allotted_grows level (length xs) in
     rw (sum-snoc xs x, length-append xs (x ∷ [])) (omega (arith, grows, w, timely))
 
-heard : (level : LevelSeen) (S : Colour) (items : List Item) (m : Match) → IsInTime level m
+items_in_time : (level : LevelSeen) (S : Colour) (items : List Item) (m : Match) → IsInTime level m
     → IsInTime level (take_items S items m)
-heard level White items m w = w
-heard level Black items m w = w
+items_in_time level White items m w = w
+items_in_time level Black items m w = w
 
 offered_in_time : (level : LevelSeen) (S : Colour) (m : Match) → IsInTime level m → IsInTime level (offered S m)
 offered_in_time level White m w = w
@@ -58,11 +58,11 @@ step r due m e f w =
     let P : Match → Type 0 = λ m'. IsInTime r.level m' in
     event_outcome r due m e P f (record {
       line = λ S text moment is h. record {
-        hello_ends = λ p d. heard r.level S _ m w;
-        hello_counts = λ p d k. heard r.level S _ m w;
-        hello_next = λ p s d. heard r.level S _ m w;
-        hello_judged = λ p s d c x. heard r.level S _ m w;
-        hello_done = λ p s d. heard r.level S _ m w;
+        handshake_ends = λ p d. items_in_time r.level S _ m w;
+        handshake_counts = λ p d k. items_in_time r.level S _ m w;
+        handshake_next = λ p s d. items_in_time r.level S _ m w;
+        handshake_judged = λ p s d c x. items_in_time r.level S _ m w;
+        handshake_done = λ p s d. items_in_time r.level S _ m w;
         setup_ends = λ p reason n. w;
         setup_counts = λ p k n. w;
         setup_next = λ p s k. w;
@@ -79,7 +79,8 @@ step r due m e f w =
     })
 
 in_time : (r : Rules) (T : List Event) → fits r T ≡ true → IsInTime r.level (match_of r T)
-in_time r T f = kept_by r (λ m. IsInTime r.level m) (step r) (lines_on_entering r start) start T f (omega arith, omega arith)
+in_time r T f = kept_by r (λ m. IsInTime r.level m) (step r) (lines_on_entering r start) start T f
+    (omega arith, omega arith)
 
 sums : (given used : ℕ) → used ≤ given → given - used + used ≡ given
 sums given used h = omega (arith, h)

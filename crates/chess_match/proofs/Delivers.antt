@@ -17,7 +17,7 @@ use Rattle.chess_match.specs.Sent.{SentLine, answers_to, block, bytes_of}
 use Rattle.chess_match.specs.ties.Represents.{Represents, Goes, clocks_of, items_to, nothing_said}
 use Rattle.chess_match.specs.ties.Steps.{IsSane, in_turn}
 use Rattle.chess_match.specs.ties.Reported.{SendsIf}
-use Rattle.chess_match.specs.Run.{ReadsClock, text_read}
+use Rattle.chess_match.specs.Run.{ClockReadings, text_read}
 use Rattle.chess_match.specs.Transcript.{is_on, reads, moment_in}
 use Rattle.chess_match.specs.declared.state.MatchState.{MatchState}
 use Rattle.chess_match.specs.declared.state.Actions.{Actions}
@@ -25,7 +25,7 @@ use Rattle.chess_match.specs.declared.texts.MoveTexts.{MoveTexts}
 use Rattle.chess_match.specs.ties.Texts.{AreOfLast}
 use Rattle.chess_match.proofs.Flushes.{flushed_none}
 use Rattle.chess_match.proofs.Going.{goes_with, nothing_to}
-use Rattle.chess_match.proofs.Runs.{asked_none}
+use Rattle.chess_match.proofs.LongerTranscripts.{asked_none}
 use Rattle.chess_match.specs.Reasons.{by_colour}
 
 -- where the last move is still to be sent, its texts are kept
@@ -130,20 +130,23 @@ turn_noted : (m : Match) (S : Colour) (due : Colour → List SentLine) (notes no
 turn_noted m S due notes notes' on t =
     subst (λ (b : Bool). WasNoted notes notes' (both_notes (if b then S else White) due)) (sym on) t
 
-pub none_failed : (r : Rules) (core : MatchState) (played : List Move) (m : Match) (due : Colour → List SentLine) (S : Colour)
+pub none_failed : (r : Rules) (core : MatchState) (played : List Move) (m : Match) (due : Colour
+    → List SentLine) (S : Colour)
     (o o' x x' : OutputState) (notes notes' : Noted) → Represents r core played m
     → SendsIf false o o' (bytes_of (due S)) → SendsIf false x x' (bytes_of (due (other S)))
     → is_on m.phase ≡ true → WasNoted notes notes' (both_notes S due)
     → Delivered r core played m due S (by_turn S o x) (by_turn S o' x') (by_turn S false false) notes notes'
 none_failed r core played m due White o o' x x' notes notes' s a b on t = inl (record {
   stands = s;
-  puts = both_sides (λ X. SendsIf (by_colour false false X) (by_colour o x X) (by_colour o' x' X) (bytes_of (due X))) a b;
+  puts = both_sides (λ X. SendsIf (by_colour false false X) (by_colour o x X) (by_colour o' x' X) (bytes_of (due X))) a
+      b;
   fine = λ h X. both_sides (λ Y. by_colour false false Y ≡ false) refl refl X;
   noted = turn_noted m White due _ _ on t;
 })
 none_failed r core played m due Black o o' x x' notes notes' s a b on t = inl (record {
   stands = s;
-  puts = both_sides (λ X. SendsIf (by_colour false false X) (by_colour x o X) (by_colour x' o' X) (bytes_of (due X))) b a;
+  puts = both_sides (λ X. SendsIf (by_colour false false X) (by_colour x o X) (by_colour x' o' X) (bytes_of (due X))) b
+      a;
   fine = λ h X. both_sides (λ Y. by_colour false false Y ≡ false) refl refl X;
   noted = turn_noted m Black due _ _ on t;
 })
@@ -157,10 +160,12 @@ is_off true e = cc
 is_off false e = refl
 
 -- at the end each engine is sent its block, whatever became of the other's
-pub both_sent : (r : Rules) (core : MatchState) (played : List Move) (m : Match) (due : Colour → List SentLine) (S : Colour)
+pub both_sent : (r : Rules) (core : MatchState) (played : List Move) (m : Match) (due : Colour
+    → List SentLine) (S : Colour)
     (w w' b b' : OutputState) (f g : Bool) (notes notes' : Noted) → Represents r core played m
     → true ≡ not (is_on core.phase)
-    → SendsIf f w w' (bytes_of (due White)) → SendsIf g b b' (bytes_of (due Black)) → WasNoted notes notes' (both_notes White due)
+    → SendsIf f w w' (bytes_of (due White)) → SendsIf g b b' (bytes_of (due Black))
+    → WasNoted notes notes' (both_notes White due)
     → Delivered r core played m due S (by_colour w b) (by_colour w' b') (by_colour f g) notes notes'
 both_sent r core played m due S w w' b b' f g notes notes' s o x y t = inl (record {
   stands = s;
@@ -172,14 +177,16 @@ both_sent r core played m due S w w' b b' f g notes notes' s o x y t = inl (reco
 
 -- ---- which writer is whose
 
-pub turn_white : (r : Rules) (core : MatchState) (played : List Move) (m : Match) (due : Colour → List SentLine) (S : Colour)
+pub turn_white : (r : Rules) (core : MatchState) (played : List Move) (m : Match) (due : Colour
+    → List SentLine) (S : Colour)
     (o o' x x' : OutputState) (f g : Bool) (notes notes' : Noted) → S ≡ White
     → Delivered r core played m due S (by_turn S o x) (by_turn S o' x') (by_turn S f g) notes notes'
     → Delivered r core played m due S (by_colour o x) (by_colour o' x') (by_colour f g) notes notes'
 turn_white r core played m due White o o' x x' f g notes notes' e d = d
 turn_white r core played m due Black o o' x x' f g notes notes' e d = absurd cc
 
-pub turn_black : (r : Rules) (core : MatchState) (played : List Move) (m : Match) (due : Colour → List SentLine) (S : Colour)
+pub turn_black : (r : Rules) (core : MatchState) (played : List Move) (m : Match) (due : Colour
+    → List SentLine) (S : Colour)
     (o o' x x' : OutputState) (f g : Bool) (notes notes' : Noted) → S ≡ Black
     → Delivered r core played m due S (by_turn S o x) (by_turn S o' x') (by_turn S f g) notes notes'
     → Delivered r core played m due S (by_colour x o) (by_colour x' o') (by_colour g f) notes notes'
@@ -204,25 +211,26 @@ few r core played m s sane S =
     (subst (λ (ms : List Move). (spent_by (clocks_of r.level m) S).moves ≤ length ms) (sym s.moves)
     (few_moves r m sane S))
 
-pub undecided : (r : Rules) (core : MatchState) (played : List Move) (m : Match) → Represents r core played m → IsSane r m
-    → in_turn core.phase ≡ true → r.verdict played ≡ None
+pub undecided : (r : Rules) (core : MatchState) (played : List Move) (m : Match)
+    → Represents r core played m → IsSane r m → in_turn core.phase ≡ true → r.verdict played ≡ None
 undecided r core played m s sane h = ap (λ (ms : List Move). r.verdict ms) s.moves
     ∙ sane.undecided (ap in_turn (sym s.phase) ∙ h)
 
 -- ---- what was parsed, and what it is noted as
 
 -- an event is noted: its moment was asked for, the answers to its items wait, and the core goes on by it
-abbrev pub IsNoted : (Rules → Type 0) → MatchState → List Move → MatchState → List Move → Actions → List ℕ → Colour → (ℕ → Option ℕ)
-    → (ℕ → Option ℕ) → Noted → Noted → Event → Type 0
+abbrev pub IsNoted : (Rules → Type 0) → MatchState → List Move → MatchState → List Move → Actions → List ℕ → Colour
+    → (ℕ → Option ℕ) → (ℕ → Option ℕ) → Noted → Noted → Event → Type 0
 IsNoted plays core played core' played' given text S coming coming' notes notes' e =
-    (items : List Item) × ReadsClock coming coming' (moment_in e)
+    (items : List Item) × ClockReadings coming coming' (moment_in e)
     × WasNoted notes notes' (Happened e ∷ [])
     × (text ≡ bytes_of (answers_to items))
     × ((r : Rules) (m : Match) → plays r → reads m.phase S ≡ true → Represents r core played m
     → Goes r core' played' given (items_to S items) m (match_after r m e))
 
 -- an event at which no items are said
-pub noted_bare : (plays : Rules → Type 0) (core : MatchState) (played : List Move) (core' : MatchState) (played' : List Move)
+pub noted_bare : (plays : Rules → Type 0) (core : MatchState) (played : List Move) (core' : MatchState)
+    (played' : List Move)
     (given : Actions) (text : List ℕ) (S : Colour) (coming : ℕ → Option ℕ) (notes notes' : Noted) (e : Event)
     → moment_in e ≡ [] → text ≡ [] → WasNoted notes notes' (Happened e ∷ [])
     → ((r : Rules) (m : Match) → plays r → reads m.phase S ≡ true → Represents r core played m
@@ -231,24 +239,24 @@ pub noted_bare : (plays : Rules → Type 0) (core : MatchState) (played : List M
 unfolding bytes_of
 noted_bare plays core played core' played' given text S coming notes notes' e none empty noted goes = (
   [],
-  subst (λ (ms : List ℕ). ReadsClock coming coming ms) (sym none) (asked_none coming),
+  subst (λ (ms : List ℕ). ClockReadings coming coming ms) (sym none) (asked_none coming),
   noted,
   empty,
   λ r m p h s. goes_with r core' played' given nothing_said (items_to S []) m (match_after r m e) (nothing_to S)
       (goes r m p h s),
 )
 
-pub heard_failed : {E : Type 0} (P : Event → Type 0) (S : Colour) (moment : ℕ) (result : Result (Option LineSeen) E)
+pub event_failed : {E : Type 0} (P : Event → Type 0) (S : Colour) (moment : ℕ) (result : Result (Option LineSeen) E)
     (x : E) → result ≡ Err x → P (FailsToRead S) → P (event_read S moment result)
-heard_failed P S moment result x e p = subst (λ v. P (event_read S moment v)) (sym e) p
+event_failed P S moment result x e p = subst (λ v. P (event_read S moment v)) (sym e) p
 
-pub heard_none : {E : Type 0} (P : Event → Type 0) (S : Colour) (moment : ℕ) (result : Result (Option LineSeen) E)
+pub event_none : {E : Type 0} (P : Event → Type 0) (S : Colour) (moment : ℕ) (result : Result (Option LineSeen) E)
     → result ≡ Ok None → P (OutputEnds S) → P (event_read S moment result)
-heard_none P S moment result e p = subst (λ v. P (event_read S moment v)) (sym e) p
+event_none P S moment result e p = subst (λ v. P (event_read S moment v)) (sym e) p
 
-pub heard_last : {E : Type 0} (P : Event → Type 0) (S : Colour) (moment : ℕ) (result : Result (Option LineSeen) E)
+pub event_last : {E : Type 0} (P : Event → Type 0) (S : Colour) (moment : ℕ) (result : Result (Option LineSeen) E)
     (line : LineSeen) → result ≡ Ok (Some line) → line.ended ≡ false → P (OutputEnds S)
     → P (event_read S moment result)
-heard_last P S moment result line e f p =
+event_last P S moment result line e f p =
     subst (λ v. P (event_read S moment v)) (sym e)
     (subst (λ (b : Bool). P (if b then Line S (text_read line) moment else OutputEnds S)) (sym f) p)

@@ -24,7 +24,7 @@ use Rattle.chess_match.specs.Run.{RanBefore}
 use Rattle.chess_match.specs.ties.Represents.{name_by}
 use Rattle.chess_match.specs.ties.Reported.{IsReported}
 use Rattle.chess_match.specs.Transcript.{match_of, engine_name}
-use Rattle.chess_match.proofs.UnderWay.{IsUnderWay}
+use Rattle.chess_match.proofs.RunInvariant.{IsUnderWay}
 use Rattle.chess_match.specs.declared.phase.Phase.TheVariants.{Over}
 use Rattle.chess_match.specs.declared.reason.Reason.{Reason}
 use Rattle.chess_match.specs.declared.run.Failed.{Failed}
@@ -37,7 +37,8 @@ unfolding name_by
 name_kept m S name e = e
 
 -- outcome, comment and kind of an end are those of its reason
-one_report : (reason : Reason) (outcome : Outcome) (comment : List ℕ) (ended : HowEnded) → outcome ≡ outcome_by_reason reason
+one_report : (reason : Reason) (outcome : Outcome) (comment : List ℕ) (ended : HowEnded) → outcome
+    ≡ outcome_by_reason reason
     → comment ≡ comment_of reason → ended ≡ ended_by reason → reported reason ≡ (outcome, comment, ended)
 one_report reason outcome comment ended o c e = rw (o, c, e) refl
 
@@ -73,8 +74,8 @@ outcome_by v d = option_map_or verdict_outcome v (option_map_or (λ (x : Declare
 
 -- where the game has no verdict, its outcome is the one that is reported
 pub told_outcome : (h h' : game.Seen) (reason : Reason) (outcome : Outcome)
-    → h' ≡ game.with_state h (with_declared h.state (declared_at (verdict_now h.state) reason)) → outcome ≡ outcome_by_reason reason
-    → verdict_now h'.state ≡ None → outcome_now h'.state ≡ outcome
+    → h' ≡ game.with_state h (with_declared h.state (declared_at (verdict_now h.state) reason)) → outcome
+    ≡ outcome_by_reason reason → verdict_now h'.state ≡ None → outcome_now h'.state ≡ outcome
 told_outcome h h' reason outcome e o none =
     subst (λ (x : game.Seen). verdict_now x.state ≡ None → outcome_now x.state ≡ outcome) (sym e)
     (undecided (verdict_now h.state)) none
@@ -83,10 +84,12 @@ told_outcome h h' reason outcome e o none =
     undecided None is = sym o
     undecided (Some v) is = cc
 
-pub ran : (g h h' : game.Seen) (start : Setup) (level : LevelSeen) (T : List Event) (core : MatchState) (reason : Reason)
+pub ran : (g h h' : game.Seen) (start : Setup) (level : LevelSeen) (T : List Event) (core : MatchState)
+    (reason : Reason)
     (failed : Failed) (end : MatchEnd) (nw nb nw' nb' : InputState) (held : Colour → Held) (ow ob ow' ob' : OutputState)
     (coming coming' : ℕ → Option ℕ) (notes notes' : Noted)
-    → IsUnderWay (rules_of start level g.limit) T core h.state.moves (by_colour failed.white failed.black) (by_colour nw nb)
+    → IsUnderWay (rules_of start level g.limit) T core h.state.moves (by_colour failed.white failed.black)
+    (by_colour nw nb)
     (by_colour nw' nb') held (by_colour ow ob) (by_colour ow' ob') coming coming' notes notes'
     → core.phase ≡ Over reason → IsReported reason failed end → end.white_name ≡ core.white.name
     → end.black_name ≡ core.black.name
@@ -106,7 +109,7 @@ ran g h h' start level T core reason failed end nw nb nw' nb' held ow ob ow' ob'
         record {
           fitting = u.fitting;
           ending = sym u.stands.phase ∙ over;
-          read = λ S. ((u.heard S).0, (u.heard S).1);
+          read = λ S. ((u.outputs S).0, (u.outputs S).1);
           written = u.written;
           failing = u.failing;
           moments = u.moments;

@@ -15,14 +15,16 @@ text_at_last as_san start [] m = refl
 text_at_last as_san start (x ∷ []) m = refl
 text_at_last as_san start (x ∷ y ∷ ms) m = text_at_last as_san (after start x) (y ∷ ms) m
 
-pub after_last : (start : Setup) (ms : List Move) (m : Move) → position_after start (ms ++ m ∷ []) ≡ after (position_after start ms) m
+pub after_last : (start : Setup) (ms : List Move) (m : Move) → position_after start (ms ++ m ∷ [])
+    ≡ after (position_after start ms) m
 after_last start [] m = refl
 after_last start (x ∷ ms) m = after_last (after start x) ms m
 
 -- a move's texts, of which the one by squares and the one in SAN but for its mark are made before it is played, and the
 -- mark after that
 pub texts_of_last : (start : Setup) (ms : List Move) (m : Move) (unmarked written squares : List ℕ) (next : Setup)
-    → next ≡ position_after start (ms ++ m ∷ []) → unmarked ++ check_mark (after (position_after start ms) m) ≡ san (position_after start ms) m
+    → next ≡ position_after start (ms ++ m ∷ []) → unmarked ++ check_mark (after (position_after start ms) m)
+    ≡ san (position_after start ms) m
     → written ≡ unmarked ++ check_mark next → squares ≡ shown_move (position_after start ms) m
     → (as_san : Bool) → (if as_san then written else squares) ≡ text_of_last as_san start (ms ++ m ∷ [])
 texts_of_last start ms m unmarked written squares next at before marked shown as_san =

@@ -12,7 +12,7 @@ use Rattle.chess_match.specs.Rules.{Rules}
 use Rattle.chess_match.specs.Sent.{SentLine, lines_on_entering, block}
 use Rattle.chess_match.specs.Transcript.{reads, opens, fits_next, fits_from}
 use Rattle.chess_match.specs.declared.phase.Phase.{Phase}
-use Rattle.chess_match.specs.declared.phase.Phase.TheVariants.{Hello, Setup, SendTurn, AwaitMove, AwaitPong, Over}
+use Rattle.chess_match.specs.declared.phase.Phase.TheVariants.{Handshake, Setup, SendTurn, AwaitMove, AwaitPong, Over}
 use Rattle.chess_match.specs.declared.reason.Reason.{Reason}
 use Rattle.chess_match.specs.declared.reason.Reason.TheVariants.{Agreed, Decided}
 use Rattle.chess_match.proofs.Outcomes.{Lines, line_outcome, opens_at, and_first, and_second}
@@ -25,15 +25,15 @@ one_if false = 0
 -- before a match in this phase, with so many lines ignored, so many moves played, and an offer of that side or none,
 -- there were at most so many lines
 abbrev AreFew : ℕ → ℕ → Phase → ℕ → ℕ → (Colour → Bool) → Type 0
-AreFew limit k (Hello White) count n offers = (k ≤ count) × (count < 1000) × (n ≡ 0)
-AreFew limit k (Hello Black) count n offers = (k ≤ 1000 + count) × (count < 1000) × (n ≡ 0)
+AreFew limit k (Handshake White) count n offers = (k ≤ count) × (count < 1000) × (n ≡ 0)
+AreFew limit k (Handshake Black) count n offers = (k ≤ 1000 + count) × (count < 1000) × (n ≡ 0)
 AreFew limit k (Setup White) count n offers = (k ≤ 2000 + count) × (count < 10000) × (n ≡ 0)
 AreFew limit k (Setup Black) count n offers = (k ≤ 12000 + count) × (count < 10000) × (n ≡ 0)
 AreFew limit k (SendTurn c) count n offers = (k ≤ 22000 + 10002 * n) × (count < 10000) × (n ≤ limit)
 AreFew limit k (AwaitMove c) count n offers = (k ≤ 22000 + 10002 * n + count + one_if (offers c)) × (count < 10000)
     × (n ≤ limit)
-AreFew limit k (AwaitPong c) count n offers = (k + 10001 ≤ 22000 + 10002 * n + count + one_if (offers c)) × (count < 10000)
-    × (n ≤ limit)
+AreFew limit k (AwaitPong c) count n offers = (k + 10001 ≤ 22000 + 10002 * n + count + one_if (offers c))
+    × (count < 10000) × (n ≤ limit)
 AreFew limit k (Over reason) count n offers = k ≤ 22000 + 10002 * (limit + 1)
 
 abbrev Few : Rules → ℕ → Match → Type 0
@@ -54,33 +54,35 @@ at_most_one false = omega arith
 
 -- one line more
 
-heard_ends : (r : Rules) (k : ℕ) (S : Colour) (items : List Item) (reason : Reason) (m : Match) → FewIn r k (Hello S) m
-    → Few r (k + 1) (over reason (take_items S items m))
-heard_ends r k White items reason m w = omega (arith, w.0, w.1)
-heard_ends r k Black items reason m w = omega (arith, w.0, w.1)
+few_at_end : (r : Rules) (k : ℕ) (S : Colour) (items : List Item) (reason : Reason) (m : Match)
+    → FewIn r k (Handshake S) m → Few r (k + 1) (over reason (take_items S items m))
+few_at_end r k White items reason m w = omega (arith, w.0, w.1)
+few_at_end r k Black items reason m w = omega (arith, w.0, w.1)
 
-heard_counts : (r : Rules) (k : ℕ) (S : Colour) (items : List Item) (m : Match) → m.phase ≡ Hello S
-    → FewIn r k (Hello S) m → m.count + 1 < 1000
+few_counted : (r : Rules) (k : ℕ) (S : Colour) (items : List Item) (m : Match) → m.phase ≡ Handshake S
+    → FewIn r k (Handshake S) m → m.count + 1 < 1000
     → (let m' = take_items S items m in Few r (k + 1) (record m' { count = m.count + 1 }))
-heard_counts r k White items m e w few = from_phase r (k + 1)
-    (let m' = take_items White items m in record m' { count = m.count + 1 }) (Hello White) e (omega (arith, w.0), few, w.2)
-heard_counts r k Black items m e w few = from_phase r (k + 1)
-    (let m' = take_items Black items m in record m' { count = m.count + 1 }) (Hello Black) e (omega (arith, w.0), few, w.2)
+few_counted r k White items m e w few = from_phase r (k + 1)
+    (let m' = take_items White items m in record m' { count = m.count + 1 }) (Handshake White) e
+    (omega (arith, w.0), few, w.2)
+few_counted r k Black items m e w few = from_phase r (k + 1)
+    (let m' = take_items Black items m in record m' { count = m.count + 1 }) (Handshake Black) e
+    (omega (arith, w.0), few, w.2)
 
-heard_next : (r : Rules) (k : ℕ) (S : Colour) (items : List Item) (m : Match) → S ≡ White → FewIn r k (Hello White) m
-    → Few r (k + 1) (enter (Hello Black) (take_items S items m))
-heard_next r k White items m s w = (omega (arith, w.0, w.1), omega arith, w.2)
-heard_next r k Black items m s w = cc
+few_at_next : (r : Rules) (k : ℕ) (S : Colour) (items : List Item) (m : Match) → S ≡ White
+    → FewIn r k (Handshake White) m → Few r (k + 1) (enter (Handshake Black) (take_items S items m))
+few_at_next r k White items m s w = (omega (arith, w.0, w.1), omega arith, w.2)
+few_at_next r k Black items m s w = cc
 
-heard_done : (r : Rules) (k : ℕ) (S : Colour) (items : List Item) (m : Match) → S ≡ Black → FewIn r k (Hello Black) m
-    → Few r (k + 1) (enter (Setup White) (take_items S items m))
-heard_done r k Black items m s w = (omega (arith, w.0, w.1), omega arith, w.2)
-heard_done r k White items m s w = cc
+few_at_done : (r : Rules) (k : ℕ) (S : Colour) (items : List Item) (m : Match) → S ≡ Black
+    → FewIn r k (Handshake Black) m → Few r (k + 1) (enter (Setup White) (take_items S items m))
+few_at_done r k Black items m s w = (omega (arith, w.0, w.1), omega arith, w.2)
+few_at_done r k White items m s w = cc
 
-heard_judged : (r : Rules) (k : ℕ) (S : Colour) (items : List Item) (reason : Reason) (m : Match) → S ≡ Black
-    → FewIn r k (Hello Black) m → Few r (k + 1) (enter (Over reason) (take_items S items m))
-heard_judged r k Black items reason m s w = omega (arith, w.0, w.1)
-heard_judged r k White items reason m s w = cc
+few_judged : (r : Rules) (k : ℕ) (S : Colour) (items : List Item) (reason : Reason) (m : Match) → S ≡ Black
+    → FewIn r k (Handshake Black) m → Few r (k + 1) (enter (Over reason) (take_items S items m))
+few_judged r k Black items reason m s w = omega (arith, w.0, w.1)
+few_judged r k White items reason m s w = cc
 
 setup_over : (r : Rules) (k : ℕ) (S : Colour) (reason : Reason) (m : Match) → FewIn r k (Setup S) m
     → Few r (k + 1) (over reason m)
@@ -158,8 +160,8 @@ few_over : (r : Rules) (k : ℕ) (reason : Reason) (m : Match) → Few r k m →
 few_over r k reason m w = at m.phase w
   where
     at : (p : Phase) → FewIn r k p m → k ≤ 22000 + 10002 * (r.limit + 1)
-    at (Hello White) w = omega (arith, w.0, w.1)
-    at (Hello Black) w = omega (arith, w.0, w.1)
+    at (Handshake White) w = omega (arith, w.0, w.1)
+    at (Handshake Black) w = omega (arith, w.0, w.1)
     at (Setup White) w = omega (arith, w.0, w.1)
     at (Setup Black) w = omega (arith, w.0, w.1)
     at (SendTurn c) w = omega (arith, w.0, w.1, w.2)
@@ -170,11 +172,12 @@ few_over r k reason m w = at m.phase w
 lines : (r : Rules) (k : ℕ) (S : Colour) (kind : LineKind) (moment : ℕ) (m : Match) → Few r k m
     → Lines r S kind moment m (λ m'. Few r (k + 1) m')
 lines r k S kind moment m w = record {
-  hello_ends = λ p d. heard_ends r k S (items_of_line kind) Agreed m (into_phase r k m (Hello S) p w);
-  hello_counts = λ p d few. heard_counts r k S (items_of_line kind) m p (into_phase r k m (Hello S) p w) few;
-  hello_next = λ p s d. heard_next r k S (items_of_line kind) m s (into_phase r k m (Hello White) p w);
-  hello_judged = λ p s d c x. heard_judged r k S (items_of_line kind) Agreed m s (into_phase r k m (Hello Black) p w);
-  hello_done = λ p s d. heard_done r k S (items_of_line kind) m s (into_phase r k m (Hello Black) p w);
+  handshake_ends = λ p d. few_at_end r k S (items_of_line kind) Agreed m (into_phase r k m (Handshake S) p w);
+  handshake_counts = λ p d few. few_counted r k S (items_of_line kind) m p (into_phase r k m (Handshake S) p w) few;
+  handshake_next = λ p s d. few_at_next r k S (items_of_line kind) m s (into_phase r k m (Handshake White) p w);
+  handshake_judged = λ p s d c x. few_judged r k S (items_of_line kind) Agreed m s
+      (into_phase r k m (Handshake Black) p w);
+  handshake_done = λ p s d. few_at_done r k S (items_of_line kind) m s (into_phase r k m (Handshake Black) p w);
   setup_ends = λ p reason n. setup_over r k S reason m (into_phase r k m (Setup S) p w);
   setup_counts = λ p pong few. setup_more r k S m p (into_phase r k m (Setup S) p w) few;
   setup_next = λ p s pong. setup_next (into_phase r k m (Setup White) p w);
@@ -186,7 +189,8 @@ lines r k S kind moment m w = record {
       offers = λ none own theirs. before_offers r k S m p (into_phase r k m (AwaitMove S) p w) own;
     };
     plays = λ text move is reading room timely. plays_more r k S move _ m (into_phase r k m (AwaitMove S) p w) room;
-    decides = λ text move v is reading room timely. before_over r k S (Decided v) m (into_phase r k m (AwaitMove S) p w);
+    decides = λ text move v is reading room timely. before_over r k S (Decided v) m
+        (into_phase r k m (AwaitMove S) p w);
   };
   behind = λ p. record {
     row = record {
@@ -226,13 +230,17 @@ few r due m (Line S t n ∷ T) k f w =
     (and_second (reads m.phase S) _ f) next in
     omega (arith, h)
 few r due m (Opened S n ∷ T) k f w =
-    few r (block r m (match_after r m (Opened S n))) (match_after r m (Opened S n)) T k (and_second (opens m.phase S) _ f)
+    few r (block r m (match_after r m (Opened S n))) (match_after r m (Opened S n)) T k
+    (and_second (opens m.phase S) _ f)
     (few_opened r k S n m (and_first (opens m.phase S) _ f) w)
-few r due m (OutputEnds S ∷ T) k f w = few r (block r m (match_after r m (OutputEnds S))) (match_after r m (OutputEnds S)) T k
+few r due m (OutputEnds S ∷ T) k f w = few r (block r m (match_after r m (OutputEnds S)))
+    (match_after r m (OutputEnds S)) T k
     (and_second (fits_next due m (OutputEnds S)) _ f) (few_over r k Agreed m w)
-few r due m (FailsToRead S ∷ T) k f w = few r (block r m (match_after r m (FailsToRead S))) (match_after r m (FailsToRead S)) T k
+few r due m (FailsToRead S ∷ T) k f w = few r (block r m (match_after r m (FailsToRead S)))
+    (match_after r m (FailsToRead S)) T k
     (and_second (fits_next due m (FailsToRead S)) _ f) (few_over r k Agreed m w)
-few r due m (FailsToWrite S ∷ T) k f w = few r (block r m (match_after r m (FailsToWrite S))) (match_after r m (FailsToWrite S)) T k
+few r due m (FailsToWrite S ∷ T) k f w = few r (block r m (match_after r m (FailsToWrite S)))
+    (match_after r m (FailsToWrite S)) T k
     (and_second (fits_next due m (FailsToWrite S)) _ f) (few_over r k Agreed m w)
 
 pub lines_are_few : LinesAreFew

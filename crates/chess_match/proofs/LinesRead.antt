@@ -12,7 +12,7 @@ use Rattle.chess_base.proofs.MenFacts.{same_colour-self}
 use Rattle.text_lines.specs.Lines.{LineSeen, Held}
 use Rattle.text_lines.specs.Next.{NextLine, GotLine, GotLast, work}
 use Rattle.chess_match.specs.ties.Delivering.{event_read, Delivered}
-use Rattle.chess_match.proofs.Hearing.{is_heard_of, Tells, HearsAt}
+use Rattle.chess_match.proofs.EngineOutput.{is_of_output, Reports, OutputAt}
 use Rattle.chess_match.specs.Match.{Match, Event, Line, OutputEnds, FailsToRead, match_after}
 use Rattle.chess_match.specs.Notes.{Noted}
 use Rattle.chess_match.specs.Rules.{Rules}
@@ -20,11 +20,11 @@ use Rattle.chess_match.specs.Run.{text_read}
 use Rattle.chess_match.specs.Sent.{SentLine}
 use Rattle.chess_match.specs.ties.Steps.{IsSane}
 use Rattle.chess_match.specs.Transcript.{reads, opens, is_on, fits_next}
-use Rattle.chess_match.proofs.UnderWay.{steps_left}
+use Rattle.chess_match.proofs.RunInvariant.{steps_left}
 use Rattle.chess_match.specs.declared.phase.Phase.{Phase}
-use Rattle.chess_match.specs.declared.phase.Phase.TheVariants.{Hello, Setup, SendTurn, AwaitMove, AwaitPong, Over}
+use Rattle.chess_match.specs.declared.phase.Phase.TheVariants.{Handshake, Setup, SendTurn, AwaitMove, AwaitPong, Over}
 use Rattle.chess_match.specs.declared.state.MatchState.{MatchState}
-use Rattle.chess_match.proofs.Runs.{nothing_due}
+use Rattle.chess_match.proofs.LongerTranscripts.{nothing_due}
 use Rattle.chess_match.proofs.Sane.{sane_over, sane_line}
 use Rattle.chess_match.proofs.Outcomes.{not_other}
 use Rattle.chess_match.specs.declared.run.TheConstants.{ENGINE_LINE_LEN}
@@ -38,74 +38,74 @@ by_ended P S line moment b e p = subst (λ (x : Bool). P (if x then Line S (text
     (sym e) p
 
 -- a property of lines, ends and failures is one of what is read
-pub heard_is : {E : Type 0} (P : Event → Type 0) (S : Colour) (moment : ℕ) (result : Result (Option LineSeen) E)
+pub event_is : {E : Type 0} (P : Event → Type 0) (S : Colour) (moment : ℕ) (result : Result (Option LineSeen) E)
     → ((text : Option (List ℕ)) → P (Line S text moment)) → P (OutputEnds S) → P (FailsToRead S)
     → P (event_read S moment result)
-heard_is P S moment (Err x) l e f = f
-heard_is P S moment (Ok None) l e f = e
-heard_is P S moment (Ok (Some line)) l e f = by_either line.ended refl
+event_is P S moment (Err x) l e f = f
+event_is P S moment (Ok None) l e f = e
+event_is P S moment (Ok (Some line)) l e f = by_either line.ended refl
   where
     by_either : (b : Bool) → line.ended ≡ b → P (if line.ended then Line S (text_read line) moment else OutputEnds S)
     by_either true h = by_ended P S line moment true h (l (text_read line))
     by_either false h = by_ended P S line moment false h e
 
-pub heard_of : {E : Type 0} (S : Colour) (moment : ℕ) (result : Result (Option LineSeen) E)
-    → is_heard_of S (event_read S moment result) ≡ true
-heard_of S moment result =
-    heard_is (λ e. is_heard_of S e ≡ true) S moment result (λ text. same_colour-self S) (same_colour-self S)
+pub event_of : {E : Type 0} (S : Colour) (moment : ℕ) (result : Result (Option LineSeen) E)
+    → is_of_output S (event_read S moment result) ≡ true
+event_of S moment result =
+    event_is (λ e. is_of_output S e ≡ true) S moment result (λ text. same_colour-self S) (same_colour-self S)
     (same_colour-self S)
 
-pub heard_of_none : {E : Type 0} (S : Colour) (moment : ℕ) (result : Result (Option LineSeen) E)
-    → is_heard_of (other S) (event_read S moment result) ≡ false
-heard_of_none S moment result = heard_is (λ e. is_heard_of (other S) e ≡ false) S moment result (λ text. not_other S)
+pub event_of_none : {E : Type 0} (S : Colour) (moment : ℕ) (result : Result (Option LineSeen) E)
+    → is_of_output (other S) (event_read S moment result) ≡ false
+event_of_none S moment result = event_is (λ e. is_of_output (other S) e ≡ false) S moment result (λ text. not_other S)
     (not_other S) (not_other S)
 
-pub heard_fits : {E : Type 0} (m : Match) (S : Colour) (moment : ℕ) (result : Result (Option LineSeen) E)
+pub event_fits : {E : Type 0} (m : Match) (S : Colour) (moment : ℕ) (result : Result (Option LineSeen) E)
     → reads m.phase S ≡ true → fits_next nothing_due m (event_read S moment result) ≡ true
-heard_fits m S moment result h = heard_is (λ e. fits_next nothing_due m e ≡ true) S moment result (λ text. h) h h
+event_fits m S moment result h = event_is (λ e. fits_next nothing_due m e ≡ true) S moment result (λ text. h) h h
 
-pub heard_sane : {E : Type 0} (r : Rules) (m : Match) (S : Colour) (moment : ℕ) (result : Result (Option LineSeen) E)
+pub event_sane : {E : Type 0} (r : Rules) (m : Match) (S : Colour) (moment : ℕ) (result : Result (Option LineSeen) E)
     → IsSane r m → IsSane r (match_after r m (event_read S moment result))
-heard_sane r m S moment result s = heard_is (λ e. IsSane r (match_after r m e)) S moment result
+event_sane r m S moment result s = event_is (λ e. IsSane r (match_after r m e)) S moment result
     (λ text. sane_line r m S text moment s) (sane_over r m _ s) (sane_over r m _ s)
 
 -- ---- what reported it
 
-hears_as : (S : Colour) (e : Event) (r r' : InputState) (h h' : Held) (more : List ℕ) → is_heard_of S e ≡ true
-    → Consumes r.known_bytes r'.known_bytes more → Tells e r r' h h' more → HearsAt S e r r' h h'
-hears_as S e r r' h h' more is b t =
+output_as : (S : Colour) (e : Event) (r r' : InputState) (h h' : Held) (more : List ℕ) → is_of_output S e ≡ true
+    → Consumes r.known_bytes r'.known_bytes more → Reports e r r' h h' more → OutputAt S e r r' h h'
+output_as S e r r' h h' more is b t =
     subst (λ (x : Bool). MatchBool x
-    ((given : List ℕ) × Consumes r.known_bytes r'.known_bytes given × Tells e r r' h h' given)
+    ((given : List ℕ) × Consumes r.known_bytes r'.known_bytes given × Reports e r r' h h' given)
     ((r' ≡ r) × (h' ≡ h))) (sym is) (more, b, t)
 
-pub own_hears : {E : Type 0} (S : Colour) (moment : ℕ) (r r' : InputState) (h h' : Held)
+pub own_output_at : {E : Type 0} (S : Colour) (moment : ℕ) (r r' : InputState) (h h' : Held)
     (result : Result (Option LineSeen) E) → NextLine ENGINE_LINE_LEN r r' h h' result
-    → HearsAt S (event_read S moment result) r r' h h'
-own_hears S moment r r' h h' (Err x) (more, b, w, got) =
-    hears_as S (FailsToRead S) r r' h h' more (same_colour-self S) b got
-own_hears S moment r r' h h' (Ok None) (more, b, w, got) =
-    hears_as S (OutputEnds S) r r' h h' more (same_colour-self S) b (inr got)
-own_hears S moment r r' h h' (Ok (Some line)) (more, b, w, got) = by_whether line.ended refl got
+    → OutputAt S (event_read S moment result) r r' h h'
+own_output_at S moment r r' h h' (Err x) (more, b, w, got) =
+    output_as S (FailsToRead S) r r' h h' more (same_colour-self S) b got
+own_output_at S moment r r' h h' (Ok None) (more, b, w, got) =
+    output_as S (OutputEnds S) r r' h h' more (same_colour-self S) b (inr got)
+own_output_at S moment r r' h h' (Ok (Some line)) (more, b, w, got) = by_whether line.ended refl got
   where
     by_whether : (x : Bool) → line.ended ≡ x
         → MatchBool x (GotLine ENGINE_LINE_LEN r r' h h' more line) (GotLast ENGINE_LINE_LEN r r' h h' more line)
-        → HearsAt S (if line.ended then Line S (text_read line) moment else OutputEnds S) r r' h h'
-    by_whether true e g = by_ended (λ v. HearsAt S v r r' h h') S line moment true e
-        (hears_as S (Line S (text_read line) moment) r r' h h' more (same_colour-self S) b (line, g, refl))
-    by_whether false e g = by_ended (λ v. HearsAt S v r r' h h') S line moment false e
-        (hears_as S (OutputEnds S) r r' h h' more (same_colour-self S) b (inl (line, g)))
+        → OutputAt S (if line.ended then Line S (text_read line) moment else OutputEnds S) r r' h h'
+    by_whether true e g = by_ended (λ v. OutputAt S v r r' h h') S line moment true e
+        (output_as S (Line S (text_read line) moment) r r' h h' more (same_colour-self S) b (line, g, refl))
+    by_whether false e g = by_ended (λ v. OutputAt S v r r' h h') S line moment false e
+        (output_as S (OutputEnds S) r r' h h' more (same_colour-self S) b (inl (line, g)))
 
-pub others_hear_none : (S : Colour) (e : Event) (r r' : InputState) (h h' : Held) → is_heard_of S e ≡ false → r' ≡ r
-    → h' ≡ h → HearsAt S e r r' h h'
-others_hear_none S e r r' h h' is same kept =
+pub no_output_of_others : (S : Colour) (e : Event) (r r' : InputState) (h h' : Held) → is_of_output S e ≡ false → r' ≡ r
+    → h' ≡ h → OutputAt S e r r' h h'
+no_output_of_others S e r r' h h' is same kept =
     subst (λ (x : Bool). MatchBool x
-    ((given : List ℕ) × Consumes r.known_bytes r'.known_bytes given × Tells e r r' h h' given)
+    ((given : List ℕ) × Consumes r.known_bytes r'.known_bytes given × Reports e r r' h h' given)
     ((r' ≡ r) × (h' ≡ h))) (sym is) (same, kept)
 
 -- ---- what is left to do
 
 a_step : (p : Phase) (S : Colour) (n : ℕ) → reads p S ≡ true → steps_left p n ≡ 3 * n + 1
-a_step (Hello c) S n h = refl
+a_step (Handshake c) S n h = refl
 a_step (Setup c) S n h = refl
 a_step (AwaitMove c) S n h = refl
 a_step (AwaitPong c) S n h = refl
@@ -114,14 +114,14 @@ a_step (Over x) S n h = absurd cc
 
 two_steps : (p : Phase) (S : Colour) (n : ℕ) → opens p S ≡ true → steps_left p n ≡ 3 * n + 2
 two_steps (SendTurn c) S n h = refl
-two_steps (Hello c) S n h = absurd cc
+two_steps (Handshake c) S n h = absurd cc
 two_steps (Setup c) S n h = absurd cc
 two_steps (AwaitMove c) S n h = absurd cc
 two_steps (AwaitPong c) S n h = absurd cc
 two_steps (Over x) S n h = absurd cc
 
 few_steps : (p : Phase) (n : ℕ) → steps_left p n ≤ 3 * n + 2
-few_steps (Hello c) n = omega arith
+few_steps (Handshake c) n = omega arith
 few_steps (Setup c) n = omega arith
 few_steps (SendTurn c) n = omega arith
 few_steps (AwaitMove c) n = omega arith
@@ -137,7 +137,7 @@ line_less p p' S n n' h less = omega (arith, a_step p S n h, few_steps p' n', le
 over_less : (p p' : Phase) (S : Colour) (n n' : ℕ) → reads p S ≡ true → is_on p' ≡ false
     → steps_left p' n' < steps_left p n
 over_less p (Over x) S n n' h o = omega (arith, a_step p S n h)
-over_less p (Hello c) S n n' h o = absurd cc
+over_less p (Handshake c) S n n' h o = absurd cc
 over_less p (Setup c) S n n' h o = absurd cc
 over_less p (SendTurn c) S n n' h o = absurd cc
 over_less p (AwaitMove c) S n n' h o = absurd cc
@@ -149,13 +149,14 @@ one_less : (S : Colour) (f f' : Colour → ℕ) → f' S < f S → f' (other S) 
 one_less White f f' l e = omega (arith, l, e)
 one_less Black f f' l e = omega (arith, l, e)
 
-over_after : (r : Rules) (core : MatchState) (played : List Move) (m : Match) (due : Colour → List SentLine) (first : Colour)
+over_after : (r : Rules) (core : MatchState) (played : List Move) (m : Match) (due : Colour → List SentLine)
+    (first : Colour)
     (w w' : Colour → OutputState) (failed : Colour → Bool) (notes notes' : Noted) → is_on m.phase ≡ false
     → Delivered r core played m due first w w' failed notes notes' → is_on core.phase ≡ false
 over_after r core played m due first w w' failed notes notes' o (inl s) = ap is_on s.stands.phase ∙ o
 over_after r core played m due first w w' failed notes notes' o (inr (c, s)) = ap is_on s.stands.phase
 
-pub heard_less : {E : Type 0} (r : Rules) (p : Phase) (core : MatchState) (played : List Move) (m : Match) (S : Colour)
+pub event_less : {E : Type 0} (r : Rules) (p : Phase) (core : MatchState) (played : List Move) (m : Match) (S : Colour)
     (moment : ℕ) (result : Result (Option LineSeen) E) (due : Colour → List SentLine) (n n' : Colour → InputState)
     (h h' : Colour → Held) (w w' : Colour → OutputState) (failed : Colour → Bool)
     (notes notes' : Noted)
@@ -165,11 +166,14 @@ pub heard_less : {E : Type 0} (r : Rules) (p : Phase) (core : MatchState) (playe
     notes notes'
     → steps_left core.phase (work (n' White) (h' White) + work (n' Black) (h' Black)) < steps_left p
     (work (n White) (h White) + work (n Black) (h Black))
-heard_less r p core played m S moment (Err x) due n n' h h' w w' failed notes notes' reading (more, b, waits, got) same kept d =
+event_less r p core played m S moment (Err x) due n n' h h' w w' failed notes notes' reading (more, b, waits, got)
+    same kept d =
     over_less p core.phase S _ _ reading (over_after r core played _ due S w w' failed notes notes' refl d)
-heard_less r p core played m S moment (Ok None) due n n' h h' w w' failed notes notes' reading (more, b, waits, got) same kept d =
+event_less r p core played m S moment (Ok None) due n n' h h' w w' failed notes notes' reading (more, b, waits, got)
+    same kept d =
     over_less p core.phase S _ _ reading (over_after r core played _ due S w w' failed notes notes' refl d)
-heard_less r p core played m S moment (Ok (Some line)) due n n' h h' w w' failed notes notes' reading (more, b, waits, got) same kept
+event_less r p core played m S moment (Ok (Some line)) due n n' h h' w w' failed notes notes' reading
+    (more, b, waits, got) same kept
     d = by_whether line.ended refl got
   where
     by_whether : (x : Bool) → line.ended ≡ x → MatchBool x (GotLine ENGINE_LINE_LEN (n S) (n' S) (h S) (h' S) more line)
@@ -184,5 +188,6 @@ heard_less r p core played m S moment (Ok (Some line)) due n n' h h' w w' failed
         over_less p core.phase S _ _ reading
         (over_after r core played _ due S w w' failed notes notes' refl
         (subst (λ (v : Bool).
-        Delivered r core played (match_after r m (if v then Line S (text_read line) moment else OutputEnds S)) due S w w'
+        Delivered r core played (match_after r m (if v then Line S (text_read line) moment else OutputEnds S)) due S w
+        w'
         failed notes notes') e d))

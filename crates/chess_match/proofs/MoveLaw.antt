@@ -21,15 +21,15 @@ use Rattle.chess_base.specs.declared.man.Variant.{Variant}
 use Rattle.chess_base.specs.declared.man.Variant.TheVariants.{Normal, Fischerandom}
 use Rattle.chess_base.proofs.MenFacts.{same_colour-true}
 use Rattle.chess_match.specs.declared.phase.Phase.{Phase}
-use Rattle.chess_match.specs.declared.phase.Phase.TheVariants.{Hello, Setup, SendTurn, AwaitMove, AwaitPong, Over}
+use Rattle.chess_match.specs.declared.phase.Phase.TheVariants.{Handshake, Setup, SendTurn, AwaitMove, AwaitPong, Over}
 use Rattle.chess_match.specs.declared.reason.Reason.{Reason}
 use Rattle.chess_match.specs.declared.reason.Reason.TheVariants.{Decided, Faulted}
 use Rattle.chess_match.specs.declared.reason.MatchFault.{MatchFault}
 use Rattle.chess_match.specs.declared.reason.MatchFault.TheVariants.{NoDone, Ended, Read, Write}
 use Rattle.chess_match.proofs.Blocks.{if_nil, of_block, joined_at}
 use Rattle.chess_match.proofs.Outcomes.{Lines, InTurn, line_outcome, opens_at, and_first, and_second}
-use Rattle.chess_match.proofs.Going.{hear_phase, leaves, offered, plain_block, reads_on, reads_stays}
-use Rattle.chess_match.proofs.Seats.{hear_played, hear_untold, items_same}
+use Rattle.chess_match.proofs.Going.{items_phase, leaves, offered, plain_block, reads_on, reads_stays}
+use Rattle.chess_match.proofs.Seats.{items_played, items_unsent_to, items_same}
 use Rattle.chess_match.proofs.Blocks.{told_more}
 use Rattle.cecp_engine.specs.Levels.{level_text}
 use Rattle.chess_match.specs.ties.Steps.{match_from}
@@ -62,7 +62,7 @@ texts-snoc r as_san S c before (x ∷ ms) m =
 -- no move is played before the first turn; a turn is of the side on move, which was sent the last move in its opening,
 -- and whose move is still to be sent to the other once it has moved
 abbrev pub OrderlyIn : Colour → Phase → List Move → Option Colour → Type 0
-OrderlyIn first (Hello c) played unsent_to = (played ≡ []) × (unsent_to ≡ None)
+OrderlyIn first (Handshake c) played unsent_to = (played ≡ []) × (unsent_to ≡ None)
 OrderlyIn first (Setup c) played unsent_to = (played ≡ []) × (unsent_to ≡ None)
 OrderlyIn first (SendTurn c) played unsent_to = (mover first played ≡ c) × (unsent_to ≡ None)
 OrderlyIn first (AwaitMove c) played unsent_to = (mover first played ≡ c) × (unsent_to ≡ None)
@@ -73,7 +73,8 @@ OrderlyIn first (Over reason) played unsent_to = Unit {0}
 abbrev pub Orderly : Rules → Match → Type 0
 Orderly r m = OrderlyIn r.first m.phase m.played m.unsent_to
 
-pub orderly_in : (r : Rules) (m : Match) (p : Phase) → m.phase ≡ p → Orderly r m → OrderlyIn r.first p m.played m.unsent_to
+pub orderly_in : (r : Rules) (m : Match) (p : Phase) → m.phase ≡ p → Orderly r m
+    → OrderlyIn r.first p m.played m.unsent_to
 orderly_in r m p e o = subst (λ (q : Phase). OrderlyIn r.first q m.played m.unsent_to) e o
 
 -- ---- what a phase says of moves
@@ -89,7 +90,7 @@ abbrev untold_text : Rules → Match → Colour → Option Colour → List (List
 untold_text r m O unsent_to = untold_by r O (seat m O).items m.played unsent_to
 
 abbrev entry_moves : Rules → Match → Colour → Phase → List (List ℕ)
-entry_moves r m O (Hello c) = []
+entry_moves r m O (Handshake c) = []
 entry_moves r m O (Setup c) = []
 entry_moves r m O (SendTurn c) = if same_colour c O then (if nat_lt 0 (length m.played) then last_text r m O else [])
     else []
@@ -124,7 +125,8 @@ last_moves : (r : Rules) (m : Match) (O : Colour) → moves_sent (last_move_line
 unfolding last_move_sent
 last_moves r m O = at (nat_lt 0 (length m.played))
   where
-    at : (b : Bool) → flat_map move_sent (if b then last_move_sent r m O ∷ [] else []) ≡ (if b then last_text r m O else [])
+    at : (b : Bool) → flat_map move_sent (if b then last_move_sent r m O ∷ [] else [])
+        ≡ (if b then last_text r m O else [])
     at true = refl
     at false = refl
 
@@ -145,13 +147,14 @@ opening_moves r m O = at (nat_lt 0 (length (seat m O).used))
       append-nil (flat_map move_sent (last_move_lines r m O)),
     ) (last_moves r m O)
 
-untold_moves : (r : Rules) (m : Match) (O : Colour) (unsent_to : Option Colour) → moves_sent (unsent_lines r m O unsent_to)
-    ≡ untold_text r m O unsent_to
+untold_moves : (r : Rules) (m : Match) (O : Colour) (unsent_to : Option Colour)
+    → moves_sent (unsent_lines r m O unsent_to) ≡ untold_text r m O unsent_to
 unfolding last_move_sent
 untold_moves r m O None = refl
 untold_moves r m O (Some c) = at (same_colour c O)
   where
-    at : (b : Bool) → flat_map move_sent (if b then last_move_sent r m O ∷ [] else []) ≡ (if b then last_text r m O else [])
+    at : (b : Bool) → flat_map move_sent (if b then last_move_sent r m O ∷ [] else [])
+        ≡ (if b then last_text r m O else [])
     at true = refl
     at false = refl
 
@@ -162,7 +165,7 @@ end_moves r m O reason = flat_map-append move_sent (unsent_lines r m O m.unsent_
     ∙ append-nil (flat_map move_sent (unsent_lines r m O m.unsent_to)) ∙ untold_moves r m O m.unsent_to
 
 entry_told : (r : Rules) (m : Match) (O : Colour) (p : Phase) → moves_sent (entry_to r m O p) ≡ entry_moves r m O p
-entry_told r m O (Hello c) = at (same_colour c O)
+entry_told r m O (Handshake c) = at (same_colour c O)
   where
     at : (b : Bool) → flat_map move_sent (if b then Says (codes "xboard") ∷ Says (codes "protover 2") ∷ [] else []) ≡ []
     at true = refl
@@ -269,20 +272,20 @@ SofarBy r X O items ms unsent_to = X ++ untold_by r O items ms unsent_to
 abbrev Sofar : Rules → List (List ℕ) → Colour → Match → Type 0
 Sofar r X O m = SofarBy r X O (seat m O).items m.played m.unsent_to
 
-carried : (r : Rules) (X : List (List ℕ)) (O : Colour) (m m' : Match) → m'.played ≡ m.played → m'.unsent_to ≡ m.unsent_to
-    → m'.white.items ≡ m.white.items → m'.black.items ≡ m.black.items
+carried : (r : Rules) (X : List (List ℕ)) (O : Colour) (m m' : Match) → m'.played ≡ m.played → m'.unsent_to
+    ≡ m.unsent_to → m'.white.items ≡ m.white.items → m'.black.items ≡ m.black.items
     → Sofar r X O m → Sofar r X O m'
 carried r X O m m' p u w b h =
     rw (p, u, items_same m m' w b O) h
 
 -- nothing is sent, and nothing was, where no move is current
-fresh : (r : Rules) (X : List (List ℕ)) (O : Colour) (m m' : Match) → m.played ≡ [] → m.unsent_to ≡ None → m'.played ≡ []
-    → m'.unsent_to ≡ None → Sofar r X O m → Sofar r X O m'
+fresh : (r : Rules) (X : List (List ℕ)) (O : Colour) (m m' : Match) → m.played ≡ [] → m.unsent_to ≡ None
+    → m'.played ≡ [] → m'.unsent_to ≡ None → Sofar r X O m → Sofar r X O m'
 fresh r X O m m' p u p' u' h =
     let none : X ++ [] ≡ [] = at m.played m.unsent_to p u h in rw (p', u') none
   where
-    at : (ms : List Move) (unsent_to : Option Colour) → ms ≡ [] → unsent_to ≡ None → SofarBy r X O (seat m O).items ms unsent_to
-        → X ++ [] ≡ []
+    at : (ms : List Move) (unsent_to : Option Colour) → ms ≡ [] → unsent_to ≡ None
+        → SofarBy r X O (seat m O).items ms unsent_to → X ++ [] ≡ []
     at [] None p u h = h
     at [] (Some c) p u h = cc
     at (x ∷ ms) unsent_to p u h = cc
@@ -313,8 +316,8 @@ some_move ms move = let l : length (ms ++ move ∷ []) ≡ length ms + 1 = lengt
 abbrev Goes : Rules → List (List ℕ) → Colour → Match → Match → Type 0
 Goes r X O m m' = Told r X O false m.phase m' × Orderly r m'
 
-played_goes : (r : Rules) (X : List (List ℕ)) (S O : Colour) (move : Move) (used : ℕ) (m : Match) → m.phase ≡ AwaitMove S
-    → Orderly r m → Sofar r X O m
+played_goes : (r : Rules) (X : List (List ℕ)) (S O : Colour) (move : Move) (used : ℕ) (m : Match) → m.phase
+    ≡ AwaitMove S → Orderly r m → Sofar r X O m
     → Sofar r X O (played_by S move used m)
 played_goes r X White White move used m p o h =
     moved r X White White m.white.items m.played move (orderly_in r m (AwaitMove White) p o).0
@@ -408,47 +411,49 @@ passes_goes r X S O m p o h =
 
 -- before the first move
 
-hello_over : (r : Rules) (X : List (List ℕ)) (S O : Colour) (items : List Item) (reason : Reason) (m : Match)
+handshake_over : (r : Rules) (X : List (List ℕ)) (S O : Colour) (items : List Item) (reason : Reason) (m : Match)
     → is_on m.phase ≡ true → is_unwritten reason O ≡ false
     → (m.played ≡ []) × (m.unsent_to ≡ None) → Sofar r X O m → Goes r X O m (over reason (take_items S items m))
-hello_over r X S O items reason m on n k h = (
+handshake_over r X S O items reason m on n k h = (
   over_told r X O false m.phase reason (take_items S items m) (leaves m.phase reason on) n
-      (fresh r X O m (over reason (take_items S items m)) k.0 k.1 (hear_played S items m ∙ k.0) (hear_untold S items m ∙ k.1)
+      (fresh r X O m (over reason (take_items S items m)) k.0 k.1 (items_played S items m ∙ k.0)
+      (items_unsent_to S items m ∙ k.1)
       h),
   tt,
 )
 
-hello_counts : (r : Rules) (X : List (List ℕ)) (S O : Colour) (items : List Item) (m : Match) → reads m.phase S ≡ true
-    → (m.played ≡ []) × (m.unsent_to ≡ None) → Orderly r m → Sofar r X O m
+handshake_counts : (r : Rules) (X : List (List ℕ)) (S O : Colour) (items : List Item) (m : Match)
+    → reads m.phase S ≡ true → (m.played ≡ []) × (m.unsent_to ≡ None) → Orderly r m → Sofar r X O m
     → (let m' = take_items S items m in Goes r X O m (record m' { count = m.count + 1 }))
-hello_counts r X White O items m here k o h = (
+handshake_counts r X White O items m here k o h = (
   stays_told r X O m.phase (let m' = take_items White items m in record m' { count = m.count + 1 })
       (reads_stays m.phase White here) (reads_on m.phase White here)
       (fresh r X O m (let m' = take_items White items m in record m' { count = m.count + 1 }) k.0 k.1 k.0 k.1 h),
   o,
 )
-hello_counts r X Black O items m here k o h = (
+handshake_counts r X Black O items m here k o h = (
   stays_told r X O m.phase (let m' = take_items Black items m in record m' { count = m.count + 1 })
       (reads_stays m.phase Black here) (reads_on m.phase Black here)
       (fresh r X O m (let m' = take_items Black items m in record m' { count = m.count + 1 }) k.0 k.1 k.0 k.1 h),
   o,
 )
 
-hello_enters : (r : Rules) (X : List (List ℕ)) (S O : Colour) (items : List Item) (m : Match) → (m.played ≡ [])
+handshake_enters : (r : Rules) (X : List (List ℕ)) (S O : Colour) (items : List Item) (m : Match) → (m.played ≡ [])
     × (m.unsent_to ≡ None) → Sofar r X O m
-    → (Goes r X O m (enter (Hello Black) (take_items S items m))) × (Goes r X O m (enter (Setup White) (take_items S items m)))
-hello_enters r X S O items m k h = (
+    → (Goes r X O m (enter (Handshake Black) (take_items S items m)))
+    × (Goes r X O m (enter (Setup White) (take_items S items m)))
+handshake_enters r X S O items m k h = (
   (
-    quiet_told r X O m.phase (enter (Hello Black) (take_items S items m)) refl refl
-        (fresh r X O m (enter (Hello Black) (take_items S items m)) k.0 k.1 (hear_played S items m ∙ k.0)
-        (hear_untold S items m ∙ k.1) h),
-    (hear_played S items m ∙ k.0, hear_untold S items m ∙ k.1),
+    quiet_told r X O m.phase (enter (Handshake Black) (take_items S items m)) refl refl
+        (fresh r X O m (enter (Handshake Black) (take_items S items m)) k.0 k.1 (items_played S items m ∙ k.0)
+        (items_unsent_to S items m ∙ k.1) h),
+    (items_played S items m ∙ k.0, items_unsent_to S items m ∙ k.1),
   ),
   (
     quiet_told r X O m.phase (enter (Setup White) (take_items S items m)) refl refl
-        (fresh r X O m (enter (Setup White) (take_items S items m)) k.0 k.1 (hear_played S items m ∙ k.0)
-        (hear_untold S items m ∙ k.1) h),
-    (hear_played S items m ∙ k.0, hear_untold S items m ∙ k.1),
+        (fresh r X O m (enter (Setup White) (take_items S items m)) k.0 k.1 (items_played S items m ∙ k.0)
+        (items_unsent_to S items m ∙ k.1) h),
+    (items_played S items m ∙ k.0, items_unsent_to S items m ∙ k.1),
   ),
 )
 
@@ -473,8 +478,8 @@ setup_opens r X O m k h = (
   (rw (k.0) refl, refl),
 )
 
-judged_told : (r : Rules) (X : List (List ℕ)) (O c : Colour) (f : MatchFault) (p : Phase) (m : Match) → m.unsent_to ≡ None
-    → Sofar r X O (enter (Over (Faulted c f)) m)
+judged_told : (r : Rules) (X : List (List ℕ)) (O c : Colour) (f : MatchFault) (p : Phase) (m : Match)
+    → m.unsent_to ≡ None → Sofar r X O (enter (Over (Faulted c f)) m)
     → Told r X O false p (enter (Over (Faulted c f)) m)
 judged_told r X O c f p m u h = rw u (at (is_same_phase p (Over (Faulted c f))) (is_unwritten (Faulted c f) O)
     (rw u at h))
@@ -491,12 +496,15 @@ lines_go : (r : Rules) (X : List (List ℕ)) (S O : Colour) (kind : LineKind) (m
 lines_go r X S O kind moment m here o h =
     let on : is_on m.phase ≡ true = reads_on m.phase S here in
     record {
-      hello_ends = λ p d. hello_over r X S O (items_of_line kind) (Faulted S NoDone) m on refl
-          (orderly_in r m (Hello S) p o) h;
-      hello_counts = λ p d few. hello_counts r X S O (items_of_line kind) m here (orderly_in r m (Hello S) p o) o h;
-      hello_next = λ p s d. (hello_enters r X S O (items_of_line kind) m (orderly_in r m (Hello White) p o) h).0;
-      hello_judged = λ p s d c f. hello_judged c f (orderly_in r m (Hello Black) p o);
-      hello_done = λ p s d. (hello_enters r X S O (items_of_line kind) m (orderly_in r m (Hello Black) p o) h).1;
+      handshake_ends = λ p d. handshake_over r X S O (items_of_line kind) (Faulted S NoDone) m on refl
+          (orderly_in r m (Handshake S) p o) h;
+      handshake_counts = λ p d few. handshake_counts r X S O (items_of_line kind) m here
+          (orderly_in r m (Handshake S) p o) o h;
+      handshake_next = λ p s d. (handshake_enters r X S O (items_of_line kind) m (orderly_in r m (Handshake White) p o)
+          h).0;
+      handshake_judged = λ p s d c f. handshake_judged c f (orderly_in r m (Handshake Black) p o);
+      handshake_done = λ p s d. (handshake_enters r X S O (items_of_line kind) m (orderly_in r m (Handshake Black) p o)
+          h).1;
       setup_ends = λ p reason n. ends_goes r X O reason m on (n O) h;
       setup_counts = λ p pong few. counts_goes r X S O (m.count + 1) m here o h;
       setup_next = λ p s pong. setup_enters r X O m (orderly_in r m (Setup White) p o) h;
@@ -516,12 +524,13 @@ lines_go r X S O kind moment m here o h =
       offers = λ none own theirs. offers_goes r X S O m here o h;
     }
 
-    hello_judged : (c : Colour) (f : MatchFault) → (m.played ≡ []) × (m.unsent_to ≡ None)
+    handshake_judged : (c : Colour) (f : MatchFault) → (m.played ≡ []) × (m.unsent_to ≡ None)
         → Goes r X O m (enter (Over (Faulted c f)) (take_items S (items_of_line kind) m))
-    hello_judged c f k = (
-      judged_told r X O c f m.phase (take_items S (items_of_line kind) m) (hear_untold S (items_of_line kind) m ∙ k.1)
+    handshake_judged c f k = (
+      judged_told r X O c f m.phase (take_items S (items_of_line kind) m)
+          (items_unsent_to S (items_of_line kind) m ∙ k.1)
           (fresh r X O m (enter (Over (Faulted c f)) (take_items S (items_of_line kind) m)) k.0 k.1
-          (hear_played S (items_of_line kind) m ∙ k.0) (hear_untold S (items_of_line kind) m ∙ k.1) h),
+          (items_played S (items_of_line kind) m ∙ k.0) (items_unsent_to S (items_of_line kind) m ∙ k.1) h),
       tt,
     )
 
@@ -562,44 +571,45 @@ abbrev told_now : Rules → Match → Match → Colour → List (List ℕ)
 told_now r m m' O = if is_same_phase m.phase m'.phase then [] else entry_moves r m' O m'.phase
 
 -- where a line gives its own engine something to send, and the match goes on, the other engine is sent no move
-abbrev TellsNone : Rules → Colour → Colour → Match → Match → Type 0
-TellsNone r S O m m' = is_on m'.phase ≡ true → 0 < length (block r m m' S) → told_now r m m' O ≡ []
+abbrev SendsNone : Rules → Colour → Colour → Match → Match → Type 0
+SendsNone r S O m m' = is_on m'.phase ≡ true → 0 < length (block r m m' S) → told_now r m m' O ≡ []
 
 pub not_on : {A : Type 0} → false ≡ true → A
 not_on h = cc
 
-same_tells_none : (r : Rules) (S O : Colour) (m m' : Match) → m'.phase ≡ m.phase → reads m.phase S ≡ true
-    → TellsNone r S O m m'
-same_tells_none r S O m m' e here on some = rw (e, reads_stays m.phase S here) refl
+same_sends_none : (r : Rules) (S O : Colour) (m m' : Match) → m'.phase ≡ m.phase → reads m.phase S ≡ true
+    → SendsNone r S O m m'
+same_sends_none r S O m m' e here on some = rw (e, reads_stays m.phase S here) refl
 
 opening_apart : (r : Rules) (S : Colour) (m : Match) → m.phase ≡ AwaitPong S → block r m (open_turn (other S) m) S ≡ []
 opening_apart r White m p = plain_block r m (open_turn Black m) false refl refl (rw p refl) White
 opening_apart r Black m p = plain_block r m (open_turn White m) false refl refl (rw p refl) Black
 
-passes_none : (r : Rules) (S O : Colour) (m : Match) → m.phase ≡ AwaitPong S → TellsNone r S O m (open_turn (other S) m)
+passes_none : (r : Rules) (S O : Colour) (m : Match) → m.phase ≡ AwaitPong S → SendsNone r S O m (open_turn (other S) m)
 passes_none r S O m p on some = let none : 0 < 0 = rw (opening_apart r S m p) at some in absurd (omega (arith, none))
 
 plays_none : (r : Rules) (S O : Colour) (move : Move) (used : ℕ) (m : Match)
-    → TellsNone r S O m (played_by S move used m)
+    → SendsNone r S O m (played_by S move used m)
 plays_none r White O move used m on some = if_nil (is_same_phase m.phase (AwaitPong White)) [] refl
 plays_none r Black O move used m on some = if_nil (is_same_phase m.phase (AwaitPong Black)) [] refl
 
-offers_none : (r : Rules) (S O : Colour) (m : Match) → reads m.phase S ≡ true → TellsNone r S O m (offered S m)
+offers_none : (r : Rules) (S O : Colour) (m : Match) → reads m.phase S ≡ true → SendsNone r S O m (offered S m)
 offers_none r White O m here on some = rw (reads_stays m.phase White here) refl
 offers_none r Black O m here on some = rw (reads_stays m.phase Black here) refl
 
 lines_none : (r : Rules) (S O : Colour) (kind : LineKind) (moment : ℕ) (m : Match) → reads m.phase S ≡ true
-    → Orderly r m → Lines r S kind moment m (λ m'. TellsNone r S O m m')
+    → Orderly r m → Lines r S kind moment m (λ m'. SendsNone r S O m m')
 lines_none r S O kind moment m here o = record {
-  hello_ends = λ p d on some. not_on on;
-  hello_counts = λ p d few. same_tells_none r S O m
-      (let m' = take_items S (items_of_line kind) m in record m' { count = m.count + 1 }) (hear_phase S (items_of_line kind) m)
+  handshake_ends = λ p d on some. not_on on;
+  handshake_counts = λ p d few. same_sends_none r S O m
+      (let m' = take_items S (items_of_line kind) m in record m' { count = m.count + 1 })
+      (items_phase S (items_of_line kind) m)
       here;
-  hello_next = λ p s d on some. if_nil (is_same_phase m.phase (Hello Black)) [] refl;
-  hello_judged = λ p s d c f on some. not_on on;
-  hello_done = λ p s d on some. if_nil (is_same_phase m.phase (Setup White)) [] refl;
+  handshake_next = λ p s d on some. if_nil (is_same_phase m.phase (Handshake Black)) [] refl;
+  handshake_judged = λ p s d c f on some. not_on on;
+  handshake_done = λ p s d on some. if_nil (is_same_phase m.phase (Setup White)) [] refl;
   setup_ends = λ p reason n on some. not_on on;
-  setup_counts = λ p pong few. same_tells_none r S O m (record m { count = m.count + 1 }) refl here;
+  setup_counts = λ p pong few. same_sends_none r S O m (record m { count = m.count + 1 }) refl here;
   setup_next = λ p s pong on some. if_nil (is_same_phase m.phase (Setup Black)) [] refl;
   setup_done = λ p s pong on some. opens_none (orderly_in r m (Setup Black) p o).0;
   before = λ p. record {
@@ -610,10 +620,10 @@ lines_none r S O kind moment m here o = record {
   behind = λ p. record { row = row; passes = λ none. passes_none r S O m p };
 }
   where
-    row : InTurn r S kind m (λ m'. TellsNone r S O m m')
+    row : InTurn r S kind m (λ m'. SendsNone r S O m m')
     row = record {
       ends = λ reason n on some. not_on on;
-      counts = λ none few. same_tells_none r S O m (record m { count = m.count + 1 }) refl here;
+      counts = λ none few. same_sends_none r S O m (record m { count = m.count + 1 }) refl here;
       offers = λ none own theirs. offers_none r S O m here;
     }
 
@@ -624,10 +634,10 @@ lines_none r S O kind moment m here o = record {
 
 dropped_line : (r : Rules) (O S d : Colour) (t : Option (List ℕ)) (n : ℕ) (due : Colour → List SentLine) (m : Match)
     (T : List Event) → fits_next due m (Line S t n) ≡ true
-    → fits_next (block r m (match_after r m (Line S t n))) (match_after r m (Line S t n)) (FailsToWrite d) ≡ true → Orderly r m
-    → same_colour S d ≡ true → told_now r m (match_after r m (Line S t n)) O ≡ []
+    → fits_next (block r m (match_after r m (Line S t n))) (match_after r m (Line S t n)) (FailsToWrite d) ≡ true
+    → Orderly r m → same_colour S d ≡ true → told_now r m (match_after r m (Line S t n)) O ≡ []
 dropped_line r O S d t n due m T f g o e =
-    line_outcome r S (line_kind t) n m (λ m'. TellsNone r S O m m') f (lines_none r S O (line_kind t) n m f o)
+    line_outcome r S (line_kind t) n m (λ m'. SendsNone r S O m m') f (lines_none r S O (line_kind t) n m f o)
     (and_first (is_on (match_after r m (Line S t n)).phase) _ g)
     (rw (same_colour-true S d e) (ltb-true 0 (length (block r m (match_after r m (Line S t n)) d))
     (and_second (is_on (match_after r m (Line S t n)).phase) _ g)))
@@ -665,14 +675,15 @@ told_at : (r : Rules) (O : Colour) (due : Colour → List SentLine) (m : Match) 
     ++ moves_sent (joined_blocks (blocks_from r O (match_after r m e) T))
 told_at r O due m e T f o =
     ap (λ (ls : List SentLine). moves_sent ls)
-    (joined_at (is_dropped e T O || is_fault Write O e) (block r m (match_after r m e) O) (blocks_from r O (match_after r m e) T))
+    (joined_at (is_dropped e T O || is_fault Write O e) (block r m (match_after r m e) O)
+    (blocks_from r O (match_after r m e) T))
     ∙ flat_map-append move_sent (if is_dropped e T O || is_fault Write O e then [] else block r m (match_after r m e) O)
     (joined_blocks (blocks_from r O (match_after r m e) T))
     ∙ ap (λ (l : List (List ℕ)). l ++ moves_sent (joined_blocks (blocks_from r O (match_after r m e) T)))
     (at (is_dropped e T O || is_fault Write O e) refl)
   where
-    at : (b : Bool) → is_dropped e T O || is_fault Write O e ≡ b → moves_sent (if b then [] else block r m (match_after r m e) O)
-        ≡ told_now r m (match_after r m e) O
+    at : (b : Bool) → is_dropped e T O || is_fault Write O e ≡ b
+        → moves_sent (if b then [] else block r m (match_after r m e) O) ≡ told_now r m (match_after r m e) O
     at true h = sym (unsent_none r O due m e T f o h)
     at false h = told_block r m (match_after r m e) O
 
@@ -685,7 +696,8 @@ fits_on due m (OutputEnds S) f = reads_on m.phase S f
 fits_on due m (FailsToRead S) f = reads_on m.phase S f
 fits_on due m (FailsToWrite S) f = and_first (is_on m.phase) _ f
 
-calm : (r : Rules) (m : Match) (e : Event) (O : Colour) → is_on (match_after r m e).phase ≡ true → is_fault Write O e ≡ false
+calm : (r : Rules) (m : Match) (e : Event) (O : Colour) → is_on (match_after r m e).phase ≡ true
+    → is_fault Write O e ≡ false
 calm r m (Line S t n) O on = refl
 calm r m (Opened S n) O on = refl
 calm r m (OutputEnds S) O on = refl
@@ -708,7 +720,8 @@ told_from r O due m (e ∷ T) X failed f o quiet h =
     let on : is_on m.phase ≡ true = fits_on due m e here in
     let s : Told r X O (is_fault Write O e) m.phase (match_after r m e) × Orderly r (match_after r m e) =
     step_goes r X O due m e here o (rw (owed_on r m O m.unsent_to failed on) at h) in
-    let rest = told_from r O (block r m (match_after r m e)) (match_after r m e) T (X ++ told_now r m (match_after r m e) O)
+    let rest = told_from r O (block r m (match_after r m e)) (match_after r m e) T
+    (X ++ told_now r m (match_after r m e) O)
     (is_fault Write O e) (and_second (fits_next due m e) _ f) s.1 (calm r m e O) s.0 in (
       rw (quiet on) (joined_more X (told_now r m (match_after r m e) O)
           (moves_sent (joined_blocks (blocks_from r O m (e ∷ T))))
@@ -727,7 +740,7 @@ moves_are_told r T O f =
     first : moves_sent (sent r O T) ≡ moves_sent (joined_blocks (blocks_from r O start T))
     first = flat_map-append move_sent (lines_on_entering r start O) (joined_blocks (blocks_from r O start T))
         ∙ ap (λ (l : List (List ℕ)). l ++ moves_sent (joined_blocks (blocks_from r O start T)))
-        (entry_told r start O (Hello White))
+        (entry_told r start O (Handshake White))
 
 -- every match is orderly
 pub orderly : (r : Rules) (T : List Event) → fits r T ≡ true → Orderly r (match_of r T)
@@ -742,7 +755,7 @@ nothing_owed r m O (Some c) h = at m.phase (same_colour c O) h
         → (if b && (is_on p || false) then last_text r m O else []) ≡ []
     at (Over x) true h = refl
     at (Over x) false h = refl
-    at (Hello c) b h = cc
+    at (Handshake c) b h = cc
     at (Setup c) b h = cc
     at (SendTurn c) b h = cc
     at (AwaitMove c) b h = cc

@@ -109,7 +109,8 @@ given_from r S m (e ∷ es) =
     given_more (first_sent (match_after r m e) e) S (lines_at r m e es) (notes_from r (match_after r m e) es)
     (joined_blocks (blocks_from r S (match_after r m e) es)) (given_from r S (match_after r m e) es)
     ∙ ap (λ (l : List SentLine). bytes_of l)
-    (joined_one (is_dropped e es S || is_fault Write S e) (block r m (match_after r m e) S) (blocks_from r S (match_after r m e) es))
+    (joined_one (is_dropped e es S || is_fault Write S e) (block r m (match_after r m e) S)
+    (blocks_from r S (match_after r m e) es))
 
 pub all_lines : (r : Rules) (T : List Event) (S : Colour) → given_in S (notes_of r T) ≡ bytes_of (sent r S T)
 all_lines r T S = given_more White S (λ X. lines_on_entering r start X) (notes_from r start T)

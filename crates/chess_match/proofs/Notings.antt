@@ -12,7 +12,7 @@ use Rattle.chess_match.specs.Sent.{SentLine, block, lines_on_entering, bytes_of}
 use Rattle.chess_match.specs.Transcript.{match_of, is_on, is_fault, joined_blocks}
 use Rattle.chess_match.specs.ties.Delivering.{broken_notes}
 use Rattle.chess_match.proofs.Blocks.{lines_at, joined_block}
-use Rattle.chess_match.proofs.Runs.{is_sound, dropped_alone, dropped-longer, kept_at}
+use Rattle.chess_match.proofs.LongerTranscripts.{is_sound, dropped_alone, dropped-longer, kept_at}
 use Rattle.chess_match.specs.ties.Steps.{match_from}
 use Rattle.chess_match.specs.declared.reason.MatchFault.TheVariants.{Write}
 
@@ -173,6 +173,7 @@ unfolding bytes_of
 noted_start_broken r =
     let last : Colour → List SentLine = lines_at r start (FailsToWrite White) [] in
     ap (λ (l : List Note). both_notes White (λ S. lines_on_entering r start S) ++ Happened (FailsToWrite White) ∷ l)
-    (both_by White (λ S. if same_colour White S then [] else block r start (match_after r start (FailsToWrite White)) S) last
+    (both_by White (λ S. if same_colour White S then [] else block r start (match_after r start (FailsToWrite White)) S)
+    last
     (λ S. sym (joined_block (same_colour White S) (block r start (match_after r start (FailsToWrite White)) S)))
     ∙ sym (append-nil (both_notes White last)))

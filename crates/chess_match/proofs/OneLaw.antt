@@ -13,7 +13,7 @@ use Rattle.chess_match.specs.Rules.{Rules}
 use Rattle.chess_match.specs.Sent.{SentLine, block, lines_on_entering}
 use Rattle.chess_match.specs.Transcript.{reads, opens, is_on, fits_next, fits_from, lines_of_engine, line_in, moments_of, has_fault, is_fault}
 use Rattle.chess_match.specs.declared.phase.Phase.{Phase}
-use Rattle.chess_match.specs.declared.phase.Phase.TheVariants.{Hello, Setup, SendTurn, AwaitMove, AwaitPong, Over}
+use Rattle.chess_match.specs.declared.phase.Phase.TheVariants.{Handshake, Setup, SendTurn, AwaitMove, AwaitPong, Over}
 use Rattle.chess_match.proofs.MoveLaw.{fits_on, not_on}
 use Rattle.chess_match.proofs.Outcomes.{and_first, and_second}
 use Rattle.chess_match.specs.ties.Steps.{match_from}
@@ -29,7 +29,7 @@ or_first false b h = refl
 
 -- one phase reads one side
 one_reads : (p : Phase) (c d : Colour) → reads p c ≡ true → reads p d ≡ true → c ≡ d
-one_reads (Hello x) c d h k = sym (same_colour-true x c h) ∙ same_colour-true x d k
+one_reads (Handshake x) c d h k = sym (same_colour-true x c h) ∙ same_colour-true x d k
 one_reads (Setup x) c d h k = sym (same_colour-true x c h) ∙ same_colour-true x d k
 one_reads (AwaitMove x) c d h k = sym (same_colour-true x c h) ∙ same_colour-true x d k
 one_reads (AwaitPong x) c d h k = sym (same_colour-true x c h) ∙ same_colour-true x d k
@@ -38,7 +38,7 @@ one_reads (Over x) c d h k = cc
 
 one_opens : (p : Phase) (c d : Colour) → opens p c ≡ true → opens p d ≡ true → c ≡ d
 one_opens (SendTurn x) c d h k = sym (same_colour-true x c h) ∙ same_colour-true x d k
-one_opens (Hello x) c d h k = cc
+one_opens (Handshake x) c d h k = cc
 one_opens (Setup x) c d h k = cc
 one_opens (AwaitMove x) c d h k = cc
 one_opens (AwaitPong x) c d h k = cc
@@ -47,7 +47,7 @@ one_opens (Over x) c d h k = cc
 -- a phase that reads opens no turn
 reads_or_opens : {A : Type 0} (p : Phase) (c d : Colour) → reads p c ≡ true → opens p d ≡ true → A
 reads_or_opens (SendTurn x) c d h k = cc
-reads_or_opens (Hello x) c d h k = cc
+reads_or_opens (Handshake x) c d h k = cc
 reads_or_opens (Setup x) c d h k = cc
 reads_or_opens (AwaitMove x) c d h k = cc
 reads_or_opens (AwaitPong x) c d h k = cc
@@ -123,19 +123,25 @@ cons_not_nil : {A B : Type 0} (x : A) (xs ys : List A) → ys ≡ x ∷ xs → y
 cons_not_nil x xs ys e n = cc
 
 ended_none : (r : Rules) (s : Streams) (m : Match) (c : Colour) (T : List Event)
-    → fits_from r (block r m (match_after r m (OutputEnds c))) (match_after r m (OutputEnds c)) T ≡ true → IsOf s (OutputEnds c ∷ T)
-    → (s.lines c ≡ []) × (s.fails c ≡ false)
+    → fits_from r (block r m (match_after r m (OutputEnds c))) (match_after r m (OutputEnds c)) T ≡ true
+    → IsOf s (OutputEnds c ∷ T) → (s.lines c ≡ []) × (s.fails c ≡ false)
 ended_none r s m c T f i =
-    let k = i.ends c (or_left (same_colour c c) (has_fault Ended c T) (same_colour-self c)) in
-    (no_line r (block r m (match_after r m (OutputEnds c))) (match_after r m (OutputEnds c)) c T (s.lines c) refl f k.0, k.1)
+    let k = i.ends c (or_left (same_colour c c) (has_fault Ended c T) (same_colour-self c)) in (
+      no_line r (block r m (match_after r m (OutputEnds c))) (match_after r m (OutputEnds c)) c T (s.lines c)
+          refl f k.0,
+      k.1,
+    )
 
 failed_none : (r : Rules) (s : Streams) (m : Match) (c : Colour) (T : List Event)
     → fits_from r (block r m (match_after r m (FailsToRead c))) (match_after r m (FailsToRead c)) T ≡ true
     → IsOf s (FailsToRead c ∷ T)
     → (s.lines c ≡ []) × (s.fails c ≡ true)
 failed_none r s m c T f i =
-    let k = i.failures c (or_left (same_colour c c) (has_fault Read c T) (same_colour-self c)) in
-    (no_line r (block r m (match_after r m (FailsToRead c))) (match_after r m (FailsToRead c)) c T (s.lines c) refl f k.0, k.1)
+    let k = i.failures c (or_left (same_colour c c) (has_fault Read c T) (same_colour-self c)) in (
+      no_line r (block r m (match_after r m (FailsToRead c))) (match_after r m (FailsToRead c)) c T (s.lines c)
+          refl f k.0,
+      k.1,
+    )
 
 no_write : {A : Type 0} (s : Streams) (c : Colour) (T : List Event) → IsOf s (FailsToWrite c ∷ T) → A
 no_write s c T i = not_on (sym (or_first (same_colour c c) (has_fault Write c T) (i.writes c)) ∙ same_colour-self c)
@@ -205,7 +211,7 @@ same_event r s due due' m (FailsToRead c) (FailsToWrite d) T U a b g h i j = no_
 
 over_not_on : {A : Type 0} (p : Phase) → is_some (ending_in p) ≡ true → is_on p ≡ true → A
 over_not_on (Over x) h on = not_on on
-over_not_on (Hello c) h on = not_on h
+over_not_on (Handshake c) h on = not_on h
 over_not_on (Setup c) h on = not_on h
 over_not_on (SendTurn c) h on = not_on h
 over_not_on (AwaitMove c) h on = not_on h
@@ -225,7 +231,8 @@ one_from r s due due' m (e ∷ T) (d ∷ U) f g x y i j =
     let goes_too : Goes r m d U = and_second (fits_next due' m d) _ g in
     let same : e ≡ d = same_event r s due due' m e d T U (and_first (fits_next due m e) _ f)
     (and_first (fits_next due' m d) _ g) goes_on goes_too i j in
-    joined same (one_from r (behind e s) (block r m (match_after r m e)) (block r m (match_after r m e)) (match_after r m e) T U goes_on
+    joined same (one_from r (behind e s) (block r m (match_after r m e)) (block r m (match_after r m e))
+    (match_after r m e) T U goes_on
     (subst (λ (v : Event). Goes r m v U) (sym same) goes_too) x
     (subst (λ (v : Event). is_some (ending_in (match_from r (match_after r m v) U).phase) ≡ true) (sym same) y)
     (is_of_behind s e T i)
@@ -235,4 +242,5 @@ one_from r s due due' m (e ∷ T) (d ∷ U) f g x y i j =
     joined a b = rw (a, b) refl
 
 pub only_one : OnlyOne
-only_one r s T U f g x y i j = one_from r s (lines_on_entering r start) (lines_on_entering r start) start T U f g x y i j
+only_one r s T U f g x y i j = one_from r s (lines_on_entering r start) (lines_on_entering r start) start T
+    U f g x y i j

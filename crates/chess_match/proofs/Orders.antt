@@ -13,13 +13,13 @@ use Rattle.chess_match.specs.Rules.{Rules}
 use Rattle.chess_match.specs.Sent.{SentLine, lines_on_entering}
 use Rattle.chess_match.specs.Transcript.{reads, match_of, fits, fits_next, has_fault}
 use Rattle.chess_match.specs.declared.phase.Phase.{Phase}
-use Rattle.chess_match.specs.declared.phase.Phase.TheVariants.{Hello, Setup, SendTurn, AwaitMove, AwaitPong, Over}
+use Rattle.chess_match.specs.declared.phase.Phase.TheVariants.{Handshake, Setup, SendTurn, AwaitMove, AwaitPong, Over}
 use Rattle.chess_match.specs.declared.reason.MatchFault.TheVariants.{NoDone, Write}
 use Rattle.chess_match.specs.declared.reason.Reason.TheVariants.{Faulted}
 use Rattle.chess_match.proofs.MoveLaw.{mover, mover-snoc, OrderlyIn, Orderly, orderly_in, some_move, moves_are_told}
 use Rattle.chess_match.proofs.Outcomes.{Lines, InTurn, line_outcome, kept_by, opens_at}
 use Rattle.chess_match.proofs.Going.{offered}
-use Rattle.chess_match.proofs.Seats.{hear_played, hear_untold}
+use Rattle.chess_match.proofs.Seats.{items_played, items_unsent_to}
 
 -- how many of these moves, which c begins, are C's
 abbrev pub turns_of : Colour → Colour → List Move → ℕ
@@ -95,24 +95,24 @@ plays_kept r Black move used m p k =
       used_more r Black Black m.played move m.black.used used e refl k.2,
     )
 
-heard_kept : (r : Rules) (S : Colour) (items : List Item) (m m' : Match) → m'.white.used ≡ (take_items S items m).white.used
-    → m'.black.used ≡ (take_items S items m).black.used
+items_kept : (r : Rules) (S : Colour) (items : List Item) (m m' : Match) → m'.white.used
+    ≡ (take_items S items m).white.used → m'.black.used ≡ (take_items S items m).black.used
     → m'.played ≡ (take_items S items m).played → Orderly r m' → Kept r m → Kept r m'
-heard_kept r White items m m' w b p o k = kept_over r m m' w b p o k
-heard_kept r Black items m m' w b p o k = kept_over r m m' w b p o k
+items_kept r White items m m' w b p o k = kept_over r m m' w b p o k
+items_kept r Black items m m' w b p o k = kept_over r m m' w b p o k
 
-none_yet : (r : Rules) (S d : Colour) (items : List Item) (m : Match) → m.phase ≡ Hello d → Kept r m
+none_yet : (r : Rules) (S d : Colour) (items : List Item) (m : Match) → m.phase ≡ Handshake d → Kept r m
     → ((take_items S items m).played ≡ []) × ((take_items S items m).unsent_to ≡ None)
-none_yet r S d items m p k = let o = orderly_in r m (Hello d) p k.0 in (
-  hear_played S items m
+none_yet r S d items m p k = let o = orderly_in r m (Handshake d) p k.0 in (
+  items_played S items m
       ∙ o.0,
-  hear_untold S items m ∙ o.1,
+  items_unsent_to S items m ∙ o.1,
 )
 
-hello_kept : (r : Rules) (S : Colour) (items : List Item) (n : ℕ) (m : Match) → Kept r m
+handshake_kept : (r : Rules) (S : Colour) (items : List Item) (n : ℕ) (m : Match) → Kept r m
     → (let m' = take_items S items m in Kept r (record m' { count = n }))
-hello_kept r White items n m k = k
-hello_kept r Black items n m k = k
+handshake_kept r White items n m k = k
+handshake_kept r Black items n m k = k
 
 offers_kept : (r : Rules) (S : Colour) (m : Match) → Kept r m → Kept r (offered S m)
 offers_kept r White m k = k
@@ -121,14 +121,17 @@ offers_kept r Black m k = k
 lines_kept : (r : Rules) (S : Colour) (kind : LineKind) (moment : ℕ) (m : Match) → Kept r m
     → Lines r S kind moment m (λ m'. Kept r m')
 lines_kept r S kind moment m k = record {
-  hello_ends = λ p d. heard_kept r S (items_of_line kind) m (over (Faulted S NoDone) (take_items S (items_of_line kind) m)) refl
+  handshake_ends = λ p d. items_kept r S (items_of_line kind) m
+      (over (Faulted S NoDone) (take_items S (items_of_line kind) m)) refl
       refl refl tt k;
-  hello_counts = λ p d few. hello_kept r S (items_of_line kind) (m.count + 1) m k;
-  hello_next = λ p s d. heard_kept r S (items_of_line kind) m (enter (Hello Black) (take_items S (items_of_line kind) m)) refl
+  handshake_counts = λ p d few. handshake_kept r S (items_of_line kind) (m.count + 1) m k;
+  handshake_next = λ p s d. items_kept r S (items_of_line kind) m
+      (enter (Handshake Black) (take_items S (items_of_line kind) m)) refl
       refl refl (none_yet r S White (items_of_line kind) m p k) k;
-  hello_judged = λ p s d c f. heard_kept r S (items_of_line kind) m
+  handshake_judged = λ p s d c f. items_kept r S (items_of_line kind) m
       (enter (Over (Faulted c f)) (take_items S (items_of_line kind) m)) refl refl refl tt k;
-  hello_done = λ p s d. heard_kept r S (items_of_line kind) m (enter (Setup White) (take_items S (items_of_line kind) m)) refl
+  handshake_done = λ p s d. items_kept r S (items_of_line kind) m
+      (enter (Setup White) (take_items S (items_of_line kind) m)) refl
       refl refl (none_yet r S Black (items_of_line kind) m p k) k;
   setup_ends = λ p reason n. (tt, k.1, k.2);
   setup_counts = λ p pong few. k;
@@ -180,7 +183,7 @@ nothing_owed r m S failed here o = at m.phase m.unsent_to here o
 
     at : (p : Phase) (unsent_to : Option Colour) → reads p S ≡ true → OrderlyIn r.first p m.played unsent_to
         → owed_to r m S unsent_to failed ≡ []
-    at (Hello c) unsent_to h o = rw o.1 refl
+    at (Handshake c) unsent_to h o = rw o.1 refl
     at (Setup c) unsent_to h o = rw o.1 refl
     at (AwaitMove c) unsent_to h o = rw o.1 refl
     at (AwaitPong c) unsent_to h o = rw (o.1, own c S h) refl

@@ -10,12 +10,12 @@ use Rattle.chess_game.specs.declared.ends.Verdict.{Verdict}
 use Rattle.cecp_engine.specs.EngineLines.{line_kind, LineKind, Features, Moves, Resigns, OffersDraw, ClaimsDraw, ClaimsWin, Rejects, Answers, SaysElse}
 use Rattle.cecp_engine.specs.Items.{Item, has_done}
 use Rattle.chess_match.specs.laws.Laws.{move_said, is_pong}
-use Rattle.chess_match.specs.Match.{Match, Event, Line, Opened, OutputEnds, FailsToRead, FailsToWrite, match_after, after_kind, items_of_line, seat, clock, over, ignore, enter, open_turn, take_items, greeted, hello_line, after_handshakes, lack, ready, unless_decided, setup_line, played_by, played_row, offer_row, draw_row, was_sent_move, turn_line, before_row, before_line, after_line, ping_number}
+use Rattle.chess_match.specs.Match.{Match, Event, Line, Opened, OutputEnds, FailsToRead, FailsToWrite, match_after, after_kind, items_of_line, seat, clock, over, ignore, enter, open_turn, take_items, greeted, handshake_line, after_handshakes, lack, ready, unless_decided, setup_line, played_by, played_row, offer_row, draw_row, was_sent_move, turn_line, before_row, before_line, after_line, ping_number}
 use Rattle.chess_match.specs.Rules.{Rules}
 use Rattle.chess_match.specs.Sent.{SentLine, block, is_unwritten}
 use Rattle.chess_match.specs.Transcript.{reads, opens, is_on, is_fault, fits_next, fits_from}
 use Rattle.chess_match.specs.declared.phase.Phase.{Phase}
-use Rattle.chess_match.specs.declared.phase.Phase.TheVariants.{Hello, Setup, SendTurn, AwaitMove, AwaitPong, Over}
+use Rattle.chess_match.specs.declared.phase.Phase.TheVariants.{Handshake, Setup, SendTurn, AwaitMove, AwaitPong, Over}
 use Rattle.chess_match.specs.declared.reason.DrawClaim.{DrawClaim}
 use Rattle.chess_match.specs.declared.reason.MatchFault.{MatchFault}
 use Rattle.chess_match.specs.declared.reason.MatchFault.TheVariants.{Flood, NoDone, Ended, Read, Write}
@@ -145,15 +145,16 @@ setup_outcome r S kind m P ends counts pong =
     subst P (sym (setup_row r S kind m)) (by_test P (is_pong 1 kind) pong (λ h. ignore_outcome S m P ends (counts h)))
 
 -- in its handshake
-pub hello_outcome : (r : Rules) (S : Colour) (items : List Item) (m : Match) (P : Match → Type 0)
+pub handshake_outcome : (r : Rules) (S : Colour) (items : List Item) (m : Match) (P : Match → Type 0)
     → (has_done items ≡ false → P (over (Faulted S NoDone) (take_items S items m)))
-    → (has_done items ≡ false → m.count + 1 < 1000 → (let m' = take_items S items m in P (record m' { count = m.count + 1 })))
-    → (has_done items ≡ true → P (greeted r S (take_items S items m))) → P (hello_line r S items m)
-unfolding hello_line
-hello_outcome r White items m P ends counts done =
+    → (has_done items ≡ false → m.count + 1 < 1000
+    → (let m' = take_items S items m in P (record m' { count = m.count + 1 })))
+    → (has_done items ≡ true → P (greeted r S (take_items S items m))) → P (handshake_line r S items m)
+unfolding handshake_line
+handshake_outcome r White items m P ends counts done =
     by_test P (has_done items) done (λ more. by_test P (nat_le 1000 (m.count + 1)) (λ h. ends more)
     (λ h. counts more (leb-false 1000 (m.count + 1) h)))
-hello_outcome r Black items m P ends counts done =
+handshake_outcome r Black items m P ends counts done =
     by_test P (has_done items) done (λ more. by_test P (nat_le 1000 (m.count + 1)) (λ h. ends more)
     (λ h. counts more (leb-false 1000 (m.count + 1) h)))
 
@@ -179,15 +180,15 @@ begun_outcome r m P ends on = at (r.verdict m.played)
 
 -- whatever a line of S says, in each phase that reads it
 pub record Lines (r : Rules) (S : Colour) (kind : LineKind) (moment : ℕ) (m : Match) (P : Match → Type 0) : Type 0 where
-  pub hello_ends : m.phase ≡ Hello S → has_done (items_of_line kind) ≡ false
+  pub handshake_ends : m.phase ≡ Handshake S → has_done (items_of_line kind) ≡ false
       → P (over (Faulted S NoDone) (take_items S (items_of_line kind) m))
-  pub hello_counts : m.phase ≡ Hello S → has_done (items_of_line kind) ≡ false → m.count + 1 < 1000
+  pub handshake_counts : m.phase ≡ Handshake S → has_done (items_of_line kind) ≡ false → m.count + 1 < 1000
       → (let m' = take_items S (items_of_line kind) m in P (record m' { count = m.count + 1 }))
-  pub hello_next : m.phase ≡ Hello White → S ≡ White → has_done (items_of_line kind) ≡ true
-      → P (enter (Hello Black) (take_items S (items_of_line kind) m))
-  pub hello_judged : m.phase ≡ Hello Black → S ≡ Black → has_done (items_of_line kind) ≡ true
+  pub handshake_next : m.phase ≡ Handshake White → S ≡ White → has_done (items_of_line kind) ≡ true
+      → P (enter (Handshake Black) (take_items S (items_of_line kind) m))
+  pub handshake_judged : m.phase ≡ Handshake Black → S ≡ Black → has_done (items_of_line kind) ≡ true
       → (c : Colour) (f : MatchFault) → P (enter (Over (Faulted c f)) (take_items S (items_of_line kind) m))
-  pub hello_done : m.phase ≡ Hello Black → S ≡ Black → has_done (items_of_line kind) ≡ true
+  pub handshake_done : m.phase ≡ Handshake Black → S ≡ Black → has_done (items_of_line kind) ≡ true
       → P (enter (Setup White) (take_items S (items_of_line kind) m))
   pub setup_ends : m.phase ≡ Setup S → (reason : Reason) → IsNoWrite reason → P (over reason m)
   pub setup_counts : m.phase ≡ Setup S → is_pong 1 kind ≡ false → m.count + 1 < 10000
@@ -204,13 +205,15 @@ line_outcome r S kind moment m P h l = at m.phase S refl h l
   where
     at : (p : Phase) (S : Colour) → m.phase ≡ p → reads p S ≡ true → Lines r S kind moment m P
         → P (after_kind r p kind moment m)
-    at (Hello White) White e h l = hello_outcome r White (items_of_line kind) m P (l.hello_ends e) (l.hello_counts e)
-        (l.hello_next e refl)
-    at (Hello Black) Black e h l = hello_outcome r Black (items_of_line kind) m P (l.hello_ends e) (l.hello_counts e)
-        (λ done. judged_outcome r (take_items Black (items_of_line kind) m) P (l.hello_judged e refl done)
-        (l.hello_done e refl done))
-    at (Hello White) Black e h l = cc
-    at (Hello Black) White e h l = cc
+    at (Handshake White) White e h l = handshake_outcome r White (items_of_line kind) m P (l.handshake_ends e)
+        (l.handshake_counts e)
+        (l.handshake_next e refl)
+    at (Handshake Black) Black e h l = handshake_outcome r Black (items_of_line kind) m P (l.handshake_ends e)
+        (l.handshake_counts e)
+        (λ done. judged_outcome r (take_items Black (items_of_line kind) m) P (l.handshake_judged e refl done)
+        (l.handshake_done e refl done))
+    at (Handshake White) Black e h l = cc
+    at (Handshake Black) White e h l = cc
     at (Setup White) White e h l = setup_outcome r White kind m P (l.setup_ends e) (l.setup_counts e)
         (l.setup_next e refl)
     at (Setup Black) Black e h l = setup_outcome r Black kind m P (l.setup_ends e) (l.setup_counts e)
@@ -242,7 +245,7 @@ opens_at (SendTurn White) White h = refl
 opens_at (SendTurn Black) Black h = refl
 opens_at (SendTurn White) Black h = cc
 opens_at (SendTurn Black) White h = cc
-opens_at (Hello c) S h = cc
+opens_at (Handshake c) S h = cc
 opens_at (Setup c) S h = cc
 opens_at (AwaitMove c) S h = cc
 opens_at (AwaitPong c) S h = cc

@@ -8,13 +8,13 @@ use Rattle.chess_base.specs.Men.{other}
 use Rattle.chess_game.specs.declared.ends.Verdict.{Verdict}
 use Rattle.cecp_engine.specs.EngineLines.{LineKind, line_kind, Features, Moves, Resigns, OffersDraw, ClaimsDraw, ClaimsWin, Rejects, Answers, SaysElse}
 use Rattle.cecp_engine.specs.Items.{Item, has_done}
-use Rattle.chess_match.specs.laws.Laws.{move_said, moves_said, lines_after_hello, lines_after_pong, moves_of, AreRead, MovesAreRead, is_pong}
+use Rattle.chess_match.specs.laws.Laws.{move_said, moves_said, lines_after_handshake, lines_after_pong, moves_of, AreRead, MovesAreRead, is_pong}
 use Rattle.chess_match.specs.Match.{Match, Event, Line, Opened, OutputEnds, FailsToRead, FailsToWrite, items_of_line, take_items, start, over, enter, open_turn, played_by, match_after}
 use Rattle.chess_match.specs.Rules.{Rules}
 use Rattle.chess_match.specs.Sent.{SentLine, block, lines_on_entering}
 use Rattle.chess_match.specs.Transcript.{is_on, reads, opens, match_of, fits_next, fits_from, lines_of_engine, line_in}
 use Rattle.chess_match.specs.declared.phase.Phase.{Phase}
-use Rattle.chess_match.specs.declared.phase.Phase.TheVariants.{Hello, Setup, SendTurn, AwaitMove, AwaitPong, Over}
+use Rattle.chess_match.specs.declared.phase.Phase.TheVariants.{Handshake, Setup, SendTurn, AwaitMove, AwaitPong, Over}
 use Rattle.chess_match.specs.declared.reason.MatchFault.TheVariants.{NoDone}
 use Rattle.chess_match.specs.declared.reason.Reason.TheVariants.{Decided, Faulted}
 use Rattle.chess_match.proofs.MoveLaw.{not_on, mover, mover-snoc, Orderly, orderly_in}
@@ -22,14 +22,14 @@ use Rattle.chess_match.proofs.OneLaw.{over_stops}
 use Rattle.chess_match.proofs.Orders.{Kept, step}
 use Rattle.chess_match.proofs.Outcomes.{Lines, line_outcome, opens_at, and_first, and_second}
 use Rattle.chess_match.proofs.Going.{offered}
-use Rattle.chess_match.proofs.Seats.{hear_played}
+use Rattle.chess_match.proofs.Seats.{items_played}
 use Rattle.chess_match.specs.ties.Steps.{match_from}
 
 -- the `move` lines to come of an engine, in this phase
 abbrev ahead : Phase → Colour → List (Option (List ℕ)) → List (List ℕ)
-ahead (Hello White) S ls = moves_said (lines_after_pong (lines_after_hello ls))
-ahead (Hello Black) White ls = moves_said (lines_after_pong ls)
-ahead (Hello Black) Black ls = moves_said (lines_after_pong (lines_after_hello ls))
+ahead (Handshake White) S ls = moves_said (lines_after_pong (lines_after_handshake ls))
+ahead (Handshake Black) White ls = moves_said (lines_after_pong ls)
+ahead (Handshake Black) Black ls = moves_said (lines_after_pong (lines_after_handshake ls))
 ahead (Setup White) S ls = moves_said (lines_after_pong ls)
 ahead (Setup Black) White ls = moves_said ls
 ahead (Setup Black) Black ls = moves_said (lines_after_pong ls)
@@ -39,9 +39,9 @@ ahead (AwaitPong c) S ls = moves_said ls
 ahead (Over x) S ls = []
 
 ahead_nil : (p : Phase) (S : Colour) → ahead p S [] ≡ []
-ahead_nil (Hello White) S = refl
-ahead_nil (Hello Black) White = refl
-ahead_nil (Hello Black) Black = refl
+ahead_nil (Handshake White) S = refl
+ahead_nil (Handshake Black) White = refl
+ahead_nil (Handshake Black) Black = refl
 ahead_nil (Setup White) S = refl
 ahead_nil (Setup Black) White = refl
 ahead_nil (Setup Black) Black = refl
@@ -143,18 +143,18 @@ none_behind_pong kind = at (is_pong 1 kind)
     at true = omega arith
     at false = omega arith
 
-none_behind_hello : (kind : LineKind) → length
+none_after_handshake : (kind : LineKind) → length
     (moves_said (lines_after_pong (if has_done (items_of_line kind) then [] else []))) ≤ 1
-none_behind_hello kind = at (has_done (items_of_line kind))
+none_after_handshake kind = at (has_done (items_of_line kind))
   where
     at : (b : Bool) → length (moves_said (lines_after_pong (if b then [] else []))) ≤ 1
     at true = omega arith
     at false = omega arith
 
 few_ahead : (p : Phase) (d : Colour) (t : Option (List ℕ)) → length (ahead p d (t ∷ [])) ≤ 1
-few_ahead (Hello White) d t = none_behind_hello (line_kind t)
-few_ahead (Hello Black) White t = none_behind_pong (line_kind t)
-few_ahead (Hello Black) Black t = none_behind_hello (line_kind t)
+few_ahead (Handshake White) d t = none_after_handshake (line_kind t)
+few_ahead (Handshake Black) White t = none_behind_pong (line_kind t)
+few_ahead (Handshake Black) Black t = none_after_handshake (line_kind t)
 few_ahead (Setup White) d t = none_behind_pong (line_kind t)
 few_ahead (Setup Black) White t = one_said (line_kind t)
 few_ahead (Setup Black) Black t = none_behind_pong (line_kind t)
@@ -216,13 +216,13 @@ over_steps : (r : Rules) (d : Colour) (t : Option (List ℕ)) (m m' : Match) →
     ≡ m.played → Steps r d t m m'
 over_steps r d t m m' off p = ((λ final lines on next. not_on (sym off ∙ on)), (λ off'. reads_end r m m' d t p))
 
-hello_same : (d : Colour) (t : Option (List ℕ)) (lines : Colour → List (Option (List ℕ))) (S : Colour)
+handshake_same : (d : Colour) (t : Option (List ℕ)) (lines : Colour → List (Option (List ℕ))) (S : Colour)
     → has_done (items_of_line (line_kind t)) ≡ false
-    → ahead (Hello d) S (with_line d t lines S) ≡ ahead (Hello d) S (lines S)
-hello_same White t lines White h = rw h refl
-hello_same White t lines Black h = refl
-hello_same Black t lines White h = refl
-hello_same Black t lines Black h = rw h refl
+    → ahead (Handshake d) S (with_line d t lines S) ≡ ahead (Handshake d) S (lines S)
+handshake_same White t lines White h = rw h refl
+handshake_same White t lines Black h = refl
+handshake_same Black t lines White h = refl
+handshake_same Black t lines Black h = rw h refl
 
 setup_same : (d : Colour) (t : Option (List ℕ)) (lines : Colour → List (Option (List ℕ))) (S : Colour)
     → is_pong 1 (line_kind t) ≡ false
@@ -232,19 +232,19 @@ setup_same White t lines Black h = refl
 setup_same Black t lines White h = refl
 setup_same Black t lines Black h = rw h refl
 
-hello_next : (d : Colour) (t : Option (List ℕ)) (lines : Colour → List (Option (List ℕ))) (S : Colour) → d ≡ White
+handshake_next : (d : Colour) (t : Option (List ℕ)) (lines : Colour → List (Option (List ℕ))) (S : Colour) → d ≡ White
     → has_done (items_of_line (line_kind t)) ≡ true
-    → ahead (Hello White) S (with_line d t lines S) ≡ ahead (Hello Black) S (lines S)
-hello_next White t lines White e h = rw h refl
-hello_next White t lines Black e h = refl
-hello_next Black t lines S e h = cc
+    → ahead (Handshake White) S (with_line d t lines S) ≡ ahead (Handshake Black) S (lines S)
+handshake_next White t lines White e h = rw h refl
+handshake_next White t lines Black e h = refl
+handshake_next Black t lines S e h = cc
 
-hello_done : (d : Colour) (t : Option (List ℕ)) (lines : Colour → List (Option (List ℕ))) (S : Colour) → d ≡ Black
+handshake_done : (d : Colour) (t : Option (List ℕ)) (lines : Colour → List (Option (List ℕ))) (S : Colour) → d ≡ Black
     → has_done (items_of_line (line_kind t)) ≡ true
-    → ahead (Hello Black) S (with_line d t lines S) ≡ ahead (Setup White) S (lines S)
-hello_done Black t lines White e h = refl
-hello_done Black t lines Black e h = rw h refl
-hello_done White t lines S e h = cc
+    → ahead (Handshake Black) S (with_line d t lines S) ≡ ahead (Setup White) S (lines S)
+handshake_done Black t lines White e h = refl
+handshake_done Black t lines Black e h = rw h refl
+handshake_done White t lines S e h = cc
 
 setup_next : (d : Colour) (t : Option (List ℕ)) (lines : Colour → List (Option (List ℕ))) (S : Colour) → d ≡ White
     → is_pong 1 (line_kind t) ≡ true
@@ -268,13 +268,15 @@ turn_same White t lines Black h = refl
 turn_same Black t lines White h = refl
 turn_same Black t lines Black h = rw h refl
 
-hello_counts : (r : Rules) (d : Colour) (t : Option (List ℕ)) (items : List Item) (n : ℕ) (m : Match) → m.phase
-    ≡ Hello d → has_done (items_of_line (line_kind t)) ≡ false
+handshake_counts : (r : Rules) (d : Colour) (t : Option (List ℕ)) (items : List Item) (n : ℕ) (m : Match) → m.phase
+    ≡ Handshake d → has_done (items_of_line (line_kind t)) ≡ false
     → (let m' = take_items d items m in Steps r d t m (record m' { count = n }))
-hello_counts r White t items n m p h = let m' = take_items White items m in on_steps r White t m (record m' { count = n })
-    (rw p refl) refl (λ lines S. rw p (hello_same White t lines S h))
-hello_counts r Black t items n m p h = let m' = take_items Black items m in on_steps r Black t m (record m' { count = n })
-    (rw p refl) refl (λ lines S. rw p (hello_same Black t lines S h))
+handshake_counts r White t items n m p h = let m' = take_items White items m in
+    on_steps r White t m (record m' { count = n })
+    (rw p refl) refl (λ lines S. rw p (handshake_same White t lines S h))
+handshake_counts r Black t items n m p h = let m' = take_items Black items m in
+    on_steps r Black t m (record m' { count = n })
+    (rw p refl) refl (λ lines S. rw p (handshake_same Black t lines S h))
 
 before_same : (r : Rules) (d : Colour) (t : Option (List ℕ)) (m m' : Match) → m.phase ≡ AwaitMove d → m'.phase ≡ m.phase
     → m'.played ≡ m.played → move_said (line_kind t) ≡ [] → Steps r d t m m'
@@ -296,14 +298,16 @@ played_phase Black move used m = (refl, refl)
 lines_step : (r : Rules) (d : Colour) (t : Option (List ℕ)) (n : ℕ) (m : Match) → Orderly r m
     → Lines r d (line_kind t) n m (λ m'. Steps r d t m m')
 lines_step r d t n m o = record {
-  hello_ends = λ p h. over_steps r d t m (over (Faulted d NoDone) (take_items d items m)) refl (hear_played d items m);
-  hello_counts = λ p h few. hello_counts r d t items (m.count + 1) m p h;
-  hello_next = λ p s h. on_steps r d t m (enter (Hello Black) (take_items d items m)) refl (hear_played d items m)
-      (λ lines S. rw p (hello_next d t lines S s h));
-  hello_judged = λ p s h b f. over_steps r d t m (enter (Over (Faulted b f)) (take_items d items m)) refl
-      (hear_played d items m);
-  hello_done = λ p s h. on_steps r d t m (enter (Setup White) (take_items d items m)) refl (hear_played d items m)
-      (λ lines S. rw p (hello_done d t lines S s h));
+  handshake_ends = λ p h. over_steps r d t m (over (Faulted d NoDone) (take_items d items m)) refl
+      (items_played d items m);
+  handshake_counts = λ p h few. handshake_counts r d t items (m.count + 1) m p h;
+  handshake_next = λ p s h. on_steps r d t m (enter (Handshake Black) (take_items d items m)) refl
+      (items_played d items m)
+      (λ lines S. rw p (handshake_next d t lines S s h));
+  handshake_judged = λ p s h b f. over_steps r d t m (enter (Over (Faulted b f)) (take_items d items m)) refl
+      (items_played d items m);
+  handshake_done = λ p s h. on_steps r d t m (enter (Setup White) (take_items d items m)) refl (items_played d items m)
+      (λ lines S. rw p (handshake_done d t lines S s h));
   setup_ends = λ p reason w. over_steps r d t m (over reason m) refl refl;
   setup_counts = λ p h few. on_steps r d t m (record m { count = m.count + 1 }) (rw p refl) refl
       (λ lines S. rw p (setup_same d t lines S h));
@@ -386,12 +390,14 @@ reads_from r due m (Line d t n ∷ T) f k =
     (and_second (reads m.phase d) _ f)
     (line_outcome r d (line_kind t) n m (λ m'. Steps r d t m m') (and_first (reads m.phase d) _ f)
     (lines_step r d t n m k.0))
-    (reads_from r (block r m (match_after r m (Line d t n))) (match_after r m (Line d t n)) T (and_second (reads m.phase d) _ f)
+    (reads_from r (block r m (match_after r m (Line d t n))) (match_after r m (Line d t n)) T
+    (and_second (reads m.phase d) _ f)
     (step r due m (Line d t n) (and_first (reads m.phase d) _ f) k))
 reads_from r due m (Opened d n ∷ T) f k =
     opened_on r m d n (match_from r (match_after r m (Opened d n)) T) (lines_by T)
     (opens_at m.phase d (and_first (opens m.phase d) _ f))
-    (reads_from r (block r m (match_after r m (Opened d n))) (match_after r m (Opened d n)) T (and_second (opens m.phase d) _ f)
+    (reads_from r (block r m (match_after r m (Opened d n))) (match_after r m (Opened d n)) T
+    (and_second (opens m.phase d) _ f)
     (step r due m (Opened d n) (and_first (opens m.phase d) _ f) k))
 reads_from r due m (OutputEnds d ∷ T) f k =
     stopped r m (match_after r m (OutputEnds d)) (block r m (match_after r m (OutputEnds d))) T refl refl
@@ -411,5 +417,6 @@ moves_are_read r T f =
   where
     read : (more : List Move) × ((match_of r T).played ≡ more)
         × AreRead r [] more (moves_of (lines_of_engine r.first T)) (moves_of (lines_of_engine (other r.first) T))
-        → AreRead r [] (match_of r T).played (moves_of (lines_of_engine r.first T)) (moves_of (lines_of_engine (other r.first) T))
+        → AreRead r [] (match_of r T).played (moves_of (lines_of_engine r.first T))
+        (moves_of (lines_of_engine (other r.first) T))
     read h = rw h.1 h.2

@@ -16,15 +16,15 @@ used_same m m' w b White = w
 used_same m m' w b Black = b
 
 -- what a line of a handshake leaves as it was
-pub hear_used : (S : Colour) (items : List Item) (m : Match)
+pub items_used : (S : Colour) (items : List Item) (m : Match)
     → ((take_items S items m).white.used ≡ m.white.used) × ((take_items S items m).black.used ≡ m.black.used)
-hear_used White items m = (refl, refl)
-hear_used Black items m = (refl, refl)
+items_used White items m = (refl, refl)
+items_used Black items m = (refl, refl)
 
-pub hear_played : (S : Colour) (items : List Item) (m : Match) → (take_items S items m).played ≡ m.played
-hear_played White items m = refl
-hear_played Black items m = refl
+pub items_played : (S : Colour) (items : List Item) (m : Match) → (take_items S items m).played ≡ m.played
+items_played White items m = refl
+items_played Black items m = refl
 
-pub hear_untold : (S : Colour) (items : List Item) (m : Match) → (take_items S items m).unsent_to ≡ m.unsent_to
-hear_untold White items m = refl
-hear_untold Black items m = refl
+pub items_unsent_to : (S : Colour) (items : List Item) (m : Match) → (take_items S items m).unsent_to ≡ m.unsent_to
+items_unsent_to White items m = refl
+items_unsent_to Black items m = refl

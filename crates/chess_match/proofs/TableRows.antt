@@ -15,7 +15,7 @@ use Rattle.cecp_engine.specs.Items.{item_of, items_of, has_done, takes, last_val
 use Rattle.cecp_engine.specs.EngineLines.{kind_of}
 use Rattle.cecp_engine.specs.Levels.{LevelSeen, level_text, sessions, allotted, time_left}
 use Rattle.chess_match.specs.Rules.{Rules}
-use Rattle.chess_match.specs.Match.{Event, Line, Opened, OutputEnds, FailsToRead, FailsToWrite, hello_line, setup_line, before_line, after_line}
+use Rattle.chess_match.specs.Match.{Event, Line, Opened, OutputEnds, FailsToRead, FailsToWrite, handshake_line, setup_line, before_line, after_line}
 use Rattle.chess_match.specs.Sent.{block, bytes_of, setup_lines, last_move_sent, clock_lines, opening_lines, end_lines}
 use Rattle.chess_match.specs.Transcript.{fits}
 use Rattle.chess_match.specs.laws.Laws.{sent, ending}
@@ -101,8 +101,9 @@ pub mate_in_four : Plays (chess ten_seconds)
     (codes "f2f3") ∷ (codes "time 1000") ∷ (codes "otim 1000") ∷ (codes "go") ∷ (codes "ping 2") ∷
     (codes "time 1000") ∷ (codes "otim 1000") ∷ (codes "g2g4") ∷ (codes "result 0-1 {Black mates}") ∷ (codes "quit")
     ∷ [])
-unfolding digits argument_of command_number result_text item_of items_of has_done takes last_value plays_fischerandom is_known
-    kind_of level_text sessions allotted time_left hello_line setup_line before_line after_line bytes_of setup_lines
+unfolding digits argument_of command_number result_text item_of items_of has_done takes last_value
+    plays_fischerandom is_known
+    kind_of level_text sessions allotted time_left handshake_line setup_line before_line after_line bytes_of setup_lines
     last_move_sent clock_lines opening_lines end_lines block
 mate_in_four = (refl, refl, refl, refl)
 
@@ -131,8 +132,9 @@ pub third_repetition : Plays (chess ten_seconds)
     (codes "time 1000") ∷ (codes "otim 1000") ∷ (codes "f3g1") ∷ (codes "ping 3") ∷ (codes "time 1000") ∷
     (codes "otim 1000") ∷ (codes "g1f3") ∷ (codes "ping 4") ∷ (codes "time 1000") ∷ (codes "otim 1000") ∷
     (codes "f3g1") ∷ (codes "ping 5") ∷ (codes "result 1/2-1/2 {Threefold repetition}") ∷ (codes "quit") ∷ [])
-unfolding digits argument_of command_number result_text item_of items_of has_done takes last_value plays_fischerandom is_known
-    kind_of level_text sessions allotted time_left hello_line setup_line before_line after_line bytes_of setup_lines
+unfolding digits argument_of command_number result_text item_of items_of has_done takes last_value
+    plays_fischerandom is_known
+    kind_of level_text sessions allotted time_left handshake_line setup_line before_line after_line bytes_of setup_lines
     last_move_sent clock_lines opening_lines end_lines block
 third_repetition = (refl, refl, refl, refl)
 
@@ -151,8 +153,9 @@ pub two_clocks : Plays (chess with_increment)
     (codes "level 0 0:10 2") ∷ (codes "nopost") ∷ (codes "easy") ∷ (codes "force") ∷ (codes "ping 1") ∷
     (codes "e2e4") ∷ (codes "time 1000") ∷ (codes "otim 200") ∷ (codes "go") ∷ (codes "ping 2") ∷
     (codes "result * {White ended its output}") ∷ (codes "quit") ∷ [])
-unfolding digits argument_of command_number result_text item_of items_of has_done takes last_value plays_fischerandom is_known
-    kind_of level_text sessions allotted time_left hello_line setup_line before_line after_line bytes_of setup_lines
+unfolding digits argument_of command_number result_text item_of items_of has_done takes last_value
+    plays_fischerandom is_known
+    kind_of level_text sessions allotted time_left handshake_line setup_line before_line after_line bytes_of setup_lines
     last_move_sent clock_lines opening_lines end_lines block
 two_clocks = (refl, refl, refl, refl)
 
@@ -172,8 +175,9 @@ pub clocks : Plays (chess two_moves)
     (codes "level 2 1 3") ∷ (codes "nopost") ∷ (codes "easy") ∷ (codes "force") ∷ (codes "ping 1") ∷ (codes "f2f3")
     ∷ (codes "time 6000") ∷ (codes "otim 5300") ∷ (codes "go") ∷ (codes "ping 2") ∷ (codes "time 6300") ∷
     (codes "otim 9600") ∷ (codes "g2g4") ∷ (codes "result 0-1 {Black mates}") ∷ (codes "quit") ∷ [])
-unfolding digits argument_of command_number result_text item_of items_of has_done takes last_value plays_fischerandom is_known
-    kind_of level_text sessions allotted time_left hello_line setup_line before_line after_line bytes_of setup_lines
+unfolding digits argument_of command_number result_text item_of items_of has_done takes last_value
+    plays_fischerandom is_known
+    kind_of level_text sessions allotted time_left handshake_line setup_line before_line after_line bytes_of setup_lines
     last_move_sent clock_lines opening_lines end_lines block
 clocks = (refl, refl, refl, refl)
 
@@ -192,8 +196,9 @@ pub agreed : Plays (chess ten_seconds)
     (codes "level 0 0:10 0") ∷ (codes "nopost") ∷ (codes "easy") ∷ (codes "force") ∷ (codes "ping 1") ∷
     (codes "f2f3") ∷ (codes "time 1000") ∷ (codes "otim 1000") ∷ (codes "go") ∷ (codes "ping 2") ∷
     (codes "result 1/2-1/2 {Draw agreed}") ∷ (codes "quit") ∷ [])
-unfolding digits argument_of command_number result_text item_of items_of has_done takes last_value plays_fischerandom is_known
-    kind_of level_text sessions allotted time_left hello_line setup_line before_line after_line bytes_of setup_lines
+unfolding digits argument_of command_number result_text item_of items_of has_done takes last_value
+    plays_fischerandom is_known
+    kind_of level_text sessions allotted time_left handshake_line setup_line before_line after_line bytes_of setup_lines
     last_move_sent clock_lines opening_lines end_lines block
 agreed = (refl, refl, refl, refl)
 
@@ -209,8 +214,9 @@ pub flood : Plays (chess ten_seconds)
     ((codes "xboard") ∷ (codes "protover 2") ∷ (codes "accepted ping") ∷ (codes "accepted done") ∷ (codes "new") ∷
     (codes "level 0 0:10 0") ∷ (codes "nopost") ∷ (codes "easy") ∷ (codes "force") ∷ (codes "ping 1") ∷
     (codes "f2f3") ∷ (codes "result * {White sent too many lines}") ∷ (codes "quit") ∷ [])
-unfolding digits argument_of command_number result_text item_of items_of has_done takes last_value plays_fischerandom is_known
-    kind_of level_text sessions allotted time_left hello_line setup_line before_line after_line bytes_of setup_lines
+unfolding digits argument_of command_number result_text item_of items_of has_done takes last_value
+    plays_fischerandom is_known
+    kind_of level_text sessions allotted time_left handshake_line setup_line before_line after_line bytes_of setup_lines
     last_move_sent clock_lines opening_lines end_lines block
 flood = (refl, refl, refl, refl)
 
@@ -220,7 +226,8 @@ pub unfit : (fits (chess ten_seconds) ((says Black 0 (codes "x")) ∷ []) ≡ fa
     × (fits (chess ten_seconds) ((FailsToWrite Black) ∷ []) ≡ false)
     × (fits (chess ten_seconds) ((says White 0 (codes "x")) ∷ (FailsToWrite White) ∷ []) ≡ false)
     × (fits (chess ten_seconds) ((FailsToRead White) ∷ (FailsToRead White) ∷ []) ≡ false)
-unfolding digits argument_of command_number result_text item_of items_of has_done takes last_value plays_fischerandom is_known
-    kind_of level_text sessions allotted time_left hello_line setup_line before_line after_line bytes_of setup_lines
+unfolding digits argument_of command_number result_text item_of items_of has_done takes last_value
+    plays_fischerandom is_known
+    kind_of level_text sessions allotted time_left handshake_line setup_line before_line after_line bytes_of setup_lines
     last_move_sent clock_lines opening_lines end_lines block
 unfit = (refl, refl, refl, refl, refl)

@@ -20,15 +20,15 @@ use Rattle.chess_match.specs.Rules.{Rules}
 use Rattle.chess_match.specs.Sent.{SentLine, Says, Time, Otim, lines_on_entering, entry_to, is_same_phase, is_unwritten, setup_lines, variant_command, start_lines, opening_lines, last_move_sent, last_move_lines, clock_lines, end_lines, unsent_lines, ping}
 use Rattle.chess_match.specs.Transcript.{reads, match_of, fits, fits_next, blocks_from, joined_blocks}
 use Rattle.chess_match.specs.declared.phase.Phase.{Phase}
-use Rattle.chess_match.specs.declared.phase.Phase.TheVariants.{Hello, Setup, SendTurn, AwaitMove, AwaitPong, Over}
+use Rattle.chess_match.specs.declared.phase.Phase.TheVariants.{Handshake, Setup, SendTurn, AwaitMove, AwaitPong, Over}
 use Rattle.chess_match.specs.declared.reason.MatchFault.TheVariants.{NoDone, Ended, Read, Write}
 use Rattle.chess_match.specs.declared.reason.Reason.{Reason}
 use Rattle.chess_match.specs.declared.reason.Reason.TheVariants.{Decided, Faulted}
 use Rattle.chess_match.proofs.Blocks.{if_nil}
 use Rattle.chess_match.proofs.Outcomes.{Lines, InTurn, line_outcome, opens_at}
-use Rattle.chess_match.proofs.Telling.{now, gathered, unsent, InOpenings}
+use Rattle.chess_match.proofs.LinesOfOneKind.{now, gathered, unsent, InOpenings}
 use Rattle.chess_match.proofs.Going.{is_opening, offered, sum-snoc}
-use Rattle.chess_match.proofs.Seats.{hear_used, items_same, used_same}
+use Rattle.chess_match.proofs.Seats.{items_used, items_same, used_same}
 use Rattle.chess_match.proofs.Blocks.{told_more}
 
 -- ---- the lines
@@ -136,7 +136,7 @@ opening_times own r m S = at (nat_lt 0 (length (seat m S).used))
         ) (clock_times own r m S)
 
 in_openings : (own : Bool) → InOpenings (numbers own)
-in_openings own r m S (Hello c) e = at own (same_colour c S)
+in_openings own r m S (Handshake c) e = at own (same_colour c S)
   where
     at : (own b : Bool) → flat_map (numbers own) (if b then Says (codes "xboard") ∷ Says (codes "protover 2")
         ∷ [] else []) ≡ []
@@ -164,8 +164,8 @@ in_openings own r m S (Over reason) e = at (is_unwritten reason S)
     at false = end_times own r m S reason
 in_openings own r m S (SendTurn c) e = cc
 
-opening_told : (own : Bool) (r : Rules) (m : Match) (S c : Colour) → flat_map (numbers own) (entry_to r m S (SendTurn c))
-    ≡ (if same_colour c S then clock_told own r m S else [])
+opening_told : (own : Bool) (r : Rules) (m : Match) (S c : Colour)
+    → flat_map (numbers own) (entry_to r m S (SendTurn c)) ≡ (if same_colour c S then clock_told own r m S else [])
 opening_told own r m S c = at (same_colour c S)
   where
     at : (b : Bool) → flat_map (numbers own) (if b then opening_lines r m S else [])
@@ -210,7 +210,7 @@ abbrev is_whole : Bool → Rules → Colour → Bool
 is_whole own r S = own || same_colour S r.first
 
 abbrev TimesIn : Bool → Rules → Colour → Phase → List ℕ → Bool → List ℕ → Type 0
-TimesIn own r S (Hello c) X takes used = (X ≡ []) × (used ≡ [])
+TimesIn own r S (Handshake c) X takes used = (X ≡ []) × (used ≡ [])
 TimesIn own r S (Setup c) X takes used = (X ≡ []) × (used ≡ [])
 TimesIn own r S (SendTurn c) X takes used = X ++ pending own (SendTurn c) S (last_told r takes used)
     ≡ all_told (is_whole own r S) r takes used
@@ -246,10 +246,10 @@ pending_short true (SendTurn c) S t h = if_short (same_colour c S) t h
 pending_short true (AwaitMove c) S t h = if_short (same_colour c S) t h
 pending_short true (AwaitPong c) S t h = h
 pending_short false (AwaitPong c) S t h = if_short (same_colour c S) t h
-pending_short true (Hello c) S t h = omega arith
+pending_short true (Handshake c) S t h = omega arith
 pending_short true (Setup c) S t h = omega arith
 pending_short true (Over x) S t h = omega arith
-pending_short false (Hello c) S t h = omega arith
+pending_short false (Handshake c) S t h = omega arith
 pending_short false (Setup c) S t h = omega arith
 pending_short false (SendTurn c) S t h = omega arith
 pending_short false (AwaitMove c) S t h = omega arith
@@ -269,7 +269,7 @@ empty_over own r S X takes used x u = rw (x, u)
 over_times : (own : Bool) (r : Rules) (S : Colour) (X : List ℕ) (takes : Bool) (used : List ℕ) (p : Phase)
     → TimesIn own r S p X takes used
     → (rest : List ℕ) × (length rest ≤ 1) × (X ++ rest ≡ all_told (is_whole own r S) r takes used)
-over_times own r S X takes used (Hello c) h = empty_over own r S X takes used h.0 h.1
+over_times own r S X takes used (Handshake c) h = empty_over own r S X takes used h.0 h.1
 over_times own r S X takes used (Setup c) h = empty_over own r S X takes used h.0 h.1
 over_times own r S X takes used (SendTurn c) h = (
   pending own (SendTurn c) S (last_told r takes used),
@@ -378,7 +378,7 @@ quiet_goes : (own : Bool) (r : Rules) (S : Colour) (X : List ℕ) (m m' : Match)
 quiet_goes own r S X m m' e h = rw (quiet_now own r S m m' e, append-nil X) h
 
 not_opening : (p : Phase) (S : Colour) → reads p S ≡ true → is_opening p ≡ false
-not_opening (Hello c) S h = refl
+not_opening (Handshake c) S h = refl
 not_opening (Setup c) S h = refl
 not_opening (AwaitMove c) S h = refl
 not_opening (AwaitPong c) S h = refl
@@ -443,7 +443,8 @@ decides_goes own r S c X move used v m h =
     (over_times own r S X (takes (codes "time") (seat m' S).items) (seat m' (told_of own S)).used (AwaitPong c)
     (played_times own r S c X move used m h)))
 
-turn_goes : (own : Bool) (r : Rules) (S c : Colour) (X : List ℕ) (m : Match) → is_same_phase m.phase (SendTurn c) ≡ false
+turn_goes : (own : Bool) (r : Rules) (S c : Colour) (X : List ℕ) (m : Match) → is_same_phase m.phase (SendTurn c)
+    ≡ false
     → (X ++ (if same_colour c S then clock_told own r m S else [])) ++ pending own (SendTurn c) S (clock_told own r m S)
     ≡ all_told (is_whole own r S) r (takes (codes "time") (seat m S).items) (seat m (told_of own S)).used
     → Goes own r S X m (open_turn c m)
@@ -458,38 +459,39 @@ turn_goes own r S c X m out h =
     carried_turn i u = rw (i, u) h
 
 -- in a handshake nothing was sent, and no move made
-hello_goes : (own : Bool) (r : Rules) (S c d : Colour) (X : List ℕ) (items : List Item) (n : ℕ) (p : Phase) (m : Match)
-    → TimesOf own r S (Hello d) X m → (reason : Reason)
-    → (Times own r S X (enter (Hello Black) (take_items c items m)))
+handshake_goes : (own : Bool) (r : Rules) (S c d : Colour) (X : List ℕ) (items : List Item) (n : ℕ)
+    (p : Phase) (m : Match) → TimesOf own r S (Handshake d) X m → (reason : Reason)
+    → (Times own r S X (enter (Handshake Black) (take_items c items m)))
     × (Times own r S X (enter (Setup White) (take_items c items m)))
-    × (Times own r S X (enter (Over reason) (take_items c items m))) × (Times own r S X (over reason (take_items c items m)))
-hello_goes own r S c d X items n p m h reason =
-    let u = hear_used c items m in
+    × (Times own r S X (enter (Over reason) (take_items c items m)))
+    × (Times own r S X (over reason (take_items c items m)))
+handshake_goes own r S c d X items n p m h reason =
+    let u = items_used c items m in
     let used : (m' : Match) → m'.white.used ≡ m.white.used → m'.black.used ≡ m.black.used
     → (seat m' (told_of own S)).used ≡ [] = λ m' w b. used_same m m' w b (told_of own S) ∙ h.1 in (
-      (h.0, used (enter (Hello Black) (take_items c items m)) u.0 u.1),
+      (h.0, used (enter (Handshake Black) (take_items c items m)) u.0 u.1),
       (h.0, used (enter (Setup White) (take_items c items m)) u.0 u.1),
       empty_over own r S X _ _ h.0 (used (enter (Over reason) (take_items c items m)) u.0 u.1),
       empty_over own r S X _ _ h.0 (used (over reason (take_items c items m)) u.0 u.1),
     )
 
-hello_counts : (own : Bool) (r : Rules) (S c : Colour) (X : List ℕ) (items : List Item) (n : ℕ) (m : Match) → m.phase
-    ≡ Hello c → TimesOf own r S (Hello c) X m
+handshake_counts : (own : Bool) (r : Rules) (S c : Colour) (X : List ℕ) (items : List Item) (n : ℕ) (m : Match)
+    → m.phase ≡ Handshake c → TimesOf own r S (Handshake c) X m
     → (let m' = take_items c items m in Goes own r S X m (record m' { count = n }))
-hello_counts own r S White X items n m p h =
+handshake_counts own r S White X items n m p h =
     let m' = take_items White items m in
     let m'' : Match = record m' { count = n } in
     counted m'' p (used_same m m'' refl refl (told_of own S) ∙ h.1) h.0
   where
-    counted : (m'' : Match) → m''.phase ≡ Hello White → (seat m'' (told_of own S)).used ≡ [] → X ≡ []
+    counted : (m'' : Match) → m''.phase ≡ Handshake White → (seat m'' (told_of own S)).used ≡ [] → X ≡ []
         → Goes own r S X m m''
     counted m'' p u x = quiet_goes own r S X m m'' (rw p refl) (rw p (x, u))
-hello_counts own r S Black X items n m p h =
+handshake_counts own r S Black X items n m p h =
     let m' = take_items Black items m in
     let m'' : Match = record m' { count = n } in
     counted m'' p (used_same m m'' refl refl (told_of own S) ∙ h.1) h.0
   where
-    counted : (m'' : Match) → m''.phase ≡ Hello Black → (seat m'' (told_of own S)).used ≡ [] → X ≡ []
+    counted : (m'' : Match) → m''.phase ≡ Handshake Black → (seat m'' (told_of own S)).used ≡ [] → X ≡ []
         → Goes own r S X m m''
     counted m'' p u x = quiet_goes own r S X m m'' (rw p refl) (rw p (x, u))
 
@@ -502,15 +504,17 @@ lines_go : (own : Bool) (r : Rules) (S c : Colour) (X : List ℕ) (kind : LineKi
     → reads m.phase c ≡ true → Times own r S X m
     → Lines r c kind moment m (λ m'. Goes own r S X m m')
 lines_go own r S c X kind moment m here h = record {
-  hello_ends = λ p d. quiet_goes own r S X m (over (Faulted c NoDone) (take_items c (items_of_line kind) m)) refl
-      (hello p (Faulted c NoDone)).3;
-  hello_counts = λ p d few. hello_counts own r S c X (items_of_line kind) (m.count + 1) m p
-      (times_in own r S X m (Hello c) p h);
-  hello_next = λ p s d. quiet_goes own r S X m (enter (Hello Black) (take_items c (items_of_line kind) m)) refl (hello_at p).0;
-  hello_judged = λ p s d b f. quiet_goes own r S X m (enter (Over (Faulted b f)) (take_items c (items_of_line kind) m)) refl
-      (hello_judged p (Faulted b f)).2;
-  hello_done = λ p s d. quiet_goes own r S X m (enter (Setup White) (take_items c (items_of_line kind) m)) refl
-      (hello_judged p (Faulted c NoDone)).1;
+  handshake_ends = λ p d. quiet_goes own r S X m (over (Faulted c NoDone) (take_items c (items_of_line kind) m)) refl
+      (handshake p (Faulted c NoDone)).3;
+  handshake_counts = λ p d few. handshake_counts own r S c X (items_of_line kind) (m.count + 1) m p
+      (times_in own r S X m (Handshake c) p h);
+  handshake_next = λ p s d. quiet_goes own r S X m (enter (Handshake Black) (take_items c (items_of_line kind) m)) refl
+      (handshake_at p).0;
+  handshake_judged = λ p s d b f. quiet_goes own r S X m
+      (enter (Over (Faulted b f)) (take_items c (items_of_line kind) m)) refl
+      (handshake_judged p (Faulted b f)).2;
+  handshake_done = λ p s d. quiet_goes own r S X m (enter (Setup White) (take_items c (items_of_line kind) m)) refl
+      (handshake_judged p (Faulted c NoDone)).1;
   setup_ends = λ p reason n. over_goes own r S X reason m h;
   setup_counts = λ p pong few. counts_goes own r S c X (m.count + 1) m here h;
   setup_next = λ p s pong. quiet_goes own r S X m (enter (Setup Black) m) refl
@@ -540,27 +544,30 @@ lines_go own r S c X kind moment m here h = record {
       offers = λ none own' theirs. offers_goes own r S c X m here h;
     }
 
-    hello : m.phase ≡ Hello c → (reason : Reason)
-        → (Times own r S X (enter (Hello Black) (take_items c (items_of_line kind) m)))
+    handshake : m.phase ≡ Handshake c → (reason : Reason)
+        → (Times own r S X (enter (Handshake Black) (take_items c (items_of_line kind) m)))
         × (Times own r S X (enter (Setup White) (take_items c (items_of_line kind) m)))
         × (Times own r S X (enter (Over reason) (take_items c (items_of_line kind) m)))
         × (Times own r S X (over reason (take_items c (items_of_line kind) m)))
-    hello p reason = hello_goes own r S c c X (items_of_line kind) 0 m.phase m (times_in own r S X m (Hello c) p h) reason
+    handshake p reason = handshake_goes own r S c c X (items_of_line kind) 0 m.phase m
+        (times_in own r S X m (Handshake c) p h) reason
 
-    hello_at : m.phase ≡ Hello White → (Times own r S X (enter (Hello Black) (take_items c (items_of_line kind) m)))
+    handshake_at : m.phase ≡ Handshake White
+        → (Times own r S X (enter (Handshake Black) (take_items c (items_of_line kind) m)))
         × (Times own r S X (enter (Setup White) (take_items c (items_of_line kind) m)))
         × (Times own r S X (enter (Over (Faulted c NoDone)) (take_items c (items_of_line kind) m)))
         × (Times own r S X (over (Faulted c NoDone) (take_items c (items_of_line kind) m)))
-    hello_at p = hello_goes own r S c White X (items_of_line kind) 0 m.phase m (times_in own r S X m (Hello White) p h)
+    handshake_at p = handshake_goes own r S c White X (items_of_line kind) 0 m.phase m
+        (times_in own r S X m (Handshake White) p h)
         (Faulted c NoDone)
 
-    hello_judged : m.phase ≡ Hello Black → (reason : Reason)
-        → (Times own r S X (enter (Hello Black) (take_items c (items_of_line kind) m)))
+    handshake_judged : m.phase ≡ Handshake Black → (reason : Reason)
+        → (Times own r S X (enter (Handshake Black) (take_items c (items_of_line kind) m)))
         × (Times own r S X (enter (Setup White) (take_items c (items_of_line kind) m)))
         × (Times own r S X (enter (Over reason) (take_items c (items_of_line kind) m)))
         × (Times own r S X (over reason (take_items c (items_of_line kind) m)))
-    hello_judged p reason = hello_goes own r S c Black X (items_of_line kind) 0 m.phase m
-        (times_in own r S X m (Hello Black) p h) reason
+    handshake_judged p reason = handshake_goes own r S c Black X (items_of_line kind) 0 m.phase m
+        (times_in own r S X m (Handshake Black) p h) reason
 
 step : (own : Bool) (r : Rules) (S : Colour) (due : Colour → List SentLine) (m : Match) (e : Event) (X : List ℕ)
     → fits_next due m e ≡ true → Times own r S X m → Goes own r S X m (match_after r m e)
@@ -586,7 +593,7 @@ times_so own r S T f =
     rw (
       flat_map-append (numbers own) (lines_on_entering r start S) (joined_blocks (blocks_from r S start T)),
       in_openings own r
-          start S (Hello White) refl,
+          start S (Handshake White) refl,
     )
     (gathered (numbers own) (no_text own) r S (λ X m. Times own r S X m) (step own r S)
     (unsent (numbers own) r S (in_openings own)) (lines_on_entering r start) start T [] f (refl, none S own))

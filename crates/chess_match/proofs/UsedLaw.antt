@@ -13,7 +13,7 @@ use Rattle.chess_match.specs.Rules.{Rules}
 use Rattle.chess_match.specs.Sent.{SentLine, block, lines_on_entering}
 use Rattle.chess_match.specs.Transcript.{is_on, reads, opens, fits_next, fits_from}
 use Rattle.chess_match.specs.declared.phase.Phase.{Phase}
-use Rattle.chess_match.specs.declared.phase.Phase.TheVariants.{Hello, Setup, SendTurn, AwaitMove, AwaitPong, Over}
+use Rattle.chess_match.specs.declared.phase.Phase.TheVariants.{Handshake, Setup, SendTurn, AwaitMove, AwaitPong, Over}
 use Rattle.chess_match.specs.declared.reason.MatchFault.TheVariants.{NoDone}
 use Rattle.chess_match.specs.declared.reason.Reason.{Reason}
 use Rattle.chess_match.specs.declared.reason.Reason.TheVariants.{Decided, Faulted}
@@ -21,13 +21,13 @@ use Rattle.chess_match.proofs.MoveLaw.{not_on}
 use Rattle.chess_match.proofs.OneLaw.{over_stops}
 use Rattle.chess_match.proofs.Outcomes.{Lines, InTurn, line_outcome, opens_at, and_first, and_second}
 use Rattle.chess_match.proofs.Going.{offered}
-use Rattle.chess_match.proofs.Seats.{hear_used, used_same}
+use Rattle.chess_match.proofs.Seats.{items_used, used_same}
 use Rattle.chess_match.specs.ties.Steps.{match_from}
 
 -- the moment of the opening, where a move of S is awaited
 abbrev awaited : Colour → Phase → ℕ → Option ℕ
 awaited S (AwaitMove c) opened = if same_colour c S then Some opened else None
-awaited S (Hello c) opened = None
+awaited S (Handshake c) opened = None
 awaited S (Setup c) opened = None
 awaited S (SendTurn c) opened = None
 awaited S (AwaitPong c) opened = None
@@ -118,8 +118,8 @@ plays_grow Black Black text move n m p = rw p
 plays_grow White Black text move n m p = rw p ([], omega arith, refl, λ on. (refl, refl))
 plays_grow Black White text move n m p = rw p ([], omega arith, refl, λ on. (refl, refl))
 
-decides_grow : (S c : Colour) (text : List ℕ) (move : Move) (n : ℕ) (m : Match) (reason : Reason) → m.phase ≡ AwaitMove c
-    → Grows S (Moves text) n m (over reason (played_by c move (n - m.opened) m))
+decides_grow : (S c : Colour) (text : List ℕ) (move : Move) (n : ℕ) (m : Match) (reason : Reason) → m.phase
+    ≡ AwaitMove c → Grows S (Moves text) n m (over reason (played_by c move (n - m.opened) m))
 decides_grow White White text move n m reason p =
     rw p ([], omega arith, sym (append-nil (m.white.used ++ (n - m.opened) ∷ [])), λ on. not_on on)
 decides_grow Black Black text move n m reason p =
@@ -127,13 +127,15 @@ decides_grow Black Black text move n m reason p =
 decides_grow White Black text move n m reason p = rw p ([], omega arith, refl, λ on. not_on on)
 decides_grow Black White text move n m reason p = rw p ([], omega arith, refl, λ on. not_on on)
 
-hello_counts : (S c : Colour) (items : List Item) (k : ℕ) (kind : LineKind) (n : ℕ) (m : Match) → m.phase ≡ Hello c
-    → (let m' = take_items c items m in Grows S kind n m (record m' { count = k }))
-hello_counts S White items k kind n m p =
-    let m' = take_items White items m in apart_grow S kind n m (record m' { count = k }) (Hello White) p refl refl refl
+handshake_counts : (S c : Colour) (items : List Item) (k : ℕ) (kind : LineKind) (n : ℕ) (m : Match) → m.phase
+    ≡ Handshake c → (let m' = take_items c items m in Grows S kind n m (record m' { count = k }))
+handshake_counts S White items k kind n m p =
+    let m' = take_items White items m in apart_grow S kind n m (record m' { count = k }) (Handshake White) p
+    refl refl refl
     (rw p refl)
-hello_counts S Black items k kind n m p =
-    let m' = take_items Black items m in apart_grow S kind n m (record m' { count = k }) (Hello Black) p refl refl refl
+handshake_counts S Black items k kind n m p =
+    let m' = take_items Black items m in apart_grow S kind n m (record m' { count = k }) (Handshake Black) p
+    refl refl refl
     (rw p refl)
 
 offers_grow : (S c : Colour) (kind : LineKind) (n : ℕ) (m : Match) → is_move kind ≡ false
@@ -144,15 +146,18 @@ offers_grow S Black kind n m none = stays_grow S kind n m (offered Black m) refl
 lines_grow : (r : Rules) (S c : Colour) (kind : LineKind) (n : ℕ) (m : Match)
     → Lines r c kind n m (λ m'. Grows S kind n m m')
 lines_grow r S c kind n m = record {
-  hello_ends = λ p d. ends_grow S kind n m (over (Faulted c NoDone) (take_items c (items_of_line kind) m))
-      (hear_used c (items_of_line kind) m).0 (hear_used c (items_of_line kind) m).1 refl;
-  hello_counts = λ p d few. hello_counts S c (items_of_line kind) (m.count + 1) kind n m p;
-  hello_next = λ p s d. apart_grow S kind n m (enter (Hello Black) (take_items c (items_of_line kind) m)) (Hello White) p refl
-      (hear_used c (items_of_line kind) m).0 (hear_used c (items_of_line kind) m).1 refl;
-  hello_judged = λ p s d b f. ends_grow S kind n m (enter (Over (Faulted b f)) (take_items c (items_of_line kind) m))
-      (hear_used c (items_of_line kind) m).0 (hear_used c (items_of_line kind) m).1 refl;
-  hello_done = λ p s d. apart_grow S kind n m (enter (Setup White) (take_items c (items_of_line kind) m)) (Hello Black) p refl
-      (hear_used c (items_of_line kind) m).0 (hear_used c (items_of_line kind) m).1 refl;
+  handshake_ends = λ p d. ends_grow S kind n m (over (Faulted c NoDone) (take_items c (items_of_line kind) m))
+      (items_used c (items_of_line kind) m).0 (items_used c (items_of_line kind) m).1 refl;
+  handshake_counts = λ p d few. handshake_counts S c (items_of_line kind) (m.count + 1) kind n m p;
+  handshake_next = λ p s d. apart_grow S kind n m (enter (Handshake Black) (take_items c (items_of_line kind) m))
+      (Handshake White) p refl
+      (items_used c (items_of_line kind) m).0 (items_used c (items_of_line kind) m).1 refl;
+  handshake_judged = λ p s d b f. ends_grow S kind n m
+      (enter (Over (Faulted b f)) (take_items c (items_of_line kind) m))
+      (items_used c (items_of_line kind) m).0 (items_used c (items_of_line kind) m).1 refl;
+  handshake_done = λ p s d. apart_grow S kind n m (enter (Setup White) (take_items c (items_of_line kind) m))
+      (Handshake Black) p refl
+      (items_used c (items_of_line kind) m).0 (items_used c (items_of_line kind) m).1 refl;
   setup_ends = λ p reason n'. ends_grow S kind n m (over reason m) refl refl refl;
   setup_counts = λ p pong few. apart_grow S kind n m (record m { count = m.count + 1 }) (Setup c) p refl refl refl
       (rw p refl);
@@ -209,7 +214,7 @@ line_times : (S c : Colour) (p : Phase) (opened : ℕ) (text : Option (List ℕ)
     → turn_times S (awaited S p opened) (Line c text n ∷ T) ≡ taken (awaited S p opened) (line_kind text) n
     ++ turn_times S (awaited_then (awaited S p opened) (line_kind text)) T
 line_times S c (AwaitMove d) opened text n T h = before_line_times S c d opened text n T h
-line_times S c (Hello d) opened text n T h = refl
+line_times S c (Handshake d) opened text n T h = refl
 line_times S c (Setup d) opened text n T h = refl
 line_times S c (AwaitPong d) opened text n T h = refl
 line_times S c (SendTurn d) opened text n T h = refl
@@ -276,18 +281,23 @@ used_from r S due m (Line c t n ∷ T) f =
     (and_first (reads m.phase c) _ f) (and_second (reads m.phase c) _ f)
     (line_outcome r c (line_kind t) n m (λ m'. Grows S (line_kind t) n m m') (and_first (reads m.phase c) _ f)
     (lines_grow r S c (line_kind t) n m))
-    (used_from r S (block r m (match_after r m (Line c t n))) (match_after r m (Line c t n)) T (and_second (reads m.phase c) _ f))
+    (used_from r S (block r m (match_after r m (Line c t n))) (match_after r m (Line c t n)) T
+    (and_second (reads m.phase c) _ f))
 used_from r S due m (Opened c n ∷ T) f =
     opened_goes_on r S c n m T (opens_at m.phase c (and_first (opens m.phase c) _ f))
-    (used_from r S (block r m (match_after r m (Opened c n))) (match_after r m (Opened c n)) T (and_second (opens m.phase c) _ f))
+    (used_from r S (block r m (match_after r m (Opened c n))) (match_after r m (Opened c n)) T
+    (and_second (opens m.phase c) _ f))
 used_from r S due m (OutputEnds c ∷ T) f =
-    stopped r S (block r m (match_after r m (OutputEnds c))) (awaited S m.phase m.opened) m (match_after r m (OutputEnds c)) T refl
+    stopped r S (block r m (match_after r m (OutputEnds c))) (awaited S m.phase m.opened) m
+    (match_after r m (OutputEnds c)) T refl
     refl refl (and_second (fits_next due m (OutputEnds c)) _ f)
 used_from r S due m (FailsToRead c ∷ T) f =
-    stopped r S (block r m (match_after r m (FailsToRead c))) (awaited S m.phase m.opened) m (match_after r m (FailsToRead c)) T
+    stopped r S (block r m (match_after r m (FailsToRead c))) (awaited S m.phase m.opened) m
+    (match_after r m (FailsToRead c)) T
     refl refl refl (and_second (fits_next due m (FailsToRead c)) _ f)
 used_from r S due m (FailsToWrite c ∷ T) f =
-    stopped r S (block r m (match_after r m (FailsToWrite c))) (awaited S m.phase m.opened) m (match_after r m (FailsToWrite c)) T
+    stopped r S (block r m (match_after r m (FailsToWrite c))) (awaited S m.phase m.opened) m
+    (match_after r m (FailsToWrite c)) T
     refl refl refl (and_second (fits_next due m (FailsToWrite c)) _ f)
 
 pub used_times_are_differences : UsedTimesAreDifferences

@@ -12,7 +12,7 @@ use Rattle.cecp_engine.specs.Levels.{time_left}
 use Rattle.chess_match.specs.Reasons.{by_colour}
 use Rattle.chess_match.specs.Rules.{Rules, is_fischerandom}
 use Rattle.chess_match.specs.declared.phase.Phase.{Phase}
-use Rattle.chess_match.specs.declared.phase.Phase.TheVariants.{Hello, Setup, SendTurn, AwaitMove, AwaitPong, Over}
+use Rattle.chess_match.specs.declared.phase.Phase.TheVariants.{Handshake, Setup, SendTurn, AwaitMove, AwaitPong, Over}
 use Rattle.chess_match.specs.declared.reason.DrawClaim.{DrawClaim}
 use Rattle.chess_match.specs.declared.reason.MatchFault.{MatchFault}
 use Rattle.chess_match.specs.declared.reason.MatchFault.TheVariants.{Ended, Read, Write, NoDone, NoPing, NoSetboard, Flood, NoVariant}
@@ -74,7 +74,15 @@ vacant = record { items = []; used = []; offers = false }
 -- a match before its first event: White's handshake is awaited
 abbrev pub start : Match
 start =
-    record { phase = Hello White; white = vacant; black = vacant; played = []; unsent_to = None; count = 0; opened = 0 }
+    record {
+      phase = Handshake White;
+      white = vacant;
+      black = vacant;
+      played = [];
+      unsent_to = None;
+      count = 0;
+      opened = 0;
+    }
 
 -- ---- ways to go on
 
@@ -125,13 +133,13 @@ after_handshakes None None m = enter (Setup White) m
 -- the match `m` after the handshake of the side `S` ended: Black's comes after White's, and then both engines are
 -- judged
 abbrev pub greeted : Rules → Colour → Match → Match
-greeted r White m = enter (Hello Black) m
+greeted r White m = enter (Handshake Black) m
 greeted r Black m = after_handshakes (lack r m.white.items) (lack r m.black.items) m
 
 -- the match `m` after a line of the side `S` in its handshake, which has these items: `done=1` ends the handshake;
 -- without it the 1,000th line ends the match
-unfoldable pub hello_line : Rules → Colour → List Item → Match → Match
-hello_line r S items m =
+unfoldable pub handshake_line : Rules → Colour → List Item → Match → Match
+handshake_line r S items m =
     if has_done items then greeted r S (take_items S items m)
     else if nat_le 1000 (m.count + 1) then over (Faulted S NoDone) (take_items S items m)
     else let m' = take_items S items m in record m' { count = m.count + 1 }
@@ -233,7 +241,7 @@ after_line r S kind m = turn_line r S kind m
 -- the match `m` after a line of this kind that came at `moment`, by the phase that the match is in; while a turn is
 -- opened, or at the end, no line is read
 abbrev pub after_kind : Rules → Phase → LineKind → ℕ → Match → Match
-after_kind r (Hello S) kind moment m = hello_line r S (items_of_line kind) m
+after_kind r (Handshake S) kind moment m = handshake_line r S (items_of_line kind) m
 after_kind r (Setup S) kind moment m = setup_line r S kind m
 after_kind r (AwaitMove S) kind moment m = before_line r S kind moment m
 after_kind r (AwaitPong S) kind moment m = after_line r S kind m

@@ -37,15 +37,15 @@ claim_comment FiftyMoves = codes "50-move rule"
 
 -- what the comment says of an engine with this fault, after the name of its side: ` has no ping`, as in `White has no
 -- ping`
-abbrev pub fault_words : MatchFault → List ℕ
-fault_words Ended = codes " ended its output"
-fault_words Read = codes " can not be read"
-fault_words Write = codes " can not be written"
-fault_words NoDone = codes " did not send done=1"
-fault_words NoPing = codes " has no ping"
-fault_words NoSetboard = codes " has no setboard"
-fault_words Flood = codes " sent too many lines"
-fault_words NoVariant = codes " has no fischerandom"
+abbrev pub fault_comment : MatchFault → List ℕ
+fault_comment Ended = codes " ended its output"
+fault_comment Read = codes " can not be read"
+fault_comment Write = codes " can not be written"
+fault_comment NoDone = codes " did not send done=1"
+fault_comment NoPing = codes " has no ping"
+fault_comment NoSetboard = codes " has no setboard"
+fault_comment Flood = codes " sent too many lines"
+fault_comment NoVariant = codes " has no fischerandom"
 
 -- how a match that ended for this reason is reported: its outcome (`*` if an engine failed or the game is too long),
 -- its comment, as in `result 1-0 {Black resigns}`, and the value for the tag Termination
@@ -61,7 +61,7 @@ reported (RejectsLegalMove c) = (win_of (other c), colour_name c ++ codes " reje
 reported (Forfeits c) = (win_of (other c), colour_name c ++ codes " forfeits on time", TimeForfeit)
 reported ForfeitsToBareKing = (Draw, codes "Time forfeit against a bare king", TimeForfeit)
 reported GameTooLong = (Unfinished, codes "Game too long", Normal)
-reported (Faulted c f) = (Unfinished, colour_name c ++ fault_words f, Normal)
+reported (Faulted c f) = (Unfinished, colour_name c ++ fault_comment f, Normal)
 
 -- the outcome of a match that ended for this reason
 abbrev pub outcome_by_reason : Reason → Outcome

@@ -11,7 +11,7 @@ use Rattle.chess_match.specs.Match.{Match, Seat, seat, clock, ping_number}
 use Rattle.chess_match.specs.Reasons.{outcome_by_reason, comment_of}
 use Rattle.chess_match.specs.Rules.{Rules, is_fischerandom}
 use Rattle.chess_match.specs.declared.phase.Phase.{Phase}
-use Rattle.chess_match.specs.declared.phase.Phase.TheVariants.{Hello, Setup, SendTurn, AwaitMove, AwaitPong, Over}
+use Rattle.chess_match.specs.declared.phase.Phase.TheVariants.{Handshake, Setup, SendTurn, AwaitMove, AwaitPong, Over}
 use Rattle.chess_match.specs.declared.reason.MatchFault.TheVariants.{Write}
 use Rattle.chess_match.specs.declared.reason.Reason.{Reason}
 use Rattle.chess_match.specs.declared.reason.Reason.TheVariants.{Faulted}
@@ -32,26 +32,26 @@ pub data SentLine : Type 0 where
   Otim : (centiseconds : ℕ) → SentLine
 
 -- the answer to an item of a `feature` line: `accepted ping`, or `rejected` and the name if it is not known
-abbrev pub answer_words : List ℕ → List ℕ
-answer_words name = (if is_known name then codes "accepted " else codes "rejected ") ++ name
+abbrev pub answer_text : List ℕ → List ℕ
+answer_text name = (if is_known name then codes "accepted " else codes "rejected ") ++ name
 
 -- the text of a line without `\n`: `usermove e2e4`, `time 30000`
-abbrev pub words_of : SentLine → List ℕ
-words_of (Says text) = text
-words_of (MoveSent prefixed text) = list_if prefixed (codes "usermove ") ++ text
-words_of (Time n) = codes "time " ++ decimal n
-words_of (Otim n) = codes "otim " ++ decimal n
+abbrev pub text_of : SentLine → List ℕ
+text_of (Says text) = text
+text_of (MoveSent prefixed text) = list_if prefixed (codes "usermove ") ++ text
+text_of (Time n) = codes "time " ++ decimal n
+text_of (Otim n) = codes "otim " ++ decimal n
 
 -- the bytes of these lines one after another, each with `\n` at its end
 unfoldable pub bytes_of : List SentLine → List ℕ
 bytes_of [] = []
-bytes_of (l ∷ ls) = words_of l ++ new_line ∷ bytes_of ls
+bytes_of (l ∷ ls) = text_of l ++ new_line ∷ bytes_of ls
 
 -- ---- what a phase gives
 
 -- the lines that answer these items of `feature` lines, one for each, in their order
 abbrev pub answers_to : List Item → List SentLine
-answers_to items = map (λ i. Says (answer_words i.name)) items
+answers_to items = map (λ i. Says (answer_text i.name)) items
 
 -- the line `setboard FEN` for the start's FEN, as a list of one; empty if none is sent (`None`)
 abbrev pub start_lines : Option (List ℕ) → List SentLine
@@ -104,7 +104,8 @@ unsent_lines r m S unsent_to = option_map_or (λ c. list_if (same_colour c S) (l
 -- `result 1-0 {Black resigns}`, and `quit`
 unfoldable pub end_lines : Rules → Match → Colour → Reason → List SentLine
 end_lines r m S reason =
-    unsent_lines r m S m.unsent_to ++ (Says (codes "result " ++ result_text (outcome_by_reason reason) (comment_of reason))
+    unsent_lines r m S m.unsent_to
+    ++ (Says (codes "result " ++ result_text (outcome_by_reason reason) (comment_of reason))
     ∷ Says (codes "quit") ∷ [])
 
 -- whether this reason, for which a match ended, is that writing to the side `S` failed
@@ -115,7 +116,7 @@ is_unwritten _ S = false
 -- the lines that the side `S` is sent when the match `m` enters this phase: most phases have lines for one side only;
 -- at the end both are sent some, unless writing to `S` failed
 abbrev pub entry_to : Rules → Match → Colour → Phase → List SentLine
-entry_to r m S (Hello c) = list_if (same_colour c S) (Says (codes "xboard") ∷ Says (codes "protover 2") ∷ [])
+entry_to r m S (Handshake c) = list_if (same_colour c S) (Says (codes "xboard") ∷ Says (codes "protover 2") ∷ [])
 entry_to r m S (Setup c) = list_if (same_colour c S) (setup_lines r)
 entry_to r m S (SendTurn c) = list_if (same_colour c S) (opening_lines r m S)
 entry_to r m S (AwaitMove c) = []
@@ -131,7 +132,7 @@ lines_on_entering r m S = entry_to r m S m.phase
 -- whether going from the first phase to the second enters no new one: they are the same, or the match was over before.
 -- The opening of a turn (`SendTurn`) is always a new phase
 abbrev pub is_same_phase : Phase → Phase → Bool
-is_same_phase (Hello c) (Hello d) = same_colour c d
+is_same_phase (Handshake c) (Handshake d) = same_colour c d
 is_same_phase (Setup c) (Setup d) = same_colour c d
 is_same_phase (AwaitMove c) (AwaitMove d) = same_colour c d
 is_same_phase (AwaitPong c) (AwaitPong d) = same_colour c d
@@ -141,7 +142,8 @@ is_same_phase _ _ = false
 -- the line `draw` for the engine `own`, if its opponent's offer of a draw was opened between the opponent's states
 -- `old` and `new`; as a list of one, empty if there was no such offer or `own` has `draw=0`
 abbrev pub draw_line : Seat → Seat → Seat → List SentLine
-draw_line own old new = list_if (not old.offers && new.offers && takes (codes "draw") own.items) (Says (codes "draw") ∷ [])
+draw_line own old new = list_if (not old.offers && new.offers && takes (codes "draw") own.items)
+    (Says (codes "draw") ∷ [])
 
 -- the lines that the side `S` is sent when an event takes the match from `m` to `m'`: answers to its items, the
 -- other's draw offer, and those of a new phase

@@ -9,7 +9,7 @@ use Rattle.chess_match.specs.Match.{Match, Event, Line, Opened, OutputEnds, Fail
 use Rattle.chess_match.specs.Rules.{Rules}
 use Rattle.chess_match.specs.Sent.{SentLine, block, lines_on_entering, list_if}
 use Rattle.chess_match.specs.declared.phase.Phase.{Phase}
-use Rattle.chess_match.specs.declared.phase.Phase.TheVariants.{Hello, Setup, SendTurn, AwaitMove, AwaitPong, Over}
+use Rattle.chess_match.specs.declared.phase.Phase.TheVariants.{Handshake, Setup, SendTurn, AwaitMove, AwaitPong, Over}
 use Rattle.chess_match.specs.declared.reason.MatchFault.{MatchFault}
 use Rattle.chess_match.specs.declared.reason.MatchFault.TheVariants.{Ended, Read, Write}
 use Rattle.std.specs.List.{flat_map, fold, list_any}
@@ -27,7 +27,7 @@ engine_name m S = cut_tag (last_value (codes "myname") (seat m S).items)
 
 -- whether a match in this phase waits for a line of the side `S`
 abbrev pub reads : Phase → Colour → Bool
-reads (Hello c) S = same_colour c S
+reads (Handshake c) S = same_colour c S
 reads (Setup c) S = same_colour c S
 reads (AwaitMove c) S = same_colour c S
 reads (AwaitPong c) S = same_colour c S

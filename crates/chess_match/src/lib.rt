@@ -14,20 +14,20 @@
 #![tactic(auto)]
 
 mod block;
-mod chess;
-mod giving;
-mod hello;
+mod compose;
+mod events;
+mod game;
+mod handshake;
 mod laws;
 mod match_game;
 mod moments;
 mod phase;
 mod reason;
 mod run;
-mod sending;
+mod send;
 mod state;
-mod step;
-mod table;
 mod texts;
+mod transitions;
 mod turn;
 mod witness;
 

@@ -1,7 +1,7 @@
 //! Why a match is over, and how that is reported.
 
 ghost use Rattle.std.specs.Prelude.{◌≡◌, ◌≤◌, ◌++◌, length};
-ghost use Rattle.chess_match.specs.Reasons.{by_colour, win_of, outcome_by_reason, comment_of, claim_comment, colour_name, fault_words, ended_by, first_fault};
+ghost use Rattle.chess_match.specs.Reasons.{by_colour, win_of, outcome_by_reason, comment_of, claim_comment, colour_name, fault_comment, ended_by, first_fault};
 
 use chess_base::Colour;
 use chess_game::{HowEnded, Outcome, Verdict};
@@ -91,7 +91,7 @@ impl DrawClaim {
 impl MatchFault {
     // What the comment says of this fault of the engine of the side `colour`, such as `White has no ping`.
     fn comment(self, colour: Colour) -> &'static [u8]
-        ensures value { result.now ≡ colour_name colour ++ fault_words self }
+        ensures value { result.now ≡ colour_name colour ++ fault_comment self }
         ensures short { length result.now ≤ 60 }
     {
         match (self, colour) {

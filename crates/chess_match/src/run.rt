@@ -14,7 +14,7 @@ ghost use Rattle.chess_match.specs.Match.{Match, FailsToWrite, match_after};
 ghost use Rattle.chess_match.specs.Notes.{WasNoted, Happened, given_note, both_notes};
 ghost use Rattle.chess_match.specs.Reasons.{declared_at, by_colour};
 ghost use Rattle.chess_match.specs.Rules.{Rules};
-ghost use Rattle.chess_match.specs.Run.{Ports, MatchRan, RanBefore, ReadsClock, text_read};
+ghost use Rattle.chess_match.specs.Run.{Ports, MatchRan, RanBefore, ClockReadings, text_read};
 ghost use Rattle.cecp_engine.specs.Seen.{seen};
 ghost use Rattle.chess_match.specs.Sent.{block, bytes_of, answers_to};
 ghost use Rattle.chess_match.specs.ties.Represents.{Represents, Goes, given_block, items_to};
@@ -25,11 +25,11 @@ ghost use Rattle.chess_match.specs.declared.block.TheConstants.{ANSWERS_LEN};
 ghost use Rattle.chess_match.specs.declared.run.TheConstants.{ENGINE_LINE_LEN};
 
 use crate::block::{Block, Blocks};
-use crate::giving::note_and_send;
 use crate::match_game::MatchGame;
 use crate::moments::Moments;
 use crate::phase::Phase;
 use crate::reason::{MatchFault, Reason, first_fault};
+use crate::send::note_and_send;
 use crate::state::{Actions, ENTRY, MatchState};
 use crate::witness::{NoWitness, Witness};
 use byte_devices::{Input, Output, ReadFault};
@@ -126,7 +126,8 @@ pub fn run_match_watched<R: Input, W: Output, M: Moments, B: Board, L: Witness>(
     game: &mut Game<B>,
     witness: &mut L,
 ) -> MatchEnd
-    ensures ran { RanBefore (L.noted witness.old) (L.noted witness.new) setup.now.start setup.now.level game.old game.new result
+    ensures ran { RanBefore (L.noted witness.old) (L.noted witness.new) setup.now.start setup.now.level game.old
+        game.new result
         (record {
           reader = by_colour (R.seen white.old.reader) (R.seen black.old.reader);
           writer = by_colour (W.seen white.old.writer) (W.seen black.old.writer);
@@ -167,7 +168,7 @@ pub fn run_match_watched<R: Input, W: Output, M: Moments, B: Board, L: Witness>(
                 core.open(side, moment);
             }
             Awaited::Line(side) => {
-                let heard = next_line(
+                let found = next_line(
                     &mut white.reader,
                     &mut black.reader,
                     &mut white_lines,
@@ -175,12 +176,12 @@ pub fn run_match_watched<R: Input, W: Output, M: Moments, B: Board, L: Witness>(
                     side,
                     &mut line,
                 );
-                let given = hear(
+                let given = take_next(
                     &mut core,
                     moments,
                     witness,
                     game,
-                    heard,
+                    found,
                     &line,
                     side,
                     &mut blocks.own,
@@ -217,7 +218,7 @@ fn awaited_in(phase: Phase) -> Awaited
     ensures { IsAwaited phase result }
 {
     match phase {
-        Phase::Hello(side) => Awaited::Line(side),
+        Phase::Handshake(side) => Awaited::Line(side),
         Phase::Setup(side) => Awaited::Line(side),
         Phase::AwaitMove(side) => Awaited::Line(side),
         Phase::AwaitPong(side) => Awaited::Line(side),
@@ -475,7 +476,7 @@ fn said(line: &Line<ENGINE_LINE_LEN>) -> EngineLine<'_>
 
 // Takes a line of this side's engine, after reading the clock: the match goes on by the line, and the witness is given
 // it. Returns what is to be sent; the answers to the line's items go to `block`, which must be empty.
-fn hear_line<M: Moments, L: Witness, G: MatchGame>(
+fn take_line<M: Moments, L: Witness, G: MatchGame>(
     core: &mut MatchState,
     moments: &mut M,
     witness: &mut L,
@@ -489,13 +490,14 @@ fn hear_line<M: Moments, L: Witness, G: MatchGame>(
     requires empty { block.old.items ≡ [] }
     ensures rules { (r : Rules) → G.plays game.old r → G.plays game.new r }
     ensures origin { G.origin game.new ≡ G.origin game.old }
-    ensures heard { (moment : ℕ) × (items : List Item)
-        × ReadsClock (M.coming moments.old) (M.coming moments.new) (moment_in (line_event side line.now moment))
+    ensures taken { (moment : ℕ) × (items : List Item)
+        × ClockReadings (M.coming moments.old) (M.coming moments.new) (moment_in (line_event side line.now moment))
         × WasNoted (L.noted witness.old) (L.noted witness.new) (Happened (line_event side line.now moment) ∷ [])
         × (block.new.items ≡ bytes_of (answers_to items))
         × ((r : Rules) (m : Match) → G.plays game.old r → reads m.phase side ≡ true
         → Represents r core.old (G.played game.old) m
-        → Goes r core.new (G.played game.new) result (items_to side items) m (match_after r m (line_event side line.now moment))) }
+        → Goes r core.new (G.played game.new) result (items_to side items) m
+        (match_after r m (line_event side line.now moment))) }
     ensures room { array_vec_len block.new ≤ ANSWERS_LEN }
 {
     let moment = moments.now();
@@ -503,15 +505,15 @@ fn hear_line<M: Moments, L: Witness, G: MatchGame>(
     core.line(game, said(line), moment, block)
 }
 
-// Takes what reading the next line of this side's engine gave (`heard`): the line in `line`, if there was one and `\n`
+// Takes what reading the next line of this side's engine gave (`found`): the line in `line`, if there was one and `\n`
 // ended it; else the end of its output or a fault, which end the match. Returns what is to be sent; the answers to the
 // line's items go to `block`, which must be empty.
-fn hear<M: Moments, L: Witness, G: MatchGame>(
+fn take_next<M: Moments, L: Witness, G: MatchGame>(
     core: &mut MatchState,
     moments: &mut M,
     witness: &mut L,
     game: &mut G,
-    heard: Result<bool, ReadFault>,
+    found: Result<bool, ReadFault>,
     line: &Line<ENGINE_LINE_LEN>,
     side: Colour,
     block: &mut Block,
@@ -521,19 +523,19 @@ fn hear<M: Moments, L: Witness, G: MatchGame>(
     requires empty { block.old.items ≡ [] }
     ensures rules { (r : Rules) → G.plays game.old r → G.plays game.new r }
     ensures origin { G.origin game.new ≡ G.origin game.old }
-    ensures heard { (moment : ℕ) × (items : List Item)
-        × ReadsClock (M.coming moments.old) (M.coming moments.new)
-        (moment_in (event_read side moment (line_read heard line.now)))
+    ensures taken { (moment : ℕ) × (items : List Item)
+        × ClockReadings (M.coming moments.old) (M.coming moments.new)
+        (moment_in (event_read side moment (line_read found line.now)))
         × WasNoted (L.noted witness.old) (L.noted witness.new)
-        (Happened (event_read side moment (line_read heard line.now)) ∷ [])
+        (Happened (event_read side moment (line_read found line.now)) ∷ [])
         × (block.new.items ≡ bytes_of (answers_to items))
         × ((r : Rules) (m : Match) → G.plays game.old r → reads m.phase side ≡ true
         → Represents r core.old (G.played game.old) m
         → Goes r core.new (G.played game.new) result (items_to side items) m
-        (match_after r m (event_read side moment (line_read heard line.now)))) }
+        (match_after r m (event_read side moment (line_read found line.now)))) }
     ensures room { array_vec_len block.new ≤ ANSWERS_LEN }
 {
-    match heard {
+    match found {
         Err(_) => {
             witness.read_fails(side);
             core.read_fails(side)
@@ -544,7 +546,7 @@ fn hear<M: Moments, L: Witness, G: MatchGame>(
         }
         Ok(true) => {
             if is_parsed(line) {
-                hear_line(core, moments, witness, game, line, side, block)
+                take_line(core, moments, witness, game, line, side, block)
             } else {
                 witness.output_ends(side);
                 core.output_ends(side)
@@ -556,7 +558,8 @@ fn hear<M: Moments, L: Witness, G: MatchGame>(
 // Declares the outcome and the comment of the reason in the game, unless the board has a verdict.
 fn declare<B: Board>(game: &mut Game<B>, reason: Reason)
     requires { game.old.state.declared ≡ None }
-    ensures { game.new ≡ with_state game.old (with_declared game.old.state (declared_at (verdict_now game.old.state) reason)) }
+    ensures { game.new ≡ with_state game.old
+        (with_declared game.old.state (declared_at (verdict_now game.old.state) reason)) }
 {
     if game.verdict().is_some() {
         return;

@@ -56,7 +56,7 @@ pub(crate) struct MatchState {
 pub(crate) const FLOOD_LEN: u32 = 10_000;
 
 /// So many lines in one handshake without `done=1` end the match.
-pub(crate) const HELLO_LEN: u32 = 1_000;
+pub(crate) const HANDSHAKE_LEN: u32 = 1_000;
 
 /// Nothing is sent.
 pub(crate) const NOTHING: Actions = Actions {
@@ -87,7 +87,7 @@ impl Player {
 
     /// Takes over the items of a `feature` line (`text` is the line without its first word), appends the answers to
     /// them to `block`, and returns whether `done=1` is among them.
-    pub(crate) fn hear(&mut self, text: &[u8], block: &mut Block) -> bool
+    pub(crate) fn take_items(&mut self, text: &[u8], block: &mut Block) -> bool
         requires { array_vec_len block.old + 4 * length text.now ≤ ANSWERS_LEN }
         ensures features { (items : List feature_items.Item) → self.old.features ≡ features_of items
             → self.new.features ≡ features_of (items ++ items_of text.now) }
@@ -99,14 +99,14 @@ impl Player {
         ensures len { array_vec_len block.new ≤ array_vec_len block.old + 4 * length text.now }
     {
         let mut rest = text;
-        while let Some((item, behind)) = next_item(rest) {
-            self.features = self.features.heard(&item);
+        while let Some((item, tail)) = next_item(rest) {
+            self.features = self.features.with_item(&item);
             note_name(&mut self.name, &item);
             add_answer(block, item.name);
-            if item.ends_hello() {
+            if item.ends_handshake() {
                 return true;
             }
-            rest = behind;
+            rest = tail;
         }
         false
     }
@@ -118,7 +118,7 @@ impl MatchState {
         ensures { (r : Rules) → r.level ≡ level → Represents r result [] start }
     {
         MatchState {
-            phase: Phase::Hello(Colour::White),
+            phase: Phase::Handshake(Colour::White),
             white: Player::new(),
             black: Player::new(),
             clocks: Clocks::new(level),

@@ -368,13 +368,13 @@ impl Read for Scripted<'_> {
     fn read(&mut self, buf: &mut [u8]) -> std::io::Result<usize> {
         match self.lines {
             [] => Ok(0),
-            [first, behind @ ..] => {
+            [first, tail @ ..] => {
                 if self.shared.flushed(self.side).get() < first.0 {
                     return Err(Error::from(ErrorKind::Other));
                 }
                 let count = first.1.len().min(buf.len());
                 buf[..count].copy_from_slice(&first.1[..count]);
-                self.lines = behind;
+                self.lines = tail;
                 self.shared
                     .reads
                     .set(self.shared.reads.get().saturating_add(1));

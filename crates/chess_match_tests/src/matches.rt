@@ -203,14 +203,14 @@ const NO_DONE: Ending = Ending {
 };
 
 // White's text after so many lines `x`.
-fn white_behind(alloc: Global, count: usize) -> Result<Vec<u8>, Fail> {
+fn white_after_lines(alloc: Global, count: usize) -> Result<Vec<u8>, Fail> {
     repeated(alloc, &[(b"x\n", count), (WHITE, 1)])
 }
 
 // 999 lines before the handshake change nothing in a game to its mate.
-fn long_hello_on(rt: &impl Abort, alloc: Global, on: On) -> Result<(), Fail> {
+fn long_handshake_on(rt: &impl Abort, alloc: Global, on: On) -> Result<(), Fail> {
     let start = Position::initial();
-    let white = white_behind(alloc, 999)?;
+    let white = white_after_lines(alloc, 999)?;
     let played = play(
         rt,
         alloc,
@@ -236,11 +236,11 @@ fn long_hello_on(rt: &impl Abort, alloc: Global, on: On) -> Result<(), Fail> {
 }
 
 #[test]
-fn hellos_of_many_lines(rt: HostRuntime) -> Result<(), Fail> {
+fn handshakes_of_many_lines(rt: HostRuntime) -> Result<(), Fail> {
     for on in BOARDS {
-        long_hello_on(&rt, rt.alloc(), *on)?;
+        long_handshake_on(&rt, rt.alloc(), *on)?;
     }
-    let white = white_behind(rt.alloc(), 1000)?;
+    let white = white_after_lines(rt.alloc(), 1000)?;
     let input = MatchInput::of(white.as_slice(), BLACK);
     ends_so(&rt, rt.alloc(), &input, &NO_DONE, 0)
 }
@@ -253,15 +253,9 @@ const FLOOD: Ending = Ending {
 };
 
 // A text after 9,999 lines `x`.
-fn flood(
-    rt: &impl Abort,
-    alloc: Global,
-    on: On,
-    behind: &[u8],
-    ending: &Ending,
-) -> Result<(), Fail> {
+fn flood(rt: &impl Abort, alloc: Global, on: On, back: &[u8], ending: &Ending) -> Result<(), Fail> {
     let front = b"feature ping=1 done=1\npong 1\n".as_slice();
-    let white = repeated(alloc, &[(front, 1), (b"x\n", 9999), (behind, 1)])?;
+    let white = repeated(alloc, &[(front, 1), (b"x\n", 9999), (back, 1)])?;
     let input = MatchInput::of(white.as_slice(), BLACK);
     ends_so_on(rt, alloc, on, &input, ending, 1)
 }
@@ -585,14 +579,14 @@ fn is_blocks(
 ) {
     let mut rest = text;
     for block in blocks.iter().take(count) {
-        rest = behind(rt, name, rest, block);
+        rest = rest_after(rt, name, rest, block);
     }
-    let rest = behind(rt, name, rest, more);
+    let rest = rest_after(rt, name, rest, more);
     is_text(rt, name, rest, end);
 }
 
 // What follows that front.
-fn behind<'a>(rt: &impl Abort, name: &str, text: &'a [u8], front: &[u8]) -> &'a [u8] {
+fn rest_after<'a>(rt: &impl Abort, name: &str, text: &'a [u8], front: &[u8]) -> &'a [u8] {
     match text.strip_prefix(front) {
         Some(rest) => rest,
         None => panic!(rt; "{name}"),

@@ -27,9 +27,9 @@ impl Moments for Listed<'_> {
     fn now(&mut self) -> u64 {
         match self.rest {
             [] => 0,
-            [first, behind @ ..] => {
+            [first, tail @ ..] => {
                 let moment = *first;
-                self.rest = behind;
+                self.rest = tail;
                 moment
             }
         }

@@ -46,9 +46,9 @@ adds_more a b c (Ok v) w x y t u h k = added_more a b c w x y t u h k
 adds_more a b c (Err e) w x y t u h k = added_break a b c w x t u h k
 
 -- what waited was written, and then the text
-pub put_behind : {A E : Type 0} (a b c : OutputState) (r : Result A E) (w x t : List ℕ) → TookSome a b w x [] → x ≡ []
+pub put_after : {A E : Type 0} (a b c : OutputState) (r : Result A E) (w x t : List ℕ) → TookSome a b w x [] → x ≡ []
     → Puts b c r t → Adds a c w x r t
-put_behind {A = A} {E = E} a b c r w x t h none k = by_result r k
+put_after {A = A} {E = E} a b c r w x t h none k = by_result r k
   where
     all : w ≡ h.out
     all = sym (append-nil w) ∙ h.is ∙ ap (λ v. h.out ++ v) none ∙ append-nil h.out

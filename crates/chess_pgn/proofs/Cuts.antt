@@ -83,7 +83,8 @@ variation_cut None begins depth (c ∷ rest) =
     (λ _. left_more c rest _ (variation_cut (Some (10, Unclosed_variation)) false depth rest)) (λ _.
     pick (LeavesOf (c ∷ rest)) (eqb c 123) _ _
     (λ _. left_more c rest _ (variation_cut (Some (125, Unclosed_comment (suc (length rest)))) false depth rest)) (λ _.
-    pick (LeavesOf (c ∷ rest)) (eqb c 40) _ _ (λ _. left_more c rest _ (variation_cut None false (suc depth) rest)) (λ _.
+    pick (LeavesOf (c ∷ rest)) (eqb c 40) _ _ (λ _. left_more c rest _ (variation_cut None false (suc depth) rest))
+    (λ _.
     pick (LeavesOf (c ∷ rest)) (eqb c 41) _ _ (λ e. closing depth e (λ d. variation_cut None false d rest)) (λ _.
     left_more c rest _ (variation_cut None (eqb c 10) depth rest)))))
   where
@@ -230,7 +231,8 @@ token_left begins c rest e =
     pick (LeavesOf (c ∷ rest)) (eqb c 59) _ _ (λ _. inr (run_cut (λ b. not (eqb b 10)) refl c rest e)) (λ _.
     pick (LeavesOf (c ∷ rest)) (eqb c 36) _ _ (λ _. inr (run_cut is_digit refl c rest e)) (λ _.
     pick (LeavesOf (c ∷ rest)) (eqb c 40) _ _ (λ _. left_more c rest _ (variation_cut None false 0 rest)) (λ _.
-    pick (LeavesOf (c ∷ rest)) (eqb c 91) _ _ (λ _. left_more c rest _ (subst (LeavesOf rest) (sym (parts_are rest)) (tag_left rest))) (λ _.
+    pick (LeavesOf (c ∷ rest)) (eqb c 91) _ _
+    (λ _. left_more c rest _ (subst (LeavesOf rest) (sym (parts_are rest)) (tag_left rest))) (λ _.
     pick (LeavesOf (c ∷ rest)) (eqb c 42) _ _ (λ _. inr (cut_here c rest e)) (λ _.
     pick (LeavesOf (c ∷ rest)) (is_word_byte c) _ _ (λ k. word_left c rest e k) (λ _. inl refl)))))))))
 

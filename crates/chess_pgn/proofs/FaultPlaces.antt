@@ -15,9 +15,9 @@ use Rattle.chess_text.specs.declared.reading.Reading.TheVariants as reads
 use Rattle.chess_text.specs.Moves.{reading}
 use Rattle.chess_pgn.specs.declared.read.PgnEnd.{PgnEnd}
 use Rattle.chess_pgn.specs.declared.read.PgnFault.{PgnFault}
-use Rattle.chess_pgn.specs.declared.word.WordKind.{WordKind}
-use Rattle.chess_pgn.specs.declared.word.WordKind.TheVariants.{End, Number, Marks, Move}
-use Rattle.chess_pgn.specs.GameRead.{SoFar, GameRead, Step, On, Stop, unless_full, move_step, word_step, fen_step, tag_step, step, go_on, game_of, at_text_end, nothing_read, tagged_variant, pgn_read}
+use Rattle.chess_pgn.specs.declared.word_kind.WordKind.{WordKind}
+use Rattle.chess_pgn.specs.declared.word_kind.WordKind.TheVariants.{End, Number, Marks, Move}
+use Rattle.chess_pgn.specs.GameRead.{SoFar, GameRead, Step, On, Stop, unless_full, move_step, word_step, fen_step, tag_step, step, read_rest_with, game_of, at_text_end, nothing_read, tagged_variant, pgn_read}
 use Rattle.chess_pgn.specs.ties.GameSteps.{IsWithin}
 use Rattle.chess_pgn.specs.laws.Offsets.{FaultsHaveOffsets}
 use Rattle.chess_pgn.specs.Tokens.{Token, Skip, Tag, Word, Bad_tag, Unclosed_comment, Unclosed_variation, Bad, token_at, tokens_of, after_byte_order_mark, begins_line, tokens_from}
@@ -91,7 +91,7 @@ ended_in : (total first : ℕ) (g : SoFar) → first ≤ total → FaultIn first
 ended_in total first g h = pick (FaultIn first total) g.is_met _ _ (λ _. (h, omega arith)) (λ _. tt)
 
 gone_on : (first last : ℕ) (s : Step) (later : SoFar → GameRead) → StopIn first last s
-    → ((h : SoFar) → FaultIn first last (later h).answer) → FaultIn first last (go_on s later).answer
+    → ((h : SoFar) → FaultIn first last (later h).answer) → FaultIn first last (read_rest_with s later).answer
 gone_on first last (On g) later h k = k g
 gone_on first last (Stop read) later h k = h
 
@@ -112,9 +112,9 @@ game_in limit total (suc n) begins g (c ∷ rest) =
 
 -- ---- the offset where reading begins
 
-pub behind : (text : List ℕ) (at : ℕ) → at ≤ length text → (at ≤ after_byte_order_mark text at)
+pub not_before : (text : List ℕ) (at : ℕ) → at ≤ length text → (at ≤ after_byte_order_mark text at)
     × (after_byte_order_mark text at ≤ length text)
-behind text at h = pick (λ (n : ℕ). (at ≤ n) × (n ≤ length text))
+not_before text at h = pick (λ (n : ℕ). (at ≤ n) × (n ≤ length text))
     (eqb at 0 && bytes_eq (take 3 text) (239 ∷ 187 ∷ 191 ∷ [])) _ _ (λ e. mark (and_parts (eqb at 0) _ e))
     (λ _. (omega arith, h))
   where
@@ -131,7 +131,7 @@ unfolding pgn_read tokens_from
 fault_in_place limit text at h =
     let offset : ℕ = after_byte_order_mark text at in
     let g : SoFar = nothing_read (tagged_variant (tokens_from text offset)) in
-    let later = behind text at h in
+    let later = not_before text at h in
     let low = later.0 in
     let high = later.1 in
     let left = length-drop offset text in

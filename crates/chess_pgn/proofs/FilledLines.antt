@@ -7,25 +7,27 @@ use Rattle.chess_pgn.specs.Written.{filled_from, move_text_of}
 use Rattle.chess_pgn.specs.laws.Layout.{line_text, AreFilled, AreShort, tokens_in, IsMoveText}
 
 -- what follows a line that has some bytes
-abbrev behind : List ℕ → ℕ → List (List ℕ) → List ℕ
-behind prefix column [] = 10 ∷ []
-behind prefix column (t ∷ ts) =
-    cond (leb (column + 1 + length t) 79) (32 ∷ t ++ behind prefix (column + 1 + length t) ts)
-    (10 ∷ prefix ++ t ++ behind prefix (length t) ts)
+abbrev placed_after : List ℕ → ℕ → List (List ℕ) → List ℕ
+placed_after prefix column [] = 10 ∷ []
+placed_after prefix column (t ∷ ts) =
+    cond (leb (column + 1 + length t) 79) (32 ∷ t ++ placed_after prefix (column + 1 + length t) ts)
+    (10 ∷ prefix ++ t ++ placed_after prefix (length t) ts)
 
-behind_is : (prefix : List ℕ) (column : ℕ) (ts : List (List ℕ)) → 0 < column → AreShort ts
-    → filled_from prefix column ts ≡ behind prefix column ts
-behind_is prefix column [] some short = let e : eqb column 0 ≡ false = grind (arith, nat_tests) in rw e refl
-behind_is prefix column (t ∷ ts) some short =
+placed_after_is : (prefix : List ℕ) (column : ℕ) (ts : List (List ℕ)) → 0 < column → AreShort ts
+    → filled_from prefix column ts ≡ placed_after prefix column ts
+placed_after_is prefix column [] some short = let e : eqb column 0 ≡ false = grind (arith, nat_tests) in rw e refl
+placed_after_is prefix column (t ∷ ts) some short =
     let e : eqb column 0 ≡ false = grind (arith, nat_tests) in
-    rw e (by_test (leb (column + 1 + length t) 79) (behind_is prefix (column + 1 + length t) ts (omega arith) short.1)
-    (behind_is prefix (length t) ts short.0.0 short.1))
+    rw e (by_test (leb (column + 1 + length t) 79) (placed_after_is prefix (column + 1 + length t) ts
+    (omega arith) short.1)
+    (placed_after_is prefix (length t) ts short.0.0 short.1))
   where
-    by_test : (b : Bool) → filled_from prefix (column + 1 + length t) ts ≡ behind prefix (column + 1 + length t) ts
-        → filled_from prefix (length t) ts ≡ behind prefix (length t) ts
+    by_test : (b : Bool) → filled_from prefix (column + 1 + length t) ts
+        ≡ placed_after prefix (column + 1 + length t) ts
+        → filled_from prefix (length t) ts ≡ placed_after prefix (length t) ts
         → cond b (32 ∷ t) (10 ∷ prefix ++ t) ++ filled_from prefix (cond b (column + 1 + length t) (length t)) ts
-        ≡ cond b (32 ∷ t ++ behind prefix (column + 1 + length t) ts)
-        (10 ∷ prefix ++ t ++ behind prefix (length t) ts)
+        ≡ cond b (32 ∷ t ++ placed_after prefix (column + 1 + length t) ts)
+        (10 ∷ prefix ++ t ++ placed_after prefix (length t) ts)
     by_test true h k = ap (λ xs. 32 ∷ t ++ xs) h
     by_test false h k = ap (λ xs. 10 ∷ prefix ++ t ++ xs) k
 
@@ -46,7 +48,7 @@ record GoesOn (prefix t : List ℕ) (ts rest : List (List ℕ)) : Type 0 where
   others : List (List (List ℕ))
   filled : AreFilled ((t ∷ (ts ++ more)) ∷ others)
   all : more ++ tokens_in others ≡ rest
-  text : line_text (t ∷ ts) ++ behind prefix (length (line_text (t ∷ ts))) rest
+  text : line_text (t ∷ ts) ++ placed_after prefix (length (line_text (t ∷ ts))) rest
       ≡ (line_text (t ∷ (ts ++ more)) ++ 10 ∷ []) ++ flat_map (ended prefix) others
 
 -- the next token is still taken
@@ -56,7 +58,7 @@ takes_more : (prefix t : List ℕ) (ts : List (List ℕ)) (u : List ℕ) (us : L
     → GoesOn prefix t (ts ++ u ∷ []) us → GoesOn prefix t ts (u ∷ us)
 takes_more prefix t ts u us e pushed g =
     let line : List ℕ = line_text (t ∷ ts) in
-    let rest : List ℕ = behind prefix (length line + 1 + length u) us in
+    let rest : List ℕ = placed_after prefix (length line + 1 + length u) us in
     let regroup : ts ++ u ∷ g.more ≡ (ts ++ u ∷ []) ++ g.more = sym (append_assoc ts (u ∷ []) g.more) in
     record {
       more = u ∷ g.more;
@@ -64,10 +66,10 @@ takes_more prefix t ts u us e pushed g =
       filled = subst (λ (xs : List (List ℕ)). AreFilled ((t ∷ xs) ∷ g.others)) (sym regroup) g.filled;
       all = ap (λ xs. u ∷ xs) g.all;
       text =
-          ap (λ b. line ++ cond b (32 ∷ u ++ rest) (10 ∷ prefix ++ u ++ behind prefix (length u) us)) e
+          ap (λ b. line ++ cond b (32 ∷ u ++ rest) (10 ∷ prefix ++ u ++ placed_after prefix (length u) us)) e
           ∙ sym (append_assoc line (32 ∷ u) rest)
           ∙ ap (λ xs. xs ++ rest) (sym (line_text-push t ts u))
-          ∙ ap (λ n. line_text (t ∷ (ts ++ u ∷ [])) ++ behind prefix n us) (sym pushed)
+          ∙ ap (λ n. line_text (t ∷ (ts ++ u ∷ [])) ++ placed_after prefix n us) (sym pushed)
           ∙ g.text
           ∙ ap (λ (xs : List (List ℕ)). (line_text (t ∷ xs) ++ 10 ∷ []) ++ flat_map (ended prefix) g.others)
           (sym regroup);
@@ -86,7 +88,7 @@ begins_line : (prefix t : List ℕ) (ts : List (List ℕ)) (u : List ℕ) (us : 
 begins_line prefix t ts u us e h over next =
     let line : List ℕ = line_text (t ∷ ts) in
     let whole : ts ≡ ts ++ [] = sym (append-nil ts) in
-    let rest : List ℕ = behind prefix (length line + 1 + length u) us in
+    let rest : List ℕ = placed_after prefix (length line + 1 + length u) us in
     record {
       more = [];
       others = (u ∷ next.more) ∷ next.others;
@@ -94,8 +96,8 @@ begins_line prefix t ts u us e h over next =
           (h, over, next.filled);
       all = ap (λ xs. u ∷ xs) next.all;
       text =
-          ap (λ b. line ++ cond b (32 ∷ u ++ rest) (10 ∷ prefix ++ u ++ behind prefix (length u) us)) e
-          ∙ ap (λ xs. line ++ 10 ∷ xs) (line_ended prefix u (behind prefix (length u) us) next.more next.others
+          ap (λ b. line ++ cond b (32 ∷ u ++ rest) (10 ∷ prefix ++ u ++ placed_after prefix (length u) us)) e
+          ∙ ap (λ xs. line ++ 10 ∷ xs) (line_ended prefix u (placed_after prefix (length u) us) next.more next.others
           next.text)
           ∙ sym (append_assoc line (10 ∷ []) (ended prefix (u ∷ next.more) ++ flat_map (ended prefix) next.others))
           ∙ ap (λ (xs : List (List ℕ)). (line_text (t ∷ xs) ++ 10 ∷ [])
@@ -139,8 +141,8 @@ filled-move_text prefix (t ∷ ts) short = from_first (goes_on prefix t [] ts sh
       lines = (t ∷ g.more) ∷ g.others;
       filled = g.filled;
       all = ap (λ xs. t ∷ xs) g.all;
-      is = ap (λ xs. prefix ++ t ++ xs) (behind_is prefix (length t) ts short.0.0 short.1)
-          ∙ line_ended prefix t (behind prefix (length t) ts) g.more g.others g.text;
+      is = ap (λ xs. prefix ++ t ++ xs) (placed_after_is prefix (length t) ts short.0.0 short.1)
+          ∙ line_ended prefix t (placed_after prefix (length t) ts) g.more g.others g.text;
     }
 
 -- ---- no other text has it
@@ -154,44 +156,45 @@ line_text-tail t [] = sym (append-nil t)
 line_text-tail t (s ∷ ts) = ap (λ text. t ++ 32 ∷ text) (line_text-tail s ts)
 
 -- a line goes on as long as its tokens fit
-goes_on_behind : (prefix : List ℕ) (column : ℕ) (ts rest : List (List ℕ)) → column + length (tail ts) ≤ 79
-    → behind prefix column (ts ++ rest) ≡ tail ts ++ behind prefix (column + length (tail ts)) rest
-goes_on_behind prefix column [] rest h = let e : column + 0 ≡ column =
-    omega arith in ap (λ n. behind prefix n rest) (sym e)
-goes_on_behind prefix column (u ∷ ts) rest h =
+goes_on_after : (prefix : List ℕ) (column : ℕ) (ts rest : List (List ℕ)) → column + length (tail ts) ≤ 79
+    → placed_after prefix column (ts ++ rest) ≡ tail ts ++ placed_after prefix (column + length (tail ts)) rest
+goes_on_after prefix column [] rest h = let e : column + 0 ≡ column =
+    omega arith in ap (λ n. placed_after prefix n rest) (sym e)
+goes_on_after prefix column (u ∷ ts) rest h =
     let all : length (tail (u ∷ ts)) ≡ suc (length u) + length (tail ts) = length-append (32 ∷ u) (tail ts) in
     let fits : leb (column + 1 + length u) 79 ≡ true = grind (arith, nat_tests, all, h) in
     let offset : column + 1 + length u + length (tail ts) ≡ column + length (tail (u ∷ ts)) = omega (arith, all) in
     let few : column + 1 + length u + length (tail ts) ≤ 79 = omega (arith, all, h) in
-    ap (λ b. cond b (32 ∷ u ++ behind prefix (column + 1 + length u) (ts ++ rest))
-    (10 ∷ prefix ++ u ++ behind prefix (length u) (ts ++ rest))) fits
-    ∙ ap (λ xs. 32 ∷ u ++ xs) (goes_on_behind prefix (column + 1 + length u) ts rest few
-    ∙ ap (λ n. tail ts ++ behind prefix n rest) offset)
-    ∙ sym (append_assoc (32 ∷ u) (tail ts) (behind prefix (column + length (tail (u ∷ ts))) rest))
+    ap (λ b. cond b (32 ∷ u ++ placed_after prefix (column + 1 + length u) (ts ++ rest))
+    (10 ∷ prefix ++ u ++ placed_after prefix (length u) (ts ++ rest))) fits
+    ∙ ap (λ xs. 32 ∷ u ++ xs) (goes_on_after prefix (column + 1 + length u) ts rest few
+    ∙ ap (λ n. tail ts ++ placed_after prefix n rest) offset)
+    ∙ sym (append_assoc (32 ∷ u) (tail ts) (placed_after prefix (column + length (tail (u ∷ ts))) rest))
 
 -- a line of tokens, and what follows it
 one_line : (prefix t : List ℕ) (ts rest : List (List ℕ)) (text : List ℕ) → length (line_text (t ∷ ts)) ≤ 79
-    → behind prefix (length (line_text (t ∷ ts))) rest ≡ 10 ∷ text
-    → prefix ++ t ++ behind prefix (length t) (ts ++ rest) ≡ ended prefix (t ∷ ts) ++ text
+    → placed_after prefix (length (line_text (t ∷ ts))) rest ≡ 10 ∷ text
+    → prefix ++ t ++ placed_after prefix (length t) (ts ++ rest) ≡ ended prefix (t ∷ ts) ++ text
 one_line prefix t ts rest text h next =
     let line : line_text (t ∷ ts) ≡ t ++ tail ts = line_text-tail t ts in
     let all : length (line_text (t ∷ ts)) ≡ length t + length (tail ts) = ap length line ∙ length-append t (tail ts) in
-    ap (λ xs. prefix ++ t ++ xs) (goes_on_behind prefix (length t) ts rest (omega (arith, all, h))
-    ∙ ap (λ n. tail ts ++ behind prefix n rest) (sym all) ∙ ap (λ xs. tail ts ++ xs) next)
+    ap (λ xs. prefix ++ t ++ xs) (goes_on_after prefix (length t) ts rest (omega (arith, all, h))
+    ∙ ap (λ n. tail ts ++ placed_after prefix n rest) (sym all) ∙ ap (λ xs. tail ts ++ xs) next)
     ∙ sym (append_assoc (prefix ++ t) (tail ts) (10 ∷ text))
     ∙ ap (λ xs. xs ++ 10 ∷ text) (append_assoc prefix t (tail ts) ∙ ap (λ xs. prefix ++ xs) (sym line))
     ∙ sym (append_assoc (prefix ++ line_text (t ∷ ts)) (10 ∷ []) text)
 
 lines_are : (prefix t : List ℕ) (ts : List (List ℕ)) (others : List (List (List ℕ))) → AreFilled ((t ∷ ts) ∷ others)
-    → prefix ++ t ++ behind prefix (length t) (ts ++ tokens_in others) ≡ flat_map (ended prefix) ((t ∷ ts) ∷ others)
+    → prefix ++ t ++ placed_after prefix (length t) (ts ++ tokens_in others)
+    ≡ flat_map (ended prefix) ((t ∷ ts) ∷ others)
 lines_are prefix t ts [] h = one_line prefix t ts [] [] h refl
 lines_are prefix t ts ([] ∷ lines) h = absurd h
 lines_are prefix t ts ((u ∷ us) ∷ lines) h =
     let over : leb (length (line_text (t ∷ ts)) + 1 + length u) 79 ≡ false = grind (arith, nat_tests, h.1) in
     let line : List ℕ = line_text (t ∷ ts) in
     one_line prefix t ts ((u ∷ us) ++ tokens_in lines) (flat_map (ended prefix) ((u ∷ us) ∷ lines)) h.0
-    (ap (λ b. cond b (32 ∷ u ++ behind prefix (length line + 1 + length u) (us ++ tokens_in lines))
-    (10 ∷ prefix ++ u ++ behind prefix (length u) (us ++ tokens_in lines))) over
+    (ap (λ b. cond b (32 ∷ u ++ placed_after prefix (length line + 1 + length u) (us ++ tokens_in lines))
+    (10 ∷ prefix ++ u ++ placed_after prefix (length u) (us ++ tokens_in lines))) over
     ∙ ap (λ xs. 10 ∷ xs) (lines_are prefix u us lines h.2))
 
 only_lines : (prefix : List ℕ) (lines : List (List (List ℕ))) → AreFilled lines → AreShort (tokens_in lines)
@@ -199,7 +202,7 @@ only_lines : (prefix : List ℕ) (lines : List (List (List ℕ))) → AreFilled 
 only_lines prefix [] h short = refl
 only_lines prefix ([] ∷ lines) h short = absurd h
 only_lines prefix ((t ∷ ts) ∷ lines) h short =
-    sym (ap (λ xs. prefix ++ t ++ xs) (behind_is prefix (length t) (ts ++ tokens_in lines) short.0.0 short.1)
+    sym (ap (λ xs. prefix ++ t ++ xs) (placed_after_is prefix (length t) (ts ++ tokens_in lines) short.0.0 short.1)
     ∙ lines_are prefix t ts lines h)
 
 pub only_move_text : (prefix : List ℕ) (tokens : List (List ℕ)) (text : List ℕ) → AreShort tokens

@@ -14,20 +14,20 @@ use Rattle.chess_game.specs.declared.results.Outcome.{Outcome}
 use Rattle.chess_pgn.specs.declared.read.PgnEnd.{PgnEnd}
 use Rattle.chess_pgn.specs.declared.read.PgnFault.{PgnFault}
 use Rattle.chess_pgn.specs.declared.read.Progress.{Progress}
-use Rattle.chess_pgn.specs.declared.word.WordKind.{WordKind}
-use Rattle.chess_pgn.specs.declared.word.WordKind.TheVariants.{End, Number, Marks, Move}
+use Rattle.chess_pgn.specs.declared.word_kind.WordKind.{WordKind}
+use Rattle.chess_pgn.specs.declared.word_kind.WordKind.TheVariants.{End, Number, Marks, Move}
 use Rattle.chess_text.specs.declared.reading.Reading.{Reading}
 use Rattle.chess_text.specs.declared.reading.Reading.TheVariants as reads
 use Rattle.chess_text.specs.Moves.{reading}
 use Rattle.chess_pgn.specs.Words.{word_kind}
 use Rattle.chess_pgn.specs.Tokens.{Token, Skip, Tag, Word, Bad_tag, Unclosed_comment, Unclosed_variation, Bad, after_byte_order_mark, after_brace, token_at, begins_line, tokens_from}
-use Rattle.chess_pgn.specs.GameRead.{SoFar, Step, On, Stop, unless_full, move_step, word_step, fen_step, tag_step, step, go_on, game_of, nothing_read, tagged_variant, tokens_read, pgn_read}
+use Rattle.chess_pgn.specs.GameRead.{SoFar, Step, On, Stop, unless_full, move_step, word_step, fen_step, tag_step, step, read_rest_with, game_of, nothing_read, tagged_variant, tokens_read, pgn_read}
 use Rattle.chess_pgn.specs.LastTags.{may_precede_tags, named_tag}
 use Rattle.chess_pgn.specs.ties.GameSteps.{so_far, begun, IsReadOn, ReadsAlike, IsTaken, GoesOn, step_seen}
 use Rattle.chess_pgn.specs.ties.Seen.{SkipsTo}
 use Rattle.chess_pgn.proofs.Cuts.{pick}
-use Rattle.chess_pgn.proofs.SkippedTokens.{skips_alike, skips_tell}
-use Rattle.chess_pgn.proofs.TagScans.{variant_or, variant_told, variant_from, variants_are}
+use Rattle.chess_pgn.proofs.SkippedTokens.{skips_alike, skips_say}
+use Rattle.chess_pgn.proofs.TagScans.{variant_or, variant_said, variant_from, variants_are}
 use Rattle.chess_pgn.proofs.Walk.{NextToken, next_token}
 
 -- ---- nothing is declared before the game's end, and nothing after a fault
@@ -98,7 +98,7 @@ termination_has_bytes (c ∷ word) o h = search rules
 -- ---- the loop: what is left gives the whole
 
 pub record Reads (limit : ℕ) (text : List ℕ) (from : ℕ) (game : Seen) (progress : Progress) (here : ℕ) : Type 0 where
-  pub behind : from ≤ here
+  pub forward : from ≤ here
   pub offset : here ≤ length text
   pub undeclared : game.state.declared ≡ None
   pub same_limit : game.limit ≡ limit
@@ -106,11 +106,11 @@ pub record Reads (limit : ℕ) (text : List ℕ) (from : ℕ) (game : Seen) (pro
       from
 
 pub read_from : (limit : ℕ) (game : Seen) (p : Progress) (text : List ℕ) (from begin here : ℕ)
-    → IsReadOn limit text begin game p here → game.limit ≡ limit → begin ≡ after_byte_order_mark text from → from ≤ begin
-    → Reads limit text from game p here
+    → IsReadOn limit text begin game p here → game.limit ≡ limit → begin ≡ after_byte_order_mark text from
+    → from ≤ begin → Reads limit text from game p here
 unfolding pgn_read
-read_from limit game p text from begin here r same is behind = record {
-  behind = (let before = r.behind in omega (arith, before, behind));
+read_from limit game p text from begin here r same is onward = record {
+  forward = (let before = r.forward in omega (arith, before, onward));
   offset = r.offset;
   undeclared = r.undeclared;
   same_limit = same;
@@ -130,7 +130,7 @@ unfolding nothing_met
 first old game start v p text here restarted initial variant none h =
     let state : game.state ≡ from_start (initial_setup_of v) = ap (λ g. g.state) restarted ∙ ap from_start initial in
     record {
-      behind = omega arith;
+      forward = omega arith;
       offset = h;
       undeclared = ap (λ s. s.declared) state;
       whole =
@@ -141,60 +141,60 @@ first old game start v p text here restarted initial variant none h =
 
 -- ---- the loop over tags: what is left gives the whole
 
-pub record Tells (text : List ℕ) (from : ℕ) (v : Variant) (here : ℕ) : Type 0 where
+pub record Says (text : List ℕ) (from : ℕ) (v : Variant) (here : ℕ) : Type 0 where
   pub offset : here ≤ length text
   pub whole : variant_from v (tokens_from text here) ≡ tagged_variant (tokens_from text from)
 
-pub tells_begun : (text : List ℕ) (from : ℕ) → from ≤ length text → Tells text from Normal from
-tells_begun text from h = record { offset = h; whole = variants_are (tokens_from text from) }
+pub says_begun : (text : List ℕ) (from : ℕ) → from ≤ length text → Says text from Normal from
+says_begun text from h = record { offset = h; whole = variants_are (tokens_from text from) }
 
-pub told_more : (text : List ℕ) (from : ℕ) (v u : Variant) (here behind : ℕ) (t : Token) → Tells text from v here
-    → tokens_from text here ≡ (length text - here, t) ∷ tokens_from text behind → behind ≤ length text
-    → true ≡ may_precede_tags t → u ≡ variant_told v t → Tells text from u behind
-told_more text from v u here behind t r is h may told = record {
+pub said_more : (text : List ℕ) (from : ℕ) (v u : Variant) (here onward : ℕ) (t : Token) → Says text from v here
+    → tokens_from text here ≡ (length text - here, t) ∷ tokens_from text onward → onward ≤ length text
+    → true ≡ may_precede_tags t → u ≡ variant_said v t → Says text from u onward
+said_more text from v u here onward t r is h may said = record {
   offset = h;
-  whole = ap (λ w. variant_from w (tokens_from text behind)) told
-      ∙ ap (λ b. cond b (variant_from (variant_told v t) (tokens_from text behind)) v) may
+  whole = ap (λ w. variant_from w (tokens_from text onward)) said
+      ∙ ap (λ b. cond b (variant_from (variant_said v t) (tokens_from text onward)) v) may
       ∙ ap (variant_from v) (sym is) ∙ r.whole;
 }
 
-pub told_last : (text : List ℕ) (from : ℕ) (v : Variant) (here : ℕ) (t : Token) (ts : List (ℕ × Token))
-    → Tells text from v here → tokens_from text here ≡ (length text - here, t) ∷ ts → false ≡ may_precede_tags t
+pub said_last : (text : List ℕ) (from : ℕ) (v : Variant) (here : ℕ) (t : Token) (ts : List (ℕ × Token))
+    → Says text from v here → tokens_from text here ≡ (length text - here, t) ∷ ts → false ≡ may_precede_tags t
     → v ≡ tagged_variant (tokens_from text from)
-told_last text from v here t ts r is may = ap (λ b. cond b (variant_from (variant_told v t) ts) v) may
+said_last text from v here t ts r is may = ap (λ b. cond b (variant_from (variant_said v t) ts) v) may
     ∙ ap (variant_from v) (sym is) ∙ r.whole
 
 -- a token: what its step gives is gone on with
 stepped : (limit : ℕ) (text : List ℕ) (from : ℕ) (game : Seen) (p : Progress) (here : ℕ) (t : Token)
     (ts : List (ℕ × Token)) (after : Step) → Reads limit text from game p here
     → tokens_from text here ≡ (length text - here, t) ∷ ts → after ≡ step game.limit (length text) (so_far game.state p)
-    (length text - here) t → go_on after (λ g. game_of limit (length text) g ts) ≡ pgn_read limit text from
+    (length text - here) t → read_rest_with after (λ g. game_of limit (length text) g ts) ≡ pgn_read limit text from
 stepped limit text from game p here t ts after r is step_is =
-    ap (λ s. go_on s (λ g. game_of limit (length text) g ts))
+    ap (λ s. read_rest_with s (λ g. game_of limit (length text) g ts))
     (step_is ∙ ap (λ n. step n (length text) (so_far game.state p) (length text - here) t) r.same_limit)
     ∙ ap (game_of limit (length text) (so_far game.state p)) (sym is)
     ∙ r.whole
 
-pub more : (limit : ℕ) (text : List ℕ) (from : ℕ) (game new : Seen) (p q : Progress) (here behind : ℕ) (t : Token)
-    → Reads limit text from game p here → tokens_from text here ≡ (length text - here, t) ∷ tokens_from text behind
-    → here < behind → behind ≤ length text → new.limit ≡ game.limit
+pub more : (limit : ℕ) (text : List ℕ) (from : ℕ) (game new : Seen) (p q : Progress) (here onward : ℕ) (t : Token)
+    → Reads limit text from game p here → tokens_from text here ≡ (length text - here, t) ∷ tokens_from text onward
+    → here < onward → onward ≤ length text → new.limit ≡ game.limit
     → On (so_far new.state q) ≡ step game.limit (length text) (so_far game.state p) (length text - here) t
-    → Reads limit text from new q behind
-more limit text from game new p q here behind t r is later h same step_is = record {
-  behind = (let before = r.behind in omega (arith, before, later));
+    → Reads limit text from new q onward
+more limit text from game new p q here onward t r is later h same step_is = record {
+  forward = (let before = r.forward in omega (arith, before, later));
   offset = h;
   undeclared = subst Undeclared (sym step_is)
       (keeps game.limit (length text) (so_far game.state p) (length text - here) t r.undeclared);
   same_limit = same ∙ r.same_limit;
-  whole = stepped limit text from game p here t (tokens_from text behind) (On (so_far new.state q)) r is step_is;
+  whole = stepped limit text from game p here t (tokens_from text onward) (On (so_far new.state q)) r is step_is;
 }
 
 -- ---- the tags of a game of normal chess
 
 pub record ReadsNormal (limit : ℕ) (text : List ℕ) (from : ℕ) (game : Seen) (progress : Progress) (here : ℕ)
     : Type 0 where
-  pub behind : from ≤ here
-  pub tells : Tells text from Normal here
+  pub forward : from ≤ here
+  pub says : Says text from Normal here
   pub undeclared : game.state.declared ≡ None
   pub same_limit : game.limit ≡ limit
   pub whole : game_of limit (length text) (so_far game.state progress) (tokens_from text here)
@@ -209,8 +209,8 @@ first_normal old game start p text here restarted initial none h =
     let state : game.state ≡ from_start (initial_setup_of Normal) = ap (λ g. g.state) restarted ∙ ap from_start initial
     in
     record {
-      behind = omega arith;
-      tells = tells_begun text here h;
+      forward = omega arith;
+      says = says_begun text here h;
       undeclared = ap (λ s. s.declared) state;
       same_limit = ap (λ g. g.limit) restarted;
       whole =
@@ -219,21 +219,21 @@ first_normal old game start p text here restarted initial none h =
     }
 
 -- one more tag, or what is passed over
-pub more_normal : (limit : ℕ) (text : List ℕ) (from : ℕ) (game new : Seen) (p q : Progress) (here behind : ℕ)
+pub more_normal : (limit : ℕ) (text : List ℕ) (from : ℕ) (game new : Seen) (p q : Progress) (here onward : ℕ)
     (t : Token) (found : Option (List ℕ × ℕ)) → ReadsNormal limit text from game p here
-    → tokens_from text here ≡ (length text - here, t) ∷ tokens_from text behind → here < behind
-    → behind ≤ length text → true ≡ may_precede_tags t → found ≡ named_tag (codes "Variant") t
+    → tokens_from text here ≡ (length text - here, t) ∷ tokens_from text onward → here < onward
+    → onward ≤ length text → true ≡ may_precede_tags t → found ≡ named_tag (codes "Variant") t
     → Normal ≡ variant_or Normal found → new.limit ≡ game.limit
     → On (so_far new.state q) ≡ step game.limit (length text) (so_far game.state p) (length text - here) t
-    → ReadsNormal limit text from new q behind
-more_normal limit text from game new p q here behind t found r is later h may named told same step_is = record {
-  behind = (let before = r.behind in omega (arith, before, later));
-  tells = told_more text from Normal Normal here behind t r.tells is h may (told ∙ ap (variant_or Normal) named);
+    → ReadsNormal limit text from new q onward
+more_normal limit text from game new p q here onward t found r is later h may named said same step_is = record {
+  forward = (let before = r.forward in omega (arith, before, later));
+  says = said_more text from Normal Normal here onward t r.says is h may (said ∙ ap (variant_or Normal) named);
   undeclared = subst Undeclared (sym step_is)
       (keeps game.limit (length text) (so_far game.state p) (length text - here) t r.undeclared);
   same_limit = same ∙ r.same_limit;
   whole =
-      ap (λ s. go_on s (λ g. game_of limit (length text) g (tokens_from text behind)))
+      ap (λ s. read_rest_with s (λ g. game_of limit (length text) g (tokens_from text onward)))
       (step_is ∙ ap (λ n. step n (length text) (so_far game.state p) (length text - here) t) r.same_limit)
       ∙ ap (game_of limit (length text) (so_far game.state p)) (sym is) ∙ r.whole;
 }
@@ -244,31 +244,31 @@ pub normal_begun : (limit : ℕ) (text : List ℕ) (from : ℕ) (game : Seen) (p
     → tokens_from text here ≡ (length text - here, t) ∷ ts → false ≡ may_precede_tags t
     → IsReadOn limit text from game p here
 normal_begun limit text from game p here t ts r is may = record {
-  behind = r.behind;
-  offset = r.tells.offset;
+  forward = r.forward;
+  offset = r.says.offset;
   undeclared = r.undeclared;
   whole = r.whole ∙ ap (λ u. game_of limit (length text) (nothing_read u) (tokens_from text from))
-      (told_last text from Normal here t ts r.tells is may);
+      (said_last text from Normal here t ts r.says is may);
 }
 
 -- no more tokens
 pub normal_ended : (limit : ℕ) (text : List ℕ) (from : ℕ) (game : Seen) (p : Progress) (here : ℕ)
     → ReadsNormal limit text from game p here → tokens_from text here ≡ [] → IsReadOn limit text from game p here
 normal_ended limit text from game p here r is = record {
-  behind = r.behind;
-  offset = r.tells.offset;
+  forward = r.forward;
+  offset = r.says.offset;
   undeclared = r.undeclared;
   whole = r.whole ∙ ap (λ u. game_of limit (length text) (nothing_read u) (tokens_from text from))
-      (ap (variant_from Normal) (sym is) ∙ r.tells.whole);
+      (ap (variant_from Normal) (sym is) ∙ r.says.whole);
 }
 
 -- what is skipped after a tag
 pub normal_on : (limit : ℕ) (text : List ℕ) (from : ℕ) (game : Seen) (p : Progress) (here there : ℕ)
     → ReadsNormal limit text from game p here → SkipsTo text here there → here ≤ there → there ≤ length text
     → ReadsNormal limit text from game p there
-normal_on limit text from game p here there r skips behind within = record {
-  behind = (let before = r.behind in omega (arith, before, behind));
-  tells = record { offset = within; whole = sym (skips_tell text here there skips Normal) ∙ r.tells.whole };
+normal_on limit text from game p here there r skips onward within = record {
+  forward = (let before = r.forward in omega (arith, before, onward));
+  says = record { offset = within; whole = sym (skips_say text here there skips Normal) ∙ r.says.whole };
   undeclared = r.undeclared;
   same_limit = r.same_limit;
   whole = sym (skips_alike text here there skips limit (so_far game.state p)) ∙ r.whole;
@@ -276,23 +276,23 @@ normal_on limit text from game p here there r skips behind within = record {
 
 -- ---- comments, at which nothing counts
 
-comment_token : (begins : Bool) (c : ℕ) (rest behind : List ℕ) → c ≡ 123 → after_brace rest ≡ Some behind
-    → (Skip, behind) ≡ token_at begins c rest
+comment_token : (begins : Bool) (c : ℕ) (rest onward : List ℕ) → c ≡ 123 → after_brace rest ≡ Some onward
+    → (Skip, onward) ≡ token_at begins c rest
 unfolding token_at
-comment_token true c rest behind brace closed = rw (brace, closed) refl
-comment_token false c rest behind brace closed = rw (brace, closed) refl
+comment_token true c rest onward brace closed = rw (brace, closed) refl
+comment_token false c rest onward brace closed = rw (brace, closed) refl
 
 -- a closed comment, with its text as code meets it
-pub commented : (text : List ℕ) (at : ℕ) (xs behind : List ℕ) → at ≤ length text
+pub commented : (text : List ℕ) (at : ℕ) (xs onward : List ℕ) → at ≤ length text
     → xs ≡ take (length text - at) (drop at text) → 1 ≤ length xs → get_or xs 0 0 ≡ 123
-    → after_brace (take (length xs - 1) (drop 1 xs)) ≡ Some behind → NextToken text at Skip behind
-commented text at xs behind h is some brace closed =
-    next_token text at (begins_line text at) xs h refl is some Skip behind
-    (comment_token (begins_line text at) (get_or xs 0 0) (take (length xs - 1) (drop 1 xs)) behind brace closed)
+    → after_brace (take (length xs - 1) (drop 1 xs)) ≡ Some onward → NextToken text at Skip onward
+commented text at xs onward h is some brace closed =
+    next_token text at (begins_line text at) xs h refl is some Skip onward
+    (comment_token (begins_line text at) (get_or xs 0 0) (take (length xs - 1) (drop 1 xs)) onward brace closed)
 
-pub skipped_alike : (text : List ℕ) (at behind : ℕ)
-    → tokens_from text at ≡ (length text - at, Skip) ∷ tokens_from text behind → ReadsAlike text at behind
-skipped_alike text at behind is = λ limit g. ap (game_of limit (length text) g) is
+pub skipped_alike : (text : List ℕ) (at onward : ℕ)
+    → tokens_from text at ≡ (length text - at, Skip) ∷ tokens_from text onward → ReadsAlike text at onward
+skipped_alike text at onward is = λ limit g. ap (game_of limit (length text) g) is
 
 pub alike_on : (text : List ℕ) (a b c d : ℕ) → ReadsAlike text a b → ReadsAlike text b c → ReadsAlike text c d
     → ReadsAlike text a d
@@ -302,8 +302,8 @@ alike_on text a b c d first second third = λ limit g. first limit g ∙ second 
 pub alike : (limit : ℕ) (text : List ℕ) (from : ℕ) (game : Seen) (p : Progress) (here there : ℕ)
     → Reads limit text from game p here → ReadsAlike text here there → here ≤ there → there ≤ length text
     → Reads limit text from game p there
-alike limit text from game p here there r same behind within = record {
-  behind = (let before = r.behind in omega (arith, before, behind));
+alike limit text from game p here there r same onward within = record {
+  forward = (let before = r.forward in omega (arith, before, onward));
   offset = within;
   undeclared = r.undeclared;
   same_limit = r.same_limit;
@@ -319,13 +319,13 @@ was_taken true old new step_of is h = h
 was_taken false old new step_of is h = cc
 
 -- one more word, and what is skipped after it
-pub one_more : (text : List ℕ) (from : ℕ) (old game new : Seen) (before p q : Progress) (here behind there : ℕ)
+pub one_more : (text : List ℕ) (from : ℕ) (old game new : Seen) (before p q : Progress) (here onward there : ℕ)
     (word : List ℕ) (taken : Bool) → GoesOn text from old before here game p
-    → tokens_from text here ≡ (length text - here, Word word) ∷ tokens_from text behind → here < behind
+    → tokens_from text here ≡ (length text - here, Word word) ∷ tokens_from text onward → here < onward
     → new.limit ≡ game.limit → taken ≡ true
     → IsTaken taken game new (λ g offset. word_step game.limit g offset word (word_kind word)) → q ≡ begun p
-    → ReadsAlike text behind there → behind ≤ there → there ≤ length text → GoesOn text from old before there new q
-one_more text from old game new before p q here behind there word taken g is later same yes_is by begins alike after
+    → ReadsAlike text onward there → onward ≤ there → there ≤ length text → GoesOn text from old before there new q
+one_more text from old game new before p q here onward there word taken g is later same yes_is by begins alike after
     within =
     let step_is : On (so_far new.state q)
     ≡ step game.limit (length text) (so_far game.state p) (length text - here) (Word word) =
@@ -333,13 +333,13 @@ one_more text from old game new before p q here behind there word taken g is lat
     ∙ was_taken taken game new (λ g offset. word_step game.limit g offset word (word_kind word)) yes_is by p
     (length text - (length text - here)) in
     record {
-      behind = (let first = g.behind in omega (arith, first, later, after));
+      forward = (let first = g.forward in omega (arith, first, later, after));
       offset = within;
       undeclared = subst Undeclared (sym step_is)
           (keeps game.limit (length text) (so_far game.state p) (length text - here) (Word word) g.undeclared);
       same_limit = same ∙ g.same_limit;
       whole = sym (alike old.limit (so_far new.state q))
-          ∙ ap (λ s. go_on s (λ h. game_of old.limit (length text) h (tokens_from text behind)))
+          ∙ ap (λ s. read_rest_with s (λ h. game_of old.limit (length text) h (tokens_from text onward)))
           (step_is ∙ ap (λ n. step n (length text) (so_far game.state p) (length text - here) (Word word)) g.same_limit)
           ∙ ap (game_of old.limit (length text) (so_far game.state p)) (sym is)
           ∙ g.whole;
@@ -349,7 +349,7 @@ one_more text from old game new before p q here behind there word taken g is lat
 pub further : (limit : ℕ) (text : List ℕ) (from : ℕ) (game new : Seen) (p q : Progress) (here there : ℕ)
     → Reads limit text from game p here → GoesOn text here game p there new q → Reads limit text from new q there
 further limit text from game new p q here there r g = record {
-  behind = (let before = r.behind in let after = g.behind in omega (arith, before, after));
+  forward = (let before = r.forward in let after = g.forward in omega (arith, before, after));
   offset = g.offset;
   undeclared = g.undeclared;
   same_limit = g.same_limit ∙ r.same_limit;

@@ -79,17 +79,17 @@ pub tags_are : (prefix before last_before : List ℕ) (t : Tags) (outcome : Outc
     → termination ≡ termination_of t.ended outcome → before ≡ prefix → last_before ≡ prefix
     → HasParts (ended prefix (roster_lines t outcome)) (ended before (further_lines start termination))
     (last_before ++ [] ++ 10 ∷ []) (ended prefix (tag_lines t s ++ [] ∷ []))
-tags_are prefix before last_before t outcome start termination s o is told b l =
+tags_are prefix before last_before t outcome start termination s o is said b l =
     let line : List ℕ → List ℕ = λ text. prefix ++ text ++ 10 ∷ [] in
     let roster : List (List ℕ) = roster_lines t (outcome_now s) in
-    let behind : List (List ℕ) = further_lines s.start (termination_of t.ended (outcome_now s)) in
+    let tail : List (List ℕ) = further_lines s.start (termination_of t.ended (outcome_now s)) in
     record {
       is =
-          flat_map-append line (roster ++ behind) ([] ∷ [])
-          ∙ ap (λ v. v ++ flat_map line ([] ∷ [])) (flat_map-append line roster behind)
-          ∙ append_assoc (flat_map line roster) (flat_map line behind) (flat_map line ([] ∷ []))
-          ∙ ap (λ v. flat_map line roster ++ (flat_map line behind ++ v)) (append-nil (line []))
-          ∙ rw (b, l, told, o, is) refl;
+          flat_map-append line (roster ++ tail) ([] ∷ [])
+          ∙ ap (λ v. v ++ flat_map line ([] ∷ [])) (flat_map-append line roster tail)
+          ∙ append_assoc (flat_map line roster) (flat_map line tail) (flat_map line ([] ∷ []))
+          ∙ ap (λ v. flat_map line roster ++ (flat_map line tail ++ v)) (append-nil (line []))
+          ∙ rw (b, l, said, o, is) refl;
     }
 
 -- a game's tags, its moves, and an empty line
@@ -157,8 +157,8 @@ moves_are prefix before outcome column col end s none b is o e =
 one_placed : (prefix before text token : List ℕ) (column col : ℕ) → before ≡ prefix → col ≡ column → text ≡ token
     → wrapped_token before col text ≡ placed_all prefix column (token ∷ [])
 one_placed prefix before text token column col p c t =
-    ap (λ v. wrapped_token v col text) p ∙ ap (λ n. wrapped_token prefix n text) c ∙ ap (λ v. wrapped_token prefix column v) t
-    ∙ sym (append-nil (wrapped_token prefix column token))
+    ap (λ v. wrapped_token v col text) p ∙ ap (λ n. wrapped_token prefix n text) c
+    ∙ ap (λ v. wrapped_token prefix column v) t ∙ sym (append-nil (wrapped_token prefix column token))
 
 -- the number could not be put
 pub number_broke : (a b : OutputState) (w prefix : List ℕ) (column : ℕ) (f : Bool) (p q : Setup) (m : Move) → q ≡ p
@@ -194,7 +194,8 @@ pub move_put : (a b c : OutputState) (w x y prefix before text : List ℕ) (colu
     (m : Move) → q ≡ p → before ≡ prefix → col ≡ column_after_all column (number_token q.side f q.fullmove)
     → text ≡ san p m
     → TookSome a b w x (placed_all prefix column (number_token q.side f q.fullmove))
-    → TookSome b c x y (wrapped_token before col text) → TookSome a c w y (placed_all prefix column (tokens_of_move f p m))
+    → TookSome b c x y (wrapped_token before col text)
+    → TookSome a c w y (placed_all prefix column (tokens_of_move f p m))
 move_put a b c w x y prefix before text column col f p q m same pre is said h k =
     let number : List (List ℕ) = number_token p.side f p.fullmove in
     let here : col ≡ column_after_all column number =
@@ -223,15 +224,15 @@ last_more start [] (suc i) m e = cc
 last_more start (x ∷ ms) zero m e = let same : x ≡ m = cc in ap (after start) same
 last_more start (x ∷ ms) (suc i) m e = last_more (after start x) ms i m e
 
-more_behind : (p : Setup) (ms : List Move) (i : ℕ) (m : Move) → slice_get ms i ≡ Some m
+more_after : (p : Setup) (ms : List Move) (i : ℕ) (m : Move) → slice_get ms i ≡ Some m
     → move_tokens false p (take (suc i) ms) ≡ move_tokens false p (take i ms)
     ++ tokens_of_move false (position_after p (take i ms)) m
-more_behind p [] zero m e = cc
-more_behind p [] (suc i) m e = cc
-more_behind p (x ∷ ms) zero m e = let same : x ≡ m =
+more_after p [] zero m e = cc
+more_after p [] (suc i) m e = cc
+more_after p (x ∷ ms) zero m e = let same : x ≡ m =
     cc in append-nil (tokens_of_move false p x) ∙ ap (tokens_of_move false p) same
-more_behind p (x ∷ ms) (suc i) m e =
-    ap (λ v. tokens_of_move false p x ++ v) (more_behind (after p x) ms i m e)
+more_after p (x ∷ ms) (suc i) m e =
+    ap (λ v. tokens_of_move false p x ++ v) (more_after (after p x) ms i m e)
     ∙ sym (append_assoc (tokens_of_move false p x) (move_tokens false (after p x) (take i ms))
     (tokens_of_move false (position_after (after p x) (take i ms)) m))
 
@@ -245,7 +246,7 @@ moves_more p (x ∷ ms) zero m e = let same : x ≡ m =
 moves_more p (x ∷ ms) (suc i) m e =
     let later : eqb (suc i) 0 ≡ false = grind (arith, nat_tests) in
     rw later (
-    ap (λ v. tokens_of_move true p x ++ v) (more_behind (after p x) ms i m e)
+    ap (λ v. tokens_of_move true p x ++ v) (more_after (after p x) ms i m e)
     ∙ sym (append_assoc (tokens_of_move true p x) (move_tokens false (after p x) (take i ms))
     (tokens_of_move false (position_after (after p x) (take i ms)) m)))
 
@@ -309,13 +310,13 @@ moves_broke a b c w x prefix before column col p q ms i f m n h k = by_rest (mov
     by_rest (rest, is) =
         let so_far : List ℕ = placed_all prefix column (move_tokens true p (take i ms)) in
         let text : List ℕ = placed_all prefix column (move_tokens true p (take (suc i) ms)) in
-        let behind : List ℕ = placed_all prefix (column_after_all column (move_tokens true p (take (suc i) ms)))
+        let tail : List ℕ = placed_all prefix (column_after_all column (move_tokens true p (take (suc i) ms)))
         rest in
-        let whole : placed_all prefix column (move_tokens true p ms) ≡ text ++ behind =
+        let whole : placed_all prefix column (move_tokens true p ms) ≡ text ++ tail =
         ap (placed_all prefix column) is ∙ placed_all-append prefix column (move_tokens true p (take (suc i) ms))
         rest in
         subst (λ v. BreaksOff a c (w ++ v)) (sym whole)
-        (break_longer a c w text behind
+        (break_longer a c w text tail
         (subst (λ v. BreaksOff a c (w ++ v)) (sym (next_text prefix before column col p q ms i f m n))
         (added_break a b c w x so_far (placed_all before col (tokens_of_move f q m)) h k)))
 

@@ -4,7 +4,7 @@ use Rattle.std.specs.Option.{option_or}
 use Rattle.std.specs.Str.{bytes_eq}
 use Rattle.chess_pgn.specs.LastTags.{may_precede_tags, named_tag, last_tag}
 use Rattle.chess_pgn.specs.Tokens.{Token, Skip, Word, Bad_tag, Unclosed_comment, Unclosed_variation, Bad, tokens_from}
-use Rattle.chess_pgn.specs.Tokens as told
+use Rattle.chess_pgn.specs.Tokens as tokens
 use Rattle.chess_pgn.specs.declared.tag.Tag.{Tag}
 use Rattle.chess_pgn.specs.ties.GameSteps.{IsWithin}
 use Rattle.chess_pgn.specs.ties.Seen.{found_seen, SkipsTo}
@@ -14,7 +14,7 @@ use Rattle.chess_pgn.proofs.TagScans.{last_from, last_step}
 use Rattle.chess_pgn.proofs.TokenPlaces.{token_within}
 
 abbrev pub InText : ℕ → Option Tag → Type 0
-InText total tag = IfSome tag (λ t. t.left ≤ total)
+InText total tag = IfSome tag (λ t. t.to_end ≤ total)
 
 pub record Reads (text name : List ℕ) (from : ℕ) (last : Option Tag) (here : ℕ) : Type 0 where
   pub offset : here ≤ length text
@@ -35,7 +35,7 @@ Within total tag = IfSome tag (λ t. t.1 ≤ total)
 
 named_within : (total n : ℕ) (name : List ℕ) (t : Token) → IsWithin (total - n) t → Within total (named_tag name t)
 named_within total n name Skip h = tt
-named_within total n name (told.Tag other text left) h =
+named_within total n name (tokens.Tag other text left) h =
     pick (Within total) (bytes_eq other name) _ _ (λ _. omega (arith, h)) (λ _. tt)
 named_within total n name (Word word) h = tt
 named_within total n name Bad_tag h = tt
@@ -48,23 +48,23 @@ or_within : (total : ℕ) (found before : Option Tag) → Within total (found_se
 or_within total None before h k = k
 or_within total (Some tag) before h k = h
 
-pub one_more : (text name : List ℕ) (from : ℕ) (last found next : Option Tag) (here behind : ℕ) (t : Token)
-    → Reads text name from last here → tokens_from text here ≡ (length text - here, t) ∷ tokens_from text behind
-    → behind ≤ length text → true ≡ may_precede_tags t → found_seen found ≡ named_tag name t
-    → next ≡ option_or found last → Reads text name from next behind
-one_more text name from last found next here behind t r is within may named joined = record {
+pub one_more : (text name : List ℕ) (from : ℕ) (last found next : Option Tag) (here tail : ℕ) (t : Token)
+    → Reads text name from last here → tokens_from text here ≡ (length text - here, t) ∷ tokens_from text tail
+    → tail ≤ length text → true ≡ may_precede_tags t → found_seen found ≡ named_tag name t
+    → next ≡ option_or found last → Reads text name from next tail
+one_more text name from last found next here tail t r is within may named joined = record {
   offset = within;
   within =
-      let token = token_within text here t (tokens_from text behind) r.offset is in
+      let token = token_within text here t (tokens_from text tail) r.offset is in
       subst (InText (length text)) (sym joined) (or_within (length text) found last
       (subst (Within (length text)) (sym named) (named_within (length text) here name t token)) r.within);
   whole =
-      ap (λ o. last_from name (found_seen o) (tokens_from text behind)) joined
-      ∙ ap (λ o. last_from name o (tokens_from text behind)) (seen_or found last)
-      ∙ ap (λ o. last_from name (option_or o (found_seen last)) (tokens_from text behind)) named
-      ∙ ap (λ b. cond b (last_from name (option_or (named_tag name t) (found_seen last)) (tokens_from text behind))
+      ap (λ o. last_from name (found_seen o) (tokens_from text tail)) joined
+      ∙ ap (λ o. last_from name o (tokens_from text tail)) (seen_or found last)
+      ∙ ap (λ o. last_from name (option_or o (found_seen last)) (tokens_from text tail)) named
+      ∙ ap (λ b. cond b (last_from name (option_or (named_tag name t) (found_seen last)) (tokens_from text tail))
       (found_seen last)) may
-      ∙ sym (last_step name (found_seen last) (length text - here, t) (tokens_from text behind))
+      ∙ sym (last_step name (found_seen last) (length text - here, t) (tokens_from text tail))
       ∙ ap (last_from name (found_seen last)) (sym is) ∙ r.whole;
 }
 

@@ -25,6 +25,6 @@ pub mod TagLines
 pub mod TagParts
 pub mod TagScans
 pub mod TokenPlaces
-pub mod VariantTold
+pub mod VariantSaid
 pub mod Variations
 pub mod Walk

@@ -13,14 +13,14 @@ use Rattle.chess_text.specs.declared.reading.Reading.TheVariants as reads
 use Rattle.chess_text.specs.Moves.{reading}
 use Rattle.chess_pgn.specs.declared.read.PgnEnd.{PgnEnd}
 use Rattle.chess_pgn.specs.declared.read.PgnFault.{PgnFault}
-use Rattle.chess_pgn.specs.declared.word.WordKind.{WordKind}
-use Rattle.chess_pgn.specs.declared.word.WordKind.TheVariants.{End, Number, Marks, Move}
-use Rattle.chess_pgn.specs.GameRead.{SoFar, GameRead, Step, On, Stop, unless_full, move_step, word_step, fen_step, tag_step, step, go_on, game_of, at_text_end, nothing_read, tagged_variant, pgn_read}
+use Rattle.chess_pgn.specs.declared.word_kind.WordKind.{WordKind}
+use Rattle.chess_pgn.specs.declared.word_kind.WordKind.TheVariants.{End, Number, Marks, Move}
+use Rattle.chess_pgn.specs.GameRead.{SoFar, GameRead, Step, On, Stop, unless_full, move_step, word_step, fen_step, tag_step, step, read_rest_with, game_of, at_text_end, nothing_read, tagged_variant, pgn_read}
 use Rattle.chess_pgn.specs.laws.Offsets.{HalfMovesHaveBytes}
 use Rattle.chess_pgn.specs.Tokens.{Token, Skip, Tag, Word, Bad_tag, Unclosed_comment, Unclosed_variation, Bad, token_at, tokens_of, after_byte_order_mark, begins_line, tokens_from}
 use Rattle.chess_pgn.specs.Words.{word_kind}
 use Rattle.chess_pgn.proofs.Cuts.{pick}
-use Rattle.chess_pgn.proofs.FaultPlaces.{behind}
+use Rattle.chess_pgn.proofs.FaultPlaces.{not_before}
 use Rattle.chess_pgn.proofs.Walk.{shorter}
 
 -- from an offset on, after so many half-moves
@@ -84,7 +84,7 @@ further first from done most moves (Err x) h k f = tt
 
 gone_on : (first from done : ℕ) (s : Step) (later : SoFar → GameRead) → first + 1 ≤ from → StepFits first done s
     → ((h : SoFar) → Fits from (length h.state.moves) (length (later h).state.moves) (later h).answer)
-    → Fits first done (length (go_on s later).state.moves) (go_on s later).answer
+    → Fits first done (length (read_rest_with s later).state.moves) (read_rest_with s later).answer
 gone_on first from done (On g) later h k f = further first from done (length g.state.moves)
     (length (later g).state.moves) (later g).answer h k (f g)
 gone_on first from done (Stop r) later h k f = k
@@ -119,7 +119,7 @@ unfolding pgn_read tokens_from
 half_moves_have_bytes limit text at h =
     let offset : ℕ = after_byte_order_mark text at in
     let g : SoFar = nothing_read (tagged_variant (tokens_from text offset)) in
-    let inside = behind text at h in
+    let inside = not_before text at h in
     let low = inside.0 in
     let high = inside.1 in
     let left = length-drop offset text in

@@ -12,9 +12,9 @@ use Rattle.chess_text.specs.declared.reading.Reading.{Reading}
 use Rattle.chess_text.specs.declared.reading.Reading.TheVariants as reads
 use Rattle.chess_text.specs.Moves.{reading}
 use Rattle.chess_pgn.specs.declared.read.PgnFaultKind.TheVariants.{NoResult}
-use Rattle.chess_pgn.specs.declared.word.WordKind.{WordKind}
-use Rattle.chess_pgn.specs.declared.word.WordKind.TheVariants.{End, Number, Marks, Move}
-use Rattle.chess_pgn.specs.GameRead.{SoFar, Step, On, Stop, fails, fen_step, tag_step, move_step, word_step, step, unless_full, go_on, game_of, nothing_read, pgn_read, termination_after}
+use Rattle.chess_pgn.specs.declared.word_kind.WordKind.{WordKind}
+use Rattle.chess_pgn.specs.declared.word_kind.WordKind.TheVariants.{End, Number, Marks, Move}
+use Rattle.chess_pgn.specs.GameRead.{SoFar, Step, On, Stop, fails, fen_step, tag_step, move_step, word_step, step, unless_full, read_rest_with, game_of, nothing_read, pgn_read, termination_after}
 use Rattle.chess_pgn.specs.GameText.{start_lines_in, last_lines}
 use Rattle.chess_pgn.specs.LastTags.{is_marks}
 use Rattle.chess_pgn.specs.laws.Normal.{normal_tag_step, normal_step, normal_game_of, normal_read, is_mark_word, names_no_variant, NormalIsKept}
@@ -30,13 +30,13 @@ both : (a b : Bool) → (not a && b) ≡ true → (a ≡ false) × (b ≡ true)
 both true b e = absurd (cc)
 both false b e = (refl, e)
 
-normal_told : (ts : List (ℕ × Token)) → names_no_variant ts ≡ true → variant_from Normal ts ≡ Normal
-normal_told [] h = refl
-normal_told ((left, Skip) ∷ ts) h = normal_told ts h
-normal_told ((left, Tag name text string) ∷ ts) h =
+normal_said : (ts : List (ℕ × Token)) → names_no_variant ts ≡ true → variant_from Normal ts ≡ Normal
+normal_said [] h = refl
+normal_said ((left, Skip) ∷ ts) h = normal_said ts h
+normal_said ((left, Tag name text string) ∷ ts) h =
     let none = both (bytes_eq name (codes "Variant")) (names_no_variant ts) h in
-    rw none.0 (normal_told ts none.1)
-normal_told ((left, Word word) ∷ ts) h = by_kind (λ e. normal_told ts e) (word_kind word) h
+    rw none.0 (normal_said ts none.1)
+normal_said ((left, Word word) ∷ ts) h = by_kind (λ e. normal_said ts e) (word_kind word) h
   where
     by_kind : (names_no_variant ts ≡ true → variant_from Normal ts ≡ Normal) → (k : WordKind)
         → cond (not (is_mark_word k)) true (not false && names_no_variant ts) ≡ true
@@ -45,10 +45,10 @@ normal_told ((left, Word word) ∷ ts) h = by_kind (λ e. normal_told ts e) (wor
     by_kind later Number e = refl
     by_kind later Marks e = later e
     by_kind later Move e = refl
-normal_told ((left, Bad_tag) ∷ ts) h = refl
-normal_told ((left, Unclosed_comment brace) ∷ ts) h = refl
-normal_told ((left, Unclosed_variation) ∷ ts) h = refl
-normal_told ((left, Bad) ∷ ts) h = refl
+normal_said ((left, Bad_tag) ∷ ts) h = refl
+normal_said ((left, Unclosed_comment brace) ∷ ts) h = refl
+normal_said ((left, Unclosed_variation) ∷ ts) h = refl
+normal_said ((left, Bad) ∷ ts) h = refl
 
 -- ---- steps of a game of normal chess
 
@@ -116,13 +116,13 @@ same_game : (limit total : ℕ) (g : SoFar) (ts : List (ℕ × Token)) → g.sta
     → game_of limit total g ts ≡ normal_game_of limit total g ts
 same_game limit total g [] normal = refl
 same_game limit total g (t ∷ ts) normal =
-    ap (λ s. go_on s (λ h. game_of limit total h ts)) (same_step limit total g normal t.0 t.1)
+    ap (λ s. read_rest_with s (λ h. game_of limit total h ts)) (same_step limit total g normal t.0 t.1)
     ∙ by_step ts (λ h n. same_game limit total h ts n) (normal_step limit total g t.0 t.1)
     (keeps limit total g normal t.0 t.1)
   where
     by_step : (ts : List (ℕ × Token)) → ((h : SoFar) → h.state.start.variant ≡ Normal
         → game_of limit total h ts ≡ normal_game_of limit total h ts) → (s : Step) → IsNormal s
-        → go_on s (λ h. game_of limit total h ts) ≡ go_on s (λ h. normal_game_of limit total h ts)
+        → read_rest_with s (λ h. game_of limit total h ts) ≡ read_rest_with s (λ h. normal_game_of limit total h ts)
     by_step ts later (On h) n = later h n
     by_step ts later (Stop read) n = refl
 
@@ -130,12 +130,12 @@ initial_is : initial_setup_of Normal ≡ initial_setup
 unfolding initial_setup
 initial_is = refl
 
-read_so : (limit : ℕ) (text : List ℕ) (at : ℕ) → names_no_variant (tokens_from text (after_byte_order_mark text at)) ≡ true
-    → pgn_read limit text at ≡ normal_read limit (length text) (tokens_from text (after_byte_order_mark text at))
+read_so : (limit : ℕ) (text : List ℕ) (at : ℕ) → names_no_variant (tokens_from text (after_byte_order_mark text at))
+    ≡ true → pgn_read limit text at ≡ normal_read limit (length text) (tokens_from text (after_byte_order_mark text at))
 unfolding pgn_read
 read_so limit text at none =
     let tokens : List (ℕ × Token) = tokens_from text (after_byte_order_mark text at) in
-    ap (λ v. game_of limit (length text) (nothing_read v) tokens) (sym (variants_are tokens) ∙ normal_told tokens none)
+    ap (λ v. game_of limit (length text) (nothing_read v) tokens) (sym (variants_are tokens) ∙ normal_said tokens none)
     ∙ same_game limit (length text) (nothing_read Normal) tokens (initial_variant Normal)
     ∙ ap (λ p. normal_game_of limit (length text)
     (record { state = from_start p; is_met = false; is_begun = false; termination = None }) tokens) initial_is

@@ -24,10 +24,10 @@ use Rattle.chess_text.specs.Moves.{reading}
 use Rattle.chess_pgn.specs.declared.read.PgnFaultKind.{PgnFaultKind}
 use Rattle.chess_pgn.specs.declared.read.PgnFaultKind.TheVariants.{BadFen, BadToken, IllegalMove, AmbiguousMove, AfterEnd, TooLong, UnclosedComment, UnclosedVariation, NoResult}
 use Rattle.chess_pgn.specs.declared.termination.Termination.{Termination}
-use Rattle.chess_pgn.specs.declared.word.WordKind.{WordKind}
-use Rattle.chess_pgn.specs.declared.word.WordKind.TheVariants.{End, Number, Marks, Move}
-use Rattle.chess_pgn.specs.GameRead.{SoFar, GameRead, Step, On, Stop, game_of, go_on, step, nothing_read, tagged_variant, pgn_read, move_step, word_step, tag_step, fen_step, fails, unless_full, termination_after}
-use Rattle.chess_pgn.specs.laws.Retold.{begins, counts, is_fen, can_be_taken, can_all_be_taken, if_move, move_words_of, move_words, start_by, tagged_start, termination_by_token, tagged_termination, AreReadAs, unless_closed, move_fault, word_fault, fault_at, token_fault, StopsAt, IsOfTokens, is_number_or_move, is_outcome}
+use Rattle.chess_pgn.specs.declared.word_kind.WordKind.{WordKind}
+use Rattle.chess_pgn.specs.declared.word_kind.WordKind.TheVariants.{End, Number, Marks, Move}
+use Rattle.chess_pgn.specs.GameRead.{SoFar, GameRead, Step, On, Stop, game_of, read_rest_with, step, nothing_read, tagged_variant, pgn_read, move_step, word_step, tag_step, fen_step, fails, unless_full, termination_after}
+use Rattle.chess_pgn.specs.laws.GameOfTokens.{begins, counts, is_fen, can_be_taken, can_all_be_taken, if_move, move_words_of, move_words, start_by, tagged_start, termination_by_token, tagged_termination, AreReadAs, unless_closed, move_fault, word_fault, fault_at, token_fault, StopsAt, IsOfTokens, is_number_or_move, is_outcome}
 use Rattle.chess_pgn.specs.Tokens.{Token, Skip, Tag, Word, Bad_tag, Unclosed_comment, Unclosed_variation, Bad, after_byte_order_mark, tokens_from}
 use Rattle.chess_pgn.specs.Words.{word_kind}
 use Rattle.chess_pgn.proofs.FenVariants.{read_variant, initial_variant}
@@ -91,8 +91,8 @@ taken_more v begun (u ∷ ts) t h k =
     rw both.0 (taken_more v (begun || begins u.1) ts t both.1 here)
 
 -- the tag FEN is not the tag Termination
-fen_tells_no_end : (name : List ℕ) → is_fen name ≡ true → bytes_eq name (codes "Termination") ≡ false
-fen_tells_no_end name e = ap (λ n. bytes_eq n (codes "Termination")) ((bytes_eq-Decides name (codes "FEN")).0 e)
+fen_says_no_end : (name : List ℕ) → is_fen name ≡ true → bytes_eq name (codes "Termination") ≡ false
+fen_says_no_end name e = ap (λ n. bytes_eq n (codes "Termination")) ((bytes_eq-Decides name (codes "FEN")).0 e)
 
 none_by : (o : Option Verdict) → is_some o ≡ false → o ≡ None
 none_by None e = refl
@@ -108,7 +108,7 @@ module _ (limit total : ℕ) (v : Variant) where
     undeclared : g.state.declared ≡ None
     met : list_any (λ t. counts t.1) done ≡ g.is_met
     begun : list_any (λ t. begins t.1) done ≡ g.is_begun
-    told : tagged_termination None done ≡ g.termination
+    said : tagged_termination None done ≡ g.termination
     fresh : g.is_begun ≡ false → (g.state.moves ≡ []) × (move_words done ≡ [])
 
   -- what one token more leaves
@@ -120,7 +120,7 @@ module _ (limit total : ℕ) (v : Variant) where
     undeclared : h.state.declared ≡ None
     met : (g.is_met || counts t) ≡ h.is_met
     begun : (g.is_begun || begins t) ≡ h.is_begun
-    told : termination_by_token g.termination t ≡ h.termination
+    said : termination_by_token g.termination t ≡ h.termination
     fresh : h.is_begun ≡ false → (h.state.moves ≡ []) × (move_words done ++ move_words_of t ≡ [])
 
   more : (done : List (ℕ × Token)) (left : ℕ) (t : Token) (g h : SoFar) → IsSoFar done g → IsNext done t g h
@@ -133,7 +133,7 @@ module _ (limit total : ℕ) (v : Variant) where
     undeclared = n.undeclared;
     met = any_more (λ u. counts u.1) done (left, t) ∙ ap (λ b. b || counts t) s.met ∙ n.met;
     begun = any_more (λ u. begins u.1) done (left, t) ∙ ap (λ b. b || begins t) s.begun ∙ n.begun;
-    told = termination_more None done (left, t) ∙ ap (λ o. termination_by_token o t) s.told ∙ n.told;
+    said = termination_more None done (left, t) ∙ ap (λ o. termination_by_token o t) s.said ∙ n.said;
     fresh = λ e. ((n.fresh e).0, words_more done (left, t) ∙ (n.fresh e).1);
   }
 
@@ -147,7 +147,7 @@ module _ (limit total : ℕ) (v : Variant) where
       → can_be_taken v g.is_begun t ≡ true → (g.is_met || counts t) ≡ met → (g.is_begun || begins t) ≡ begun
       → termination_by_token g.termination t ≡ o
       → IsNext done t g (record { state = g.state; is_met = met; is_begun = begun; termination = o })
-  quiet done t g met begun o s none start can is_met is_begun told = record {
+  quiet done t g met begun o s none start can is_met is_begun said = record {
     can_be = can;
     start = start;
     variant = s.variant;
@@ -155,7 +155,7 @@ module _ (limit total : ℕ) (v : Variant) where
     undeclared = s.undeclared;
     met = is_met;
     begun = is_begun;
-    told = told;
+    said = said;
     fresh = λ e. let f = s.fresh (or_left g.is_begun (begins t) (is_begun ∙ e)) in (f.0, same_words done t none ∙ f.1);
   }
 
@@ -247,7 +247,7 @@ module _ (limit total : ℕ) (v : Variant) where
       undeclared = s.undeclared;
       met = ap (λ k. g.is_met || is_number_or_move k) kind ∙ or-true g.is_met;
       begun = ap (λ k. g.is_begun || is_number_or_move k) kind ∙ or-true g.is_begun;
-      told = refl;
+      said = refl;
       fresh = λ e. absurd (cc);
     }
 
@@ -266,7 +266,7 @@ module _ (limit total : ℕ) (v : Variant) where
     can_be = s.can_be;
     start = s.start;
     moves = s.moves;
-    stop = λ ts. (word, refl, kind, refl, sym s.told, refl);
+    stop = λ ts. (word, refl, kind, refl, sym s.said, refl);
   }
   word_leaves done left word g Number kind s =
       more done left (Word word) g _ s
@@ -301,7 +301,7 @@ module _ (limit total : ℕ) (v : Variant) where
           undeclared = refl;
           met = or-true g.is_met;
           begun = or-false g.is_begun;
-          told = rw (fen_tells_no_end name e) refl;
+          said = rw (fen_says_no_end name e) refl;
           fresh = λ x. (refl, none);
         })
 
@@ -317,7 +317,8 @@ module _ (limit total : ℕ) (v : Variant) where
     tag_leaves true e = fen_leaves e (fen_reading_as g.state.start.variant text) (same _ refl)
     tag_leaves false e =
         more done left (Tag name text string) g _ s
-        (quiet done (Tag name text string) g true g.is_begun (termination_after g.termination name text) s refl (rw e refl)
+        (quiet done (Tag name text string) g true g.is_begun (termination_after g.termination name text) s
+        refl (rw e refl)
         (rw (open_yet, e) refl) (or-true g.is_met) (or-false g.is_begun) refl)
 
   -- ---- all tokens
@@ -354,7 +355,8 @@ module _ (limit total : ℕ) (v : Variant) where
   }
     where
       at_end : (met : Bool) → list_any (λ t. counts t.1) done ≡ met
-          → StopsAt limit total v done [] g.state (cond met (Err (record { kind = NoResult; offset = total })) (Ok None))
+          → StopsAt limit total v done [] g.state
+          (cond met (Err (record { kind = NoResult; offset = total })) (Ok None))
       at_end true e = (s.undeclared, e, refl)
       at_end false e = (s.undeclared, e)
   of_tokens tokens done (t ∷ ts) g all s = by_step tokens done t ts all
@@ -363,7 +365,8 @@ module _ (limit total : ℕ) (v : Variant) where
     where
       by_step : (tokens done : List (ℕ × Token)) (t : ℕ × Token) (ts : List (ℕ × Token)) → done ++ t ∷ ts ≡ tokens
           → ((k : SoFar) → IsSoFar (done ++ t ∷ []) k → IsOfTokens limit total v tokens (game_of limit total k ts))
-          → (x : Step) → Leaves done t x → IsOfTokens limit total v tokens (go_on x (λ k. game_of limit total k ts))
+          → (x : Step) → Leaves done t x → IsOfTokens limit total v tokens
+          (read_rest_with x (λ k. game_of limit total k ts))
       by_step tokens done t ts all later (Stop r) k =
           record {
             taken = done;
@@ -392,6 +395,6 @@ game_of_tokens limit text at =
       undeclared = refl;
       met = refl;
       begun = refl;
-      told = refl;
+      said = refl;
       fresh = λ e. (refl, refl);
     })

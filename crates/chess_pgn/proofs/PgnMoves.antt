@@ -105,7 +105,8 @@ read_so_far t start done is_begun = record {
   termination = t;
 }
 
-last-more : (start : Setup) (done : List Move) (m : Move) → position_after start (done ++ m ∷ []) ≡ after (position_after start done) m
+last-more : (start : Setup) (done : List Move) (m : Move) → position_after start (done ++ m ∷ [])
+    ≡ after (position_after start done) m
 last-more start [] m = refl
 last-more start (x ∷ done) m = last-more (after start x) done m
 
@@ -141,7 +142,8 @@ module _ (limit total : ℕ) where
       ≡ ended_game g.termination g.state o (total - length (outcome_text o ++ 10 ∷ rest) + length (outcome_text o))
   outcome_read g begins column o rest =
       let t : List ℕ = outcome_text o in
-      ap (read_on limit total g begins) (append_assoc (wrapped_token [] column t) (line_close (next_column column t)) rest)
+      ap (read_on limit total g begins)
+      (append_assoc (wrapped_token [] column t) (line_close (next_column column t)) rest)
       ∙ placed_read g begins column t (line_close (next_column column t) ++ rest) _ (λ b.
       ap (λ xs. read_on limit total g b (t ++ (xs ++ rest)))
       (close_after (next_column column t) (column_after column t (outcome_some o)))
@@ -151,37 +153,37 @@ module _ (limit total : ℕ) where
 
   -- what is read from there is the same wherever a line began
   abbrev pub Reads : Option Termination → Setup → List Move → List (List ℕ) → List ℕ → GameRead → Type 0
-  Reads told start done ts rest r = (is_begun begins : Bool) (column : ℕ)
-      → read_on limit total (read_so_far told start done is_begun) begins (filled_from [] column ts ++ rest) ≡ r
+  Reads said start done ts rest r = (is_begun begins : Bool) (column : ℕ)
+      → read_on limit total (read_so_far said start done is_begun) begins (filled_from [] column ts ++ rest) ≡ r
 
-  number_read : (told : Option Termination) (start : Setup) (done : List Move) (c : Colour) (is_first : Bool) (n : ℕ)
-      (ts : List (List ℕ)) (rest : List ℕ) (r : GameRead) → n ≤ 999999 → Reads told start done ts rest r
-      → Reads told start done (number_token c is_first n ++ ts) rest r
-  number_read told start done White is_first n ts rest r h reads is_begun begins column =
-      let g : SoFar = read_so_far told start done is_begun in
+  number_read : (said : Option Termination) (start : Setup) (done : List Move) (c : Colour) (is_first : Bool) (n : ℕ)
+      (ts : List (List ℕ)) (rest : List ℕ) (r : GameRead) → n ≤ 999999 → Reads said start done ts rest r
+      → Reads said start done (number_token c is_first n ++ ts) rest r
+  number_read said start done White is_first n ts rest r h reads is_begun begins column =
+      let g : SoFar = read_so_far said start done is_begun in
       let t : List ℕ = decimal n ++ codes "." in
       token_read g (begun g) begins column t ts rest r (white_number limit total g n h)
       (omega (arith, length-append (decimal n) (codes "."))) (reads true false (next_column column t))
-  number_read told start done Black true n ts rest r h reads is_begun begins column =
-      let g : SoFar = read_so_far told start done is_begun in
+  number_read said start done Black true n ts rest r h reads is_begun begins column =
+      let g : SoFar = read_so_far said start done is_begun in
       let t : List ℕ = decimal n ++ codes "..." in
       token_read g (begun g) begins column t ts rest r (black_number limit total g n h)
       (omega (arith, length-append (decimal n) (codes "..."))) (reads true false (next_column column t))
-  number_read told start done Black false n ts rest r h reads is_begun begins column = reads is_begun begins column
+  number_read said start done Black false n ts rest r h reads is_begun begins column = reads is_begun begins column
 
   -- the whole game that is read
   pub record IsWhole (start : Setup) (all : List Move) : Type 0 where
     pub few : length all ≤ limit
     pub unended : (k : ℕ) → k < length all → verdict start (take k all) ≡ None
 
-  pub moves_read : AfterIsSound → (told : Option Termination) (start : Setup) (all : List Move) → IsWhole start all
-      → (last_token rest : List ℕ) (r : GameRead) → Reads told start all (last_token ∷ []) rest r
-      → (is_first : Bool) (p : Setup) (done ms : List Move) → done ++ ms ≡ all → position_after start done ≡ p → IsSound p
-      → IsLine p ms → Reads told start done (move_tokens is_first p ms ++ last_token ∷ []) rest r
-  moves_read law told start all whole o rest r ended is_first p done [] same at sound line is_begun begins column =
-      ap (λ d. read_on limit total (read_so_far told start d is_begun) begins (filled_from [] column (o ∷ []) ++ rest))
+  pub moves_read : AfterIsSound → (said : Option Termination) (start : Setup) (all : List Move) → IsWhole start all
+      → (last_token rest : List ℕ) (r : GameRead) → Reads said start all (last_token ∷ []) rest r
+      → (is_first : Bool) (p : Setup) (done ms : List Move) → done ++ ms ≡ all → position_after start done
+      ≡ p → IsSound p → IsLine p ms → Reads said start done (move_tokens is_first p ms ++ last_token ∷ []) rest r
+  moves_read law said start all whole o rest r ended is_first p done [] same at sound line is_begun begins column =
+      ap (λ d. read_on limit total (read_so_far said start d is_begun) begins (filled_from [] column (o ∷ []) ++ rest))
       (sym (append-nil done) ∙ same) ∙ ended is_begun begins column
-  moves_read law told start all whole o rest r ended is_first p done (m ∷ ms) same at sound line is_begun begins
+  moves_read law said start all whole o rest r ended is_first p done (m ∷ ms) same at sound line is_begun begins
       column =
       let more : List (List ℕ) = move_tokens false (after p m) ms ++ o ∷ [] in
       let count : length all ≡ length done + suc (length ms) = ap length (sym same) ∙ length-append done (m ∷ ms) in
@@ -189,16 +191,16 @@ module _ (limit total : ℕ) where
       let open_yet : verdict start done ≡ None =
       ap (verdict start) (sym here) ∙ whole.unended (length done) (omega arith) in
       let room : length done < limit = omega (arith, whole.few) in
-      let behind = moves_read law told start all whole o rest r ended false (after p m) (done ++ m ∷ []) ms
+      let tail = moves_read law said start all whole o rest r ended false (after p m) (done ++ m ∷ []) ms
       (append_assoc done (m ∷ []) ms ∙ same) (last-more start done m ∙ ap (λ q. after q m) at)
       (law p m sound line.0) line.1 in
       let tokens : move_tokens is_first p (m ∷ ms) ++ o ∷ [] ≡ number_token p.side is_first p.fullmove
       ++ san p m ∷ more = simp append_assoc in
-      ap (λ ts. read_on limit total (read_so_far told start done is_begun) begins (filled_from [] column ts ++ rest))
+      ap (λ ts. read_on limit total (read_so_far said start done is_begun) begins (filled_from [] column ts ++ rest))
       tokens
-      ∙ number_read told start done p.side is_first p.fullmove (san p m ∷ more) rest r
+      ∙ number_read said start done p.side is_first p.fullmove (san p m ∷ more) rest r
       (leb-true _ _ sound.fullmove_high) (λ x b k.
-      token_read (read_so_far told start done x) (read_so_far told start (done ++ m ∷ []) true) b k (san p m) more rest
-      r (san_takes limit total (read_so_far told start done x) p m sound line.0 at open_yet room)
-      (omega (arith, (san_short p m sound line.0).0)) (behind true false (next_column k (san p m)))) is_begun
+      token_read (read_so_far said start done x) (read_so_far said start (done ++ m ∷ []) true) b k (san p m) more rest
+      r (san_takes limit total (read_so_far said start done x) p m sound line.0 at open_yet room)
+      (omega (arith, (san_short p m sound line.0).0)) (tail true false (next_column k (san p m)))) is_begun
       begins column

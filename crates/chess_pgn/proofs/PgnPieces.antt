@@ -19,7 +19,7 @@ use Rattle.chess_game.specs.declared.results.Outcome.TheVariants.{WhiteWins, Bla
 use Rattle.chess_pgn.specs.declared.termination.Termination.{Termination}
 use Rattle.chess_pgn.specs.declared.termination.Termination.TheVariants as ending
 use Rattle.chess_pgn.specs.Terminations.{termination_text, termination_named}
-use Rattle.chess_pgn.specs.GameRead.{SoFar, GameRead, On, Stop, declared_after, move_step, word_step, fen_step, step, go_on, game_of}
+use Rattle.chess_pgn.specs.GameRead.{SoFar, GameRead, On, Stop, declared_after, move_step, word_step, fen_step, step, read_rest_with, game_of}
 use Rattle.chess_text.specs.Moves.{reading}
 use Rattle.chess_text.specs.San.{san}
 use Rattle.chess_pgn.specs.Tokens.{Token, Skip, Tag, Word, is_word_byte, token_at, tokens_of}
@@ -83,30 +83,30 @@ termination_back ending.Unterminated = refl
 
 module _ (limit total : ℕ) where
   -- what follows the first token's step
-  behind_step : SoFar → ℕ → Token × List ℕ → ℕ → ℕ → GameRead
-  behind_step g c t left most = go_on (step limit total g left t.0)
+  step_then : SoFar → ℕ → Token × List ℕ → ℕ → ℕ → GameRead
+  step_then g c t left most = read_rest_with (step limit total g left t.0)
       (λ h. game_of limit total h (tokens_of most (eqb c 10) t.1))
 
   -- reading goes on after a token
-  pub token_on : (g h : SoFar) (begins : Bool) (c : ℕ) (rest : List ℕ) (token : Token) (behind : List ℕ)
-      → token_at begins c rest ≡ (token, behind) → step limit total g (suc (length rest)) token ≡ On h
-      → read_on limit total g begins (c ∷ rest) ≡ read_on limit total h (eqb c 10) behind
-  unfolding tokens_of behind_step
-  token_on g h begins c rest token behind is next =
-      let few : length behind ≤ length rest =
+  pub token_on : (g h : SoFar) (begins : Bool) (c : ℕ) (rest : List ℕ) (token : Token) (tail : List ℕ)
+      → token_at begins c rest ≡ (token, tail) → step limit total g (suc (length rest)) token ≡ On h
+      → read_on limit total g begins (c ∷ rest) ≡ read_on limit total h (eqb c 10) tail
+  unfolding tokens_of step_then
+  token_on g h begins c rest token tail is next =
+      let few : length tail ≤ length rest =
       subst (λ (t : Token × List ℕ). length t.1 ≤ length rest) is (shorter begins c rest) in
-      ap (λ (t : Token × List ℕ). behind_step g c t (suc (length rest)) (length rest)) is
-      ∙ ap (λ s. go_on s (λ k. game_of limit total k (tokens_of (length rest) (eqb c 10) behind))) next
-      ∙ ap (game_of limit total h) (enough (length rest) (length behind) (eqb c 10) behind few (omega arith))
+      ap (λ (t : Token × List ℕ). step_then g c t (suc (length rest)) (length rest)) is
+      ∙ ap (λ s. read_rest_with s (λ k. game_of limit total k (tokens_of (length rest) (eqb c 10) tail))) next
+      ∙ ap (game_of limit total h) (enough (length rest) (length tail) (eqb c 10) tail few (omega arith))
 
   -- reading ends at a token
-  pub token_ends : (g : SoFar) (begins : Bool) (c : ℕ) (rest : List ℕ) (token : Token) (behind : List ℕ) (r : GameRead)
-      → token_at begins c rest ≡ (token, behind) → step limit total g (suc (length rest)) token ≡ Stop r
+  pub token_ends : (g : SoFar) (begins : Bool) (c : ℕ) (rest : List ℕ) (token : Token) (tail : List ℕ) (r : GameRead)
+      → token_at begins c rest ≡ (token, tail) → step limit total g (suc (length rest)) token ≡ Stop r
       → read_on limit total g begins (c ∷ rest) ≡ r
-  unfolding tokens_of behind_step
-  token_ends g begins c rest token behind r is next =
-      ap (λ (t : Token × List ℕ). behind_step g c t (suc (length rest)) (length rest)) is
-      ∙ ap (λ s. go_on s (λ k. game_of limit total k (tokens_of (length rest) (eqb c 10) behind))) next
+  unfolding tokens_of step_then
+  token_ends g begins c rest token tail r is next =
+      ap (λ (t : Token × List ℕ). step_then g c t (suc (length rest)) (length rest)) is
+      ∙ ap (λ s. read_rest_with s (λ k. game_of limit total k (tokens_of (length rest) (eqb c 10) tail))) next
 
   -- ---- skipped bytes
 

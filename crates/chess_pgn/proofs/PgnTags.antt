@@ -44,11 +44,11 @@ string_written (c ∷ cs) rest all = by_test (eqb c 34 || eqb c 92) refl (string
     by_test : (b : Bool) → (eqb c 34 || eqb c 92) ≡ b → string_at (escaped cs ++ 34 ∷ rest) ≡ Some (escaped cs, rest)
         → string_at ((cond b (92 ∷ c ∷ []) (c ∷ []) ++ escaped cs) ++ 34 ∷ rest)
         ≡ Some (cond b (92 ∷ c ∷ []) (c ∷ []) ++ escaped cs, rest)
-    by_test true e behind = rw (escaped_in_line c e) (ap (onto (92 ∷ c ∷ [])) behind)
-    by_test false e behind =
+    by_test true e tail = rw (escaped_in_line c e) (ap (onto (92 ∷ c ∷ [])) tail)
+    by_test false e tail =
         let plain = or_parts (eqb c 34) (eqb c 92) e in
         string_other c (escaped cs ++ 34 ∷ rest) (not_ten c both.0) plain.0
-        ∙ rw plain.1 (ap (onto (c ∷ [])) behind)
+        ∙ rw plain.1 (ap (onto (c ∷ [])) tail)
 
 -- a text of bytes that stand for themselves
 pub bare_escaped : (text : List ℕ) → list_all is_bare text ≡ true → escaped text ≡ text
@@ -106,12 +106,12 @@ tag_written : (n : ℕ) (ns text rest : List ℕ) → list_all is_name_byte (n �
     → tag_by_parts (n ∷ (ns ++ 32 ∷ 34 ∷ (escaped text ++ 34 ∷ 93 ∷ rest)))
     ≡ (Tag (n ∷ ns) (escaped text) (length (escaped text ++ 34 ∷ 93 ∷ rest)), rest)
 tag_written n ns text rest name h =
-    let behind : List ℕ = 34 ∷ (escaped text ++ 34 ∷ 93 ∷ rest) in
-    let inner : List ℕ = n ∷ (ns ++ 32 ∷ behind) in
+    let tail : List ℕ = 34 ∷ (escaped text ++ 34 ∷ 93 ∷ rest) in
+    let inner : List ℕ = n ∷ (ns ++ 32 ∷ tail) in
     let both = and_parts (is_name_byte n) (list_all is_name_byte ns) name in
-    let run = whole_run is_name_byte (n ∷ ns) 32 behind name refl in
+    let run = whole_run is_name_byte (n ∷ ns) 32 tail name refl in
     ap (λ xs. with_tag_name (take_while is_name_byte xs) (drop (prefix_len is_name_byte xs) xs))
-    (no_gap n (ns ++ 32 ∷ behind) both.0)
+    (no_gap n (ns ++ 32 ∷ tail) both.0)
     ∙ ap (λ xs. with_tag_name xs (drop (prefix_len is_name_byte inner) inner)) run.taken
     ∙ ap (with_tag_name (n ∷ ns)) run.left
     ∙ with_name_written n ns text rest h

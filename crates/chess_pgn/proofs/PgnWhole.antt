@@ -33,7 +33,7 @@ use Rattle.chess_pgn.proofs.PgnMoves.{outcome_some, filled_long, outcome_read, r
 use Rattle.chess_pgn.proofs.PgnPieces.{read_on, TakesLine, empty_line, tagged, ended_game, plain_tag, termination_tag, fen_tag}
 use Rattle.chess_pgn.proofs.PgnTags.{tag_text_in_line}
 use Rattle.chess_pgn.proofs.TagScans.{variants_are}
-use Rattle.chess_pgn.proofs.VariantTold.{told_on, tags_tell, moves_tell, outcome_in_line}
+use Rattle.chess_pgn.proofs.VariantSaid.{said_on, tags_say, moves_say, outcome_in_line}
 use Rattle.chess_pgn.proofs.Walk.{enough}
 use Rattle.chess_pgn.proofs.FenVariants.{initial_variant}
 
@@ -186,16 +186,16 @@ module _ (limit total : ℕ) where
   unfolding pgn
   text_read after_law law initial t texts s h begins rest =
       let o : Outcome = outcome_now s in
-      let told : Option Termination = Some (termination_of t.ended o) in
+      let said : Option Termination = Some (termination_of t.ended o) in
       let moves : List ℕ = filled_from [] 0 (game_tokens s) in
-      let r : GameRead = ended_game told (record { start = s.start; moves = s.moves; declared = None }) o
+      let r : GameRead = ended_game said (record { start = s.start; moves = s.moves; declared = None }) o
       (total - length (outcome_text o ++ 10 ∷ 10 ∷ rest) + length (outcome_text o)) in
       ap (read_on limit total (nothing_read s.start.variant) begins)
       (grouped (ended [] (tag_lines t s ++ [] ∷ [])) moves rest)
       ∙ tags_read law initial t texts s h.start begins (moves ++ 10 ∷ rest)
-      ∙ moves_read limit total after_law told s.start s.moves (record { few = h.limit; unended = h.unended })
+      ∙ moves_read limit total after_law said s.start s.moves (record { few = h.limit; unended = h.unended })
       (outcome_text o) (10 ∷ rest) r
-      (λ x b k. outcome_read limit total (read_so_far told s.start s.moves x) b k o (10 ∷ rest)) true s.start []
+      (λ x b k. outcome_read limit total (read_so_far said s.start s.moves x) b k o (10 ∷ rest)) true s.start []
       s.moves refl refl h.start h.line false true 0
 
 -- ---- its offset
@@ -208,12 +208,12 @@ no_mark (b ∷ before) c rest e = let some : eqb (suc (length before)) 0 ≡ fal
     rw some refl
 
 -- reading from the offset after `before` on
-read_behind : (limit : ℕ) (before text : List ℕ) (v : Variant) → after_byte_order_mark (before ++ text) (length before)
-    ≡ length before → told_on Normal (begins_line (before ++ text) (length before)) text ≡ v
+read_after : (limit : ℕ) (before text : List ℕ) (v : Variant) → after_byte_order_mark (before ++ text) (length before)
+    ≡ length before → said_on Normal (begins_line (before ++ text) (length before)) text ≡ v
     → pgn_read limit (before ++ text) (length before) ≡ read_on limit (length (before ++ text)) (nothing_read v)
     (begins_line (before ++ text) (length before)) text
 unfolding pgn_read tokens_from
-read_behind limit before text v offset told =
+read_after limit before text v offset said =
     let whole : List ℕ = before ++ text in
     let fewer : length text ≤ length whole = omega (arith, length-append before text) in
     ap (λ at. tokens_read limit (length whole) (tokens_from whole at)) offset
@@ -223,17 +223,17 @@ read_behind limit before text v offset told =
     (enough (length whole) (length text) (begins_line whole (length before)) text fewer (omega arith))
     ∙ ap (λ u. game_of limit (length whole) (nothing_read u)
     (tokens_of (length text) (begins_line whole (length before)) text))
-    (sym (variants_are (tokens_of (length text) (begins_line whole (length before)) text)) ∙ told)
+    (sym (variants_are (tokens_of (length text) (begins_line whole (length before)) text)) ∙ said)
 
 -- the variant that a game's text names
 variant_is : (tags : Tags) → AreTagTexts tags → (s : State) → IsSound s.start → (begins : Bool) (rest : List ℕ)
-    → told_on Normal begins (pgn [] tags s ++ rest) ≡ s.start.variant
+    → said_on Normal begins (pgn [] tags s ++ rest) ≡ s.start.variant
 unfolding pgn
 variant_is t texts s sound begins rest =
     let moves : List ℕ = filled_from [] 0 (game_tokens s) in
-    ap (told_on Normal begins) (grouped (ended [] (tag_lines t s ++ [] ∷ [])) moves rest)
-    ∙ tags_tell t texts s sound begins (moves ++ 10 ∷ rest)
-    ∙ moves_tell s.start.variant s rest sound
+    ap (said_on Normal begins) (grouped (ended [] (tag_lines t s ++ [] ∷ [])) moves rest)
+    ∙ tags_say t texts s sound begins (moves ++ 10 ∷ rest)
+    ∙ moves_say s.start.variant s rest sound
 
 first_bytes : (tags : Tags) (s : State) → pgn [] tags s ≡ 91 ∷ drop 1 (pgn [] tags s)
 unfolding pgn
@@ -279,7 +279,7 @@ pgn_law after_law law initial limit tags s before rest texts h =
     (record { start = s.start; moves = s.moves; declared = None }) (outcome_now s)
     (total - length (o ++ 10 ∷ 10 ∷ rest) + length o) =
     ap (λ text. pgn_read limit text (length before)) (append_assoc before written rest)
-    ∙ read_behind limit before (written ++ rest) s.start.variant offset
+    ∙ read_after limit before (written ++ rest) s.start.variant offset
     (variant_is tags texts s h.start (begins_line (before ++ (written ++ rest)) (length before)) rest)
     ∙ text_read limit total after_law law initial tags texts s h
     (begins_line (before ++ (written ++ rest)) (length before)) rest in
@@ -289,7 +289,7 @@ pgn_law after_law law initial limit tags s before rest texts h =
       outcome = same_outcome (verdict_now s) s.declared;
       offset = total - length (o ++ 10 ∷ 10 ∷ rest) + length o;
       answer = refl;
-      behind = omega (
+      two_before_end = omega (
         arith,
         length-append before (written ++ rest),
         length-append written rest,

@@ -16,11 +16,11 @@ use Rattle.std.specs.Str.Parse.{AllDigits}
 use Rattle.chess_game.specs.Results.{outcome_text}
 use Rattle.chess_game.specs.declared.results.Outcome.{Outcome}
 use Rattle.chess_game.specs.declared.results.Outcome.TheVariants.{WhiteWins, BlackWins, Draw, Unfinished}
-use Rattle.chess_pgn.specs.declared.word.WordKind.{WordKind}
-use Rattle.chess_pgn.specs.declared.word.WordKind.TheVariants.{End, Number, Marks, Move}
+use Rattle.chess_pgn.specs.declared.word_kind.WordKind.{WordKind}
+use Rattle.chess_pgn.specs.declared.word_kind.WordKind.TheVariants.{End, Number, Marks, Move}
 use Rattle.chess_text.specs.laws.Laws.{is_san_byte, begins_with_letter}
 use Rattle.chess_pgn.specs.Tokens.{Word, is_word_byte, token_at, begins_line}
-use Rattle.chess_pgn.specs.ties.Begins.{begins_from_a}
+use Rattle.chess_pgn.specs.ties.Begins.{begins_as_move}
 use Rattle.chess_base.specs.Letters.{is_digit, is_letter}
 use Rattle.chess_pgn.specs.Words.{outcome_of, word_kind}
 use Rattle.chess_pgn.proofs.Walk.{NextToken, next_token}
@@ -103,13 +103,13 @@ word_first begins [] some h = absurd (omega (arith, some))
 word_first begins (c ∷ rest) some h =
     sym (ap (token_at begins c) (take_rest (c ∷ rest) 1) ∙ begins_word begins c rest h)
 
-pub next_word : (text : List ℕ) (at : ℕ) (xs word behind : List ℕ) → at ≤ length text
+pub next_word : (text : List ℕ) (at : ℕ) (xs word tail : List ℕ) → at ≤ length text
     → xs ≡ take (length text - at) (drop at text) → 1 ≤ length xs → is_word_byte (get_or xs 0 0) ≡ true
-    → word ≡ take_while is_word_byte xs → behind ≡ drop (prefix_len is_word_byte xs) xs
-    → NextToken text at (Word word) behind
-next_word text at xs word behind h is some first taken left =
-    next_token text at (begins_line text at) xs h refl is some (Word word) behind
-    (ap (λ w. (Word w, behind)) taken ∙ ap (λ r. (Word (take_while is_word_byte xs), r)) left
+    → word ≡ take_while is_word_byte xs → tail ≡ drop (prefix_len is_word_byte xs) xs
+    → NextToken text at (Word word) tail
+next_word text at xs word tail h is some first taken left =
+    next_token text at (begins_line text at) xs h refl is some (Word word) tail
+    (ap (λ w. (Word w, tail)) taken ∙ ap (λ r. (Word (take_while is_word_byte xs), r)) left
     ∙ word_first (begins_line text at) xs some first)
 
 -- what passes at a text's front begins with its first byte
@@ -123,12 +123,12 @@ run_first p (c ∷ xs) some = by_test (p c) refl
     by_test false e = absurd (omega (arith, rw e at some))
 
 -- a word that is no empty one is the next token
-pub some_word : (text : List ℕ) (at : ℕ) (xs word behind : List ℕ) → at ≤ length text
+pub some_word : (text : List ℕ) (at : ℕ) (xs word tail : List ℕ) → at ≤ length text
     → xs ≡ take (length text - at) (drop at text) → word ≡ take_while is_word_byte xs
-    → behind ≡ drop (prefix_len is_word_byte xs) xs → 0 < length word → NextToken text at (Word word) behind
-some_word text at xs word behind h is taken left some =
+    → tail ≡ drop (prefix_len is_word_byte xs) xs → 0 < length word → NextToken text at (Word word) tail
+some_word text at xs word tail h is taken left some =
     let first = run_first is_word_byte xs (subst (λ w. 0 < length w) taken some) in
-    next_word text at xs word behind h is first.0 first.1 taken left
+    next_word text at xs word tail h is first.0 first.1 taken left
 
 pub word_token : (begins : Bool) (c : ℕ) (cs : List ℕ) (d : ℕ) (rest : List ℕ) → list_all is_word_byte (c ∷ cs) ≡ true
     → is_word_byte d ≡ false → token_at begins c (cs ++ d ∷ rest) ≡ (Word (c ∷ cs), d ∷ rest)
@@ -223,21 +223,21 @@ move_kind (c ∷ cs) h =
 
 -- ---- words that begin with `A` or a byte after it
 
-from_a_no_outcome : (o : Outcome) → begins_from_a (outcome_text o) ≡ false
+from_a_no_outcome : (o : Outcome) → begins_as_move (outcome_text o) ≡ false
 from_a_no_outcome WhiteWins = refl
 from_a_no_outcome BlackWins = refl
 from_a_no_outcome Draw = refl
 from_a_no_outcome Unfinished = refl
 
-pub from_a_kind : (word : List ℕ) → begins_from_a word ≡ true → word_kind word ≡ Move
-from_a_kind [] h = absurd (cc)
-from_a_kind (c ∷ cs) h =
+pub begins_as_move_kind : (word : List ℕ) → begins_as_move word ≡ true → word_kind word ≡ Move
+begins_as_move_kind [] h = absurd (cc)
+begins_as_move_kind (c ∷ cs) h =
     let first : 65 ≤ c = grind (arith, nat_tests) in
     let digit : nat_le c 57 ≡ false = grind (arith, nat_tests) in
     let stroke : eqb c 33 ≡ false = grind (arith, nat_tests) in
     let query : eqb c 63 ≡ false = grind (arith, nat_tests) in
     let low : nat_le 48 c ≡ true = grind (arith, nat_tests) in
-    ap (kind_by (c ∷ cs)) (no_outcome begins_from_a (c ∷ cs) from_a_no_outcome h) ∙ rw (low, digit, stroke, query) refl
+    ap (kind_by (c ∷ cs)) (no_outcome begins_as_move (c ∷ cs) from_a_no_outcome h) ∙ rw (low, digit, stroke, query) refl
 
 -- digits alone are no outcome
 pub digits_no_outcome : (word : List ℕ) → list_all is_digit word ≡ true → outcome_of word ≡ None
@@ -272,8 +272,8 @@ digit_in_word c h = by_letter (is_letter c) (is_digit c) h
   where
     by_letter : (a b : Bool) → b ≡ true
         → ((a || (b || eqb c 95))
-        || (eqb c 43 || (eqb c 35 || (eqb c 61 || (eqb c 45 || (eqb c 47 || (eqb c 33 || (eqb c 63 || (eqb c 58 || false)))))))))
-        ≡ true
+        || (eqb c 43 || (eqb c 35
+        || (eqb c 61 || (eqb c 45 || (eqb c 47 || (eqb c 33 || (eqb c 63 || (eqb c 58 || false))))))))) ≡ true
     by_letter true b e = refl
     by_letter false true e = refl
     by_letter false false e = cc

@@ -10,7 +10,7 @@ use lib.Count.{count_trailing_zeros}
 use lib.Lanes.{mask_l, top}
 use Rattle.chess_pgn.specs.Tokens.{onto, string_at}
 use Rattle.chess_pgn.specs.ties.TagParts.{ends_plain}
-use Rattle.chess_pgn.proofs.Strings.{string_behind, onto-nil, onto-append, string_other}
+use Rattle.chess_pgn.proofs.Strings.{string_after, onto-nil, onto-append, string_other}
 
 abbrev plain_len : List ℕ → ℕ
 plain_len xs = position_or_len ends_plain xs
@@ -20,7 +20,7 @@ plain_more : (c : ℕ) (rest : List ℕ) → ends_plain c ≡ false → string_a
 plain_more c rest e =
     let quote = or_parts (eqb c 34) (eqb c 92 || eqb c 10) e in
     let others = or_parts (eqb c 92) (eqb c 10) quote.1 in
-    string_other c rest others.1 quote.0 ∙ ap (λ kept. onto (c ∷ []) (string_behind kept rest)) others.0
+    string_other c rest others.1 quote.0 ∙ ap (λ kept. onto (c ∷ []) (string_after kept rest)) others.0
 
 -- with the plain bytes before the first other of the first n bytes put before what the rest gives
 skip : (n : ℕ) (text : List ℕ) → onto (take (plain_len (take n text)) text)
@@ -54,7 +54,7 @@ skipped n offset len text is so =
     ap (λ k. onto (take k rest) (string_at (drop k rest))) is ∙ skip n rest in
     ap (λ front. onto front (string_at (drop (offset + len) text))) (take-add offset len text)
     ∙ onto-append (take offset text) (take len rest) (string_at (drop (offset + len) text))
-    ∙ ap (λ behind. onto (take offset text) (onto (take len rest) (string_at behind))) (sym (drop-drop len offset text))
+    ∙ ap (λ tail. onto (take offset text) (onto (take len rest) (string_at tail))) (sym (drop-drop len offset text))
     ∙ ap (onto (take offset text)) on ∙ so
 
 pub few_plain : (n r : ℕ) (xs : List ℕ) → r ≡ plain_len xs → length xs ≡ n → r ≤ n

@@ -55,12 +55,12 @@ short_moves : AfterIsSound → SanIsShort → (is_first : Bool) (p : Setup) (ms 
     → IsSound p → IsLine p ms → AreShort ts → AreShort (move_tokens is_first p ms ++ ts)
 short_moves law words is_first p [] ts sound line rest = rest
 short_moves law words is_first p (m ∷ ms) ts sound line rest =
-    let behind = short_moves law words false (after p m) ms ts (law p m sound line.0) line.1 rest in
+    let tail = short_moves law words false (after p m) ms ts (law p m sound line.0) line.1 rest in
     let short = words p m sound line.0 in
     let tokens : move_tokens is_first p (m ∷ ms) ++ ts ≡ number_token p.side is_first p.fullmove
     ++ san p m ∷ (move_tokens false (after p m) ms ++ ts) = simp append_assoc in
     rw tokens (short_number p.side is_first p.fullmove _ (leb-true _ _ sound.fullmove_high)
-    ((omega (arith, short.0), omega (arith, short.1)), behind))
+    ((omega (arith, short.0), omega (arith, short.1)), tail))
 
 pub game_is_filled : AfterIsSound → SanIsShort → (prefix : List ℕ) (limit : ℕ) (s : State)
     → IsPlayable (record { limit = limit; state = s })

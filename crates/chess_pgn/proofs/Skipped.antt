@@ -54,12 +54,12 @@ gap_blank_more begins (c ∷ rest) next h e is =
     gap_blank true c rest line blank = rw (line, blank) refl
     gap_blank false c rest line blank = rw blank refl
 
--- from the first closing brace of the first n bytes on, or behind all n
-pub near_brace : (n : ℕ) (text : List ℕ)
+-- from the first closing brace of the first n bytes on, or after all n
+pub skip_before_brace : (n : ℕ) (text : List ℕ)
     → after_brace (drop (position_or_len (λ c. c == 125) (take n text)) text) ≡ after_brace text
-near_brace zero text = refl
-near_brace (suc n) [] = refl
-near_brace (suc n) (c ∷ rest) = by_test (eqb c 125) refl (near_brace n rest)
+skip_before_brace zero text = refl
+skip_before_brace (suc n) [] = refl
+skip_before_brace (suc n) (c ∷ rest) = by_test (eqb c 125) refl (skip_before_brace n rest)
   where
     before : List ℕ → ℕ
     before xs = position_or_len (λ b. b == 125) xs
@@ -76,7 +76,7 @@ near_brace (suc n) (c ∷ rest) = by_test (eqb c 125) refl (near_brace n rest)
 -- the rest of a text from there on
 pub from_brace : (xs rest : List ℕ) (r : ℕ) → r ≡ position_or_len (λ c. c == 125) (take 32 xs) → rest ≡ drop r xs
     → (after : Option (List ℕ)) → after_brace xs ≡ after → after_brace rest ≡ after
-from_brace xs rest r is cut after so = ap after_brace (cut ∙ ap (λ k. drop k xs) is) ∙ near_brace 32 xs ∙ so
+from_brace xs rest r is cut after so = ap after_brace (cut ∙ ap (λ k. drop k xs) is) ∙ skip_before_brace 32 xs ∙ so
 
 pub few_before : (xs : List ℕ) (r : ℕ) → r ≡ position_or_len (λ c. c == 125) xs → length xs ≡ 32 → r ≤ 32
 few_before xs r is long =
@@ -92,4 +92,5 @@ no_brace xs mask is long none =
 pub some_brace : (xs : List ℕ) (mask : ℕ) → mask ≡ mask_l (map (λ x. eqb x 125) xs) → length xs ≡ 32 → mask ≢ 0
     → count_trailing_zeros 64 mask ≡ position_or_len (λ c. c == 125) xs
 some_brace xs mask is long some =
-    ap (λ m. count_trailing_zeros 64 m) is ∙ trailing_mask_l (λ x. eqb x 125) 64 xs (omega (arith, long)) (omega (arith, is, some))
+    ap (λ m. count_trailing_zeros 64 m) is ∙ trailing_mask_l (λ x. eqb x 125) 64 xs (omega (arith, long))
+    (omega (arith, is, some))

@@ -70,9 +70,9 @@ variant_on : (v : Variant) (lefts : List ℕ) (ts : List (ℕ × Token))
 variant_on v [] ts = refl
 variant_on v (left ∷ lefts) ts = variant_on v lefts ts
 
-pub skips_tell : (text : List ℕ) (a b : ℕ) → SkipsTo text a b → (v : Variant)
+pub skips_say : (text : List ℕ) (a b : ℕ) → SkipsTo text a b → (v : Variant)
     → variant_from v (tokens_from text a) ≡ variant_from v (tokens_from text b)
-skips_tell text a b so v = ap (variant_from v) so.1 ∙ variant_on v so.0 (tokens_from text b)
+skips_say text a b so v = ap (variant_from v) so.1 ∙ variant_on v so.0 (tokens_from text b)
 
 last_on : (name : List ℕ) (before : Option (List ℕ × ℕ)) (lefts : List ℕ) (ts : List (ℕ × Token))
     → last_from name before (skipped lefts ++ ts) ≡ last_from name before ts

@@ -37,7 +37,8 @@ by_string name None = refl
 by_string name (Some string) = by_text name (length string) (string_at string)
 
 by_name : (name rest : List ℕ)
-    → or_bad (option_and_then after_name (cond (eqb (length name) 0) None (Some (name, rest)))) ≡ with_tag_name name rest
+    → or_bad (option_and_then after_name (cond (eqb (length name) 0) None (Some (name, rest))))
+    ≡ with_tag_name name rest
 by_name [] rest = refl
 by_name (n ∷ ns) rest =
     let some : eqb (length (n ∷ ns)) 0 ≡ false = grind (arith, nat_tests) in

@@ -42,19 +42,19 @@ abbrev pub variant_or : Variant → Option (List ℕ × ℕ) → Variant
 variant_or v tag = option_map_or (λ t. variant_named t.0) tag v
 
 -- the variant after one more token: what a tag Variant names, else `v`, the variant so far
-abbrev pub variant_told : Variant → Token → Variant
-variant_told v t = variant_or v (named_tag (codes "Variant") t)
+abbrev pub variant_said : Variant → Token → Variant
+variant_said v t = variant_or v (named_tag (codes "Variant") t)
 
 -- the variant that the last tag Variant of these tokens names, as far as they can be the game's tags; `v`, the variant
 -- so far, if there is none
 abbrev pub variant_from : Variant → List (ℕ × Token) → Variant
 variant_from v [] = v
-variant_from v (t ∷ ts) = if may_precede_tags t.1 then variant_from (variant_told v t.1) ts else v
+variant_from v (t ∷ ts) = if may_precede_tags t.1 then variant_from (variant_said v t.1) ts else v
 
-told_or : (found before : Option (List ℕ × ℕ))
+said_or : (found before : Option (List ℕ × ℕ))
     → variant_or (variant_or Normal before) found ≡ variant_or Normal (option_or found before)
-told_or None before = refl
-told_or (Some tag) before = refl
+said_or None before = refl
+said_or (Some tag) before = refl
 
 variant_from_is : (before : Option (List ℕ × ℕ)) (ts : List (ℕ × Token))
     → variant_from (variant_or Normal before) ts ≡ variant_or Normal (last_from (codes "Variant") before ts)
@@ -65,11 +65,11 @@ variant_from_is before (t ∷ ts) =
   where
     by_test : (b : Bool) → variant_from (variant_or Normal (option_or (named_tag (codes "Variant") t.1) before)) ts
         ≡ variant_or Normal (last_from (codes "Variant") (option_or (named_tag (codes "Variant") t.1) before) ts)
-        → cond b (variant_from (variant_told (variant_or Normal before) t.1) ts) (variant_or Normal before)
+        → cond b (variant_from (variant_said (variant_or Normal before) t.1) ts) (variant_or Normal before)
         ≡ variant_or Normal
         (cond b (last_from (codes "Variant") (option_or (named_tag (codes "Variant") t.1) before) ts) before)
     by_test true later =
-        ap (λ v. variant_from v ts) (told_or (named_tag (codes "Variant") t.1) before) ∙ later
+        ap (λ v. variant_from v ts) (said_or (named_tag (codes "Variant") t.1) before) ∙ later
     by_test false later = refl
 
 pub variants_are : (ts : List (ℕ × Token)) → variant_from Normal ts ≡ tagged_variant ts

@@ -51,22 +51,22 @@ in_brace left begins depth (c ∷ rest) = by_test (eqb c 125) refl (in_brace lef
     by_test false e more = more
 
 -- a part, and how many variations are open after it
-abbrev pub behind : ℕ → Bool → Option (List ℕ) → Option ℕ → Token × List ℕ
-behind left begins None inner = (Unclosed_comment left, [])
-behind left begins (Some rest) None = (Skip, rest)
-behind left begins (Some rest) (Some depth) = variation_at None begins (suc depth) rest
+abbrev pub part_then : ℕ → Bool → Option (List ℕ) → Option ℕ → Token × List ℕ
+part_then left begins None inner = (Unclosed_comment left, [])
+part_then left begins (Some rest) None = (Skip, rest)
+part_then left begins (Some rest) (Some depth) = variation_at None begins (suc depth) rest
 
-by_brace : (left depth : ℕ) (o : Option (List ℕ)) → unless_open left depth o ≡ behind left false o (Some depth)
+by_brace : (left depth : ℕ) (o : Option (List ℕ)) → unless_open left depth o ≡ part_then left false o (Some depth)
 by_brace left depth None = refl
 by_brace left depth (Some rest) = refl
 
-by_close : (left depth : ℕ) (rest : List ℕ) → variation_at None false depth rest ≡ behind left false (Some rest)
+by_close : (left depth : ℕ) (rest : List ℕ) → variation_at None false depth rest ≡ part_then left false (Some rest)
     (one_fewer depth)
 by_close left zero rest = refl
 by_close left (suc depth) rest = refl
 
 abbrev IsPart : Bool → ℕ → ℕ → List ℕ → Type 0
-IsPart begins depth c rest = variation_at None begins (suc depth) (c ∷ rest) ≡ behind (suc (length rest)) (eqb c 10)
+IsPart begins depth c rest = variation_at None begins (suc depth) (c ∷ rest) ≡ part_then (suc (length rest)) (eqb c 10)
     (after_part begins c rest) (depth_after depth c)
 
 -- a byte that begins a line which is skipped is no other
@@ -78,7 +78,7 @@ line_byte begins c k h a b = elim (or_cases (begins && eqb c 37) (eqb c 59) h) [
 ]
 
 pub by_part : (begins : Bool) (depth c : ℕ) (rest : List ℕ) → variation_at None begins (suc depth) (c ∷ rest)
-    ≡ behind (suc (length rest)) (eqb c 10) (after_part begins c rest) (depth_after depth c)
+    ≡ part_then (suc (length rest)) (eqb c 10) (after_part begins c rest) (depth_after depth c)
 by_part begins depth c rest = by_line (begins && eqb c 37 || eqb c 59) refl
   where
     by_closing : (t : Bool) → eqb c 41 ≡ t → (begins && eqb c 37 || eqb c 59) ≡ false → eqb c 123 ≡ false
@@ -113,12 +113,12 @@ by_part begins depth c rest = by_line (begins && eqb c 37 || eqb c 59) refl
 
 -- with its text as code meets it
 part_first : (begins : Bool) (depth : ℕ) (xs : List ℕ) → 1 ≤ length xs → variation_at None begins (suc depth) xs
-    ≡ behind (length xs) (eqb (get_or xs 0 0) 10)
+    ≡ part_then (length xs) (eqb (get_or xs 0 0) 10)
     (after_part begins (get_or xs 0 0) (take (length xs - 1) (drop 1 xs))) (depth_after depth (get_or xs 0 0))
 part_first begins depth [] h = absurd (omega (arith, h))
 part_first begins depth (c ∷ rest) h =
     by_part begins depth c rest
-    ∙ ap (λ text. behind (suc (length rest)) (eqb c 10) (after_part begins c text) (depth_after depth c))
+    ∙ ap (λ text. part_then (suc (length rest)) (eqb c 10) (after_part begins c text) (depth_after depth c))
     (sym (take_rest (c ∷ rest) 1))
 
 -- a comment in it has no end
@@ -127,17 +127,17 @@ pub part_unclosed : (begins : Bool) (depth : ℕ) (xs : List ℕ) → 1 ≤ leng
     → variation_at None begins (suc depth) xs ≡ (Unclosed_comment (length xs), [])
 part_unclosed begins depth xs h part =
     part_first begins depth xs h
-    ∙ ap (λ o. behind (length xs) (eqb (get_or xs 0 0) 10) o (depth_after depth (get_or xs 0 0))) (sym part)
+    ∙ ap (λ o. part_then (length xs) (eqb (get_or xs 0 0) 10) o (depth_after depth (get_or xs 0 0))) (sym part)
 
 -- a part, after which the outermost variation is closed, or still open
-pub part_behind : (begins : Bool) (depth : ℕ) (xs rest : List ℕ) (inner : Option ℕ) → 1 ≤ length xs
+pub part_is : (begins : Bool) (depth : ℕ) (xs rest : List ℕ) (inner : Option ℕ) → 1 ≤ length xs
     → Some rest ≡ after_part begins (get_or xs 0 0) (take (length xs - 1) (drop 1 xs))
-    → inner ≡ depth_after depth (get_or xs 0 0) → variation_at None begins (suc depth) xs ≡ behind (length xs)
+    → inner ≡ depth_after depth (get_or xs 0 0) → variation_at None begins (suc depth) xs ≡ part_then (length xs)
     (eqb (get_or xs 0 0) 10) (Some rest) inner
-part_behind begins depth xs rest inner h part is =
+part_is begins depth xs rest inner h part is =
     part_first begins depth xs h
-    ∙ ap (λ o. behind (length xs) (eqb (get_or xs 0 0) 10) o (depth_after depth (get_or xs 0 0))) (sym part)
-    ∙ ap (behind (length xs) (eqb (get_or xs 0 0) 10) (Some rest)) (sym is)
+    ∙ ap (λ o. part_then (length xs) (eqb (get_or xs 0 0) 10) o (depth_after depth (get_or xs 0 0))) (sym part)
+    ∙ ap (part_then (length xs) (eqb (get_or xs 0 0) 10) (Some rest)) (sym is)
 
 -- a byte opens at most one
 pub depth_few : (depth c inner : ℕ) → Some inner ≡ depth_after depth c → inner ≤ depth + 1

@@ -7,14 +7,14 @@ use Rattle.chess_pgn.proofs.Cuts.{Left, token_left, token_ten}
 
 -- what follows a token: nothing, or a rest before which is a byte that is 10 exactly where the token's first
 -- is
-record Behind (c : ℕ) (rest behind : List ℕ) : Type 0 where
+record Tail (c : ℕ) (rest tail : List ℕ) : Type 0 where
   front : List ℕ
   last : ℕ
-  is : c ∷ rest ≡ front ++ last ∷ behind
+  is : c ∷ rest ≡ front ++ last ∷ tail
   ends : eqb last 10 ≡ eqb c 10
 
 abbrev Rest : ℕ → List ℕ → List ℕ → Type 0
-Rest c rest behind = (behind ≡ []) ⊎ Behind c rest behind
+Rest c rest tail = (tail ≡ []) ⊎ Tail c rest tail
 
 token_rest : (begins : Bool) (c : ℕ) (rest : List ℕ) → Rest c rest (token_at begins c rest).1
 token_rest begins c rest = by_test (eqb c 10) refl
@@ -69,51 +69,51 @@ no_token text at h = by_rest (drop at text) h
     by_rest (c ∷ rest) k = absurd (omega (arith, k))
 
 -- the offset after a byte: how a line begins there, and what is from there on
-at_cut : (before behind : List ℕ) (last : ℕ)
-    → (drop (length (before ++ last ∷ behind) - length behind) (before ++ last ∷ behind) ≡ behind)
-    × (begins_line (before ++ last ∷ behind) (length (before ++ last ∷ behind) - length behind) ≡ eqb last 10)
-at_cut before behind last = (ap (λ n. drop n text) offset ∙ rest, ap (begins_line text) offset ∙ line)
+at_cut : (before tail : List ℕ) (last : ℕ)
+    → (drop (length (before ++ last ∷ tail) - length tail) (before ++ last ∷ tail) ≡ tail)
+    × (begins_line (before ++ last ∷ tail) (length (before ++ last ∷ tail) - length tail) ≡ eqb last 10)
+at_cut before tail last = (ap (λ n. drop n text) offset ∙ rest, ap (begins_line text) offset ∙ line)
   where
     text : List ℕ
-    text = before ++ last ∷ behind
+    text = before ++ last ∷ tail
 
-    offset : length (before ++ last ∷ behind) - length behind ≡ suc (length before)
-    offset = omega (arith, length-append before (last ∷ behind))
+    offset : length (before ++ last ∷ tail) - length tail ≡ suc (length before)
+    offset = omega (arith, length-append before (last ∷ tail))
 
-    rest : drop (suc (length before)) (before ++ last ∷ behind) ≡ behind
+    rest : drop (suc (length before)) (before ++ last ∷ tail) ≡ tail
     rest =
-        ap (drop (suc (length before))) (sym (append_assoc before (last ∷ []) behind))
-        ∙ drop_at (before ++ last ∷ []) behind (suc (length before)) (omega (arith, length-append before (last ∷ [])))
+        ap (drop (suc (length before))) (sym (append_assoc before (last ∷ []) tail))
+        ∙ drop_at (before ++ last ∷ []) tail (suc (length before)) (omega (arith, length-append before (last ∷ [])))
 
-    line : begins_line (before ++ last ∷ behind) (suc (length before)) ≡ eqb last 10
+    line : begins_line (before ++ last ∷ tail) (suc (length before)) ≡ eqb last 10
     line =
         let first : eqb (suc (length before)) 0 ≡ false = grind (arith, nat_tests) in
-        let there : get_or (before ++ last ∷ behind) (suc (length before) - 1) 0 ≡ last =
-        get_or_at before last behind 0 (suc (length before) - 1) (omega arith) in
+        let there : get_or (before ++ last ∷ tail) (suc (length before) - 1) 0 ≡ last =
+        get_or_at before last tail 0 (suc (length before) - 1) (omega arith) in
         rw (first, there) refl
 
 IsPlace : List ℕ → ℕ → List ℕ → Type 0
-IsPlace behind last text = (drop (length text - length behind) text ≡ behind)
-    × (begins_line text (length text - length behind) ≡ eqb last 10)
+IsPlace tail last text = (drop (length text - length tail) text ≡ tail)
+    × (begins_line text (length text - length tail) ≡ eqb last 10)
 
 -- the tokens after one that begins with c
-tokens_behind : (text : List ℕ) (at c : ℕ) (rest behind : List ℕ) → drop at text ≡ c ∷ rest → Rest c rest behind
-    → tokens_of (length rest) (eqb c 10) behind ≡ tokens_from text (length text - length behind)
+tokens_after : (text : List ℕ) (at c : ℕ) (rest tail : List ℕ) → drop at text ≡ c ∷ rest → Rest c rest tail
+    → tokens_of (length rest) (eqb c 10) tail ≡ tokens_from text (length text - length tail)
 unfolding tokens_from IsPlace
-tokens_behind text at c rest behind is (inl e) =
+tokens_after text at c rest tail is (inl e) =
     ap (tokens_of (length rest) (eqb c 10)) e ∙ none_left (length rest) (eqb c 10)
-    ∙ sym (no_token text (length text - length behind)
-    (omega (arith, ap length e, length-drop (length text - length behind) text)))
-tokens_behind text at c rest behind is (inr k) =
+    ∙ sym (no_token text (length text - length tail)
+    (omega (arith, ap length e, length-drop (length text - length tail) text)))
+tokens_after text at c rest tail is (inr k) =
     let before : List ℕ = take at text ++ k.front in
-    let whole : text ≡ before ++ k.last ∷ behind = sym (take-append-drop at text)
-    ∙ ap (λ xs. take at text ++ xs) (is ∙ k.is) ∙ sym (append_assoc (take at text) k.front (k.last ∷ behind)) in
-    let offset : IsPlace behind k.last text = subst (IsPlace behind k.last) (sym whole) (at_cut before behind k.last) in
-    let few : length behind ≤ length rest = omega (arith, simp length-append at (ap length k.is)) in
-    let fewer : length behind ≤ length text = omega (arith, simp length-append at (ap length whole)) in
-    enough (length rest) (length text) (eqb c 10) behind few fewer
-    ∙ ap (λ b. tokens_of (length text) b behind) (sym (offset.1 ∙ k.ends))
-    ∙ ap (tokens_of (length text) (begins_line text (length text - length behind))) (sym offset.0)
+    let whole : text ≡ before ++ k.last ∷ tail = sym (take-append-drop at text)
+    ∙ ap (λ xs. take at text ++ xs) (is ∙ k.is) ∙ sym (append_assoc (take at text) k.front (k.last ∷ tail)) in
+    let offset : IsPlace tail k.last text = subst (IsPlace tail k.last) (sym whole) (at_cut before tail k.last) in
+    let few : length tail ≤ length rest = omega (arith, simp length-append at (ap length k.is)) in
+    let fewer : length tail ≤ length text = omega (arith, simp length-append at (ap length whole)) in
+    enough (length rest) (length text) (eqb c 10) tail few fewer
+    ∙ ap (λ b. tokens_of (length text) b tail) (sym (offset.1 ∙ k.ends))
+    ∙ ap (tokens_of (length text) (begins_line text (length text - length tail))) (sym offset.0)
 
 -- one token more, with its text as code meets it
 pub token_more : (text : List ℕ) (at c : ℕ) (rest : List ℕ) → drop at text ≡ c ∷ rest → at ≤ length text
@@ -128,7 +128,7 @@ token_more text at c rest is h =
     ∙ enough (length text) (suc (length rest)) (begins_line text at) (c ∷ rest) all (omega arith)
     ∙ ap (λ n. (n, t.0) ∷ tokens_of (length rest) (eqb c 10) t.1) left
     ∙ ap (λ tokens. (length text - at, t.0) ∷ tokens)
-    (tokens_behind text at c rest t.1 is (token_rest (begins_line text at) c rest))
+    (tokens_after text at c rest t.1 is (token_rest (begins_line text at) c rest))
 
 pub token_nearer : (text : List ℕ) (at c : ℕ) (rest : List ℕ) → drop at text ≡ c ∷ rest → at ≤ length text
     → at < length text - length (token_at (begins_line text at) c rest).1
@@ -137,21 +137,21 @@ token_nearer text at c rest is h =
 
 -- ---- as code meets it
 
-pub record NextToken (text : List ℕ) (at : ℕ) (token : Token) (behind : List ℕ) : Type 0 where
-  pub tokens : tokens_from text at ≡ (length text - at, token) ∷ tokens_from text (length text - length behind)
-  pub nearer : at < length text - length behind
-  pub fewer : length behind ≤ length text
+pub record NextToken (text : List ℕ) (at : ℕ) (token : Token) (tail : List ℕ) : Type 0 where
+  pub tokens : tokens_from text at ≡ (length text - at, token) ∷ tokens_from text (length text - length tail)
+  pub nearer : at < length text - length tail
+  pub fewer : length tail ≤ length text
 
 pub next_token : (text : List ℕ) (at : ℕ) (begins : Bool) (xs : List ℕ) → at ≤ length text
     → begins ≡ begins_line text at → xs ≡ take (length text - at) (drop at text) → 1 ≤ length xs
-    → (token : Token) (behind : List ℕ)
-    → (token, behind) ≡ token_at begins (get_or xs 0 0) (take (length xs - 1) (drop 1 xs))
-    → NextToken text at token behind
-next_token text at begins [] h line is some token behind e = absurd (omega (arith, some))
-next_token text at begins (c ∷ rest) h line is some token behind e =
+    → (token : Token) (tail : List ℕ)
+    → (token, tail) ≡ token_at begins (get_or xs 0 0) (take (length xs - 1) (drop 1 xs))
+    → NextToken text at token tail
+next_token text at begins [] h line is some token tail e = absurd (omega (arith, some))
+next_token text at begins (c ∷ rest) h line is some token tail e =
     let left : drop at text ≡ c ∷ rest = sym (is ∙ take_rest text at) in
     let t : Token × List ℕ = token_at (begins_line text at) c rest in
-    let same : t ≡ (token, behind) = ap (token_at (begins_line text at) c) (sym (take_rest (c ∷ rest) 1))
+    let same : t ≡ (token, tail) = ap (token_at (begins_line text at) c) (sym (take_rest (c ∷ rest) 1))
     ∙ ap (λ b. token_at b c (take (suc (length rest) - 1) (drop 1 (c ∷ rest)))) (sym line) ∙ sym e in
     record {
       tokens = subst (λ (p : Token × List ℕ). tokens_from text at ≡ (length text - at, p.0) ∷ tokens_from text

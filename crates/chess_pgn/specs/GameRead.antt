@@ -21,8 +21,8 @@ use Rattle.chess_pgn.specs.declared.read.PgnEnd.{PgnEnd}
 use Rattle.chess_pgn.specs.declared.read.PgnFault.{PgnFault}
 use Rattle.chess_pgn.specs.declared.read.PgnFaultKind.{PgnFaultKind}
 use Rattle.chess_pgn.specs.declared.read.PgnFaultKind.TheVariants.{BadTag, BadFen, BadToken, IllegalMove, AmbiguousMove, AfterEnd, TooLong, UnclosedComment, UnclosedVariation, NoResult}
-use Rattle.chess_pgn.specs.declared.word.WordKind.{WordKind}
-use Rattle.chess_pgn.specs.declared.word.WordKind.TheVariants.{End, Number, Marks, Move}
+use Rattle.chess_pgn.specs.declared.word_kind.WordKind.{WordKind}
+use Rattle.chess_pgn.specs.declared.word_kind.WordKind.TheVariants.{End, Number, Marks, Move}
 use Rattle.chess_pgn.specs.declared.termination.Termination.{Termination}
 use Rattle.chess_text.specs.Moves.{reading}
 use Rattle.chess_pgn.specs.LastTags.{last_tag}
@@ -118,16 +118,16 @@ tag_step g name text offset =
 -- ---- tokens, in a text of so many bytes; each with how many bytes are left where it begins
 
 -- what follows from one token for the game so far (`g`). `limit` is the most half-moves of a game, `total` the text's
--- length, and `left` how many bytes are left from the token on, so that its offset is `total - left`
+-- length, and `to_end` how many bytes are left from the token on, so that its offset is `total - to_end`
 abbrev pub step : ℕ → ℕ → SoFar → ℕ → Token → Step
-step limit total g left Skip = On g
-step limit total g left (Tag name text string) =
-    if g.is_begun then fails g NoResult (total - left) else tag_step g name text (total - string)
-step limit total g left (Word word) = word_step limit g (total - left) word (word_kind word)
-step limit total g left Bad_tag = fails g (if g.is_begun then NoResult else BadTag) (total - left)
-step limit total g left (Unclosed_comment brace) = fails g UnclosedComment (total - brace)
-step limit total g left Unclosed_variation = fails g UnclosedVariation (total - left)
-step limit total g left Bad = fails g BadToken (total - left)
+step limit total g to_end Skip = On g
+step limit total g to_end (Tag name text string) =
+    if g.is_begun then fails g NoResult (total - to_end) else tag_step g name text (total - string)
+step limit total g to_end (Word word) = word_step limit g (total - to_end) word (word_kind word)
+step limit total g to_end Bad_tag = fails g (if g.is_begun then NoResult else BadTag) (total - to_end)
+step limit total g to_end (Unclosed_comment brace) = fails g UnclosedComment (total - brace)
+step limit total g to_end Unclosed_variation = fails g UnclosedVariation (total - to_end)
+step limit total g to_end Bad = fails g BadToken (total - to_end)
 
 -- what was read if the text ends here, before an outcome mark: no game (`None`), or the fault NoResult at the end if a
 -- tag, number or move was met. `g` is the game so far, `total` the text's length
@@ -137,15 +137,15 @@ at_text_end total g =
 
 -- what was read in the end: if the step says that reading goes on, what `later` gives for the game so far; else what
 -- the step stopped with
-abbrev pub go_on : Step → (SoFar → GameRead) → GameRead
-go_on (On g) later = later g
-go_on (Stop read) later = read
+abbrev pub read_rest_with : Step → (SoFar → GameRead) → GameRead
+read_rest_with (On g) later = later g
+read_rest_with (Stop read) later = read
 
 -- what was read in the end, from the game so far (`g`) and the tokens that are left, each after how many bytes are left
 -- where it begins. `limit` is the most half-moves of a game, `total` the text's length
 abbrev pub game_of : ℕ → ℕ → SoFar → List (ℕ × Token) → GameRead
 game_of limit total g [] = at_text_end total g
-game_of limit total g (t ∷ ts) = go_on (step limit total g t.0 t.1) (λ h. game_of limit total h ts)
+game_of limit total g (t ∷ ts) = read_rest_with (step limit total g t.0 t.1) (λ h. game_of limit total h ts)
 
 -- what is known before the first token: the game is at the initial position of this variant, and nothing else was met
 abbrev pub nothing_read : Variant → SoFar

@@ -4,9 +4,9 @@ use Rattle.std.specs.Prelude.{ℕ, ◌-◌, Bool, true, false, if◌then◌else�
 use Rattle.std.specs.List.{filter_map, last_or, take_while}
 use Rattle.std.specs.Option.{option_map}
 use Rattle.std.specs.Str.{bytes_eq}
-use Rattle.chess_pgn.specs.declared.results.ResultTag.{ResultTag}
-use Rattle.chess_pgn.specs.declared.word.WordKind.{WordKind}
-use Rattle.chess_pgn.specs.declared.word.WordKind.TheVariants.{Marks}
+use Rattle.chess_pgn.specs.declared.result_tag.ResultTag.{ResultTag}
+use Rattle.chess_pgn.specs.declared.word_kind.WordKind.{WordKind}
+use Rattle.chess_pgn.specs.declared.word_kind.WordKind.TheVariants.{Marks}
 use Rattle.chess_pgn.specs.Tokens.{Token, Skip, Tag, Word, after_byte_order_mark, tokens_from}
 use Rattle.chess_pgn.specs.Words.{outcome_of, word_kind}
 
@@ -18,20 +18,21 @@ is_marks _ = false
 -- after this token more tags of the same game may come: it is skipped, a tag, or marks such as `!?`
 abbrev pub may_precede_tags : Token → Bool
 may_precede_tags Skip = true
-may_precede_tags (Tag name text left) = true
+may_precede_tags (Tag name text to_end) = true
 may_precede_tags (Word word) = is_marks (word_kind word)
 may_precede_tags _ = false
 
 -- the text of a token that is a tag with the given name, and how many bytes of the game's text are left where that text
 -- begins; none for any other token
 abbrev pub named_tag : List ℕ → Token → Option (List ℕ × ℕ)
-named_tag name (Tag other text left) = if bytes_eq other name then Some (text, left) else None
+named_tag name (Tag other text to_end) = if bytes_eq other name then Some (text, to_end) else None
 named_tag name _ = None
 
 -- the last tag with that name among a game's tags, which end before the first number, move, outcome or fault: its text,
 -- and how many bytes are left where that begins. Each token comes after how many bytes are left at it
 abbrev pub last_tag : List ℕ → List (ℕ × Token) → Option (List ℕ × ℕ)
-last_tag name tokens = last_or None (filter_map (λ t. named_tag name t.1) (take_while (λ t. may_precede_tags t.1) tokens))
+last_tag name tokens = last_or None
+    (filter_map (λ t. named_tag name t.1) (take_while (λ t. may_precede_tags t.1) tokens))
 
 -- the last tag Result of the game that is read from the offset `at` on: the outcome that it names, if any, and the
 -- offset and the length of its string; none if the game has no tag Result

@@ -11,15 +11,15 @@ use Rattle.std.specs.Str.{bytes_eq}
 use Rattle.text_lines.specs.Words.{is_name_byte}
 
 -- a token of a PGN text (section 7): what is skipped, such as white space, a comment or a variation; a tag; a word,
--- such as a move; or what can't be read. A field `left` is the number of bytes from a place to the text's end
+-- such as a move; or what can't be read. A field `to_end` is the number of bytes from a place to the text's end
 pub data Token : Type 0 where
   Skip : Token
   -- a tag's name, the bytes between its quotes as they are, and how many are left at the first of them
-  Tag : (name : List ℕ) (text : List ℕ) (left : ℕ) → Token
+  Tag : (name : List ℕ) (text : List ℕ) (to_end : ℕ) → Token
   Word : (bytes : List ℕ) → Token
   Bad_tag : Token
   -- how many are left at the comment's brace
-  Unclosed_comment : (left : ℕ) → Token
+  Unclosed_comment : (to_end : ℕ) → Token
   Unclosed_variation : Token
   Bad : Token
 
@@ -67,7 +67,8 @@ variation_at (Some comment) line_begins (suc depth) (c ∷ rest) =
 variation_at None line_begins (suc depth) (c ∷ rest) =
     if line_begins && c == byte "%" || c == byte ";"
     then variation_at (Some (new_line, Unclosed_variation)) false (suc depth) rest
-    else (if c == byte "{" then variation_at (Some (byte "}", Unclosed_comment (length (c ∷ rest)))) false (suc depth) rest
+    else (if c == byte "{" then variation_at (Some (byte "}", Unclosed_comment (length (c ∷ rest)))) false
+    (suc depth) rest
     else (if c == byte "(" then variation_at None false (suc (suc depth)) rest
     else (if c == byte ")" then variation_at None false depth rest
     else variation_at None (c == new_line) (suc depth) rest)))
@@ -117,10 +118,10 @@ tag_at text = do
 
 -- ---- tokens
 
--- the token of a `{` comment and the text after it. `behind` is the text after its `}`, or `None` if that is missing,
--- which is a fault; `left` counts the bytes from its `{` on
+-- the token of a `{` comment and the text after it. `after` is the text after its `}`, or `None` if that is missing,
+-- which is a fault; `to_end` counts the bytes from its `{` on
 abbrev pub comment_at : ℕ → Option (List ℕ) → Token × List ℕ
-comment_at left behind = option_map_or (λ rest. (Skip, rest)) behind (Unclosed_comment left, [])
+comment_at to_end after = option_map_or (λ rest. (Skip, rest)) after (Unclosed_comment to_end, [])
 
 -- the first token of the text `c ∷ rest`, and the text after it, which is empty after a token that can't be read.
 -- `line_begins`: `c` is the first byte of a line, where `%` skips the line

@@ -8,7 +8,7 @@ ghost use Rattle.chess_pgn.specs.ties.Seen.{found_seen, token_seen};
 
 use crate::tag::Tag;
 use crate::token::{Token, after_blanks, next_token};
-use crate::word::{WordKind, word_kind};
+use crate::word_kind::{WordKind, word_kind};
 
 /// Whether more tags of the same game may come after this token: it is skipped, a tag, or marks such as `!?`.
 pub(crate) fn may_precede_tags(token: &Token<'_>) -> bool
@@ -38,18 +38,18 @@ pub(crate) fn named_tag<'t>(name: &[u8], token: &Token<'t>) -> Option<Tag<'t>>
 pub(crate) fn last_tag<'t>(text: &'t [u8], at: usize, name: &[u8]) -> Option<Tag<'t>>
     requires { at ≤ length text.now }
     ensures tag { found_seen result ≡ last_tag name.now (tokens_from text.now at) }
-    ensures within { IfSome result (λ tag. tag.left ≤ length text.now) }
+    ensures within { IfSome result (λ tag. tag.to_end ≤ length text.now) }
 {
     let mut offset = at;
     let mut last = None;
     loop {
         match next_token(text, offset) {
-            Ok(Some((token, behind))) => {
+            Ok(Some((token, token_end))) => {
                 if !may_precede_tags(&token) {
                     return last;
                 }
                 last = named_tag(name, &token).or(last);
-                offset = after_blanks(text, behind);
+                offset = after_blanks(text, token_end);
             }
             Ok(None) | Err(_) => return last,
         }

@@ -3,7 +3,7 @@
 ghost use Rattle.std.specs.Prelude.{◌≡◌, List, ℕ};
 ghost use Rattle.chess_game.specs.Game.{State, IsPlayable};
 ghost use Rattle.chess_pgn.specs.GameText.{game_tokens};
-ghost use Rattle.chess_pgn.specs.laws.Retold.{GamesAreOfTokens};
+ghost use Rattle.chess_pgn.specs.laws.GameOfTokens.{GamesAreOfTokens};
 ghost use Rattle.chess_pgn.specs.laws.Normal.{NormalIsKept};
 ghost use Rattle.chess_pgn.specs.laws.Offsets.{FaultsHaveOffsets, HalfMovesHaveBytes};
 ghost use Rattle.chess_pgn.specs.laws.PgnLaw.{PgnIsReadBack};

@@ -15,9 +15,9 @@ mod buffer;
 mod bytes;
 mod last_tag;
 mod laws;
-mod lines;
+mod line_writer;
 mod read;
-mod results;
+mod result_tag;
 mod skips;
 mod tag;
 mod tag_lines;
@@ -25,7 +25,7 @@ mod tags;
 mod termination;
 mod token;
 mod variation;
-mod word;
+mod word_kind;
 mod write;
 
 pub use chess_game::{HowEnded, TagText};
@@ -34,8 +34,8 @@ pub use laws::{
     lines_are_filled, normal_is_kept, pgn_is_read_back,
 };
 pub use read::{PgnEnd, PgnFault, PgnFaultKind, read_pgn};
-pub use results::{ResultTag, result_tag};
+pub use result_tag::{ResultTag, result_tag};
 pub use tags::Tags;
 pub use termination::Termination;
-pub use word::outcome_of;
+pub use word_kind::outcome_of;
 pub use write::write_pgn;

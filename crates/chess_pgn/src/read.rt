@@ -20,7 +20,7 @@ use crate::termination::Termination;
 use crate::token::{
     Token, TokenFault, after_blanks, after_byte_order_mark, next_token, split_word,
 };
-use crate::word::{WordKind, begins_from_a, is_number, word_kind};
+use crate::word_kind::{WordKind, begins_as_move, is_number, word_kind};
 use chess_base::{FenFault, Move, Position, Variant};
 use chess_fen::read_fen_as;
 use chess_game::{Comment, Game, Outcome, PlayRefusal};
@@ -249,7 +249,7 @@ fn end_game<B: Board>(game: &mut Game<B>, outcome: Outcome)
 // is known before the word.
 #[tactic(auto, using(crate::proofs::GameReads::termination_has_bytes))]
 #[inline(always)]
-fn read_word<B: Board>(
+fn apply_word<B: Board>(
     game: &mut Game<B>,
     progress: Progress,
     offset: usize,
@@ -280,7 +280,7 @@ fn read_word<B: Board>(
 
 // Takes a tag, whose string begins at `offset`: a FEN sets the game's start. `progress` is what is known before the
 // tag.
-fn read_tag<B: Board>(
+fn apply_tag<B: Board>(
     game: &mut Game<B>,
     progress: Progress,
     tag: &Tag<'_>,
@@ -308,7 +308,7 @@ fn read_tag<B: Board>(
 // Takes a token, which begins at `offset` in a text of `len` bytes, and returns whether reading goes on or the game
 // ended. `progress` is what is known before the token.
 #[inline(always)]
-fn read_token<B: Board>(
+fn apply_token<B: Board>(
     game: &mut Game<B>,
     progress: Progress,
     len: usize,
@@ -329,8 +329,8 @@ fn read_token<B: Board>(
             kind: PgnFaultKind::NoResult,
             offset,
         }),
-        Token::Tag(tag) => read_tag(game, progress, tag, len - tag.left),
-        Token::Word(word) => read_word(game, progress, offset, word),
+        Token::Tag(tag) => apply_tag(game, progress, tag, len - tag.to_end),
+        Token::Word(word) => apply_word(game, progress, offset, word),
     }
 }
 
@@ -351,9 +351,9 @@ fn reported_fault(fault: TokenFault, progress: Progress, len: usize, offset: usi
             kind: PgnFaultKind::BadTag,
             offset,
         },
-        TokenFault::UnclosedComment { left } => PgnFault {
+        TokenFault::UnclosedComment { to_end } => PgnFault {
             kind: PgnFaultKind::UnclosedComment,
-            offset: len - left,
+            offset: len - to_end,
         },
         TokenFault::UnclosedVariation => PgnFault {
             kind: PgnFaultKind::UnclosedVariation,
@@ -405,8 +405,8 @@ fn tagged_variant(text: &[u8], at: usize) -> Variant
 #[inline(always)]
 fn after_comment(text: &[u8], at: usize) -> Option<usize>
     requires { at ≤ length text.now }
-    ensures { IfSome result (λ behind.
-        ReadsAlike text.now at behind × (at < behind) × (behind ≤ length text.now)) }
+    ensures { IfSome result (λ end.
+        ReadsAlike text.now at end × (at < end) × (end ≤ length text.now)) }
 {
     let [first, rest @ ..] = &text[at..] else {
         return None;
@@ -415,7 +415,7 @@ fn after_comment(text: &[u8], at: usize) -> Option<usize>
         return None;
     }
     match after_brace(rest) {
-        Some(behind) => Some(text.len() - behind.len()),
+        Some(tail) => Some(text.len() - tail.len()),
         None => None,
     }
 }
@@ -426,13 +426,13 @@ fn after_comment(text: &[u8], at: usize) -> Option<usize>
 fn after_skipped(text: &[u8], at: usize) -> usize
     requires { at ≤ length text.now }
     ensures alike { ReadsAlike text.now at result }
-    ensures behind { at ≤ result }
+    ensures forward { at ≤ result }
     ensures within { result ≤ length text.now }
 {
     let first = after_blanks(text, at);
     let mut offset = first;
-    while let Some(behind) = after_comment(text, offset) {
-        offset = after_blanks(text, behind);
+    while let Some(comment_end) = after_comment(text, offset) {
+        offset = after_blanks(text, comment_end);
     }
     offset
 }
@@ -455,7 +455,7 @@ fn read_normal_tags<B: Board>(
         let Ok(next) = next_token(text, offset) else {
             return None;
         };
-        let Some((token, behind)) = next else {
+        let Some((token, token_end)) = next else {
             return Some((progress, offset));
         };
         if !may_precede_tags(&token) {
@@ -465,12 +465,12 @@ fn read_normal_tags<B: Board>(
             Variant::Normal => {}
             Variant::Fischerandom => return None,
         }
-        match read_token(game, progress, text.len(), offset, &token) {
+        match apply_token(game, progress, text.len(), offset, &token) {
             Ok(Step::On(further)) => progress = further,
             Ok(Step::Ended(_)) => return None,
             Err(_) => return None,
         }
-        offset = after_blanks(text, behind);
+        offset = after_blanks(text, token_end);
     }
 }
 
@@ -489,10 +489,10 @@ fn begin_game<B: Board>(text: &[u8], at: usize, game: &mut Game<B>) -> (Progress
     (Progress::none(), at)
 }
 
-// Plays the move that a word denotes in the current position, and returns whether one was played. If the word denotes no
-// one legal move, or the game is over or full, nothing changes.
+// Plays the move that a word denotes in the current position, and returns whether one was played. If the word denotes
+// no one legal move, or the game is over or full, nothing changes.
 #[inline(always)]
-fn takes_move<B: Board>(game: &mut Game<B>, word: &[u8]) -> bool
+fn try_move<B: Board>(game: &mut Game<B>, word: &[u8]) -> bool
     requires { game.old.state.declared ≡ None }
     ensures limit { game.new.limit ≡ game.old.limit }
     ensures taken { IsTaken result game.old game.new
@@ -510,24 +510,24 @@ fn takes_move<B: Board>(game: &mut Game<B>, word: &[u8]) -> bool
 
 // Takes a word that is a number, or whose move is played, and returns whether it is such a word. Of any other word, and
 // of none (no bytes), nothing is taken, and nothing changes.
-#[tactic(auto, using(crate::proofs::PgnWords::from_a_kind, crate::proofs::PgnWords::number_kind))]
+#[tactic(auto, using(crate::proofs::PgnWords::begins_as_move_kind, crate::proofs::PgnWords::number_kind))]
 #[inline(always)]
-fn takes_word<B: Board>(game: &mut Game<B>, word: &[u8]) -> bool
+fn try_word<B: Board>(game: &mut Game<B>, word: &[u8]) -> bool
     requires { game.old.state.declared ≡ None }
     ensures limit { game.new.limit ≡ game.old.limit }
     ensures some { result ≡ true → 0 < length word.now }
     ensures taken { IsTaken result game.old game.new
         (λ g offset. word_step game.old.limit g offset word.now (word_kind word.now)) }
 {
-    if begins_from_a(word) {
-        takes_move(game, word)
+    if begins_as_move(word) {
+        try_move(game, word)
     } else {
         is_number(word)
     }
 }
 
 // Takes numbers and moves from `at` on, and what is skipped after each, as long as nothing else comes; returns the
-// offset after them. `progress` is what is known before and after. The general way (`next_token`, `read_token`) would
+// offset after them. `progress` is what is known before and after. The general way (`next_token`, `apply_token`) would
 // take the same words one by one; this is faster.
 #[inline(always)]
 fn take_words<B: Board>(
@@ -542,12 +542,12 @@ fn take_words<B: Board>(
 {
     let mut offset = at;
     loop {
-        let (word, behind) = split_word(&text[offset..]);
-        if !takes_word(game, word) {
+        let (word, tail) = split_word(&text[offset..]);
+        if !try_word(game, word) {
             return offset;
         }
         *progress = progress.begun();
-        offset = after_skipped(text, text.len() - behind.len());
+        offset = after_skipped(text, text.len() - tail.len());
     }
 }
 
@@ -576,12 +576,12 @@ pub fn read_pgn<B: Board>(
     let (mut progress, mut offset) = begin_game(text, after_byte_order_mark(text, at), game);
     loop {
         match next_token(text, offset) {
-            Ok(Some((token, behind))) => {
-                match read_token(game, progress, text.len(), offset, &token)? {
+            Ok(Some((token, token_end))) => {
+                match apply_token(game, progress, text.len(), offset, &token)? {
                     Step::On(further) => progress = further,
                     Step::Ended(end) => return Ok(Some(end)),
                 }
-                offset = take_words(text, after_skipped(text, behind), game, &mut progress);
+                offset = take_words(text, after_skipped(text, token_end), game, &mut progress);
             }
             Ok(None) if progress.is_met => {
                 return Err(PgnFault {

@@ -45,7 +45,7 @@ fn len_before_brace(text: &[u8]) -> usize
 
 // The text from the first `}` on in the blocks of 32 bytes with which it begins; if none has it, what is after them.
 #[inline(always)]
-fn near_brace(text: &[u8]) -> &[u8]
+fn skip_before_brace(text: &[u8]) -> &[u8]
     ensures rest { after_brace result.now ≡ after_brace text.now }
     ensures shorter { length result.now ≤ length text.now }
 {
@@ -68,7 +68,7 @@ pub(crate) fn after_brace(text: &[u8]) -> Option<&[u8]>
     ensures rest { option_map (λ r. r.now) result ≡ after_brace text.now }
     ensures shorter { IfSome result (λ r. length r.now < length text.now) }
 {
-    let mut rest = near_brace(text);
+    let mut rest = skip_before_brace(text);
     while let [byte, others @ ..] = rest {
         if *byte == b'}' {
             return Some(others);

@@ -18,7 +18,7 @@ use std::simd::prelude::*;
 pub(crate) struct Tag<'a> {
     pub name: &'a [u8],
     pub text: &'a [u8],
-    pub left: usize,
+    pub to_end: usize,
 }
 
 // The name at a text's front (letters, digits and `_`), maybe empty, and the text after it.
@@ -126,6 +126,6 @@ pub(crate) fn read_tag(text: &[u8]) -> Option<(Tag<'_>, &[u8])>
     let string = after_next(b'"', rest)?;
     let (text, rest) = split_string(string)?;
     let rest = after_next(b']', rest)?;
-    let left = string.len();
-    Some((Tag { name, text, left }, rest))
+    let to_end = string.len();
+    Some((Tag { name, text, to_end }, rest))
 }

@@ -6,7 +6,7 @@ ghost use Rattle.chess_pgn.specs.ties.Waiting.{Adds};
 ghost use Rattle.chess_pgn.specs.Written.{escaped, tag_line, ended};
 ghost use Rattle.chess_pgn.specs.ties.Lines.{tag_lines_of};
 
-use crate::lines::LineWriter;
+use crate::line_writer::LineWriter;
 use crate::tags::TagPair;
 use arrayvec::ArrayVec;
 use byte_devices::{Output, WriteFault, append};

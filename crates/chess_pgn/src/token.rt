@@ -23,13 +23,13 @@ pub(crate) enum Token<'a> {
     Word(&'a [u8]),
 }
 
-/// Why no token can be read. A field `left` is the number of bytes from the fault to the text's end.
+/// Why no token can be read. A field `to_end` is the number of bytes from the fault to the text's end.
 #[derive(Clone, Copy)]
 pub(crate) enum TokenFault {
     /// An opening bracket that begins no tag.
     BadTag,
     /// A comment without its closing brace, at whose opening brace so many bytes are left.
-    UnclosedComment { left: usize },
+    UnclosedComment { to_end: usize },
     /// A variation without its end.
     UnclosedVariation,
     /// A byte that begins no token.
@@ -61,14 +61,14 @@ pub(crate) fn split_word(text: &[u8]) -> (&[u8], &[u8])
 }
 
 // Reads a comment, from `text`, which begins after its `{`: a skipped token, and the text after its `}`, or a fault if
-// it has none. `left` counts the bytes from the `{` to the text's end.
+// it has none. `to_end` counts the bytes from the `{` to the text's end.
 #[inline(never)]
-fn read_comment(left: usize, text: &[u8]) -> Result<(Token<'_>, &[u8]), TokenFault>
-    ensures { first_seen result ≡ comment_at left (after_brace text.now) }
+fn read_comment(to_end: usize, text: &[u8]) -> Result<(Token<'_>, &[u8]), TokenFault>
+    ensures { first_seen result ≡ comment_at to_end (after_brace text.now) }
 {
     match after_brace(text) {
         Some(rest) => Ok((Token::Skip, rest)),
-        None => Err(TokenFault::UnclosedComment { left }),
+        None => Err(TokenFault::UnclosedComment { to_end }),
     }
 }
 
@@ -140,27 +140,27 @@ pub(crate) fn next_token(text: &[u8], at: usize) -> Result<Option<(Token<'_>, us
     requires { at ≤ length text.now }
     ensures { IsNextToken text.now at result }
 {
-    let left = &text[at..];
-    let [first, rest @ ..] = left else {
+    let to_end = &text[at..];
+    let [first, rest @ ..] = to_end else {
         return Ok(None);
     };
     if is_word_byte(*first) {
-        let (word, behind) = split_word(left);
-        return Ok(Some((Token::Word(word), text.len() - behind.len())));
+        let (word, tail) = split_word(to_end);
+        return Ok(Some((Token::Word(word), text.len() - tail.len())));
     }
-    match read_token(begins_line(text, at), *first, rest, left) {
-        Ok((token, behind)) => Ok(Some((token, text.len() - behind.len()))),
+    match read_token(begins_line(text, at), *first, rest, to_end) {
+        Ok((token, tail)) => Ok(Some((token, text.len() - tail.len()))),
         Err(fault) => Err(fault),
     }
 }
 
-/// Skips white space and dots from the offset `at` on, and returns the offset after them. [`next_token`] would skip them
-/// one by one; this is faster.
+/// Skips white space and dots from the offset `at` on, and returns the offset after them. [`next_token`] would skip
+/// them one by one; this is faster.
 #[inline(always)]
 pub(crate) fn after_blanks(text: &[u8], at: usize) -> usize
     requires { at ≤ length text.now }
     ensures skips { SkipsTo text.now at result }
-    ensures behind { at ≤ result }
+    ensures forward { at ≤ result }
     ensures within { result ≤ length text.now }
 {
     let mut offset = at;
@@ -174,7 +174,7 @@ pub(crate) fn after_blanks(text: &[u8], at: usize) -> usize
 pub(crate) fn after_byte_order_mark(text: &[u8], at: usize) -> usize
     requires { at ≤ length text.now }
     ensures offset { result ≡ after_byte_order_mark text.now at }
-    ensures behind { at ≤ result }
+    ensures forward { at ≤ result }
     ensures within { result ≤ length text.now }
 {
     if at == 0 && text.starts_with(&[0xEF, 0xBB, 0xBF]) {

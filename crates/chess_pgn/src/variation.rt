@@ -12,7 +12,7 @@ use crate::token::TokenFault;
 // The text after `byte` inside a variation, or after the `%` line or comment that it begins; `None` if that comment is
 // not closed. `rest` is the text after `byte`; `line_begins`: `byte` is the first of its line.
 fn after_part(line_begins: bool, byte: u8, rest: &[u8]) -> Option<&[u8]>
-    ensures behind { option_map (λ r. r.now) result ≡ after_part line_begins byte rest.now }
+    ensures rest { option_map (λ r. r.now) result ≡ after_part line_begins byte rest.now }
     ensures shorter { IfSome result (λ r. length r.now ≤ length rest.now) }
 {
     match byte {
@@ -44,15 +44,15 @@ pub(crate) fn after_variation(text: &[u8]) -> Result<&[u8], TokenFault>
     let mut line_begins = false;
     let mut depth = 0;
     while let [byte, others @ ..] = rest {
-        let Some(behind) = after_part(line_begins, *byte, others) else {
-            return Err(TokenFault::UnclosedComment { left: rest.len() });
+        let Some(tail) = after_part(line_begins, *byte, others) else {
+            return Err(TokenFault::UnclosedComment { to_end: rest.len() });
         };
         let Some(open) = depth_after(depth, *byte) else {
-            return Ok(behind);
+            return Ok(tail);
         };
         line_begins = *byte == b'\n';
         depth = open;
-        rest = behind;
+        rest = tail;
     }
     Err(TokenFault::UnclosedVariation)
 }

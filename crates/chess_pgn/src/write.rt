@@ -13,7 +13,7 @@ ghost use Rattle.chess_pgn.specs.Written.{ended, move_text_of};
 ghost use Rattle.chess_text.specs.San.{san};
 ghost use Rattle.chess_moves.specs.Made.{WasMade};
 
-use crate::lines::LineWriter;
+use crate::line_writer::LineWriter;
 use crate::tag_lines::put_tags;
 use crate::tags::{TagPair, Tags};
 use crate::termination::Termination;

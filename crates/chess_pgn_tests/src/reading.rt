@@ -1035,8 +1035,8 @@ fn strings_are_read<B: Board>(
     Ok(())
 }
 
-// The bytes of a tag's string that are neither quotes, backslashes nor line ends are skipped by 16: what ends the string
-// is found at each place in them.
+// The bytes of a tag's string that are neither quotes, backslashes nor line ends are skipped by 16: what ends the
+// string is found at each place in them.
 #[test]
 fn strings_of_any_length_are_read(rt: HostRuntime) -> Result<(), Fail> {
     let mut game = Game::open(rt.alloc(), Plain::new(), 100)?;

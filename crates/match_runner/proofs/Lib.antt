@@ -1,3 +1,3 @@
-pub mod GamesTold
+pub mod GamesWritten
 pub mod Logged
 pub mod FaultTexts

@@ -58,7 +58,8 @@ note_text first s (Happened (Line c None now)) = log_line now (byte "!") (same_c
 note_text first s (Happened (Opened c now)) = []
 note_text first s (Happened (OutputEnds c)) = log_line s.moment (byte "!") (same_colour c first) (codes "output ended")
 note_text first s (Happened (FailsToRead c)) = log_line s.moment (byte "!") (same_colour c first) (codes "read failed")
-note_text first s (Happened (FailsToWrite c)) = log_line s.moment (byte "!") (same_colour c first) (codes "write failed")
+note_text first s (Happened (FailsToWrite c)) = log_line s.moment (byte "!") (same_colour c first)
+    (codes "write failed")
 note_text first s (Gives c text) = given_text (head s.moment (byte ">") (same_colour c first)) s.at_start text
 
 -- the log's state after a note, if it is `s` before: the time of the last event that has one, and whether the next byte

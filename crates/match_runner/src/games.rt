@@ -7,7 +7,7 @@ ghost use Rattle.chess_match.specs.Run.{Ports};
 ghost use Rattle.chess_match.specs.declared.reason.Reason.TheVariants.{Faulted};
 ghost use Rattle.chess_pgn.specs.GameText.{pgn};
 ghost use Rattle.match_runner.specs.Games.{RanGames, engine_command, first_side, player_name, score_line, tags_of};
-ghost use Rattle.match_runner.specs.ties.Playing.{FailsToStart, HasPlayed, IsMatchEndOf, PlayedOne, RanAndLogged, ReportsStart, logged_side};
+ghost use Rattle.match_runner.specs.ties.Playing.{FailsToStart, HasPlayed, IsMatchEndOf, PlayedGame, RanAndLogged, ReportsStart, logged_side};
 ghost use Rattle.match_runner.specs.Log.{log_seen};
 ghost use Rattle.chess_game.specs.declared.game.TheConstants.{MOST_MOVES};
 
@@ -216,15 +216,17 @@ fn play_game<'a, 't, C: Clock, P: OpenProcess + Drop, M: Moments, W: Output, E: 
 ) -> Result<MatchEnd, GamesFault<'a>>
     requires limit { game.old.limit ≡ MOST_MOVES }
     ensures limit { game.new.limit ≡ MOST_MOVES }
-    ensures played { PlayedOne plan.now number (W.seen output.old) (W.seen output.new)
+    ensures played { PlayedGame plan.now number (W.seen output.old) (W.seen output.new)
         (log_seen (E.seen log.old.output) log.old.pending) (log_seen (E.seen log.new.output) log.new.pending)
         result }
     ensures ran { (end : _) × IfOk result (λ e. e ≡ end) × IsMatchEndOf (logged_side plan.now number)
         (log_seen (E.seen log.old.output) log.old.pending) (log_seen (E.seen log.new.output) log.new.pending)
         plan.now.start plan.now.level game.old game.new end
         (record {
-          reader = by_colour (⟦<Counted<P::Stdout> as Input>⟧.seen white.ends.reader) (⟦<Counted<P::Stdout> as Input>⟧.seen black.ends.reader);
-          writer = by_colour (⟦<Counted<P::Stdin> as Output>⟧.seen white.ends.writer) (⟦<Counted<P::Stdin> as Output>⟧.seen black.ends.writer);
+          reader = by_colour (⟦<Counted<P::Stdout> as Input>⟧.seen white.ends.reader)
+              (⟦<Counted<P::Stdout> as Input>⟧.seen black.ends.reader);
+          writer = by_colour (⟦<Counted<P::Stdin> as Output>⟧.seen white.ends.writer)
+              (⟦<Counted<P::Stdin> as Output>⟧.seen black.ends.writer);
         }) }
 {
     let Engine {
@@ -270,7 +272,7 @@ fn play_game<'a, 't, C: Clock, P: OpenProcess + Drop, M: Moments, W: Output, E: 
 
 // Plays the game of this number between the plan's two engines, which are started for it, logs it if the plan asks for
 // that, and writes and flushes its PGN. `game` and `scratch` are already allocated.
-fn play_one<'a, 't, P: Processes + Clock, M: Moments, W: Output, E: Output>(
+fn start_and_play<'a, 't, P: Processes + Clock, M: Moments, W: Output, E: Output>(
     rt: &P,
     alloc: Global,
     plan: &GamesPlan<'a>,
@@ -283,7 +285,7 @@ fn play_one<'a, 't, P: Processes + Clock, M: Moments, W: Output, E: Output>(
 ) -> Result<MatchEnd, GamesFault<'a>>
     requires limit { game.old.limit ≡ MOST_MOVES }
     ensures limit { game.new.limit ≡ MOST_MOVES }
-    ensures played { PlayedOne plan.now number (W.seen output.old) (W.seen output.new)
+    ensures played { PlayedGame plan.now number (W.seen output.old) (W.seen output.new)
         (log_seen (E.seen log.old.output) log.old.pending) (log_seen (E.seen log.new.output) log.new.pending)
         result }
 {
@@ -337,7 +339,9 @@ fn play_each<'a, 't, P: Processes + Clock, M: Moments, W: Output, E: Output>(
     let mut number: u32 = 0;
     while number < game_count(plan) {
         number += 1;
-        let end = match play_one(rt, alloc, plan, number, moments, game, scratch, output, log) {
+        let end = match start_and_play(
+            rt, alloc, plan, number, moments, game, scratch, output, log,
+        ) {
             Ok(end) => end,
             Err(fault) => return Err(fault),
         };

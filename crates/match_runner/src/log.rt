@@ -261,9 +261,9 @@ fn engine_text(is_first: bool) -> &'static [u8]
     if is_first { b"first : " } else { b"second: " }
 }
 
-/// An output on which games are logged in the form of XBoard's debug file: it watches a match, and writes each line that
-/// an engine sends or is sent, and each failure and end of an output. After a write or flush that failed it logs nothing
-/// more.
+/// An output on which games are logged in the form of XBoard's debug file: it watches a match, and writes each line
+/// that an engine sends or is sent, and each failure and end of an output. After a write or flush that failed it logs
+/// nothing more.
 #[derive(Drop)]
 pub struct Log<E> {
     /// Where the log goes.

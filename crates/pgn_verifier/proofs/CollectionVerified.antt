@@ -33,7 +33,8 @@ none = record { games = 0; half_moves = 0; faults = 0 }
 abbrev line_after : List Piece → ℕ
 line_after done = sum_by (λ (p : Piece). p.line_ends) done + 1
 
-pub record SoFar (options : VerifyOptions) (r r' : InputState) (w w' : OutputState) (s : State) (tally : Tally) (line : ℕ)
+pub record SoFar (options : VerifyOptions) (r r' : InputState) (w w' : OutputState) (s : State)
+    (tally : Tally) (line : ℕ)
     : Type 0 where
   pub text : List ℕ
   pub done : List Piece
@@ -72,7 +73,8 @@ follows_on true b' ended more rest h f =
     (t.0, ap (λ xs. xs ++ rest) k.1 ∙ t.1)
 
 -- what has come of a collection once its next piece has
-module _ (options : VerifyOptions) (r r' r'' : InputState) (w w' : OutputState) (s s' : State) (tally : Tally) (line : ℕ)
+module _ (options : VerifyOptions) (r r' r'' : InputState) (w w' : OutputState) (s s' : State)
+    (tally : Tally) (line : ℕ)
     (so : SoFar options r r' w w' s tally line) where
   -- the pieces that are known when the next has come
   come : (next : Next s s' r r'' so.text (Ok true)) → (ended : Bool) (rest : List ℕ) → MayFollow s'.ended ended rest
@@ -129,7 +131,8 @@ module _ (options : VerifyOptions) (r r' r'' : InputState) (w w' : OutputState) 
         done = so.done ++ current s' ∷ [];
         stands = next.1;
         due = come next;
-        took = λ more. subst (λ xs. Took w w'' (report_lines options ((so.text ++ next.0) ++ more) 1 xs)) (sym reports_more)
+        took = λ more. subst (λ xs. Took w w'' (report_lines options ((so.text ++ next.0) ++ more) 1 xs))
+            (sym reports_more)
             (took_after options ((so.text ++ next.0) ++ more) none tally w w' w'' (reports_of options.strict so.done)
             (subst (λ xs. Took w w' (report_lines options xs 1 (reports_of options.strict so.done)))
             (sym (append_assoc so.text next.0 more)) (so.took (next.0 ++ more))) so.is
@@ -163,7 +166,8 @@ module _ (options : VerifyOptions) (r r' r'' : InputState) (w w' : OutputState) 
       ∙ ap (λ xs. xs ++ reports_of options.strict later) reports_more in
       let stands = subst (λ xs. PieceStandsIf options.explain line xs (current s')) (append-nil text)
       (stands_there law next []) in
-      let first = broke_after options text none tally w w' w'' (reports_of options.strict so.done) (so.took next.0) so.is
+      let first = broke_after options text none tally w w' w'' (reports_of options.strict so.done)
+      (so.took next.0) so.is
       (reports_in options.strict (current s')) (wrote text stands) in
       let lines = breaks_longer w w'' (report_lines options text 1
       (reports_of options.strict so.done ++ reports_in options.strict (current s')))
@@ -206,12 +210,12 @@ module _ (options : VerifyOptions) (r r' r'' : InputState) (w w' : OutputState) 
       ap (reports_of options.strict) (law false text ∙ so.due false more
       (subst (λ b. MayFollow b false more) (sym next.2) tt)
       ∙ ap (λ ps. so.done ++ ps) next.3 ∙ append-nil so.done) in
-      let told = subst (λ xs. Took w w' (report_lines options text 1 xs)) (sym all) (so.took more) in
-      by_fault fault next.1 told
+      let written = subst (λ xs. Took w w' (report_lines options text 1 xs)) (sym all) (so.took more) in
+      by_fault fault next.1 written
     where
       by_fault : (e : PieceFault) → IsCause r r'' (so.text ++ next.0) e
           → Took w w' (collection_lines options false (so.text ++ next.0))
           → VerifiesCollection options r r'' w w' (Err (piece_fault e))
-      by_fault piece.ReadFailed cause told = (so.text ++ next.0, cause, told)
-      by_fault piece.NoMemory cause told = (so.text ++ next.0, cause, told)
-      by_fault piece.InputTooLong (read, many) told = (so.text ++ next.0, read, many, told)
+      by_fault piece.ReadFailed cause written = (so.text ++ next.0, cause, written)
+      by_fault piece.NoMemory cause written = (so.text ++ next.0, cause, written)
+      by_fault piece.InputTooLong (read, many) written = (so.text ++ next.0, read, many, written)

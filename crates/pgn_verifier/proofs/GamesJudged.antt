@@ -11,7 +11,7 @@ use Rattle.chess_pgn.specs.LastTags.{result_tag_of}
 use Rattle.chess_pgn.specs.laws.Offsets.{FaultsHaveOffsets, HalfMovesHaveBytes}
 use Rattle.chess_pgn.specs.declared.read.PgnEnd.{PgnEnd}
 use Rattle.chess_pgn.specs.declared.read.PgnFault.{PgnFault}
-use Rattle.chess_pgn.specs.declared.results.ResultTag.{ResultTag}
+use Rattle.chess_pgn.specs.declared.result_tag.ResultTag.{ResultTag}
 use Rattle.pgn_verifier.specs.GameFaults.{result_differs, board_says_otherwise, contradiction, judged, read_at, judged_at}
 use Rattle.pgn_verifier.specs.declared.game_fault.FaultKind.TheVariants.{Pgn}
 use Rattle.pgn_verifier.specs.declared.game_fault.GameFault.{GameFault}
@@ -28,11 +28,13 @@ either P false x y p q = q
 tag_within : (len : ℕ) (tag : Option ResultTag) (end : PgnEnd) → IfSome tag (λ t. t.offset ≤ len)
     → InText len (result_differs tag end)
 tag_within len None end h = tt
-tag_within len (Some tag) end h = either (InText len) (option_eq same_outcome tag.outcome (Some end.outcome)) None _ tt h
+tag_within len (Some tag) end h = either (InText len) (option_eq same_outcome tag.outcome (Some end.outcome)) None _ tt
+    h
 
 board_within : (len : ℕ) (verdict : Option Verdict) (end : PgnEnd) → end.offset ≤ len
     → InText len (board_says_otherwise verdict end)
-board_within len verdict end h = either (InText len) (contradicts_verdict verdict end.outcome) _ None (omega (arith, h)) tt
+board_within len verdict end h = either (InText len) (contradicts_verdict verdict end.outcome) _ None
+    (omega (arith, h)) tt
 
 first_within : (len : ℕ) (first second : Option GameFault) → InText len first → InText len second
     → InText len (option_or first second)
@@ -85,7 +87,8 @@ none_judged strict text at is = judged_is strict text at (Ok None) is
 
 -- its text has a fault
 pub fault_judged : (strict : Bool) (text : List ℕ) (at : ℕ) (fault : PgnFault) (is_fault : GameFault)
-    → is_fault ≡ record { kind = Pgn fault.kind; offset = fault.offset } → (read_at text at).answer ≡ Err fault → Err is_fault ≡ judged_at strict text at
+    → is_fault ≡ record { kind = Pgn fault.kind; offset = fault.offset } → (read_at text at).answer ≡ Err fault
+    → Err is_fault ≡ judged_at strict text at
 fault_judged strict text at fault is_fault h is = ap Err h ∙ judged_is strict text at (Err fault) is
 
 -- it was read to its end, and this contradiction was found, or none

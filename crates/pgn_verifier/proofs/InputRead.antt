@@ -46,8 +46,8 @@ not_ended a b n buf some within is =
     is ∙ rw e refl
 
 -- a piece more
-pub more_read : (r r' r'' : InputState) (text buf : List ℕ) (n : ℕ) → HasRead false r r' text → GavePiece r' r'' (take n buf)
-    → 0 < n → n ≤ length buf
+pub more_read : (r r' r'' : InputState) (text buf : List ℕ) (n : ℕ) → HasRead false r r' text
+    → GavePiece r' r'' (take n buf) → 0 < n → n ≤ length buf
     → HasRead false r r'' (text ++ take n buf)
 more_read r r' r'' text buf n front gave some within = record {
   bytes = consumes_more r.known_bytes r'.known_bytes r''.known_bytes text (take n buf) front.bytes gave.bytes;
@@ -57,8 +57,8 @@ more_read r r' r'' text buf n front gave some within = record {
 }
 
 -- there was no memory for a piece more
-pub no_room : (r r' r'' : InputState) (text buf : List ℕ) (n : ℕ) → HasRead false r r' text → GavePiece r' r'' (take n buf)
-    → 0 < n → n ≤ length buf → IsNotAll r r'' NoMemory
+pub no_room : (r r' r'' : InputState) (text buf : List ℕ) (n : ℕ) → HasRead false r r' text
+    → GavePiece r' r'' (take n buf) → 0 < n → n ≤ length buf → IsNotAll r r'' NoMemory
 no_room r r' r'' text buf n front gave some within =
     (text ++ take n buf, more_read r r' r'' text buf n front gave some within)
 

@@ -10,13 +10,15 @@ use Rattle.pgn_verifier.specs.ties.OnTheWay.{next_number, Writes, counted}
 -- ---- reports and those after them
 
 pub lines_after : (options : VerifyOptions) (input : List ℕ) (number : ℕ) (xs ys : List Report)
-    → report_lines options input number (xs ++ ys) ≡ report_lines options input number xs ++ report_lines options input (number + length xs) ys
+    → report_lines options input number (xs ++ ys) ≡ report_lines options input number xs
+    ++ report_lines options input (number + length xs) ys
 lines_after options input number [] ys = ap (λ n. report_lines options input n ys) (omega arith)
 lines_after options input number (x ∷ xs) ys =
     ap (λ t. written_line options input number x ++ t) (lines_after options input (number + 1) xs ys)
     ∙ sym (append_assoc (written_line options input number x) (report_lines options input (number + 1) xs)
     (report_lines options input (number + 1 + length xs) ys))
-    ∙ ap (λ n. (written_line options input number x ++ report_lines options input (number + 1) xs) ++ report_lines options input n ys) (omega arith)
+    ∙ ap (λ n. (written_line options input number x ++ report_lines options input (number + 1) xs)
+    ++ report_lines options input n ys) (omega arith)
 
 -- ---- counts
 
@@ -41,7 +43,8 @@ number_after t u xs h = ap next_number h ∙ numbers_after t xs
 
 -- ---- writing
 
-pub wrote_none : (options : VerifyOptions) (input : List ℕ) (t : Tally) (w : OutputState) → Took w w (report_lines options input (next_number t) [])
+pub wrote_none : (options : VerifyOptions) (input : List ℕ) (t : Tally) (w : OutputState)
+    → Took w w (report_lines options input (next_number t) [])
 wrote_none options input t w = took_none w
 
 module _ (options : VerifyOptions) (input : List ℕ) (t u : Tally) (w w' w'' : OutputState) (xs : List Report)
@@ -49,17 +52,20 @@ module _ (options : VerifyOptions) (input : List ℕ) (t u : Tally) (w w' w'' : 
   lines_are : (ys : List Report) → report_lines options input (next_number t) (xs ++ ys)
       ≡ report_lines options input (next_number t) xs ++ report_lines options input (next_number u) ys
   lines_are ys = lines_after options input (next_number t) xs ys
-      ∙ ap (λ n. report_lines options input (next_number t) xs ++ report_lines options input n ys) (sym (number_after t u xs is))
+      ∙ ap (λ n. report_lines options input (next_number t) xs ++ report_lines options input n ys)
+      (sym (number_after t u xs is))
 
   pub took_after : (ys : List Report) → Took w' w'' (report_lines options input (next_number u) ys)
       → Took w w'' (report_lines options input (next_number t) (xs ++ ys))
   took_after ys h = subst (Took w w'') (sym (lines_are ys))
-      (took_more w w' w'' (report_lines options input (next_number t) xs) (report_lines options input (next_number u) ys) took h)
+      (took_more w w' w'' (report_lines options input (next_number t) xs)
+      (report_lines options input (next_number u) ys) took h)
 
   pub broke_after : (ys : List Report) → BreaksOff w' w'' (report_lines options input (next_number u) ys)
       → BreaksOff w w'' (report_lines options input (next_number t) (xs ++ ys))
   broke_after ys h = subst (BreaksOff w w'') (sym (lines_are ys))
-      (breaks_more w w' w'' (report_lines options input (next_number t) xs) (report_lines options input (next_number u) ys) took h)
+      (breaks_more w w' w'' (report_lines options input (next_number t) xs)
+      (report_lines options input (next_number u) ys) took h)
 
   pub writes_after : {E : Type 0} (result : Result Tally E) (ys : List Report) → Writes options input u w' w'' result ys
       → Writes options input t w w'' result (xs ++ ys)
@@ -68,10 +74,13 @@ module _ (options : VerifyOptions) (input : List ℕ) (t u : Tally) (w w' w'' : 
   writes_after (Err e) ys h = broke_after ys h
 
 -- one line
-pub one_line : (options : VerifyOptions) (input : List ℕ) (number : ℕ) (r : Report) → written_line options input number r ≡ report_lines options input number (r ∷ [])
+pub one_line : (options : VerifyOptions) (input : List ℕ) (number : ℕ) (r : Report) → written_line options input number
+    r ≡ report_lines options input number (r ∷ [])
 one_line options input number r = sym (append-nil (written_line options input number r))
 
-pub first_broke : (options : VerifyOptions) (input : List ℕ) (number : ℕ) (w w' : OutputState) (r : Report) (rest : List Report)
-    → BreaksOff w w' (written_line options input number r) → BreaksOff w w' (report_lines options input number (r ∷ rest))
+pub first_broke : (options : VerifyOptions) (input : List ℕ) (number : ℕ) (w w' : OutputState) (r : Report)
+    (rest : List Report)
+    → BreaksOff w w' (written_line options input number r)
+    → BreaksOff w w' (report_lines options input number (r ∷ rest))
 first_broke options input number w w' r rest h =
     breaks_longer w w' (written_line options input number r) (report_lines options input (number + 1) rest) h

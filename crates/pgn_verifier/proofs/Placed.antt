@@ -27,7 +27,8 @@ last_line_after xs ys h =
 pub rest_is : (k : ℕ) (text : List ℕ) → take (length text - k) (drop k text) ≡ drop k text
 rest_is k text = take_all (length text - k) (drop k text) (let l = length-drop k text in omega (arith, l))
 
-module _ (start : TextStart) (input text : List ℕ) (k : ℕ) (within : k ≤ length text) (stands : StandsAt start input text)
+module _ (start : TextStart) (input text : List ℕ) (k : ℕ) (within : k ≤ length text)
+    (stands : StandsAt start input text)
   where
     bytes_before : take (start.offset + k) input ≡ take start.offset input ++ take k text
     bytes_before =
@@ -71,7 +72,8 @@ piece_there text more before piece number placed within is = record {
         ∙ take-append-le (length xs) (drop piece.offset text) more (omega (arith, n, m)) ∙ e
 
 -- a piece's text begins where the piece does
-pub text_there : (number : ℕ) (input text : List ℕ) (piece : Piece) (start : TextStart) → PieceStandsAt number input piece
+pub text_there : (number : ℕ) (input text : List ℕ) (piece : Piece) (start : TextStart)
+    → PieceStandsAt number input piece
     → piece.bytes ≡ Some text → start.offset ≡ piece.offset → start.line ≡ number → StandsAt start input text
 text_there number input text piece start stands e offset line = record {
   bytes = ap (λ o. take (length text) (drop o input)) offset ∙ stands.bytes text e;
@@ -80,8 +82,8 @@ text_there number input text piece start stands e offset line = record {
 }
 
 -- where a piece begins that is too long
-pub beginning_there : (number : ℕ) (input : List ℕ) (piece : Piece) (start : TextStart) → PieceStandsAt number input piece
-    → start.offset ≡ piece.offset → start.line ≡ number → StandsAt start input []
+pub beginning_there : (number : ℕ) (input : List ℕ) (piece : Piece) (start : TextStart)
+    → PieceStandsAt number input piece → start.offset ≡ piece.offset → start.line ≡ number → StandsAt start input []
 beginning_there number input piece start stands offset line = record {
   bytes = refl;
   line = ap (line_of input) offset ∙ stands.line ∙ sym line;

@@ -77,8 +77,8 @@ module _ (options : VerifyOptions) (start : ℕ) (text : List ℕ) (before : Tal
 
   pub game_written : (end : PgnEnd) (g : State) → judged_at options.strict text at ≡ Ok (Some end)
       → g ≡ (read_at text at).state → length g.moves + at ≤ end.offset → at < end.offset → end.offset ≤ length text
-      → Took w' w'' (if options.quiet then [] else game_line (next_number tally) (length g.moves) end.outcome end.termination)
-      → SoFar options start text before w w'' end.offset
+      → Took w' w'' (if options.quiet then [] else game_line (next_number tally) (length g.moves) end.outcome
+      end.termination) → SoFar options start text before w w'' end.offset
       (record { games = tally.games + 1; half_moves = tally.half_moves + length g.moves; faults = tally.faults })
       (done ++ Game (length g.moves) end.outcome end.termination ∷ [])
   game_written end g h k moves further within took =
@@ -109,8 +109,8 @@ module _ (options : VerifyOptions) (start : ℕ) (text : List ℕ) (before : Tal
 
   pub game_broke : {E : Type 0} (e : E) (input : List ℕ) (end : PgnEnd) (g : State)
       → judged_at options.strict text at ≡ Ok (Some end) → g ≡ (read_at text at).state
-      → BreaksOff w' w'' (if options.quiet then [] else game_line (next_number tally) (length g.moves) end.outcome end.termination)
-      → Writes options input before w w'' (Err e) (reports_on options.strict start text)
+      → BreaksOff w' w'' (if options.quiet then [] else game_line (next_number tally) (length g.moves) end.outcome
+      end.termination) → Writes options input before w w'' (Err e) (reports_on options.strict start text)
   game_broke e input end g h k broke =
       let r = Game (length g.moves) end.outcome end.termination in
       let rest = reports_from options.strict start s.n text end.offset in

@@ -44,7 +44,8 @@ report_then start text (Err fault) s later =
 unfoldable pub reports_from : Bool → ℕ → ℕ → List ℕ → ℕ → List Report
 reports_from strict start zero text at = []
 reports_from strict start (suc n) text at =
-    report_then start text (judged_at strict text at) (read_at text at).state (λ next. reports_from strict start n text next)
+    report_then start text (judged_at strict text at) (read_at text at).state
+    (λ next. reports_from strict start n text next)
 
 -- the reports on all games of a text up to its first fault. The text begins at the offset `start` of the input;
 -- `strict`: results are compared. Each game has at least one byte, so `length text + 1` games are enough
@@ -78,7 +79,8 @@ game_line number plies outcome termination =
 
 -- the line of a fault, such as `game 2: illegal move at byte 39`; `number` is the game's number
 unfoldable pub fault_line : ℕ → GameFault → List ℕ
-fault_line number fault = codes "game " ++ (decimal number ++ (codes ": " ++ (fault_name fault.kind ++ (codes " at byte "
+fault_line number fault = codes "game "
+    ++ (decimal number ++ (codes ": " ++ (fault_name fault.kind ++ (codes " at byte "
     ++ (decimal fault.offset ++ new_line ∷ [])))))
 
 -- what is written of a report on a game of the input: the game's line, unless `quiet` leaves it out; or the fault's

@@ -12,22 +12,22 @@ use Rattle.chess_cecp.specs.declared.command.Command.{Command}
 use Rattle.chess_cecp.specs.declared.command.Command.TheVariants.{New, UserMove, Ping, Protover, Go, Quit, Silent, Unknown}
 
 -- the arguments of a stub, an engine that plays the moves in its arguments; each is a reference to a text
-abbrev pub Words : Type 0
-Words = List (Bor (List ℕ))
+abbrev pub Arguments : Type 0
+Arguments = List (Bor (List ℕ))
 
 -- the state of a stub, an engine that plays the arguments that it is given: those not yet used, and whether it plays a
 -- side (from `go` on, up to `force` or `new`)
 pub record StubState : Type 0 where
-  pub words : Words
+  pub arguments : Arguments
   pub plays : Bool
 
 -- the state of a stub that plays no side, with these arguments not yet used
-abbrev pub waiting : Words → StubState
-waiting words = record { words = words; plays = false }
+abbrev pub waiting : Arguments → StubState
+waiting arguments = record { arguments = arguments; plays = false }
 
 -- the state of a stub that plays a side, with these arguments not yet used
-abbrev pub playing : Words → StubState
-playing words = record { words = words; plays = true }
+abbrev pub playing : Arguments → StubState
+playing arguments = record { arguments = arguments; plays = true }
 
 -- the stub sends this text, goes on, and is then in the state `s`
 abbrev pub stub_says : StubState → List ℕ → Response StubState
@@ -38,36 +38,36 @@ stub_says s text = record { text = text; state = s; ends = false }
 -- the line that the stub sends for the argument `offer` (`offer draw`) or `claim` (a claim of a draw), which may follow
 -- a move; `None` for any other argument
 abbrev pub remark : List ℕ → Option (List ℕ)
-remark word =
-    if bytes_eq word (codes "offer") then Some (codes "offer draw" ++ new_line ∷ [])
-    else if bytes_eq word (codes "claim") then Some (codes "1/2-1/2 {Draw by repetition}" ++ new_line ∷ [])
+remark argument =
+    if bytes_eq argument (codes "offer") then Some (codes "offer draw" ++ new_line ∷ [])
+    else if bytes_eq argument (codes "claim") then Some (codes "1/2-1/2 {Draw by repetition}" ++ new_line ∷ [])
     else None
 
 -- whether an argument is `offer` or `claim`, of which something is sent after a move
 abbrev pub is_remark : Bor (List ℕ) → Bool
-is_remark word = is_some (remark word.now)
+is_remark argument = is_some (remark argument.now)
 
 -- the lines that the stub sends for the arguments `offer` and `claim` (an offer and a claim of a draw) at the front of
 -- these, up to the first other one
-unfoldable pub remarks : Words → List ℕ
-remarks words = flat_map (λ word. unwrap_or (remark word.now) []) (take_while is_remark words)
+unfoldable pub remarks : Arguments → List ℕ
+remarks arguments = flat_map (λ argument. unwrap_or (remark argument.now) []) (take_while is_remark arguments)
 
 -- these arguments without those `offer` and `claim` that come before the first other one
-unfoldable pub after_remarks : Words → Words
-after_remarks words = drop (prefix_len is_remark words) words
+unfoldable pub after_remarks : Arguments → Arguments
+after_remarks arguments = drop (prefix_len is_remark arguments) arguments
 
 -- the line that the stub sends for an argument that is played: `resign` as it is, any other after `move`
 abbrev pub played_text : List ℕ → List ℕ
-played_text word = (if bytes_eq word (codes "resign") then [] else codes "move ") ++ (word ++ new_line ∷ [])
+played_text argument = (if bytes_eq argument (codes "resign") then [] else codes "move ") ++ (argument ++ new_line ∷ [])
 
 -- the turn of a stub (an engine that plays the arguments that it is given), with these arguments left: it plays the
 -- first one, and sends what the `offer` and `claim` after it stand for; `end` makes it end in the middle of a line;
 -- with none left it resigns
-abbrev pub turn : Words → Response StubState
+abbrev pub turn : Arguments → Response StubState
 turn [] = stub_says (playing []) (codes "resign" ++ new_line ∷ [])
-turn (word ∷ words) =
-    if bytes_eq word.now (codes "end") then record (stub_says (playing words) (codes "mov")) { ends = true }
-    else stub_says (playing (after_remarks words)) (played_text word.now ++ remarks words)
+turn (argument ∷ arguments) =
+    if bytes_eq argument.now (codes "end") then record (stub_says (playing arguments) (codes "mov")) { ends = true }
+    else stub_says (playing (after_remarks arguments)) (played_text argument.now ++ remarks arguments)
 
 -- ---- a line
 
@@ -77,19 +77,20 @@ features = codes "feature ping=1 setboard=1 usermove=1 myname=\"stub\" done=1" +
 
 -- what the stub does when its opponent moved: if it plays, it takes its turn; else nothing
 abbrev pub after_opponent_move : StubState → Response StubState
-after_opponent_move s = if s.plays then turn s.words else stub_says s []
+after_opponent_move s = if s.plays then turn s.arguments else stub_says s []
 
 -- what a stub (an engine that plays the arguments that it is given) in the state `s` does at a command; `text` is the
 -- whole line. `usermove` alone counts as a move too, and all commands without a row here are ignored
 abbrev pub stub_row : StubState → List ℕ → Command → Response StubState
 stub_row s text (Protover n) = stub_says s features
 stub_row s text (Ping n) = stub_says s (codes "pong " ++ (decimal n ++ new_line ∷ []))
-stub_row s text New = stub_says (waiting s.words) []
-stub_row s text Go = turn s.words
+stub_row s text New = stub_says (waiting s.arguments) []
+stub_row s text Go = turn s.arguments
 stub_row s text UserMove = after_opponent_move s
 stub_row s text Unknown = if bytes_eq (word_of text) (codes "usermove") then after_opponent_move s else stub_says s []
 stub_row s text Quit = record (stub_says s []) { ends = true }
-stub_row s text Silent = if bytes_eq (word_of text) (codes "force") then stub_says (waiting s.words) [] else stub_says s []
+stub_row s text Silent = if bytes_eq (word_of text) (codes "force") then stub_says (waiting s.arguments) []
+    else stub_says s []
 stub_row s text _ = stub_says s []
 
 -- what a stub (an engine that plays the arguments that it is given) in the state `s` does with a line: it obeys the

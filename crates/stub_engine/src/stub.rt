@@ -18,12 +18,12 @@ const FEATURES: &[u8] = b"feature ping=1 setboard=1 usermove=1 myname=\"stub\" d
 
 // The line that the stub sends for the argument `offer` (`offer draw`) or `claim` (a claim of a draw), which may follow
 // a move; `None` for any other argument.
-fn remark(word: &str) -> Option<&'static [u8]>
-    ensures { option_map (λ t. t.now) result ≡ remark word.now }
+fn remark(argument: &str) -> Option<&'static [u8]>
+    ensures { option_map (λ t. t.now) result ≡ remark argument.now }
 {
-    if word == "offer" {
+    if argument == "offer" {
         Some(b"offer draw\n")
-    } else if word == "claim" {
+    } else if argument == "claim" {
         Some(b"1/2-1/2 {Draw by repetition}\n")
     } else {
         None
@@ -31,33 +31,33 @@ fn remark(word: &str) -> Option<&'static [u8]>
 }
 
 // What the stub sends before an argument that it plays: nothing before `resign`, `move ` before any other.
-fn prefix_of(word: &str) -> &'static [u8]
-    ensures value { result.now ≡ (if bytes_eq word.now (codes "resign") then [] else codes "move ") }
+fn prefix_of(argument: &str) -> &'static [u8]
+    ensures value { result.now ≡ (if bytes_eq argument.now (codes "resign") then [] else codes "move ") }
     ensures short { length result.now ≤ 5 }
 {
-    if word == "resign" { b"" } else { b"move " }
+    if argument == "resign" { b"" } else { b"move " }
 }
 
 // Sends a line made of a prefix and an argument, by one write unless it is long.
-fn say_line<W: Output>(writer: &mut W, prefix: &[u8], word: &str) -> Result<(), WriteFault>
+fn say_line<W: Output>(writer: &mut W, prefix: &[u8], argument: &str) -> Result<(), WriteFault>
     requires { length prefix.now ≤ 5 }
-    ensures { Puts (W.seen writer.old) (W.seen writer.new) result (prefix.now ++ (word.now ++ new_line ∷ [])) }
+    ensures { Puts (W.seen writer.old) (W.seen writer.new) result (prefix.now ++ (argument.now ++ new_line ∷ [])) }
 {
-    if word.len() > 30 {
-        return put_parts(writer, &[prefix, word.as_bytes(), b"\n".as_slice()]);
+    if argument.len() > 30 {
+        return put_parts(writer, &[prefix, argument.as_bytes(), b"\n".as_slice()]);
     }
     let mut line: ArrayVec<u8, 40> = ArrayVec::new();
     append(&mut line, prefix);
-    append(&mut line, word.as_bytes());
+    append(&mut line, argument.as_bytes());
     line.push(b'\n');
     put(writer, line.as_slice())
 }
 
 // Sends the line of an argument that the stub plays: `resign` as it is, any other after `move`.
-fn say_word<W: Output>(writer: &mut W, word: &str) -> Result<(), WriteFault>
-    ensures { Puts (W.seen writer.old) (W.seen writer.new) result (played_text word.now) }
+fn say_argument<W: Output>(writer: &mut W, argument: &str) -> Result<(), WriteFault>
+    ensures { Puts (W.seen writer.old) (W.seen writer.new) result (played_text argument.now) }
 {
-    say_line(writer, prefix_of(word), word)
+    say_line(writer, prefix_of(argument), argument)
 }
 
 // Sends `pong` with this number, the answer to a `ping`.
@@ -73,13 +73,13 @@ fn say_pong<W: Output>(writer: &mut W, number: u32) -> Result<(), WriteFault>
 
 // Sends the lines that the arguments `offer` and `claim` stand for (an offer and a claim of a draw), from the index
 // `from` up to the first other argument.
-fn say_remarks<W: Output>(words: &[&str], from: usize, writer: &mut W) -> Result<(), WriteFault>
-    requires { from ≤ length words.now }
-    ensures { Puts (W.seen writer.old) (W.seen writer.new) result (remarks (drop from words.now)) }
+fn say_remarks<W: Output>(arguments: &[&str], from: usize, writer: &mut W) -> Result<(), WriteFault>
+    requires { from ≤ length arguments.now }
+    ensures { Puts (W.seen writer.old) (W.seen writer.new) result (remarks (drop from arguments.now)) }
 {
     let mut at = from;
-    while at < words.len() {
-        let Some(text) = remark(words[at]) else {
+    while at < arguments.len() {
+        let Some(text) = remark(arguments[at]) else {
             return Ok(());
         };
         put(writer, text)?;
@@ -90,14 +90,14 @@ fn say_remarks<W: Output>(words: &[&str], from: usize, writer: &mut W) -> Result
 
 // The index of the first argument, from `from` on, that is neither `offer` nor `claim`; the number of arguments, if
 // there is none.
-fn after_remarks(words: &[&str], from: usize) -> usize
-    requires { from ≤ length words.now }
-    ensures in_range { result ≤ length words.now }
-    ensures rest { drop result words.now ≡ after_remarks (drop from words.now) }
+fn after_remarks(arguments: &[&str], from: usize) -> usize
+    requires { from ≤ length arguments.now }
+    ensures in_range { result ≤ length arguments.now }
+    ensures rest { drop result arguments.now ≡ after_remarks (drop from arguments.now) }
 {
     let mut at = from;
-    while at < words.len() {
-        if remark(words[at]).is_none() {
+    while at < arguments.len() {
+        if remark(arguments[at]).is_none() {
             return at;
         }
         at += 1;
@@ -106,60 +106,60 @@ fn after_remarks(words: &[&str], from: usize) -> usize
 }
 
 // Sends the line of an argument that the stub plays, and then the lines that `offer` and `claim` stand for, from the
-// index `from` of `words` up to the first other argument.
+// index `from` of `arguments` up to the first other argument.
 fn say_played<W: Output>(
-    word: &str,
-    words: &[&str],
+    argument: &str,
+    arguments: &[&str],
     from: usize,
     writer: &mut W,
 ) -> Result<(), WriteFault>
-    requires { from ≤ length words.now }
+    requires { from ≤ length arguments.now }
     ensures { Puts (W.seen writer.old) (W.seen writer.new) result
-        (played_text word.now ++ remarks (drop from words.now)) }
+        (played_text argument.now ++ remarks (drop from arguments.now)) }
 {
-    say_word(writer, word)?;
-    say_remarks(words, from, writer)
+    say_argument(writer, argument)?;
+    say_remarks(arguments, from, writer)
 }
 
 // Sends what the stub plays in its turn: the argument at the index `at` and the `offer` and `claim` after it; `resign`
 // if there is none. Returns whether the stub goes on: not after `end`.
-fn say_turn<W: Output>(words: &[&str], at: usize, writer: &mut W) -> Result<Go, WriteFault>
-    requires { at ≤ length words.now }
-    ensures written { Puts (W.seen writer.old) (W.seen writer.new) result (turn (drop at words.now)).text }
-    ensures go { IfOk result (λ go. go ≡ (if (turn (drop at words.now)).ends then Go.Quit else Go.On)) }
+fn say_turn<W: Output>(arguments: &[&str], at: usize, writer: &mut W) -> Result<Go, WriteFault>
+    requires { at ≤ length arguments.now }
+    ensures written { Puts (W.seen writer.old) (W.seen writer.new) result (turn (drop at arguments.now)).text }
+    ensures go { IfOk result (λ go. go ≡ (if (turn (drop at arguments.now)).ends then Go.Quit else Go.On)) }
 {
-    if at == words.len() {
+    if at == arguments.len() {
         put(writer, b"resign\n")?;
         return Ok(Go::On);
     }
-    let word = words[at];
-    if word == "end" {
+    let argument = arguments[at];
+    if argument == "end" {
         put(writer, b"mov")?;
         return Ok(Go::Quit);
     }
-    say_played(word, words, at + 1, writer)?;
+    say_played(argument, arguments, at + 1, writer)?;
     Ok(Go::On)
 }
 
 // The index of the first argument that is not yet used after a turn that began with the one at the index `at`.
-fn after_turn(words: &[&str], at: usize) -> usize
-    requires { at ≤ length words.now }
-    ensures in_range { result ≤ length words.now }
-    ensures rest { drop result words.now ≡ (turn (drop at words.now)).state.words }
+fn after_turn(arguments: &[&str], at: usize) -> usize
+    requires { at ≤ length arguments.now }
+    ensures in_range { result ≤ length arguments.now }
+    ensures rest { drop result arguments.now ≡ (turn (drop at arguments.now)).state.arguments }
 {
-    if at == words.len() {
+    if at == arguments.len() {
         return at;
     }
-    if words[at] == "end" {
+    if arguments[at] == "end" {
         return at + 1;
     }
-    after_remarks(words, at + 1)
+    after_remarks(arguments, at + 1)
 }
 
 /// A stub: its arguments, the index of the next one, and whether it plays.
 #[derive(Drop)]
 pub struct Stub<'a> {
-    words: &'a [&'a str],
+    arguments: &'a [&'a str],
     at: usize,
     plays: bool,
 }
@@ -171,20 +171,20 @@ impl<'a> Model for Stub<'a> {
     ghost Value = { StubState };
 
     ghost view = { λ s. record {
-      words = drop s.at s.words.now;
+      arguments = drop s.at s.arguments.now;
       plays = s.plays;
     } };
 
-    ghost invariant = { λ s. s.at ≤ length s.words.now };
+    ghost invariant = { λ s. s.at ≤ length s.arguments.now };
 }
 
 impl<'a> Stub<'a> {
     /// A stub, an engine that plays these arguments; it doesn't play a side yet.
-    pub fn new(words: &'a [&'a str]) -> Self
-        ensures { result ≡ waiting words.now }
+    pub fn new(arguments: &'a [&'a str]) -> Self
+        ensures { result ≡ waiting arguments.now }
     {
         Stub {
-            words,
+            arguments,
             at: 0,
             plays: false,
         }
@@ -193,14 +193,14 @@ impl<'a> Stub<'a> {
     // Takes the stub's turn: plays the next argument, and returns whether the stub goes on.
     #[tactic(auto, using(crate::proofs::Remarks::turn_state))]
     fn play<W: Output>(&mut self, writer: &mut W) -> Result<Go, WriteFault>
-        ensures next { self.new ≡ (turn self.old.words).state }
-        ensures written { Puts (W.seen writer.old) (W.seen writer.new) result (turn self.old.words).text }
-        ensures go { IfOk result (λ go. go ≡ (if (turn self.old.words).ends then Go.Quit else Go.On)) }
+        ensures next { self.new ≡ (turn self.old.arguments).state }
+        ensures written { Puts (W.seen writer.old) (W.seen writer.new) result (turn self.old.arguments).text }
+        ensures go { IfOk result (λ go. go ≡ (if (turn self.old.arguments).ends then Go.Quit else Go.On)) }
     {
         let at = self.at;
-        self.at = after_turn(self.words, at);
+        self.at = after_turn(self.arguments, at);
         self.plays = true;
-        say_turn(self.words, at, writer)
+        say_turn(self.arguments, at, writer)
     }
 
     // Takes a move of the opponent: if the stub plays, it is its turn, else nothing happens. Returns whether the stub

@@ -133,8 +133,8 @@ impl<const N: usize> Part<N> {
         self.is_too_long = false;
     }
 
-    // Adds these bytes, which `\n` follows, and ends the line with them: puts it into `line`, in place of what that held,
-    // and begins the next one. A line that comes at once goes there straight.
+    // Adds these bytes, which `\n` follows, and ends the line with them: puts it into `line`, in place of what that
+    // held, and begins the next one. A line that comes at once goes there straight.
     fn finish_with(&mut self, bytes: &[u8], line: &mut Line<N>)
         ensures line { line.new ≡ line_of N true (self.old ++ bytes.now) }
         ensures empty { self.new ≡ [] }

@@ -13,7 +13,7 @@ use Rattle.arbiter_cli.specs.Plans.{verify_plan_of, IsPlanOf}
 abbrev pub command_name : Plan → Text
 command_name Session = codes "session"
 command_name (Verify v) = codes "verify"
-command_name (Stub words) = codes "stub"
+command_name (Stub arguments) = codes "stub"
 command_name (Match plan) = codes "match"
 
 -- each plan is asked for by the subcommand of its kind (`session`, `verify`, `stub` or `match`); `p` is the
@@ -27,14 +27,14 @@ abbrev pub VerifyIsAsAsked : Type 0
 VerifyIsAsAsked = (p : Text × List Row) (v : VerifyPlan) → IsPlanOf p (Verify v) → v ≡ verify_plan_of p.1
 
 -- `clap` accepts these arguments, and they ask for the subcommand `name` with no options given
-pub record AskFor (words : List Text) (name : Text) : Type 0 where
-  pub taken : (names : Lent) → faults_in names words ≡ []
-  pub named : (names : Lent) → (asked names words).0 ≡ name
-  pub bare : (names : Lent) → list_any (λ r. explicit_source r.source) (asked names words).1 ≡ false
+pub record AskFor (arguments : List Text) (name : Text) : Type 0 where
+  pub taken : (names : Lent) → faults_in names arguments ≡ []
+  pub named : (names : Lent) → (asked names arguments).0 ≡ name
+  pub bare : (names : Lent) → list_any (λ r. explicit_source r.source) (asked names arguments).1 ≡ false
 
 -- `clap` refuses these arguments, and `kinds` are the kinds of fault that it may report for them
 abbrev pub AreRefused : List Text → Kinds → Type 0
-AreRefused words kinds = (names : Lent) → faults_in names words ≡ kinds
+AreRefused arguments kinds = (names : Lent) → faults_in names arguments ≡ kinds
 
 -- the plan of `verify` without flags
 abbrev pub bare_plan : VerifyPlan
@@ -42,4 +42,4 @@ bare_plan = record { keep_going = false; quiet = false; strict = false; explain 
 
 -- the options of these arguments make the plan of `verify` without flags
 abbrev pub VerifyAsBare : List Text → Type 0
-VerifyAsBare words = (names : Lent) → verify_plan_of (asked names words).1 ≡ bare_plan
+VerifyAsBare arguments = (names : Lent) → verify_plan_of (asked names arguments).1 ≡ bare_plan

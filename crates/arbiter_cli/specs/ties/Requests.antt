@@ -42,8 +42,8 @@ pub record IsMatchOf (rows : List Row) (m : MatchRequest) : Type 0 where
 abbrev pub IsRequestOf : Text × List Row → Request → Type 0
 IsRequestOf p request.Session = p.0 ≡ codes "session"
 IsRequestOf p (request.Verify v) = (p.0 ≡ codes "verify") × (v ≡ verify_plan_of p.1)
-IsRequestOf p (request.Stub words) = (p.0 ≡ codes "stub")
-    × (map (λ w. w.now) words.items ≡ unwrap_or (all_of (codes "words") p.1) [])
+IsRequestOf p (request.Stub arguments) = (p.0 ≡ codes "stub")
+    × (map (λ w. w.now) arguments.items ≡ unwrap_or (all_of (codes "words") p.1) [])
 IsRequestOf p (request.Match m) = (p.0 ≡ codes "match") × IsMatchOf p.1 m
 
 -- the plan of a match is what the request `m` asks for: level and FEN as what they denote, a date that can be a tag,
@@ -72,7 +72,7 @@ IsJudgedFault m BadDate = (l : LevelSeen) × (p : Setup) × (level_of m.level.no
 abbrev pub IsPlanned : Request → Plan → Type 0
 IsPlanned request.Session plan = plan ≡ Session
 IsPlanned (request.Verify v) plan = plan ≡ Verify v
-IsPlanned (request.Stub words) plan = plan ≡ Stub words
+IsPlanned (request.Stub arguments) plan = plan ≡ Stub arguments
 IsPlanned (request.Match m) plan = (p : MatchPlan) × (plan ≡ Match p) × IsJudged m p
 
 -- the fault is right for this request: that of the first of level, FEN and date that is invalid in a match; no other

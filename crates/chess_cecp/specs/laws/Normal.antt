@@ -58,7 +58,8 @@ normal_move_row limit s text =
 abbrev pub normal_result_row : State → List ℕ → Option Declared → Response State
 normal_result_row s text None = refuses s (codes "Error (bad result): ") text
 normal_result_row s text (Some d) =
-    if contradicts_verdict (normal_verdict_now s) d.outcome then refuses s (codes "Error (the board says otherwise): ") text
+    if contradicts_verdict (normal_verdict_now s) d.outcome
+    then refuses s (codes "Error (the board says otherwise): ") text
     else becomes (with_declared s (Some d))
 
 -- the answer to `claim` in the game `s`: a draw by threefold repetition or 50 moves, if the game is not over and the
@@ -120,7 +121,7 @@ normal_row_of tags limit s text argument BadNumber = refuses s (codes "Error (ba
 normal_row_of tags limit s text argument Unknown = refuses s (codes "Error (unknown command): ") text
 
 -- whether this command does in a game of normal chess what it does in the table of commands for normal chess alone
-abbrev pub keeps_its_row : Command → Bool
-keeps_its_row Variant = false
-keeps_its_row (Protover n) = false
-keeps_its_row command = true
+abbrev pub has_normal_row : Command → Bool
+has_normal_row Variant = false
+has_normal_row (Protover n) = false
+has_normal_row command = true

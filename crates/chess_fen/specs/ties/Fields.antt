@@ -10,8 +10,8 @@ use Rattle.chess_fen.specs.declared.fields.Fields.{Fields}
 use Rattle.chess_fen.specs.Reading.{◌>>=◌, side_of, rights_of, setup_by, setup_in}
 use Rattle.chess_fen.specs.Texts.{target_of, number_of}
 
--- the five fields f, which code cut out of a FEN behind its first one, denote with any first field the same position
--- (or fault) as `fields`, the list of all fields behind the first; where code found none (`None`), that list has a
+-- the five fields f, which code cut out of a FEN after its first one, denote with any first field the same position
+-- (or fault) as `fields`, the list of all fields after the first; where code found none (`None`), that list has a
 -- wrong number of fields
 abbrev pub FieldsAre : Option Fields → List (List ℕ) → Type 0
 FieldsAre None fields = (v : Variant) → (placement : List ℕ) → setup_in v (placement ∷ fields) ≡ Err faults.Fields
@@ -19,7 +19,7 @@ FieldsAre (Some f) fields =
     (v : Variant) → (placement : List ℕ) → setup_in v (placement ∷ fields)
     ≡ setup_by v placement f.side.now f.castling.now f.target.now f.halfmove.now f.fullmove.now
 
--- the position with these pieces that the five fields of a FEN behind the first denote, sound or not; or the fault of
+-- the position with these pieces that the five fields of a FEN after the first denote, sound or not; or the fault of
 -- the first of them that denotes nothing
 abbrev pub setup_with : Variant → Men → List ℕ → List ℕ → List ℕ → List ℕ → List ℕ → Result Setup FenFault
 setup_with v men side castling target halfmove fullmove = do

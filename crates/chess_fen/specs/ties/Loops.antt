@@ -9,7 +9,7 @@ use Rattle.chess_base.specs.declared.man.Kind.TheVariants.{Rook}
 use Rattle.chess_base.specs.Men.{Men, man_at, is_man}
 use Rattle.chess_base.specs.Castling.{home_square}
 use Rattle.chess_fen.specs.ManLetters.{stroke}
-use Rattle.chess_fen.specs.RightNames.{nowhere, named_square, only_one_of}
+use Rattle.chess_fen.specs.RightNames.{nowhere, named_square, one_or_nowhere}
 use Rattle.chess_fen.specs.Writing.{fen_rank, ranks_down}
 
 -- the next file in a search from the board's edge on that side, where k more files are left after it: file k from the
@@ -28,7 +28,7 @@ rook_among men c w (suc k) = if is_man c Rook (man_at men (home_square c (edge_f
 -- colour c's right on side w in Chess960, as its rook's square, after these further letters; `found` is the one that
 -- the letters so far named, if any. Two letters for it give `nowhere`
 abbrev pub right_after_letters : Men → Colour → CastlingSide → Option ℕ → List ℕ → Option ℕ
-right_after_letters men c w found letters = fold only_one_of found (map (named_square men c w) letters)
+right_after_letters men c w found letters = fold one_or_nowhere found (map (named_square men c w) letters)
 
 -- the text of the n lowest ranks, the highest first, with a slash between them
 abbrev pub ranks_text : ℕ → List (Option Man) → List ℕ

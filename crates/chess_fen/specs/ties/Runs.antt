@@ -33,13 +33,13 @@ placing left row above (c ∷ cs) =
     else option_and_then (λ squares. placing left (row ++ squares) above cs) (squares_of c)
 
 -- a text from its first space on
-abbrev pub behind : List ℕ → List ℕ
-behind text = drop (position_or_len (λ b. b == space) text) text
+abbrev pub from_space : List ℕ → List ℕ
+from_space text = drop (position_or_len (λ b. b == space) text) text
 
 -- from a text, a whole rank was read into `row`, up to the text `rest`
 pub record RankIsRead (text : List ℕ) (row : List (Option Man)) (rest : List ℕ) : Type 0 where
   pub on : (left : ℕ) → (above : List (Option Man)) → placing left [] above text ≡ placing left row above rest
-  pub back : behind text ≡ behind rest
+  pub back : from_space text ≡ from_space rest
   pub eight : length row ≡ 8
 
 -- no whole rank is at the front of a text
@@ -55,23 +55,23 @@ pub record RankIsPlaced (text : List ℕ) (rank : ℕ) (old new : List (Option M
   pub below : take (8 * rank) new ≡ take (8 * rank) old
 
 -- a text goes on with a slash and then `rest`, so that the next rank begins there
-pub record StrokeIsRead (text rest : List ℕ) : Type 0 where
+pub record SlashIsRead (text rest : List ℕ) : Type 0 where
   pub on : (lower : ℕ) → (row above : List (Option Man)) → length row ≡ 8
       → placing (suc lower) row above text ≡ placing lower [] (row ++ above) rest
-  pub back : behind text ≡ behind rest
+  pub back : from_space text ≡ from_space rest
 
 -- no other rank follows in a text
-abbrev pub NoStrokeIsRead : List ℕ → Type 0
-NoStrokeIsRead text = (lower : ℕ) → (row above : List (Option Man)) → length row ≡ 8
+abbrev pub NoSlashIsRead : List ℕ → Type 0
+NoSlashIsRead text = (lower : ℕ) → (row above : List (Option Man)) → length row ≡ 8
     → placing (suc lower) row above text ≡ None
 
 -- whether the placement ends where a text begins
 abbrev pub Ends : Bool → List ℕ → Type 0
 Ends true text = ((row above : List (Option Man)) → length row ≡ 8 → placing 0 row above text ≡ Some (row ++ above))
-    × (behind text ≡ text)
+    × (from_space text ≡ text)
 Ends false text = (row above : List (Option Man)) → length row ≡ 8 → placing 0 row above text ≡ None
 
 -- the field at the front of a text denotes these pieces, and `rest` is the text from the first space on
 pub record PlacementIsRead (text : List ℕ) (men : List (Option Man)) (rest : List ℕ) : Type 0 where
   pub denotes : placement_of (before_first (λ b. b == space) text) ≡ Some men
-  pub back : rest ≡ behind text
+  pub back : rest ≡ from_space text

@@ -14,7 +14,7 @@ use Rattle.chess_game.specs.declared.index.TheConstants.{BUCKETS}
 
 -- the number of the bucket that a position is put into, by its hash
 abbrev pub bucket : Hashed → ℕ
-bucket k = k.word % BUCKETS
+bucket k = k.hash % BUCKETS
 
 -- `now` is a position that one more legal move gives, in the game from `start` by the played moves xs
 abbrev pub IsNext : Hashed → List PlayedMove → Hashed → Type 0

@@ -31,7 +31,7 @@ Hashing = Men → Colour → Rights → ℕ
 
 -- the hash that is kept with a position is that of the position, by the definition f
 abbrev pub HasHash : Hashing → Hashed → Type 0
-HasHash f k = k.word ≡ f k.position.men k.position.side k.position.rights
+HasHash f k = k.hash ≡ f k.position.men k.position.side k.position.rights
 
 -- the hashes that are kept with two positions are by one and the same definition
 abbrev pub ShareHashing : Hashed → Hashed → Type 0
@@ -40,7 +40,7 @@ ShareHashing x y = (f : Hashing) × HasHash f x × HasHash f y
 -- the hashes that are kept with the start and with each position that a played move reached are by the definition f
 pub record HaveHashes (f : Hashing) (first : Hashed) (played_moves : List PlayedMove) : Type 0 where
   pub start : HasHash f first
-  pub behind : AllByRecursion (λ (x : PlayedMove). HasHash f x.reached) played_moves
+  pub later : AllByRecursion (λ (x : PlayedMove). HasHash f x.reached) played_moves
 
 -- what has to be saved of position p to take back a move that captured this piece, or none
 abbrev pub saved_with : Setup → Option Man → Saved
@@ -67,7 +67,7 @@ Follows p (x ∷ xs) = WasPlayed p x x.reached.position × IsKnown x.reached × 
 pub record IsKept (f : Hashing) (start : Hashed) (played_moves : List PlayedMove) (board : Setup) : Type 0 where
   pub known : IsKnown start
   pub follows : Follows start.position played_moves
-  pub words : HaveHashes f start played_moves
+  pub hashes : HaveHashes f start played_moves
   pub at_end : board ≡ position_after start.position (moves_of played_moves)
 
 -- no verdict came before the last of these moves

@@ -11,7 +11,7 @@ use Rattle.chess_match.specs.Notes.{Noted, WasNoted, Happened, Note, both_notes}
 use Rattle.chess_match.specs.Reasons.{by_colour}
 use Rattle.chess_match.specs.Rules.{Rules}
 use Rattle.chess_match.specs.Run.{text_read, Flushed}
-use Rattle.chess_match.specs.Sent.{SentLine, block, bytes_of, answer_words}
+use Rattle.chess_match.specs.Sent.{SentLine, block, bytes_of, answer_text}
 use Rattle.chess_match.specs.ties.Represents.{Represents}
 use Rattle.chess_match.specs.ties.Reported.{SendsIf}
 use Rattle.chess_match.specs.Transcript.{is_on}
@@ -84,8 +84,8 @@ pub record OneFailed (r : Rules) (core : MatchState) (played : List Move) (m : M
 -- which ended the match. `m` is the match after that event, before any failed write; `core` and the moves `played` are
 -- the code's state after all. `failed` says to which sides a write failed; `w` and `w'` are the engines' inputs before
 -- and after, `notes` and `notes'` the witness
-abbrev pub Delivered : Rules → MatchState → List Move → Match → (Colour → List SentLine) → Colour → (Colour → OutputState)
-    → (Colour → OutputState) → (Colour → Bool) → Noted → Noted → Type 0
+abbrev pub Delivered : Rules → MatchState → List Move → Match → (Colour → List SentLine) → Colour
+    → (Colour → OutputState) → (Colour → OutputState) → (Colour → Bool) → Noted → Noted → Type 0
 Delivered r core played m due first w w' failed notes notes' =
     AllSent r core played m due first w w' failed notes notes'
     ⊎ ((c : Colour) × OneFailed r core played m due first w w' failed notes notes' c)
@@ -98,4 +98,4 @@ HasLast core played = (r : Rules) × (m : Match) × Represents r core played m
 
 -- the line that answers an item of this name, with its `\n`: `accepted ping`, or `rejected` and the name
 abbrev pub answer_line : List ℕ → List ℕ
-answer_line name = answer_words name ++ new_line ∷ []
+answer_line name = answer_text name ++ new_line ∷ []

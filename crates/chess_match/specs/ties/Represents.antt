@@ -14,7 +14,7 @@ use Rattle.chess_match.specs.Match.{Match, Seat, items_of_line}
 use Rattle.chess_match.specs.Rules.{Rules}
 use Rattle.chess_match.specs.Sent.{SentLine, Says, answers_to, lines_on_entering, block}
 use Rattle.chess_match.specs.declared.phase.Phase.{Phase}
-use Rattle.chess_match.specs.declared.phase.Phase.TheVariants.{Hello, AwaitPong}
+use Rattle.chess_match.specs.declared.phase.Phase.TheVariants.{Handshake, AwaitPong}
 use Rattle.chess_match.specs.declared.state.Player.{Player}
 use Rattle.chess_match.specs.declared.state.Actions.{Actions}
 use Rattle.chess_match.specs.declared.state.MatchState.{MatchState}
@@ -69,7 +69,8 @@ nothing_said S = []
 -- what the side `S` is sent after the answers to its items, by the code's `given`: `draw`, if the other offered one,
 -- and the lines of the phase of `m`, if it was entered
 abbrev pub after_answers : Rules → Actions → Match → Colour → List SentLine
-after_answers r given m S = lines_if_to given.draw S (Says (codes "draw") ∷ []) ++ (if given.entered then lines_on_entering r m S else [])
+after_answers r given m S = lines_if_to given.draw S (Says (codes "draw") ∷ [])
+    ++ (if given.entered then lines_on_entering r m S else [])
 
 -- all that the side `S` is sent at an event, after which the match is `m`: answers to its `items`, and by the code's
 -- `given` an offer of a draw and the lines of a new phase
@@ -115,5 +116,5 @@ played_core core Black used texts = record core {
 
 -- the items of a line that comes in this phase; none unless the phase is a handshake, in which alone they count
 abbrev pub items_in : Phase → LineKind → List Item
-items_in (Hello c) kind = items_of_line kind
+items_in (Handshake c) kind = items_of_line kind
 items_in _ kind = []

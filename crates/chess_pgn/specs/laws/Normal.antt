@@ -8,9 +8,9 @@ use Rattle.chess_fen.specs.Reading.{fen_reading}
 use Rattle.chess_game.specs.Game.{from_start}
 use Rattle.chess_pgn.specs.declared.read.PgnFaultKind.TheVariants.{NoResult}
 use Rattle.chess_pgn.specs.declared.termination.Termination.{Termination}
-use Rattle.chess_pgn.specs.declared.word.WordKind.{WordKind}
-use Rattle.chess_pgn.specs.declared.word.WordKind.TheVariants.{End, Number, Marks, Move}
-use Rattle.chess_pgn.specs.GameRead.{SoFar, GameRead, Step, On, fails, fen_step, termination_after, step, at_text_end, go_on, pgn_read}
+use Rattle.chess_pgn.specs.declared.word_kind.WordKind.{WordKind}
+use Rattle.chess_pgn.specs.declared.word_kind.WordKind.TheVariants.{End, Number, Marks, Move}
+use Rattle.chess_pgn.specs.GameRead.{SoFar, GameRead, Step, On, fails, fen_step, termination_after, step, at_text_end, read_rest_with, pgn_read}
 use Rattle.chess_fen.specs.Writing.{is_initial}
 use Rattle.chess_pgn.specs.GameText.{fen_lines, further_lines}
 use Rattle.chess_pgn.specs.Terminations.{termination_text}
@@ -41,22 +41,23 @@ normal_tag_step g name text offset =
     })
 
 -- what follows from one token for the game so far (`g`), if there were no Chess960. `limit` is the most half-moves of a
--- game, `total` the text's length, and `left` how many bytes are left from the token on
+-- game, `total` the text's length, and `to_end` how many bytes are left from the token on
 abbrev pub normal_step : ℕ → ℕ → SoFar → ℕ → Token → Step
-normal_step limit total g left (Tag name text string) =
-    if g.is_begun then fails g NoResult (total - left) else normal_tag_step g name text (total - string)
-normal_step limit total g left Skip = step limit total g left Skip
-normal_step limit total g left (Word word) = step limit total g left (Word word)
-normal_step limit total g left Bad_tag = step limit total g left Bad_tag
-normal_step limit total g left (Unclosed_comment brace) = step limit total g left (Unclosed_comment brace)
-normal_step limit total g left Unclosed_variation = step limit total g left Unclosed_variation
-normal_step limit total g left Bad = step limit total g left Bad
+normal_step limit total g to_end (Tag name text string) =
+    if g.is_begun then fails g NoResult (total - to_end) else normal_tag_step g name text (total - string)
+normal_step limit total g to_end Skip = step limit total g to_end Skip
+normal_step limit total g to_end (Word word) = step limit total g to_end (Word word)
+normal_step limit total g to_end Bad_tag = step limit total g to_end Bad_tag
+normal_step limit total g to_end (Unclosed_comment brace) = step limit total g to_end (Unclosed_comment brace)
+normal_step limit total g to_end Unclosed_variation = step limit total g to_end Unclosed_variation
+normal_step limit total g to_end Bad = step limit total g to_end Bad
 
 -- what is read in the end, from the game so far (`g`) and the tokens that are left, if there were no Chess960. `limit`
 -- is the most half-moves of a game, `total` the text's length
 abbrev pub normal_game_of : ℕ → ℕ → SoFar → List (ℕ × Token) → GameRead
 normal_game_of limit total g [] = at_text_end total g
-normal_game_of limit total g (t ∷ ts) = go_on (normal_step limit total g t.0 t.1) (λ h. normal_game_of limit total h ts)
+normal_game_of limit total g (t ∷ ts) = read_rest_with (normal_step limit total g t.0 t.1)
+    (λ h. normal_game_of limit total h ts)
 
 -- what is read of these tokens, if there were no Chess960: a game from the initial position of normal chess on. `limit`
 -- is the most half-moves of a game, `total` the text's length
@@ -68,11 +69,11 @@ normal_read limit total tokens = normal_game_of limit total
 
 -- whether a token is a tag Variant
 abbrev pub names_variant : Token → Bool
-names_variant (Tag name text left) = bytes_eq name (codes "Variant")
+names_variant (Tag name text to_end) = bytes_eq name (codes "Variant")
 names_variant Skip = false
 names_variant (Word word) = false
 names_variant Bad_tag = false
-names_variant (Unclosed_comment left) = false
+names_variant (Unclosed_comment to_end) = false
 names_variant Unclosed_variation = false
 names_variant Bad = false
 
@@ -86,10 +87,10 @@ is_mark_word (End o) = false
 -- after this token no tag of the game may follow: it is a number, a move, an outcome, or can't be read
 abbrev pub ends_tags : Token → Bool
 ends_tags Skip = false
-ends_tags (Tag name text left) = false
+ends_tags (Tag name text to_end) = false
 ends_tags (Word word) = not (is_mark_word (word_kind word))
 ends_tags Bad_tag = true
-ends_tags (Unclosed_comment left) = true
+ends_tags (Unclosed_comment to_end) = true
 ends_tags Unclosed_variation = true
 ends_tags Bad = true
 
@@ -103,5 +104,6 @@ names_no_variant (t ∷ ts) = if ends_tags t.1 then true else not (names_variant
 pub record NormalIsKept : Type 0 where
   pub written : (start : Setup) (termination : Termination) → start.variant ≡ Normal
       → further_lines start termination ≡ normal_further_lines start termination
-  pub read : (limit : ℕ) (text : List ℕ) (at : ℕ) → IsTrue (names_no_variant (tokens_from text (after_byte_order_mark text at)))
+  pub read : (limit : ℕ) (text : List ℕ) (at : ℕ)
+      → IsTrue (names_no_variant (tokens_from text (after_byte_order_mark text at)))
       → pgn_read limit text at ≡ normal_read limit (length text) (tokens_from text (after_byte_order_mark text at))

@@ -25,8 +25,9 @@ pub record IsReadBack (s : State) (termination : Termination) (text_end : ℕ) (
   pub moves : r.state.moves ≡ s.moves
   pub outcome : outcome_now r.state ≡ outcome_now s
   pub offset : ℕ
-  pub answer : r.answer ≡ Ok (Some (record { outcome = outcome_now s; termination = Some termination; offset = offset }))
-  pub behind : offset + 2 ≡ text_end
+  pub answer : r.answer ≡ Ok
+      (Some (record { outcome = outcome_now s; termination = Some termination; offset = offset }))
+  pub two_before_end : offset + 2 ≡ text_end
 
 -- the text that is written of a playable game `s` of at most `limit` half-moves, with no line prefix, is read back as
 -- that game, whatever text comes before and after it

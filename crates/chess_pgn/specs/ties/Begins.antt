@@ -3,6 +3,6 @@ use Rattle.std.specs.Prelude.{ℕ, Bool, false, List, [], ◌∷◌, nat_le}
 use Rattle.chess_base.specs.Letters.{byte}
 
 -- whether a word's first byte is `A` or greater: a letter or `_`, so that it is no number, outcome or mark
-abbrev pub begins_from_a : List ℕ → Bool
-begins_from_a [] = false
-begins_from_a (c ∷ cs) = nat_le (byte "A") c
+abbrev pub begins_as_move : List ℕ → Bool
+begins_as_move [] = false
+begins_as_move (c ∷ cs) = nat_le (byte "A") c

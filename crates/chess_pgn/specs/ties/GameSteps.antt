@@ -47,16 +47,16 @@ EndsIn first last (Ok (does.On p)) = Unit {0}
 EndsIn first last (Ok (does.Ended end)) = (first < end.offset) × (end.offset ≤ last)
 EndsIn first last (Err fault) = Unit {0}
 
--- the places that a token names are inside the token and what follows: at most `left` bytes, those from its first byte
--- on, are left at each
+-- the places that a token names are inside the token and what follows: at most `to_end` bytes, those from its first
+-- byte on, are left at each
 abbrev pub IsWithin : ℕ → Token → Type 0
-IsWithin left Skip = Unit {0}
-IsWithin left (Tag name text string) = string ≤ left
-IsWithin left (Word word) = length word ≤ left
-IsWithin left Bad_tag = Unit {0}
-IsWithin left (Unclosed_comment brace) = brace ≤ left
-IsWithin left Unclosed_variation = Unit {0}
-IsWithin left Bad = Unit {0}
+IsWithin to_end Skip = Unit {0}
+IsWithin to_end (Tag name text string) = string ≤ to_end
+IsWithin to_end (Word word) = length word ≤ to_end
+IsWithin to_end Bad_tag = Unit {0}
+IsWithin to_end (Unclosed_comment brace) = brace ≤ to_end
+IsWithin to_end Unclosed_variation = Unit {0}
+IsWithin to_end Bad = Unit {0}
 
 -- reading on from the offset `a` gives the same as from `b`, whatever was read before
 abbrev pub ReadsAlike : List ℕ → ℕ → ℕ → Type 0
@@ -67,7 +67,7 @@ ReadsAlike text a b = (limit : ℕ) (g : SoFar)
 -- Reading on from `here` gives what reading from `from` on gives. `limit` is the most half-moves
 pub record IsReadOn (limit : ℕ) (text : List ℕ) (from : ℕ) (game : Seen) (progress : Progress) (here : ℕ)
     : Type 0 where
-  pub behind : from ≤ here
+  pub forward : from ≤ here
   pub offset : here ≤ length text
   pub undeclared : game.state.declared ≡ None
   pub whole : game_of limit (length text) (so_far game.state progress) (tokens_from text here)
@@ -77,7 +77,7 @@ pub record IsReadOn (limit : ℕ) (text : List ℕ) (from : ℕ) (game : Seen) (
 -- reading on gives the same from both
 pub record GoesOn (text : List ℕ) (from : ℕ) (old : Seen) (before : Progress) (here : ℕ) (new : Seen)
     (after : Progress) : Type 0 where
-  pub behind : from ≤ here
+  pub forward : from ≤ here
   pub offset : here ≤ length text
   pub undeclared : new.state.declared ≡ None
   pub same_limit : new.limit ≡ old.limit

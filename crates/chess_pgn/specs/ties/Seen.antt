@@ -14,22 +14,22 @@ use Rattle.chess_pgn.specs.Tokens.{tokens_from}
 -- and an empty text
 abbrev pub tag_seen : Option (Tag × Bor (List ℕ)) → tokens.Token × List ℕ
 tag_seen None = (tokens.Bad_tag, [])
-tag_seen (Some r) = (tokens.Tag r.0.name.now r.0.text.now r.0.left, r.1.now)
+tag_seen (Some r) = (tokens.Tag r.0.name.now r.0.text.now r.0.to_end, r.1.now)
 
 -- the tag that the code found, as the definitions have it: its text, and how many bytes are left where that begins
 abbrev pub found_seen : Option Tag → Option (List ℕ × ℕ)
-found_seen tag = option_map (λ t. (t.text.now, t.left)) tag
+found_seen tag = option_map (λ t. (t.text.now, t.to_end)) tag
 
 -- the code's token as the definitions have it: with lists of bytes in place of borrows
 abbrev pub token_seen : Token → tokens.Token
 token_seen token.Skip = tokens.Skip
-token_seen (token.Tag t) = tokens.Tag t.name.now t.text.now t.left
+token_seen (token.Tag t) = tokens.Tag t.name.now t.text.now t.to_end
 token_seen (token.Word word) = tokens.Word word.now
 
 -- the code's fault as the definitions have it: there what can't be read is a token too
 abbrev pub fault_seen : TokenFault → tokens.Token
 fault_seen fault.BadTag = tokens.Bad_tag
-fault_seen (fault.UnclosedComment left) = tokens.Unclosed_comment left
+fault_seen (fault.UnclosedComment to_end) = tokens.Unclosed_comment to_end
 fault_seen fault.UnclosedVariation = tokens.Unclosed_variation
 fault_seen fault.BadByte = tokens.Bad
 
@@ -53,8 +53,8 @@ IsNextToken text at (Ok (Some r)) = (tokens_from text at ≡ (length text - at, 
     × (at < r.1) × (r.1 ≤ length text)
 IsNextToken text at (Err f) = tokens_from text at ≡ (length text - at, fault_seen f) ∷ []
 
--- from the offset `a` to the offset `b` the text has only tokens that are skipped; `lefts` are how many bytes are left at
--- each of them
+-- from the offset `a` to the offset `b` the text has only tokens that are skipped; `to_ends` are how many bytes are
+-- left at each of them
 abbrev pub SkipsTo : List ℕ → ℕ → ℕ → Type 0
-SkipsTo text a b = (lefts : List ℕ)
-    × (tokens_from text a ≡ map (λ left. (left, tokens.Skip)) lefts ++ tokens_from text b)
+SkipsTo text a b = (to_ends : List ℕ)
+    × (tokens_from text a ≡ map (λ to_end. (to_end, tokens.Skip)) to_ends ++ tokens_from text b)

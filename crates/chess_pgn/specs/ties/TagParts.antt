@@ -10,16 +10,16 @@ abbrev pub ends_plain : ℕ → Bool
 ends_plain c = c == byte "\"" || (c == byte "\\" || c == new_line)
 
 -- the tag with this name and text, and the text after its `]`, which is given; `Bad_tag` if it is `None`, as there is
--- no `]`. `left` counts the bytes from the tag's string on
+-- no `]`. `to_end` counts the bytes from the tag's string on
 abbrev pub closed : List ℕ → ℕ → List ℕ → Option (List ℕ) → Token × List ℕ
-closed name left text None = (Bad_tag, [])
-closed name left text (Some rest) = (Tag name text left, rest)
+closed name to_end text None = (Bad_tag, [])
+closed name to_end text (Some rest) = (Tag name text to_end, rest)
 
 -- the tag with this name, and the text after it. `found` is its string's bytes and the text after the closing quote;
--- `Bad_tag` if that is `None`, or no `]` follows. `left` counts the bytes from the string on
+-- `Bad_tag` if that is `None`, or no `]` follows. `to_end` counts the bytes from the string on
 abbrev pub with_text : List ℕ → ℕ → Option (List ℕ × List ℕ) → Token × List ℕ
-with_text name left None = (Bad_tag, [])
-with_text name left (Some found) = closed name left found.0 (after_next (byte "]") found.1)
+with_text name to_end None = (Bad_tag, [])
+with_text name to_end (Some found) = closed name to_end found.0 (after_next (byte "]") found.1)
 
 -- the tag with this name, and the text after it, from the text after its opening quote; `Bad_tag` if there is no quote
 -- (`None`), or the rest is not a tag's

@@ -89,20 +89,21 @@ ReportsStart start.CanNotStart command fault = (c : Bor (List ℕ)) × (fault �
 -- what playing the game of this number does, by its result: its PGN was written and flushed, and the game logged; or
 -- only a beginning of the PGN was written; or its engines could not be started. `w` and `l` are output and log before,
 -- `w'` and `l'` after
-abbrev pub PlayedOne : GamesPlan → ℕ → OutputState → OutputState → LogSeen → LogSeen → Result MatchEnd GamesFault
+abbrev pub PlayedGame : GamesPlan → ℕ → OutputState → OutputState → LogSeen → LogSeen → Result MatchEnd GamesFault
     → Type 0
-PlayedOne plan number w w' l l' (Ok end) =
+PlayedGame plan number w w' l l' (Ok end) =
     (game : Seen) × (notes : List Note) × IsOfPlan plan (record { game = game; end = end; notes = notes })
     × Sent w w' (game_text plan number (record { game = game; end = end; notes = notes }))
     × LogsGame (logged_side plan number) l l' notes
-PlayedOne plan number w w' l l' (Err WriteFailed) =
+PlayedGame plan number w w' l l' (Err WriteFailed) =
     (played : GameRecord) × IsOfPlan plan played × BreaksOff w w' (game_text plan number played)
     × LogsGame (logged_side plan number) l l' played.notes
-PlayedOne plan number w w' l l' (Err fault) = IsStartFault plan fault × (w' ≡ w) × (l' ≡ l)
+PlayedGame plan number w w' l l' (Err fault) = IsStartFault plan fault × (w' ≡ w) × (l' ≡ l)
 
 -- what playing the games of a match does, by its result: each was written and logged, and the score counts them, up to
 -- and with one that has a fault; or the match broke off. `w` and `l` are output and log before, `w'` and `l'` after
-abbrev pub HasPlayed : GamesPlan → OutputState → OutputState → LogSeen → LogSeen → Result GamesPlayed GamesFault → Type 0
+abbrev pub HasPlayed : GamesPlan → OutputState → OutputState → LogSeen → LogSeen
+    → Result GamesPlayed GamesFault → Type 0
 HasPlayed plan w w' l l' (Ok played) =
     (games : List GameRecord) × EndsGames plan games played.fault × (played.score ≡ score_of games)
     × Flushed w w' (game_texts plan games) × LogsGames plan.log l l' games

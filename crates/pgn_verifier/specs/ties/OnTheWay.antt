@@ -59,8 +59,8 @@ next_number before = before.games + before.faults + 1
 
 -- between the output's states `w` and `w'` the lines of these reports on games of the input were written, and `after`
 -- counts them on top of `before`, the counts so far; or a write failed, and a beginning of the lines was written
-abbrev pub Writes : {E : Type 0} → VerifyOptions → List ℕ → Tally → OutputState → OutputState → Result Tally E → List Report
-    → Type 0
+abbrev pub Writes : {E : Type 0} → VerifyOptions → List ℕ → Tally → OutputState → OutputState → Result Tally E
+    → List Report → Type 0
 Writes options input before w w' (Ok after) reports =
     Took w w' (report_lines options input (next_number before) reports) × (after ≡ counted before reports)
 Writes options input before w w' (Err e) reports =

@@ -10,7 +10,7 @@ use Rattle.arbiter_cli.proofs.reading.read_words.Goals.{in-None, in-Some+in-Ok-r
 
 pub request_in-requires-clause-known : goal.request_in-requires-clause-known
 request_in-requires-clause-known c =
-    let texts = map (λ w. w.now) c.args.words.now in
+    let texts = map (λ w. w.now) c.args.arguments.now in
     let is : c.entered.result ≡ Some (c.in-Some.name, c.in-Some.found) = search rules in
     let parsed : IsParsed texts (Ok c.in-Ok.matches) = c.in-Ok.ensures.parsed in
     (entered_well texts c.in-Ok.matches parsed c.entered.result c.entered.ensures c.in-Ok.ensures.complete
@@ -18,7 +18,7 @@ request_in-requires-clause-known c =
 
 pub request_in-requires-clause-both : goal.request_in-requires-clause-both
 request_in-requires-clause-both c =
-    let texts = map (λ w. w.now) c.args.words.now in
+    let texts = map (λ w. w.now) c.args.arguments.now in
     let is : c.entered.result ≡ Some (c.in-Some.name, c.in-Some.found) = search rules in
     let parsed : IsParsed texts (Ok c.in-Ok.matches) = c.in-Ok.ensures.parsed in
     (entered_well texts c.in-Ok.matches parsed c.entered.result c.entered.ensures c.in-Ok.ensures.complete
@@ -26,19 +26,19 @@ request_in-requires-clause-both c =
 
 pub request_in-requires-clause-games : goal.request_in-requires-clause-games
 request_in-requires-clause-games c =
-    let texts = map (λ w. w.now) c.args.words.now in
+    let texts = map (λ w. w.now) c.args.arguments.now in
     let is : c.entered.result ≡ Some (c.in-Some.name, c.in-Some.found) = search rules in
     let parsed : IsParsed texts (Ok c.in-Ok.matches) = c.in-Ok.ensures.parsed in
     (entered_well texts c.in-Ok.matches parsed c.entered.result c.entered.ensures c.in-Ok.ensures.complete
     (c.in-Some.name, c.in-Some.found) is).2
 
 pub returns-in-Err : goal.returns-in-Err
-returns-in-Err c = refused_reading (map (λ w. w.now) c.args.words.now) c.in-Err.error c.refusal.result
+returns-in-Err c = refused_reading (map (λ w. w.now) c.args.arguments.now) c.in-Err.error c.refusal.result
     c.in-Err.ensures.parsed c.refusal.ensures
 
 pub returns : goal.returns
 returns c =
-    let texts = map (λ w. w.now) c.args.words.now in
+    let texts = map (λ w. w.now) c.args.arguments.now in
     let m = c.in-Ok.matches in
     let parsed : IsParsed texts (Ok m) = c.in-Ok.ensures.parsed in
     let denoted : IsRequestOf (asked parsed.0 texts) c.match-entered.request = elim c.match-entered.branch [

@@ -2,12 +2,13 @@ use Rattle.std.proofs.Common.{length, drop, take, ◌-◌, ◌≡◌, ◌≤◌}
 use Rattle.std.specs.List.{list_any, slice_split}
 use Rattle.std.specs.Str.{bytes_eq}
 use Rattle.cecp_engine.specs.Items.{is_comma_or_blank}
-use Rattle.cecp_engine.proofs.Pieces.{has_word_behind}
+use Rattle.cecp_engine.proofs.Pieces.{has_word_after}
 use Rattle.cecp_engine.proofs.item.has_word.Given as goal
 
 abbrev pub invariant-loop-at : goal.invariant-loop-at
 invariant-loop-at l = record {
-  pieces : list_any (λ piece. bytes_eq piece l.word) (slice_split is_comma_or_blank l.text) ≡ has_word_behind l.word (take (l.at - l.from) (drop l.from l.text))
+  pieces : list_any (λ piece. bytes_eq piece l.word) (slice_split is_comma_or_blank l.text)
+      ≡ has_word_after l.word (take (l.at - l.from) (drop l.from l.text))
       (drop l.at l.text);
   in_order : l.from ≤ l.at;
   in_range : l.at ≤ length l.text;

@@ -2,6 +2,6 @@
 use Rattle.cecp_engine.proofs.ItemRuns.{unclosed}
 use Rattle.cecp_engine.proofs.item.read_value.Goals as goal
 
-pub returns-else-at-behind : goal.returns-else-at-behind
-returns-else-at-behind c =
-    unclosed c.args.text.now c.quote_at-at.result c.if-first-eq34.true c.quote_at-at.ensures.value c.if-at-behind.false
+pub returns-else-at-tail : goal.returns-else-at-tail
+returns-else-at-tail c =
+    unclosed c.args.text.now c.quote_at-at.result c.if-first-eq34.true c.quote_at-at.ensures.value c.if-at-tail.false

@@ -1,7 +1,7 @@
 -- By the laws of the arguments each of them is taken, and so what is planned and done
--- (PlainWords.serves_session, verifies_games).
+-- (PlainArguments.serves_session, verifies_games).
 use Rattle.std.proofs.Common.{[], ◌∷◌, codes}
-use Rattle.chess_arbiter.proofs.PlainWords.{serves_session, verifies_games}
+use Rattle.chess_arbiter.proofs.PlainArguments.{serves_session, verifies_games}
 use Rattle.chess_arbiter.proofs.laws.plain_arguments_do_what_they_say.Goals as goal
 
 pub returns-clause-none : goal.returns-clause-none

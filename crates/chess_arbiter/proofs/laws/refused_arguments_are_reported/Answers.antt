@@ -1,8 +1,8 @@
 -- The law of the arguments says how each of them is refused, and with that what the program does
--- (RefusedWords.shows_help, refuses_words).
+-- (RefusedArguments.shows_help, refuses_arguments).
 use Rattle.std.proofs.Common.{[], ◌∷◌, codes, inl, inr, refl}
 use Rattle.clap.specs.declared.error.kind.ErrorKind.TheVariants.{DisplayHelp, DisplayVersion, MissingRequiredArgument}
-use Rattle.chess_arbiter.proofs.RefusedWords.{refuses_words, shows_help}
+use Rattle.chess_arbiter.proofs.RefusedArguments.{refuses_arguments, shows_help}
 use Rattle.chess_arbiter.proofs.laws.refused_arguments_are_reported.Goals as goal
 
 pub returns-clause-help : goal.returns-clause-help
@@ -15,5 +15,5 @@ returns-clause-version c =
 
 pub returns-clause-bare_match : goal.returns-clause-bare_match
 returns-clause-bare_match c =
-    refuses_words (codes "match" ∷ []) MissingRequiredArgument (λ e. absurd (cc)) (λ e. absurd (cc))
+    refuses_arguments (codes "match" ∷ []) MissingRequiredArgument (λ e. absurd (cc)) (λ e. absurd (cc))
     c.plain_arguments_are_refused.ensures.bare_match

@@ -3,7 +3,7 @@
 use Rattle.std.proofs.Common.{[], subst, sym}
 use Rattle.text_lines.specs.Lines.{Held}
 use Rattle.byte_devices.specs.declared.traits.ReadFault.{ReadFault}
-use Rattle.chess_cecp.proofs.RunLemmas.{SoFar, start, reached, go_on, by_line, by_write, by_last, by_end, by_read, over_told, on_told}
+use Rattle.chess_cecp.proofs.RunLemmas.{SoFar, start, reached, go_on, by_line, by_write, by_last, by_end, by_read, over_said, on_said}
 use Rattle.chess_cecp.proofs.run.serve_lines.Goals as goal
 
 pub loop-server-init : goal.loop-server-init
@@ -27,7 +27,7 @@ returns-in-Ok-Quit g c =
     by_line c.read_line.new.line c.loop-server.invariant.2
     (reached ReadFault _ c.read_line.new.line c.loop-server.invariant.2 n)
     c.in-Ok-Quit.ensures.written c.in-Ok-Quit.ensures.next
-    (over_told _ c.in-Ok-Quit.field-0 c.in-Ok-Quit.ensures.go c.in-Ok-Quit.field-0-is)
+    (over_said _ c.in-Ok-Quit.field-0 c.in-Ok-Quit.ensures.go c.in-Ok-Quit.field-0-is)
 
 pub returns-in-Err-answer_line : goal.returns-in-Err-answer_line
 returns-in-Err-answer_line g c =
@@ -42,7 +42,7 @@ returns-then-not-is_ended g c =
     let h = c.if-not-is_ended.ensures in
     by_last ReadFault _ c.read_line.new.line c.loop-server.invariant.2 n (sym h)
     c.in-Ok-On.ensures.written c.in-Ok-On.ensures.next
-    (on_told _ c.in-Ok-On.field-0 c.in-Ok-On.ensures.go c.in-Ok-On.field-0-is)
+    (on_said _ c.in-Ok-On.field-0 c.in-Ok-On.ensures.go c.in-Ok-On.field-0-is)
 
 pub loop-server-preserved : goal.loop-server-preserved
 loop-server-preserved g c =
@@ -50,5 +50,5 @@ loop-server-preserved g c =
     let h = c.if-not-is_ended.ensures in
     let on = go_on ReadFault {held' = c.read_line.new.self} c.read_line.new.line c.loop-server.invariant.2 n (sym h)
     c.in-Ok-On.ensures.written c.in-Ok-On.ensures.next
-    (on_told _ c.in-Ok-On.field-0 c.in-Ok-On.ensures.go c.in-Ok-On.field-0-is) in
+    (on_said _ c.in-Ok-On.field-0 c.in-Ok-On.ensures.go c.in-Ok-On.field-0-is) in
     (on.0, _, on.1)

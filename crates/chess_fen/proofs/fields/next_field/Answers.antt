@@ -12,5 +12,6 @@ returns-then-is_empty-clause-none c =
 pub returns-else-is_empty-clause-found : goal.returns-else-is_empty-clause-found
 returns-else-is_empty-clause-found c =
     let some : 0 < length c.skip_spaces-text.result.now = grind (arith, nat_tests) in
-    next_fields c.args.text.now c.skip_spaces-text.result.now c.split_before_space.result.0.now c.split_before_space.result.1.now
+    next_fields c.args.text.now c.skip_spaces-text.result.now c.split_before_space.result.0.now
+    c.split_before_space.result.1.now
     c.skip_spaces-text.ensures some c.split_before_space.ensures.front c.split_before_space.ensures.back

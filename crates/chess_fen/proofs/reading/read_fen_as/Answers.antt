@@ -17,10 +17,10 @@ read : (v : Variant) (text : List ℕ) (r : Result Setup FenFault) → r ≡ fen
 read v text (Ok p) e h = (found v text p (sym e), h)
 read v text (Err f) e h = tt
 
-told : (v : Variant) (text : List ℕ) (r : Result Setup FenFault) → r ≡ fen_reading_as v text
+said : (v : Variant) (text : List ℕ) (r : Result Setup FenFault) → r ≡ fen_reading_as v text
     → IfErr r (IsFaultAs v text)
-told v text (Ok p) e = tt
-told v text (Err f) e = faulty v text f (sym e)
+said v text (Ok p) e = tt
+said v text (Err f) e = faulty v text f (sym e)
 
 pub returns-clause-found : goal.returns-clause-found
 returns-clause-found c = read c.args.variant c.args.text.now c.denoted_position.result c.denoted_position.ensures.value
@@ -30,7 +30,7 @@ pub returns-clause-only : goal.returns-clause-only
 returns-clause-only c = λ p s h. c.denoted_position.ensures.value ∙ reading-denoted c.args.variant c.args.text.now p s h
 
 pub returns-clause-fault : goal.returns-clause-fault
-returns-clause-fault c = told c.args.variant c.args.text.now c.denoted_position.result c.denoted_position.ensures.value
+returns-clause-fault c = said c.args.variant c.args.text.now c.denoted_position.result c.denoted_position.ensures.value
 
 pub returns-clause-refused : goal.returns-clause-refused
 returns-clause-refused c = λ f h. c.denoted_position.ensures.value ∙ fault-read c.args.variant c.args.text.now f h

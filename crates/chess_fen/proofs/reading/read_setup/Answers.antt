@@ -1,4 +1,4 @@
--- The first field is read while the text is cut (FirstField); behind it the text is cut into the others.
+-- The first field is read while the text is cut (FirstField); after it the text is cut into the others.
 use Rattle.std.proofs.Common.{ap, sym, ◌∙◌}
 use Rattle.std.specs.Prelude.{◌==◌}
 use Rattle.std.specs.List.{before_first}
@@ -8,16 +8,17 @@ use Rattle.chess_fen.proofs.FirstField.{first_is_menless, fields-read, setup-wit
 use Rattle.chess_fen.proofs.Splits.{fields_of-skip}
 use Rattle.chess_fen.proofs.reading.read_setup.Goals as goal
 
-pub menless_fault-requires : goal.menless_fault-requires
-menless_fault-requires c =
+pub no_pieces_fault-requires : goal.no_pieces_fault-requires
+no_pieces_fault-requires c =
     λ field fields all.
-    first_is_menless c.args.text.now c.skip_spaces-front.result.now c.skip_spaces-front.ensures c.in_default.ensures.none
+    first_is_menless c.args.text.now c.skip_spaces-front.result.now c.skip_spaces-front.ensures
+    c.in_default.ensures.none
     field fields (fields_of-skip c.args.text.now ∙ ap fields_of (sym c.skip_spaces-front.ensures) ∙ all)
 
 pub returns-in_default : goal.returns-in_default
 returns-in_default c =
     sym (ap (setup_in c.args.variant) (fields_of-skip c.args.text.now ∙ ap fields_of (sym c.skip_spaces-front.ensures))
-    ∙ c.menless_fault.ensures c.args.variant)
+    ∙ c.no_pieces_fault.ensures c.args.variant)
 
 pub returns-in-None : goal.returns-in-None
 returns-in-None c =

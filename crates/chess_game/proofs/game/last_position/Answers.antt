@@ -10,9 +10,11 @@ use Rattle.chess_game.proofs.game.last_position.Goals as goal
 pub returns-then-is_empty : goal.returns-then-is_empty
 returns-then-is_empty c =
     let none : length c.args.played_moves.now ≡ 0 = grind (arith, common_steps) in
-    ap (λ xs. position_after c.args.start.now.position (moves_of xs)) (sym (nil_from_length c.args.played_moves.now none))
+    ap (λ xs. position_after c.args.start.now.position (moves_of xs))
+    (sym (nil_from_length c.args.played_moves.now none))
 
 pub returns-else-is_empty : goal.returns-else-is_empty
 returns-else-is_empty c =
     let some : 0 < length c.args.played_moves.now = grind (arith, common_steps) in
-    (at_end c.args.start.now.position c.args.played_moves.now c.index-played_moves-played_moves.result c.requires some).reached
+    (at_end c.args.start.now.position c.args.played_moves.now c.index-played_moves-played_moves.result c.requires
+    some).reached

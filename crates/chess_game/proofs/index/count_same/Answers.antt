@@ -14,7 +14,7 @@ loop-at-init c =
     walk_begins c.args.start.now c.args.played_moves.now c.args.now.now c.args.head
     (record {
       follows = c.requires.follows;
-      words = c.requires.words;
+      hashes = c.requires.hashes;
       sound = c.requires.made.2.sound;
       sound_now = c.halfmove-sound.ensures.sound;
     }) c.requires.head
@@ -26,7 +26,7 @@ returns-then-head-eq0 c =
     (walk_begins c.args.start.now c.args.played_moves.now c.args.now.now c.args.head
     (record {
       follows = c.requires.follows;
-      words = c.requires.words;
+      hashes = c.requires.hashes;
       sound = c.requires.made.2.sound;
       sound_now = c.halfmove-sound.ensures.sound;
     }) c.requires.head) none
@@ -47,7 +47,8 @@ is_same-requires-clause-this c =
 
 pub overflow_add-result : goal.overflow_add-result
 overflow_add-result c =
-    let few = walk_few c.args.start.now c.args.played_moves.now c.args.now.now c.loop-at.at c.index-played_moves-at.result
+    let few = walk_few c.args.start.now c.args.played_moves.now c.args.now.now c.loop-at.at
+    c.index-played_moves-at.result
     c.requires.entries c.loop-at.invariant c.loop-at-test.true c.index-played_moves-at.is in
     omega (arith, few, c.requires.few)
 
@@ -56,7 +57,7 @@ returns-then-is_same c =
     walk_found c.args.start.now c.args.played_moves.now c.args.now.now c.loop-at.at c.index-played_moves-at.result
     (record {
       follows = c.requires.follows;
-      words = c.requires.words;
+      hashes = c.requires.hashes;
       sound = c.requires.made.2.sound;
       sound_now = c.halfmove-sound.ensures.sound;
     }) c.requires.entries c.loop-at.invariant c.loop-at-test.true c.index-played_moves-at.is
@@ -72,7 +73,7 @@ loop-at-preserved c =
     walk_goes_on c.args.start.now c.args.played_moves.now c.args.now.now c.loop-at.at c.index-played_moves-at.result
     (record {
       follows = c.requires.follows;
-      words = c.requires.words;
+      hashes = c.requires.hashes;
       sound = c.requires.made.2.sound;
       sound_now = c.halfmove-sound.ensures.sound;
     }) c.requires.entries c.loop-at.invariant c.loop-at-test.true c.index-played_moves-at.is

@@ -6,7 +6,8 @@ use Rattle.chess_game.proofs.index.oldest.Goals as goal
 
 pub returns-then-ago-eq0 : goal.returns-then-ago-eq0
 returns-then-ago-eq0 c = λ start follows next. none_is_same c.reserve_never_grows.ensures.never_grows
-    c.reserve_never_grows.ensures.falls_for_good start c.args.played_moves.now c.args.now.now next.0 next.1 c.requires follows
+    c.reserve_never_grows.ensures.falls_for_good start c.args.played_moves.now c.args.now.now next.0 next.1
+    c.requires follows
     next.2 (rw c.halfmove-ago.ensures.value at c.if-ago-eq0.true)
 
 pub returns-then-halfmove-eq0 : goal.returns-then-halfmove-eq0
@@ -16,6 +17,7 @@ returns-then-halfmove-eq0 c =
     let k = length c.args.played_moves.now - c.halfmove-ago.result in
     let low : k < length c.args.played_moves.now = grind (arith, nat_tests, some, within) in
     λ start follows next. none_is_same_before c.reserve_never_grows.ensures.never_grows
-    c.reserve_never_grows.ensures.falls_for_good start c.args.played_moves.now c.args.now.now next.0 next.1 c.requires follows
+    c.reserve_never_grows.ensures.falls_for_good start c.args.played_moves.now c.args.now.now next.0 next.1
+    c.requires follows
     next.2 k c.index-played_moves-first.result low
     (rw c.halfmove.ensures.value at c.if-halfmove-eq0.true)

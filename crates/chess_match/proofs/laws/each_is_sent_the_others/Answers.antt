@@ -1,4 +1,4 @@
-use Rattle.chess_match.proofs.ToldLaw.{items_are_said, each_is_sent_the_others}
+use Rattle.chess_match.proofs.SentByLinesLaw.{items_are_said, each_is_sent_the_others}
 use Rattle.chess_match.proofs.laws.each_is_sent_the_others.Goals as goal
 
 pub returns-clause-said : goal.returns-clause-said

@@ -1,5 +1,5 @@
 use Rattle.chess_match.proofs.OneLaw.{only_one}
-use Rattle.chess_match.proofs.RunLaw.{only_one_of_a_run}
+use Rattle.chess_match.proofs.OneRunLaw.{only_one_of_a_run}
 use Rattle.chess_match.proofs.laws.transcript_is_the_only_one.Goals as goal
 
 pub returns-clause-of_streams : goal.returns-clause-of_streams

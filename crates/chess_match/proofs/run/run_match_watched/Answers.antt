@@ -16,12 +16,12 @@ use Rattle.chess_match.specs.Transcript.{match_of, reads, opens}
 use Rattle.chess_match.specs.declared.phase.Phase.{Phase}
 use Rattle.chess_match.proofs.Delivers.{both_sides}
 use Rattle.chess_match.proofs.Finished.{ran, told_outcome}
-use Rattle.chess_match.proofs.LinesRead.{heard_less, heard_sane}
-use Rattle.chess_match.proofs.RunSteps.{rules_level, plays_anew, plays_on, begun, heard_on, opened_left}
+use Rattle.chess_match.proofs.LinesRead.{event_less, event_sane}
+use Rattle.chess_match.proofs.DriverSteps.{rules_level, plays_anew, plays_on, begun, event_on, opened_left}
 use Rattle.chess_match.proofs.Sends.{no_answers}
 use Rattle.chess_match.proofs.Going.{to_own, to_other}
-use Rattle.chess_match.proofs.Runs.{asked_one}
-use Rattle.chess_match.proofs.UnderWays.{opened_step, delivered_by}
+use Rattle.chess_match.proofs.LongerTranscripts.{asked_one}
+use Rattle.chess_match.proofs.RunInvariantKept.{opened_step, delivered_by}
 use Rattle.chess_match.proofs.run.run_match_watched.Goals as goal
 use Rattle.chess_match.specs.Reasons.{by_colour}
 
@@ -120,18 +120,18 @@ deliver-failed-requires-in-Line-clause-last g c =
     let r : Rules = rules_of c.args.setup.now.start c.args.setup.now.level c.args.game.now.limit in
     let m : Match = match_of r i.0 in
     let S : Colour = c.in-Line.side in
-    let heard = line_read c.next_line-heard.result c.next_line-heard.new.line in
+    let found = line_read c.next_line-found.result c.next_line-found.new.line in
     let reading : reads m.phase S ≡ true = ap (λ (p : Phase). reads p S) (sym i.1.stands.phase) ∙ c.in-Line.ensures in
     let plays = plays_on c.args.game.now c.events.game c.args.setup.now.start c.args.setup.now.level i.2 i.3 i.4 in
-    let h = c.hear-given.ensures.heard in (
+    let h = c.take_next-given.ensures.taken in (
       r,
-      match_after r m (event_read S h.0 heard),
+      match_after r m (event_read S h.0 found),
       (h.5 r m plays reading i.1.stands).stands,
-      (heard_sane r m S h.0 heard i.1.sane).unsent_to,
+      (event_sane r m S h.0 found i.1.sane).unsent_to,
     )
 
-pub hear-given-requires-clause-empty : goal.hear-given-requires-clause-empty
-hear-given-requires-clause-empty g c = c.events.invariant.5
+pub take_next-given-requires-clause-empty : goal.take_next-given-requires-clause-empty
+take_next-given-requires-clause-empty g c = c.events.invariant.5
 
 pub deliver-failed-requires-in-Line-clause-empty : goal.deliver-failed-requires-in-Line-clause-empty
 deliver-failed-requires-in-Line-clause-empty g c = c.events.invariant.6
@@ -142,20 +142,21 @@ events-smaller g c =
     let r : Rules = rules_of c.args.setup.now.start c.args.setup.now.level c.args.game.now.limit in
     let m : Match = match_of r i.0 in
     let S : Colour = c.in-Line.side in
-    let heard = line_read c.next_line-heard.result c.next_line-heard.new.line in
+    let found = line_read c.next_line-found.result c.next_line-found.new.line in
     let reading : reads m.phase S ≡ true = ap (λ (p : Phase). reads p S) (sym i.1.stands.phase) ∙ c.in-Line.ensures in
     let plays = plays_on c.args.game.now c.events.game c.args.setup.now.start c.args.setup.now.level i.2 i.3 i.4 in
-    let h = c.hear-given.ensures.heard in
+    let h = c.take_next-given.ensures.taken in
     let goes = h.5 r m plays reading i.1.stands in
-    let d = delivered_by r _ _ _ _ (block r m (match_after r m (event_read S h.0 heard))) S _ _ _ _ _
-    goes.gives (c.deliver-failed-in-Line.ensures.delivered r _ (items_to S h.1) (c.hear-given.ensures.rules r plays)
+    let d = delivered_by r _ _ _ _ (block r m (match_after r m (event_read S h.0 found))) S _ _ _ _ _
+    goes.gives (c.deliver-failed-in-Line.ensures.delivered r _ (items_to S h.1)
+    (c.take_next-given.ensures.rules r plays)
     goes.stands (h.4 ∙ ap (λ (is : List Item). bytes_of (answers_to is)) (sym (to_own S h.1))) (to_other S h.1)) in
-    heard_less r c.events.core.phase c.deliver-failed-in-Line.new.core _ m S h.0 heard _
+    event_less r c.events.core.phase c.deliver-failed-in-Line.new.core _ m S h.0 found _
     (by_colour (g.R.Input.seen c.events.white.reader) (g.R.Input.seen c.events.black.reader))
-    (by_colour (g.R.Input.seen c.next_line-heard.new.white) (g.R.Input.seen c.next_line-heard.new.black))
+    (by_colour (g.R.Input.seen c.next_line-found.new.white) (g.R.Input.seen c.next_line-found.new.black))
     (by_colour c.events.white_lines c.events.black_lines)
-    (by_colour c.next_line-heard.new.white_lines c.next_line-heard.new.black_lines) _ _ _ _ _
-    c.in-Line.ensures c.next_line-heard.ensures.next c.next_line-heard.ensures.others c.next_line-heard.ensures.held d
+    (by_colour c.next_line-found.new.white_lines c.next_line-found.new.black_lines) _ _ _ _ _
+    c.in-Line.ensures c.next_line-found.ensures.next c.next_line-found.ensures.others c.next_line-found.ensures.held d
 
 pub events-preserved : goal.events-preserved
 events-preserved g c =
@@ -163,31 +164,32 @@ events-preserved g c =
     let r : Rules = rules_of c.args.setup.now.start c.args.setup.now.level c.args.game.now.limit in
     let m : Match = match_of r i.0 in
     let S : Colour = c.in-Line.side in
-    let heard = line_read c.next_line-heard.result c.next_line-heard.new.line in
+    let found = line_read c.next_line-found.result c.next_line-found.new.line in
     let reading : reads m.phase S ≡ true = ap (λ (p : Phase). reads p S) (sym i.1.stands.phase) ∙ c.in-Line.ensures in
     let plays = plays_on c.args.game.now c.events.game c.args.setup.now.start c.args.setup.now.level i.2 i.3 i.4 in
-    let h = c.hear-given.ensures.heard in
+    let h = c.take_next-given.ensures.taken in
     let goes = h.5 r m plays reading i.1.stands in
-    let d = delivered_by r _ _ _ _ (block r m (match_after r m (event_read S h.0 heard))) S _ _ _ _ _
-    goes.gives (c.deliver-failed-in-Line.ensures.delivered r _ (items_to S h.1) (c.hear-given.ensures.rules r plays)
+    let d = delivered_by r _ _ _ _ (block r m (match_after r m (event_read S h.0 found))) S _ _ _ _ _
+    goes.gives (c.deliver-failed-in-Line.ensures.delivered r _ (items_to S h.1)
+    (c.take_next-given.ensures.rules r plays)
     goes.stands (h.4 ∙ ap (λ (is : List Item). bytes_of (answers_to is)) (sym (to_own S h.1))) (to_other S h.1)) in
-    let u = heard_on r i.0 S h.0 heard c.events.core c.deliver-failed-in-Line.new.core _ _
+    let u = event_on r i.0 S h.0 found c.events.core c.deliver-failed-in-Line.new.core _ _
     (by_colour c.events.failed.white c.events.failed.black)
     (by_colour c.deliver-failed-in-Line.result.white c.deliver-failed-in-Line.result.black)
     (by_colour (g.R.Input.seen c.args.white.now.reader) (g.R.Input.seen c.args.black.now.reader))
     (by_colour (g.R.Input.seen c.events.white.reader) (g.R.Input.seen c.events.black.reader))
-    (by_colour (g.R.Input.seen c.next_line-heard.new.white) (g.R.Input.seen c.next_line-heard.new.black))
+    (by_colour (g.R.Input.seen c.next_line-found.new.white) (g.R.Input.seen c.next_line-found.new.black))
     (by_colour c.events.white_lines c.events.black_lines)
-    (by_colour c.next_line-heard.new.white_lines c.next_line-heard.new.black_lines)
+    (by_colour c.next_line-found.new.white_lines c.next_line-found.new.black_lines)
     (by_colour (g.W.Output.seen c.args.white.now.writer) (g.W.Output.seen c.args.black.now.writer)) _ _ _ _ _ _ _ _ _
-    i.1 c.in-Line.ensures c.next_line-heard.ensures.next c.next_line-heard.ensures.others c.next_line-heard.ensures.held
+    i.1 c.in-Line.ensures c.next_line-found.ensures.next c.next_line-found.ensures.others c.next_line-found.ensures.held
     h.2 h.3 d in (
       u.0,
       u.1,
-      ap (λ (x : Setup × ℕ). x.0) c.hear-given.ensures.origin
+      ap (λ (x : Setup × ℕ). x.0) c.take_next-given.ensures.origin
           ∙ i.2,
-      ap (λ (x : Setup × ℕ). x.1) c.hear-given.ensures.origin ∙ i.3,
-      (c.hear-given.ensures.rules r plays).2,
+      ap (λ (x : Setup × ℕ). x.1) c.take_next-given.ensures.origin ∙ i.3,
+      (c.take_next-given.ensures.rules r plays).2,
       c.deliver-failed-in-Line.ensures.own_empty,
       c.deliver-failed-in-Line.ensures.others_empty,
     )

@@ -30,7 +30,8 @@ returns-then-is_err-2-clause-delivered g c r m items p s own none =
     let due : Colour → List SentLine = given_block r c.args.given items m in
     let others = no_answers_of _ (items c.other.result) c.requires.empty
     (ap items c.other.ensures ∙ none) in
-    let end = subst (λ (X : Colour). Represents r c.end_for_other-own_failed.new.core (g.G.MatchGame.played c.args.game.now)
+    let end = subst (λ (X : Colour). Represents r c.end_for_other-own_failed.new.core
+    (g.G.MatchGame.played c.args.game.now)
     (match_after r m (FailsToWrite X))
     × SendsIf c.end_for_other-own_failed.result (g.W.Output.seen c.note_and_send.new.writer)
     (g.W.Output.seen c.end_for_other-own_failed.new.others)

@@ -9,7 +9,7 @@ pub loop-token-preserved : goal.loop-token-preserved
 loop-token-preserved c =
     let next = rw c.in-Ok-Some.field-0-is at c.in-Ok-Some.ensures in
     let one = one_more c.args.text.now c.args.name.now c.args.at c.loop-token.last c.named_tag.result c.or-last.result
-    c.loop-token.offset c.in-Ok-Some.behind (token_seen c.in-Ok-Some.token) c.loop-token.invariant next.0 next.2
+    c.loop-token.offset c.in-Ok-Some.token_end (token_seen c.in-Ok-Some.token) c.loop-token.invariant next.0 next.2
     (sym c.if-not-may_precede_tags.false ∙ c.may_precede_tags.ensures) c.named_tag.ensures c.or-last.ensures in
-    skipped_on c.args.text.now c.args.name.now c.args.at c.or-last.result c.in-Ok-Some.behind
+    skipped_on c.args.text.now c.args.name.now c.args.at c.or-last.result c.in-Ok-Some.token_end
     c.after_blanks-offset.result one c.after_blanks-offset.ensures.skips c.after_blanks-offset.ensures.within

@@ -11,20 +11,21 @@ loop-next-init g c =
     first_normal c.args.game.now c.restart.new.self c.initial.result c.none-progress.result c.args.text.now c.args.at
     c.restart.ensures c.initial.ensures c.none-progress.ensures c.requires
 
-pub read_token-requires-clause-within : goal.read_token-requires-clause-within
-read_token-requires-clause-within g c =
+pub apply_token-requires-clause-within : goal.apply_token-requires-clause-within
+apply_token-requires-clause-within g c =
     token_within c.args.text.now c.loop-next.offset (token_seen c.in-Some.token) _
-    c.loop-next.invariant.tells.offset (rw c.in-Some.is at c.in-Ok.ensures).0
+    c.loop-next.invariant.says.offset (rw c.in-Some.is at c.in-Ok.ensures).0
 
 pub loop-next-preserved : goal.loop-next-preserved
 loop-next-preserved g c =
     let next = rw c.in-Some.is at c.in-Ok.ensures in
     let step_is = rw c.in-Ok-On.field-0-is at c.in-Ok-On.ensures.step in
-    let more = more_normal c.args.game.now.limit c.args.text.now c.args.at c.loop-next.game c.read_token.new.game
-    c.loop-next.progress c.in-Ok-On.further c.loop-next.offset c.in-Some.behind (token_seen c.in-Some.token)
+    let more = more_normal c.args.game.now.limit c.args.text.now c.args.at c.loop-next.game c.apply_token.new.game
+    c.loop-next.progress c.in-Ok-On.further c.loop-next.offset c.in-Some.token_end (token_seen c.in-Some.token)
     (found_seen c.named_tag.result) c.loop-next.invariant next.0 next.1 next.2
     (sym c.if-not-may_precede_tags.false ∙ c.may_precede_tags.ensures) c.named_tag.ensures c.in-Normal.ensures
     c.in-Ok-On.ensures.limit step_is in
-    normal_on c.args.game.now.limit c.args.text.now c.args.at c.read_token.new.game c.in-Ok-On.further c.in-Some.behind
-    c.after_blanks-offset.result more c.after_blanks-offset.ensures.skips c.after_blanks-offset.ensures.behind
+    normal_on c.args.game.now.limit c.args.text.now c.args.at c.apply_token.new.game c.in-Ok-On.further
+    c.in-Some.token_end
+    c.after_blanks-offset.result more c.after_blanks-offset.ensures.skips c.after_blanks-offset.ensures.forward
     c.after_blanks-offset.ensures.within

@@ -8,8 +8,8 @@ use Rattle.std.proofs.Common.{length}
 use Rattle.chess_pgn.specs.ties.GameSteps.{so_far}
 use Rattle.chess_pgn.proofs.read.read_pgn.Goals as goal
 
-pub read_token-requires-clause-within : goal.read_token-requires-clause-within
-read_token-requires-clause-within g c =
+pub apply_token-requires-clause-within : goal.apply_token-requires-clause-within
+apply_token-requires-clause-within g c =
     token_within c.args.text.now c.loop-token.offset (token_seen c.in-Ok-Some.token) _ c.loop-token.invariant.offset
     (rw c.in-Ok-Some.field-0-is at c.in-Ok-Some.ensures).0
 
@@ -17,13 +17,13 @@ pub loop-token-preserved : goal.loop-token-preserved
 loop-token-preserved g c =
     let next = rw c.in-Ok-Some.field-0-is at c.in-Ok-Some.ensures in
     let step_is = rw c.in-On.is at c.in_ok-further-in-Ok-Some.ensures.step in
-    let before = more c.args.game.now.limit c.args.text.now c.args.at c.loop-token.game c.read_token.new.game
-    c.loop-token.progress c.in-On.further c.loop-token.offset c.in-Ok-Some.behind (token_seen c.in-Ok-Some.token)
-    c.loop-token.invariant next.0 next.1 next.2 c.read_token.ensures.limit step_is in
-    let skipped = alike c.args.game.now.limit c.args.text.now c.args.at c.read_token.new.game c.in-On.further
-    c.in-Ok-Some.behind c.after_skipped.result before c.after_skipped.ensures.alike c.after_skipped.ensures.behind
+    let before = more c.args.game.now.limit c.args.text.now c.args.at c.loop-token.game c.apply_token.new.game
+    c.loop-token.progress c.in-On.further c.loop-token.offset c.in-Ok-Some.token_end (token_seen c.in-Ok-Some.token)
+    c.loop-token.invariant next.0 next.1 next.2 c.apply_token.ensures.limit step_is in
+    let skipped = alike c.args.game.now.limit c.args.text.now c.args.at c.apply_token.new.game c.in-On.further
+    c.in-Ok-Some.token_end c.after_skipped.result before c.after_skipped.ensures.alike c.after_skipped.ensures.forward
     c.after_skipped.ensures.within in
-    further c.args.game.now.limit c.args.text.now c.args.at c.read_token.new.game c.take_words-offset.new.game
+    further c.args.game.now.limit c.args.text.now c.args.at c.apply_token.new.game c.take_words-offset.new.game
     c.in-On.further c.take_words-offset.new.progress c.after_skipped.result c.take_words-offset.result skipped
     c.take_words-offset.ensures
 
@@ -36,6 +36,6 @@ pub returns-in_err-further-in-Ok-Some-clause-undeclared : goal.returns-in_err-fu
 returns-in_err-further-in-Ok-Some-clause-undeclared g c =
     bare_at_fault c.loop-token.game.limit (length c.args.text.now)
     (so_far c.loop-token.game.state c.loop-token.progress) _ (token_seen c.in-Ok-Some.token)
-    c.read_token.new.game.state c.in_err-further-in-Ok-Some.field-0.0 c.from_residual.result
+    c.apply_token.new.game.state c.in_err-further-in-Ok-Some.field-0.0 c.from_residual.result
     c.loop-token.invariant.undeclared
     c.in_err-further-in-Ok-Some.ensures.step

@@ -5,13 +5,13 @@ use Rattle.chess_pgn.proofs.GameReads.{one_more}
 use Rattle.chess_pgn.proofs.PgnWords.{some_word}
 use Rattle.chess_pgn.proofs.read.take_words.Goals as goal
 
-pub loop-behind-preserved : goal.loop-behind-preserved
-loop-behind-preserved g c =
-    let word = some_word c.args.text.now c.loop-behind.offset _ c.split_word.result.0.now c.split_word.result.1.now
-    c.loop-behind.invariant.offset refl c.split_word.ensures.word c.split_word.ensures.rest
-    (c.takes_word.ensures.some c.if-not-takes_word.false) in
-    one_more c.args.text.now c.args.at c.args.game.now c.loop-behind.game c.takes_word.new.game c.args.progress.now
-    c.loop-behind.progress c.begun.result c.loop-behind.offset _ c.after_skipped-offset.result
-    c.split_word.result.0.now c.takes_word.result c.loop-behind.invariant word.tokens word.nearer
-    c.takes_word.ensures.limit c.if-not-takes_word.false c.takes_word.ensures.taken c.begun.ensures
-    c.after_skipped-offset.ensures.alike c.after_skipped-offset.ensures.behind c.after_skipped-offset.ensures.within
+pub loop-tail-preserved : goal.loop-tail-preserved
+loop-tail-preserved g c =
+    let word = some_word c.args.text.now c.loop-tail.offset _ c.split_word.result.0.now c.split_word.result.1.now
+    c.loop-tail.invariant.offset refl c.split_word.ensures.word c.split_word.ensures.rest
+    (c.try_word.ensures.some c.if-not-try_word.false) in
+    one_more c.args.text.now c.args.at c.args.game.now c.loop-tail.game c.try_word.new.game c.args.progress.now
+    c.loop-tail.progress c.begun.result c.loop-tail.offset _ c.after_skipped-offset.result
+    c.split_word.result.0.now c.try_word.result c.loop-tail.invariant word.tokens word.nearer
+    c.try_word.ensures.limit c.if-not-try_word.false c.try_word.ensures.taken c.begun.ensures
+    c.after_skipped-offset.ensures.alike c.after_skipped-offset.ensures.forward c.after_skipped-offset.ensures.within

@@ -11,11 +11,11 @@ loop-rest-preserved c =
     let rest = c.loop-rest.rest.now in
     elim c.if-line_begins.branch [
       | then-line_begins+then-byte-eq37 w ↦
-          let behind = gap_line_more rest c.if-line_begins.rest.now c.in-len1-up.len_at_least w.if-byte-eq37.true
+          let tail = gap_line_more rest c.if-line_begins.rest.now c.in-len1-up.len_at_least w.if-byte-eq37.true
           (ap (λ r. r.now) w.rest-is ∙ w.line_end-rest.ensures.rest) in
-          behind ∙ ap (λ b. after_gap false b rest) (sym w.if-line_begins.true) ∙ c.loop-rest.invariant
+          tail ∙ ap (λ b. after_gap false b rest) (sym w.if-line_begins.true) ∙ c.loop-rest.invariant
       | else-line_begins+then-is_white_space w ↦
-          let behind = gap_blank_more c.loop-rest.line_begins rest c.if-line_begins.rest.now c.in-len1-up.len_at_least
+          let tail = gap_blank_more c.loop-rest.line_begins rest c.if-line_begins.rest.now c.in-len1-up.len_at_least
           (sym w.is_white_space.ensures ∙ w.if-is_white_space.true) (ap (λ r. r.now) w.rest-is) in
-          behind ∙ c.loop-rest.invariant
+          tail ∙ c.loop-rest.invariant
     ]

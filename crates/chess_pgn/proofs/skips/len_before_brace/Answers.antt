@@ -20,4 +20,5 @@ pub returns-else-braces-eq0-clause-few : goal.returns-else-braces-eq0-clause-few
 returns-else-braces-eq0-clause-few c =
     let block = take 32 c.args.text.now in
     let long = length-take-le 32 c.args.text.now c.requires in
-    few_before block _ (some_brace block _ (bitmask_splat w8 eqb block 32 125 long (omega arith)) long c.if-braces-eq0.false) long
+    few_before block _ (some_brace block _ (bitmask_splat w8 eqb block 32 125 long (omega arith)) long
+    c.if-braces-eq0.false) long

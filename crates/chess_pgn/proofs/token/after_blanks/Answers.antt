@@ -6,16 +6,16 @@ use Rattle.chess_pgn.proofs.token.after_blanks.Goals as goal
 pub loop-offset-init : goal.loop-offset-init
 loop-offset-init c = record {
   skips = none_yet c.args.text.now c.args.at;
-  behind = omega arith;
+  forward = omega arith;
   within = c.requires;
 }
 
 pub loop-offset-preserved : goal.loop-offset-preserved
 loop-offset-preserved c =
-    let behind = c.loop-offset.invariant.behind in
+    let forward = c.loop-offset.invariant.forward in
     record {
       skips = blank_more c.args.text.now c.args.at c.loop-offset.offset c.loop-offset.invariant.skips
           c.loop-offset-test.true (sym c.is_passed.ensures ∙ c.if-is_passed.true);
-      behind = omega (arith, behind);
+      forward = omega (arith, forward);
       within = omega arith;
     }

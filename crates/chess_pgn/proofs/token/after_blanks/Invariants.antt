@@ -5,7 +5,7 @@ use Rattle.chess_pgn.proofs.token.after_blanks.Given as goal
 abbrev pub invariant-loop-offset : goal.invariant-loop-offset
 invariant-loop-offset l = record {
   skips : SkipsTo l.text l.at l.offset;
-  behind : l.at ≤ l.offset;
+  forward : l.at ≤ l.offset;
   within : l.offset ≤ length l.text;
 }
 

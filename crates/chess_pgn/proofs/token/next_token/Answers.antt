@@ -25,13 +25,13 @@ returns-then-is_word_byte c =
 pub overflow_sub-result-in-Ok : goal.overflow_sub-result-in-Ok
 overflow_sub-result-in-Ok c =
     (next_token c.args.text.now c.args.at c.begins_line.result _ c.requires c.begins_line.ensures refl
-    c.in-len1-up.len_at_least (token_seen c.in-Ok.token) c.in-Ok.behind.now c.in-Ok.ensures).fewer
+    c.in-len1-up.len_at_least (token_seen c.in-Ok.token) c.in-Ok.tail.now c.in-Ok.ensures).fewer
 
 pub returns-in-Ok : goal.returns-in-Ok
 returns-in-Ok c =
-    let t : NextToken c.args.text.now c.args.at (token_seen c.in-Ok.token) c.in-Ok.behind.now =
+    let t : NextToken c.args.text.now c.args.at (token_seen c.in-Ok.token) c.in-Ok.tail.now =
     next_token c.args.text.now c.args.at c.begins_line.result _ c.requires c.begins_line.ensures refl
-    c.in-len1-up.len_at_least (token_seen c.in-Ok.token) c.in-Ok.behind.now c.in-Ok.ensures in
+    c.in-len1-up.len_at_least (token_seen c.in-Ok.token) c.in-Ok.tail.now c.in-Ok.ensures in
     (t.tokens, t.nearer, omega arith)
 
 pub returns-in-Err : goal.returns-in-Err

@@ -1,22 +1,22 @@
 -- The rest, with so many variations open, ends where the whole variation ends: each part that is skipped at once is a
--- step of the definition (Variations.part_behind), and a byte opens at most one more.
+-- step of the definition (Variations.part_is), and a byte opens at most one more.
 use Rattle.std.proofs.Common.{sym, ◌∙◌, get_or, Some, arith}
-use Rattle.chess_pgn.proofs.Variations.{part_unclosed, part_behind, depth_few}
+use Rattle.chess_pgn.proofs.Variations.{part_unclosed, part_is, depth_few}
 use Rattle.chess_pgn.proofs.variation.after_variation.Goals as goal
 
 pub returns-in_default-after_part : goal.returns-in_default-after_part
 returns-in_default-after_part c =
     let l = c.loop-rest in
     sym (part_unclosed l.line_begins l.depth l.rest.now c.in-len1-up.len_at_least
-    c.in_default-after_part.ensures.behind) ∙ l.invariant.left
+    c.in_default-after_part.ensures.rest) ∙ l.invariant.left
 
 pub loop-rest-preserved : goal.loop-rest-preserved
 loop-rest-preserved c =
     let l = c.loop-rest in
     let inner = c.in-Some-depth_after.open in
     record {
-      left = sym (part_behind l.line_begins l.depth l.rest.now c.in-Some.behind.now (Some inner)
-          c.in-len1-up.len_at_least c.in-Some.ensures.behind c.in-Some-depth_after.ensures) ∙ l.invariant.left;
+      left = sym (part_is l.line_begins l.depth l.rest.now c.in-Some.tail.now (Some inner)
+          c.in-len1-up.len_at_least c.in-Some.ensures.rest c.in-Some-depth_after.ensures) ∙ l.invariant.left;
       few = omega (
         arith,
         c.in-Some.ensures.shorter,

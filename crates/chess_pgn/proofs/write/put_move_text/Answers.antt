@@ -11,7 +11,8 @@ returns-in_err-put_moves-clause-added g c =
     let lines = c.args.lines.now in
     adds_exit _ _ c.from_residual.result _ _ _
     (first_broke _ _ _ _ _ _ _
-    (moves_are lines.prefix.now lines.prefix.now _ lines.column _ _ c.args.game.now.state c.requires.column refl refl refl
+    (moves_are lines.prefix.now lines.prefix.now _ lines.column _ _ c.args.game.now.state c.requires.column
+    refl refl refl
     refl) c.in_err-put_moves.ensures.added)
     c.from_residual.ensures.0
 

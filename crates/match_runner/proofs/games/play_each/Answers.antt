@@ -1,11 +1,11 @@
--- The games so far were played without a fault, written and logged, and the score counts them (GamesTold.SoFar): a game more keeps
--- that (GamesTold.one_more), and one with a fault is the last (GamesTold.with_fault).
+-- The games so far were played without a fault, written and logged, and the score counts them (GamesTold.SoFar): a game
+-- more keeps that (GamesWritten.one_more), and one with a fault is the last (GamesWritten.with_fault).
 use Rattle.std.proofs.Common.{◌≡◌, ◌∙◌, ◌≤◌, ◌<◌, ◌+◌, ◌++◌, ◌∷◌, [], Ok, None, Some, subst, sym, ap, arith, rules}
 use Rattle.match_runner.specs.Games.{GameRecord, first_side}
 use Rattle.match_runner.specs.ties.Playing.{HasPlayed, score_after}
 use Rattle.match_runner.specs.Log.{log_seen}
 use Rattle.match_runner.specs.declared.score.Score.{Score}
-use Rattle.match_runner.proofs.GamesTold.{SoFar, start, one_more, with_fault, broke, all_played}
+use Rattle.match_runner.proofs.GamesWritten.{SoFar, start, one_more, with_fault, broke, all_played}
 use Rattle.match_runner.proofs.games.play_each.Goals as goal
 
 pub loop-number-init : goal.loop-number-init
@@ -22,10 +22,10 @@ pub returns-in-Err : goal.returns-in-Err
 returns-in-Err g c =
     let w = g.W.Output.seen c.args.output.now in
     let w' = g.W.Output.seen c.loop-number.output in
-    let w'' = g.W.Output.seen c.play_one.new.output in
+    let w'' = g.W.Output.seen c.start_and_play.new.output in
     let l = log_seen (g.E.Output.seen c.args.log.now.output) c.args.log.now.pending in
     let l' = log_seen (g.E.Output.seen c.loop-number.log.output) c.loop-number.log.pending in
-    let l'' = log_seen (g.E.Output.seen c.play_one.new.log.output) c.play_one.new.log.pending in
+    let l'' = log_seen (g.E.Output.seen c.start_and_play.new.log.output) c.start_and_play.new.log.pending in
     let le : c.loop-number.number + 1 ≤ c.args.plan.now.games =
     (let t = c.loop-number-test.true in let e = c.game_count.ensures.value in omega (arith, t, e)) in
     broke c.args.plan.now w w' w'' l l' l'' (c.loop-number.number + 1) c.loop-number.score c.loop-number.invariant.1
@@ -36,23 +36,26 @@ returns-in-Some g c =
     let plan = c.args.plan.now in
     let w = g.W.Output.seen c.args.output.now in
     let w' = g.W.Output.seen c.loop-number.output in
-    let w'' = g.W.Output.seen c.play_one.new.output in
+    let w'' = g.W.Output.seen c.start_and_play.new.output in
     let l = log_seen (g.E.Output.seen c.args.log.now.output) c.args.log.now.pending in
     let l' = log_seen (g.E.Output.seen c.loop-number.log.output) c.loop-number.log.pending in
-    let l'' = log_seen (g.E.Output.seen c.play_one.new.log.output) c.play_one.new.log.pending in
+    let l'' = log_seen (g.E.Output.seen c.start_and_play.new.log.output) c.start_and_play.new.log.pending in
     let number = c.loop-number.number + 1 in
-    let le : number ≤ plan.games = (let t = c.loop-number-test.true in let e = c.game_count.ensures.value in omega (arith, t, e)) in
+    let le : number ≤ plan.games = (let t = c.loop-number-test.true in let e = c.game_count.ensures.value in
+    omega (arith, t, e)) in
     let small : number ≤ 65535 =
     (let t = c.loop-number-test.true in let few = c.game_count.ensures.few in omega (arith, t, few)) in
     let one = c.in-Ok.ensures.played in
-    let told : GameRecord = record { game = one.0; end = c.in-Ok.end; notes = one.1 } in
+    let recorded : GameRecord = record { game = one.0; end = c.in-Ok.end; notes = one.1 } in
     let is : c.in-Ok.end.fault ≡ Some (c.in-Some.side, c.in-Some.fault) = search rules in
     let counted : c.after-score.result ≡ score_after (first_side number) c.in-Ok.end.outcome c.loop-number.score =
-    c.after-score.ensures ∙ ap (λ side. score_after side c.in-Ok.end.outcome c.loop-number.score) c.first_side.ensures in
+    c.after-score.ensures ∙ ap (λ side. score_after side c.in-Ok.end.outcome c.loop-number.score) c.first_side.ensures
+    in
     subst (λ (v : Score).
     HasPlayed plan w w'' l l'' (Ok (record { score = v; fault = Some (number, c.in-Some.side, c.in-Some.fault) })))
     (sym counted)
-    (with_fault plan w w' w'' l l' l'' number c.loop-number.score c.loop-number.invariant.1 c.loop-number.invariant.2 told
+    (with_fault plan w w' w'' l l' l'' number c.loop-number.score c.loop-number.invariant.1
+    c.loop-number.invariant.2 recorded
     c.in-Some.side c.in-Some.fault le small one.2 is one.3 one.4)
 
 pub loop-number-preserved : goal.loop-number-preserved
@@ -60,25 +63,27 @@ loop-number-preserved g c =
     let plan = c.args.plan.now in
     let w = g.W.Output.seen c.args.output.now in
     let w' = g.W.Output.seen c.loop-number.output in
-    let w'' = g.W.Output.seen c.play_one.new.output in
+    let w'' = g.W.Output.seen c.start_and_play.new.output in
     let l = log_seen (g.E.Output.seen c.args.log.now.output) c.args.log.now.pending in
     let l' = log_seen (g.E.Output.seen c.loop-number.log.output) c.loop-number.log.pending in
-    let l'' = log_seen (g.E.Output.seen c.play_one.new.log.output) c.play_one.new.log.pending in
+    let l'' = log_seen (g.E.Output.seen c.start_and_play.new.log.output) c.start_and_play.new.log.pending in
     let number = c.loop-number.number + 1 in
-    let le : number ≤ plan.games = (let t = c.loop-number-test.true in let e = c.game_count.ensures.value in omega (arith, t, e)) in
+    let le : number ≤ plan.games = (let t = c.loop-number-test.true in let e = c.game_count.ensures.value in
+    omega (arith, t, e)) in
     let small : number ≤ 65535 =
     (let t = c.loop-number-test.true in let few = c.game_count.ensures.few in omega (arith, t, few)) in
     let one = c.in-Ok.ensures.played in
-    let told : GameRecord = record { game = one.0; end = c.in-Ok.end; notes = one.1 } in
+    let recorded : GameRecord = record { game = one.0; end = c.in-Ok.end; notes = one.1 } in
     let is : c.in-Ok.end.fault ≡ None = search rules in
     let counted : c.after-score.result ≡ score_after (first_side number) c.in-Ok.end.outcome c.loop-number.score =
-    c.after-score.ensures ∙ ap (λ side. score_after side c.in-Ok.end.outcome c.loop-number.score) c.first_side.ensures in
-    let games = c.loop-number.invariant.1 ++ told ∷ [] in (
-      c.play_one.ensures.limit,
+    c.after-score.ensures ∙ ap (λ side. score_after side c.in-Ok.end.outcome c.loop-number.score) c.first_side.ensures
+    in
+    let games = c.loop-number.invariant.1 ++ recorded ∷ [] in (
+      c.start_and_play.ensures.limit,
       games,
       subst (λ (v : Score). SoFar plan w w'' l l'' (number + 1) v games) (sym counted)
           (one_more plan w w' w'' l l' l'' number c.loop-number.score c.loop-number.invariant.1
-          c.loop-number.invariant.2 told le small one.2 is one.3 one.4),
+          c.loop-number.invariant.2 recorded le small one.2 is one.3 one.4),
     )
 
 pub returns : goal.returns

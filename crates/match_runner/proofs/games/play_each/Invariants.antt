@@ -1,7 +1,7 @@
 use Rattle.std.proofs.Common.{◌≡◌, ◌+◌, ◌-◌, List}
 use Rattle.match_runner.specs.Games.{GameRecord}
 use Rattle.match_runner.specs.Log.{log_seen}
-use Rattle.match_runner.proofs.GamesTold.{SoFar}
+use Rattle.match_runner.proofs.GamesWritten.{SoFar}
 use Rattle.match_runner.proofs.games.play_each.Given as goal
 use Rattle.chess_game.specs.declared.game.TheConstants.{MOST_MOVES}
 
@@ -10,7 +10,8 @@ abbrev pub invariant-loop-number : goal.invariant-loop-number
 invariant-loop-number g l =
     (l.game.limit ≡ MOST_MOVES) × (games : List GameRecord)
     × SoFar l.plan (g.W.Output.seen l.fn.output) (g.W.Output.seen l.output)
-    (log_seen (g.E.Output.seen l.fn.log.output) l.fn.log.pending) (log_seen (g.E.Output.seen l.log.output) l.log.pending)
+    (log_seen (g.E.Output.seen l.fn.log.output) l.fn.log.pending)
+    (log_seen (g.E.Output.seen l.log.output) l.log.pending)
     (l.number + 1) l.score games
 
 abbrev pub decreases-loop-number : goal.decreases-loop-number

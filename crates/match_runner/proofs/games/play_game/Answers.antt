@@ -1,12 +1,13 @@
 -- The game that the match left is one of the plan, since it began with a limit of 20,000 half-moves, which stays
--- (GamesTold.limit_kept). What was written is its text with the tags of its end, or a beginning of it, and it was logged.
+-- (GamesWritten.limit_kept). What was written is its text with the tags of its end, or a beginning of it, and it was
+-- logged.
 use Rattle.std.proofs.Common.{[], ◌∙◌, Option, refl, subst}
 use Rattle.byte_devices.specs.Devices.{BreaksOff, Sent}
 use Rattle.chess_base.specs.declared.man.Colour.{Colour}
 use Rattle.chess_pgn.specs.GameText.{pgn}
 use Rattle.match_runner.specs.ties.Playing.{LogsGame}
 use Rattle.match_runner.specs.Log.{log_seen}
-use Rattle.match_runner.proofs.GamesTold.{limit_kept}
+use Rattle.match_runner.proofs.GamesWritten.{limit_kept}
 use Rattle.match_runner.proofs.games.play_game.Goals as goal
 
 pub returns-in-Ok-clause-limit : goal.returns-in-Ok-clause-limit

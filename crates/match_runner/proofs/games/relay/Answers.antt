@@ -1,9 +1,9 @@
--- A game that is not logged has notes too (GamesTold.relayed).
+-- A game that is not logged has notes too (GamesWritten.relayed).
 use Rattle.std.proofs.Common.{◌≡◌, Option, None, Some, rules, subst, sym}
 use Rattle.chess_base.specs.declared.man.Colour.{Colour}
 use Rattle.match_runner.specs.ties.Playing.{LogsGame}
 use Rattle.match_runner.specs.Log.{log_seen}
-use Rattle.match_runner.proofs.GamesTold.{relayed}
+use Rattle.match_runner.proofs.GamesWritten.{relayed}
 use Rattle.match_runner.proofs.games.relay.Goals as goal
 
 pub returns-in_default : goal.returns-in_default

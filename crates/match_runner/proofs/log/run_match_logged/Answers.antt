@@ -4,6 +4,7 @@ use Rattle.match_runner.proofs.log.run_match_logged.Goals as goal
 
 pub returns : goal.returns
 returns g c = record {
-  ran = ran_logged _ _ _ _ _ _ _ _ _ _ _ _ _ _ c.args.game.now _ _ _ _ _ _ c.begin.ensures.log c.run_match_watched-end.ensures.ran
+  ran = ran_logged _ _ _ _ _ _ _ _ _ _ _ _ _ _ c.args.game.now _ _ _ _ _ _ c.begin.ensures.log
+      c.run_match_watched-end.ensures.ran
       c.finish.ensures.adds c.finish.ensures.nothing;
 }

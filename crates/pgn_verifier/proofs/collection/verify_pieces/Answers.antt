@@ -53,7 +53,8 @@ loop-fault-preserved g c =
       written_on c.args.options r (g.R.Input.seen c.loop-fault.input) (g.R.Input.seen c.next.new.input)
           (g.W.Output.seen c.args.output.now) (g.W.Output.seen c.loop-fault.output) c.loop-fault.pieces c.next.new.self
           c.loop-fault.tally c.loop-fault.line so (c.pieces_are_cut.ensures, c.pieces_are_in_place.ensures)
-          (g.W.Output.seen c.verify_piece.new.output) c.in-Ok.after c.line_after-line.result next c.in-Ok-true.ensures.offset
+          (g.W.Output.seen c.verify_piece.new.output) c.in-Ok.after c.line_after-line.result next
+          c.in-Ok-true.ensures.offset
           (c.in-Ok-true.ensures.some c.in-Ok-true.field-0-test) (omega (arith, value, small)) c.in-Ok.ensures.written
           c.in-Ok.ensures.grown c.line_after-line.ensures.counted c.line_after-line.ensures.few,
     )

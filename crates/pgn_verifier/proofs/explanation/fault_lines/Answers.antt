@@ -24,5 +24,6 @@ returns-then-explain g c input stands =
     ∙ ap₂ (λ xs t. xs ++ explanation_at c.line_after-line.result c.column_after-column.result
     (explained s t kind)) first (rest_is at text)
     ∙ ap₂ (λ l k. own ++ explanation_at l k (explained s (drop at text) kind)) line column
-    ∙ sym (ap (λ b. own ++ (if b then explanation_line input (start.offset + at) (explained s (drop at text) kind) else []))
+    ∙ sym (ap (λ b. own ++ (if b then explanation_line input (start.offset + at) (explained s (drop at text) kind)
+    else []))
     c.if-explain.true)

@@ -31,13 +31,17 @@ returns-in-Err-write_game-clause-written g c input stands =
     let w' = g.W.Output.seen c.loop-end.output in
     let w'' = g.W.Output.seen c.write_game.new.output in
     let judged = sym (rw c.in-Ok-Some.field-0-is at c.in-Ok-Some.ensures.judged) in
-    game_broke c.args.options c.args.start.offset c.args.text.now c.args.before (g.W.Output.seen c.args.output.now) w' w''
-    c.loop-end.at c.loop-end.tally c.loop-end.invariant.1.0 c.loop-end.invariant.1.1 c.in-Err-write_game.fault input end s
+    game_broke c.args.options c.args.start.offset c.args.text.now c.args.before (g.W.Output.seen c.args.output.now) w'
+    w''
+    c.loop-end.at c.loop-end.tally c.loop-end.invariant.1.0 c.loop-end.invariant.1.1
+    c.in-Err-write_game.fault input end s
     judged c.in-Ok-Some.ensures.game
-    (subst (λ n. BreaksOff w' w'' (if c.args.options.quiet then [] else game_line n (length s.moves) end.outcome end.termination))
+    (subst (λ n. BreaksOff w' w'' (if c.args.options.quiet then [] else game_line n (length s.moves) end.outcome
+    end.termination))
     c.next_number-number.ensures
     (subst (λ k. BreaksOff w' w'' (if c.args.options.quiet then [] else
-    game_line c.next_number-number.result k end.outcome end.termination)) c.ply-plies.ensures c.in-Err-write_game.ensures))
+    game_line c.next_number-number.result k end.outcome end.termination)) c.ply-plies.ensures
+    c.in-Err-write_game.ensures))
 
 pub loop-end-preserved : goal.loop-end-preserved
 loop-end-preserved g c =
@@ -64,10 +68,12 @@ loop-end-preserved g c =
       c.in-Ok-Some.ensures.limit,
       (
         done,
-        subst (λ (t : Tally). SoFar c.args.options c.args.start.offset c.args.text.now c.args.before w w'' end.offset t done)
+        subst (λ (t : Tally). SoFar c.args.options c.args.start.offset c.args.text.now c.args.before w w''
+            end.offset t done)
             (sym counts)
             (game_written c.args.options c.args.start.offset c.args.text.now c.args.before w w' w'' c.loop-end.at
-            c.loop-end.tally c.loop-end.invariant.1.0 c.loop-end.invariant.1.1 end s judged c.in-Ok-Some.ensures.game few
+            c.loop-end.tally c.loop-end.invariant.1.0 c.loop-end.invariant.1.1 end s judged
+            c.in-Ok-Some.ensures.game few
             further within
             (subst (λ n. Took w' w''
             (if c.args.options.quiet then [] else game_line n (length s.moves) end.outcome end.termination))

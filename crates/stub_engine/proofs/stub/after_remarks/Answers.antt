@@ -1,24 +1,24 @@
--- What is left after the remarks from here on is what is left after all (Remarks.after_more); another argument, or none,
--- is left as it is (Remarks.after_other, after_end).
+-- What is left after the remarks from here on is what is left after all (Remarks.after_more); another argument, or
+-- none, is left as it is (Remarks.after_other, after_end).
 use Rattle.std.proofs.Common.{◌∙◌, sym, arith, false, true}
 use Rattle.stub_engine.proofs.Remarks.{after_more, after_other, after_end, is_said}
 use Rattle.stub_engine.proofs.stub.after_remarks.Goals as goal
 
 pub returns-then-is_none-clause-rest : goal.returns-then-is_none-clause-rest
 returns-then-is_none-clause-rest c =
-    sym (after_other c.args.words.now c.loop-at.at _ c.loop-at-test.true
+    sym (after_other c.args.arguments.now c.loop-at.at _ c.loop-at-test.true
     (is_said c.remark.result _ false c.remark.ensures c.if-is_none.ensures))
     ∙ c.loop-at.invariant.left
 
 pub loop-at-preserved : goal.loop-at-preserved
 loop-at-preserved c = record {
   within = (let lt = c.loop-at-test.true in omega (arith, lt));
-  left = sym (after_more c.args.words.now c.loop-at.at _ c.loop-at-test.true
+  left = sym (after_more c.args.arguments.now c.loop-at.at _ c.loop-at-test.true
       (is_said c.remark.result _ true c.remark.ensures c.if-is_none.ensures))
       ∙ c.loop-at.invariant.left;
 }
 
 pub returns-clause-rest : goal.returns-clause-rest
 returns-clause-rest c =
-    sym (after_end c.args.words.now c.loop-at.at (let past = c.loop-at-test.false in omega (arith, past)))
+    sym (after_end c.args.arguments.now c.loop-at.at (let past = c.loop-at-test.false in omega (arith, past)))
     ∙ c.loop-at.invariant.left

@@ -4,9 +4,9 @@ use Rattle.stub_engine.proofs.stub.after_remarks.Given as goal
 
 abbrev pub invariant-loop-at : goal.invariant-loop-at
 invariant-loop-at l = record {
-  within : l.at ≤ length l.words;
-  left : after_remarks (drop l.at l.words) ≡ after_remarks (drop l.from l.words);
+  within : l.at ≤ length l.arguments;
+  left : after_remarks (drop l.at l.arguments) ≡ after_remarks (drop l.from l.arguments);
 }
 
 abbrev pub decreases-loop-at : goal.decreases-loop-at
-decreases-loop-at l = length l.words - l.at
+decreases-loop-at l = length l.arguments - l.at

@@ -5,7 +5,7 @@ use Rattle.stub_engine.proofs.stub.say_remarks.Given as goal
 -- the remarks up to here were said
 abbrev pub invariant-loop-at : goal.invariant-loop-at
 invariant-loop-at g l = let seen = g.W.Output.seen in (text : List ℕ)
-    × SoFar l.words l.from l.at (seen l.fn.writer) (seen l.writer) text
+    × SoFar l.arguments l.from l.at (seen l.fn.writer) (seen l.writer) text
 
 abbrev pub decreases-loop-at : goal.decreases-loop-at
-decreases-loop-at g l = length l.words - l.at
+decreases-loop-at g l = length l.arguments - l.at

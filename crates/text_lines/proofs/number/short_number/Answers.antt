@@ -1,5 +1,5 @@
--- Of at most nine digits those before the last write less than 10 ^ 8 (FewDigits.small_number), so no step overflows; and all
--- write less than 10 to the power of their number (FewDigits.number_bound).
+-- Of at most nine digits those before the last write less than 10 ^ 8 (FewDigits.small_number), so no step overflows;
+-- and all write less than 10 to the power of their number (FewDigits.number_bound).
 use Rattle.std.proofs.Common.{arith, ◌<◌, ◌≤◌, ◌^◌, length}
 use Rattle.text_lines.proofs.FewDigits.{small_number, number_bound}
 use Rattle.text_lines.proofs.number.short_number.Goals as goal
@@ -14,5 +14,6 @@ overflow_add-number c = let s : c.loop-byte.number < 10 ^ 8 = small_number _ _ (
 
 pub returns-clause-small : goal.returns-clause-small
 returns-clause-small c =
-    let few : c.loop-byte.byte-index ≤ c.args.most = omega (arith, c.loop-byte.auto.byte-index-end, c.if-text-most.false) in
+    let few : c.loop-byte.byte-index ≤ c.args.most =
+    omega (arith, c.loop-byte.auto.byte-index-end, c.if-text-most.false) in
     number_bound c.loop-byte.number c.loop-byte.byte-index c.args.most c.loop-byte.invariant.small few

@@ -9,7 +9,7 @@ use Rattle.chess_game.specs.ties.Buckets.{IsIndexed}
 use Rattle.chess_game.specs.ties.PlayedMoves.{moves_of, IsKept}
 use Rattle.chess_game.specs.declared.game.PlayedMove.{PlayedMove}
 use Rattle.chess_game.specs.declared.repetition.Hashed.{Hashed}
-use Rattle.chess_game.proofs.Kept.{added, made_at_end, words_more, pushed_last, split_last, with_entry, shown_more, room}
+use Rattle.chess_game.proofs.Kept.{added, made_at_end, hashes_more, pushed_last, split_last, with_entry, shown_more, room}
 use Rattle.chess_game.proofs.Judged.{unended_more, no_verdict}
 use Rattle.chess_game.proofs.Playable.{may_play}
 use Rattle.chess_game.proofs.game.Game.play_legal.Goals as goal
@@ -62,7 +62,7 @@ invariant_of-self g c =
     c.push-entry.result p c.index_mut.ensures.value in
     let more = added c.self.inside.start.position xs x c.make-saved.result _ _ c.self.invariant.0.follows
     c.self.invariant.0.at_end refl c.make-saved.ensures.made c.on.ensures.position c.on.ensures.known in
-    let words = words_more g.B.Board.word_of c.self.inside.start xs x c.self.invariant.0.words c.on.ensures.word in
+    let hashes = hashes_more g.B.Board.word_of c.self.inside.start xs x c.self.invariant.0.hashes c.on.ensures.hash in
     let none =
     no_verdict
     (record { start = c.self.inside.start.position; moves = moves_of xs; declared = c.self.inside.declared })
@@ -71,7 +71,7 @@ invariant_of-self g c =
     subst (λ (ys : List PlayedMove). IsIndexed c.push-entry.new.self.heads.items c.self.inside.start (ys ++ x ∷ []))
     s.earlier (c.push-entry.ensures x (sym (ap (λ (y : PlayedMove). y.reached) s.latest)) refl) in
     let kept : IsKept g.B.Board.word_of c.self.inside.start (xs ++ x ∷ []) (g.B.Board.position c.make-saved.new.self) =
-    record { known = c.self.invariant.0.known; follows = more.follows; words = words; at_end = more.at_end } in (
+    record { known = c.self.invariant.0.known; follows = more.follows; hashes = hashes; at_end = more.at_end } in (
       rw all kept,
       rw all (unended_more c.self.inside.start.position xs x c.self.invariant.1 none),
       record { few = omega arith; made = omega arith; bound = omega arith },

@@ -1,11 +1,11 @@
--- The last played move holds the position that its move left, so the board goes back to that one (taken of Kept). No verdict
--- came before the last move, so none before the one that is now the last (unended_fewer of Judged).
+-- The last played move holds the position that its move left, so the board goes back to that one (taken of Kept). No
+-- verdict came before the last move, so none before the one that is now the last (unended_fewer of Judged).
 use Rattle.std.proofs.Common.{List, sym, ap, subst, ◌∙◌, arith}
 use Rattle.chess_game.specs.Line.{position_after}
 use Rattle.chess_game.specs.ties.Buckets.{IsIndexed}
 use Rattle.chess_game.specs.ties.PlayedMoves.{moves_of, Follows}
 use Rattle.chess_game.specs.declared.game.PlayedMove.{PlayedMove}
-use Rattle.chess_game.proofs.Kept.{taken, fewer, words_fewer}
+use Rattle.chess_game.proofs.Kept.{taken, fewer, hashes_fewer}
 use Rattle.chess_game.proofs.Judged.{unended_fewer, last_is}
 use Rattle.chess_game.proofs.game.Game.take_back.Goals as goal
 
@@ -14,7 +14,8 @@ take_back-requires g c = (
   position_after c.self.inside.start.position (moves_of c.pop.new.self.items),
   taken c.self.inside.start.position c.self.inside.played_moves.items c.pop.new.self.items c.in-Some.played_move _ _ _
       c.self.invariant.0.follows c.in-Some.ensures.items c.self.invariant.0.at_end
-      (c.last_position-before.ensures ∙ ap (λ ys. position_after c.self.inside.start.position (moves_of ys)) c.as_slice.ensures.value) c.saved-saved.ensures,
+      (c.last_position-before.ensures ∙ ap (λ ys. position_after c.self.inside.start.position (moves_of ys))
+      c.as_slice.ensures.value) c.saved-saved.ensures,
 )
 
 pub last_position-before-requires : goal.last_position-before-requires
@@ -27,14 +28,16 @@ pub invariant_of-self-in-Some : goal.invariant_of-self-in-Some
 invariant_of-self-in-Some g c = (
   record {
     known = c.self.invariant.0.known;
-    follows = fewer c.self.inside.start.position c.self.inside.played_moves.items c.pop.new.self.items c.in-Some.played_move
+    follows = fewer c.self.inside.start.position c.self.inside.played_moves.items c.pop.new.self.items
+        c.in-Some.played_move
         c.self.invariant.0.follows c.in-Some.ensures.items;
-    words = words_fewer g.B.Board.word_of c.self.inside.start c.self.inside.played_moves.items c.pop.new.self.items
-        c.in-Some.played_move c.self.invariant.0.words c.in-Some.ensures.items;
+    hashes = hashes_fewer g.B.Board.word_of c.self.inside.start c.self.inside.played_moves.items c.pop.new.self.items
+        c.in-Some.played_move c.self.invariant.0.hashes c.in-Some.ensures.items;
     at_end = c.take_back.ensures.back (position_after c.self.inside.start.position (moves_of c.pop.new.self.items))
         (taken c.self.inside.start.position c.self.inside.played_moves.items c.pop.new.self.items c.in-Some.played_move
         _ _ _ c.self.invariant.0.follows c.in-Some.ensures.items c.self.invariant.0.at_end
-        (c.last_position-before.ensures ∙ ap (λ ys. position_after c.self.inside.start.position (moves_of ys)) c.as_slice.ensures.value) c.saved-saved.ensures);
+        (c.last_position-before.ensures ∙ ap (λ ys. position_after c.self.inside.start.position (moves_of ys))
+        c.as_slice.ensures.value) c.saved-saved.ensures);
   },
   unended_fewer c.self.inside.start.position c.self.inside.played_moves.items c.pop.new.self.items c.in-Some.played_move
       c.self.invariant.1 c.in-Some.ensures.items,

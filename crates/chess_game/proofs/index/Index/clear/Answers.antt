@@ -1,5 +1,5 @@
--- Going back, each played move's link becomes the head of its bucket (heads_back of Indexed), and at last the start's bucket
--- is empty (cleared).
+-- Going back, each played move's link becomes the head of its bucket (heads_back of Indexed), and at last the start's
+-- bucket is empty (cleared).
 use Rattle.std.proofs.Common.{◌∙◌, ap, length, refl, arith}
 use Rattle.std.proofs.lemmas.List.{length-set}
 use Rattle.chess_game.specs.ties.Buckets.{bucket}
@@ -16,7 +16,8 @@ loop-left-preserved c =
       buckets = ap length c.remove.ensures
           ∙ length-set l.self.heads.items (bucket played_move.reached) played_move.entry.earlier ∙ l.invariant.buckets;
       heads = rw c.remove.ensures
-          (heads_back l.self.heads.items c.args.start.now c.args.played_moves.now l.left played_move (bucket played_move.reached)
+          (heads_back l.self.heads.items c.args.start.now c.args.played_moves.now l.left played_move
+          (bucket played_move.reached)
           l.invariant.buckets c.requires.entries heads (omega arith) (omega arith) c.index-played_moves-left.is refl);
     }
 

@@ -1,4 +1,5 @@
--- With the played move's link as its bucket's head, the heads are those of the positions before (popped_index of Indexed).
+-- With the played move's link as its bucket's head, the heads are those of the positions before (popped_index of
+-- Indexed).
 use Rattle.std.proofs.Common.{refl}
 use Rattle.chess_game.specs.ties.Buckets.{bucket}
 use Rattle.chess_game.proofs.Indexed.{popped_index}
@@ -9,4 +10,5 @@ remove-requires c = c.requires.2.buckets
 
 pub returns : goal.returns
 returns c = λ start xs index. rw c.remove.ensures
-    (popped_index c.args.self.now.heads.items start xs c.args.played_move.now (bucket c.args.played_move.now.reached) index refl)
+    (popped_index c.args.self.now.heads.items start xs c.args.played_move.now (bucket c.args.played_move.now.reached)
+    index refl)

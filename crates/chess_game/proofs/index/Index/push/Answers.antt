@@ -14,7 +14,8 @@ returns c = λ x reached entry.
     omega (arith, c.requires.indexed.buckets, c.bucket-number.ensures.low) in
     let head : x.entry.earlier ≡ get_or table (bucket x.reached) 0 = ap (λ m. m.earlier) entry ∙ c.index-head.ensures
     ∙ get_or_default_zero table c.bucket-number.result c.index-head.result.now low ∙ ap (λ n. get_or table n 0) at in
-    let counted : x.entry.count ≡ suc (count_below (is_same_at c.args.start.now xs x.reached.position) (suc (length xs))) =
+    let counted : x.entry.count
+    ≡ suc (count_below (is_same_at c.args.start.now xs x.reached.position) (suc (length xs))) =
     ap (λ m. m.count) entry ∙ c.count_same-count.ensures
     ∙ ap (λ k. suc (count_below (is_same_at c.args.start.now xs k.position) (suc (length xs)))) (sym reached) in
     pushed_index table c.args.start.now xs x c.bucket-number.result (length xs + 2) c.requires.indexed at

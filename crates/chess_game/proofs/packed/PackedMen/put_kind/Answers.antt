@@ -1,4 +1,5 @@
--- Each turn puts a piece on one square more (put_more of Unpacked); at the end all squares of the set have theirs (put_all).
+-- Each turn puts a piece on one square more (put_more of Unpacked); at the end all squares of the set have theirs
+-- (put_all).
 use Rattle.std.proofs.Common.{◌≡◌, ◌<◌, refl, ap, subst, length, arith}
 use Rattle.std.proofs.lemmas.List.{nil_from_length}
 use Rattle.chess_moves.specs.Sets.{members}
@@ -21,7 +22,8 @@ returns-in_default-clause-length c = c.loop-turn.invariant.1.board
 
 pub returns-in_default-clause-each : goal.returns-in_default-clause-each
 returns-in_default-clause-each c =
-    put_all c.args.self.now c.args.kind c.loop-turn.men c.loop-turn.left c.args.men.now c.args.set c.in_default.ensures.0
+    put_all c.args.self.now c.args.kind c.loop-turn.men c.loop-turn.left c.args.men.now c.args.set
+    c.in_default.ensures.0
     c.loop-turn.invariant.1
 
 pub returns-clause-length : goal.returns-clause-length

@@ -1,5 +1,5 @@
 -- Positions that are the same would have equal hashes (told_apart of EqualWords).
-use Rattle.chess_game.proofs.EqualWords.{told_apart}
+use Rattle.chess_game.proofs.EqualHashes.{told_apart}
 use Rattle.chess_game.proofs.repetition.Hashed.hash_differs.Goals as goal
 
 pub returns : goal.returns

@@ -18,7 +18,8 @@ flag_kept left used clock elapsed b e f h = rw (← e, ← f) h
 pub returns-then-has_bare_king-clause-goes : goal.returns-then-has_bare_king-clause-goes
 unfolding before_line
 returns-then-has_bare_king-clause-goes g c r m p at s =
-    let left : remaining c.args.self.now.clocks c.args.side ≡ clock r m c.args.side = clocks_left r _ _ m s c.args.side in
+    let left : remaining c.args.self.now.clocks c.args.side ≡ clock r m c.args.side =
+    clocks_left r _ _ m s c.args.side in
     let used : c.saturating_sub-used.result ≡ c.args.moment - m.opened =
     rw (← s.opened) c.saturating_sub-used.ensures in
     let on : is_on m.phase ≡ true = rw at refl in
@@ -31,7 +32,8 @@ returns-then-has_bare_king-clause-goes g c r m p at s =
 pub returns-else-has_bare_king-clause-goes : goal.returns-else-has_bare_king-clause-goes
 unfolding before_line
 returns-else-has_bare_king-clause-goes g c r m p at s =
-    let left : remaining c.args.self.now.clocks c.args.side ≡ clock r m c.args.side = clocks_left r _ _ m s c.args.side in
+    let left : remaining c.args.self.now.clocks c.args.side ≡ clock r m c.args.side =
+    clocks_left r _ _ m s c.args.side in
     let used : c.saturating_sub-used.result ≡ c.args.moment - m.opened =
     rw (← s.opened) c.saturating_sub-used.ensures in
     let on : is_on m.phase ≡ true = rw at refl in
@@ -44,7 +46,8 @@ returns-else-has_bare_king-clause-goes g c r m p at s =
 pub returns-in-Move-clause-goes : goal.returns-in-Move-clause-goes
 unfolding before_line
 returns-in-Move-clause-goes g c r m p at s =
-    let left : remaining c.args.self.now.clocks c.args.side ≡ clock r m c.args.side = clocks_left r _ _ m s c.args.side in
+    let left : remaining c.args.self.now.clocks c.args.side ≡ clock r m c.args.side =
+    clocks_left r _ _ m s c.args.side in
     let used : c.saturating_sub-used.result ≡ c.args.moment - m.opened =
     rw (← s.opened) c.saturating_sub-used.ensures in
     let flag : nat_lt (clock r m c.args.side) (c.args.moment - m.opened) ≡ false =
@@ -54,7 +57,8 @@ returns-in-Move-clause-goes g c r m p at s =
 pub returns-in-Features-clause-goes : goal.returns-in-Features-clause-goes
 unfolding before_line
 returns-in-Features-clause-goes g c r m p at s =
-    let left : remaining c.args.self.now.clocks c.args.side ≡ clock r m c.args.side = clocks_left r _ _ m s c.args.side in
+    let left : remaining c.args.self.now.clocks c.args.side ≡ clock r m c.args.side =
+    clocks_left r _ _ m s c.args.side in
     let used : c.saturating_sub-used.result ≡ c.args.moment - m.opened =
     rw (← s.opened) c.saturating_sub-used.ensures in
     let flag : nat_lt (clock r m c.args.side) (c.args.moment - m.opened) ≡ false =
@@ -65,7 +69,8 @@ returns-in-Features-clause-goes g c r m p at s =
 pub returns-in-Resign-clause-goes : goal.returns-in-Resign-clause-goes
 unfolding before_line
 returns-in-Resign-clause-goes g c r m p at s =
-    let left : remaining c.args.self.now.clocks c.args.side ≡ clock r m c.args.side = clocks_left r _ _ m s c.args.side in
+    let left : remaining c.args.self.now.clocks c.args.side ≡ clock r m c.args.side =
+    clocks_left r _ _ m s c.args.side in
     let used : c.saturating_sub-used.result ≡ c.args.moment - m.opened =
     rw (← s.opened) c.saturating_sub-used.ensures in
     let flag : nat_lt (clock r m c.args.side) (c.args.moment - m.opened) ≡ false =
@@ -76,7 +81,8 @@ returns-in-Resign-clause-goes g c r m p at s =
 pub returns-in-Offer-clause-goes : goal.returns-in-Offer-clause-goes
 unfolding before_line
 returns-in-Offer-clause-goes g c r m p at s =
-    let left : remaining c.args.self.now.clocks c.args.side ≡ clock r m c.args.side = clocks_left r _ _ m s c.args.side in
+    let left : remaining c.args.self.now.clocks c.args.side ≡ clock r m c.args.side =
+    clocks_left r _ _ m s c.args.side in
     let used : c.saturating_sub-used.result ≡ c.args.moment - m.opened =
     rw (← s.opened) c.saturating_sub-used.ensures in
     let flag : nat_lt (clock r m c.args.side) (c.args.moment - m.opened) ≡ false =
@@ -87,7 +93,8 @@ returns-in-Offer-clause-goes g c r m p at s =
 pub returns-in-Draw-clause-goes : goal.returns-in-Draw-clause-goes
 unfolding before_line
 returns-in-Draw-clause-goes g c r m p at s =
-    let left : remaining c.args.self.now.clocks c.args.side ≡ clock r m c.args.side = clocks_left r _ _ m s c.args.side in
+    let left : remaining c.args.self.now.clocks c.args.side ≡ clock r m c.args.side =
+    clocks_left r _ _ m s c.args.side in
     let used : c.saturating_sub-used.result ≡ c.args.moment - m.opened =
     rw (← s.opened) c.saturating_sub-used.ensures in
     let flag : nat_lt (clock r m c.args.side) (c.args.moment - m.opened) ≡ false =
@@ -98,7 +105,8 @@ returns-in-Draw-clause-goes g c r m p at s =
 pub returns-in-Win-clause-goes : goal.returns-in-Win-clause-goes
 unfolding before_line
 returns-in-Win-clause-goes g c r m p at s =
-    let left : remaining c.args.self.now.clocks c.args.side ≡ clock r m c.args.side = clocks_left r _ _ m s c.args.side in
+    let left : remaining c.args.self.now.clocks c.args.side ≡ clock r m c.args.side =
+    clocks_left r _ _ m s c.args.side in
     let used : c.saturating_sub-used.result ≡ c.args.moment - m.opened =
     rw (← s.opened) c.saturating_sub-used.ensures in
     let flag : nat_lt (clock r m c.args.side) (c.args.moment - m.opened) ≡ false =
@@ -109,7 +117,8 @@ returns-in-Win-clause-goes g c r m p at s =
 pub returns-in-Rejection-clause-goes : goal.returns-in-Rejection-clause-goes
 unfolding before_line
 returns-in-Rejection-clause-goes g c r m p at s =
-    let left : remaining c.args.self.now.clocks c.args.side ≡ clock r m c.args.side = clocks_left r _ _ m s c.args.side in
+    let left : remaining c.args.self.now.clocks c.args.side ≡ clock r m c.args.side =
+    clocks_left r _ _ m s c.args.side in
     let used : c.saturating_sub-used.result ≡ c.args.moment - m.opened =
     rw (← s.opened) c.saturating_sub-used.ensures in
     let flag : nat_lt (clock r m c.args.side) (c.args.moment - m.opened) ≡ false =
@@ -120,7 +129,8 @@ returns-in-Rejection-clause-goes g c r m p at s =
 pub returns-in-Pong-clause-goes : goal.returns-in-Pong-clause-goes
 unfolding before_line
 returns-in-Pong-clause-goes g c r m p at s =
-    let left : remaining c.args.self.now.clocks c.args.side ≡ clock r m c.args.side = clocks_left r _ _ m s c.args.side in
+    let left : remaining c.args.self.now.clocks c.args.side ≡ clock r m c.args.side =
+    clocks_left r _ _ m s c.args.side in
     let used : c.saturating_sub-used.result ≡ c.args.moment - m.opened =
     rw (← s.opened) c.saturating_sub-used.ensures in
     let flag : nat_lt (clock r m c.args.side) (c.args.moment - m.opened) ≡ false =
@@ -131,7 +141,8 @@ returns-in-Pong-clause-goes g c r m p at s =
 pub returns-in-Other-clause-goes : goal.returns-in-Other-clause-goes
 unfolding before_line
 returns-in-Other-clause-goes g c r m p at s =
-    let left : remaining c.args.self.now.clocks c.args.side ≡ clock r m c.args.side = clocks_left r _ _ m s c.args.side in
+    let left : remaining c.args.self.now.clocks c.args.side ≡ clock r m c.args.side =
+    clocks_left r _ _ m s c.args.side in
     let used : c.saturating_sub-used.result ≡ c.args.moment - m.opened =
     rw (← s.opened) c.saturating_sub-used.ensures in
     let flag : nat_lt (clock r m c.args.side) (c.args.moment - m.opened) ≡ false =

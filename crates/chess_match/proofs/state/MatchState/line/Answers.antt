@@ -2,7 +2,7 @@
 -- (Going.goes_in); in an opening or at the end no line is read.
 use Rattle.std.proofs.Common.{◌≡◌, true, false, ap, sym, ◌∙◌}
 use Rattle.cecp_engine.specs.Seen.{seen}
-use Rattle.chess_match.specs.declared.phase.Phase.TheVariants.{Hello, Setup, SendTurn, AwaitMove, AwaitPong, Over}
+use Rattle.chess_match.specs.declared.phase.Phase.TheVariants.{Handshake, Setup, SendTurn, AwaitMove, AwaitPong, Over}
 use Rattle.chess_match.specs.Transcript.{reads}
 use Rattle.chess_match.specs.declared.phase.Phase.{Phase}
 use Rattle.chess_match.specs.ties.Represents.{items_in}
@@ -10,12 +10,13 @@ use Rattle.chess_match.proofs.Going.{goes_in, nothing_to, same_to}
 use Rattle.chess_match.proofs.Sends.{no_answers_of}
 use Rattle.chess_match.proofs.state.MatchState.line.Goals as goal
 
-pub returns-in-Hello-clause-goes : goal.returns-in-Hello-clause-goes
-returns-in-Hello-clause-goes g c r m side text p h k s =
-    let at : m.phase ≡ Hello c.in-Hello.side = sym s.phase ∙ c.in-Hello.is in
+pub returns-in-Handshake-clause-goes : goal.returns-in-Handshake-clause-goes
+returns-in-Handshake-clause-goes g c r m side text p h k s =
+    let at : m.phase ≡ Handshake c.in-Handshake.side = sym s.phase ∙ c.in-Handshake.is in
     rw k (goes_in r _ _ _ _ side (seen c.args.line) c.args.moment m
-    (Hello c.in-Hello.side) at (λ X. same_to c.in-Hello.side side X _ (ap (λ (x : Phase). reads x side) (sym at) ∙ h))
-    (c.hello_line.ensures.goes r m p at s))
+    (Handshake c.in-Handshake.side) at
+    (λ X. same_to c.in-Handshake.side side X _ (ap (λ (x : Phase). reads x side) (sym at) ∙ h))
+    (c.handshake_line.ensures.goes r m p at s))
 
 pub returns-in-Setup-clause-goes : goal.returns-in-Setup-clause-goes
 returns-in-Setup-clause-goes g c r m side text p h k s =
@@ -48,21 +49,26 @@ returns-in-Over-clause-goes g c r m side text p h k s =
     cc
 
 pub returns-in-Setup-clause-answers : goal.returns-in-Setup-clause-answers
-returns-in-Setup-clause-answers g c = no_answers_of _ (items_in c.args.self.now.phase (seen c.args.line)) c.requires.empty
+returns-in-Setup-clause-answers g c = no_answers_of _ (items_in c.args.self.now.phase (seen c.args.line))
+    c.requires.empty
     (ap (λ (p : Phase). items_in p (seen c.args.line)) c.in-Setup.is)
 
 pub returns-in-AwaitMove-clause-answers : goal.returns-in-AwaitMove-clause-answers
-returns-in-AwaitMove-clause-answers g c = no_answers_of _ (items_in c.args.self.now.phase (seen c.args.line)) c.requires.empty
+returns-in-AwaitMove-clause-answers g c = no_answers_of _ (items_in c.args.self.now.phase (seen c.args.line))
+    c.requires.empty
     (ap (λ (p : Phase). items_in p (seen c.args.line)) c.in-AwaitMove.is)
 
 pub returns-in-AwaitPong-clause-answers : goal.returns-in-AwaitPong-clause-answers
-returns-in-AwaitPong-clause-answers g c = no_answers_of _ (items_in c.args.self.now.phase (seen c.args.line)) c.requires.empty
+returns-in-AwaitPong-clause-answers g c = no_answers_of _ (items_in c.args.self.now.phase (seen c.args.line))
+    c.requires.empty
     (ap (λ (p : Phase). items_in p (seen c.args.line)) c.in-AwaitPong.is)
 
 pub returns-in-SendTurn-clause-answers : goal.returns-in-SendTurn-clause-answers
-returns-in-SendTurn-clause-answers g c = no_answers_of _ (items_in c.args.self.now.phase (seen c.args.line)) c.requires.empty
+returns-in-SendTurn-clause-answers g c = no_answers_of _ (items_in c.args.self.now.phase (seen c.args.line))
+    c.requires.empty
     (ap (λ (p : Phase). items_in p (seen c.args.line)) c.in-SendTurn.is)
 
 pub returns-in-Over-clause-answers : goal.returns-in-Over-clause-answers
-returns-in-Over-clause-answers g c = no_answers_of _ (items_in c.args.self.now.phase (seen c.args.line)) c.requires.empty
+returns-in-Over-clause-answers g c = no_answers_of _ (items_in c.args.self.now.phase (seen c.args.line))
+    c.requires.empty
     (ap (λ (p : Phase). items_in p (seen c.args.line)) c.in-Over.is)

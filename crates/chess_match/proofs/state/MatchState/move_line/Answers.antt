@@ -32,7 +32,8 @@ returns-in-Some-verdict-clause-goes g c r m moment p at u s =
     let decided : r.verdict (m.played ++ c.in-Some.chosen ∷ []) ≡ Some c.in-Some-verdict.verdict =
     rw (← now) (sym (c.in-Some-verdict.ensures r (c.play-texts.ensures.rules r p))) in
     rw (full, says, decided, ← u, c.play-texts.ensures.moves)
-    (played_over_goes r c.args.self.now _ (g.G.MatchGame.played c.args.game.now) c.args.side c.in-Some.chosen c.args.used m
+    (played_over_goes r c.args.self.now _ (g.G.MatchGame.played c.args.game.now) c.args.side c.in-Some.chosen
+    c.args.used m
     c.play-texts.result _ on s (rw c.play-texts.ensures.moves at (c.play-texts.ensures.texts r p))
     (rw c.note_move.ensures refl))
 

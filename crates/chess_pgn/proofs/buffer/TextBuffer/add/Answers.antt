@@ -1,7 +1,7 @@
 -- Where making room failed, a beginning of what waited was taken, so the text after it stays due (Added.break_longer).
--- A text longer than the buffer is put where nothing waits (Added.put_behind).
+-- A text longer than the buffer is put where nothing waits (Added.put_after).
 use Rattle.std.proofs.Common.{[]}
-use Rattle.chess_pgn.proofs.Added.{break_longer, adds_exit, put_behind}
+use Rattle.chess_pgn.proofs.Added.{break_longer, adds_exit, put_after}
 use Rattle.chess_pgn.proofs.buffer.TextBuffer.add.Goals as goal
 
 pub returns-in_err-make_room : goal.returns-in_err-make_room
@@ -11,5 +11,5 @@ returns-in_err-make_room g c =
 
 pub returns-then-text-gt-BUFFER_LEN : goal.returns-then-text-gt-BUFFER_LEN
 returns-then-text-gt-BUFFER_LEN g c =
-    put_behind _ _ _ c.put.result _ _ _ c.in_ok-make_room.ensures.added
+    put_after _ _ _ c.put.result _ _ _ c.in_ok-make_room.ensures.added
     (c.in_ok-make_room.ensures.none c.if-text-gt-BUFFER_LEN.true) c.put.ensures

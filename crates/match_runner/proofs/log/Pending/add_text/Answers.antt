@@ -8,5 +8,6 @@ loop-byte-preserved g c =
     let i = c.loop-byte.invariant in (
       _,
       adds_more _ _ _ _ _ _ i.0 _ i.1 c.add.ensures,
-      loop_step (λ (l : List ℕ). l) c.args.text.now c.loop-byte.byte-index _ i.0 c.loop-byte-test.true (λ rest. refl) i.2,
+      loop_step (λ (l : List ℕ). l) c.args.text.now c.loop-byte.byte-index _ i.0 c.loop-byte-test.true
+          (λ rest. refl) i.2,
     )

@@ -1,0 +1,124 @@
+-- What no arguments, `session` and `verify` do.
+use Rattle.std.proofs.Common.{◌≡◌, ◌∙◌, ◌<◌, ℕ, List, [], length, lit<, codes, Result, Ok, Err, refl, sym, ap, subst, inl, inr, false, arith}
+use Rattle.clap.specs.Words.{IsAmong, Text, kind_of}
+use Rattle.arbiter_grammar.specs.Grammar.{asked}
+use Rattle.arbiter_cli.specs.Plans.{IsReading}
+use Rattle.arbiter_cli.specs.laws.Laws.{AskFor, PlansAreNamed, VerifyAsBare, VerifyIsAsAsked, bare_plan, command_name}
+use Rattle.arbiter_cli.specs.declared.fault.WordsFault.{WordsFault}
+use Rattle.arbiter_cli.specs.declared.fault.WordsFault.TheVariants as faults
+use Rattle.arbiter_cli.specs.declared.plan.Plan.{Plan}
+use Rattle.arbiter_cli.specs.declared.plan.VerifyPlan.{VerifyPlan}
+use Rattle.arbiter_cli.specs.declared.plan.Plan.TheVariants.{Session, Verify, Stub, Match}
+use Rattle.byte_devices.specs.Devices.{InputState, OutputState}
+use Rattle.byte_devices.proofs.DeviceLaws.{consumes_none}
+use Rattle.chess_arbiter.specs.laws.Laws.{ServesSession, VerifiesGames}
+use Rattle.match_runner.specs.Log.{LogSeen}
+use Rattle.chess_arbiter.specs.Program.{RanPlan, RanSession, RanVerify}
+use Rattle.pgn_pieces.specs.Pieces.{HasRead}
+use Rattle.pgn_verifier.specs.declared.fault.VerifyFault.TheVariants as verifying
+
+shorter : (xs ys : Text) → length xs < length ys → xs ≡ ys → ⊥
+shorter xs ys lt e = let same : length xs ≡ length ys = ap length e in absurd (omega arith)
+
+-- a plan that was read of arguments that ask for that command
+read_argument : PlansAreNamed → (arguments : List Text) (name : Text) (plan : Plan) → AskFor arguments name
+    → IsReading arguments (Ok plan) → name ≡ command_name plan
+read_argument named arguments name plan a (names, are, (none, is)) = sym (a.named names)
+    ∙ named (asked names arguments) plan is
+
+-- arguments that are taken and ask for no match are refused for being out of memory alone
+abbrev IsWant : WordsFault → Type 0
+IsWant faults.NoMemory = Unit {0}
+IsWant _ = ⊥
+
+refused_argument : (arguments : List Text) (name : Text) (fault : WordsFault) → AskFor arguments name
+    → (name ≡ codes "match" → ⊥) → IsReading arguments (Err fault) → IsWant fault
+refused_argument ws name (faults.Words e) a other (names, are, among) =
+    absurd (subst (IsAmong (kind_of e)) (a.taken names) among)
+refused_argument ws name faults.NoMemory a other is = tt
+refused_argument ws name faults.BadLevel a other (names, are, (none, named, h)) =
+    absurd (other (sym (a.named names) ∙ named))
+refused_argument ws name (faults.BadFen f) a other (names, are, (none, named, h)) =
+    absurd (other (sym (a.named names) ∙ named))
+refused_argument ws name faults.BadDate a other (names, are, (none, named, h)) =
+    absurd (other (sym (a.named names) ∙ named))
+
+no_match_by_session : codes "session" ≡ codes "match" → ⊥
+no_match_by_session e = shorter (codes "match") (codes "session") (lit< tt) (sym e)
+
+no_match_by_verify : codes "verify" ≡ codes "match" → ⊥
+no_match_by_verify e = shorter (codes "match") (codes "verify") (lit< tt) (sym e)
+
+session_or_want : (fault : WordsFault) (r r' : InputState) (w w' : OutputState) (l l' : LogSeen) (status : ℕ)
+    → IsWant fault → RanPlan (Err fault) r r' w w' l l' status → RanSession r r' w w' status
+session_or_want faults.NoMemory r r' w w' l l' status want (same, (kept, is)) =
+    inr (same, kept, is)
+session_or_want (faults.Words e) r r' w w' l l' status want ran = absurd want
+session_or_want faults.BadLevel r r' w w' l l' status want ran = absurd want
+session_or_want (faults.BadFen f) r r' w w' l l' status want ran = absurd want
+session_or_want faults.BadDate r r' w w' l l' status want ran = absurd want
+
+nothing_read : (r r' : InputState) → r' ≡ r → HasRead false r r' []
+nothing_read r r' same = subst (λ v. HasRead false r v []) (sym same) (record {
+  bytes = consumes_none r.known_bytes;
+  failures = refl;
+  ends = refl;
+  at_end = λ e. absurd (cc);
+})
+
+verify_or_want : (fault : WordsFault) (r r' : InputState) (w w' : OutputState) (l l' : LogSeen) (status : ℕ)
+    → IsWant fault → RanPlan (Err fault) r r' w w' l l' status → RanVerify bare_plan r r' w w' status
+verify_or_want faults.NoMemory r r' w w' l l' status want (same, (kept, is)) =
+    (Err verifying.NoMemory, ([], inl (nothing_read r r' same), kept), is)
+verify_or_want (faults.Words e) r r' w w' l l' status want ran = absurd want
+verify_or_want faults.BadLevel r r' w w' l l' status want ran = absurd want
+verify_or_want (faults.BadFen f) r r' w w' l l' status want ran = absurd want
+verify_or_want faults.BadDate r r' w w' l l' status want ran = absurd want
+
+serves : PlansAreNamed → (arguments : List Text) → AskFor arguments (codes "session") → (read : Result Plan WordsFault)
+    → IsReading arguments read
+    → (r r' : InputState) (w w' : OutputState) (l l' : LogSeen) (status : ℕ) → RanPlan read r r' w w' l l' status
+    → RanSession r r' w w' status
+serves named ws a (Ok Session) is r r' w w' l l' status ran = ran
+serves named ws a (Ok (Verify v)) is r r' w w' l l' status ran =
+    absurd (shorter (codes "verify") (codes "session") (lit< tt)
+    (sym (read_argument named ws (codes "session") (Verify v) a is)))
+serves named ws a (Ok (Stub s)) is r r' w w' l l' status ran =
+    absurd (shorter (codes "stub") (codes "session") (lit< tt)
+    (sym (read_argument named ws (codes "session") (Stub s) a is)))
+serves named ws a (Ok (Match m)) is r r' w w' l l' status ran =
+    absurd (no_match_by_session (read_argument named ws (codes "session") (Match m) a is))
+serves named ws a (Err fault) is r r' w w' l l' status ran =
+    session_or_want fault r r' w w' l l' status (refused_argument ws (codes "session") fault a no_match_by_session is)
+    ran
+
+-- `verify` alone sets none of its flags
+without_flags : VerifyIsAsAsked → (arguments : List Text) (v : VerifyPlan) → VerifyAsBare arguments
+    → IsReading arguments (Ok (Verify v)) → v ≡ bare_plan
+without_flags denoted ws v bare (names, are, (none, is)) = denoted (asked names ws) v is ∙ bare names
+
+verifies : PlansAreNamed → VerifyIsAsAsked → (arguments : List Text) → AskFor arguments (codes "verify")
+    → VerifyAsBare arguments → (read : Result Plan WordsFault) → IsReading arguments read
+    → (r r' : InputState) (w w' : OutputState) (l l' : LogSeen) (status : ℕ) → RanPlan read r r' w w' l l' status
+    → RanVerify bare_plan r r' w w' status
+verifies named denoted ws a bare (Ok Session) is r r' w w' l l' status ran =
+    absurd (shorter (codes "verify") (codes "session") (lit< tt) (read_argument named ws (codes "verify") Session a is))
+verifies named denoted ws a bare (Ok (Verify v)) is r r' w w' l l' status ran =
+    subst (λ (plan : VerifyPlan). RanVerify plan r r' w w' status) (without_flags denoted ws v bare is) ran
+verifies named denoted ws a bare (Ok (Stub s)) is r r' w w' l l' status ran =
+    absurd (shorter (codes "stub") (codes "verify") (lit< tt)
+    (sym (read_argument named ws (codes "verify") (Stub s) a is)))
+verifies named denoted ws a bare (Ok (Match m)) is r r' w w' l l' status ran =
+    absurd (no_match_by_verify (read_argument named ws (codes "verify") (Match m) a is))
+verifies named denoted ws a bare (Err fault) is r r' w w' l l' status ran =
+    verify_or_want fault r r' w w' l l' status (refused_argument ws (codes "verify") fault a no_match_by_verify is) ran
+
+pub serves_session : PlansAreNamed → (arguments : List Text) → AskFor arguments (codes "session")
+    → ServesSession arguments
+serves_session named ws a r r' w w' l l' status (read, is, ran) = serves named ws a read is r r' w w' l l' status ran
+
+pub verifies_games : PlansAreNamed → VerifyIsAsAsked → (arguments : List Text) → AskFor arguments (codes "verify")
+    → VerifyAsBare arguments → VerifiesGames arguments
+verifies_games named denoted ws a bare r r' w w' l l' status (read, is, ran) =
+    verifies named denoted ws a bare read is r r'
+    w w' l l' status ran

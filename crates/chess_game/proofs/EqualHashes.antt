@@ -1,0 +1,120 @@
+-- Positions that are the same have the same pieces, side and rights, so their hashes by one definition are equal.
+use Rattle.std.proofs.Common.{◌≡◌, ℕ, ◌<◌, true, false, not, ◌&&◌, ◌==◌, [], ◌∷◌, length, get_or, Option, None, Some, refl, sym, ◌∙◌, ap, arith, true≢false}
+use Rattle.std.proofs.lemmas.Bool.{and_parts, eqb-true, eq-eqb, false_from_ne_true}
+use Rattle.std.proofs.lemmas.List.{ext_get_or}
+use Rattle.chess_base.specs.declared.man.ColourRights.{ColourRights}
+use Rattle.chess_base.specs.declared.man.Kind.{Kind}
+use Rattle.chess_base.specs.declared.man.Kind.TheVariants.{King, Queen, Rook, Bishop, Knight, Pawn}
+use Rattle.chess_base.specs.declared.man.Man.{Man}
+use Rattle.chess_base.specs.declared.man.Rights.{Rights}
+use Rattle.chess_base.specs.declared.setup.Setup.{Setup}
+use Rattle.chess_base.specs.Men.{Men, man_at, same_colour, same_kind, kind_number}
+use Rattle.chess_base.specs.Sound.{IsSound}
+use Rattle.chess_base.proofs.MenFacts.{same_colour-true}
+use Rattle.chess_base.proofs.OverSquares.{each_square-at}
+use Rattle.chess_game.specs.Same.{is_same_position, same_man, same_men, same_square, same_colour_rights, same_rights, live_target}
+use Rattle.chess_game.specs.ties.PlayedMoves.{Hashing, HasHash}
+use Rattle.chess_game.specs.declared.repetition.Hashed.{Hashed}
+
+-- ---- the same part by part
+
+abbrev kind_at : ℕ → Kind
+kind_at n = get_or (King ∷ Queen ∷ Rook ∷ Bishop ∷ Knight ∷ Pawn ∷ []) n King
+
+kind_back : (k : Kind) → kind_at (kind_number k) ≡ k
+kind_back King = refl
+kind_back Queen = refl
+kind_back Rook = refl
+kind_back Bishop = refl
+kind_back Knight = refl
+kind_back Pawn = refl
+
+kinds_equal : (k l : Kind) → same_kind k l ≡ true → k ≡ l
+kinds_equal k l e =
+    let numbers : kind_number k ≡ kind_number l = eqb-true (kind_number k) (kind_number l) e in
+    sym (kind_back k) ∙ ap kind_at numbers ∙ kind_back l
+
+man_of_equal : (x y : Man) → x.colour ≡ y.colour → x.kind ≡ y.kind → x ≡ y
+man_of_equal x y colours kinds = (λ i. record { colour = colours i; kind = kinds i })
+
+pub places_equal : (o r : Option Man) → same_man o r ≡ true → o ≡ r
+places_equal None None e = refl
+places_equal None (Some y) e = cc
+places_equal (Some x) None e = cc
+places_equal (Some x) (Some y) e =
+    let both = and_parts (same_colour x.colour y.colour) (same_kind x.kind y.kind) e in
+    ap (λ (z : Man). Some z)
+    (man_of_equal x y (same_colour-true x.colour y.colour both.0) (kinds_equal x.kind y.kind both.1))
+
+men_equal : (men others : Men) → length men ≡ 64 → length others ≡ 64 → same_men men others ≡ true → men ≡ others
+unfolding same_men
+men_equal men others all also e =
+    ext_get_or None men others (all ∙ sym also)
+    (λ k h. let low : k < 64 = omega (arith, h, all) in
+    places_equal (man_at men k) (man_at others k)
+    (each_square-at (λ s. same_man (man_at men s) (man_at others s)) e k low))
+
+squares_equal : (o r : Option ℕ) → same_square o r ≡ true → o ≡ r
+squares_equal None None e = refl
+squares_equal None (Some t) e = cc
+squares_equal (Some s) None e = cc
+squares_equal (Some s) (Some t) e = ap (λ (n : ℕ). Some n) (eqb-true s t e)
+
+rights_of_equal : (r q : ColourRights) → same_colour_rights r q ≡ true → r ≡ q
+rights_of_equal r q e =
+    let both = and_parts (same_square r.king_side q.king_side) (same_square r.queen_side q.queen_side) e in
+    let king_sides = squares_equal r.king_side q.king_side both.0 in
+    let queen_sides = squares_equal r.queen_side q.queen_side both.1 in
+    (λ i. record { king_side = king_sides i; queen_side = queen_sides i })
+
+rights_equal : (r q : Rights) → same_rights r q ≡ true → r ≡ q
+unfolding same_rights
+rights_equal r q e =
+    let both = and_parts (same_colour_rights r.white q.white) (same_colour_rights r.black q.black) e in
+    let whites = rights_of_equal r.white q.white both.0 in
+    let blacks = rights_of_equal r.black q.black both.1 in
+    (λ i. record { white = whites i; black = blacks i })
+
+-- ---- hashes
+
+pub equal_hashes : (f : Hashing) (p q : Setup) → IsSound p → IsSound q → is_same_position p q ≡ true
+    → f p.men p.side p.rights ≡ f q.men q.side q.rights
+unfolding is_same_position
+equal_hashes f p q this that e =
+    let sides = same_colour p.side q.side in
+    let men = same_men p.men q.men in
+    let rights = same_rights p.rights q.rights in
+    let all = and_parts (sides && men && rights) (same_square (live_target p) (live_target q)) e in
+    let most = and_parts (sides && men) rights all.0 in
+    let first = and_parts sides men most.0 in
+    let a = men_equal p.men q.men this.board that.board first.1 in
+    let b = same_colour-true p.side q.side first.0 in
+    let c = rights_equal p.rights q.rights most.1 in
+    (λ i. f (a i) (b i) (c i))
+
+-- what is the same as one of two positions that are the same is the same as the other
+pub same_alike : (p q r : Setup) → IsSound q → IsSound r → is_same_position q r ≡ true → is_same_position p q
+    ≡ is_same_position p r
+unfolding is_same_position
+same_alike p q r this that e =
+    let sides = same_colour q.side r.side in
+    let men = same_men q.men r.men in
+    let rights = same_rights q.rights r.rights in
+    let all = and_parts (sides && men && rights) (same_square (live_target q) (live_target r)) e in
+    let most = and_parts (sides && men) rights all.0 in
+    let first = and_parts sides men most.0 in
+    let a = men_equal q.men r.men this.board that.board first.1 in
+    let b = same_colour-true q.side r.side first.0 in
+    let c = rights_equal q.rights r.rights most.1 in
+    let d = squares_equal (live_target q) (live_target r) all.1 in
+    (λ i. same_colour p.side (b i) && same_men p.men (a i) && same_rights p.rights (c i)
+    && same_square (live_target p) (d i))
+
+-- so hashes that differ tell positions apart
+pub told_apart : (f : Hashing) (x y : Hashed) → IsSound x.position → IsSound y.position → HasHash f x → HasHash f y
+    → not (x.hash == y.hash) ≡ true → is_same_position x.position y.position ≡ false
+told_apart f x y this that has_hash other_has differ =
+    false_from_ne_true (is_same_position x.position y.position)
+    (λ e. let one : x.hash ≡ y.hash = has_hash ∙ equal_hashes f x.position y.position this that e ∙ sym other_has in
+    let met : (x.hash == y.hash) ≡ true = eq-eqb x.hash y.hash one in
+    true≢false (sym differ ∙ ap not met))

@@ -1,0 +1,22 @@
+-- The start that is sent is that of the rules, and its line is put in three parts.
+use Rattle.std.proofs.Common.{◌≡◌, ℕ, List, [], ◌∷◌, ◌++◌, ap, sym, ◌∙◌, append_assoc, Some}
+use Rattle.chess_match.specs.Rules.{Rules, rules_of, fen_sent}
+use Rattle.chess_match.specs.Sent.{bytes_of}
+use Rattle.chess_match.proofs.game.GameMatchGame.add_start.Goals as goal
+
+in_parts : (items front text : List ℕ) → ((items ++ front) ++ text) ++ 10 ∷ [] ≡ items ++ ((front ++ text) ++ 10 ∷ [])
+in_parts items front text =
+    ap (λ (l : List ℕ). l ++ 10 ∷ []) (append_assoc items front text) ∙ append_assoc items (front ++ text) (10 ∷ [])
+
+pub returns-in-Some-clause-text : goal.returns-in-Some-clause-text
+unfolding rules_of bytes_of
+returns-in-Some-clause-text g c r p =
+    let told : Some c.in-Some.text.items ≡ r.start_fen =
+    c.in-Some.ensures.text ∙ ap fen_sent c.start.ensures ∙ ap (λ (x : Rules). x.start_fen) (sym p.1) in
+    rw (
+      ← told,
+      c.append-in-Some-2.ensures.text,
+      c.append-in-Some.ensures.text,
+      c.append.ensures.text,
+      c.as_slice.ensures.value,
+    ) (in_parts c.args.block.now.items _ c.in-Some.text.items)

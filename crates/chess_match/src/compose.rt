@@ -1,0 +1,254 @@
+//! Blocks put together: what an event gives to one engine.
+
+ghost use Rattle.chess_match.specs.declared.block.TheConstants.{BLOCK_LEN};
+ghost use Rattle.std.specs.Prelude.{◌≡◌, ◌+◌, false, ◌≤◌, ◌++◌, ◌∷◌, [], List, is_some, true, if◌then◌else◌, codes};
+ghost use Rattle.arrayvec.specs.ArrayVec.{array_vec_len};
+ghost use Rattle.chess_match.specs.Match.{Match};
+ghost use Rattle.chess_match.specs.Rules.{Rules};
+ghost use Rattle.chess_base.specs.declared.man.Move.{Move};
+ghost use Rattle.chess_match.specs.Sent.{Says, bytes_of, last_move_lines, clock_lines, opening_lines, setup_lines, end_lines, lines_on_entering, unsent_lines, variant_command, is_unwritten};
+ghost use Rattle.chess_match.specs.ties.Represents.{Represents, player, lines_if_to};
+
+use crate::block::{Block, add_end, add_level, add_move, add_ping, add_times};
+use crate::match_game::MatchGame;
+use crate::phase::Phase;
+use crate::reason::{MatchFault, Reason};
+use crate::state::{Actions, MatchState};
+use byte_devices::append;
+use cecp_engine::Features;
+use chess_base::{Colour, Variant, same_colour};
+
+impl MatchState {
+    // The features that this side's engine has on.
+    fn features(&self, side: Colour) -> Features
+        ensures { result ≡ (player self.now side).features }
+    {
+        match side {
+            Colour::White => self.white.features,
+            Colour::Black => self.black.features,
+        }
+    }
+}
+
+// Appends the line with the last move, if there is one, in the form that this side's engine asked for.
+fn add_last(block: &mut Block, core: &MatchState, side: Colour)
+    requires { array_vec_len block.old + 20 ≤ BLOCK_LEN }
+    ensures text { (r : Rules) (played : List Move) (m : Match) → Represents r core.now played m
+        → block.new.items ≡ block.old.items ++ bytes_of (last_move_lines r m side) }
+    ensures len { array_vec_len block.new ≤ array_vec_len block.old + 20 }
+{
+    match &core.last {
+        None => {}
+        Some(last) => {
+            let features = core.features(side);
+            add_move(block, features.usermove, last.text(features.san));
+        }
+    }
+}
+
+// Appends the lines `time` and `otim`, this side's clock and the other's, unless this side's engine has `time=0`.
+fn add_clocks(block: &mut Block, core: &MatchState, side: Colour)
+    requires { array_vec_len block.old + 60 ≤ BLOCK_LEN }
+    ensures text { (r : Rules) (played : List Move) (m : Match) → Represents r core.now played m
+        → block.new.items ≡ block.old.items ++ bytes_of (clock_lines r m side) }
+    ensures len { array_vec_len block.new ≤ array_vec_len block.old + 60 }
+{
+    if core.features(side).time {
+        let own = core.clocks.remaining(side) / 10;
+        let others = core.clocks.remaining(side.other()) / 10;
+        add_times(block, own, others);
+    }
+}
+
+// Appends the lines that open a turn of the side `mover`, which is not its first: both clocks, and then the last move.
+fn add_later_opening(block: &mut Block, core: &MatchState, mover: Colour)
+    requires { array_vec_len block.old + 100 ≤ BLOCK_LEN }
+    ensures text { (r : Rules) (played : List Move) (m : Match) → Represents r core.now played m
+        → block.new.items ≡ block.old.items ++ bytes_of (clock_lines r m mover ++ last_move_lines r m mover) }
+    ensures len { array_vec_len block.new ≤ array_vec_len block.old + 100 }
+{
+    add_clocks(block, core, mover);
+    add_last(block, core, mover);
+}
+
+// Appends the lines that open a turn of this side: both clocks and the last move; in its first turn the move comes
+// first, and `go` last.
+fn add_opening(block: &mut Block, core: &MatchState, side: Colour)
+    requires { array_vec_len block.old + 100 ≤ BLOCK_LEN }
+    ensures text { (r : Rules) (played : List Move) (m : Match) → Represents r core.now played m
+        → block.new.items ≡ block.old.items ++ bytes_of (opening_lines r m side) }
+    ensures len { array_vec_len block.new ≤ array_vec_len block.old + 100 }
+{
+    if core.clocks.moves(side) > 0 {
+        add_later_opening(block, core, side);
+    } else {
+        add_last(block, core, side);
+        add_clocks(block, core, side);
+        append(block, b"go\n");
+    }
+}
+
+// Appends the line `variant fischerandom`, if the variant is Chess960.
+#[tactic(auto, unfolding(crate::specs::Sent::bytes_of))]
+fn add_variant(block: &mut Block, variant: Variant)
+    requires { array_vec_len block.old + 30 ≤ BLOCK_LEN }
+    ensures text { block.new.items ≡ block.old.items ++ bytes_of (variant_command variant) }
+    ensures len { array_vec_len block.new ≤ array_vec_len block.old + 30 }
+{
+    match variant {
+        Variant::Normal => {}
+        Variant::Fischerandom => append(block, b"variant fischerandom\n"),
+    }
+}
+
+// Appends the lines that set an engine up for the game: `new`, the variant, `level`, `nopost`, `easy`, `force`, the
+// start, `ping 1`.
+fn add_setup<G: MatchGame>(block: &mut Block, core: &MatchState, game: &G)
+    requires { array_vec_len block.old + 300 ≤ BLOCK_LEN }
+    ensures text { (r : Rules) (m : Match) → G.plays game.now r → Represents r core.now (G.played game.now) m
+        → block.new.items ≡ block.old.items ++ bytes_of (setup_lines r) }
+    ensures len { array_vec_len block.new ≤ array_vec_len block.old + 300 }
+{
+    append(block, b"new\n");
+    add_variant(block, game.variant());
+    add_level(block, core.clocks.level());
+    append(block, b"nopost\neasy\nforce\n");
+    game.add_start(block);
+    add_ping(block, 1);
+}
+
+// Appends the line with the last move, if this side is still to be sent it.
+fn add_unsent(block: &mut Block, core: &MatchState, side: Colour)
+    requires unsent_to { is_some core.now.unsent_to ≡ true → is_some core.now.last ≡ true }
+    requires room { array_vec_len block.old + 20 ≤ BLOCK_LEN }
+    ensures text { (r : Rules) (played : List Move) (m : Match) → Represents r core.now played m
+        → block.new.items ≡ block.old.items ++ bytes_of (unsent_lines r m side m.unsent_to) }
+    ensures len { array_vec_len block.new ≤ array_vec_len block.old + 20 }
+{
+    match core.unsent_to {
+        None => {}
+        Some(unsent_to) => {
+            if same_colour(unsent_to, side) {
+                add_last(block, core, side);
+            }
+        }
+    }
+}
+
+// Appends the last lines for this side: the last move, if it is still to be sent it, `result ..` by the reason, and
+// `quit`.
+fn add_end_lines(block: &mut Block, core: &MatchState, side: Colour, reason: Reason)
+    requires unsent_to { is_some core.now.unsent_to ≡ true → is_some core.now.last ≡ true }
+    requires room { array_vec_len block.old + 120 ≤ BLOCK_LEN }
+    ensures text { (r : Rules) (played : List Move) (m : Match) → Represents r core.now played m
+        → block.new.items ≡ block.old.items ++ bytes_of (end_lines r m side reason) }
+    ensures len { array_vec_len block.new ≤ array_vec_len block.old + 120 }
+{
+    add_unsent(block, core, side);
+    add_end(block, reason.outcome(), reason.comment());
+}
+
+// Whether this reason is that writing to this side failed.
+fn is_unwritten(reason: Reason, side: Colour) -> bool
+    ensures { result ≡ is_unwritten reason side }
+{
+    match reason {
+        Reason::Faulted(failed, fault) => match fault {
+            MatchFault::Write => same_colour(failed, side),
+            MatchFault::Ended => false,
+            MatchFault::Read => false,
+            MatchFault::NoDone => false,
+            MatchFault::NoPing => false,
+            MatchFault::NoSetboard => false,
+            MatchFault::Flood => false,
+            MatchFault::NoVariant => false,
+        },
+        Reason::Decided(_) => false,
+        Reason::Claimed(_) => false,
+        Reason::Agreed => false,
+        Reason::Resigns(_) => false,
+        Reason::MovesIllegally(_) => false,
+        Reason::MovesOutOfTurn(_) => false,
+        Reason::ClaimsFalsely(_) => false,
+        Reason::RejectsLegalMove(_) => false,
+        Reason::Forfeits(_) => false,
+        Reason::ForfeitsToBareKing => false,
+        Reason::GameTooLong => false,
+    }
+}
+
+// Appends the lines that this side is sent when the match enters the phase that it is in; none if writing to it failed.
+fn add_entry<G: MatchGame>(block: &mut Block, core: &MatchState, game: &G, side: Colour)
+    requires unsent_to { is_some core.now.unsent_to ≡ true → is_some core.now.last ≡ true }
+    requires room { array_vec_len block.old + 300 ≤ BLOCK_LEN }
+    ensures { (r : Rules) (m : Match) → G.plays game.now r → Represents r core.now (G.played game.now) m
+        → block.new.items ≡ block.old.items ++ bytes_of (lines_on_entering r m side) }
+{
+    match core.phase {
+        Phase::Handshake(on) => {
+            if same_colour(on, side) {
+                append(block, b"xboard\nprotover 2\n");
+            }
+        }
+        Phase::Setup(on) => {
+            if same_colour(on, side) {
+                add_setup(block, core, game);
+            }
+        }
+        Phase::SendTurn(on) => {
+            if same_colour(on, side) {
+                add_opening(block, core, side);
+            }
+        }
+        Phase::AwaitMove(_) => {}
+        Phase::AwaitPong(on) => {
+            if same_colour(on, side) {
+                add_ping(block, core.clocks.moves(side) + 1);
+            }
+        }
+        Phase::Over(reason) => {
+            if is_unwritten(reason, side) {
+                return;
+            }
+            add_end_lines(block, core, side, reason);
+        }
+    }
+}
+
+// Appends the line `draw`, if `given` says that this side is sent an offer of a draw.
+#[tactic(auto, unfolding(crate::specs::Sent::bytes_of))]
+pub(crate) fn add_offer(block: &mut Block, given: Actions, side: Colour)
+    requires { array_vec_len block.old + 10 ≤ BLOCK_LEN }
+    ensures text { block.new.items ≡ block.old.items
+        ++ bytes_of (lines_if_to given.draw side (Says (codes "draw") ∷ [])) }
+    ensures len { array_vec_len block.new ≤ array_vec_len block.old + 10 }
+{
+    match given.draw {
+        None => {}
+        Some(offered) => {
+            if same_colour(offered, side) {
+                append(block, b"draw\n");
+            }
+        }
+    }
+}
+
+// Appends the lines that this side is sent when the match enters the phase that it is in, if `given` says that it was
+// just entered.
+#[tactic(auto, using(crate::proofs::Sends::same_end))]
+pub(crate) fn add_entered<G: MatchGame>(
+    block: &mut Block,
+    core: &MatchState,
+    game: &G,
+    given: Actions,
+    side: Colour,
+)
+    requires unsent_to { is_some core.now.unsent_to ≡ true → is_some core.now.last ≡ true }
+    requires room { array_vec_len block.old + 300 ≤ BLOCK_LEN }
+    ensures { (r : Rules) (m : Match) → G.plays game.now r → Represents r core.now (G.played game.now) m
+        → block.new.items ≡ block.old.items ++ bytes_of (if given.entered then lines_on_entering r m side else []) }
+{
+    if given.entered {
+        add_entry(block, core, game, side);
+    }
+}

@@ -1,0 +1,173 @@
+//! A game of chess, as a match sees it.
+
+ghost use Rattle.std.specs.Prelude.{◌≡◌, ◌≤◌, ◌<◌, ◌++◌, ◌∷◌, [], length, nat_le, is_some, false, IfSome};
+ghost use Rattle.std.specs.Option.{option_map};
+ghost use Rattle.arrayvec.specs.ArrayVec.{array_vec_len};
+ghost use Rattle.std.specs.List.{list_all};
+ghost use Rattle.chess_fen.specs.Writing.{fen};
+ghost use Rattle.chess_base.specs.Initial.{initial_setup};
+ghost use Rattle.chess_game.specs.Game.{current, verdict_now, State};
+ghost use Rattle.chess_game.specs.Ends.{verdict, claims};
+ghost use Rattle.chess_text.specs.Moves.{reading};
+ghost use Rattle.chess_match.specs.Rules.{rules_of, has_bare_king, is_king_or_other, move_read, claim_by, fen_sent};
+
+use crate::block::Block;
+use crate::match_game::MatchGame;
+use crate::reason::DrawClaim;
+use crate::texts::MoveTexts;
+use byte_devices::append;
+use chess_base::{Colour, Kind, Man, Move, Position, Variant};
+use chess_fen::{FenText, is_initial, write_fen};
+use chess_game::{Claims, Game, Verdict};
+use chess_moves::Board;
+use chess_text::{
+    Reading, add_check_mark, move_text, read_move, read_moves_are_legal, unmarked_san,
+};
+
+// Whether a square (`man` is what is on it) is empty, or has a king or a piece of the other colour than `colour`.
+fn is_king_or_other(colour: Colour, man: Option<Man>) -> bool
+    ensures { result ≡ is_king_or_other colour man }
+{
+    match man {
+        None => true,
+        Some(man) => man.colour != colour || man.kind == Kind::King,
+    }
+}
+
+// Whether this side has no piece but its king; `men` are the 64 squares.
+#[tactic(auto, unfolding(crate::specs::Rules::has_bare_king))]
+fn has_bare_king(colour: Colour, men: &[Option<Man>; 64]) -> bool
+    ensures { result ≡ has_bare_king colour men.now }
+{
+    men.iter().all(|man| is_king_or_other(colour, *man))
+}
+
+// The draw that may be claimed, if any, by which of the two claims hold; threefold repetition comes before 50 moves.
+fn claim_by(claims: Claims) -> Option<DrawClaim>
+    ensures { result ≡ claim_by claims }
+{
+    if claims.threefold {
+        Some(DrawClaim::Threefold)
+    } else if claims.fifty_moves {
+        Some(DrawClaim::FiftyMoves)
+    } else {
+        None
+    }
+}
+
+// The FEN that `setboard` sends to the engines for this start; `None` for the initial position of normal chess, in
+// which `new` starts anyway.
+fn start_text(start: &Position) -> Option<FenText>
+    ensures text { option_map (λ t. t.items) result ≡ fen_sent start.now }
+    ensures short { IfSome result (λ t. array_vec_len t ≤ 100) }
+{
+    match start.variant() {
+        Variant::Normal => {
+            if is_initial(start) {
+                None
+            } else {
+                Some(write_fen(start))
+            }
+        }
+        Variant::Fischerandom => Some(write_fen(start)),
+    }
+}
+
+// The move that a text was read as, if it denotes exactly one legal move; else `None`.
+fn move_read(reading: Reading) -> Option<Move>
+    ensures { result ≡ move_read reading }
+{
+    match reading {
+        Reading::Move(chosen) => Some(chosen),
+        Reading::Ambiguous => None,
+        Reading::NoSuch => None,
+        Reading::NotAMove => None,
+    }
+}
+
+impl<B: Board> MatchGame for Game<B> {
+    ghost use Rattle.chess_match.specs.ties.Chess.{Plays};
+
+    ghost plays = { λ g r. Plays g r };
+
+    ghost played = { λ g. g.state.moves };
+
+    ghost origin = { λ g. (g.state.start, g.limit) };
+
+    // Which side moves first: the one on move in the game's start.
+    #[tactic(auto, unfolding(crate::specs::Rules::rules_of))]
+    fn first(&self) -> Colour {
+        self.start_side()
+    }
+
+    // Whether the start is sent to the engines by `setboard`: it is not if it is the initial position of normal chess.
+    #[tactic(auto, unfolding(crate::specs::Rules::rules_of))]
+    fn has_start(&self) -> bool {
+        start_text(&self.start()).is_some()
+    }
+
+    // The variant of the start.
+    #[tactic(auto, unfolding(crate::specs::Rules::rules_of))]
+    fn variant(&self) -> Variant {
+        Game::variant(self)
+    }
+
+    // Whether the game has as many half-moves as its limit allows, so that no move can be played any more.
+    #[tactic(auto, unfolding(crate::specs::Rules::rules_of))]
+    fn is_full(&self) -> bool {
+        Game::is_full(self)
+    }
+
+    // The one legal move that a text denotes in the current position; `None` if it denotes none, or more than one.
+    #[tactic(auto, unfolding(crate::specs::Rules::rules_of))]
+    fn reading(&self, text: &[u8]) -> Option<Move> {
+        move_read(read_move(self.board(), text))
+    }
+
+    // The board's verdict on the current position, if there is one.
+    #[tactic(auto, unfolding(crate::specs::Rules::rules_of))]
+    fn verdict(&self) -> Option<Verdict> {
+        Game::verdict(self)
+    }
+
+    // The draw that may be claimed now, if there is one.
+    #[tactic(auto, unfolding(crate::specs::Rules::rules_of))]
+    fn claim(&self) -> Option<DrawClaim> {
+        claim_by(self.claims())
+    }
+
+    // Whether this side has no piece but its king in the current position.
+    #[tactic(auto, unfolding(crate::specs::Rules::rules_of))]
+    fn has_bare_king(&self, side: Colour) -> bool {
+        has_bare_king(side, &self.position().setup().men)
+    }
+
+    // Plays a legal move, and returns its two texts, in SAN and by squares. The SAN is begun before the move is played,
+    // and its check mark added after it.
+    #[tactic(auto, unfolding(crate::specs::Rules::rules_of))]
+    fn play(&mut self, chosen: Move) -> MoveTexts {
+        // The prover wants this law: the move that a text is read as is legal.
+        read_moves_are_legal();
+        // The prover wants three variables here: one move is shown, one is lent, and one is played.
+        let shown = chosen;
+        let lent = chosen;
+        let squares = move_text(&self.position(), shown);
+        let mut san = unmarked_san(self.board(), &lent);
+        self.play_legal(chosen);
+        add_check_mark(self.board(), &mut san);
+        MoveTexts { san, squares }
+    }
+
+    // Appends the line `setboard FEN` to the block, unless the start is the initial position of normal chess.
+    #[tactic(auto, unfolding(crate::specs::Rules::rules_of, crate::specs::Sent::bytes_of))]
+    fn add_start(&self, block: &mut Block) {
+        match start_text(&self.start()) {
+            None => {}
+            Some(text) => {
+                append(block, b"setboard ");
+                append(block, text.as_slice());
+                append(block, b"\n");
+            }
+        }
+    }
+}

@@ -1,0 +1,61 @@
+//! Transitions that all phases share: to the end, into a phase, into a turn; and an ignored line.
+
+ghost use Rattle.std.specs.Prelude.{◌≡◌, ◌+◌, ◌<◌, ◌≤◌, List, [], true, false};
+ghost use Rattle.chess_base.specs.declared.man.Move.{Move};
+ghost use Rattle.chess_match.specs.Match.{Match, over, ignore, enter, open_turn};
+ghost use Rattle.chess_match.specs.Rules.{Rules};
+ghost use Rattle.chess_match.specs.Sent.{is_same_phase};
+ghost use Rattle.chess_match.specs.ties.Represents.{Represents, Goes, nothing_said};
+ghost use Rattle.chess_match.specs.Transcript.{is_on, reads};
+ghost use Rattle.chess_match.specs.declared.state.TheConstants.{FLOOD_LEN};
+
+use crate::phase::Phase;
+use crate::reason::{MatchFault, Reason};
+use crate::state::{Actions, ENTRY, FLOOD_LEN, MatchState, NOTHING};
+use chess_base::Colour;
+
+impl MatchState {
+    // Ends the match for this reason, and returns what is to be sent: the lines of the end.
+    pub(crate) fn finish(&mut self, reason: Reason) -> Actions
+        ensures { (r : Rules) (played : List Move) (m : Match) → is_on m.phase ≡ true → Represents r self.old played m
+            → Goes r self.new played result nothing_said m (over reason m) }
+    {
+        self.phase = Phase::Over(reason);
+        ENTRY
+    }
+
+    // Goes on to this phase, in which lines are counted from 0, and returns what is to be sent: the lines of the phase.
+    pub(crate) fn enter(&mut self, phase: Phase) -> Actions
+        ensures { (r : Rules) (played : List Move) (m : Match) → is_same_phase m.phase phase ≡ false
+            → Represents r self.old played m → Goes r self.new played result nothing_said m (enter phase m) }
+    {
+        self.phase = phase;
+        self.count = 0;
+        ENTRY
+    }
+
+    // Begins this side's turn, and returns what is to be sent: the lines that open it, in which the last move is.
+    pub(crate) fn open_turn(&mut self, side: Colour) -> Actions
+        ensures { (r : Rules) (played : List Move) (m : Match) → is_same_phase m.phase (Phase.SendTurn side) ≡ false
+            → Represents r self.old played m → Goes r self.new played result nothing_said m (open_turn side m) }
+    {
+        self.phase = Phase::SendTurn(side);
+        self.count = 0;
+        self.unsent_to = None;
+        ENTRY
+    }
+
+    // Ignores a line of this side, and returns that nothing is sent; but the 10,000th such line in one setup or turn
+    // ends the match.
+    pub(crate) fn ignore(&mut self, side: Colour) -> Actions
+        requires { self.old.count < FLOOD_LEN }
+        ensures { (r : Rules) (played : List Move) (m : Match) → reads m.phase side ≡ true
+            → Represents r self.old played m → Goes r self.new played result nothing_said m (ignore side m) }
+    {
+        if self.count + 1 >= FLOOD_LEN {
+            return self.finish(Reason::Faulted(side, MatchFault::Flood));
+        }
+        self.count += 1;
+        NOTHING
+    }
+}

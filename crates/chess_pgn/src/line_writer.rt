@@ -1,0 +1,111 @@
+//! Lines of a game's text, each after the same prefix.
+
+ghost use Rattle.chess_pgn.specs.declared.line_writer.TheConstants.{LINE_LEN};
+ghost use Rattle.std.specs.Prelude.{◌≡◌, ◌+◌, ◌≤◌, ◌<◌, [], ◌∷◌, ◌++◌, length};
+ghost use Rattle.byte_devices.specs.Devices.{Puts};
+ghost use Rattle.chess_base.specs.Letters.{new_line};
+ghost use Rattle.chess_pgn.specs.ties.Waiting.{Adds};
+ghost use Rattle.chess_pgn.specs.Written.{wrapped_token, next_column, line_close};
+
+use crate::buffer::TextBuffer;
+use byte_devices::{Output, WriteFault};
+
+// The most bytes of a line of moves, its prefix and its end not counted (PGN standard of 1994, section 4.3).
+const LINE_LEN: usize = 79;
+
+/// Writes lines through a buffer, each after a prefix. Tokens of moves go into a line of at most 79 bytes, which has
+/// `column` bytes so far; 0: no line is begun.
+#[derive(Drop)]
+pub(crate) struct LineWriter<'a> {
+    prefix: &'a [u8],
+    waiting: TextBuffer,
+    column: usize,
+    ghost short_line: { column ≤ 79 },
+}
+
+impl<'a> LineWriter<'a> {
+    /// A writer of lines with this prefix; no line is begun.
+    pub(crate) fn new(prefix: &'a [u8]) -> Self
+        ensures prefix { result.prefix.now ≡ prefix.now }
+        ensures none { result.waiting ≡ [] }
+        ensures column { result.column ≡ 0 }
+    {
+        LineWriter {
+            prefix,
+            waiting: TextBuffer::new(),
+            column: 0,
+        }
+    }
+
+    /// Writes a whole line, after the prefix; `line` is without its end.
+    ///
+    /// # Errors
+    /// If the writer fails; a beginning of the text was written then.
+    pub(crate) fn put_line<W: Output>(
+        &mut self,
+        writer: &mut W,
+        line: &[u8],
+    ) -> Result<(), WriteFault>
+        ensures added { Adds (W.seen writer.old) (W.seen writer.new) self.old.waiting self.new.waiting result
+            (self.old.prefix.now ++ line.now ++ new_line ∷ []) }
+        ensures prefix { self.new.prefix.now ≡ self.old.prefix.now }
+        ensures column { self.new.column ≡ self.old.column }
+    {
+        self.waiting.add_parts(writer, &[self.prefix, line, b"\n"])
+    }
+
+    /// Adds a token of moves to the line that is begun, after a space, or to a new line if it has no room.
+    ///
+    /// # Errors
+    /// If the writer fails; a beginning of the text was written then.
+    pub(crate) fn put_token<W: Output>(
+        &mut self,
+        writer: &mut W,
+        token: &[u8],
+    ) -> Result<(), WriteFault>
+        requires some { 0 < length token.now }
+        requires short { length token.now ≤ LINE_LEN }
+        ensures added { Adds (W.seen writer.old) (W.seen writer.new) self.old.waiting self.new.waiting result
+            (wrapped_token self.old.prefix.now self.old.column token.now) }
+        ensures column { self.new.column ≡ next_column self.old.column token.now }
+        ensures prefix { self.new.prefix.now ≡ self.old.prefix.now }
+    {
+        if self.column == 0 {
+            self.column = token.len();
+            self.waiting.add_parts(writer, &[self.prefix, token])
+        } else if self.column + 1 + token.len() <= LINE_LEN {
+            self.column += 1 + token.len();
+            self.waiting.add_parts(writer, &[b" ", token])
+        } else {
+            self.column = token.len();
+            self.waiting.add_parts(writer, &[b"\n", self.prefix, token])
+        }
+    }
+
+    /// Ends the line that is begun, if there is one.
+    ///
+    /// # Errors
+    /// If the writer fails; a beginning of the text was written then.
+    pub(crate) fn end_line<W: Output>(&mut self, writer: &mut W) -> Result<(), WriteFault>
+        ensures added { Adds (W.seen writer.old) (W.seen writer.new) self.old.waiting self.new.waiting result
+            (line_close self.old.column) }
+        ensures column { self.new.column ≡ 0 }
+        ensures prefix { self.new.prefix.now ≡ self.old.prefix.now }
+    {
+        if self.column == 0 {
+            return Ok(());
+        }
+        self.column = 0;
+        self.waiting.add(writer, b"\n")
+    }
+
+    /// Writes what is in the buffer. The last line must be ended before.
+    ///
+    /// # Errors
+    /// If the writer fails; a beginning of the text was written then.
+    pub(crate) fn finish<W: Output>(self, writer: &mut W) -> Result<(), WriteFault>
+        ensures { Puts (W.seen writer.old) (W.seen writer.new) result self.entry.waiting }
+    {
+        self.waiting.finish(writer)
+    }
+}

@@ -1,0 +1,36 @@
+//! The tag Result of a game.
+
+ghost use Rattle.std.specs.Prelude.{◌≡◌, ◌≤◌, length};
+ghost use Rattle.std.specs.Option.{IfSome};
+ghost use Rattle.chess_pgn.specs.LastTags.{result_tag_of};
+
+use crate::last_tag::last_tag;
+use crate::token::after_byte_order_mark;
+use crate::word_kind::outcome_of;
+use chess_game::Outcome;
+
+/// The last tag `Result` of a game before its moves.
+#[derive(Clone, Copy, Debug, PartialEq, Eq)]
+pub struct ResultTag {
+    /// The outcome that its text denotes; `None` where it denotes none.
+    pub outcome: Option<Outcome>,
+    /// The first byte of its string, from the text's first byte on.
+    pub offset: usize,
+    /// How many bytes its string has, without its quotes.
+    pub len: usize,
+}
+
+/// The last tag `Result` of the game that begins at the offset `at`; `None` where it has none before its first number,
+/// move or outcome.
+pub fn result_tag(text: &[u8], at: usize) -> Option<ResultTag>
+    requires { at ≤ length text.now }
+    ensures tag { result ≡ result_tag_of text.now at }
+    ensures within { IfSome result (λ tag. tag.offset ≤ length text.now) }
+{
+    let tag = last_tag(text, after_byte_order_mark(text, at), b"Result")?;
+    Some(ResultTag {
+        outcome: outcome_of(tag.text),
+        offset: text.len() - tag.to_end,
+        len: tag.text.len(),
+    })
+}
