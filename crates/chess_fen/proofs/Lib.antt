@@ -18,3 +18,4 @@ pub mod DenotedFen
 pub mod NormalWritten
 pub mod NormalRead
 pub mod WrittenFen
+pub mod Ascii
