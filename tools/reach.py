@@ -76,7 +76,7 @@ class Reach:
         public = [f for f in s.functions if s.is_public(f)]
         program = self.of([f for f in public if f.name == "run_program"])
         calls = self.of([f for f in public if not s.is_law(f)])
-        for path, text in s.shown:
+        for path, text in s.promised:
             calls |= self.specs.reached(self.specs.resolve(text, *s.imports[path]))
         laws = self.of([f for f in public if s.is_law(f)])
         ties = self.specs.reached(self.named_in("src", ".rt", "ghost use "))

@@ -42,6 +42,7 @@ SHORT = {
     "pieces_tests": "pgn_pieces_tests",
     "verifier_tests": "pgn_verifier_tests",
     "cecp_tests": "chess_cecp_tests",
+    "engine_tests": "cecp_engine_tests",
     "cli_tests": "arbiter_cli_tests",
     "arbiter_tests": "chess_arbiter_tests",
     "match_tests": "chess_match_tests",
@@ -288,7 +289,7 @@ class Sources:
         self.models = {}
         self.ghosts = {}
         self.members = {}
-        self.shown = []
+        self.promised = []  # what impls of std's traits promise: the text of `{}`, and what conversions and iterators give
         self.exports = {}
         self.uses = used_crates()
         for crate in crates():
@@ -318,8 +319,8 @@ class Sources:
                 self.ghosts.setdefault(owner, []).append((path, m.group(2)))
             if of_trait and (m := re.match(r"^\s+ghost (\w+) = ", line)):
                 self.members.setdefault((crate, owner), set()).add(m.group(1))
-            if of_trait and (m := re.match(r"^\s+ghost output = \{(.*)\};", line)):
-                self.shown.append((path, m.group(1)))
+            if of_trait and (m := re.match(r"^\s+ghost (?:output|\w+_gives) = \{(.*)\};", line)):
+                self.promised.append((path, m.group(1)))
             if m := re.match(r"^\s*(pub )?(?:pub\(\w+\) )?(?:const )?fn (\w+)", line):
                 is_pub = bool(m.group(1)) or is_trait or of_trait
                 i = self.read_function(crate, path, lines, i, owner, m.group(2), is_pub)

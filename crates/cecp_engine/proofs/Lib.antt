@@ -1,3 +1,4 @@
 pub mod Allotment
 pub mod ItemRuns
 pub mod Pieces
+mod TwoDigits

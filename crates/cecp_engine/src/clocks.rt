@@ -10,14 +10,14 @@ use chess_base::Colour;
 use std::marker::Model;
 
 // What a side used so far: how many moves it made, and the milliseconds that they took.
-#[derive(Clone, Copy)]
+#[derive(Clone, Copy, Debug, PartialEq, Eq, Hash)]
 struct SideClock {
     moves: u32,
     used: u64,
 }
 
 /// The clocks of a game at a time control: the number of each side's moves, and the milliseconds that they took.
-#[derive(Clone, Copy)]
+#[derive(Clone, Copy, Debug, PartialEq, Eq, Hash)]
 pub struct Clocks {
     level: Level,
     white: SideClock,

@@ -10,7 +10,7 @@ use chess_base::Colour;
 use text_lines::{argument, first_word, read_number};
 
 /// The kinds of line that an engine sends (CECP, version 2).
-#[derive(Clone, Copy, Debug)]
+#[derive(Clone, Copy, Debug, PartialEq, Eq)]
 pub enum EngineLine<'a> {
     /// `feature ..`: the text of its items.
     Features(&'a [u8]),

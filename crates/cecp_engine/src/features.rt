@@ -8,7 +8,7 @@ use crate::item::Item;
 
 /// What an engine takes, by the items that it said. What it didn't say is false, but `time` and `draw` are true;
 /// `fischerandom` is true unless its `variants` leave it out.
-#[derive(Clone, Copy, Debug, PartialEq, Eq)]
+#[derive(Clone, Copy, Debug, PartialEq, Eq, Hash)]
 pub struct Features {
     pub ping: bool,
     pub setboard: bool,

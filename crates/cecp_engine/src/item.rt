@@ -11,7 +11,7 @@ ghost use Rattle.std.specs.List.{prefix_len};
 use text_lines::{is_blank, trim_start};
 
 /// The value of an item.
-#[derive(Clone, Copy, Debug)]
+#[derive(Clone, Copy, Debug, PartialEq, Eq, Hash)]
 pub enum Value<'a> {
     /// Digits, as many as there are.
     Digits(&'a [u8]),
@@ -20,7 +20,7 @@ pub enum Value<'a> {
 }
 
 /// An item of a `feature` line: `NAME=VALUE`.
-#[derive(Clone, Copy, Debug)]
+#[derive(Clone, Copy, Debug, PartialEq, Eq, Hash)]
 pub struct Item<'a> {
     pub name: &'a [u8],
     pub value: Value<'a>,

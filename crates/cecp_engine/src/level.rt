@@ -9,7 +9,12 @@ use text_lines::{argument, first_word, short_number, trim_start};
 
 /// A time control (CECP, version 2, command `level`): moves per session, 0 for one session without end, and a base and
 /// an increment in seconds.
-#[derive(Clone, Copy, PartialEq, Eq)]
+///
+/// ```
+/// let level: Level = "0 0:30 2".parse()?;
+/// println!(rt; "{level}: {} seconds and {} per move", level.base(), level.increment())?;
+/// ```
+#[derive(Clone, Copy, Debug, PartialEq, Eq, Hash)]
 pub struct Level {
     moves: u32,
     base: u32,

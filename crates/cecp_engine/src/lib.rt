@@ -13,7 +13,7 @@
 //!         rest = tail;
 //!     }
 //! }
-//! let level = Level::read(b"40 5 0").ok_or("a level")?;
+//! let level: Level = "40 5 0".parse()?;
 //! let left = Clocks::new(level).remaining(Colour::White);
 //! ```
 //!
@@ -26,9 +26,11 @@ mod engine_line;
 mod features;
 mod item;
 mod level;
+mod level_text;
 
 pub use clocks::Clocks;
 pub use engine_line::{EngineLine, read_engine_line};
 pub use features::Features;
 pub use item::{Item, Value, is_known, next_item};
 pub use level::Level;
+pub use level_text::ParseLevelError;

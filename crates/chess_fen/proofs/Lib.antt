@@ -17,3 +17,4 @@ pub mod DenotedFen
 pub mod NormalWritten
 pub mod NormalRead
 pub mod WrittenFen
+pub mod Ascii

@@ -4,9 +4,17 @@
 //! let position = read_fen(b"4k3/8/8/8/8/8/4P3/4K3 w - - 0 1")?;
 //! let text = write_fen(&position);
 //! ```
+//!
+//! `Fen` is a position together with its FEN as text, to parse, print and compare:
+//!
+//! ```
+//! let fen: Fen = "4k3/8/8/8/8/8/4P3/4K3 w - - 0 1".parse()?;
+//! println!(rt; "{fen}")?;
+//! ```
 #![tactic(auto)]
 
 mod castling;
+mod fen;
 mod fields;
 mod initial;
 mod laws;
@@ -18,6 +26,7 @@ mod reading;
 mod target;
 mod writing;
 
+pub use fen::Fen;
 pub use initial::is_initial;
 pub use laws::{normal_is_kept, rights_are_named, written_is_denoted};
 pub use reading::{read_fen, read_fen_as};

@@ -4,6 +4,8 @@
 #[cfg(test)]
 mod chess960;
 #[cfg(test)]
+mod examples;
+#[cfg(test)]
 mod fen;
 #[cfg(test)]
 mod judging;

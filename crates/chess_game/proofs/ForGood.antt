@@ -25,7 +25,7 @@ use Rattle.chess_game.specs.ties.Buckets.{known_at, is_same_at}
 use Rattle.chess_game.specs.declared.game.PlayedMove.{PlayedMove}
 use Rattle.chess_game.specs.declared.repetition.Hashed.{Hashed}
 use Rattle.chess_game.proofs.Kept.{kept_as, follows_more, last-more}
-use Rattle.chess_game.proofs.Positions.{known_before}
+use Rattle.chess_game.proofs.Numbered.{known_before}
 
 -- ---- the same pieces have the same reserve
 

@@ -10,7 +10,7 @@ use Rattle.chess_game.specs.declared.game.PlayedMove.{PlayedMove}
 use Rattle.chess_game.specs.declared.index.TheConstants.{BUCKETS}
 use Rattle.chess_game.specs.declared.repetition.Hashed.{Hashed}
 use Rattle.chess_game.proofs.Latest.{latest_alike, latest_fails, latest_here, count_alike}
-use Rattle.chess_game.proofs.Positions.{known_place, known_before, known_last}
+use Rattle.chess_game.proofs.Numbered.{known_place, known_before, known_last}
 
 in_table : (table : List ℕ) (k : Hashed) → length table ≡ BUCKETS → bucket k < length table
 in_table table k len = omega (arith, len)

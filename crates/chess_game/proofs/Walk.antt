@@ -16,7 +16,7 @@ use Rattle.chess_game.proofs.Counting.{seen, counted, one_if}
 use Rattle.chess_game.proofs.EqualHashes.{equal_hashes, same_alike}
 use Rattle.chess_game.proofs.Kept.{at_end}
 use Rattle.chess_game.proofs.Latest.{latest_low, latest_passes, count_low, count_alike, count_here, count_fails, count_first, count_none, skipped}
-use Rattle.chess_game.proofs.Positions.{known_place, hash_of_known, sound_is}
+use Rattle.chess_game.proofs.Numbered.{known_place, hash_of_known, sound_is}
 use Rattle.chess_game.proofs.SameSelf.{same_self}
 
 -- what a walk rests on: the positions of a game, and one that is looked for

@@ -13,7 +13,7 @@ use chess_moves::Board;
 use std::fmt;
 
 /// Why a game is over by its position and its moves: the first reason that holds, in this order.
-#[derive(Clone, Copy, Debug, PartialEq, Eq)]
+#[derive(Clone, Copy, Debug, PartialEq, Eq, PartialOrd, Ord, Hash)]
 pub enum Verdict {
     /// Black is mated (Laws of Chess 2023, article 5.1.1).
     WhiteMates,
@@ -79,7 +79,7 @@ impl fmt::Display for Verdict {
 }
 
 /// By what the player on move may claim a draw.
-#[derive(Clone, Copy, Debug, PartialEq, Eq)]
+#[derive(Clone, Copy, Debug, PartialEq, Eq, Hash)]
 pub struct Claims {
     /// The position is there for at least the third time (Laws of Chess 2023, article 9.2).
     pub threefold: bool,

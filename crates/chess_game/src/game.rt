@@ -5,7 +5,7 @@ ghost use Rattle.chess_base.specs.MoveList.{moves};
 ghost use Rattle.chess_base.specs.Moves.{is_legal};
 ghost use Rattle.chess_game.specs.declared.game.TheConstants.{MOST_MOVES};
 ghost use Rattle.std.specs.Option.{option_map};
-ghost use Rattle.chess_game.specs.Line.{position_after};
+ghost use Rattle.chess_game.specs.Line.{position_after, positions_of};
 ghost use Rattle.chess_game.specs.Same.{repetition_count};
 ghost use Rattle.chess_game.specs.Ends.{verdict, claims};
 ghost use Rattle.chess_game.specs.Game.{with_state, from_start, with_declared, current, verdict_now, outcome_now, opened, is_over, is_full, refusal_now, play_refusal, unless_refused, after_play, last_move, after_take_back, declare_refusal, after_declare, IsPlayable};
@@ -15,19 +15,21 @@ ghost use Rattle.chess_game.specs.declared.repetition.Hashed.{Hashed};
 
 use crate::ends::{Claims, Verdict, has_insufficient_material, mates};
 use crate::index::{Entry, Index};
+use crate::iter::{Moves, Positions};
 use crate::packed::PackedPosition;
 use crate::repetition::Hashed;
 use crate::results::{Comment, Declared, Outcome};
 use chess_base::{Colour, Man, Move, Position, Variant};
 use chess_moves::Board;
 use std::alloc::{AllocError, Global};
+use std::fmt;
 use std::marker::Model;
 
 /// The most half-moves that a game can be opened for.
 pub const MOST_MOVES: u32 = 20_000;
 
 /// Why a move is refused; the first reason in this order.
-#[derive(Clone, Copy, Debug, PartialEq, Eq, thiserror::Error)]
+#[derive(Clone, Copy, Debug, PartialEq, Eq, Hash, thiserror::Error)]
 pub enum PlayRefusal {
     /// The game is over, by a verdict or a declared result.
     #[error("the game is over")]
@@ -41,12 +43,12 @@ pub enum PlayRefusal {
 }
 
 /// The error that the game has no move that could be taken back.
-#[derive(Clone, Copy, Debug, PartialEq, Eq, thiserror::Error)]
+#[derive(Clone, Copy, Debug, PartialEq, Eq, Hash, thiserror::Error)]
 #[error("there is no move to take back")]
 pub struct NoMove;
 
 /// The error that there is a verdict on the game with another outcome than the one to be declared.
-#[derive(Clone, Copy, Debug, PartialEq, Eq, thiserror::Error)]
+#[derive(Clone, Copy, Debug, PartialEq, Eq, Hash, thiserror::Error)]
 #[error("the verdict on the game has another outcome")]
 pub struct BoardSaysOtherwise;
 
@@ -396,6 +398,32 @@ impl<B: Board> Game<B> {
         self.played_moves[ply].made
     }
 
+    /// The current moves, from the first to the last.
+    ///
+    /// ```
+    /// for m in game.moves() {
+    ///     println!(rt; "{m}")?;
+    /// }
+    /// ```
+    pub fn moves(&self) -> Moves<'_>
+        ensures { result ≡ self.now.state.moves }
+    {
+        Moves::of(self.played_moves.as_slice())
+    }
+
+    /// The start, and the position after each of the current moves: one position more than there are moves.
+    ///
+    /// ```
+    /// for position in game.positions() {
+    ///     println!(rt; "{}", Fen::from(&position))?;
+    /// }
+    /// ```
+    pub fn positions(&self) -> Positions<'_>
+        ensures { result ≡ positions_of self.now.state.start self.now.state.moves }
+    {
+        Positions::of(&self.start.position, self.played_moves.as_slice())
+    }
+
     /// The board, at the present position.
     pub fn board(&self) -> &B
         ensures { B.position result.now ≡ current self.now.state }
@@ -508,5 +536,20 @@ impl<B: Board> Game<B> {
         ensures few { result ≡ false → length self.now.state.moves < MOST_MOVES }
     {
         self.played_moves.len() >= self.limit as usize
+    }
+}
+
+impl<B: Board> fmt::Debug for Game<B> {
+    // Writes the start, the moves, the declared result and the limit.
+    fn fmt<W: fmt::Write>(&self, f: &mut fmt::Formatter<W>) -> fmt::Result {
+        let start = self.start();
+        let moves = self.moves();
+        let declared = self.declared();
+        f.debug_struct("Game")
+            .field("start", &start)
+            .field("moves", &moves)
+            .field("declared", &declared)
+            .field("limit", &self.limit)
+            .finish()
     }
 }

@@ -14,12 +14,16 @@
 mod ends;
 mod game;
 mod index;
+mod iter;
 mod packed;
 mod repetition;
+mod result_text;
 mod results;
 mod tags;
 
 pub use ends::{Claims, Verdict};
 pub use game::{BoardSaysOtherwise, Game, MOST_MOVES, NoMove, PlayRefusal};
+pub use iter::{Moves, Positions};
+pub use result_text::ParseOutcomeError;
 pub use results::{Comment, Declared, Outcome};
 pub use tags::{HowEnded, TagText};

@@ -1,0 +1,197 @@
+//! The iterators over a game: its moves, and its positions.
+
+ghost use Rattle.std.specs.Prelude.{◌≡◌, ⊤};
+ghost use Rattle.std.specs.Iterator.{YieldsFirst, YieldsLast, item_count};
+ghost use Rattle.chess_game.specs.Line.{positions_of};
+ghost use Rattle.chess_game.specs.ties.PlayedMoves.{moves_of, Follows};
+
+use crate::game::PlayedMove;
+use crate::packed::PackedPosition;
+use chess_base::{Move, Position};
+use std::alloc::AllocError;
+use std::fmt;
+use std::iter::FusedIterator;
+use std::marker::Model;
+
+/// The moves of a game in order, as `Game::moves` returns them. In contracts it is the list of those that are left.
+#[derive(Drop)]
+pub struct Moves<'g> {
+    left: &'g [PlayedMove],
+}
+
+impl<'g> Model for Moves<'g> {
+    ghost use Rattle.std.specs.Prelude.{List};
+    ghost use Rattle.chess_base.specs.declared.man.Move.{Move};
+
+    ghost Value = { List Move };
+
+    ghost use Rattle.chess_game.specs.ties.PlayedMoves.{moves_of};
+
+    ghost view = { λ it. moves_of it.left.now };
+}
+
+impl<'g> Moves<'g> {
+    // The moves of these played moves.
+    pub(crate) fn of(played_moves: &'g [PlayedMove]) -> Self
+        ensures { result ≡ moves_of played_moves.now }
+    {
+        Moves { left: played_moves }
+    }
+}
+
+impl<'g> Clone for Moves<'g> {
+    ghost is_clone = { λ it copy. copy ≡ it };
+
+    ghost is_infallible = { λ _. ⊤ };
+
+    fn clone(&self) -> Result<Self, AllocError> {
+        Ok(Moves { left: self.left })
+    }
+}
+
+impl<'g> Iterator for Moves<'g> {
+    type Item = Move;
+
+    ghost next_gives = { YieldsFirst (λ left. left) };
+
+    ghost remaining = { item_count (λ left. left) };
+
+    fn next(&mut self) -> Option<Move> {
+        let (first, others) = self.left.split_first()?;
+        self.left = others;
+        Some(first.made)
+    }
+
+    fn size_hint(&self) -> (usize, Option<usize>) {
+        (self.left.len(), Some(self.left.len()))
+    }
+}
+
+impl<'g> DoubleEndedIterator for Moves<'g> {
+    ghost next_back_gives = { YieldsLast (λ left. left) };
+
+    fn next_back(&mut self) -> Option<Move> {
+        let (last, others) = self.left.split_last()?;
+        self.left = others;
+        Some(last.made)
+    }
+}
+
+impl<'g> ExactSizeIterator for Moves<'g> {
+    fn len(&self) -> usize {
+        self.left.len()
+    }
+}
+
+impl<'g> FusedIterator for Moves<'g> {}
+
+impl<'g> fmt::Debug for Moves<'g> {
+    // Writes the list of the moves that are left.
+    fn fmt<W: fmt::Write>(&self, f: &mut fmt::Formatter<W>) -> fmt::Result {
+        let left = Moves { left: self.left };
+        f.debug_list().entries(left).finish()
+    }
+}
+
+/// The positions of a game in order, as `Game::positions` returns them. In contracts it is the list of those that are
+/// left.
+#[derive(Drop)]
+pub struct Positions<'g> {
+    // The start, until it was returned.
+    start: Option<&'g PackedPosition>,
+    left: &'g [PlayedMove],
+}
+
+impl<'g> Model for Positions<'g> {
+    ghost use Rattle.std.specs.Prelude.{List};
+    ghost use Rattle.chess_base.specs.declared.setup.Setup.{Setup};
+
+    ghost Value = { List Setup };
+
+    ghost use Rattle.chess_game.specs.ties.PositionsLeft.{positions_left};
+
+    ghost view = { λ it. positions_left it.start it.left.now };
+}
+
+impl<'g> Positions<'g> {
+    // The start and the positions that these played moves reached, which follow from it.
+    #[tactic(auto, using(crate::proofs::Reached::reached_are))]
+    pub(crate) fn of(start: &'g PackedPosition, played_moves: &'g [PlayedMove]) -> Self
+        requires { Follows start.now played_moves.now }
+        ensures { result ≡ positions_of start.now (moves_of played_moves.now) }
+    {
+        Positions {
+            start: Some(start),
+            left: played_moves,
+        }
+    }
+}
+
+impl<'g> Clone for Positions<'g> {
+    ghost is_clone = { λ it copy. copy ≡ it };
+
+    ghost is_infallible = { λ _. ⊤ };
+
+    fn clone(&self) -> Result<Self, AllocError> {
+        Ok(Positions {
+            start: self.start,
+            left: self.left,
+        })
+    }
+}
+
+impl<'g> Iterator for Positions<'g> {
+    type Item = Position;
+
+    ghost next_gives = { YieldsFirst (λ left. left) };
+
+    ghost remaining = { item_count (λ left. left) };
+
+    fn next(&mut self) -> Option<Position> {
+        if let Some(start) = self.start {
+            self.start = None;
+            return Some(start.unpacked());
+        }
+        let (first, others) = self.left.split_first()?;
+        self.left = others;
+        Some(first.reached.position.unpacked())
+    }
+
+    fn size_hint(&self) -> (usize, Option<usize>) {
+        (self.len(), Some(self.len()))
+    }
+}
+
+impl<'g> DoubleEndedIterator for Positions<'g> {
+    ghost next_back_gives = { YieldsLast (λ left. left) };
+
+    fn next_back(&mut self) -> Option<Position> {
+        if let Some((last, others)) = self.left.split_last() {
+            self.left = others;
+            return Some(last.reached.position.unpacked());
+        }
+        let start = self.start?;
+        self.start = None;
+        Some(start.unpacked())
+    }
+}
+
+impl<'g> ExactSizeIterator for Positions<'g> {
+    fn len(&self) -> usize {
+        if self.start.is_some() {
+            self.left.len() + 1
+        } else {
+            self.left.len()
+        }
+    }
+}
+
+impl<'g> FusedIterator for Positions<'g> {}
+
+impl<'g> fmt::Debug for Positions<'g> {
+    // Writes how many positions are left.
+    fn fmt<W: fmt::Write>(&self, f: &mut fmt::Formatter<W>) -> fmt::Result {
+        let left = self.len();
+        f.debug_struct("Positions").field("left", &left).finish()
+    }
+}
