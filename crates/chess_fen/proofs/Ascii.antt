@@ -77,7 +77,8 @@ row_low (Some man ∷ squares) n h = run_low n (letter man ∷ row_text 0 square
 
 rows_low : (n : ℕ) (men : List (Option Man)) → AllByRecursion Low (map fen_rank (ranks_down n men))
 rows_low zero men = tt
-rows_low (suc n) men = (row_low (take 8 (drop (8 * n) men)) 0 (omega (arith, length-take 8 (drop (8 * n) men))), rows_low n men)
+rows_low (suc n) men = (row_low (take 8 (drop (8 * n) men)) 0 (omega (arith, length-take 8 (drop (8 * n) men))),
+    rows_low n men)
 
 placement_low : (men : List (Option Man)) → Low (placement_text men)
 unfolding placement_text
@@ -115,7 +116,8 @@ rights_low v r =
     (right_low v White QueenSide r.white.queen_side)) (right_low v Black KingSide r.black.king_side))
     (right_low v Black QueenSide r.black.queen_side))
 
-target_low : (target : Option ℕ) → IfSome target (λ square. (square / 8 ≡ 2) ⊎ (square / 8 ≡ 5)) → Low (target_text target)
+target_low : (target : Option ℕ) → IfSome target (λ square. (square / 8 ≡ 2) ⊎ (square / 8 ≡ 5))
+    → Low (target_text target)
 target_low None h = (omega arith, tt)
 target_low (Some t) (inl e) = (omega arith, (omega arith, tt))
 target_low (Some t) (inr e) = (omega arith, (omega arith, tt))
