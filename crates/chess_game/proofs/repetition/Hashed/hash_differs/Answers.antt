@@ -1,4 +1,4 @@
--- Positions that are the same would have equal hashes (told_apart of EqualWords).
+-- Positions that are the same would have equal hashes (told_apart of EqualHashes).
 use Rattle.chess_game.proofs.EqualHashes.{told_apart}
 use Rattle.chess_game.proofs.repetition.Hashed.hash_differs.Goals as goal
 
