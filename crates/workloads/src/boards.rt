@@ -4,6 +4,7 @@ ghost use Rattle.std.specs.Prelude.{◌≡◌, IsTrue};
 ghost use Rattle.chess_base.specs.Moves.{is_legal};
 
 use crate::digest::Digest;
+use crate::lines::count_lines;
 use crate::random::Random;
 use crate::starts::{QUEENS, fischerandom_start, start_of};
 use crate::walk::{Style, choose, next_move};
@@ -13,29 +14,6 @@ use chess_fen::{read_fen_as, write_fen};
 use chess_moves::{Board, Plain};
 use chess_text::{Reading, coordinate, read_move, san};
 use std::alloc::{AllocError, Global};
-
-/// Counts the lines of `depth` legal moves from the board's position (perft), and leaves the board as it was. The moves
-/// at the last depth are only counted, not made.
-pub fn count_lines<B: Board>(board: &mut B, depth: u8) -> u64
-    ensures { B.position board.new ≡ B.position board.old }
-{
-    if depth <= 1 {
-        return board.legal_move_count() as u64;
-    }
-    let moves = board.legal_moves();
-    let mut count: u64 = 0;
-    for m in moves.as_slice() {
-        let saved = board.make(*m);
-        let further = if depth == 2 {
-            board.legal_move_count() as u64
-        } else {
-            count_lines(board, depth - 1)
-        };
-        count = count.saturating_add(further);
-        board.take_back(*m, saved);
-    }
-    count
-}
 
 // A number for a move.
 fn number_of(m: &Move) -> u64 {

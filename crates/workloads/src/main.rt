@@ -1,15 +1,24 @@
 //! Runs the jobs that users of the arbiter wait for, on inputs that it makes from a number, and prints a digest of all
 //! results: `workloads JOB SIZE SEED`, with JOB one of `collections`, `puzzles`, `boards`, `matches`, `sessions` and
-//! `awkward`. The file bench/workloads.txt has the sizes that are timed. With no arguments it does a little of each.
+//! `awkward`. The file bench/workloads.txt has the sizes that are timed.
+//!
+//! Three further jobs time themselves: they print counts, and on standard error how many a second. `workloads lines DEPTH
+//! [FEN]` counts the lines of legal moves from a position, `workloads games FILE` the games and half-moves of a PGN file,
+//! and `workloads relay SIZE SEED` the half-moves of so many matches between two engines in memory, all of one game of 500
+//! half-moves. With no arguments the program does a little of each job.
 #![tactic(auto)]
 
 mod awkward;
 mod boards;
 mod collections;
 mod digest;
+mod games;
+mod lines;
 mod matches;
 mod puzzles;
 mod random;
+mod rates;
+mod relay;
 mod sessions;
 mod starts;
 mod texts;
@@ -17,18 +26,22 @@ mod walk;
 
 use awkward::ask_awkward;
 use boards::ask_boards;
+use chess_base::Position;
+use chess_fen::read_fen;
 use collections::verify_collections;
 use digest::Digest;
 use matches::play_matches;
+use perft_positions::KIWIPETE;
 use puzzles::verify_puzzles;
 use random::Random;
+use rates::{time_games, time_lines, time_relay};
 use sessions::ask_session;
 use std::alloc::{AllocError, Global};
 use std::process::ExitCode;
-use std::{env, io};
+use std::{env, fs, io};
 
 const USAGE: &str =
-    "usage: workloads\n       workloads JOB SIZE SEED, with JOB one of collections, puzzles, boards, matches, sessions, awkward";
+    "usage: workloads\n       workloads JOB SIZE SEED, with JOB one of collections, puzzles, boards, matches, sessions, awkward, relay\n       workloads lines DEPTH [FEN], with DEPTH from 0 to 255; no FEN is the initial position\n       workloads games FILE";
 
 const JOBS: [&str; 6] = [
     "collections",
@@ -38,6 +51,12 @@ const JOBS: [&str; 6] = [
     "sessions",
     "awkward",
 ];
+
+// The initial position.
+const INITIAL: &[u8] = b"rnbqkbnr/pppppppp/8/8/8/8/PPPPPPPP/RNBQKBNR w KQkq - 0 1";
+
+// Two short games, with a tag and a variation.
+const TWO_GAMES: &[u8] = b"1. e4 e5 1-0 [Event \"x\"] 1. f3 (1. d4) e5 2. g4 *";
 
 // The arguments after the program's name.
 fn words_of(rt: &HostRuntime) -> io::Result<Vec<String>> {
@@ -76,12 +95,22 @@ fn do_job(rt: &HostRuntime, job: &str, size: u32, seed: u32) -> io::Result<ExitC
     }
 }
 
+// Counts lines from the position of a FEN, if the arguments are a number and a FEN.
+fn do_lines(rt: &HostRuntime, depth: &str, fen: &[u8]) -> io::Result<ExitCode> {
+    match (depth.parse(), read_fen(fen)) {
+        (Ok(depth), Ok(start)) => time_lines(rt, depth, &start),
+        _ => misused(rt),
+    }
+}
+
 // Does a little of each job.
 fn do_each(rt: &HostRuntime) -> io::Result<ExitCode> {
     for job in &JOBS {
         do_job(rt, job, 1, 1)?;
     }
-    Ok(ExitCode::SUCCESS)
+    do_lines(rt, "4", KIWIPETE)?;
+    time_games(rt, TWO_GAMES)?;
+    time_relay(rt, 1, 1)
 }
 
 // Prints on standard error how the program is called, and returns status 2.
@@ -94,11 +123,20 @@ fn misused(rt: &HostRuntime) -> io::Result<ExitCode> {
 fn run(rt: &HostRuntime) -> io::Result<ExitCode> {
     let words = words_of(rt)?;
     match words.as_slice() {
+        [] => do_each(rt),
+        [job, path] if job.as_str() == "games" => {
+            let text = fs::read(rt, path.as_str())?;
+            time_games(rt, text.as_slice())
+        }
+        [job, depth] if job.as_str() == "lines" => do_lines(rt, depth.as_str(), INITIAL),
+        [job, depth, fen] if job.as_str() == "lines" => {
+            do_lines(rt, depth.as_str(), fen.as_bytes())
+        }
         [job, size, seed] => match (size.parse(), seed.parse()) {
+            (Ok(size), Ok(seed)) if job.as_str() == "relay" => time_relay(rt, size, seed),
             (Ok(size), Ok(seed)) => do_job(rt, job.as_str(), size, seed),
             _ => misused(rt),
         },
-        [] => do_each(rt),
         _ => misused(rt),
     }
 }

@@ -16,15 +16,15 @@ use text_lines::Line;
 
 /// What two engines send in a match, each engine's lines as one text.
 #[derive(Drop)]
-struct Script {
-    white: Vec<u8>,
-    black: Vec<u8>,
+pub struct Script {
+    pub white: Vec<u8>,
+    pub black: Vec<u8>,
 }
 
-// A clock by which each look takes a few milliseconds.
+/// A clock by which each look takes a few milliseconds.
 #[derive(Drop)]
-struct Ticking {
-    moment: u64,
+pub struct Ticking {
+    pub moment: u64,
 }
 
 impl Moments for Ticking {
@@ -93,14 +93,14 @@ impl Witness for Log {
     }
 }
 
-// In what form two engines talk.
+/// In what form two engines talk.
 #[derive(Clone, Copy, PartialEq, Eq)]
-enum Talk {
-    // Moves by squares, and nothing else.
+pub enum Talk {
+    /// Moves by squares, and nothing else.
     Squares,
-    // Moves in SAN.
+    /// Moves in SAN.
     San,
-    // Moves by squares, each after a few lines of thinking output.
+    /// Moves by squares, each after a few lines of thinking output.
     Thinking,
 }
 
@@ -141,8 +141,11 @@ fn add_move(text: &mut Vec<u8>, m: &[u8], ply: usize, talk: Talk) -> Result<(), 
     add(text, b"\n")
 }
 
-// What both engines send in a match that has the moves of this game, after which the side on move resigns.
-fn write_script(
+/// What both engines send in a match that has the moves of this game, after which the side on move resigns.
+///
+/// # Errors
+/// If memory runs out.
+pub fn write_script(
     alloc: Global,
     game: &Game<Bits<'_>>,
     texts: &Texts,
@@ -169,8 +172,8 @@ fn write_script(
     Ok(Script { white, black })
 }
 
-// The ends of an engine that sends this text, 4,096 bytes at a time.
-fn ends(alloc: Global, text: &[u8]) -> Ends<Counted<PieceReader<'_>>, Counted<PieceWriter>> {
+/// The ends of an engine that sends this text, 4,096 bytes at a time.
+pub fn ends(alloc: Global, text: &[u8]) -> Ends<Counted<PieceReader<'_>>, Counted<PieceWriter>> {
     Ends {
         reader: Counted::reading(PieceReader::new(text, 4096, 0)),
         writer: Counted::writing(PieceWriter::new(alloc, 65_536, 0)),

@@ -1,5 +1,5 @@
 use Rattle.std.proofs.Common.{◌≡◌}
-use Rattle.workloads.proofs.boards.+count_lines.Given as goal
+use Rattle.workloads.proofs.lines.+count_lines.Given as goal
 
 abbrev pub decreases-count_lines : goal.decreases-count_lines
 decreases-count_lines g l = l.depth

@@ -1,5 +1,5 @@
 use Rattle.std.proofs.Common.{◌≤◌, ◌-◌, length}
-use Rattle.bench.proofs.games.read_games.Given as goal
+use Rattle.workloads.proofs.games.read_games.Given as goal
 
 abbrev pub invariant-loop-end : goal.invariant-loop-end
 invariant-loop-end g l = l.at ≤ length l.text

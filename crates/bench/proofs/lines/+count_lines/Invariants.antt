@@ -1,8 +1,0 @@
-use Rattle.std.proofs.Common.{◌≡◌}
-use Rattle.bench.proofs.lines.+count_lines.Given as goal
-
-abbrev pub decreases-count_lines : goal.decreases-count_lines
-decreases-count_lines g l = l.depth
-
-abbrev pub invariant-loop-m : goal.invariant-loop-m
-invariant-loop-m g l = g.B.Board.position l.board ≡ g.B.Board.position l.fn.board

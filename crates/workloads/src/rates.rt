@@ -1,0 +1,93 @@
+//! Jobs that time themselves: each prints what it counted, and on standard error how many it counted a second.
+
+use crate::games::read_games;
+use crate::lines::count_lines;
+use crate::matches::Script;
+use crate::random::Random;
+use crate::relay::{long_script, relay};
+use chess_base::Position;
+use chess_bits::{AttackTables, Bits};
+use chess_game::{Game, MOST_MOVES};
+use chess_moves::Board;
+use std::io;
+use std::process::ExitCode;
+use std::time::{Duration, Instant};
+
+// How many there are a second, if there are `count` of them in the time `spent`, which counts as a millisecond at least.
+fn a_second(count: u64, spent: Duration) -> u64 {
+    let millis = u64::try_from(spent.as_millis()).unwrap_or(u64::MAX).max(1);
+    count.saturating_mul(1000) / millis
+}
+
+/// Counts the lines of `depth` legal moves from a position.
+///
+/// # Errors
+/// If memory runs out, or a write or the clock fails.
+pub fn time_lines(rt: &HostRuntime, depth: u8, start: &Position) -> io::Result<ExitCode> {
+    let tables = AttackTables::open(rt.alloc())?;
+    let mut board = Bits::new(&tables);
+    board.set(start);
+    let begun = Instant::now(rt)?;
+    let count = count_lines(&mut board, depth);
+    let rate = a_second(count, begun.elapsed(rt)?);
+    println!(rt; "lines {count}")?;
+    eprintln!(rt; "{rate} lines a second")?;
+    Ok(ExitCode::SUCCESS)
+}
+
+// Reads all games of a PGN text into `game`, and counts them and their half-moves.
+fn time_reading(rt: &HostRuntime, text: &[u8], game: &mut Game<Bits<'_>>) -> io::Result<ExitCode> {
+    let begun = Instant::now(rt)?;
+    match read_games(text, game) {
+        Ok(tally) => {
+            let rate = a_second(tally.half_moves, begun.elapsed(rt)?);
+            println!(rt; "games {} half-moves {}", tally.games, tally.half_moves)?;
+            eprintln!(rt; "{rate} half-moves a second")?;
+            Ok(ExitCode::SUCCESS)
+        }
+        Err(fault) => {
+            eprintln!(rt; "a fault at byte {}", fault.offset)?;
+            Ok(ExitCode::FAILURE)
+        }
+    }
+}
+
+/// Reads all games of a PGN text, and counts them and their half-moves; a fault's offset goes to standard error, and the
+/// status is then 1.
+///
+/// # Errors
+/// If memory runs out, or a write or the clock fails.
+pub fn time_games(rt: &HostRuntime, text: &[u8]) -> io::Result<ExitCode> {
+    let tables = AttackTables::open(rt.alloc())?;
+    let mut game = Game::open(rt.alloc(), Bits::new(&tables), MOST_MOVES)?;
+    time_reading(rt, text, &mut game)
+}
+
+// How many half-moves the game has that two engines play again and again, if it is not over before.
+const LONG: usize = 500;
+
+// Plays so many matches by this script, and counts their half-moves.
+fn time_matches(
+    rt: &HostRuntime,
+    times: u32,
+    script: &Script,
+    game: &mut Game<Bits<'_>>,
+) -> io::Result<ExitCode> {
+    let begun = Instant::now(rt)?;
+    let half_moves = relay(rt.alloc(), times, script, game)?;
+    let rate = a_second(half_moves, begun.elapsed(rt)?);
+    println!(rt; "relay {times} half-moves {half_moves}")?;
+    eprintln!(rt; "{rate} half-moves a second")?;
+    Ok(ExitCode::SUCCESS)
+}
+
+/// Plays a long game so many times between two engines in memory, and counts the half-moves of all these matches.
+///
+/// # Errors
+/// If memory runs out, or a write or the clock fails.
+pub fn time_relay(rt: &HostRuntime, times: u32, seed: u32) -> io::Result<ExitCode> {
+    let tables = AttackTables::open(rt.alloc())?;
+    let mut game = Game::open(rt.alloc(), Bits::new(&tables), MOST_MOVES)?;
+    let script = long_script(rt.alloc(), &mut game, LONG, &mut Random::new(seed))?;
+    time_matches(rt, times, &script, &mut game)
+}
