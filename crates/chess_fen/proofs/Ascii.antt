@@ -77,8 +77,10 @@ row_low (Some man ∷ squares) n h = run_low n (letter man ∷ row_text 0 square
 
 rows_low : (n : ℕ) (men : List (Option Man)) → AllByRecursion Low (map fen_rank (ranks_down n men))
 rows_low zero men = tt
-rows_low (suc n) men = (row_low (take 8 (drop (8 * n) men)) 0 (omega (arith, length-take 8 (drop (8 * n) men))),
-    rows_low n men)
+rows_low (suc n) men = (
+  row_low (take 8 (drop (8 * n) men)) 0 (omega (arith, length-take 8 (drop (8 * n) men))),
+  rows_low n men,
+)
 
 placement_low : (men : List (Option Man)) → Low (placement_text men)
 unfolding placement_text

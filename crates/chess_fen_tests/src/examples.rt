@@ -29,6 +29,9 @@ fn fens_are_parsed_and_shown(rt: HostRuntime) -> Result<(), Fail> {
         shown(rt.alloc(), &fen, &after)?.as_str(),
         "4k3/8/8/8/8/8/4P3/4K3 w - - 0 1 and then 4k3/8/8/8/4P3/8/8/4K3 b - e3 0 1"
     );
-    assert_eq!(rt; "4k3/8/8/8/8/8/8/8 w - -".parse::<Fen>(), Err(FenFault::Kings));
+    assert_eq!(rt;
+        "4k3/8/8/8/8/8/8/8 w - -".parse::<Fen>(),
+        Err(FenFault::Kings)
+    );
     Ok(())
 }

@@ -65,10 +65,22 @@ fn moves_and_positions_of_a_game(rt: HostRuntime) -> Result<(), Fail> {
     let mut game = Game::open(rt.alloc(), Plain::new(), 300)?;
     play(&mut game, 12, 28)?;
     play(&mut game, 52, 36)?;
-    is_equal(&rt, &shown_moves(rt.alloc(), &game)?.as_str(), &" e2e4 e7e5");
+    is_equal(
+        &rt,
+        &shown_moves(rt.alloc(), &game)?.as_str(),
+        &" e2e4 e7e5",
+    );
     is_equal(&rt, &game.moves().len(), &2);
-    is_equal(&rt, &shown_positions(rt.alloc(), &game)?.as_str(), &POSITIONS);
-    is_equal(&rt, &shown_backwards(rt.alloc(), &game)?.as_str(), &BACKWARDS);
+    is_equal(
+        &rt,
+        &shown_positions(rt.alloc(), &game)?.as_str(),
+        &POSITIONS,
+    );
+    is_equal(
+        &rt,
+        &shown_backwards(rt.alloc(), &game)?.as_str(),
+        &BACKWARDS,
+    );
     is_equal(&rt, &game.positions().len(), &3);
     Ok(())
 }
@@ -93,9 +105,17 @@ fn shown_declared(alloc: Global) -> Result<String, Fail> {
 
 #[test]
 fn results_are_parsed_and_shown(rt: HostRuntime) -> Result<(), Fail> {
-    is_equal(&rt, &shown_outcome(rt.alloc(), "1/2-1/2")?.as_str(), &"1/2-1/2");
+    is_equal(
+        &rt,
+        &shown_outcome(rt.alloc(), "1/2-1/2")?.as_str(),
+        &"1/2-1/2",
+    );
     is_equal(&rt, &"1-1".parse::<Outcome>(), &Err(ParseOutcomeError));
     is_equal(&rt, &shown_comment(rt.alloc())?.as_str(), &"White resigns");
-    is_equal(&rt, &shown_declared(rt.alloc())?.as_str(), &"0-1 {White resigns}");
+    is_equal(
+        &rt,
+        &shown_declared(rt.alloc())?.as_str(),
+        &"0-1 {White resigns}",
+    );
     Ok(())
 }
