@@ -6,11 +6,11 @@
                                 listed exactly once; which headings of the lists differ from the claims; whether figures, theorems
                                 or files to read of the lists are old; which file of specs/ is not in docs/DEFINITIONS.md exactly
                                 once, after those on which it rests; which definitions are misplaced or have no comment (by
-                                tools/reach.py); where the graph of docs/ARCHITECTURE.md differs from crates.txt; and which link
-                                of a document leads to no file or to no heading
+                                tools/reach.py); where the graph of docs/ARCHITECTURE.md differs from crates.txt; whether the
+                                program in docs/USAGE.md is old; and which link of a document leads to no file or to no heading
     tools/theorems.py --fill    writes the generated parts of docs/claims/ anew (headings, theorems with their clauses, files to
-                                read, figures, links), moves a mutation's name where its file was moved to the other folder, and
-                                then checks
+                                read, figures, links), and the program in docs/USAGE.md, moves a mutation's name where its file
+                                was moved to the other folder, and then checks
 
 The exit status is 0 if there is no fault."""
 
@@ -29,6 +29,7 @@ FIGURES = f"{LISTS}/README.md"
 ORDER = "docs/DEFINITIONS.md"
 FILES = f"{LISTS}/definitions.md"
 GRAPH = "docs/ARCHITECTURE.md"
+USAGE = "docs/USAGE.md"
 
 FAULTS = []
 
@@ -296,6 +297,20 @@ def check_graph(text):
             fault(GRAPH, f"{crate} uses {sorted(used)} directly, and not {sorted(drawn.get(crate, set()))}")
 
 
+# ---- programs that a document shows whole
+
+SOURCE = re.compile(r"(<!-- source (\S+) -->\n\n)((?:(?: {4}.*)?\n)+)")
+
+
+def with_sources(text):
+    """A document with each file that a comment `source FILE` names, whole, as the indented block after the comment."""
+    return SOURCE.sub(lambda m: f"{m.group(1)}{indented(read(m.group(2)))}\n", text)
+
+
+def indented(text):
+    return "".join(f"    {line}\n" if line else "\n" for line in text.splitlines())
+
+
 # ---- what a claim says is to be read
 
 def label_of(path):
@@ -380,6 +395,7 @@ def main(words):
     settle(FIGURES, between(read(FIGURES), "reach", reach.table(reached)), is_to_fill)
     place = check_order(read(ORDER), reached.specs)
     settle(FILES, files_page(reached.order), is_to_fill)
+    settle(USAGE, with_sources(read(USAGE)), is_to_fill)
     sections = sections_of(read(PAGE))
     claims = [claim for section in sections for claim in section.claims]
     for section in sections:
