@@ -17,10 +17,10 @@ mod last_tag;
 mod laws;
 mod line_writer;
 mod read;
-mod result_tag;
 mod skips;
 mod tag;
 mod tag_lines;
+mod tagged_result;
 mod tags;
 mod termination;
 mod token;
@@ -34,7 +34,7 @@ pub use laws::{
     lines_are_filled, normal_is_kept, pgn_is_read_back,
 };
 pub use read::{PgnEnd, PgnFault, PgnFaultKind, read_pgn};
-pub use result_tag::{ResultTag, result_tag};
+pub use tagged_result::{ResultTag, result_tag};
 pub use tags::Tags;
 pub use termination::Termination;
 pub use word_kind::outcome_of;

@@ -11,7 +11,7 @@ use Rattle.chess_pgn.specs.declared.read.PgnEnd.{PgnEnd}
 use Rattle.chess_pgn.specs.declared.read.PgnFault.{PgnFault}
 use Rattle.chess_pgn.specs.declared.read.PgnFaultKind.{PgnFaultKind}
 use Rattle.chess_pgn.specs.declared.read.PgnFaultKind.TheVariants.{BadTag, BadFen, BadToken, IllegalMove, AmbiguousMove, AfterEnd, TooLong, UnclosedComment, UnclosedVariation, NoResult}
-use Rattle.chess_pgn.specs.declared.result_tag.ResultTag.{ResultTag}
+use Rattle.chess_pgn.specs.declared.tagged_result.ResultTag.{ResultTag}
 use Rattle.pgn_verifier.specs.declared.game_fault.FaultKind.{FaultKind}
 use Rattle.pgn_verifier.specs.declared.game_fault.FaultKind.TheVariants.{Pgn, ResultDiffers, BoardSaysOtherwise}
 use Rattle.pgn_verifier.specs.declared.game_fault.GameFault.{GameFault}
