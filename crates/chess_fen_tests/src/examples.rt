@@ -13,7 +13,9 @@ fn after_e4(rt: &impl Abort, position: &Position) -> Position {
         to: Square::new(28),
         promotion: None,
     };
-    assert!(rt; position.is_legal(m));
+    // The prover wants two variables here, since the move is given away twice.
+    let judged = m;
+    assert!(rt; position.is_legal(judged));
     position.after(m)
 }
 
