@@ -99,8 +99,8 @@ fn through_fen(position: &Position, digest: &mut Digest) -> Position {
     }
 }
 
-// Asks all of the board's position: its FEN, its moves on both boards, and the lines of `depth` moves after each; returns
-// one of the moves.
+// Asks all of the board's position: its FEN, its moves on both boards, and the lines of `depth` moves after each;
+// returns one of the moves.
 fn ask_position(
     board: &mut Bits<'_>,
     depth: u8,
@@ -113,8 +113,9 @@ fn ask_position(
     go_over(board, depth, random, digest)
 }
 
-// What the walk does at the board's position: it asks all that a board answers, if this is a sixth position, and returns
-// the move with which it goes on. At the last position the lines of `last_depth` moves after each move are counted.
+// What the walk does at the board's position: it asks all that a board answers, if this is a sixth position, and
+// returns the move with which it goes on. At the last position the lines of `last_depth` moves after each move are
+// counted.
 fn step(
     board: &mut Bits<'_>,
     left: usize,

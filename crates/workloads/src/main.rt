@@ -2,10 +2,10 @@
 //! results: `workloads JOB SIZE SEED`, with JOB one of `collections`, `puzzles`, `boards`, `matches`, `sessions` and
 //! `awkward`. The file bench/workloads.txt has the sizes that are timed.
 //!
-//! Three further jobs time themselves: they print counts, and on standard error how many a second. `workloads lines DEPTH
-//! [FEN]` counts the lines of legal moves from a position, `workloads games FILE` the games and half-moves of a PGN file,
-//! and `workloads relay SIZE SEED` the half-moves of so many matches between two engines in memory, all of one game of 500
-//! half-moves. With no arguments the program does a little of each job.
+//! Three further jobs time themselves: they print counts, and on standard error how many a second. `workloads lines
+//! DEPTH [FEN]` counts the lines of legal moves from a position, `workloads games FILE` the games and half-moves of a
+//! PGN file, and `workloads relay SIZE SEED` the half-moves of so many matches between two engines in memory, all of
+//! one game of 500 half-moves. With no arguments the program does a little of each job.
 #![tactic(auto)]
 
 mod awkward;
@@ -26,7 +26,6 @@ mod walk;
 
 use awkward::ask_awkward;
 use boards::ask_boards;
-use chess_base::Position;
 use chess_fen::read_fen;
 use collections::verify_collections;
 use digest::Digest;

@@ -13,7 +13,8 @@ use std::io;
 use std::process::ExitCode;
 use std::time::{Duration, Instant};
 
-// How many there are a second, if there are `count` of them in the time `spent`, which counts as a millisecond at least.
+// How many there are a second, if there are `count` of them in the time `spent`, which counts as at least a
+// millisecond.
 fn a_second(count: u64, spent: Duration) -> u64 {
     let millis = u64::try_from(spent.as_millis()).unwrap_or(u64::MAX).max(1);
     count.saturating_mul(1000) / millis
@@ -52,8 +53,8 @@ fn time_reading(rt: &HostRuntime, text: &[u8], game: &mut Game<Bits<'_>>) -> io:
     }
 }
 
-/// Reads all games of a PGN text, and counts them and their half-moves; a fault's offset goes to standard error, and the
-/// status is then 1.
+/// Reads all games of a PGN text, and counts them and their half-moves; of a fault it prints the offset on standard
+/// error, and returns status 1.
 ///
 /// # Errors
 /// If memory runs out, or a write or the clock fails.
