@@ -32,7 +32,7 @@ fn acts_as_the_program(rt: HostRuntime) -> Result<(), Fail> {
 // The command of a stub that plays these arguments.
 fn stub(rt: &HostRuntime, arguments: &str) -> Result<String, Fail> {
     let program = env::args(rt)?.next().ok_or("the program's name")?;
-    Ok(format!(in rt.alloc(); "{program} engines::acts_as_the_program stub {words}")?)
+    Ok(format!(in rt.alloc(); "{program} engines::acts_as_the_program stub {arguments}")?)
 }
 
 /// A match over processes: the arguments of both stubs, the other arguments, what is written, reported and answered.
