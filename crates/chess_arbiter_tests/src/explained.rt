@@ -21,7 +21,7 @@ const KINDS: [(&[&str], &[u8], &[u8], u8); 20] = [
     (
         &["verify", "--explain"],
         b"[Event \"x\" 1. e4 *",
-        b"game 1: bad tag at byte 0\n# line 1 column 1 [Event\n",
+        b"game 1: bad tag at byte 0\n# line 1 column 1 [Event | no bracket after the value\n",
         1,
     ),
     (
@@ -33,25 +33,25 @@ const KINDS: [(&[&str], &[u8], &[u8], u8); 20] = [
     (
         &["verify", "--explain"],
         b"[FEN \"x\"] *",
-        b"game 1: bad FEN at byte 6\n# line 1 column 7 x\"] | fields\n",
+        b"game 1: bad FEN at byte 6\n# line 1 column 7 x | fields\n",
         1,
     ),
     (
         &["verify", "--explain"],
         b"[FEN \"\"] *",
-        b"game 1: bad FEN at byte 6\n# line 1 column 7 \"] | fields\n",
+        b"game 1: bad FEN at byte 6\n# line 1 column 7 (end) | fields\n",
         1,
     ),
     (
         &["verify", "--explain"],
         b"[FEN \"4k3/8/8/8/8/8/8/4K3 w - e3 0 1\"] *",
-        b"game 1: bad FEN at byte 6\n# line 1 column 7 4k3/8/8/8/8/8/8/4K3 | en passant\n",
+        b"game 1: bad FEN at byte 6\n# line 1 column 31 e3 | en passant\n",
         1,
     ),
     (
         &["verify", "--explain"],
         b"1. e4 & *",
-        b"game 1: bad token at byte 6\n# line 1 column 7 & | rnbqkbnr/pppppppp/8/8/4P3/8/PPPP1PPP/RNBQKBNR b KQkq e3 0 1\n",
+        b"game 1: bad token at byte 6\n# line 1 column 7 & | rnbqkbnr/pppppppp/8/8/4P3/8/PPPP1PPP/RNBQKBNR b KQkq e3 0 1 | begins no token\n",
         1,
     ),
     (
@@ -187,44 +187,44 @@ const PLACES: [(&[&str], &[u8], &[u8], u8); 23] = [
     (
         &["verify", "--explain"],
         b"1. e4 &xxxxxxxxxxxxxxxxxxxxxxxxxxxxxxxxxxxxxxx *",
-        b"game 1: bad token at byte 6\n# line 1 column 7 &xxxxxxxxxxxxxxxxxxxxxxxxxxxxxxxxxxxxxxx | rnbqkbnr/pppppppp/8/8/4P3/8/PPPP1PPP/RNBQKBNR b KQkq e3 0 1\n",
+        b"game 1: bad token at byte 6\n# line 1 column 7 &xxxxxxxxxxxxxxxxxxxxxxxxxxxxxxxxxxxxxxx | rnbqkbnr/pppppppp/8/8/4P3/8/PPPP1PPP/RNBQKBNR b KQkq e3 0 1 | begins no token\n",
         1,
     ),
     (
         &["verify", "--explain"],
         b"1. e4 &xxxxxxxxxxxxxxxxxxxxxxxxxxxxxxxxxxxxxxxx *",
-        b"game 1: bad token at byte 6\n# line 1 column 7 &xxxxxxxxxxxxxxxxxxxxxxxxxxxxxxxxxxxxxxx | rnbqkbnr/pppppppp/8/8/4P3/8/PPPP1PPP/RNBQKBNR b KQkq e3 0 1\n",
+        b"game 1: bad token at byte 6\n# line 1 column 7 &xxxxxxxxxxxxxxxxxxxxxxxxxxxxxxxxxxxxxxx | rnbqkbnr/pppppppp/8/8/4P3/8/PPPP1PPP/RNBQKBNR b KQkq e3 0 1 | begins no token\n",
         1,
     ),
     (
         &["verify", "--keep-going", "--explain"],
         b"1. e4 &xxxxxxxxxxxxxxxxxxxxxxxxxxxxxxxxxxxxxxx\n[Event \"b\"]\n&xxxxxxxxxxxxxxxxxxxxxxxxxxxxxxxxxxxxxxy",
-        b"game 1: bad token at byte 6\n# line 1 column 7 &xxxxxxxxxxxxxxxxxxxxxxxxxxxxxxxxxxxxxxx | rnbqkbnr/pppppppp/8/8/4P3/8/PPPP1PPP/RNBQKBNR b KQkq e3 0 1\ngame 2: bad token at byte 59\n# line 3 column 1 &xxxxxxxxxxxxxxxxxxxxxxxxxxxxxxxxxxxxxxy | rnbqkbnr/pppppppp/8/8/8/8/PPPPPPPP/RNBQKBNR w KQkq - 0 1\ngames 0 half-moves 0 faults 2\n",
+        b"game 1: bad token at byte 6\n# line 1 column 7 &xxxxxxxxxxxxxxxxxxxxxxxxxxxxxxxxxxxxxxx | rnbqkbnr/pppppppp/8/8/4P3/8/PPPP1PPP/RNBQKBNR b KQkq e3 0 1 | begins no token\ngame 2: bad token at byte 59\n# line 3 column 1 &xxxxxxxxxxxxxxxxxxxxxxxxxxxxxxxxxxxxxxy | rnbqkbnr/pppppppp/8/8/8/8/PPPPPPPP/RNBQKBNR w KQkq - 0 1 | begins no token\ngames 0 half-moves 0 faults 2\n",
         1,
     ),
     (
         &["verify", "--explain"],
         b"&xxxxxxxxxxxxxxxxxxxxxxxxxxxxxxxxxxxxxxxx",
-        b"game 1: bad token at byte 0\n# line 1 column 1 &xxxxxxxxxxxxxxxxxxxxxxxxxxxxxxxxxxxxxxx | rnbqkbnr/pppppppp/8/8/8/8/PPPPPPPP/RNBQKBNR w KQkq - 0 1\n",
+        b"game 1: bad token at byte 0\n# line 1 column 1 &xxxxxxxxxxxxxxxxxxxxxxxxxxxxxxxxxxxxxxx | rnbqkbnr/pppppppp/8/8/8/8/PPPPPPPP/RNBQKBNR w KQkq - 0 1 | begins no token\n",
         1,
     ),
     // Bytes that are no visible characters.
     (
         &["verify", "--explain"],
         b"\xe9\x01 *",
-        b"game 1: bad token at byte 0\n# line 1 column 1 ?? | rnbqkbnr/pppppppp/8/8/8/8/PPPPPPPP/RNBQKBNR w KQkq - 0 1\n",
+        b"game 1: bad token at byte 0\n# line 1 column 1 ?? | rnbqkbnr/pppppppp/8/8/8/8/PPPPPPPP/RNBQKBNR w KQkq - 0 1 | begins no token\n",
         1,
     ),
     (
         &["verify", "--explain"],
         b"1. e4 &!~\x7f\x80\xff\x0b\x0c\x1f\t*",
-        b"game 1: bad token at byte 6\n# line 1 column 7 &!~?????? | rnbqkbnr/pppppppp/8/8/4P3/8/PPPP1PPP/RNBQKBNR b KQkq e3 0 1\n",
+        b"game 1: bad token at byte 6\n# line 1 column 7 &!~?????? | rnbqkbnr/pppppppp/8/8/4P3/8/PPPP1PPP/RNBQKBNR b KQkq e3 0 1 | begins no token\n",
         1,
     ),
     (
         &["verify", "--explain"],
         b"1. e4 &\xe2\x99\x9e\r\n*",
-        b"game 1: bad token at byte 6\n# line 1 column 7 &??? | rnbqkbnr/pppppppp/8/8/4P3/8/PPPP1PPP/RNBQKBNR b KQkq e3 0 1\n",
+        b"game 1: bad token at byte 6\n# line 1 column 7 &??? | rnbqkbnr/pppppppp/8/8/4P3/8/PPPP1PPP/RNBQKBNR b KQkq e3 0 1 | begins no token\n",
         1,
     ),
     // Positions of Chess960.
@@ -315,7 +315,7 @@ const LONG: [(&[u8], usize, &[u8], &[u8]); 2] = [
         b"1. e4 *\n\n[Site \"x\"]\n{",
         16_777_216,
         b"\n[Event \"c\"]\r\n* & *",
-        b"game 1: 1 half-moves, *\ngame 2: too long at byte 9\n# line 3 column 1 [Site\ngame 3: 0 half-moves, *\ngame 4: bad token at byte 16777253\n# line 6 column 3 & | rnbqkbnr/pppppppp/8/8/8/8/PPPPPPPP/RNBQKBNR w KQkq - 0 1\ngames 2 half-moves 1 faults 2\n",
+        b"game 1: 1 half-moves, *\ngame 2: too long at byte 9\n# line 3 column 1 [Site\ngame 3: 0 half-moves, *\ngame 4: bad token at byte 16777253\n# line 6 column 3 & | rnbqkbnr/pppppppp/8/8/8/8/PPPPPPPP/RNBQKBNR w KQkq - 0 1 | begins no token\ngames 2 half-moves 1 faults 2\n",
     ),
 ];
 
@@ -343,7 +343,7 @@ const LONG_WORDS: [(&[u8], usize, &[u8], &[u8]); 2] = [
         b"\n",
         16_777_216,
         b"\n[Site \"",
-        b"game 1: too long at byte 0\n# line 1 column 1 (end)\ngame 2: bad tag at byte 16777218\n# line 3 column 1 [Site\ngames 0 half-moves 0 faults 2\n",
+        b"game 1: too long at byte 0\n# line 1 column 1 (end)\ngame 2: bad tag at byte 16777218\n# line 3 column 1 [Site | string not closed\ngames 0 half-moves 0 faults 2\n",
     ),
     // Bytes that are no visible characters.
     (

@@ -1,3 +1,4 @@
+pub mod WrongParts
 pub mod Explanations
 pub mod Collection
 pub mod GameFaults

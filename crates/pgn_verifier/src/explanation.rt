@@ -9,16 +9,18 @@ ghost use Rattle.chess_fen.specs.Writing.{fen};
 ghost use Rattle.chess_game.specs.Game.{current, verdict_now};
 ghost use Rattle.chess_pgn.specs.declared.read.PgnFaultKind.TheVariants.{TooLong};
 ghost use Rattle.pgn_pieces.specs.Places.{line_ends, last_line_len, line_of, column_of};
-ghost use Rattle.pgn_verifier.specs.Explanations.{has_position, verdict_reason, pgn_reason, reason, part, explained, explanation_text, explanation_at, explanation_line, too_long_explained, shown};
+ghost use Rattle.pgn_verifier.specs.Explanations.{part_offset, shown_part, has_position, verdict_reason, pgn_reason, reason, part, explained, explanation_text, explanation_at, explanation_line, too_long_explained, shown};
 ghost use Rattle.chess_game.specs.Results.{outcome_text};
 ghost use Rattle.pgn_verifier.specs.Reports.{fault_line};
 ghost use Rattle.pgn_verifier.specs.declared.game_fault.FaultKind.TheVariants.{Pgn};
 ghost use Rattle.pgn_verifier.specs.ties.OnTheWay.{StandsIf, moved};
 ghost use Rattle.pgn_verifier.specs.declared.explanation.TheConstants.{FAULT_LINES_LEN};
 
+use crate::fen_field::{fen_text, field_offset, wrong_field};
 use crate::game_fault::{FaultKind, GameFault, fault_name};
-use crate::shown::shown;
+use crate::shown::{Shown, shown, shown_field};
 use crate::start::TextStart;
+use crate::token_reason::{bad_tag_reason, token_reason};
 use arrayvec::ArrayVec;
 use byte_devices::{append, append_number};
 use chess_fen::write_fen;
@@ -26,8 +28,8 @@ use chess_game::{Game, Outcome, Verdict};
 use chess_moves::Board;
 use chess_pgn::PgnFaultKind;
 
-// The most bytes of the lines on a fault: of its own 100, and of the one that explains it 300.
-const FAULT_LINES_LEN: usize = 400;
+// The most bytes of the lines on a fault: of its own 100, and of the one that explains it 320.
+const FAULT_LINES_LEN: usize = 420;
 
 /// The lines on a fault.
 pub(crate) type FaultLines = ArrayVec<u8, FAULT_LINES_LEN>;
@@ -80,6 +82,30 @@ fn column_after(before: &[u8]) -> usize
     last_line_len(before) + 1
 }
 
+// How many bytes after a fault's byte the part begins that is wrong: of a FEN the field that the fault is about, else
+// the byte itself. `text` is the text from the byte on.
+fn part_offset(kind: FaultKind, text: &[u8]) -> usize
+    ensures value { result ≡ part_offset kind text.now }
+    ensures within { result ≤ length text.now }
+{
+    match kind {
+        FaultKind::Pgn(PgnFaultKind::BadFen(fault)) => field_offset(fault, fen_text(text)),
+        _ => 0,
+    }
+}
+
+// What is shown of the part that is wrong; `text` is the text from the fault's byte on.
+fn shown_part(kind: FaultKind, text: &[u8]) -> Shown
+    ensures { result.items ≡ shown_part kind text.now }
+{
+    match kind {
+        FaultKind::Pgn(PgnFaultKind::BadFen(fault)) => {
+            shown_field(wrong_field(fault, fen_text(text)))
+        }
+        _ => shown(text),
+    }
+}
+
 // Appends ` | ` and the board's verdict, such as `0-1 {Black mates}`; nothing without one.
 fn append_verdict(lines: &mut FaultLines, verdict: Option<Verdict>)
     requires { array_vec_len lines.old + 80 ≤ FAULT_LINES_LEN }
@@ -95,17 +121,33 @@ fn append_verdict(lines: &mut FaultLines, verdict: Option<Verdict>)
     }
 }
 
-// Appends ` | ` and the reason for a fault of reading a game's text; nothing if there is none.
-fn append_pgn_reason(lines: &mut FaultLines, kind: PgnFaultKind, verdict: Option<Verdict>)
+// Appends ` | ` and a reason.
+fn append_part(lines: &mut FaultLines, reason: &[u8])
+    requires room { array_vec_len lines.old + 80 ≤ FAULT_LINES_LEN }
+    requires short { length reason.now ≤ 77 }
+    ensures text { lines.new.items ≡ lines.old.items ++ part (Some reason.now) }
+    ensures len { array_vec_len lines.new ≤ array_vec_len lines.old + 80 }
+{
+    append(lines, b" | ");
+    append(lines, reason);
+}
+
+// Appends ` | ` and the reason for a fault of reading a game's text; nothing if there is none. `text` is the text from
+// the fault's byte on.
+fn append_pgn_reason(
+    lines: &mut FaultLines,
+    kind: PgnFaultKind,
+    text: &[u8],
+    verdict: Option<Verdict>,
+)
     requires { array_vec_len lines.old + 80 ≤ FAULT_LINES_LEN }
-    ensures text { lines.new.items ≡ lines.old.items ++ part (pgn_reason kind verdict) }
+    ensures text { lines.new.items ≡ lines.old.items ++ part (pgn_reason kind text.now verdict) }
     ensures len { array_vec_len lines.new ≤ array_vec_len lines.old + 80 }
 {
     match kind {
-        PgnFaultKind::BadFen(fault) => {
-            append(lines, b" | ");
-            append(lines, fault.name().as_bytes());
-        }
+        PgnFaultKind::BadTag => append_part(lines, bad_tag_reason(text)),
+        PgnFaultKind::BadFen(fault) => append_part(lines, fault.name().as_bytes()),
+        PgnFaultKind::BadToken => append_part(lines, token_reason(text)),
         PgnFaultKind::AfterEnd => append_verdict(lines, verdict),
         _ => {}
     }
@@ -132,7 +174,7 @@ fn append_reason(lines: &mut FaultLines, kind: FaultKind, text: &[u8], verdict: 
     ensures len { array_vec_len lines.new ≤ array_vec_len lines.old + 80 }
 {
     match kind {
-        FaultKind::Pgn(kind) => append_pgn_reason(lines, kind, verdict),
+        FaultKind::Pgn(kind) => append_pgn_reason(lines, kind, text, verdict),
         FaultKind::ResultDiffers { tag_len, outcome } => {
             append_results(lines, &text[..tag_len.min(text.len())], outcome)
         }
@@ -177,8 +219,8 @@ fn append_place(lines: &mut FaultLines, line: usize, column: usize)
     append(lines, b" ");
 }
 
-// Appends the line that explains a fault of the game, on this line and in this column; `text` is the text from its
-// byte on.
+// Appends the line that explains a fault of the game, where the part that is wrong is on this line and in this column;
+// `text` is the text from the fault's byte on.
 fn append_explanation<B: Board>(
     lines: &mut FaultLines,
     line: usize,
@@ -192,7 +234,7 @@ fn append_explanation<B: Board>(
         ≡ lines.old.items ++ explanation_at line column (explained game.now.state text.now kind) }
 {
     append_place(lines, line, column);
-    append(lines, shown(text).as_slice());
+    append(lines, shown_part(kind, text).as_slice());
     append_position(lines, kind, game);
     append_reason(lines, kind, text, game.verdict());
     lines.push(b'\n');
@@ -218,17 +260,11 @@ pub(crate) fn fault_lines<B: Board>(
 {
     let mut lines = fault_line(number, fault.moved(start.offset));
     if explain {
-        let before = &text[..fault.offset];
+        let rest = &text[fault.offset..];
+        let before = &text[..fault.offset + part_offset(fault.kind, rest)];
         let line = line_after(start.line, before);
         let column = column_after(before);
-        append_explanation(
-            &mut lines,
-            line,
-            column,
-            &text[fault.offset..],
-            fault.kind,
-            game,
-        );
+        append_explanation(&mut lines, line, column, rest, fault.kind, game);
     }
     lines
 }

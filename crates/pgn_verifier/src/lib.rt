@@ -19,6 +19,7 @@ mod collection;
 mod contradiction;
 mod explanation;
 mod fault;
+mod fen_field;
 mod game_fault;
 mod games;
 mod options;
@@ -26,6 +27,7 @@ mod report;
 mod shown;
 mod start;
 mod tally;
+mod token_reason;
 
 pub use buffered::verify;
 pub use collection::verify_collection;

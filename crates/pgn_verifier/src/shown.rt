@@ -4,29 +4,33 @@ ghost use Rattle.std.specs.Prelude.{◌≡◌, ◌≤◌, ◌+◌, ◌++◌, ◌
 ghost use Rattle.std.specs.List.{prefix_len};
 ghost use Rattle.arrayvec.specs.ArrayVec.{array_vec_len};
 ghost use Rattle.chess_pgn.specs.Tokens.{is_white_space};
-ghost use Rattle.pgn_verifier.specs.Explanations.{shown_byte, first_word, shown};
+ghost use Rattle.pgn_verifier.specs.declared.shown.TheConstants.{FIELD_LEN};
+ghost use Rattle.pgn_verifier.specs.Explanations.{shown_byte, first_word, shown_word, shown};
 
 use arrayvec::ArrayVec;
 
-// The most bytes of a word that is shown.
+// The most bytes of a word that are shown.
 const WORD_LEN: usize = 40;
 
-/// A word as it is shown.
-pub(crate) type Shown = ArrayVec<u8, WORD_LEN>;
+// The most bytes of a FEN's field that are shown.
+const FIELD_LEN: usize = 80;
 
-// Whether a byte is white space in PGN: a space, a tab or the end of a line.
-fn is_white_space(byte: u8) -> bool
+/// A word or a field as it is shown.
+pub(crate) type Shown = ArrayVec<u8, FIELD_LEN>;
+
+/// Whether a byte is white space in PGN: a space, a tab or the end of a line.
+pub(crate) fn is_white_space(byte: u8) -> bool
     ensures { result ≡ is_white_space byte }
 {
     byte == b' ' || byte == b'\t' || byte == b'\n' || byte == b'\r'
 }
 
-// The first bytes of a text, at most as many as are shown.
-fn first_bytes(text: &[u8]) -> &[u8]
-    ensures value { result.now ≡ take 40 text.now }
-    ensures few { length result.now ≤ 40 }
+// The first bytes of a text, at most so many.
+fn first_bytes(most: usize, text: &[u8]) -> &[u8]
+    ensures value { result.now ≡ take most text.now }
+    ensures few { length result.now ≤ most }
 {
-    &text[..WORD_LEN.min(text.len())]
+    &text[..most.min(text.len())]
 }
 
 // How many bytes a text has before its first white space.
@@ -44,7 +48,7 @@ fn first_word(text: &[u8]) -> &[u8]
     ensures value { result.now ≡ first_word text.now }
     ensures few { length result.now ≤ 40 }
 {
-    let text = first_bytes(text);
+    let text = first_bytes(WORD_LEN, text);
     &text[..word_len(text)]
 }
 
@@ -57,8 +61,9 @@ fn shown_byte(byte: u8) -> u8
 
 // The bytes of a word as they are shown.
 fn shown_bytes(word: &[u8]) -> Shown
-    requires { length word.now ≤ 40 }
-    ensures { result.items ≡ map shown_byte word.now }
+    requires { length word.now ≤ FIELD_LEN }
+    ensures text { result.items ≡ map shown_byte word.now }
+    ensures len { array_vec_len result ≡ length word.now }
 {
     let mut shown = Shown::new();
     for byte in word {
@@ -67,14 +72,29 @@ fn shown_bytes(word: &[u8]) -> Shown
     shown
 }
 
-/// The first word of a text as it is shown, at most 40 bytes: bytes outside 33 to 126 are `?`, and an empty word is
-/// `(end)`.
-pub(crate) fn shown(text: &[u8]) -> Shown
-    ensures { result.items ≡ shown text.now }
+// A word as it is shown: bytes outside 33 to 126 are `?`, and an empty word is `(end)`.
+fn shown_word(word: &[u8]) -> Shown
+    requires { length word.now ≤ FIELD_LEN }
+    ensures text { result.items ≡ shown_word word.now }
+    ensures len { array_vec_len result ≤ 5 + length word.now }
 {
-    let word = first_word(text);
     if word.is_empty() {
         return shown_bytes(b"(end)");
     }
     shown_bytes(word)
+}
+
+/// The first word of a text as it is shown, at most 40 bytes.
+pub(crate) fn shown(text: &[u8]) -> Shown
+    ensures text { result.items ≡ shown text.now }
+    ensures len { array_vec_len result ≤ 45 }
+{
+    shown_word(first_word(text))
+}
+
+/// A FEN's field as it is shown, at most 80 bytes of it.
+pub(crate) fn shown_field(field: &[u8]) -> Shown
+    ensures { result.items ≡ shown_word (take 80 field.now) }
+{
+    shown_word(first_bytes(FIELD_LEN, field))
 }

@@ -172,6 +172,252 @@ fn faults_in_pieces_are_explained(rt: HostRuntime) {
     );
 }
 
+// A FEN of each fault: the text, and what is written of it.
+const FENS: [(&[u8], &[u8]); 23] = [
+    (
+        b"[FEN \"4k3/8/8/8/8/8/8/4K3 w - - 0\"] *",
+        b"game 1: bad FEN at byte 6\n# line 1 column 7 4k3/8/8/8/8/8/8/4K3 | fields\n",
+    ),
+    (
+        b"[FEN \"\"] *",
+        b"game 1: bad FEN at byte 6\n# line 1 column 7 (end) | fields\n",
+    ),
+    (
+        b"[FEN \"  \"] *",
+        b"game 1: bad FEN at byte 6\n# line 1 column 9 (end) | fields\n",
+    ),
+    (
+        b"[FEN \"4k3/8/8/8/8/8/8/4K3\tw - - 0 1\"] *",
+        b"game 1: bad FEN at byte 6\n# line 1 column 7 4k3/8/8/8/8/8/8/4K3?w | fields\n",
+    ),
+    (
+        b"[FEN \"4k3/8/8/8/8/8/8/4K4 w - - 0 1\"] *",
+        b"game 1: bad FEN at byte 6\n# line 1 column 7 4k3/8/8/8/8/8/8/4K4 | placement\n",
+    ),
+    (
+        b"[FEN \"8/8\\\" w - - 0 1\"] *",
+        b"game 1: bad FEN at byte 6\n# line 1 column 7 8/8\\ | placement\n",
+    ),
+    (
+        b"[FEN \"4k3/8/8/8/8/8/8/4K3 white - - 0 1\"] *",
+        b"game 1: bad FEN at byte 6\n# line 1 column 27 white | side\n",
+    ),
+    (
+        b"[FEN \"4k3/8/8/8/8/8/8/4K3 w KX - 0 1\"] *",
+        b"game 1: bad FEN at byte 6\n# line 1 column 29 KX | castling\n",
+    ),
+    (
+        b"[FEN \"4k3/8/8/8/8/8/8/4K2R w KQ - 0 1\"] *",
+        b"game 1: bad FEN at byte 6\n# line 1 column 30 KQ | castling\n",
+    ),
+    (
+        b"[FEN \"1rr3k1/p3ppbp/3pbnp1/7P/qP1BP1P1/5P2/1PPQ4/1NKR1B1R b Kq - 0 1\"] *",
+        b"game 1: bad FEN at byte 6\n# line 1 column 61 Kq | castling\n",
+    ),
+    (
+        b"[FEN \"  4k3/8/8/8/8/8/8/4K3   b  Q - 0 1\"] *",
+        b"game 1: bad FEN at byte 6\n# line 1 column 34 Q | castling\n",
+    ),
+    (
+        b"[FEN \"4k3/8/8/8/8/8/8/4K3 w - e4 0 1\"] *",
+        b"game 1: bad FEN at byte 6\n# line 1 column 31 e4 | en passant\n",
+    ),
+    (
+        b"[Event \"a\"]\r\n[Site \"b\"]\r\n[FEN \"4k3/8/8/8/8/8/8/4K3 w - e6 0 1\"] *",
+        b"game 1: bad FEN at byte 31\n# line 3 column 31 e6 | en passant\n",
+    ),
+    (
+        b"[FEN \"4k3/8/8/8/8/8/8/4K3 w - - x 1\"] *",
+        b"game 1: bad FEN at byte 6\n# line 1 column 33 x | counters\n",
+    ),
+    (
+        b"[FEN \"4k3/8/8/8/8/8/8/4K3 w - - -1 y\"] *",
+        b"game 1: bad FEN at byte 6\n# line 1 column 33 -1 | counters\n",
+    ),
+    (
+        b"[FEN \"4k3/8/8/8/8/8/8/4K3 w - - 0 1000000\"] *",
+        b"game 1: bad FEN at byte 6\n# line 1 column 35 1000000 | counters\n",
+    ),
+    (
+        b"[FEN \"4k3/8/8/8/8/8/8/4K3 w - - 0 \xc2\xbd \"] *",
+        b"game 1: bad FEN at byte 6\n# line 1 column 35 ?? | counters\n",
+    ),
+    (
+        b"[FEN \"4k3/8/8/8/8/8/8/8 w - - 0 1\"] *",
+        b"game 1: bad FEN at byte 6\n# line 1 column 7 4k3/8/8/8/8/8/8/8 | kings\n",
+    ),
+    (
+        b"[FEN \"PNBRQPNB/PNBRQPNB/PNBRQPNB/PNBRQPNB/PNBRQPNB/PNBRQPNB/PNBRQPNB/PNBRQPNB w - -\"] *",
+        b"game 1: bad FEN at byte 6\n# line 1 column 7 PNBRQPNB/PNBRQPNB/PNBRQPNB/PNBRQPNB/PNBRQPNB/PNBRQPNB/PNBRQPNB/PNBRQPNB | kings\n",
+    ),
+    (
+        b"[FEN \"P3k3/8/8/8/8/8/8/4K3 w - - 0 1\"] *",
+        b"game 1: bad FEN at byte 6\n# line 1 column 7 P3k3/8/8/8/8/8/8/4K3 | pawns\n",
+    ),
+    (
+        b"[FEN \"4k3/8/8/8/8/N7/NNNNNNNN/NNNNKNNN w - - 0 1\"] *",
+        b"game 1: bad FEN at byte 6\n# line 1 column 7 4k3/8/8/8/8/N7/NNNNNNNN/NNNNKNNN | men\n",
+    ),
+    (
+        b"[FEN \"4k3/8/8/8/8/8/8/4R1K1 w - - 0 1\"] *",
+        b"game 1: bad FEN at byte 6\n# line 1 column 7 4k3/8/8/8/8/8/8/4R1K1 | check\n",
+    ),
+    (
+        b"[FEN \"111111111111111111111111111111111111111111111111111111111111111111111111111111111 w - - 0 1\"] *",
+        b"game 1: bad FEN at byte 6\n# line 1 column 7 11111111111111111111111111111111111111111111111111111111111111111111111111111111 | placement\n",
+    ),
+];
+
+// Each text of a table has a fault, which is explained by these lines.
+fn check_explained(rt: &impl Abort, host: &HostRuntime, rows: &[(&'static [u8], &[u8])]) {
+    for (text, lines) in rows {
+        let given = Given {
+            text,
+            cut: 7,
+            fails_at: 0,
+        };
+        let wanted = Ok(Verified::FaultReported);
+        check(rt, host, false, EXPLAINED, given, wanted, lines);
+    }
+}
+
+// The field that the fault is about is shown.
+#[test]
+fn fens_are_explained(rt: HostRuntime) {
+    check_explained(&rt, &rt, &FENS);
+}
+
+// Bad tags, and what is written of them.
+const TAGS: [(&[u8], &[u8]); 18] = [
+    (
+        b"[",
+        b"game 1: bad tag at byte 0\n# line 1 column 1 [ | no name\n",
+    ),
+    (
+        b"[\"x\"]",
+        b"game 1: bad tag at byte 0\n# line 1 column 1 [\"x\"] | no name\n",
+    ),
+    (
+        b"[%clk 0:01:00]",
+        b"game 1: bad tag at byte 0\n# line 1 column 1 [%clk | no name\n",
+    ),
+    (
+        b"[\n%\n",
+        b"game 1: bad tag at byte 0\n# line 1 column 1 [ | no name\n",
+    ),
+    (
+        b"[Event]",
+        b"game 1: bad tag at byte 0\n# line 1 column 1 [Event] | no value\n",
+    ),
+    (
+        b"[Event x]",
+        b"game 1: bad tag at byte 0\n# line 1 column 1 [Event | no value\n",
+    ),
+    (
+        b"[Event 'x']",
+        b"game 1: bad tag at byte 0\n# line 1 column 1 [Event | no value\n",
+    ),
+    (
+        b"[Event\n%\"x\"]",
+        b"game 1: bad tag at byte 0\n# line 1 column 1 [Event | no value\n",
+    ),
+    (
+        b"[Event %\"x\"]",
+        b"game 1: bad tag at byte 0\n# line 1 column 1 [Event | no value\n",
+    ),
+    (
+        b"[Event \"x]\n\"] *",
+        b"game 1: bad tag at byte 0\n# line 1 column 1 [Event | string not closed\n",
+    ),
+    (
+        b"[Event \"x",
+        b"game 1: bad tag at byte 0\n# line 1 column 1 [Event | string not closed\n",
+    ),
+    (
+        b"[Event \"x\\\"] *",
+        b"game 1: bad tag at byte 0\n# line 1 column 1 [Event | string not closed\n",
+    ),
+    (
+        b"[Event \"x\\\n\"]",
+        b"game 1: bad tag at byte 0\n# line 1 column 1 [Event | string not closed\n",
+    ),
+    (
+        b"[\n%]\nEvent \"",
+        b"game 1: bad tag at byte 0\n# line 1 column 1 [ | string not closed\n",
+    ),
+    (
+        b"[White \"\"Socrates Expert\"\"]",
+        b"game 1: bad tag at byte 0\n# line 1 column 1 [White | no bracket after the value\n",
+    ),
+    (
+        b"[Event \"x\"",
+        b"game 1: bad tag at byte 0\n# line 1 column 1 [Event | no bracket after the value\n",
+    ),
+    (
+        b"[ Event\t\"x\\\\\"\n% ]\n 1. e4 *",
+        b"game 1: bad tag at byte 0\n# line 1 column 1 [ | no bracket after the value\n",
+    ),
+    (
+        b"[Event \"x\" \"y\"]",
+        b"game 1: bad tag at byte 0\n# line 1 column 1 [Event | no bracket after the value\n",
+    ),
+];
+
+// The first part that is missing is the reason.
+#[test]
+fn tags_are_explained(rt: HostRuntime) {
+    check_explained(&rt, &rt, &TAGS);
+}
+
+// Bad tokens, and what is written of them.
+const TOKENS: [(&[u8], &[u8]); 10] = [
+    (
+        b"1. e4 & *",
+        b"game 1: bad token at byte 6\n# line 1 column 7 & | rnbqkbnr/pppppppp/8/8/4P3/8/PPPP1PPP/RNBQKBNR b KQkq e3 0 1 | begins no token\n",
+    ),
+    (
+        b"]",
+        b"game 1: bad token at byte 0\n# line 1 column 1 ] | rnbqkbnr/pppppppp/8/8/8/8/PPPPPPPP/RNBQKBNR w KQkq - 0 1 | begins no token\n",
+    ),
+    (
+        b"} e4 *",
+        b"game 1: bad token at byte 0\n# line 1 column 1 } | rnbqkbnr/pppppppp/8/8/8/8/PPPPPPPP/RNBQKBNR w KQkq - 0 1 | begins no token\n",
+    ),
+    (
+        b"1. e4 1... )\n*",
+        b"game 1: bad token at byte 11\n# line 1 column 12 ) | rnbqkbnr/pppppppp/8/8/4P3/8/PPPP1PPP/RNBQKBNR b KQkq e3 0 1 | begins no token\n",
+    ),
+    (
+        b"\xe2\x99\x98f3 *",
+        b"game 1: bad token at byte 0\n# line 1 column 1 ???f3 | rnbqkbnr/pppppppp/8/8/8/8/PPPPPPPP/RNBQKBNR w KQkq - 0 1 | begins no token\n",
+    ),
+    (
+        b"1. e4\n1... --\n2. d4 *",
+        b"game 1: bad token at byte 11\n# line 2 column 6 -- | rnbqkbnr/pppppppp/8/8/4P3/8/PPPP1PPP/RNBQKBNR b KQkq e3 0 1 | not a move\n",
+    ),
+    (
+        b"1. Sf3 *",
+        b"game 1: bad token at byte 3\n# line 1 column 4 Sf3 | rnbqkbnr/pppppppp/8/8/8/8/PPPPPPPP/RNBQKBNR w KQkq - 0 1 | not a move\n",
+    ),
+    (
+        b"1. e2-e4 *",
+        b"game 1: bad token at byte 3\n# line 1 column 4 e2-e4 | rnbqkbnr/pppppppp/8/8/8/8/PPPPPPPP/RNBQKBNR w KQkq - 0 1 | not a move\n",
+    ),
+    (
+        b"1. e9 *",
+        b"game 1: bad token at byte 3\n# line 1 column 4 e9 | rnbqkbnr/pppppppp/8/8/8/8/PPPPPPPP/RNBQKBNR w KQkq - 0 1 | not a move\n",
+    ),
+    (
+        b"+ *",
+        b"game 1: bad token at byte 0\n# line 1 column 1 + | rnbqkbnr/pppppppp/8/8/8/8/PPPPPPPP/RNBQKBNR w KQkq - 0 1 | not a move\n",
+    ),
+];
+
+#[test]
+fn tokens_are_explained(rt: HostRuntime) {
+    check_explained(&rt, &rt, &TOKENS);
+}
+
 // What is known before a read fails is explained.
 #[test]
 fn failed_reads_leave_the_explanations_that_are_known(rt: HostRuntime) {

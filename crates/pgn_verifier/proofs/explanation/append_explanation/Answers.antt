@@ -13,6 +13,6 @@ returns g c =
       c.append_position.ensures.text,
       c.append.ensures.text,
       c.as_slice.ensures.value,
-      c.shown.ensures,
+      c.shown_part.ensures,
       c.append_place.ensures.text,
     ) (simp append_assoc)

@@ -1,5 +1,5 @@
 -- The parts were put one after the other, and the definition groups them to the right.
-use Rattle.std.proofs.Common.{append_assoc}
+use Rattle.std.proofs.Common.{◌≡◌, ◌+◌, append_assoc, arith}
 use Rattle.pgn_verifier.specs.Explanations.{explanation_at}
 use Rattle.pgn_verifier.proofs.explanation.too_long_lines.Goals as goal
 
@@ -7,14 +7,16 @@ pub returns-then-explain : goal.returns-then-explain
 unfolding explanation_at
 returns-then-explain c input stands =
     let here = stands c.if-explain.true in
+    let first : c.args.start.offset + 0 ≡ c.args.start.offset = omega arith in
     rw (
       c.if-explain.true,
+      first,
       here.line,
       here.column,
       c.push.ensures.items,
       c.append.ensures.text,
       c.as_slice.ensures.value,
-      c.shown.ensures,
+      c.shown.ensures.text,
       c.append_place.ensures.text,
       c.fault_line-lines.ensures.text,
     ) (simp append_assoc)

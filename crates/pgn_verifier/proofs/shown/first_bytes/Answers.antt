@@ -1,7 +1,8 @@
--- A text of at most 40 bytes has no others.
+-- A text with at most so many bytes has no others.
 use Rattle.std.proofs.Common.{ap, ◌∙◌, take}
 use Rattle.std.proofs.lemmas.List.{take_min}
 use Rattle.pgn_verifier.proofs.shown.first_bytes.Goals as goal
 
 pub returns-clause-value : goal.returns-clause-value
-returns-clause-value c = ap (λ n. take n c.args.text.now) c.min.ensures ∙ take_min 40 c.args.text.now
+returns-clause-value c =
+    ap (λ n. take n c.args.text.now) c.min.ensures ∙ take_min c.args.most c.args.text.now

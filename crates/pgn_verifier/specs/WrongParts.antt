@@ -1,0 +1,77 @@
+-- Which part of a game's text a fault is about, and what is wrong there (PGN standard of 1994): the field of a FEN
+-- (section 16.1.3), what a tag lacks (8.1.1), and what begins no token or is no move (7 and 8.2).
+use Rattle.std.specs.Prelude.{ℕ, zero, suc, ◌-◌, ◌==◌, Bool, false, not, List, [], ◌∷◌, length, take, take_while, drop, codes, is_some, if◌then◌else◌}
+use Rattle.std.specs.List.{prefix_len}
+use Rattle.std.specs.Option.{option_map_or}
+use Rattle.chess_base.specs.Letters.{byte, space}
+use Rattle.chess_base.specs.declared.fault.FenFault.{FenFault}
+use Rattle.chess_base.specs.declared.fault.FenFault.TheVariants.{Side, Castling, EnPassant, Counters}
+use Rattle.chess_fen.specs.Texts.{number_of}
+use Rattle.chess_pgn.specs.Tokens.{is_word_byte, after_gap, name_at, after_next, string_at}
+
+-- ---- the fields of a FEN
+
+-- the FEN at a text's front: its bytes before the first quote
+abbrev pub fen_text : List ℕ → List ℕ
+fen_text text = take_while (λ c. not (c == byte "\"")) text
+
+-- the text after the spaces at its front
+abbrev pub after_spaces : List ℕ → List ℕ
+after_spaces text = drop (prefix_len (λ c. c == space) text) text
+
+-- the text from its first space on; empty if it has none
+abbrev pub from_space : List ℕ → List ℕ
+from_space text = drop (prefix_len (λ c. not (c == space)) text) text
+
+-- a FEN from its field with this number on, 0 for the first; spaces separate the fields
+unfoldable pub from_field : ℕ → List ℕ → List ℕ
+from_field zero fen = after_spaces fen
+from_field (suc number) fen = from_field number (from_space (after_spaces fen))
+
+-- the field with this number; empty if there are fewer
+abbrev pub field_at : ℕ → List ℕ → List ℕ
+field_at number fen = take_while (λ c. not (c == space)) (from_field number fen)
+
+-- the number of the field that a FEN's fault is about. Of the counters (4 and 5) it is the first that is no number; a
+-- fault of the whole FEN, or of the pieces together, is about the first field
+abbrev pub field_number : FenFault → List ℕ → ℕ
+field_number Side fen = 1
+field_number Castling fen = 2
+field_number EnPassant fen = 3
+field_number Counters fen = if is_some (number_of (field_at 4 fen)) then 5 else 4
+field_number _ fen = 0
+
+-- the field that a FEN's fault is about
+abbrev pub wrong_field : FenFault → List ℕ → List ℕ
+wrong_field fault fen = field_at (field_number fault fen) fen
+
+-- how many bytes a FEN has before that field
+abbrev pub field_offset : FenFault → List ℕ → ℕ
+field_offset fault fen = length fen - length (from_field (field_number fault fen) fen)
+
+-- ---- tags
+
+-- what a bad tag lacks, from the text after the opening quote of its string on: the closing quote, or the tag's bracket
+abbrev pub string_reason : List ℕ → List ℕ
+string_reason string =
+    if is_some (string_at string) then codes "no bracket after the value" else codes "string not closed"
+
+-- what a bad tag lacks, from the text after its name on: a value, which begins with a quote, or what comes after it
+abbrev pub value_reason : List ℕ → List ℕ
+value_reason text = option_map_or string_reason (after_next (byte "\"") text) (codes "no value")
+
+-- what a bad tag lacks, from the text after its `[` on: a tag is `[`, a name, a string and `]`, and the first of these
+-- that is missing is the reason
+abbrev pub tag_reason : List ℕ → List ℕ
+tag_reason text = option_map_or (λ name. value_reason name.1) (name_at (after_gap false false text)) (codes "no name")
+
+-- ---- tokens
+
+-- whether the text begins with a byte of a word
+abbrev pub begins_word : List ℕ → Bool
+begins_word [] = false
+begins_word (c ∷ rest) = is_word_byte c
+
+-- what is wrong with a bad token: a word that is not a move, or a byte that begins no token
+abbrev pub token_reason : List ℕ → List ℕ
+token_reason text = if begins_word text then codes "not a move" else codes "begins no token"

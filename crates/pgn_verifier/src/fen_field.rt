@@ -1,0 +1,115 @@
+//! The field of a FEN that a fault is about.
+
+ghost use Rattle.std.specs.Prelude.{◌≡◌, ◌≤◌, ◌-◌, not, take_while, drop, length, ◌==◌};
+ghost use Rattle.std.specs.List.{prefix_len};
+ghost use Rattle.chess_base.specs.Letters.{byte, space};
+ghost use Rattle.pgn_verifier.specs.WrongParts.{fen_text, after_spaces, from_space, from_field, field_at, field_number, wrong_field, field_offset};
+
+use chess_base::FenFault;
+use text_lines::short_number;
+
+// How many spaces are at a text's front.
+fn spaces(text: &[u8]) -> usize
+    ensures value { result ≡ prefix_len (λ c. c == space) text.now }
+    ensures within { result ≤ length text.now }
+{
+    text.iter().take_while(|byte| **byte == b' ').count()
+}
+
+// How many bytes a text has before its first space.
+fn field_len(text: &[u8]) -> usize
+    ensures value { result ≡ prefix_len (λ c. not (c == space)) text.now }
+    ensures within { result ≤ length text.now }
+{
+    text.iter().take_while(|byte| **byte != b' ').count()
+}
+
+// How many bytes a text has before its first quote.
+fn fen_len(text: &[u8]) -> usize
+    ensures value { result ≡ prefix_len (λ c. not (c == byte "\"")) text.now }
+    ensures within { result ≤ length text.now }
+{
+    text.iter().take_while(|byte| **byte != b'"').count()
+}
+
+// The text after the spaces at its front.
+fn after_spaces(text: &[u8]) -> &[u8]
+    ensures value { result.now ≡ after_spaces text.now }
+    ensures shorter { length result.now ≤ length text.now }
+{
+    text.split_at(spaces(text)).1
+}
+
+// The text from its first space on; empty if it has none.
+fn from_space(text: &[u8]) -> &[u8]
+    ensures value { result.now ≡ from_space text.now }
+    ensures shorter { length result.now ≤ length text.now }
+{
+    text.split_at(field_len(text)).1
+}
+
+// A FEN from its field with this number on, 0 for the first.
+#[tactic(auto, unfolding(crate::specs::WrongParts::from_field))]
+fn from_field(number: usize, fen: &[u8]) -> &[u8]
+    ensures value { result.now ≡ from_field number fen.now }
+    ensures shorter { length result.now ≤ length fen.now }
+{
+    let mut rest = fen;
+    let mut left = number;
+    while left > 0 {
+        rest = from_space(after_spaces(rest));
+        left -= 1;
+    }
+    after_spaces(rest)
+}
+
+// A FEN's field with this number, 0 for the first; empty if there are fewer.
+fn field_at(number: usize, fen: &[u8]) -> &[u8]
+    ensures { result.now ≡ field_at number fen.now }
+{
+    let field = from_field(number, fen);
+    &field[..field_len(field)]
+}
+
+// The number of the field that a FEN's fault is about: of the counters the first that is no number, and where no field
+// alone is wrong, the first of all.
+fn field_number(fault: FenFault, fen: &[u8]) -> usize
+    ensures { result ≡ field_number fault fen.now }
+{
+    match fault {
+        FenFault::Side => 1,
+        FenFault::Castling => 2,
+        FenFault::EnPassant => 3,
+        FenFault::Counters => {
+            if short_number(field_at(4, fen), 6).is_some() {
+                5
+            } else {
+                4
+            }
+        }
+        _ => 0,
+    }
+}
+
+/// The FEN at a text's front: its bytes before the first quote.
+pub(crate) fn fen_text(text: &[u8]) -> &[u8]
+    ensures value { result.now ≡ fen_text text.now }
+    ensures shorter { length result.now ≤ length text.now }
+{
+    &text[..fen_len(text)]
+}
+
+/// The field that a FEN's fault is about.
+pub(crate) fn wrong_field(fault: FenFault, fen: &[u8]) -> &[u8]
+    ensures { result.now ≡ wrong_field fault fen.now }
+{
+    field_at(field_number(fault, fen), fen)
+}
+
+/// How many bytes a FEN has before the field that its fault is about.
+pub(crate) fn field_offset(fault: FenFault, fen: &[u8]) -> usize
+    ensures value { result ≡ field_offset fault fen.now }
+    ensures within { result ≤ length fen.now }
+{
+    fen.len() - from_field(field_number(fault, fen), fen).len()
+}
