@@ -1,10 +1,10 @@
 use Rattle.std.proofs.Common.{◌≡◌, ◌-◌, length, drop, take}
 use Rattle.chess_pgn.specs.Tokens.{onto, string_at}
-use Rattle.chess_pgn.proofs.Strings.{string_behind}
+use Rattle.chess_pgn.proofs.Strings.{string_after}
 use Rattle.pgn_verifier.proofs.token_reason.is_closed.Given as goal
 
 abbrev pub invariant-loop-offset : goal.invariant-loop-offset
-invariant-loop-offset l = onto (take l.offset l.text) (string_behind l.is_kept (drop l.offset l.text))
+invariant-loop-offset l = onto (take l.offset l.text) (string_after l.is_kept (drop l.offset l.text))
     ≡ string_at l.text
 
 abbrev pub decreases-loop-offset : goal.decreases-loop-offset
