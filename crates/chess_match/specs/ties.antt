@@ -6,3 +6,5 @@ pub mod Steps
 pub mod Reported
 pub mod Awaits
 pub mod Delivering
+pub mod SameEffects
+pub mod TranscriptActs

@@ -32,9 +32,10 @@ mod turn;
 mod witness;
 
 pub use laws::{
-    clocks_do_not_underflow, each_is_sent_the_others, lines_are_few, moves_are_read,
-    moves_are_sent_once, moves_sent_are_known, notes_have_all, times_are_clocks,
-    transcript_is_the_only_one, used_times_are_differences,
+    acts_are_in_order, clocks_do_not_underflow, each_is_sent_the_others, lines_are_few,
+    matches_have_transcripts, moves_are_read, moves_are_sent_once, moves_sent_are_known,
+    notes_have_all, runs_are_played, times_are_clocks, transcript_is_the_only_one,
+    used_times_are_differences,
 };
 pub use moments::Moments;
 pub use phase::Phase;

@@ -1,0 +1,8 @@
+use Rattle.chess_match.proofs.ActsInOrder.{none_due, read_in_order}
+use Rattle.chess_match.proofs.laws.acts_are_in_order.Goals as goal
+
+pub returns-clause-lines : goal.returns-clause-lines
+returns-clause-lines c = read_in_order
+
+pub returns-clause-others : goal.returns-clause-others
+returns-clause-others c = none_due

@@ -1,0 +1,91 @@
+-- What the arbiter does at its devices, act by act; and which lists of acts are a match.
+use Rattle.std.specs.Prelude.{◌≡◌, ℕ, Bool, true, false, if◌then◌else◌, List, [], ◌∷◌, ◌++◌, Option}
+use Rattle.chess_base.specs.declared.man.Colour.{Colour}
+use Rattle.chess_base.specs.declared.man.Colour.TheVariants.{White}
+use Rattle.chess_base.specs.Men.{other, same_colour}
+use Rattle.chess_match.specs.Match.{Line, Opened, OutputEnds, FailsToRead, FailsToWrite}
+use Rattle.chess_match.specs.Rules.{Rules}
+use Rattle.chess_match.specs.Sent.{SentLine}
+use Rattle.chess_match.specs.Effects.{Match, Phase, Handshake, Setup, Opening, BeforeMove, AfterMove, Over, Effect, effect, beginning}
+
+-- a block: all lines that one side is sent at one event
+pub record Block : Type 0 where
+  pub to : Colour
+  pub lines : List SentLine
+
+-- one act of the arbiter at its devices, which are both engines and the clock
+pub data Act : Type 0 where
+  -- a block was written and flushed
+  Sends : (block : Block) → Act
+  -- a write or a flush failed, while a block was sent
+  SendFails : (block : Block) → Act
+  -- a line of that side's engine was read (`None`: it was too long)
+  Reads : (side : Colour) → (text : Option (List ℕ)) → Act
+  -- that side's engine ended its output
+  ReadsEnd : (side : Colour) → Act
+  -- a read from that side's engine failed
+  ReadFails : (side : Colour) → Act
+  -- the clock was read, after a line or an opening of that side, and showed this moment
+  ReadsClock : (side : Colour) → (moment : ℕ) → Act
+
+-- ---- what is due
+
+-- the block of these lines; none if there are none
+abbrev pub block_of : Colour → List SentLine → List Block
+block_of S [] = []
+block_of S (l ∷ ls) = record { to = S; lines = l ∷ ls } ∷ []
+
+-- the blocks of these lines for each side, that of the side `first` first
+abbrev pub blocks_from : Colour → (Colour → List SentLine) → List Block
+blocks_from first lines = block_of first (lines first) ++ block_of (other first) (lines (other first))
+
+-- ---- what may come next
+
+-- whether a line of the side `S` is awaited
+abbrev pub awaits_line : Phase → Colour → Bool
+awaits_line (Handshake side) S = same_colour side S
+awaits_line (Setup side) S = same_colour side S
+awaits_line (BeforeMove side opened) S = same_colour side S
+awaits_line (AfterMove side) S = same_colour side S
+awaits_line _ S = false
+
+-- whether the match has ended
+abbrev pub is_over : Phase → Bool
+is_over (Over reason) = true
+is_over _ = false
+
+-- the blocks that are due when a line of the side `S` did this: that side is written to first; at the end White is
+abbrev pub blocks_after : Colour → Effect → List Block
+blocks_after S done = blocks_from (if is_over done.after.phase then White else S) done.to
+
+-- a write to the side `S` failed in the match `m`, when the blocks `due` were still to be sent: the match after it, and
+-- what is then due. It ends the match; a match that is over goes on to its end
+abbrev pub after_failed_send : Rules → Match → List Block → Colour → Match × List Block
+after_failed_send r m due S =
+    let done = effect r m (FailsToWrite S) in
+    if is_over m.phase then (m, due) else (done.after, blocks_from White done.to)
+
+-- these acts are what follows in the match `m`, when the blocks `due` are still to be sent, up to its end as `final`.
+-- First is sent what is due, block by block. Only when nothing is due, a line is read and then the clock; or the clock,
+-- once the opening of a turn is sent; or an output ends, or a read fails; or the match is over
+abbrev pub IsMatchFrom : Rules → Match → List Block → List Act → Match → Type 0
+IsMatchFrom r m (block ∷ due) (Sends sent ∷ H) final = (block ≡ sent) × IsMatchFrom r m due H final
+IsMatchFrom r m (block ∷ due) (SendFails sent ∷ H) final =
+    let next = after_failed_send r m due sent.to in (block ≡ sent) × IsMatchFrom r next.0 next.1 H final
+IsMatchFrom r m [] (Reads S text ∷ ReadsClock side moment ∷ H) final =
+    let done = effect r m (Line S text moment) in
+    (side ≡ S) × (awaits_line m.phase S ≡ true) × IsMatchFrom r done.after (blocks_after S done) H final
+IsMatchFrom r m [] (ReadsClock S moment ∷ H) final =
+    (m.phase ≡ Opening S) × IsMatchFrom r (effect r m (Opened S moment)).after [] H final
+IsMatchFrom r m [] (ReadsEnd S ∷ H) final =
+    let done = effect r m (OutputEnds S) in
+    (awaits_line m.phase S ≡ true) × IsMatchFrom r done.after (blocks_from White done.to) H final
+IsMatchFrom r m [] (ReadFails S ∷ H) final =
+    let done = effect r m (FailsToRead S) in
+    (awaits_line m.phase S ≡ true) × IsMatchFrom r done.after (blocks_from White done.to) H final
+IsMatchFrom r m [] [] final = (is_over m.phase ≡ true) × (final ≡ m)
+IsMatchFrom r m due H final = ⊥
+
+-- these acts are a match from its beginning to its end as `final`
+abbrev pub IsMatch : Rules → List Act → Match → Type 0
+IsMatch r H final = IsMatchFrom r beginning.after (blocks_from White beginning.to) H final

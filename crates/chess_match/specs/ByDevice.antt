@@ -1,0 +1,69 @@
+-- What the acts of a match did at each device, and what a witness is given of them.
+use Rattle.std.specs.Prelude.{ℕ, Bool, false, ◌||◌, nat_lt, List, [], ◌∷◌, ◌++◌, length, Option}
+use Rattle.chess_base.specs.declared.man.Colour.{Colour}
+use Rattle.chess_base.specs.Men.{same_colour}
+use Rattle.chess_match.specs.Acts.{Act, Sends, SendFails, Reads, ReadsEnd, ReadFails, ReadsClock}
+use Rattle.chess_match.specs.Match.{Line, Opened, OutputEnds, FailsToRead, FailsToWrite}
+use Rattle.chess_match.specs.Notes.{Note, Happened, Gives}
+use Rattle.chess_match.specs.Sent.{SentLine, bytes_of, is_unwritten, list_if}
+use Rattle.chess_match.specs.declared.reason.Reason.{Reason}
+
+-- ---- what was read
+
+-- the lines that were read from the engine of the side `S` (`None`: one that was too long)
+abbrev pub lines_read : Colour → List Act → List (Option (List ℕ))
+lines_read S [] = []
+lines_read S (Reads side text ∷ H) = list_if (same_colour side S) (text ∷ []) ++ lines_read S H
+lines_read S (_ ∷ H) = lines_read S H
+
+-- whether the engine of the side `S` ended its output
+abbrev pub has_ended : Colour → List Act → Bool
+has_ended S [] = false
+has_ended S (ReadsEnd side ∷ H) = same_colour side S || has_ended S H
+has_ended S (_ ∷ H) = has_ended S H
+
+-- whether a read from the engine of the side `S` failed
+abbrev pub has_failed_read : Colour → List Act → Bool
+has_failed_read S [] = false
+has_failed_read S (ReadFails side ∷ H) = same_colour side S || has_failed_read S H
+has_failed_read S (_ ∷ H) = has_failed_read S H
+
+-- the moments that the clock showed
+abbrev pub moments_shown : List Act → List ℕ
+moments_shown [] = []
+moments_shown (ReadsClock side moment ∷ H) = moment ∷ moments_shown H
+moments_shown (_ ∷ H) = moments_shown H
+
+-- ---- what was written
+
+-- the lines of the blocks that the side `S` was sent, one after another
+abbrev pub lines_sent : Colour → List Act → List SentLine
+lines_sent S [] = []
+lines_sent S (Sends block ∷ H) = list_if (same_colour block.to S) block.lines ++ lines_sent S H
+lines_sent S (_ ∷ H) = lines_sent S H
+
+-- the blocks for the side `S` that could not be sent: at most one
+abbrev pub broken_blocks : Colour → List Act → List (List SentLine)
+broken_blocks S [] = []
+broken_blocks S (SendFails block ∷ H) = list_if (same_colour block.to S) (block.lines ∷ []) ++ broken_blocks S H
+broken_blocks S (_ ∷ H) = broken_blocks S H
+
+-- whether sending a block to the side `S` failed
+abbrev pub is_broken : List Act → Colour → Bool
+is_broken H S = nat_lt 0 (length (broken_blocks S H))
+
+-- ---- what was noted
+
+-- the notes of these acts, of a match that ended for this reason: each event, and the bytes of each block, in order. A
+-- block that could not be sent is noted whole, and then the failure, if the match ended for that
+abbrev pub notes_given : Reason → List Act → List Note
+notes_given reason [] = []
+notes_given reason (Sends block ∷ H) = Gives block.to (bytes_of block.lines) ∷ notes_given reason H
+notes_given reason (SendFails block ∷ H) =
+    Gives block.to (bytes_of block.lines)
+    ∷ (list_if (is_unwritten reason block.to) (Happened (FailsToWrite block.to) ∷ []) ++ notes_given reason H)
+notes_given reason (Reads S text ∷ ReadsClock side moment ∷ H) = Happened (Line S text moment) ∷ notes_given reason H
+notes_given reason (ReadsClock S moment ∷ H) = Happened (Opened S moment) ∷ notes_given reason H
+notes_given reason (ReadsEnd S ∷ H) = Happened (OutputEnds S) ∷ notes_given reason H
+notes_given reason (ReadFails S ∷ H) = Happened (FailsToRead S) ∷ notes_given reason H
+notes_given reason (Reads S text ∷ H) = notes_given reason H

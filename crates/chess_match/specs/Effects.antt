@@ -1,0 +1,276 @@
+-- What each event of a match does: the match after it, and the lines that each side is then sent.
+use Rattle.std.specs.Prelude.{ℕ, ◌+◌, ◌-◌, ◌/◌, ◌==◌, ◌&&◌, nat_le, nat_lt, Bool, true, false, not, if◌then◌else◌, List, [], ◌∷◌, ◌++◌, length, codes, sum, Option, None, Some, is_some}
+use Rattle.std.specs.Option.{option_map_or}
+use Rattle.chess_base.specs.declared.man.Colour.{Colour}
+use Rattle.chess_base.specs.declared.man.Colour.TheVariants.{White, Black}
+use Rattle.chess_base.specs.declared.man.Move.{Move}
+use Rattle.chess_base.specs.Men.{other, same_colour}
+use Rattle.chess_game.specs.Results.{result_text}
+use Rattle.cecp_engine.specs.EngineLines.{LineKind, Features, Moves, Resigns, OffersDraw, ClaimsDraw, ClaimsWin, Rejects, Answers, line_kind}
+use Rattle.cecp_engine.specs.Items.{Item, items_of, has_done, takes, plays_fischerandom}
+use Rattle.cecp_engine.specs.Levels.{time_left}
+use Rattle.chess_match.specs.Match.{Event, Line, Opened, OutputEnds, FailsToRead, FailsToWrite, Seat}
+use Rattle.chess_match.specs.Reasons.{outcome_by_reason, comment_of}
+use Rattle.chess_match.specs.Rules.{Rules, is_fischerandom}
+use Rattle.chess_match.specs.Sent.{SentLine, Says, MoveSent, Time, Otim, list_if, answers_to, setup_lines, ping, is_unwritten}
+use Rattle.chess_match.specs.declared.reason.MatchFault.{MatchFault}
+use Rattle.chess_match.specs.declared.reason.MatchFault.TheVariants.{Ended, Read, Write, NoDone, NoPing, NoSetboard, Flood, NoVariant}
+use Rattle.chess_match.specs.declared.reason.Reason.{Reason}
+use Rattle.chess_match.specs.declared.reason.Reason.TheVariants.{Decided, Claimed, Agreed, MovesIllegally, MovesOutOfTurn, ClaimsFalsely, RejectsLegalMove, Forfeits, ForfeitsToBareKing, GameTooLong, Faulted}
+use Rattle.chess_match.specs.declared.reason.Reason.TheVariants as over_by
+
+-- ---- the state of a match
+
+-- what a match waits for
+pub data Phase : Type 0 where
+  -- the lines of that side's handshake, up to the one with `done=1`
+  Handshake : (side : Colour) → Phase
+  -- that side's `pong 1`, which ends its setup
+  Setup : (side : Colour) → Phase
+  -- the moment at which that side's turn begins, once the lines that open it are sent
+  Opening : (side : Colour) → Phase
+  -- that side's move, in a turn that began at this moment
+  BeforeMove : (side : Colour) → (opened : ℕ) → Phase
+  -- that side's `pong`: it has moved, and the other is not yet sent the move
+  AfterMove : (side : Colour) → Phase
+  -- nothing: the match has ended
+  Over : (reason : Reason) → Phase
+
+-- the state of a match
+pub record Match : Type 0 where
+  pub phase : Phase
+  -- what is known of the engine of each side
+  pub seat : Colour → Seat
+  -- the moves so far
+  pub played : List Move
+  -- how many lines came in this handshake, or were ignored in this setup or turn
+  pub count : ℕ
+
+-- what an event does: the match after it, and the lines that each side is then sent (`to`)
+pub record Effect : Type 0 where
+  pub after : Match
+  pub to : Colour → List SentLine
+
+-- ---- what the rows ask
+
+-- the milliseconds that the side `S` has left
+abbrev pub clock : Rules → Match → Colour → ℕ
+clock r m S = time_left r.level (length (m.seat S).used) (sum (m.seat S).used)
+
+-- the number of the `ping` that the side `S` was last sent: 1 in its setup, then one more after each of its moves
+abbrev pub ping_number : Match → Colour → ℕ
+ping_number m S = length (m.seat S).used + 1
+
+-- whether the side `S` was ever sent a move, when a line of it is awaited: whether the other side has moved
+abbrev pub was_sent_move : Match → Colour → Bool
+was_sent_move m S = nat_lt 0 (length (m.seat (other S)).used)
+
+-- what is missing, if an engine that sent these items can't play the match: `ping=1`; `setboard=1`, if a start is sent;
+-- `fischerandom` among its variants, for Chess960
+abbrev pub missing : Rules → List Item → Option MatchFault
+missing r items =
+    if not (takes (codes "ping") items) then Some NoPing
+    else if is_some r.start_fen && not (takes (codes "setboard") items) then Some NoSetboard
+    else if is_fischerandom r.variant && not (plays_fischerandom items) then Some NoVariant
+    else None
+
+-- whether the last move was played and not yet sent to the side `S`
+abbrev pub is_owed : Phase → Colour → Bool
+is_owed (AfterMove side) S = same_colour (other side) S
+is_owed _ S = false
+
+-- ---- lines
+
+-- `xboard`, `protover 2`
+abbrev pub handshake_lines : List SentLine
+handshake_lines = Says (codes "xboard") ∷ Says (codes "protover 2") ∷ []
+
+-- the last move, in the form that the engine of the side `S` asked for: `usermove e2e4`, `e2e4`, `usermove e4` or `e4`
+abbrev pub move_line : Rules → Match → Colour → SentLine
+move_line r m S =
+    MoveSent (takes (codes "usermove") (m.seat S).items) (r.move_text (takes (codes "san") (m.seat S).items) m.played)
+
+-- the line of the last move, if there is one
+abbrev pub last_move : Rules → Match → Colour → List SentLine
+last_move r m S = list_if (nat_lt 0 (length m.played)) (move_line r m S ∷ [])
+
+-- `time T` and `otim U`, the clocks of the side `S` and of the other in centiseconds, rounded down; none where its
+-- engine has `time=0`
+abbrev pub clocks : Rules → Match → Colour → List SentLine
+clocks r m S =
+    list_if (takes (codes "time") (m.seat S).items) (Time (clock r m S / 10) ∷ Otim (clock r m (other S) / 10) ∷ [])
+
+-- the lines that open a turn of the side `S`: in its first turn the last move, the clocks and `go`, later the clocks
+-- and the last move
+abbrev pub opening : Rules → Match → Colour → List SentLine
+opening r m S =
+    if nat_lt 0 (length (m.seat S).used) then clocks r m S ++ last_move r m S
+    else last_move r m S ++ (clocks r m S ++ Says (codes "go") ∷ [])
+
+-- the lines that end the match for the side `S`: the last move, if it was not yet sent that, `result 1-0 {Black
+-- resigns}`, and `quit`
+abbrev pub farewell : Rules → Match → Reason → Colour → List SentLine
+farewell r m reason S =
+    list_if (is_owed m.phase S) (move_line r m S ∷ [])
+    ++ (Says (codes "result " ++ result_text (outcome_by_reason reason) (comment_of reason)) ∷ Says (codes "quit") ∷ [])
+
+-- ---- what a row may do
+
+-- the match is then `m`; nothing is sent
+abbrev pub sends_nothing : Match → Effect
+sends_nothing m = record { after = m; to = λ S. [] }
+
+-- the match is then `m`; the engine of this side is sent these lines
+abbrev pub sends_to : Colour → List SentLine → Match → Effect
+sends_to side lines m = record { after = m; to = λ S. list_if (same_colour side S) lines }
+
+-- the match `m` in another phase, in which no line was counted yet
+abbrev pub enter : Phase → Match → Match
+enter phase m = record m { phase = phase; count = 0 }
+
+-- the match `m` with this change of what is known of the engine of the side `S`
+abbrev pub with_seat : Colour → (Seat → Seat) → Match → Match
+with_seat S change m = record m { seat = λ side. if same_colour side S then change (m.seat side) else m.seat side }
+
+-- the match `m` ends for this reason, and both sides are sent the end, but not a side to which a write failed
+abbrev pub ends : Rules → Reason → Match → Effect
+ends r reason m = record {
+  after = record m { phase = Over reason };
+  to = λ S. if is_unwritten reason S then [] else farewell r m reason S;
+}
+
+-- a line of the side `S` is ignored; the 10,000th in one setup or turn ends the match
+abbrev pub ignores : Rules → Colour → Match → Effect
+ignores r S m =
+    if nat_le 10000 (m.count + 1) then ends r (Faulted S Flood) m
+    else sends_nothing (record m { count = m.count + 1 })
+
+-- the turn of the side `S` begins: the lines that open it are sent
+abbrev pub begins_turn : Rules → Colour → Match → Effect
+begins_turn r S m = let m' = enter (Opening S) m in sends_to S (opening r m' S) m'
+
+-- `otherwise`; but if the board has a verdict in the match `m`, that ends it
+abbrev pub unless_decided : Rules → Match → Effect → Effect
+unless_decided r m otherwise = option_map_or (λ verdict. ends r (Decided verdict) m) (r.verdict m.played) otherwise
+
+-- ---- a line in a turn
+
+-- `offer draw` of the side `S`: agreed if the other's offer is open, ignored if its own is; else its offer is open from
+-- now on, and the other is sent `draw`, unless its engine has `draw=0`
+abbrev pub offer_row : Rules → Colour → Match → Effect
+offer_row r S m =
+    if (m.seat (other S)).offers then ends r Agreed m
+    else if (m.seat S).offers then ignores r S m
+    else sends_to (other S) (list_if (takes (codes "draw") (m.seat (other S)).items) (Says (codes "draw") ∷ []))
+    (with_seat S (λ s. record s { offers = true }) m)
+
+-- a line of the side `S` that means the same before its move and after it. `1/2-1/2` is an offer where no draw may be
+-- claimed; `Illegal move` is ignored from a side that was never sent a move
+abbrev pub turn_row : Rules → Colour → LineKind → Match → Effect
+turn_row r S Resigns m = ends r (over_by.Resigns S) m
+turn_row r S OffersDraw m = offer_row r S m
+turn_row r S ClaimsDraw m = option_map_or (λ claim. ends r (Claimed claim) m) (r.claim m.played) (offer_row r S m)
+turn_row r S (ClaimsWin winner) m = ends r (if same_colour winner S then ClaimsFalsely S else over_by.Resigns S) m
+turn_row r S Rejects m = if was_sent_move m S then ends r (RejectsLegalMove S) m else ignores r S m
+turn_row r S _ m = ignores r S m
+
+-- the match `m` after this move of the side `S`, which took `used` milliseconds: its clock is charged, and the other's
+-- offer lapses
+abbrev pub moved : Colour → Move → ℕ → Match → Match
+moved S move used m =
+    with_seat (other S) (λ s. record s { offers = false }) (with_seat S (λ s. record s { used = s.used ++ used ∷ [] })
+    (record m { phase = AfterMove S; played = m.played ++ move ∷ [] }))
+
+-- `move M` of the side `S`, after `used` milliseconds; the option is the one legal move that M denotes
+abbrev pub move_row : Rules → Colour → ℕ → Option Move → Match → Effect
+move_row r S used None m = ends r (MovesIllegally S) m
+move_row r S used (Some move) m =
+    let m' = moved S move used m in unless_decided r m' (sends_to S (ping (ping_number m' S) ∷ []) m')
+
+-- a line of the side `S`, of which a move is awaited, after `used` milliseconds of those that it has
+abbrev pub before_move : Rules → Colour → ℕ → LineKind → Match → Effect
+before_move r S used (Moves text) m =
+    if nat_le r.limit (length m.played) then ends r GameTooLong m else move_row r S used (r.reading m.played text) m
+before_move r S used kind m = turn_row r S kind m
+
+-- the flag of the side `S` has fallen: it loses, but draws against a bare king (Laws of Chess 2023, article 6.9, of
+-- whose draws only this one is judged)
+abbrev pub flag_row : Rules → Colour → Match → Effect
+flag_row r S m = ends r (if r.has_bare_king m.played (other S) then ForfeitsToBareKing else Forfeits S) m
+
+-- a line of the side `S`, which has moved and is to answer the `ping`: that answer gives the other side its turn
+abbrev pub after_move : Rules → Colour → LineKind → Match → Effect
+after_move r S (Moves text) m = ends r (MovesOutOfTurn S) m
+after_move r S (Answers n) m = if n == ping_number m S then begins_turn r (other S) m else ignores r S m
+after_move r S kind m = turn_row r S kind m
+
+-- ---- a line before the game
+
+-- both handshakes are done; the options are what is missing for White and for Black. White is judged first; if nothing
+-- is missing, White is set up
+abbrev pub judged : Rules → Option MatchFault → Option MatchFault → Match → Effect
+judged r (Some fault) _ m = ends r (Faulted White fault) (record m { count = 0 })
+judged r None (Some fault) m = ends r (Faulted Black fault) (record m { count = 0 })
+judged r None None m = sends_to White (setup_lines r) (enter (Setup White) m)
+
+-- the handshake of the side `S` is done: Black's comes after White's, and then both engines are judged
+abbrev pub handshake_done : Rules → Colour → Match → Effect
+handshake_done r White m = sends_to Black handshake_lines (enter (Handshake Black) m)
+handshake_done r Black m = judged r (missing r (m.seat White).items) (missing r (m.seat Black).items) m
+
+-- the same, but before all else the engine of this side is sent an answer to each of these items
+abbrev pub with_answers : Colour → List Item → Effect → Effect
+with_answers side items e = record e { to = λ S. list_if (same_colour side S) (answers_to items) ++ e.to S }
+
+-- a line of the side `S` in its handshake, which has these items: they are kept, and each is answered. `done=1` ends
+-- the handshake; the 1,000th line without it ends the match
+abbrev pub handshake_row : Rules → Colour → List Item → Match → Effect
+handshake_row r S items m =
+    let m' = with_seat S (λ s. record s { items = s.items ++ items }) m in
+    with_answers S items (if has_done items then handshake_done r S m'
+    else if nat_le 1000 (m.count + 1) then ends r (Faulted S NoDone) m'
+    else sends_nothing (record m' { count = m.count + 1 }))
+
+-- the side `S` is set up: White comes first, then Black; then the game begins, unless the start has a verdict
+abbrev pub setup_done : Rules → Colour → Match → Effect
+setup_done r White m = sends_to Black (setup_lines r) (enter (Setup Black) m)
+setup_done r Black m = unless_decided r m (begins_turn r r.first m)
+
+-- a line of the side `S` in its setup, which `pong 1` ends
+abbrev pub setup_row : Rules → Colour → LineKind → Match → Effect
+setup_row r S (Answers n) m = if n == 1 then setup_done r S m else ignores r S m
+setup_row r S _ m = ignores r S m
+
+-- ---- one event
+
+-- the items of a line of this kind: those of a `feature` line, none of any other
+abbrev pub items_said : LineKind → List Item
+items_said (Features text) = items_of text
+items_said _ = []
+
+-- a line of this kind that came at `moment`, by what the match waits for. Before a move, the time used is the moment of
+-- the line minus the moment at which the turn began, or 0 if that is negative; the flag is judged first
+abbrev pub line_row : Rules → Phase → LineKind → ℕ → Match → Effect
+line_row r (Handshake S) kind moment m = handshake_row r S (items_said kind) m
+line_row r (Setup S) kind moment m = setup_row r S kind m
+line_row r (BeforeMove S opened) kind moment m =
+    if nat_lt (clock r m S) (moment - opened) then flag_row r S m else before_move r S (moment - opened) kind m
+line_row r (AfterMove S) kind moment m = after_move r S kind m
+line_row r _ kind moment m = sends_nothing m
+
+-- what an event does to the match `m`
+abbrev pub effect : Rules → Match → Event → Effect
+effect r m (Line S text moment) = line_row r m.phase (line_kind text) moment m
+effect r m (Opened S moment) = sends_nothing (record m { phase = BeforeMove S moment })
+effect r m (OutputEnds S) = ends r (Faulted S Ended) m
+effect r m (FailsToRead S) = ends r (Faulted S Read) m
+effect r m (FailsToWrite S) = ends r (Faulted S Write) m
+
+-- what a match begins with: White's handshake
+abbrev pub beginning : Effect
+beginning = sends_to White handshake_lines (record {
+  phase = Handshake White;
+  seat = λ S. record { items = []; used = []; offers = false };
+  played = [];
+  count = 0;
+})

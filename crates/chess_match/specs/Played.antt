@@ -1,0 +1,86 @@
+-- What a match that was played did: at its devices, in its game, and in what is reported of it.
+use Rattle.std.specs.Prelude.{◌≡◌, ℕ, true, List, [], ◌∷◌, ◌++◌, codes, Option}
+use Rattle.std.specs.Io.KnownBytes.{Consumes, IsAtEnd}
+use Rattle.byte_devices.specs.Devices.{InputState, OutputState, Begins}
+use Rattle.chess_base.specs.declared.man.Colour.{Colour}
+use Rattle.text_lines.specs.Unflushed.{risen_if}
+use Rattle.chess_game.specs.Game as game
+use Rattle.chess_game.specs.Results.{cut_tag}
+use Rattle.cecp_engine.specs.Items.{last_value}
+use Rattle.chess_match.specs.Acts.{Act, IsMatch}
+use Rattle.chess_match.specs.ByDevice.{lines_read, has_ended, has_failed_read, moments_shown, lines_sent, broken_blocks, is_broken, notes_given}
+use Rattle.chess_match.specs.Effects.{Match, Over}
+use Rattle.chess_match.specs.Notes.{Note}
+use Rattle.chess_match.specs.Reasons.{reported, first_fault, declared_at}
+use Rattle.chess_match.specs.Reasons.{by_colour}
+use Rattle.chess_match.specs.Rules.{Rules, rules_of}
+use Rattle.chess_match.specs.Run.{Ports, engine_lines, Flushed, FlushedThenFailed, ClockReadings}
+use Rattle.chess_match.specs.Sent.{SentLine, bytes_of}
+use Rattle.chess_match.specs.declared.reason.Reason.{Reason}
+use Rattle.chess_match.specs.declared.run.MatchEnd.{MatchEnd}
+use Rattle.chess_match.specs.declared.run.Setup.{Setup}
+
+-- all that a match reads, writes and changes, as contracts see it
+pub record World : Type 0 where
+  -- both engines' outputs and inputs
+  pub ports : Ports
+  -- for each number from 0 on, which moment the clock will show then, as far as that is known
+  pub coming : ℕ → Option ℕ
+  pub game : game.Seen
+
+-- the bytes `given` were read from the engine of the side `S`, from the state `old` of its output to `new`. The lines
+-- read are the first of those bytes; all of them, if the output ended or a read failed
+pub record ReadAs (S : Colour) (H : List Act) (old new : InputState) (given : List ℕ) : Type 0 where
+  pub bytes : Consumes old.known_bytes new.known_bytes given
+  pub lines : (rest : List (Option (List ℕ))) × (engine_lines given ≡ lines_read S H ++ rest)
+  pub ends : new.end_count ≡ risen_if (has_ended S H) old.end_count
+  pub failures : new.failure_count ≡ risen_if (has_failed_read S H) old.failure_count
+  pub at_end : has_ended S H ≡ true → (engine_lines given ≡ lines_read S H) × IsAtEnd new.known_bytes
+  pub at_failure : has_failed_read S H ≡ true → engine_lines given ≡ lines_read S H
+
+-- from the state `old` of an engine's input to `new` just the lines `sent` were written and flushed; and of the block
+-- that could not be sent, if there is one, a beginning was written
+abbrev pub WrittenAs : List SentLine → List (List SentLine) → OutputState → OutputState → Type 0
+WrittenAs sent [] old new = Flushed old new (bytes_of sent)
+WrittenAs sent (block ∷ more) old new =
+    (start : List ℕ) × Begins start (bytes_of block) × FlushedThenFailed old new (bytes_of sent) start
+
+-- these acts were done: they are a match by the rules `r`, which ended as `final`, and each device did its part. `w` is
+-- the world before, `w'` after
+pub record Passed (r : Rules) (H : List Act) (final : Match) (w w' : World) : Type 0 where
+  pub is_match : IsMatch r H final
+  pub read : (S : Colour) → (given : List ℕ) × ReadAs S H (w.ports.reader S) (w'.ports.reader S) given
+  pub written : (S : Colour)
+      → WrittenAs (lines_sent S H) (broken_blocks S H) (w.ports.writer S) (w'.ports.writer S)
+  pub moments : ClockReadings w.coming w'.coming (moments_shown H)
+
+-- `end` is what is reported of a match of these acts, which ended as `final` for this reason: its outcome, comment and
+-- kind of end, each engine's last `myname`, and the first fault
+pub record ReportedAs (H : List Act) (final : Match) (reason : Reason) (end : MatchEnd) : Type 0 where
+  pub ended : final.phase ≡ Over reason
+  pub report : reported reason ≡ (end.outcome, end.comment, end.ended)
+  pub name : (S : Colour) → by_colour end.white_name end.black_name S
+      ≡ cut_tag (last_value (codes "myname") (final.seat S).items)
+  pub fault : end.fault ≡ first_fault reason (is_broken H)
+
+-- a match of these acts was played as `setup` says, from the world `w` to `w'`; it ended for this reason, was reported
+-- as `end`, and left its moves in the game, with the result declared where the board has no verdict
+abbrev pub PlayedBy : List Act → Reason → Setup → MatchEnd → World → World → Type 0
+PlayedBy H reason setup end w w' =
+    let r = rules_of setup.start setup.level w.game.limit in
+    (final : Match) × Passed r H final w w' × ReportedAs H final reason end
+    × (w'.game ≡ game.with_state w.game (record {
+      start = setup.start;
+      moves = final.played;
+      declared = declared_at (r.verdict final.played) reason;
+    }))
+
+-- a match was played as `setup` says, from the world `w` to `w'`, and reported as `end`: some acts were done, with
+-- which devices, report and game agree
+abbrev pub Played : Setup → MatchEnd → World → World → Type 0
+Played setup end w w' = (H : List Act) × (reason : Reason) × PlayedBy H reason setup end w w'
+
+-- the same, and `noted` is true of the notes of these acts
+abbrev pub PlayedNoting : (List Note → Type 0) → Setup → MatchEnd → World → World → Type 0
+PlayedNoting noted setup end w w' =
+    (H : List Act) × (reason : Reason) × noted (notes_given reason H) × PlayedBy H reason setup end w w'

@@ -1,0 +1,45 @@
+-- How the effects of events agree with the state of the code (Match) and the blocks that it sends (Sent).
+use Rattle.std.specs.Prelude.{◌≡◌, ℕ, true, List, Option, Some, None}
+use Rattle.chess_base.specs.declared.man.Colour.{Colour}
+use Rattle.chess_base.specs.Men.{other}
+use Rattle.chess_match.specs.Match as machine
+use Rattle.chess_match.specs.Match.{Event}
+use Rattle.chess_match.specs.Rules.{Rules}
+use Rattle.chess_match.specs.Sent.{SentLine, block}
+use Rattle.chess_match.specs.Transcript.{is_on, fits_next}
+use Rattle.chess_match.specs.declared.phase.Phase.{Phase as MachinePhase}
+use Rattle.chess_match.specs.declared.phase.Phase.TheVariants as phases
+use Rattle.chess_match.specs.Effects.{Match, Phase, Handshake, Setup, Opening, BeforeMove, AfterMove, Over, Effect, effect}
+
+-- a phase of the code, as a phase of a match; `opened` is when the turn was opened
+abbrev pub phase_of : ℕ → MachinePhase → Phase
+phase_of opened (phases.Handshake c) = Handshake c
+phase_of opened (phases.Setup c) = Setup c
+phase_of opened (phases.SendTurn c) = Opening c
+phase_of opened (phases.AwaitMove c) = BeforeMove c opened
+phase_of opened (phases.AwaitPong c) = AfterMove c
+phase_of opened (phases.Over reason) = Over reason
+
+-- a match as the code has it, without what its phase says anyway
+abbrev pub view : machine.Match → Match
+view m = record { phase = phase_of m.opened m.phase; seat = λ S. machine.seat m S; played = m.played; count = m.count }
+
+-- who is still to be sent the last move in a match that is on and in this phase: after its move, the other
+abbrev pub owed_in : MachinePhase → Option Colour
+owed_in (phases.AwaitPong c) = Some (other c)
+owed_in (phases.Handshake c) = None
+owed_in (phases.Setup c) = None
+owed_in (phases.SendTurn c) = None
+owed_in (phases.AwaitMove c) = None
+owed_in (phases.Over reason) = None
+
+-- an event takes the match from `m` to `m'`, as the code has it, and has this effect: they agree
+pub record Agrees (r : Rules) (m m' : machine.Match) (e : Effect) : Type 0 where
+  pub after : e.after ≡ view m'
+  pub to : (S : Colour) → e.to S ≡ block r m m' S
+  pub owed : is_on m'.phase ≡ true → m'.unsent_to ≡ owed_in m'.phase
+
+-- each event that may come has the effect that it has by the code
+abbrev pub EventsAgree : Type 0
+EventsAgree = (r : Rules) (due : Colour → List SentLine) (m : machine.Match) (e : Event) → fits_next due m e ≡ true
+    → m.unsent_to ≡ owed_in m.phase → Agrees r m (machine.match_after r m e) (effect r (view m) e)
