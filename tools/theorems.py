@@ -31,6 +31,8 @@ FILES = f"{LISTS}/definitions.md"
 GRAPH = "docs/ARCHITECTURE.md"
 USAGE = "docs/USAGE.md"
 
+EDITS = ("must-fail", "tried-apart", "definition-edits")
+
 FAULTS = []
 
 
@@ -235,7 +237,7 @@ def check_mutations(claims):
 
 def check_mutations_fit():
     """Each old text of a mutation is in its file exactly once, also of those that the gate does not try."""
-    for edit in sorted([*TOP.glob("crates/*/must-fail/*"), *TOP.glob("crates/*/tried-apart/*")]):
+    for edit in sorted(path for folder in EDITS for path in TOP.glob(f"crates/*/{folder}/*")):
         file, texts = None, {}
         for line in edit.read_text(encoding="utf-8").split("\n"):
             kind, _, rest = line.partition(": ")

@@ -18,3 +18,6 @@ pub mod NormalWritten
 pub mod NormalRead
 pub mod WrittenFen
 pub mod Ascii
+pub mod FieldsDenoted
+pub mod OneRankText
+pub mod RightsAlike

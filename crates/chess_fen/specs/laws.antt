@@ -2,3 +2,6 @@
 pub mod NamedRooks
 pub mod Laws
 pub mod Normal
+pub mod FenTexts
+pub mod Examples
+pub mod RankTexts

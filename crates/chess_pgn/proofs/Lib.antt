@@ -28,3 +28,10 @@ pub mod TokenPlaces
 pub mod VariantSaid
 pub mod Variations
 pub mod Walk
+pub mod ByteRuns
+pub mod VariationInsides
+pub mod TagSplits
+pub mod TokenSplits
+pub mod GamesByTags
+pub mod LaidOut
+pub mod WorkedOut

@@ -62,10 +62,14 @@ short_moves law words is_first p (m ∷ ms) ts sound line rest =
     rw tokens (short_number p.side is_first p.fullmove _ (leb-true _ _ sound.fullmove_high)
     ((omega (arith, short.0), omega (arith, short.1)), tail))
 
+pub game_is_short : AfterIsSound → SanIsShort → (limit : ℕ) (s : State)
+    → IsPlayable (record { limit = limit; state = s }) → AreShort (game_tokens s)
+game_is_short law words limit s playable =
+    short_moves law words true s.start s.moves (outcome_text (outcome_now s) ∷ []) playable.start playable.line
+    (short_outcome (outcome_now s))
+
 pub game_is_filled : AfterIsSound → SanIsShort → (prefix : List ℕ) (limit : ℕ) (s : State)
     → IsPlayable (record { limit = limit; state = s })
     → IsMoveText prefix (game_tokens s) (move_text_of prefix (game_tokens s))
 game_is_filled law words prefix limit s playable =
-    filled-move_text prefix (game_tokens s)
-    (short_moves law words true s.start s.moves (outcome_text (outcome_now s) ∷ []) playable.start playable.line
-    (short_outcome (outcome_now s)))
+    filled-move_text prefix (game_tokens s) (game_is_short law words limit s playable)

@@ -4,3 +4,7 @@ pub mod Offsets
 pub mod GameOfTokens
 pub mod Normal
 pub mod Layout
+pub mod Split
+pub mod TagsAndMoves
+pub mod PgnText
+pub mod Examples

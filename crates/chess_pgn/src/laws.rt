@@ -2,13 +2,20 @@
 
 ghost use Rattle.std.specs.Prelude.{◌≡◌, List, ℕ};
 ghost use Rattle.chess_game.specs.Game.{State, IsPlayable};
-ghost use Rattle.chess_pgn.specs.GameText.{game_tokens};
+ghost use Rattle.chess_pgn.specs.declared.tags.Tags.{Tags};
+ghost use Rattle.chess_pgn.specs.GameRead.{GameRead, pgn_read};
+ghost use Rattle.chess_pgn.specs.GameText.{game_tokens, pgn};
+ghost use Rattle.chess_pgn.specs.Tokens.{Token, tokens_from};
+ghost use Rattle.chess_pgn.specs.laws.Examples.{TextsAreLaidOut, TextsAreRead, TextsAreSplit};
 ghost use Rattle.chess_pgn.specs.laws.GameOfTokens.{GamesAreOfTokens};
 ghost use Rattle.chess_pgn.specs.laws.Normal.{NormalIsKept};
 ghost use Rattle.chess_pgn.specs.laws.Offsets.{FaultsHaveOffsets, HalfMovesHaveBytes};
 ghost use Rattle.chess_pgn.specs.laws.PgnLaw.{PgnIsReadBack};
 ghost use Rattle.chess_pgn.specs.Written.{move_text_of};
 ghost use Rattle.chess_pgn.specs.laws.Layout.{AreShort, IsMoveText};
+ghost use Rattle.chess_pgn.specs.laws.PgnText.{IsPgn};
+ghost use Rattle.chess_pgn.specs.laws.Split.{IsSplit};
+ghost use Rattle.chess_pgn.specs.laws.TagsAndMoves.{IsRead};
 
 use chess_base::{Position, Variant, after_is_sound};
 use chess_fen::written_is_denoted;
@@ -74,4 +81,43 @@ pub fn faults_have_offsets()
 /// half-moves than bytes.
 pub fn half_moves_have_bytes()
     ensures { HalfMovesHaveBytes }
+{}
+
+/// States a law and does nothing: the tokens that are read of a text from an offset on are a split of it, from left to
+/// right, each the longest of its kind, up to the text's end or to the first place where no token can be read. There is
+/// no other split.
+pub fn a_text_has_one_split()
+    ensures read { (text : List ℕ) → (at : ℕ) → IsSplit text at (tokens_from text at) }
+    ensures no_other { (text : List ℕ) → (at : ℕ) → (tokens : List (ℕ × Token)) → IsSplit text at tokens
+        → tokens ≡ tokens_from text at }
+{}
+
+/// States a law and does nothing: what is read of a text token by token is what its tags and then its moves say, and
+/// nothing else is.
+pub fn a_game_is_tags_and_moves()
+    ensures read { (limit : ℕ) → (text : List ℕ) → (at : ℕ) → IsRead limit text at (pgn_read limit text at) }
+    ensures no_other { (limit : ℕ) → (text : List ℕ) → (at : ℕ) → (r : GameRead) → IsRead limit text at r
+        → r ≡ pgn_read limit text at }
+{}
+
+/// States a law and does nothing: the text that is written of a playable game has its tags, an empty line, its moves in
+/// lines as full as they can be, and an empty line; and no other text has.
+pub fn games_are_laid_out()
+    ensures written { (prefix : List ℕ) → (t : Tags) → (limit : ℕ) → (s : State)
+        → IsPlayable (record { limit = limit; state = s }) → IsPgn prefix t s (pgn prefix t s) }
+    ensures no_other { (prefix : List ℕ) → (t : Tags) → (limit : ℕ) → (s : State)
+        → IsPlayable (record { limit = limit; state = s }) → (text : List ℕ) → IsPgn prefix t s text
+        → text ≡ pgn prefix t s }
+{
+    // The prover wants these laws: each position of a game is sound, and the SAN of a legal move is short.
+    after_is_sound();
+    san_is_a_word();
+}
+
+/// States a law and does nothing: small texts worked out, of which the definitions say how they are split into tokens,
+/// what is read of them, and how they are laid out.
+pub fn texts_are_worked_out()
+    ensures split { TextsAreSplit }
+    ensures read { TextsAreRead }
+    ensures laid_out { TextsAreLaidOut }
 {}

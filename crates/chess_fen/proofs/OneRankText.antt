@@ -1,0 +1,123 @@
+-- A rank has one text in which no two digits are side by side: the one that is written.
+use Rattle.std.proofs.Common.{◌≡◌, ℕ, zero, suc, ◌+◌, ◌<◌, ◌≤◌, Bool, true, false, not, List, [], ◌∷◌, ◌++◌, length, Option, Some, None, refl, sym, ap, ◌∙◌, inl, inr, arith}
+use Rattle.std.specs.Prelude.{◌&&◌, replicate, nat_le}
+use Rattle.std.proofs.lemmas.Bool.{and_parts}
+use Rattle.std.proofs.lemmas.Bool.Decides.{nat_tests}
+use Rattle.chess_base.specs.declared.man.Man.{Man}
+use Rattle.chess_base.specs.declared.man.Kind.{Kind}
+use Rattle.chess_base.specs.declared.man.Kind.TheVariants.{Pawn, Knight, Bishop, Rook, Queen, King}
+use Rattle.chess_base.specs.declared.man.Colour.{Colour}
+use Rattle.chess_base.specs.declared.man.Colour.TheVariants.{White, Black}
+use Rattle.chess_base.specs.Letters.{is_digit}
+use Rattle.chess_fen.specs.ManLetters.{letter, letter_by}
+use Rattle.chess_fen.specs.Denotation.{StandsFor, DenotesSquares}
+use Rattle.chess_fen.specs.Writing.{run_text, row_text, fen_rank}
+use Rattle.chess_fen.proofs.DenotedRanks.{denoted-rank}
+use Rattle.chess_fen.proofs.RoundTrip.{rank-text}
+use Rattle.chess_fen.specs.laws.RankTexts.{digits_apart, IsRankText}
+
+letter_by_no_digit : (c : Colour) (k : Kind) → is_digit (letter_by c k) ≡ false
+letter_by_no_digit White Pawn = refl
+letter_by_no_digit White Knight = refl
+letter_by_no_digit White Bishop = refl
+letter_by_no_digit White Rook = refl
+letter_by_no_digit White Queen = refl
+letter_by_no_digit White King = refl
+letter_by_no_digit Black Pawn = refl
+letter_by_no_digit Black Knight = refl
+letter_by_no_digit Black Bishop = refl
+letter_by_no_digit Black Rook = refl
+letter_by_no_digit Black Queen = refl
+letter_by_no_digit Black King = refl
+
+no_digit : (man : Man) → is_digit (letter man) ≡ false
+no_digit man = letter_by_no_digit man.colour man.kind
+
+empty_run : (n m : ℕ) (row : List (Option Man)) → row_text m (replicate n None ++ row) ≡ row_text (n + m) row
+empty_run zero m row = ap (λ k. row_text k row) (omega arith)
+empty_run (suc n) m row =
+    let more : n + suc m ≡ suc n + m = omega arith in
+    empty_run n (suc m) row ∙ ap (λ k. row_text k row) more
+
+run_is : (n : ℕ) → 0 < n → run_text n ≡ (48 + n) ∷ []
+run_is zero h = absurd (omega (arith, h))
+run_is (suc n) h = refl
+
+digit_is : (n : ℕ) → n ≤ 8 → is_digit (48 + n) ≡ true
+digit_is n h =
+    let low : nat_le 48 (48 + n) ≡ true = grind (arith, nat_tests) in
+    let high : nat_le (48 + n) 57 ≡ true = grind (arith, nat_tests) in
+    rw (low, high) refl
+
+apart_tail : (c : ℕ) (cs : List ℕ) → digits_apart (c ∷ cs) ≡ true → digits_apart cs ≡ true
+apart_tail c [] h = refl
+apart_tail c (d ∷ cs) h = (and_parts (not (is_digit c && is_digit d)) (digits_apart (d ∷ cs)) h).1
+
+-- ---- only one text
+
+pub only_text : (text : List ℕ) (row : List (Option Man)) → DenotesSquares text row → digits_apart text ≡ true
+    → text ≡ row_text 0 row
+only_text [] row h apart = ap (row_text 0) (sym h)
+only_text (c ∷ cs) row (first, others, stands, more, is) apart =
+    by_stands stands (only_text cs others more (apart_tail c cs apart))
+  where
+    by_next : (n : ℕ) → 0 < n → n ≤ 8 → c ≡ 48 + n → (cs : List ℕ) (others : List (Option Man))
+        → DenotesSquares cs others → digits_apart (c ∷ cs) ≡ true → cs ≡ row_text 0 others
+        → c ∷ cs ≡ row_text n others
+    by_next n some few digit [] others none apart same =
+        ap (λ k. k ∷ []) digit ∙ sym (run_is n some) ∙ ap (row_text n) (sym none)
+    by_next n some few digit (d ∷ ds) others (second, rest, inl m, more, whole) apart same =
+        let rest_is : others ≡ Some m.0 ∷ rest = whole ∙ ap (λ xs. xs ++ rest) m.2 in
+        let tail : d ∷ ds ≡ letter m.0 ∷ row_text 0 rest = same ∙ ap (row_text 0) rest_is in
+        ap (λ k. k ∷ d ∷ ds) digit ∙ ap (λ xs. (48 + n) ∷ xs) tail
+        ∙ ap (λ xs. xs ++ letter m.0 ∷ row_text 0 rest) (sym (run_is n some))
+        ∙ ap (row_text n) (sym rest_is)
+    by_next n some few digit (d ∷ ds) others (second, rest, inr e, more, whole) apart same =
+        let one : is_digit c ≡ true = ap is_digit digit ∙ digit_is n few in
+        let two : is_digit d ≡ true = ap is_digit e.3 ∙ digit_is e.0 e.2 in
+        let no = (and_parts (not (is_digit c && is_digit d)) (digits_apart (d ∷ ds)) apart).0 in
+        let clash : not (true && true) ≡ true = sym
+        (ap (λ t. not (t && is_digit d)) one ∙ ap (λ t. not (true && t)) two) ∙ no in
+        absurd (cc)
+
+    by_stands : StandsFor c first → cs ≡ row_text 0 others → c ∷ cs ≡ row_text 0 row
+    by_stands (inl m) same =
+        ap (λ k. k ∷ cs) m.1 ∙ ap (λ xs. letter m.0 ∷ xs) same
+        ∙ ap (row_text 0) (sym (is ∙ ap (λ xs. xs ++ others) m.2))
+    by_stands (inr e) same =
+        let sum : e.0 + 0 ≡ e.0 = omega arith in
+        by_next e.0 e.1 e.2 e.3 cs others more apart same
+        ∙ ap (λ k. row_text k others) (sym sum)
+        ∙ sym (empty_run e.0 0 others)
+        ∙ ap (row_text 0) (sym (is ∙ ap (λ xs. xs ++ others) e.4))
+
+-- ---- and it is one
+
+letter_apart : (man : Man) (text : List ℕ) → digits_apart text ≡ true → digits_apart (letter man ∷ text) ≡ true
+letter_apart man [] h = refl
+letter_apart man (d ∷ rest) h = rw (no_digit man, h) refl
+
+before_letter : (c : ℕ) (man : Man) (text : List ℕ) → digits_apart (letter man ∷ text) ≡ true
+    → digits_apart (c ∷ letter man ∷ text) ≡ true
+before_letter c man text h = rw (no_digit man, h) (by_test (is_digit c))
+  where
+    by_test : (t : Bool) → (not (t && false) && true) ≡ true
+    by_test true = refl
+    by_test false = refl
+
+apart_row : (n : ℕ) (row : List (Option Man)) → digits_apart (row_text n row) ≡ true
+apart_row zero [] = refl
+apart_row (suc n) [] = refl
+apart_row n (None ∷ row) = apart_row (suc n) row
+apart_row zero (Some man ∷ row) = letter_apart man (row_text 0 row) (apart_row 0 row)
+apart_row (suc n) (Some man ∷ row) =
+    before_letter (48 + suc n) man (row_text 0 row) (letter_apart man (row_text 0 row) (apart_row 0 row))
+
+pub rank_text_is : (row : List (Option Man)) → length row ≡ 8 → IsRankText row (fen_rank row)
+rank_text_is row h = record {
+  denotes = (denoted-rank (fen_rank row) row (rank-text row h)).0;
+  apart = apart_row 0 row;
+}
+
+pub only_rank_text : (row : List (Option Man)) (text : List ℕ) → IsRankText row text → text ≡ fen_rank row
+only_rank_text row text h = only_text text row h.denotes h.apart

@@ -1,0 +1,8 @@
+use Rattle.chess_fen.proofs.OneRankText.{rank_text_is, only_rank_text}
+use Rattle.chess_fen.proofs.laws.a_rank_has_one_text.Goals as goal
+
+pub returns-clause-written : goal.returns-clause-written
+returns-clause-written c = rank_text_is
+
+pub returns-clause-no_other : goal.returns-clause-no_other
+returns-clause-no_other c = only_rank_text

@@ -1,0 +1,385 @@
+-- What is read of a game by its tags and moves is what is read token by token.
+use Rattle.std.proofs.Common.{◌≡◌, ℕ, suc, ◌+◌, ◌-◌, Bool, true, false, cond, List, [], ◌∷◌, ◌++◌, length, take, drop, Option, Some, None, Result, Ok, Err, refl, sym, ap, ◌∙◌, arith}
+use Rattle.std.specs.Prelude.{◌||◌, ◌==◌, nat_lt, is_some, codes, option_and_then}
+use Rattle.std.specs.List.{list_all, list_any, prefix_len, take_while, filter_map, cons_option, last_or}
+use Rattle.std.specs.Option.{option_map_or, unwrap_or}
+use Rattle.std.specs.Result.{is_ok, result_ok}
+use Rattle.std.specs.Str.{bytes_eq}
+use Rattle.std.proofs.lemmas.Bool.{and_parts}
+use Rattle.std.proofs.lemmas.Slice.Eq.{bytes_eq-Decides}
+use Rattle.chess_base.specs.declared.fault.FenFault.{FenFault}
+use Rattle.chess_base.specs.declared.man.Variant.{Variant}
+use Rattle.chess_base.specs.declared.setup.Setup.{Setup}
+use Rattle.chess_base.specs.Letters.{byte, is_digit}
+use Rattle.chess_base.specs.Initial.{initial_setup_of}
+use Rattle.chess_fen.specs.Reading.{fen_reading_as}
+use Rattle.chess_game.specs.Game.{State, from_start, played, current, verdict_now}
+use Rattle.chess_game.specs.declared.results.Outcome.{Outcome}
+use Rattle.chess_text.specs.declared.reading.Reading.{Reading}
+use Rattle.chess_text.specs.declared.reading.Reading.TheVariants as reads
+use Rattle.chess_text.specs.Moves.{reading}
+use Rattle.chess_pgn.specs.declared.termination.Termination.{Termination}
+use Rattle.chess_pgn.specs.Terminations.{termination_named}
+use Rattle.chess_pgn.specs.GameRead.{GameRead, SoFar, Step, On, word_step, move_step, fen_step, step, read_rest_with, game_of, termination_after, tagged_variant, tokens_read, pgn_read}
+use Rattle.chess_pgn.specs.LastTags.{may_precede_tags, is_marks}
+use Rattle.chess_pgn.specs.Words.{outcome_of}
+use Rattle.chess_pgn.specs.Tokens.{Token, Skip, Tag, Word, Bad_tag, Unclosed_comment, Unclosed_variation, Bad, tokens_from, after_byte_order_mark}
+use Rattle.chess_pgn.proofs.FenVariants.{initial_variant, read_variant}
+use Rattle.chess_pgn.specs.laws.TagsAndMoves.{Passes, Ends, failed, move_row, row, after_row, moves_read, is_tag, tags_named, fens, last_start, first_bad_fen, after_tags, read_of_split, IsRead}
+use Rattle.chess_pgn.proofs.TokenSplits.{read_split, split_read}
+
+-- ---- after the tags
+
+abbrev started : Option Termination → State → SoFar
+started t s = record { state = s; is_met = true; is_begun = true; termination = t }
+
+module _ (limit total : ℕ) (termination : Option Termination) (s : State) (later : SoFar → GameRead)
+    (next : State → GameRead)
+    (same : (r : State) → later (started termination r) ≡ next r) where
+  by_reading : (left : ℕ) (word : List ℕ) (over room : Bool) (r : Reading)
+      → is_some (verdict_now s) ≡ over → nat_lt (length s.moves) limit ≡ room
+      → read_rest_with (move_step limit (started termination s) (total - left) r) later
+      ≡ after_row total termination s (left, Word word) (move_row limit s r) next
+  by_reading left word over room reads.NotAMove o e = refl
+  by_reading left word true room (reads.Move m) o e = rw o refl
+  by_reading left word false true (reads.Move m) o e = rw (o, e) (same (played s m))
+  by_reading left word false false (reads.Move m) o e = rw (o, e) refl
+  by_reading left word true room reads.Ambiguous o e = rw o refl
+  by_reading left word false true reads.Ambiguous o e = rw (o, e) refl
+  by_reading left word false false reads.Ambiguous o e = rw (o, e) refl
+  by_reading left word true room reads.NoSuch o e = rw o refl
+  by_reading left word false true reads.NoSuch o e = rw (o, e) refl
+  by_reading left word false false reads.NoSuch o e = rw (o, e) refl
+
+  -- by the kind of a word, whatever kinds are
+  by_kind : {K : Type 0} (left : ℕ) (word : List ℕ) (end : Outcome → K) (number marks move : K) (steps : K → Step)
+      (o : Option Outcome) (is_number is_mark : Bool)
+      → ((o : Outcome) → read_rest_with (steps (end o)) later
+      ≡ after_row total termination s (left, Word word) (Ends o) next)
+      → read_rest_with (steps number) later ≡ next s → read_rest_with (steps marks) later ≡ next s
+      → read_rest_with (steps move) later
+      ≡ after_row total termination s (left, Word word) (move_row limit s (reading (current s) word)) next
+      → read_rest_with (steps (option_map_or end o (cond is_number number (cond is_mark marks move)))) later
+      ≡ after_row total termination s (left, Word word) (option_map_or Ends o
+      (cond is_number Passes (cond is_mark Passes (move_row limit s (reading (current s) word))))) next
+  by_kind left word end number marks move steps (Some o) is_number is_mark e n m r = e o
+  by_kind left word end number marks move steps None true is_mark e n m r = n
+  by_kind left word end number marks move steps None false true e n m r = m
+  by_kind left word end number marks move steps None false false e n m r = r
+
+  by_token : (left : ℕ) (t : Token)
+      → read_rest_with (step limit total (started termination s) left t) later
+      ≡ after_row total termination s (left, t) (row limit s t) next
+  by_token left Skip = same s
+  by_token left (Tag name string at_string) = refl
+  by_token left (Word word) =
+      by_kind left word _ _ _ _ (λ k. word_step limit (started termination s) (total - left) word k) (outcome_of word)
+      (list_all is_digit word) (list_all (λ c. c == byte "!" || c == byte "?") word) (λ o. refl) (same s) (same s)
+      (by_reading left word (is_some (verdict_now s)) (nat_lt (length s.moves) limit)
+      (reading (current s) word) refl refl)
+  by_token left Bad_tag = refl
+  by_token left (Unclosed_comment brace) = refl
+  by_token left Unclosed_variation = refl
+  by_token left Bad = refl
+
+moves_are : (limit total : ℕ) (termination : Option Termination) (s : State) (ts : List (ℕ × Token))
+    → game_of limit total (started termination s) ts ≡ moves_read limit total termination s ts
+moves_are limit total termination s [] = refl
+moves_are limit total termination s (t ∷ ts) =
+    by_token limit total termination s (λ g. game_of limit total g ts) (λ r. moves_read limit total termination r ts)
+    (λ r. moves_are limit total termination r ts) t.0 t.1
+
+-- ---- where the tags end
+
+abbrev opened : Bool → Option Termination → Setup → SoFar
+opened met termination p = record { state = from_start p; is_met = met; is_begun = false; termination = termination }
+
+abbrev Stops : List (ℕ × Token) → Type 0
+Stops [] = Unit {0}
+Stops (t ∷ ts) = may_precede_tags t.1 ≡ false
+
+module _ (limit total : ℕ) (met : Bool) (termination : Option Termination) (p : Setup) (ts : List (ℕ × Token)) where
+  s : State
+  s = from_start p
+
+  first_reading : (left : ℕ) (word : List ℕ) (over room : Bool) (r : Reading)
+      → is_some (verdict_now s) ≡ over → nat_lt (length s.moves) limit ≡ room
+      → read_rest_with (move_step limit (opened met termination p) (total - left) r) (λ g. game_of limit total g ts)
+      ≡ after_row total termination s (left, Word word) (move_row limit s r)
+      (λ n. moves_read limit total termination n ts)
+  unfolding s
+  first_reading left word over room reads.NotAMove o e = refl
+  first_reading left word true room (reads.Move m) o e = rw o refl
+  first_reading left word false true (reads.Move m) o e = rw (o, e) (moves_are limit total termination (played s m) ts)
+  first_reading left word false false (reads.Move m) o e = rw (o, e) refl
+  first_reading left word true room reads.Ambiguous o e = rw o refl
+  first_reading left word false true reads.Ambiguous o e = rw (o, e) refl
+  first_reading left word false false reads.Ambiguous o e = rw (o, e) refl
+  first_reading left word true room reads.NoSuch o e = rw o refl
+  first_reading left word false true reads.NoSuch o e = rw (o, e) refl
+  first_reading left word false false reads.NoSuch o e = rw (o, e) refl
+
+  first_kind : {K : Type 0} (left : ℕ) (word : List ℕ) (end : Outcome → K) (number marks move : K) (steps : K → Step)
+      (mark : K → Bool) (o : Option Outcome) (is_number is_mark : Bool)
+      → ((o : Outcome) → read_rest_with (steps (end o)) (λ g. game_of limit total g ts)
+      ≡ after_row total termination s (left, Word word) (Ends o) (λ n. moves_read limit total termination n ts))
+      → read_rest_with (steps number) (λ g. game_of limit total g ts) ≡ moves_read limit total termination s ts
+      → mark marks ≡ true
+      → read_rest_with (steps move) (λ g. game_of limit total g ts)
+      ≡ after_row total termination s (left, Word word) (move_row limit s (reading (current s) word))
+      (λ n. moves_read limit total termination n ts)
+      → mark (option_map_or end o (cond is_number number (cond is_mark marks move))) ≡ false
+      → read_rest_with (steps (option_map_or end o (cond is_number number (cond is_mark marks move))))
+      (λ g. game_of limit total g ts)
+      ≡ after_row total termination s (left, Word word) (option_map_or Ends o
+      (cond is_number Passes (cond is_mark Passes (move_row limit s (reading (current s) word)))))
+      (λ n. moves_read limit total termination n ts)
+  first_kind left word end number marks move steps mark (Some o) is_number is_mark e n m r h = e o
+  first_kind left word end number marks move steps mark None true is_mark e n m r h = n
+  first_kind left word end number marks move steps mark None false true e n m r h = absurd (cc)
+  first_kind left word end number marks move steps mark None false false e n m r h = r
+
+  first_token : (left : ℕ) (t : Token) → may_precede_tags t ≡ false
+      → read_rest_with (step limit total (opened met termination p) left t) (λ g. game_of limit total g ts)
+      ≡ after_tags limit total termination s met ((left, t) ∷ ts)
+  unfolding s
+  first_token left Skip h = absurd (cc)
+  first_token left (Tag name string at_string) h = absurd (cc)
+  first_token left (Word word) h =
+      first_kind left word _ _ _ _ (λ k. word_step limit (opened met termination p) (total - left) word k)
+      (λ k. is_marks k)
+      (outcome_of word) (list_all is_digit word) (list_all (λ c. c == byte "!" || c == byte "?") word) (λ o. refl)
+      (moves_are limit total termination s ts) refl
+      (first_reading left word (is_some (verdict_now s)) (nat_lt (length s.moves) limit)
+      (reading (current s) word) refl refl)
+      h
+  first_token left Bad_tag h = refl
+  first_token left (Unclosed_comment brace) h = refl
+  first_token left Unclosed_variation h = refl
+  first_token left Bad h = refl
+
+tags_end : (limit total : ℕ) (met : Bool) (termination : Option Termination) (p : Setup) (rest : List (ℕ × Token))
+    → Stops rest → game_of limit total (opened met termination p) rest
+    ≡ after_tags limit total termination (from_start p) met rest
+unfolding s
+tags_end limit total true termination p [] h = refl
+tags_end limit total false termination p [] h = refl
+tags_end limit total met termination p (t ∷ ts) h = first_token limit total met termination p ts t.0 t.1 h
+
+-- ---- the tags
+
+-- what the last of these values gives, or else the one before
+last_value : {A B : Type 0} (f : A → Option B) (o : Option A) (xs : List A) (d : Option B)
+    → option_map_or f (last_or o xs) d ≡ option_map_or f (last_or None xs) (option_map_or f o d)
+last_value f None [] d = refl
+last_value f (Some a) [] d = refl
+last_value f o (x ∷ xs) d = last_value f (Some x) xs d ∙ sym (last_value f (Some x) xs (option_map_or f o d))
+
+last_unwrapped : {A : Type 0} (o : Option A) (xs : List A) (d : A)
+    → unwrap_or (last_or o xs) d ≡ unwrap_or (last_or None xs) (unwrap_or o d)
+last_unwrapped None [] d = refl
+last_unwrapped (Some a) [] d = refl
+last_unwrapped o (x ∷ xs) d = last_unwrapped (Some x) xs d ∙ sym (last_unwrapped (Some x) xs (unwrap_or o d))
+
+-- what the last tag Termination names, where `before` is known before these tags
+abbrev termination_from : Option Termination → List (ℕ × Token) → Option Termination
+termination_from before tags =
+    option_map_or (λ tag. termination_named tag.0) (last_or None (tags_named (codes "Termination") tags)) before
+
+-- what is said of these tags and of the tokens after them, where `before` is known before them
+abbrev said : ℕ → ℕ → Option Termination → Setup → List (Result Setup FenFault × ℕ) → Bool → List (ℕ × Token) → GameRead
+said limit total termination p fs has_tags rest =
+    option_map_or (failed (from_start (last_start p fs))) (first_bad_fen total fs)
+    (after_tags limit total termination (from_start (last_start p fs)) has_tags rest)
+
+abbrev Whole : ℕ → ℕ → Variant → Bool → Option Termination → Setup → List (ℕ × Token) → List (ℕ × Token) → Type 0
+Whole limit total v met before p tags rest =
+    game_of limit total (opened met before p) (tags ++ rest)
+    ≡ said limit total (termination_from before tags) p (fens v tags) (met || list_any is_tag tags) rest
+
+-- a FEN that denotes a position gives the start, unless one after it does
+next_start : (p q : Setup) (at_string : ℕ) (fs : List (Result Setup FenFault × ℕ))
+    → last_start p ((Ok q, at_string) ∷ fs) ≡ last_start q fs
+next_start p q at_string fs =
+    let n : ℕ = prefix_len (λ (f : Result Setup FenFault × ℕ). is_ok f.0) fs in
+    let next : 1 + n ≡ suc n = omega arith in
+    rw next (last_unwrapped (Some q)
+    (filter_map (λ (f : Result Setup FenFault × ℕ). result_ok f.0)
+    (take_while (λ (f : Result Setup FenFault × ℕ). is_ok f.0) fs)) p)
+
+module _ (limit total : ℕ) (v : Variant) (rest : List (ℕ × Token)) (stops : Stops rest) where
+  no_tags : (met : Bool) (before : Option Termination) (p : Setup) → Whole limit total v met before p [] rest
+  no_tags true before p = tags_end limit total true before p rest stops
+  no_tags false before p = tags_end limit total false before p rest stops
+
+  -- a tag FEN
+  by_fen : (met : Bool) (before : Option Termination) (p : Setup) (left at_string : ℕ) (string : List ℕ)
+      (tags : List (ℕ × Token)) (r : Result Setup FenFault) → fen_reading_as v string ≡ r
+      → ((q : Setup) → q.variant ≡ v → Whole limit total v true before q tags rest)
+      → read_rest_with (fen_step (opened met before p) (total - at_string) r)
+      (λ g. game_of limit total g (tags ++ rest))
+      ≡ said limit total (termination_from before tags) p ((r, at_string) ∷ fens v tags) true rest
+  by_fen met before p left at_string string tags (Ok q) e later =
+      later q (read_variant v string q e)
+      ∙ ap (λ t. option_map_or (failed (from_start t)) (first_bad_fen total (fens v tags))
+      (after_tags limit total (termination_from before tags) (from_start t) true rest))
+      (sym (next_start p q at_string (fens v tags)))
+  by_fen met before p left at_string string tags (Err f) e later = refl
+
+  or_true : (b x : Bool) → (b || (true || x)) ≡ true
+  or_true true x = refl
+  or_true false x = refl
+
+  -- a tag of another name
+  abbrev WithTag : Bool → Option Termination → Setup → ℕ → List ℕ → List ℕ → ℕ → List (ℕ × Token) → Type 0
+  WithTag met before p left name string at_string tags =
+      Whole limit total v met before p ((left, Tag name string at_string) ∷ tags) rest
+
+  termination_step : (before : Option Termination) (left at_string : ℕ) (name string : List ℕ) (tags : List (ℕ × Token))
+      → termination_from before ((left, Tag name string at_string) ∷ tags)
+      ≡ termination_from (termination_after before name string) tags
+  termination_step before left at_string name string tags = by_test (bytes_eq name (codes "Termination"))
+    where
+      by_test : (b : Bool)
+          → option_map_or (λ (tag : List ℕ × ℕ). termination_named tag.0)
+          (last_or None (cons_option (cond b (Some (string, at_string)) None)
+          (tags_named (codes "Termination") tags))) before
+          ≡ termination_from (cond b (termination_named string) before) tags
+      by_test true = last_value (λ (tag : List ℕ × ℕ). termination_named tag.0) (Some (string, at_string))
+          (tags_named (codes "Termination") tags) before
+      by_test false = refl
+
+  one_tag : (met : Bool) (before : Option Termination) (p : Setup) (left at_string : ℕ) (name string : List ℕ)
+      (tags : List (ℕ × Token)) → p.variant ≡ v
+      → ((t : Option Termination) (q : Setup) → q.variant ≡ v → Whole limit total v true t q tags rest)
+      → Whole limit total v met before p ((left, Tag name string at_string) ∷ tags) rest
+  one_tag met before p left at_string name string tags of later = by_test (bytes_eq name (codes "FEN")) refl
+    where
+      by_test : (b : Bool) → bytes_eq name (codes "FEN") ≡ b
+          → Whole limit total v met before p ((left, Tag name string at_string) ∷ tags) rest
+      by_test true e =
+          let is : name ≡ codes "FEN" = (bytes_eq-Decides name (codes "FEN")).0 e in
+          let no_end : bytes_eq name (codes "Termination") ≡ false = ap (λ n. bytes_eq n (codes "Termination")) is in
+          rw (e, no_end, or_true met (list_any is_tag tags))
+          (ap (λ u. read_rest_with (fen_step (opened met before p) (total - at_string) (fen_reading_as u string))
+          (λ g. game_of limit total g (tags ++ rest))) of
+          ∙ by_fen met before p left at_string string tags (fen_reading_as v string) refl (λ q k. later before q k))
+      by_test false e =
+          ap (λ b. read_rest_with
+          (cond b (fen_step (opened met before p) (total - at_string) (fen_reading_as p.variant string))
+          (On (record (opened met before p) { is_met = true; termination = termination_after before name string })))
+          (λ g. game_of limit total g (tags ++ rest))) e
+          ∙ later (termination_after before name string) p of
+          ∙ rw (e, or_true met (list_any is_tag tags), termination_step before left at_string name string tags) refl
+
+  marks_pass : {K : Type 0} (end : Outcome → K) (number marks move : K) (steps : K → Step) (mark : K → Bool)
+      (later : SoFar → GameRead) (g : SoFar) (o : Option Outcome) (is_number is_mark : Bool)
+      → ((o : Outcome) → mark (end o) ≡ false) → mark number ≡ false → mark move ≡ false
+      → read_rest_with (steps marks) later ≡ later g
+      → mark (option_map_or end o (cond is_number number (cond is_mark marks move))) ≡ true
+      → read_rest_with (steps (option_map_or end o (cond is_number number (cond is_mark marks move)))) later ≡ later g
+  marks_pass end number marks move steps mark later g (Some o) is_number is_mark e n m r h = let no = e o in absurd (cc)
+  marks_pass end number marks move steps mark later g None true is_mark e n m r h = absurd (cc)
+  marks_pass end number marks move steps mark later g None false true e n m r h = r
+  marks_pass end number marks move steps mark later g None false false e n m r h = absurd (cc)
+
+  one_token : (met : Bool) (before : Option Termination) (p : Setup) (left : ℕ) (t : Token) (tags : List (ℕ × Token))
+      → p.variant ≡ v → may_precede_tags t ≡ true
+      → ((m : Bool) (t : Option Termination) (q : Setup) → q.variant ≡ v → Whole limit total v m t q tags rest)
+      → Whole limit total v met before p ((left, t) ∷ tags) rest
+  one_token met before p left Skip tags of h later = later met before p of
+  one_token met before p left (Tag name string at_string) tags of h later =
+      one_tag met before p left at_string name string tags of (λ t q k. later true t q k)
+  one_token met before p left (Word word) tags of h later =
+      marks_pass _ _ _ _ (λ k. word_step limit (opened met before p) (total - left) word k) (λ k. is_marks k)
+      (λ g. game_of limit total g (tags ++ rest)) (opened met before p) (outcome_of word)
+      (list_all is_digit word) (list_all (λ c. c == byte "!" || c == byte "?") word) (λ o. refl) refl refl refl h
+      ∙ later met before p of
+  one_token met before p left Bad_tag tags of h later = absurd (cc)
+  one_token met before p left (Unclosed_comment brace) tags of h later = absurd (cc)
+  one_token met before p left Unclosed_variation tags of h later = absurd (cc)
+  one_token met before p left Bad tags of h later = absurd (cc)
+
+  all_tags : (met : Bool) (before : Option Termination) (p : Setup) (tags : List (ℕ × Token)) → p.variant ≡ v
+      → list_all (λ t. may_precede_tags t.1) tags ≡ true → Whole limit total v met before p tags rest
+  all_tags met before p [] of h = no_tags met before p
+  all_tags met before p (t ∷ tags) of h =
+      let both = and_parts (may_precede_tags t.1) (list_all (λ (u : ℕ × Token). may_precede_tags u.1) tags) h in
+      one_token met before p t.0 t.1 tags of both.0 (λ m e q k. all_tags m e q tags k both.1)
+
+-- ---- where the tags end in a list of tokens
+
+tags_pass : (p : ℕ × Token → Bool) (xs : List (ℕ × Token)) → list_all p (take (prefix_len p xs) xs) ≡ true
+tags_pass p [] = refl
+tags_pass p (c ∷ rest) = by_test (p c) refl (tags_pass p rest)
+  where
+    by_test : (t : Bool) → p c ≡ t → list_all p (take (prefix_len p rest) rest) ≡ true
+        → list_all p (take (cond t (1 + prefix_len p rest) 0) (c ∷ rest)) ≡ true
+    by_test true e more =
+        let next : 1 + prefix_len p rest ≡ suc (prefix_len p rest) = omega arith in
+        rw (next, e) more
+    by_test false e more = refl
+
+tags_stop : (xs : List (ℕ × Token))
+    → Stops (drop (length (take_while (λ (t : ℕ × Token). may_precede_tags t.1) xs)) xs)
+tags_stop [] = tt
+tags_stop (t ∷ ts) = by_test (may_precede_tags t.1) refl (tags_stop ts)
+  where
+    n : ℕ
+    n = prefix_len (λ (u : ℕ × Token). may_precede_tags u.1) ts
+
+    by_test : (b : Bool) → may_precede_tags t.1 ≡ b → Stops (drop (length (take n ts)) ts)
+        → Stops (drop (length (take (cond b (1 + n) 0) (t ∷ ts))) (t ∷ ts))
+    by_test true e more =
+        let next : 1 + n ≡ suc n = omega arith in
+        rw next more
+    by_test false e more = e
+
+rest_is : (p : ℕ × Token → Bool) (xs : List (ℕ × Token)) → take_while p xs ++ drop (length (take_while p xs)) xs ≡ xs
+rest_is p [] = refl
+rest_is p (t ∷ ts) = by_test (p t) (rest_is p ts)
+  where
+    n : ℕ
+    n = prefix_len p ts
+
+    by_test : (b : Bool) → take n ts ++ drop (length (take n ts)) ts ≡ ts
+        → take (cond b (1 + n) 0) (t ∷ ts) ++ drop (length (take (cond b (1 + n) 0) (t ∷ ts))) (t ∷ ts) ≡ t ∷ ts
+    by_test true more =
+        let next : 1 + n ≡ suc n = omega arith in
+        rw next (ap (λ xs. t ∷ xs) more)
+    by_test false more = refl
+
+none_before : (o : Option (List ℕ × ℕ)) → option_map_or (λ (tag : List ℕ × ℕ). termination_named tag.0) o None
+    ≡ option_and_then (λ (tag : List ℕ × ℕ). termination_named tag.0) o
+none_before None = refl
+none_before (Some tag) = refl
+
+tokens_are : (limit total : ℕ) (ts : List (ℕ × Token))
+    → read_of_split limit total ts ≡ tokens_read limit total ts
+tokens_are limit total ts =
+    let v : Variant = tagged_variant ts in
+    let p : ℕ × Token → Bool = λ (t : ℕ × Token). may_precede_tags t.1 in
+    let tags : List (ℕ × Token) = take_while p ts in
+    let rest : List (ℕ × Token) = drop (length tags) ts in
+    ap (λ e. said limit total e (initial_setup_of v) (fens v tags) (list_any is_tag tags) rest)
+    (sym (none_before (last_or None (tags_named (codes "Termination") tags))))
+    ∙ sym (all_tags limit total v rest (tags_stop ts) false None (initial_setup_of v) tags (initial_variant v)
+    (tags_pass p ts))
+    ∙ ap (game_of limit total (opened false None (initial_setup_of v))) (rest_is p ts)
+
+-- what is read of a text token by token
+pub is_read : (limit : ℕ) (text : List ℕ) (at : ℕ) → IsRead limit text at (pgn_read limit text at)
+unfolding pgn_read
+is_read limit text at = record {
+  tokens = tokens_from text (after_byte_order_mark text at);
+  split = read_split text (after_byte_order_mark text at);
+  is = sym (tokens_are limit (length text) (tokens_from text (after_byte_order_mark text at)));
+}
+
+-- and nothing else
+pub only_read : (limit : ℕ) (text : List ℕ) (at : ℕ) (r : GameRead) → IsRead limit text at r
+    → r ≡ pgn_read limit text at
+unfolding pgn_read
+only_read limit text at r h =
+    h.is ∙ ap (read_of_split limit (length text)) (split_read text h.split)
+    ∙ tokens_are limit (length text) (tokens_from text (after_byte_order_mark text at))

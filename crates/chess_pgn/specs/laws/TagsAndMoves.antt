@@ -1,0 +1,173 @@
+-- What is read of a game's text (PGN standard of 1994, sections 7 to 9; which words are taken is this project's own): a
+-- game's tokens are its tags, and then its moves. The tags give the start, and each move's word denotes a move in the
+-- position reached by then. The first token that can't be taken is the fault.
+use Rattle.std.specs.Prelude.{◌≡◌, ℕ, ◌+◌, ◌-◌, nat_lt, Bool, true, false, not, ◌||◌, if◌then◌else◌, List, [], ◌∷◌, length, drop, map, codes, slice_get, Option, Some, None, is_some, Result, Ok, Err, option_and_then, ◌==◌}
+use Rattle.std.specs.List.{list_all, list_any, filter_map, last_or, take_while}
+use Rattle.std.specs.Option.{option_map_or, unwrap_or}
+use Rattle.std.specs.Result.{is_ok, result_ok}
+use Rattle.chess_base.specs.declared.fault.FenFault.{FenFault}
+use Rattle.chess_base.specs.declared.man.Move.{Move}
+use Rattle.chess_base.specs.declared.man.Variant.{Variant}
+use Rattle.chess_base.specs.declared.setup.Setup.{Setup}
+use Rattle.chess_base.specs.Initial.{initial_setup_of}
+use Rattle.chess_base.specs.Letters.{byte, is_digit}
+use Rattle.chess_fen.specs.Reading.{fen_reading_as}
+use Rattle.chess_game.specs.Game.{State, from_start, played, with_declared, current, verdict_now}
+use Rattle.chess_game.specs.declared.results.Outcome.{Outcome}
+use Rattle.chess_text.specs.declared.reading.Reading.{Reading}
+use Rattle.chess_text.specs.declared.reading.Reading.TheVariants as reads
+use Rattle.chess_text.specs.Moves.{reading}
+use Rattle.chess_pgn.specs.declared.read.PgnFault.{PgnFault}
+use Rattle.chess_pgn.specs.declared.read.PgnFaultKind.{PgnFaultKind}
+use Rattle.chess_pgn.specs.declared.read.PgnFaultKind.TheVariants.{BadTag, BadFen, BadToken, IllegalMove, AmbiguousMove, AfterEnd, TooLong, UnclosedComment, UnclosedVariation, NoResult}
+use Rattle.chess_pgn.specs.declared.termination.Termination.{Termination}
+use Rattle.chess_pgn.specs.Terminations.{termination_named}
+use Rattle.chess_pgn.specs.GameRead.{GameRead, declared_after, tagged_variant}
+use Rattle.chess_pgn.specs.LastTags.{may_precede_tags, named_tag}
+use Rattle.chess_pgn.specs.Tokens.{Token, Skip, Tag, Word, Bad_tag, Unclosed_comment, Unclosed_variation, Bad, after_byte_order_mark}
+use Rattle.chess_pgn.specs.Words.{outcome_of}
+use Rattle.chess_pgn.specs.laws.Split.{IsSplit}
+
+-- ---- what is read in the end
+
+-- the game `s` was read, and then there was this fault
+abbrev pub failed : State → PgnFault → GameRead
+failed s fault = record { state = s; answer = Err fault }
+
+-- the game `s` was read, and then this outcome: it is declared, unless the board has a verdict or it is `*`; `offset`
+-- is the one after it
+abbrev pub finished : State → Outcome → Option Termination → ℕ → GameRead
+finished s o termination offset = record {
+  state = with_declared s (declared_after (is_some (verdict_now s)) o);
+  answer = Ok (Some (record { outcome = o; termination = termination; offset = offset }));
+}
+
+-- ---- after the tags: a row for each kind of token
+
+-- what a token does: it is passed over, its move is played, its outcome ends the game, or it can't be taken
+pub data Row : Type 0 where
+  Passes : Row
+  Plays : (m : Move) → Row
+  Ends : (o : Outcome) → Row
+  Fails : (kind : PgnFaultKind) → Row
+
+-- what a word that may be a move does by what it denotes, where a move may be played
+abbrev pub denoted_row : Reading → Row
+denoted_row (reads.Move m) = Plays m
+denoted_row reads.Ambiguous = Fails AmbiguousMove
+denoted_row reads.NoSuch = Fails IllegalMove
+denoted_row reads.NotAMove = Fails BadToken
+
+-- a word that is no outcome, number or mark, in the game `s` of at most `limit` half-moves, by what it denotes in the
+-- current position: the one move that it denotes is played, unless the game is over or full
+abbrev pub move_row : ℕ → State → Reading → Row
+move_row limit s reads.NotAMove = Fails BadToken
+move_row limit s denoted =
+    if is_some (verdict_now s) then Fails AfterEnd
+    else if not (nat_lt (length s.moves) limit) then Fails TooLong
+    else denoted_row denoted
+
+-- a word: an outcome such as `1-0`, a number (digits alone), marks (`!` and `?` alone), or else a move's
+abbrev pub word_row : ℕ → State → List ℕ → Row
+word_row limit s word = option_map_or Ends (outcome_of word)
+    (if list_all is_digit word then Passes
+    else if list_all (λ c. c == byte "!" || c == byte "?") word then Passes
+    else move_row limit s (reading (current s) word))
+
+-- any token; a tag here is the next game's, so that this one has no outcome
+abbrev pub row : ℕ → State → Token → Row
+row limit s Skip = Passes
+row limit s (Word word) = word_row limit s word
+row limit s (Unclosed_comment brace) = Fails UnclosedComment
+row limit s Unclosed_variation = Fails UnclosedVariation
+row limit s Bad = Fails BadToken
+row limit s Bad_tag = Fails NoResult
+row limit s (Tag name string at_string) = Fails NoResult
+
+-- how many bytes are left at a token's fault: at the token, but for a comment that isn't closed at its brace
+abbrev pub left_at_fault : ℕ × Token → ℕ
+left_at_fault (to_end, Unclosed_comment brace) = brace
+left_at_fault (to_end, _) = to_end
+
+-- the length of a word; 0 for another token
+abbrev pub word_length : Token → ℕ
+word_length (Word word) = length word
+word_length _ = 0
+
+-- what is read where a token does this, and `later` is what is read of the tokens after it; the text has `total` bytes
+abbrev pub after_row : ℕ → Option Termination → State → ℕ × Token → Row → (State → GameRead) → GameRead
+after_row total termination s t Passes later = later s
+after_row total termination s t (Plays m) later = later (played s m)
+after_row total termination s t (Ends o) later = finished s o termination (total - t.0 + word_length t.1)
+after_row total termination s t (Fails kind) later = failed s (record { kind = kind; offset = total - left_at_fault t })
+
+-- what is read of the tokens after the tags, in a text of `total` bytes, from the game `s` on
+abbrev pub moves_read : ℕ → ℕ → Option Termination → State → List (ℕ × Token) → GameRead
+moves_read limit total termination s [] = failed s (record { kind = NoResult; offset = total })
+moves_read limit total termination s (t ∷ ts) =
+    after_row total termination s t (row limit s t.1) (λ next. moves_read limit total termination next ts)
+
+-- ---- the tags: the tokens before the first number, move, outcome or fault
+
+-- whether a token is a tag
+abbrev pub is_tag : ℕ × Token → Bool
+is_tag (to_end, Tag name string at_string) = true
+is_tag _ = false
+
+-- the tags of this name, each as its text and how many bytes are left where that begins
+abbrev pub tags_named : List ℕ → List (ℕ × Token) → List (List ℕ × ℕ)
+tags_named name tags = filter_map (λ t. named_tag name t.1) tags
+
+-- what the last tag Termination names
+abbrev pub last_termination : List (ℕ × Token) → Option Termination
+last_termination tags =
+    option_and_then (λ tag. termination_named tag.0) (last_or None (tags_named (codes "Termination") tags))
+
+-- what the tags FEN denote in the variant `v`, each with how many bytes are left where its text begins
+abbrev pub fens : Variant → List (ℕ × Token) → List (Result Setup FenFault × ℕ)
+fens v tags = map (λ tag. (fen_reading_as v tag.0, tag.1)) (tags_named (codes "FEN") tags)
+
+-- the position that the last FEN denotes, of those before the first that denotes none; `start` if there is no such FEN
+abbrev pub last_start : Setup → List (Result Setup FenFault × ℕ) → Setup
+last_start start fs =
+    unwrap_or (last_or None (filter_map (λ f. result_ok f.0) (take_while (λ f. is_ok f.0) fs))) start
+
+-- the fault of a FEN that denotes no sound position, in a text of `total` bytes
+abbrev pub bad_fen : ℕ → Result Setup FenFault × ℕ → Option PgnFault
+bad_fen total (Ok start, to_end) = None
+bad_fen total (Err fault, to_end) = Some (record { kind = BadFen fault; offset = total - to_end })
+
+-- the fault of the first FEN that has one
+abbrev pub first_bad_fen : ℕ → List (Result Setup FenFault × ℕ) → Option PgnFault
+first_bad_fen total fs = slice_get (filter_map (bad_fen total) fs) 0
+
+-- ---- the game
+
+-- what is read after the tags, if each of their FENs denotes a position: a fault, if a tag comes that can't be read; no
+-- game, if nothing comes and there was no tag; or else the moves
+abbrev pub after_tags : ℕ → ℕ → Option Termination → State → Bool → List (ℕ × Token) → GameRead
+after_tags limit total termination s has_tags ((to_end, Bad_tag) ∷ rest) =
+    failed s (record { kind = BadTag; offset = total - to_end })
+after_tags limit total termination s false [] = record { state = s; answer = Ok None }
+after_tags limit total termination s has_tags rest = moves_read limit total termination s rest
+
+-- what is read of a game of variant `v` with these tags and these tokens after them, in a text of `total` bytes: the
+-- fault of a FEN, or else what is read after the tags from the start that they give
+abbrev pub game_read : ℕ → ℕ → Variant → List (ℕ × Token) → List (ℕ × Token) → GameRead
+game_read limit total v tags rest =
+    let s = from_start (last_start (initial_setup_of v) (fens v tags)) in
+    option_map_or (failed s) (first_bad_fen total (fens v tags))
+    (after_tags limit total (last_termination tags) s (list_any is_tag tags) rest)
+
+-- what is read of these tokens, in a text of `total` bytes: of its tags, and then of the tokens after them
+abbrev pub read_of_split : ℕ → ℕ → List (ℕ × Token) → GameRead
+read_of_split limit total tokens =
+    let tags = take_while (λ t. may_precede_tags t.1) tokens in
+    game_read limit total (tagged_variant tokens) tags (drop (length tags) tokens)
+
+-- `r` is what is read of a text from the offset `at` on: the game up to its outcome and where it ended, or `None` if no
+-- game is left, or the first fault. `limit` is the most half-moves of a game
+pub record IsRead (limit : ℕ) (text : List ℕ) (at : ℕ) (r : GameRead) : Type 0 where
+  pub tokens : List (ℕ × Token)
+  pub split : IsSplit text (after_byte_order_mark text at) tokens
+  pub is : r ≡ read_of_split limit (length text) tokens
