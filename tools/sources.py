@@ -331,7 +331,7 @@ class Sources:
         indent = len(lines[i]) - len(lines[i].lstrip())
         while True:
             line = lines[i]
-            if m := re.match(r"^\s+(requires|ensures|decreases)( \w+)? \{(.*)$", line):
+            if m := re.match(r"^\s+(requires|ensures|decreases)\*?( \w+)? \{(.*)$", line):
                 kind = m.group(1)
                 clauses.append([kind, (m.group(2) or "").strip(), m.group(3)])
             elif kind and line.strip() not in ("{", "{}", "}") and not line.strip().startswith("//"):

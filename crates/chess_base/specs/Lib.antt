@@ -1,5 +1,7 @@
 pub mod Squares
 pub mod Men
+pub mod ByColour
+pub mod LentByColour
 pub mod Attacks
 pub mod Castling
 pub mod Steps

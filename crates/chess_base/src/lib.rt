@@ -11,6 +11,7 @@
 mod after;
 mod attack;
 mod before;
+mod by_colour;
 mod castling;
 mod fault;
 mod initial;
@@ -26,6 +27,7 @@ mod sound;
 mod square;
 mod steps;
 
+pub use by_colour::ByColour;
 pub use fault::FenFault;
 pub use laws::{
     after_is_sound, before_undoes_after, moves_rise, normal_is_kept, reserve_never_grows,

@@ -153,27 +153,8 @@ fn is_unwritten(reason: Reason, side: Colour) -> bool
     ensures { result ≡ is_unwritten reason side }
 {
     match reason {
-        Reason::Faulted(failed, fault) => match fault {
-            MatchFault::Write => same_colour(failed, side),
-            MatchFault::Ended => false,
-            MatchFault::Read => false,
-            MatchFault::NoDone => false,
-            MatchFault::NoPing => false,
-            MatchFault::NoSetboard => false,
-            MatchFault::Flood => false,
-            MatchFault::NoVariant => false,
-        },
-        Reason::Decided(_) => false,
-        Reason::Claimed(_) => false,
-        Reason::Agreed => false,
-        Reason::Resigns(_) => false,
-        Reason::MovesIllegally(_) => false,
-        Reason::MovesOutOfTurn(_) => false,
-        Reason::ClaimsFalsely(_) => false,
-        Reason::RejectsLegalMove(_) => false,
-        Reason::Forfeits(_) => false,
-        Reason::ForfeitsToBareKing => false,
-        Reason::GameTooLong => false,
+        Reason::Faulted(failed, MatchFault::Write) => same_colour(failed, side),
+        _ => false,
     }
 }
 

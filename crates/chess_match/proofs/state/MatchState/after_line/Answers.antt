@@ -7,6 +7,7 @@ use Rattle.chess_match.specs.Sent.{is_same_phase}
 use Rattle.chess_match.specs.Transcript.{reads, is_on}
 use Rattle.chess_match.specs.declared.phase.Phase.TheVariants.{SendTurn}
 use Rattle.chess_match.proofs.Going.{clocks_moves}
+use Rattle.chess_match.proofs.OtherLines.{after_other}
 use Rattle.chess_match.proofs.state.MatchState.after_line.Goals as goal
 use Rattle.chess_base.proofs.MenFacts.{same_colour-self}
 
@@ -36,44 +37,8 @@ returns-else-number-moves g c r m p at s =
     let h : reads m.phase c.args.side ≡ true = rw at (same_colour-self c.args.side) in
     rw (c.in-Pong.is, unanswered) (c.ignore.ensures r _ m h s)
 
-pub returns-in-Features : goal.returns-in-Features
-unfolding after_line
-returns-in-Features g c r m p at s =
+pub returns-in_default : goal.returns-in_default
+returns-in_default g c r m p at s =
     let h : reads m.phase c.args.side ≡ true = rw at (same_colour-self c.args.side) in
-    rw c.in-Features.is (c.turn_line.ensures r m p h s)
-
-pub returns-in-Resign : goal.returns-in-Resign
-unfolding after_line
-returns-in-Resign g c r m p at s =
-    let h : reads m.phase c.args.side ≡ true = rw at (same_colour-self c.args.side) in
-    rw c.in-Resign.is (c.turn_line-in-Resign.ensures r m p h s)
-
-pub returns-in-Offer : goal.returns-in-Offer
-unfolding after_line
-returns-in-Offer g c r m p at s =
-    let h : reads m.phase c.args.side ≡ true = rw at (same_colour-self c.args.side) in
-    rw c.in-Offer.is (c.turn_line-in-Offer.ensures r m p h s)
-
-pub returns-in-Draw : goal.returns-in-Draw
-unfolding after_line
-returns-in-Draw g c r m p at s =
-    let h : reads m.phase c.args.side ≡ true = rw at (same_colour-self c.args.side) in
-    rw c.in-Draw.is (c.turn_line-in-Draw.ensures r m p h s)
-
-pub returns-in-Win : goal.returns-in-Win
-unfolding after_line
-returns-in-Win g c r m p at s =
-    let h : reads m.phase c.args.side ≡ true = rw at (same_colour-self c.args.side) in
-    rw c.in-Win.is (c.turn_line-in-Win.ensures r m p h s)
-
-pub returns-in-Rejection : goal.returns-in-Rejection
-unfolding after_line
-returns-in-Rejection g c r m p at s =
-    let h : reads m.phase c.args.side ≡ true = rw at (same_colour-self c.args.side) in
-    rw c.in-Rejection.is (c.turn_line-in-Rejection.ensures r m p h s)
-
-pub returns-in-Other : goal.returns-in-Other
-unfolding after_line
-returns-in-Other g c r m p at s =
-    let h : reads m.phase c.args.side ≡ true = rw at (same_colour-self c.args.side) in
-    rw c.in-Other.is (c.turn_line-in-Other.ensures r m p h s)
+    rw (after_other r c.args.side c.args.line m c.in_default.not-Move c.in_default.not-Pong)
+    (c.turn_line.ensures r m p h s)

@@ -7,6 +7,7 @@ use Rattle.cecp_engine.specs.Clocks.{remaining}
 use Rattle.chess_match.specs.Match.{clock, before_line}
 use Rattle.chess_match.specs.Transcript.{reads, is_on}
 use Rattle.chess_match.proofs.Going.{clocks_left}
+use Rattle.chess_match.proofs.OtherLines.{before_other}
 use Rattle.chess_match.proofs.state.MatchState.before_line.Goals as goal
 use Rattle.chess_base.proofs.MenFacts.{same_colour-self}
 
@@ -54,9 +55,9 @@ returns-in-Move-clause-goes g c r m p at s =
     flag_kept _ _ _ _ false left used (sym c.is_flagged.ensures ∙ c.if-is_flagged.false) in
     rw (c.in-Move.is, flag) (c.move_line.ensures.goes r m c.args.moment p at used s)
 
-pub returns-in-Features-clause-goes : goal.returns-in-Features-clause-goes
+pub returns-in_default-clause-goes : goal.returns-in_default-clause-goes
 unfolding before_line
-returns-in-Features-clause-goes g c r m p at s =
+returns-in_default-clause-goes g c r m p at s =
     let left : remaining c.args.self.now.clocks c.args.side ≡ clock r m c.args.side =
     clocks_left r _ _ m s c.args.side in
     let used : c.saturating_sub-used.result ≡ c.args.moment - m.opened =
@@ -64,88 +65,5 @@ returns-in-Features-clause-goes g c r m p at s =
     let flag : nat_lt (clock r m c.args.side) (c.args.moment - m.opened) ≡ false =
     flag_kept _ _ _ _ false left used (sym c.is_flagged.ensures ∙ c.if-is_flagged.false) in
     let h : reads m.phase c.args.side ≡ true = rw at (same_colour-self c.args.side) in
-    rw (c.in-Features.is, flag) (c.turn_line.ensures r m p h s)
-
-pub returns-in-Resign-clause-goes : goal.returns-in-Resign-clause-goes
-unfolding before_line
-returns-in-Resign-clause-goes g c r m p at s =
-    let left : remaining c.args.self.now.clocks c.args.side ≡ clock r m c.args.side =
-    clocks_left r _ _ m s c.args.side in
-    let used : c.saturating_sub-used.result ≡ c.args.moment - m.opened =
-    rw (← s.opened) c.saturating_sub-used.ensures in
-    let flag : nat_lt (clock r m c.args.side) (c.args.moment - m.opened) ≡ false =
-    flag_kept _ _ _ _ false left used (sym c.is_flagged.ensures ∙ c.if-is_flagged.false) in
-    let h : reads m.phase c.args.side ≡ true = rw at (same_colour-self c.args.side) in
-    rw (c.in-Resign.is, flag) (c.turn_line-in-Resign.ensures r m p h s)
-
-pub returns-in-Offer-clause-goes : goal.returns-in-Offer-clause-goes
-unfolding before_line
-returns-in-Offer-clause-goes g c r m p at s =
-    let left : remaining c.args.self.now.clocks c.args.side ≡ clock r m c.args.side =
-    clocks_left r _ _ m s c.args.side in
-    let used : c.saturating_sub-used.result ≡ c.args.moment - m.opened =
-    rw (← s.opened) c.saturating_sub-used.ensures in
-    let flag : nat_lt (clock r m c.args.side) (c.args.moment - m.opened) ≡ false =
-    flag_kept _ _ _ _ false left used (sym c.is_flagged.ensures ∙ c.if-is_flagged.false) in
-    let h : reads m.phase c.args.side ≡ true = rw at (same_colour-self c.args.side) in
-    rw (c.in-Offer.is, flag) (c.turn_line-in-Offer.ensures r m p h s)
-
-pub returns-in-Draw-clause-goes : goal.returns-in-Draw-clause-goes
-unfolding before_line
-returns-in-Draw-clause-goes g c r m p at s =
-    let left : remaining c.args.self.now.clocks c.args.side ≡ clock r m c.args.side =
-    clocks_left r _ _ m s c.args.side in
-    let used : c.saturating_sub-used.result ≡ c.args.moment - m.opened =
-    rw (← s.opened) c.saturating_sub-used.ensures in
-    let flag : nat_lt (clock r m c.args.side) (c.args.moment - m.opened) ≡ false =
-    flag_kept _ _ _ _ false left used (sym c.is_flagged.ensures ∙ c.if-is_flagged.false) in
-    let h : reads m.phase c.args.side ≡ true = rw at (same_colour-self c.args.side) in
-    rw (c.in-Draw.is, flag) (c.turn_line-in-Draw.ensures r m p h s)
-
-pub returns-in-Win-clause-goes : goal.returns-in-Win-clause-goes
-unfolding before_line
-returns-in-Win-clause-goes g c r m p at s =
-    let left : remaining c.args.self.now.clocks c.args.side ≡ clock r m c.args.side =
-    clocks_left r _ _ m s c.args.side in
-    let used : c.saturating_sub-used.result ≡ c.args.moment - m.opened =
-    rw (← s.opened) c.saturating_sub-used.ensures in
-    let flag : nat_lt (clock r m c.args.side) (c.args.moment - m.opened) ≡ false =
-    flag_kept _ _ _ _ false left used (sym c.is_flagged.ensures ∙ c.if-is_flagged.false) in
-    let h : reads m.phase c.args.side ≡ true = rw at (same_colour-self c.args.side) in
-    rw (c.in-Win.is, flag) (c.turn_line-in-Win.ensures r m p h s)
-
-pub returns-in-Rejection-clause-goes : goal.returns-in-Rejection-clause-goes
-unfolding before_line
-returns-in-Rejection-clause-goes g c r m p at s =
-    let left : remaining c.args.self.now.clocks c.args.side ≡ clock r m c.args.side =
-    clocks_left r _ _ m s c.args.side in
-    let used : c.saturating_sub-used.result ≡ c.args.moment - m.opened =
-    rw (← s.opened) c.saturating_sub-used.ensures in
-    let flag : nat_lt (clock r m c.args.side) (c.args.moment - m.opened) ≡ false =
-    flag_kept _ _ _ _ false left used (sym c.is_flagged.ensures ∙ c.if-is_flagged.false) in
-    let h : reads m.phase c.args.side ≡ true = rw at (same_colour-self c.args.side) in
-    rw (c.in-Rejection.is, flag) (c.turn_line-in-Rejection.ensures r m p h s)
-
-pub returns-in-Pong-clause-goes : goal.returns-in-Pong-clause-goes
-unfolding before_line
-returns-in-Pong-clause-goes g c r m p at s =
-    let left : remaining c.args.self.now.clocks c.args.side ≡ clock r m c.args.side =
-    clocks_left r _ _ m s c.args.side in
-    let used : c.saturating_sub-used.result ≡ c.args.moment - m.opened =
-    rw (← s.opened) c.saturating_sub-used.ensures in
-    let flag : nat_lt (clock r m c.args.side) (c.args.moment - m.opened) ≡ false =
-    flag_kept _ _ _ _ false left used (sym c.is_flagged.ensures ∙ c.if-is_flagged.false) in
-    let h : reads m.phase c.args.side ≡ true = rw at (same_colour-self c.args.side) in
-    rw (c.in-Pong.is, flag) (c.turn_line-in-Pong.ensures r m p h s)
-
-pub returns-in-Other-clause-goes : goal.returns-in-Other-clause-goes
-unfolding before_line
-returns-in-Other-clause-goes g c r m p at s =
-    let left : remaining c.args.self.now.clocks c.args.side ≡ clock r m c.args.side =
-    clocks_left r _ _ m s c.args.side in
-    let used : c.saturating_sub-used.result ≡ c.args.moment - m.opened =
-    rw (← s.opened) c.saturating_sub-used.ensures in
-    let flag : nat_lt (clock r m c.args.side) (c.args.moment - m.opened) ≡ false =
-    flag_kept _ _ _ _ false left used (sym c.is_flagged.ensures ∙ c.if-is_flagged.false) in
-    let h : reads m.phase c.args.side ≡ true = rw at (same_colour-self c.args.side) in
-    rw (c.in-Other.is, flag) (c.turn_line-in-Other.ensures r m p h s)
+    rw (flag, before_other r c.args.side c.args.line c.args.moment m c.in_default.not-Move)
+    (c.turn_line.ensures r m p h s)

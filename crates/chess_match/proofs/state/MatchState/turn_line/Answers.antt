@@ -4,6 +4,7 @@ use Rattle.std.proofs.Common.{◌≡◌, true, false, sym, ◌∙◌, Some, None
 use Rattle.chess_base.specs.Men.{other, same_colour}
 use Rattle.chess_match.specs.Match.{seat, was_sent_move}
 use Rattle.chess_match.proofs.Going.{reads_on, clocks_moves}
+use Rattle.chess_match.proofs.OtherLines.{ignored_other}
 use Rattle.chess_match.proofs.state.MatchState.turn_line.Goals as goal
 
 pub returns-in-Resign : goal.returns-in-Resign
@@ -48,18 +49,7 @@ returns-else-moves-gt0 g c r m p h s =
     let told : was_sent_move m c.args.side ≡ false = le-ltb 0 _ (omega (arith, moved)) in
     rw (c.in-Rejection.is, told) (c.ignore.ensures r _ m h s)
 
-pub returns-in-Features : goal.returns-in-Features
-returns-in-Features g c r m p h s =
-    rw c.in-Features.is (c.ignore-in-Features.ensures r _ m h s)
-
-pub returns-in-Move : goal.returns-in-Move
-returns-in-Move g c r m p h s =
-    rw c.in-Move.is (c.ignore-in-Move.ensures r _ m h s)
-
-pub returns-in-Pong : goal.returns-in-Pong
-returns-in-Pong g c r m p h s =
-    rw c.in-Pong.is (c.ignore-in-Pong.ensures r _ m h s)
-
-pub returns-in-Other : goal.returns-in-Other
-returns-in-Other g c r m p h s =
-    rw c.in-Other.is (c.ignore-in-Other.ensures r _ m h s)
+pub returns-in_default : goal.returns-in_default
+returns-in_default g c r m p h s =
+    rw (ignored_other r c.args.side c.args.line m c.in_default.not-Resign c.in_default.not-Offer c.in_default.not-Draw
+    c.in_default.not-Win c.in_default.not-Rejection) (c.ignore-in_default.ensures r _ m h s)
