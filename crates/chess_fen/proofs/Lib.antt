@@ -18,3 +18,4 @@ pub mod NormalWritten
 pub mod NormalRead
 pub mod WrittenFen
 pub mod Ascii
+mod OneInitial
