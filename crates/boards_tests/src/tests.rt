@@ -1,9 +1,9 @@
 ghost use Rattle.std.specs.Prelude.{◌≡◌, OnOk};
 
-use chess_base::{Move, Position, Square, Variant};
+use chess_base::{Colour, Kind, Move, Position, Square, Variant};
 use chess_bits::{AttackTables, Bits};
 use chess_fen::{read_fen, read_fen_as};
-use chess_moves::{Board, Plain, make_then_take_back};
+use chess_moves::{Board, Plain, legal_moves, make_then_take_back};
 use perft_positions::{FISCHERANDOM, KIWIPETE, NORMAL, Perft};
 use std::fmt::Debug;
 use std::process::Abort;
@@ -184,4 +184,41 @@ fn mate_is_check_without_a_move(rt: HostRuntime) -> Result<(), Fail> {
     assert!(rt; !board.in_check());
     assert!(rt; !board.has_legal_move());
     Ok(())
+}
+
+// The program at the head of chess_moves, with the number of moves made.
+fn forward_and_back(position: &Position) -> usize {
+    let mut board = Plain::new();
+    board.set(position);
+    let moves = board.legal_moves();
+    let mut made: usize = 0;
+    for m in moves.as_slice() {
+        if board.is_legal(m) {
+            let saved = board.make(*m);
+            made = made.saturating_add(1);
+            board.take_back(*m, saved);
+        }
+    }
+    made
+}
+
+#[test]
+fn moves_are_listed_without_a_board(rt: HostRuntime) {
+    let start = Position::initial();
+    assert!(rt; legal_moves(&start).len() == 20);
+    assert!(rt; forward_and_back(&start) == 20);
+}
+
+// The numbers of b1, g1, b8 and g8.
+#[test]
+fn a_set_is_looped_over(rt: HostRuntime) {
+    let board = Plain::new();
+    let white = board.men_of(Colour::White, Kind::Knight);
+    let black = board.men_of(Colour::Black, Kind::Knight);
+    let mut numbers: u32 = 0;
+    for square in white | black {
+        numbers = numbers.saturating_mul(64).saturating_add(u32::from(square.number()));
+    }
+    assert!(rt; numbers == ((1 * 64 + 6) * 64 + 57) * 64 + 62);
+    assert!(rt; (white & black).is_empty() && white != black);
 }

@@ -6,7 +6,7 @@ use Rattle.std.proofs.lemmas.Nat.{le-div}
 use Rattle.cecp_engine.specs.Levels.{LevelSeen, sessions, allotted, time_left}
 use Rattle.cecp_engine.specs.Clocks.{Spent, spent_more}
 use Rattle.cecp_engine.specs.ties.Bounds.{IsWithin}
-use Rattle.chess_game.specs.declared.game.TheConstants.{MOST_MOVES}
+use Rattle.chess_base.specs.declared.setup.TheConstants.{MOST_MOVES}
 
 div_grows : (m k : ℕ) → 0 < m → k / m ≤ (k + 1) / m
 div_grows m k some = let low : k / m * m ≤ k = div-mul-le_self k m in le-div (k / m) (k + 1) m some (omega arith)

@@ -3,7 +3,7 @@
 ghost use Rattle.std.specs.Prelude.{◌≡◌, ◌≤◌, ◌<◌};
 ghost use Rattle.cecp_engine.specs.Levels.{time_left};
 ghost use Rattle.cecp_engine.specs.Clocks.{new_clocks, spent_by, remaining, charged};
-ghost use Rattle.chess_game.specs.declared.game.TheConstants.{MOST_MOVES};
+ghost use Rattle.chess_base.specs.declared.setup.TheConstants.{MOST_MOVES};
 
 use crate::level::Level;
 use chess_base::Colour;

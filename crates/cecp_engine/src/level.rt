@@ -2,7 +2,7 @@
 
 ghost use Rattle.std.specs.Prelude.{◌≡◌, ◌≤◌, ◌<◌, ◌==◌, ◌^◌, IfSome, length};
 ghost use Rattle.cecp_engine.specs.Levels.{level_of, base_of, in_seconds, colon_at, allotted, sessions};
-ghost use Rattle.chess_game.specs.declared.game.TheConstants.{MOST_MOVES};
+ghost use Rattle.chess_base.specs.declared.setup.TheConstants.{MOST_MOVES};
 
 use std::marker::Model;
 use text_lines::{argument, first_word, short_number, trim_start};

@@ -23,3 +23,4 @@ pub mod FaultsLemmas
 pub mod InitialIsSound
 pub mod NormalKept
 pub mod MovesRise
+pub mod MoveTexts

@@ -1,5 +1,5 @@
--- The coordinate text of a move, as `e2e4` or `e7e8q`, by which it is shown.
-use Rattle.std.specs.Prelude.{ℕ, ◌+◌, List, [], ◌∷◌, ◌++◌, Option, Some, None}
+-- The coordinate text of a move, as `e2e4` or `e7e8q`, by which it is shown and parsed.
+use Rattle.std.specs.Prelude.{◌≡◌, ◌≢◌, ℕ, ◌+◌, ◌<◌, List, [], ◌∷◌, ◌++◌, Option, Some, None, Result, MatchResult}
 use Rattle.chess_base.specs.declared.man.Kind.{Kind}
 use Rattle.chess_base.specs.declared.man.Move.{Move}
 use Rattle.chess_base.specs.Letters.{white_letter, square_text}
@@ -16,3 +16,12 @@ small_letter_text k = (white_letter k + 32) ∷ []
 -- a move as text: its start square, its end square, and the small letter of what the pawn becomes: e2e4, e7e8q
 abbrev pub coordinate : Move → List ℕ
 coordinate m = square_text m.from ++ (square_text m.to ++ optional small_letter_text m.promotion)
+
+-- the text is parsed as r: the square with that name, or an error if no square has it
+abbrev pub ParsesSquare : {E : Type 0} → List ℕ → Result ℕ E → Type 0
+ParsesSquare text r = MatchResult r (λ s. text ≡ square_text s) (λ _. (s : ℕ) → s < 64 → text ≢ square_text s)
+
+-- the text is parsed as r: the move with that coordinate text, or an error if no move has it
+abbrev pub ParsesMove : {E : Type 0} → List ℕ → Result Move E → Type 0
+ParsesMove text r =
+    MatchResult r (λ m. text ≡ coordinate m) (λ _. (m : Move) → m.from < 64 → m.to < 64 → text ≢ coordinate m)

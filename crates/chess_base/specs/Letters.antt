@@ -1,10 +1,11 @@
 -- The bytes of texts: letters and digits, separators, the letters of kinds of piece and the names of squares.
 use Prim.Native.String.{String as Text}
-use Rattle.std.specs.Prelude.{ℕ, ◌+◌, ◌-◌, ◌*◌, Bool, ◌&&◌, ◌||◌, List, [], ◌∷◌, nat_le, codes}
+use Rattle.std.specs.Prelude.{ℕ, ◌+◌, ◌-◌, ◌*◌, ◌==◌, Bool, ◌&&◌, ◌||◌, if◌then◌else◌, List, [], ◌∷◌, ◌++◌, map, find, Option, Some, None, nat_le, codes}
 use Rattle.chess_base.specs.declared.man.Colour.{Colour}
 use Rattle.chess_base.specs.declared.man.Colour.TheVariants.{White, Black}
 use Rattle.chess_base.specs.declared.man.Kind.{Kind}
 use Rattle.chess_base.specs.declared.man.Kind.TheVariants.{Pawn, Knight, Bishop, Rook, Queen, King}
+use Rattle.chess_base.specs.declared.man.Man.{Man}
 use Rattle.chess_base.specs.Squares.{file, rank}
 
 -- the first number of a list; 0 for the empty list
@@ -59,6 +60,36 @@ white_letter Rook = byte "R"
 white_letter Queen = byte "Q"
 white_letter King = byte "K"
 
+-- the letter of a kind of piece in a colour, as in FEN: White's are capital, Black's small (byte + 32): N and n for
+-- knights
+abbrev pub letter_by : Colour → Kind → ℕ
+letter_by White kind = white_letter kind
+letter_by Black kind = white_letter kind + 32
+
+-- the letter of a piece in FEN: N for a white knight, n for a black one
+abbrev pub letter : Man → ℕ
+letter m = letter_by m.colour m.kind
+
+-- the six kinds of piece
+abbrev pub kinds : List Kind
+kinds = King ∷ Queen ∷ Rook ∷ Bishop ∷ Knight ∷ Pawn ∷ []
+
+-- the twelve pieces, each kind in both colours
+abbrev pub all_men : List Man
+all_men = map (λ k. record { colour = White; kind = k }) kinds ++ map (λ k. record { colour = Black; kind = k }) kinds
+
+-- the kind of piece whose capital letter is the byte c, if there is one
+abbrev pub kind_with_letter : ℕ → Option Kind
+kind_with_letter c = find (λ k. white_letter k == c) kinds
+
+-- the kind of piece whose small letter is the byte c, if there is one
+abbrev pub kind_with_small_letter : ℕ → Option Kind
+kind_with_small_letter c = find (λ k. letter_by Black k == c) kinds
+
+-- the piece whose letter in FEN is the byte c, if there is one
+abbrev pub man_with_letter : ℕ → Option Man
+man_with_letter c = find (λ m. letter m == c) all_men
+
 -- the English word for a colour, in small letters
 abbrev pub colour_word : Colour → List ℕ
 colour_word White = codes "white"
@@ -76,3 +107,16 @@ kind_word Pawn = codes "pawn"
 -- the name of a square: the file's letter and the rank's digit, as e4 for square 28
 abbrev pub square_text : ℕ → List ℕ
 square_text square = (byte "a" + file square) ∷ (byte "1" + rank square) ∷ []
+
+-- the byte is a file's letter, `a` to `h`
+abbrev pub is_file_letter : ℕ → Bool
+is_file_letter c = nat_le (byte "a") c && nat_le c (byte "h")
+
+-- the byte is a rank's digit, `1` to `8`
+abbrev pub is_rank_digit : ℕ → Bool
+is_rank_digit c = nat_le (byte "1") c && nat_le c (byte "8")
+
+-- the square whose name is the bytes f and r, if there is one: for the bytes of e4 square 28
+abbrev pub square_with_letters : ℕ → ℕ → Option ℕ
+square_with_letters f r =
+    if is_file_letter f && is_rank_digit r then Some (8 * (r - byte "1") + (f - byte "a")) else None

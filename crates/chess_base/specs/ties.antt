@@ -3,3 +3,4 @@ pub mod Changes
 pub mod Splits
 pub mod Lines
 pub mod Tallies
+pub mod MoveTexts

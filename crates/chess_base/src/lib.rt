@@ -2,9 +2,9 @@
 //!
 //! ```
 //! let position = Position::initial();
-//! let from = Square::named(b"e2").ok_or("a square")?;
-//! let to = Square::named(b"e4").ok_or("a square")?;
-//! assert!(position.is_legal(Move { from, to, promotion: None }));
+//! let m: Move = "e2e4".parse()?;
+//! let is_legal = position.is_legal(m);
+//! println!(rt; "{m} is legal: {is_legal}")?;
 //! ```
 #![tactic(auto)]
 
@@ -17,8 +17,10 @@ mod fault;
 mod initial;
 mod laws;
 mod legality;
+mod letters;
 mod line;
 mod man;
+mod parsing;
 mod pawns;
 mod position;
 pub mod rules;
@@ -33,6 +35,7 @@ pub use laws::{
     after_is_sound, before_undoes_after, moves_rise, normal_is_kept, reserve_never_grows,
 };
 pub use man::{CastlingSide, Colour, ColourRights, Kind, Man, Move, Rights, Variant, same_colour};
+pub use parsing::{ParseMoveError, ParseSquareError};
 pub use position::Position;
-pub use setup::{COUNTER_LIMIT, Saved, Setup};
+pub use setup::{COUNTER_LIMIT, MOST_MOVES, Saved, Setup};
 pub use square::Square;

@@ -1,7 +1,7 @@
 //! Colours, pieces, castling rights and moves.
 
-ghost use Rattle.std.specs.Prelude.{◌≡◌, Some};
-ghost use Rattle.chess_base.specs.Coordinates.{small_letter_text, coordinate};
+ghost use Rattle.std.specs.Prelude.{◌≡◌, None, Some};
+ghost use Rattle.chess_base.specs.Coordinates.{coordinate};
 ghost use Rattle.chess_base.specs.Letters.{colour_word, kind_word};
 ghost use Rattle.chess_base.specs.Men.{other, is_of, is_man, same_kind, same_colour};
 
@@ -9,7 +9,7 @@ use crate::square::Square;
 use std::fmt;
 
 /// The two players and their pieces (Laws of Chess 2023, article 1.1).
-#[derive(Clone, Copy, Debug, PartialEq, Eq)]
+#[derive(Clone, Copy, Debug, PartialEq, Eq, PartialOrd, Ord, Hash)]
 pub enum Colour {
     White,
     Black,
@@ -52,7 +52,7 @@ impl fmt::Display for Colour {
 }
 
 /// The kinds of piece (Laws of Chess 2023, article 2.2).
-#[derive(Clone, Copy, Debug, PartialEq, Eq)]
+#[derive(Clone, Copy, Debug, PartialEq, Eq, PartialOrd, Ord, Hash)]
 pub enum Kind {
     King,
     Queen,
@@ -80,63 +80,87 @@ impl fmt::Display for Kind {
 
 /// Which rules hold for castling: those of normal chess, or of Chess960, which CECP calls fischerandom (Laws of Chess
 /// 2023, guideline II).
-#[derive(Clone, Copy, Debug, PartialEq, Eq)]
+#[derive(Clone, Copy, Debug, PartialEq, Eq, Hash)]
 pub enum Variant {
     Normal,
     Fischerandom,
 }
 
 /// A piece of one colour and kind, as a white knight.
-#[derive(Clone, Copy, Debug, PartialEq, Eq)]
+#[derive(Clone, Copy, Debug, PartialEq, Eq, Hash)]
 pub struct Man {
     pub colour: Colour,
     pub kind: Kind,
 }
 
 /// The side to which a king castles (Laws of Chess 2023, article 3.8.2): towards the h-file, or towards the a-file.
-#[derive(Clone, Copy, Debug, PartialEq, Eq)]
+#[derive(Clone, Copy, Debug, PartialEq, Eq, Hash)]
 pub enum CastlingSide {
     KingSide,
     QueenSide,
 }
 
 /// A colour's castling rights: on each side of the king, the square of the rook with which it may castle.
-#[derive(Clone, Copy, Debug, PartialEq, Eq)]
+#[derive(Clone, Copy, Debug, PartialEq, Eq, Hash)]
 pub struct ColourRights {
     pub king_side: Option<Square>,
     pub queen_side: Option<Square>,
 }
 
+impl ColourRights {
+    /// The castling rights of a colour that has none.
+    pub fn none() -> Self
+        ensures king_side { result.king_side ≡ None }
+        ensures queen_side { result.queen_side ≡ None }
+    {
+        ColourRights {
+            king_side: None,
+            queen_side: None,
+        }
+    }
+}
+
 /// The castling rights of both colours (Laws of Chess 2023, article 3.8.2.1). In FEN, White's are `K` and `Q`,
 /// Black's `k` and `q`; in Chess960 they are written as the files of their rooks.
-#[derive(Clone, Copy, Debug, PartialEq, Eq)]
+#[derive(Clone, Copy, Debug, PartialEq, Eq, Hash)]
 pub struct Rights {
     pub white: ColourRights,
     pub black: ColourRights,
 }
 
+impl Rights {
+    /// The castling rights of a position where neither colour has any.
+    ///
+    /// ```
+    /// let setup = Setup { rights: Rights::none(), ..*position.setup() };
+    /// ```
+    pub fn none() -> Self
+        ensures white_king_side { result.white.king_side ≡ None }
+        ensures white_queen_side { result.white.queen_side ≡ None }
+        ensures black_king_side { result.black.king_side ≡ None }
+        ensures black_queen_side { result.black.queen_side ≡ None }
+    {
+        Rights {
+            white: ColourRights::none(),
+            black: ColourRights::none(),
+        }
+    }
+}
+
 /// A move: its start and end squares, and what a pawn becomes on its last rank (Laws of Chess 2023, article 3.7).
 /// Castling is named by the king's squares, in Chess960 by the king's and its rook's, en passant by the pawn's. The
-/// default, from a1 to a1, is no piece's move: a filler in a list.
-#[derive(Clone, Copy, Debug, Default, PartialEq, Eq)]
+/// default, from a1 to a1, is no piece's move: a filler in a list. Moves are ordered as the list of legal moves: by
+/// start square, end square and promotion.
+///
+/// ```
+/// let m: Move = "e7e8q".parse()?;
+/// println!(rt; "{m}")?;
+/// ```
+#[derive(Clone, Copy, Debug, Default, PartialEq, Eq, PartialOrd, Ord, Hash)]
 pub struct Move {
     pub from: Square,
     pub to: Square,
     pub promotion: Option<Kind>,
-}
-
-// The small letter of a kind of piece, as in the promotion of `e7e8q`: `q` for a queen.
-fn small_letter(kind: Kind) -> &'static str
-    ensures { result.now ≡ small_letter_text kind }
-{
-    match kind {
-        Kind::King => "k",
-        Kind::Queen => "q",
-        Kind::Rook => "r",
-        Kind::Bishop => "b",
-        Kind::Knight => "n",
-        Kind::Pawn => "p",
-    }
 }
 
 impl fmt::Display for Move {
@@ -147,7 +171,7 @@ impl fmt::Display for Move {
         write!(f, "{}{}", self.from, self.to)?;
         match self.promotion {
             None => Ok(()),
-            Some(kind) => f.write_str(small_letter(kind)),
+            Some(kind) => f.write_char(kind.small_letter() as char),
         }
     }
 }

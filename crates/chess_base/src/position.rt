@@ -2,14 +2,14 @@
 
 ghost use Rattle.std.specs.Prelude.{◌≡◌, ◌↔◌, IsTrue, IsOk, IfOk, IfErr};
 ghost use Rattle.chess_base.specs.Men.{man_at};
-ghost use Rattle.chess_base.specs.Attacks.{is_attacked};
+ghost use Rattle.chess_base.specs.Attacks.{is_attacked, is_in_check};
 ghost use Rattle.chess_base.specs.Moves.{is_legal, after};
 ghost use Rattle.chess_base.specs.Sound.{IsSound};
 ghost use Rattle.chess_base.specs.Faults.{setup_fault};
 ghost use Rattle.chess_base.specs.Initial.{initial_setup, initial_setup_of};
 
 use crate::after::{fullmove_after, halfmove_after, men_after, rights_after, target_after};
-use crate::attack::is_attacked;
+use crate::attack::{is_attacked, is_in_check};
 use crate::fault::FenFault;
 use crate::initial::initial_men;
 use crate::legality::is_legal;
@@ -131,6 +131,19 @@ impl Position {
         ensures { result ≡ is_attacked self.now.men square by }
     {
         is_attacked(&self.setup.men, square, by)
+    }
+
+    /// Whether the side on move is in check (Laws of Chess 2023, article 3.9.1).
+    ///
+    /// ```
+    /// if position.in_check() {
+    ///     println!(rt; "check")?;
+    /// }
+    /// ```
+    pub fn in_check(&self) -> bool
+        ensures { result ≡ is_in_check self.now.men self.now.side }
+    {
+        is_in_check(&self.setup.men, self.setup.side)
     }
 
     /// Whether the side on move may make this move: one of its pieces can go there, and its king is not attacked

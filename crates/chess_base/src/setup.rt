@@ -1,10 +1,13 @@
-//! What a position holds, sound or not, and what a move of it does not keep.
+//! What a position holds, sound or not, what a move of it does not keep, and the limits of a game.
 
 use crate::man::{Colour, Man, Rights, Variant};
 use crate::square::Square;
 
 /// The largest halfmove clock and fullmove number; both stop there.
 pub const COUNTER_LIMIT: u32 = 999_999;
+
+/// The most half-moves that a game can be opened for.
+pub const MOST_MOVES: u32 = 20_000;
 
 /// What a position holds (the six fields of FEN, PGN standard of 1994, section 16.1, and the variant), sound or not.
 #[derive(Clone, Copy, Debug, PartialEq, Eq)]

@@ -68,6 +68,37 @@ fn moves_are_shown_by_their_squares(rt: HostRuntime) -> Result<(), Fail> {
 }
 
 #[test]
+fn texts_are_parsed_as_squares_and_moves(rt: HostRuntime) -> Result<(), Fail> {
+    let square: Square = "e4".parse()?;
+    assert!(rt; square == Square::E4);
+    for (from, to, promotion, text) in &MOVES {
+        let wanted = Move {
+            from: Square::try_from(*from)?,
+            to: Square::try_from(*to)?,
+            promotion: *promotion,
+        };
+        let m = Move::try_from(*text)?;
+        assert!(rt; m == wanted);
+    }
+    Ok(())
+}
+
+// Moves in the order of the list of legal moves.
+const RISING: [&[u8]; 6] = [b"e2e4", b"e7d8q", b"e7e8", b"e7e8q", b"e7e8n", b"f2f3"];
+
+#[test]
+fn values_are_ordered(rt: HostRuntime) -> Result<(), Fail> {
+    assert!(rt; Square::H1 < Square::A2 && Colour::White < Colour::Black && Kind::King < Kind::Pawn);
+    let mut last = Move::default();
+    for text in &RISING {
+        let m = Move::try_from(*text)?;
+        assert!(rt; last < m);
+        last = m;
+    }
+    Ok(())
+}
+
+#[test]
 fn positions_are_shown_by_their_setups(rt: HostRuntime) -> Result<(), Fail> {
     let shown = format!(in rt.alloc(); "{:?}", Position::initial())?;
     assert!(rt;

@@ -18,9 +18,8 @@ use Rattle.chess_base.specs.declared.man.Rights.{Rights}
 use Rattle.chess_base.specs.declared.man.Variant.{Variant}
 use Rattle.chess_base.specs.declared.man.Variant.TheVariants.{Normal, Fischerandom}
 use Rattle.chess_base.specs.declared.setup.Setup.{Setup}
-use Rattle.chess_base.specs.Letters.{white_letter}
+use Rattle.chess_base.specs.Letters.{white_letter, letter, letter_by}
 use Rattle.chess_base.specs.Sound.{IsSound}
-use Rattle.chess_fen.specs.ManLetters.{letter, letter_by}
 use Rattle.chess_fen.specs.RightNames.{right_letter}
 use Rattle.chess_fen.specs.Writing.{run_text, row_text, fen_rank, ranks_down, placement_text, side_text, right_text, or_dash, rights_text, target_text, fen}
 use Rattle.chess_fen.proofs.RoundTrip.{DigitBytes, own_bytes, target_fits}

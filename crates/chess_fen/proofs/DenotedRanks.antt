@@ -9,7 +9,7 @@ use Rattle.chess_base.specs.declared.man.Kind.{Kind}
 use Rattle.chess_base.specs.declared.man.Kind.TheVariants.{Pawn, Knight, Bishop, Rook, Queen, King}
 use Rattle.chess_base.specs.declared.man.Colour.{Colour}
 use Rattle.chess_base.specs.declared.man.Colour.TheVariants.{White, Black}
-use Rattle.chess_fen.specs.ManLetters.{letter, letter_by, man_with_letter, all_men}
+use Rattle.chess_base.specs.Letters.{letter, letter_by, man_with_letter, all_men}
 use Rattle.chess_fen.specs.Texts.{squares_of, rank_after, rank_of}
 use Rattle.chess_fen.specs.Denotation.{StandsFor, DenotesSquares, DenotesRank}
 use Rattle.chess_fen.proofs.Ranks.{squares-digit}

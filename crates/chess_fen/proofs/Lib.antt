@@ -21,3 +21,4 @@ pub mod Ascii
 pub mod FieldsDenoted
 pub mod OneRankText
 pub mod RightsAlike
+mod OneInitial

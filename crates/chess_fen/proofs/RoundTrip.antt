@@ -19,8 +19,7 @@ use Rattle.chess_fen.specs.RightNames.{right_letter, right_by_letters}
 use Rattle.chess_fen.proofs.RightsBack.{Stand, right_back, text_is_castling}
 use Rattle.chess_fen.proofs.DenotedRights.{castling-denoted}
 use Rattle.chess_base.specs.declared.setup.Setup.{Setup}
-use Rattle.chess_fen.specs.ManLetters.{letter, letter_by}
-use Rattle.chess_base.specs.Letters.{white_letter, byte, is_digit, value_after}
+use Rattle.chess_base.specs.Letters.{white_letter, byte, is_digit, value_after, letter, letter_by}
 use Rattle.chess_fen.specs.Texts.{number_of, rank_after, rank_of, squares_by_ranks, placement_of, occurs, may_name_right, is_castling, target_of, fields_of}
 use Rattle.chess_fen.specs.Writing.{run_text, row_text, fen_rank, ranks_down, placement_text, side_text, right_text, or_dash, rights_text, target_text, fen}
 use Rattle.chess_fen.specs.ties.Loops.{ranks_text}
@@ -387,13 +386,13 @@ target_some (Some t) = omega arith
 
 -- ---- the text
 
-pub setup-fen : (p : Setup) → IsSound p → setup_in p.variant (fields_of (fen p)) ≡ Ok p
-setup-fen p h =
+-- the fields of a position's FEN
+pub fen_fields : (p : Setup) → IsSound p
+    → fields_of (fen p) ≡ placement_text p.men ∷ side_text p.side ∷ rights_text p.variant p.rights ∷ target_text
+    p.target ∷ decimal p.halfmove ∷ decimal p.fullmove ∷ []
+fen_fields p h =
     let halfmove : p.halfmove < 1000000 = let e = h.halfmove in grind (arith, nat_tests, e) in
     let fullmove : p.fullmove < 1000000 = let e = h.fullmove_high in grind (arith, nat_tests, e) in
-    let some : 0 < p.fullmove = let e = h.fullmove_low in grind (arith, nat_tests, e) in
-    let fields : fields_of (fen p) ≡ placement_text p.men ∷ side_text p.side ∷ rights_text p.variant p.rights ∷
-    target_text p.target ∷ decimal p.halfmove ∷ decimal p.fullmove ∷ [] =
     fields_of-join (placement_text p.men) (side_text p.side ∷ rights_text p.variant p.rights ∷ target_text p.target ∷
     decimal p.halfmove ∷ decimal p.fullmove ∷ []) (
       placement_from p.men,
@@ -422,9 +421,15 @@ setup-fen p h =
           ),
         ),
       ),
-    ) in
+    )
+
+pub setup-fen : (p : Setup) → IsSound p → setup_in p.variant (fields_of (fen p)) ≡ Ok p
+setup-fen p h =
+    let halfmove : p.halfmove < 1000000 = let e = h.halfmove in grind (arith, nat_tests, e) in
+    let fullmove : p.fullmove < 1000000 = let e = h.fullmove_high in grind (arith, nat_tests, e) in
+    let some : 0 < p.fullmove = let e = h.fullmove_low in grind (arith, nat_tests, e) in
     let counted : max p.fullmove 1 ≡ p.fullmove = omega (arith, some) in
-    ap (setup_in p.variant) fields ∙ rw (
+    ap (setup_in p.variant) (fen_fields p h) ∙ rw (
       placement-text p.men h.board,
       side-text p.side,
       rights-text p h,

@@ -7,7 +7,7 @@ use Rattle.std.proofs.lemmas.Bool.Decides.{nat_tests}
 use Rattle.chess_base.specs.declared.man.Man.{Man}
 use Rattle.chess_fen.specs.declared.letters.Run.{Run}
 use Rattle.chess_fen.specs.declared.letters.TheConstants.{RUNS}
-use Rattle.chess_fen.specs.ManLetters.{letter, man_with_letter}
+use Rattle.chess_base.specs.Letters.{letter, man_with_letter}
 use Rattle.chess_fen.specs.Texts.{squares_of}
 use Rattle.chess_fen.specs.ties.Runs.{squares_in}
 use Rattle.chess_fen.proofs.Ranks.{no_man, squares-digit}

@@ -15,9 +15,8 @@ use Rattle.chess_fen.specs.RightNames.{side_letter, right_by_letters}
 use Rattle.chess_base.specs.Squares.{rank}
 use Rattle.chess_base.specs.Castling.{right_of, home_square, rook_file}
 use Rattle.chess_base.specs.declared.setup.Setup.{Setup}
-use Rattle.chess_fen.specs.ManLetters.{letter, stroke}
-use Rattle.chess_base.specs.Letters.{byte}
-use Rattle.chess_fen.specs.Texts.{times, occurs, may_name_right, fields_of}
+use Rattle.chess_base.specs.Letters.{byte, letter}
+use Rattle.chess_fen.specs.Texts.{times, occurs, may_name_right, fields_of, stroke}
 use Rattle.chess_fen.specs.Writing.{side_text, target_text}
 
 -- one byte of a rank's text denotes these squares: a piece's letter one square with that piece, a digit n from 1 to 8 n

@@ -1,4 +1,3 @@
-pub mod ManLetters
 pub mod Texts
 pub mod RightNames
 pub mod Writing

@@ -13,7 +13,7 @@ use Rattle.chess_base.specs.declared.man.Variant.TheVariants.{Normal, Fischerand
 use Rattle.chess_base.specs.Squares.{file}
 use Rattle.chess_base.specs.Men.{Men, man_at, is_man}
 use Rattle.chess_base.specs.Castling.{home_square, king_square, rook_file}
-use Rattle.chess_fen.specs.ManLetters.{letter_by}
+use Rattle.chess_base.specs.Letters.{letter_by}
 use Rattle.chess_fen.specs.Texts.{occurs, first_letter, names_file}
 
 -- the letter by which a FEN of normal chess names colour c's castling right on that side: K or Q for White, k or q for

@@ -10,8 +10,7 @@ use Rattle.chess_base.specs.declared.man.Variant.TheVariants.{Normal, Fischerand
 use Rattle.chess_base.specs.declared.man.Colour.{Colour}
 use Rattle.chess_base.specs.declared.man.Colour.TheVariants.{White, Black}
 use Rattle.chess_base.specs.declared.man.Man.{Man}
-use Rattle.chess_base.specs.Letters.{byte, space}
-use Rattle.chess_fen.specs.ManLetters.{stroke, man_with_letter}
+use Rattle.chess_base.specs.Letters.{byte, space, man_with_letter}
 use Rattle.text_lines.specs.Words.{short_number}
 
 -- ---- numbers
@@ -39,6 +38,10 @@ abbrev pub rank_of : List ℕ → Option (List (Option Man))
 rank_of text = rank_after [] text
 
 -- ---- placement
+
+-- the slash, which is between the ranks of a placement
+abbrev pub stroke : ℕ
+stroke = byte "/"
 
 -- squares from a1 on, by the texts of ranks, the highest first: each rank's squares are put in front of `above`, those
 -- of the higher ranks read so far; none if a text is not that of a rank

@@ -12,8 +12,8 @@ use Rattle.chess_base.specs.declared.man.CastlingSide.{CastlingSide}
 use Rattle.chess_base.specs.declared.man.Rights.{Rights}
 use Rattle.chess_fen.specs.RightNames.{right_letter}
 use Rattle.chess_base.specs.declared.setup.Setup.{Setup}
-use Rattle.chess_fen.specs.ManLetters.{letter, stroke}
-use Rattle.chess_base.specs.Letters.{byte, space, square_text}
+use Rattle.chess_fen.specs.Texts.{stroke}
+use Rattle.chess_base.specs.Letters.{byte, space, square_text, letter}
 use Rattle.chess_base.specs.Initial.{initial_setup}
 use Rattle.std.specs.Str.{bytes_eq}
 

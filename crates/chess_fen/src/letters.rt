@@ -1,7 +1,6 @@
-//! The letters of pieces, and what each byte of a rank's text stands for.
+//! What each byte of a rank's text stands for.
 
 ghost use Rattle.std.specs.Prelude.{◌≡◌, ◌<◌};
-ghost use Rattle.chess_fen.specs.ManLetters.{letter};
 ghost use Rattle.chess_fen.specs.Texts.{squares_of};
 ghost use Rattle.chess_fen.specs.ties.Runs.{squares_in};
 
@@ -80,7 +79,8 @@ const B_QUEEN: Run = piece!(Black, Queen);
 
 const B_KING: Run = piece!(Black, King);
 
-// What each of the 256 bytes stands for in a rank's text.
+// What each of the 256 bytes stands for in a rank's text. It is a table of its own, and not made by `Man::from_letter`,
+// so that each byte of a FEN's longest field costs one look-up, for pieces and empty squares alike.
 static RUNS: [Run; 256] = [
     NO_RUN, NO_RUN, NO_RUN, NO_RUN, NO_RUN, NO_RUN, NO_RUN, NO_RUN, NO_RUN, NO_RUN, NO_RUN, NO_RUN,
     NO_RUN, NO_RUN, NO_RUN, NO_RUN, NO_RUN, NO_RUN, NO_RUN, NO_RUN, NO_RUN, NO_RUN, NO_RUN, NO_RUN,
@@ -113,22 +113,4 @@ pub(crate) fn run_of(byte: u8) -> Run
     ensures some { 0 < result.squares }
 {
     RUNS[byte as usize]
-}
-
-// The letter of a piece: `N` for a white knight, `n` for a black one.
-pub(crate) fn letter_of(man: Man) -> u8
-    ensures { result ≡ letter man }
-{
-    let upper = match man.kind {
-        Kind::Pawn => b'P',
-        Kind::Knight => b'N',
-        Kind::Bishop => b'B',
-        Kind::Rook => b'R',
-        Kind::Queen => b'Q',
-        Kind::King => b'K',
-    };
-    match man.colour {
-        Colour::White => upper,
-        Colour::Black => upper + 32,
-    }
 }

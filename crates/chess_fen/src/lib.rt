@@ -1,4 +1,5 @@
-//! Positions as FEN (PGN standard of 1994, section 16.1; X-FEN in Chess960), read and written.
+//! Positions as FEN (PGN standard of 1994, section 16.1), read and written. In Chess960 both X-FEN and Shredder-FEN are
+//! read, and castling rights are written by their rooks' files, as Shredder-FEN has them.
 //!
 //! ```
 //! let position = read_fen(b"4k3/8/8/8/8/8/4P3/4K3 w - - 0 1")?;

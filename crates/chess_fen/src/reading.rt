@@ -16,7 +16,7 @@ use crate::fields::{Fields, next_field, read_fields, skip_spaces};
 use crate::number::read_number;
 use crate::placement::read_placement;
 use crate::target::read_target;
-use chess_base::{Colour, ColourRights, FenFault, Man, Position, Rights, Setup, Square, Variant};
+use chess_base::{Colour, FenFault, Man, Position, Rights, Setup, Square, Variant};
 
 // The side that a FEN's second field denotes, by `w` or `b`; none for any other text.
 fn read_side(text: &[u8]) -> Option<Colour>
@@ -29,27 +29,13 @@ fn read_side(text: &[u8]) -> Option<Colour>
     }
 }
 
-// A colour's castling rights where it has none.
-fn no_rights() -> ColourRights
-    ensures king_side { result.king_side ≡ None }
-    ensures queen_side { result.queen_side ≡ None }
-{
-    ColourRights {
-        king_side: None,
-        queen_side: None,
-    }
-}
-
 // The castling rights that a FEN's third field denotes in a position with these pieces; `None` if it is neither a dash
 // nor letters that may name rights.
 fn read_rights(variant: Variant, men: &[Option<Man>; 64], text: &[u8]) -> Option<Rights>
     ensures { result ≡ rights_of variant men.now text.now }
 {
     if let b"-" = text {
-        return Some(Rights {
-            white: no_rights(),
-            black: no_rights(),
-        });
+        return Some(Rights::none());
     }
     if is_castling(variant, text) {
         Some(rights_by_letters(variant, men, text))

@@ -12,9 +12,7 @@ pub(crate) fn read_target(text: &[u8]) -> Option<Option<Square>>
 {
     match text {
         b"-" => Some(None),
-        [file @ b'a'..=b'h', rank @ (b'3' | b'6')] => {
-            Some(Some(Square::new(8 * (*rank - b'1') + (*file - b'a'))))
-        },
+        [file, rank @ (b'3' | b'6')] => Square::from_letters(*file, *rank).map(Some),
         _ => None,
     }
 }

@@ -5,7 +5,6 @@ ghost use Rattle.arrayvec.specs.ArrayVec.{array_vec_len};
 ghost use Rattle.chess_fen.specs.Writing.{run_text, fen_rank, placement_text, side_text, right_text, rights_text, target_text, fen};
 
 use crate::castling::right_letter;
-use crate::letters::letter_of;
 use arrayvec::ArrayVec;
 use chess_base::{CastlingSide, Colour, Man, Position, Rights, Square, Variant};
 use itoa::Buffer;
@@ -39,7 +38,7 @@ fn write_rank(out: &mut FenText, row: &[Option<Man>])
             Some(man) => {
                 write_run(out, empty);
                 empty = 0;
-                out.push(letter_of(*man));
+                out.push(man.letter());
             }
         }
     }
@@ -140,8 +139,9 @@ fn write_target(out: &mut FenText, target: Option<Square>)
     match target {
         None => out.push(b'-'),
         Some(square) => {
-            out.push(b'a' + square.file());
-            out.push(b'1' + square.rank());
+            let [file, rank] = square.letters();
+            out.push(file);
+            out.push(rank);
         }
     }
 }

@@ -26,7 +26,7 @@ use std::fmt;
 use std::marker::Model;
 
 /// The most half-moves that a game can be opened for.
-pub const MOST_MOVES: u32 = 20_000;
+pub const MOST_MOVES: u32 = chess_base::MOST_MOVES;
 
 /// Why a move is refused; the first reason in this order.
 #[derive(Clone, Copy, Debug, PartialEq, Eq, Hash, thiserror::Error)]

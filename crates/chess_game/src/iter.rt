@@ -1,7 +1,8 @@
 //! The iterators over a game: its moves, and its positions.
 
-ghost use Rattle.std.specs.Prelude.{◌≡◌, ⊤};
-ghost use Rattle.std.specs.Iterator.{YieldsFirst, YieldsLast, item_count};
+ghost use Rattle.std.specs.Prelude.{◌≡◌, ⊤, length, IfSome};
+ghost use Rattle.std.specs.Iterator.{UpTo, YieldsFirst, YieldsLast, item_count};
+ghost use Rattle.std.specs.Iterator.SizeHint.{IsExactHint, IsWithinCount};
 ghost use Rattle.chess_game.specs.Line.{positions_of};
 ghost use Rattle.chess_game.specs.ties.PlayedMoves.{moves_of, Follows};
 
@@ -62,7 +63,11 @@ impl<'g> Iterator for Moves<'g> {
         Some(first.made)
     }
 
-    fn size_hint(&self) -> (usize, Option<usize>) {
+    fn size_hint(&self) -> (usize, Option<usize>)
+        ensures lower { IsWithinCount result.0 (item_count (λ left. left) self.now) }
+        ensures upper { IfSome result.1 (UpTo (item_count (λ left. left) self.now)) }
+        ensures exact { IsExactHint result (length self.now) }
+    {
         (self.left.len(), Some(self.left.len()))
     }
 }
@@ -157,7 +162,11 @@ impl<'g> Iterator for Positions<'g> {
         Some(first.reached.position.unpacked())
     }
 
-    fn size_hint(&self) -> (usize, Option<usize>) {
+    fn size_hint(&self) -> (usize, Option<usize>)
+        ensures lower { IsWithinCount result.0 (item_count (λ left. left) self.now) }
+        ensures upper { IfSome result.1 (UpTo (item_count (λ left. left) self.now)) }
+        ensures exact { IsExactHint result (length self.now) }
+    {
         (self.len(), Some(self.len()))
     }
 }

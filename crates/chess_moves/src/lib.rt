@@ -6,22 +6,31 @@
 //! board.set(&position);
 //! let moves = board.legal_moves();
 //! for m in moves.as_slice() {
-//!     let saved = board.make(*m);
-//!     // The position after the move.
-//!     board.take_back(*m, saved);
+//!     if board.is_legal(m) {
+//!         let saved = board.make(*m);
+//!         // The position after the move.
+//!         board.take_back(*m, saved);
+//!     }
 //! }
 //! ```
+//!
+//! The test in the loop is for the prover: each move of the list is legal, but the loop forgets it. `legal_moves` lists
+//! the moves of a position without a board.
 #![tactic(auto)]
 
 mod board;
+mod legal;
 mod listing;
 mod moving;
 mod plain;
 mod set;
+mod squares;
 mod word;
 
 pub use board::{Board, MoveList, make_then_take_back};
+pub use legal::legal_moves;
 pub use listing::would_promote;
 pub use plain::Plain;
 pub use set::SquareSet;
+pub use squares::Squares;
 pub use word::{ComputedKeys, Keys, man_key, position_word, word_with};

@@ -15,7 +15,13 @@ const RANK_1: u64 = 0xFF;
 
 /// A set of squares: a bitboard. In contracts it is the number in which the bit of each of its squares is 1, a1's the
 /// lowest.
-#[derive(Clone, Copy)]
+///
+/// ```
+/// for square in board.men_of(Colour::White, Kind::Knight) | board.men_of(Colour::White, Kind::Bishop) {
+///     println!(rt; "a minor piece on {square}")?;
+/// }
+/// ```
+#[derive(Clone, Copy, PartialEq, Eq)]
 pub struct SquareSet {
     word: u64,
 }

@@ -17,12 +17,11 @@ use Rattle.chess_base.specs.declared.man.Variant.{Variant}
 use Rattle.chess_base.specs.declared.man.Variant.TheVariants.{Normal, Fischerandom}
 use Rattle.chess_fen.specs.RightNames.{right_letter}
 use Rattle.chess_base.specs.declared.setup.Setup.{Setup}
-use Rattle.chess_fen.specs.ManLetters.{letter_by}
 use Rattle.chess_base.specs.Men.{Men, other, crossed_rank}
 use Rattle.chess_base.specs.Sound.{IsSound, target_is_sound, target_is_sound_at}
 use Rattle.chess_base.specs.Squares.{file, rank}
 use Rattle.chess_fen.specs.Writing.{run_text, row_text, fen_rank, ranks_down, placement_text, side_text, right_text, or_dash, rights_text, target_text, fen}
-use Rattle.chess_base.specs.Letters.{is_digit}
+use Rattle.chess_base.specs.Letters.{is_digit, letter_by}
 use Rattle.chess_pgn.proofs.PgnTags.{is_bare}
 use Rattle.chess_pgn.proofs.PgnWords.{all_of, decimal_digits}
 

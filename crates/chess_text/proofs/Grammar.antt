@@ -6,7 +6,7 @@ use Rattle.std.proofs.lemmas.Bool.Decides.{nat_tests}
 use Rattle.chess_base.specs.declared.man.Kind.{Kind}
 use Rattle.chess_base.specs.declared.man.Kind.TheVariants.{Pawn, Knight, Bishop, Rook, Queen, King}
 use Rattle.chess_base.specs.Coordinates.{optional}
-use Rattle.chess_base.specs.Letters.{white_letter, square_text}
+use Rattle.chess_base.specs.Letters.{white_letter, square_text, is_file_letter, is_rank_digit}
 use Rattle.chess_base.proofs.Choices.{chosen}
 use Rattle.chess_text.specs.declared.parts.Parts.{Parts}
 use Rattle.chess_text.specs.declared.parts.End.{End}
@@ -15,7 +15,7 @@ use Rattle.chess_text.specs.Parts.{when, kind_text}
 use Rattle.chess_text.specs.ties.Fitting.{promotion_letter, promotion_text, end_text, parts_text}
 use Rattle.chess_text.specs.ties.Reader.{lettered_kinds, promoted}
 use Rattle.chess_text.specs.laws.Laws.{CanPromote, HasLetter, AreParts}
-use Rattle.chess_text.specs.ties.Reader.{kind_from, is_file_letter, is_rank_digit, or_else, promotion_by, promotion_at, end_at, takes_at, rank_at, with_parts, file_at, at_letter, parts_at}
+use Rattle.chess_text.specs.ties.Reader.{kind_from, or_else, promotion_by, promotion_at, end_at, takes_at, rank_at, with_parts, file_at, at_letter, parts_at}
 
 mapped : {A B : Type 0} (f : A → B) (o : Option A) (y : B) → option_map f o ≡ Some y
     → (x : A) × (o ≡ Some x) × (f x ≡ y)
@@ -57,7 +57,7 @@ small_letter c Rook e = omega arith
 small_letter c Queen e = omega arith
 small_letter c King e = omega arith
 
-promotion_is : (equals : Bool) (c : ℕ) (p : Promotion) → promotion_by equals c ≡ Some p
+pub promotion_is : (equals : Bool) (c : ℕ) (p : Promotion) → promotion_by equals c ≡ Some p
     → (p.equals ≡ equals) × (c ≡ promotion_letter p) × CanPromote p.kind
 promotion_is equals c p e =
     by_case (either (option_map (λ k. record { kind = k; equals = equals; small = false }) (kind_from promoted c))

@@ -16,6 +16,9 @@ pub mod PieceText
 pub mod Alone
 pub mod CoordinateLaw
 pub mod Solid
+mod SanAscii
+mod TextLetters
+mod PromotionLetters
 pub mod UsualForms
 pub mod TwoSquares
 pub mod Words

@@ -1,30 +1,16 @@
 //! Moves written by their squares.
 
-ghost use Rattle.std.specs.Prelude.{◌≡◌, ◌≤◌, ◌∷◌, []};
+ghost use Rattle.std.specs.Prelude.{◌≡◌, ◌≤◌};
 ghost use Rattle.arrayvec.specs.ArrayVec.{array_vec_len};
-ghost use Rattle.chess_base.specs.Coordinates.{small_letter_text, coordinate};
+ghost use Rattle.chess_base.specs.Coordinates.{coordinate};
 ghost use Rattle.chess_text.specs.San.{castling_text, shown_move};
 
 use arrayvec::ArrayVec;
 use chess_base::rules::castling;
-use chess_base::{CastlingSide, Kind, Move, Position, Variant};
+use chess_base::{CastlingSide, Move, Position, Variant};
 
 /// The text of a move by its squares: four or five bytes, as `e2e4` or `e7e8q`.
 pub type CoordinateText = ArrayVec<u8, 5>;
-
-// The small letter of a kind of piece, as in the promotion of `e7e8q`: `q` for a queen.
-fn small_letter(kind: Kind) -> u8
-    ensures { result ∷ [] ≡ small_letter_text kind }
-{
-    match kind {
-        Kind::King => b'k',
-        Kind::Queen => b'q',
-        Kind::Rook => b'r',
-        Kind::Bishop => b'b',
-        Kind::Knight => b'n',
-        Kind::Pawn => b'p',
-    }
-}
 
 // The text of castling to this side: `O-O` or `O-O-O`.
 fn castling_name(castling_side: CastlingSide) -> CoordinateText
@@ -67,12 +53,14 @@ pub fn coordinate(m: Move) -> CoordinateText
     // The prover wants the move lent here, since its squares are read more than once.
     let m = &m;
     let mut text = CoordinateText::new();
-    text.push(b'a' + m.from.file());
-    text.push(b'1' + m.from.rank());
-    text.push(b'a' + m.to.file());
-    text.push(b'1' + m.to.rank());
+    let [from_file, from_rank] = m.from.letters();
+    let [to_file, to_rank] = m.to.letters();
+    text.push(from_file);
+    text.push(from_rank);
+    text.push(to_file);
+    text.push(to_rank);
     if let Some(kind) = m.promotion {
-        text.push(small_letter(kind));
+        text.push(kind.small_letter());
     }
     text
 }

@@ -17,6 +17,7 @@ mod form;
 mod laws;
 mod parts;
 mod reading;
+mod san_text;
 mod usual;
 mod writing;
 
@@ -26,4 +27,5 @@ pub use laws::{
     san_denotes_its_move, san_is_a_word, texts_have_parts,
 };
 pub use reading::{Reading, has_move_shape, read_move};
+pub use san_text::San;
 pub use writing::{SanText, add_check_mark, san, unmarked_san};

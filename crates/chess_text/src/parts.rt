@@ -2,9 +2,9 @@
 
 ghost use Rattle.std.specs.Prelude.{◌≡◌};
 ghost use Rattle.chess_text.specs.Parts.{is_mark, unmarked};
-ghost use Rattle.chess_text.specs.ties.Reader.{promotion_by, promotion_at, end_at, takes_at, rank_at, file_at, parts_at};
+ghost use Rattle.chess_text.specs.ties.Reader.{kind_from, lettered_kinds, promotion_to, promotion_by, promotion_at, end_at, takes_at, rank_at, file_at, parts_at};
 
-use chess_base::{Kind, Square};
+use chess_base::{Colour, Kind, Man, Square};
 
 /// What a text names as the promotion: the kind, whether `=` comes before its letter, and whether the letter is small.
 #[derive(Clone, Copy, Debug, PartialEq, Eq)]
@@ -53,27 +53,42 @@ pub(crate) fn unmarked(text: &[u8]) -> &[u8]
     &text[..end]
 }
 
+// The kind of piece that a move's text names by this letter; `None` for a pawn's, which no text has, and for any other
+// byte.
+#[inline(always)]
+#[tactic(auto, using(crate::proofs::TextLetters::lettered))]
+pub(crate) fn lettered_kind(byte: u8) -> Option<Kind>
+    ensures { result ≡ kind_from lettered_kinds byte }
+{
+    match Kind::from_letter(byte) {
+        Some(Kind::Pawn) => None,
+        kind => kind,
+    }
+}
+
+// The promotion by the letter that this piece has in FEN, where Black's letters are small; `equals` says whether `=`
+// was before it. `None` for a king or a pawn.
+fn promotion_to(equals: bool, man: Man) -> Option<Promotion>
+    ensures { result ≡ promotion_to equals man }
+{
+    if man.kind == Kind::King || man.kind == Kind::Pawn {
+        return None;
+    }
+    Some(Promotion {
+        kind: man.kind,
+        equals,
+        small: man.colour == Colour::Black,
+    })
+}
+
 // The promotion to the piece with that letter, capital or small; `equals` says whether `=` was before it. `None` if a
 // pawn can't become such a piece.
+#[tactic(auto, using(crate::proofs::PromotionLetters::no_promotion, crate::proofs::PromotionLetters::promotion_found))]
 fn promotion_by(equals: bool, letter: u8) -> Option<Promotion>
     ensures { result ≡ promotion_by equals letter }
 {
-    let (kind, small) = match letter {
-        b'Q' => (Kind::Queen, false),
-        b'R' => (Kind::Rook, false),
-        b'B' => (Kind::Bishop, false),
-        b'N' => (Kind::Knight, false),
-        b'q' => (Kind::Queen, true),
-        b'r' => (Kind::Rook, true),
-        b'b' => (Kind::Bishop, true),
-        b'n' => (Kind::Knight, true),
-        _ => return None,
-    };
-    Some(Promotion {
-        kind,
-        equals,
-        small,
-    })
+    let man = Man::from_letter(letter)?;
+    promotion_to(equals, man)
 }
 
 // The promotion that the text after the end square denotes (`Q`, `q`, `=Q` or `=q`): `Some(None)` if that text is
@@ -95,16 +110,12 @@ fn read_promotion(text: &[u8]) -> Option<Option<Promotion>>
 fn read_end(text: &[u8]) -> Option<End>
     ensures { result ≡ end_at text.now }
 {
-    match text {
-        [file @ b'a'..=b'h', rank @ b'1'..=b'8', rest @ ..] => {
-            let promotion = read_promotion(rest)?;
-            Some(End {
-                to: Square::new(8 * (*rank - b'1') + (*file - b'a')),
-                promotion,
-            })
-        }
-        _ => None,
-    }
+    let [file, rank, rest @ ..] = text else {
+        return None;
+    };
+    let to = Square::from_letters(*file, *rank)?;
+    let promotion = read_promotion(rest)?;
+    Some(End { to, promotion })
 }
 
 // Whether a text of the form `[x]end`, as `xd5` or `e8=Q`, begins with `x`, and its end square and promotion; `None`
@@ -173,13 +184,11 @@ fn read_file(letter: Option<Kind>, text: &[u8]) -> Option<Parts>
 pub(crate) fn read_parts(text: &[u8]) -> Option<Parts>
     ensures { result ≡ parts_at text.now }
 {
-    let letter = match text {
-        [b'K', ..] => Kind::King,
-        [b'Q', ..] => Kind::Queen,
-        [b'R', ..] => Kind::Rook,
-        [b'B', ..] => Kind::Bishop,
-        [b'N', ..] => Kind::Knight,
-        _ => return read_file(None, text),
+    let [first, rest @ ..] = text else {
+        return None;
     };
-    read_file(Some(letter), &text[1..])
+    match lettered_kind(*first) {
+        None => read_file(None, text),
+        letter => read_file(letter, rest),
+    }
 }

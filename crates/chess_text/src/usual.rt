@@ -1,11 +1,10 @@
 //! Texts of the usual shapes, such as `e4`, `Nf3`, `exd5`, `Nxd5` and `Nbd2`, whose parts are read at once.
 
-ghost use Rattle.std.specs.Prelude.{◌≡◌, true};
+ghost use Rattle.std.specs.Prelude.{◌≡◌};
 ghost use Rattle.chess_text.specs.Parts.{unmarked};
-ghost use Rattle.chess_text.specs.ties.Reader.{kind_from, lettered_kinds};
-ghost use Rattle.chess_text.specs.ties.Usual.{names_square, parts_to, four_at, usual_at};
+ghost use Rattle.chess_text.specs.ties.Usual.{parts_to, four_at, usual_at};
 
-use crate::parts::{End, Parts, is_mark};
+use crate::parts::{End, Parts, is_mark, lettered_kind};
 use chess_base::{Kind, Square};
 
 // The text without the mark at its end, if there is one: one mark is enough for usual texts.
@@ -20,26 +19,10 @@ pub(crate) fn without_mark(text: &[u8]) -> &[u8]
     if is_mark(*last) { rest } else { text }
 }
 
-// The kind of piece with this capital letter; `None` for any other byte.
+// The parts with this letter, start file and `x`, and this end square.
 #[inline(always)]
-fn kind_of(letter: u8) -> Option<Kind>
-    ensures { result ≡ kind_from lettered_kinds letter }
-{
-    match letter {
-        b'K' => Some(Kind::King),
-        b'Q' => Some(Kind::Queen),
-        b'R' => Some(Kind::Rook),
-        b'B' => Some(Kind::Bishop),
-        b'N' => Some(Kind::Knight),
-        _ => None,
-    }
-}
-
-// The parts with this letter, start file and `x`, and the end square with this file's letter and this rank's digit.
-#[inline(always)]
-fn parts_to(letter: Option<Kind>, file: Option<u8>, takes: bool, to_file: u8, to_rank: u8) -> Parts
-    requires { names_square to_file to_rank ≡ true }
-    ensures { result ≡ parts_to letter file takes to_file to_rank }
+fn parts_to(letter: Option<Kind>, file: Option<u8>, takes: bool, to: Square) -> Parts
+    ensures { result ≡ parts_to letter file takes to }
 {
     Parts {
         letter,
@@ -47,30 +30,30 @@ fn parts_to(letter: Option<Kind>, file: Option<u8>, takes: bool, to_file: u8, to
         rank: None,
         takes,
         end: End {
-            to: Square::new(8 * (to_rank - b'1') + (to_file - b'a')),
+            to,
             promotion: None,
         },
     }
 }
 
-// The parts of a text of four bytes, as `exd5`, `Nxd5` or `Nbd2`, whose last two name a square; `None` for any other.
+// The parts of a text of four bytes, as `exd5`, `Nxd5` or `Nbd2`, whose last two name the square `to`; `None` for any
+// other.
 #[inline(always)]
-fn read_four(first: u8, second: u8, to_file: u8, to_rank: u8) -> Option<Parts>
-    requires { names_square to_file to_rank ≡ true }
-    ensures { result ≡ four_at first second to_file to_rank }
+fn read_four(first: u8, second: u8, to: Square) -> Option<Parts>
+    ensures { result ≡ four_at first second to }
 {
     if second == b'x' {
         if matches!(first, b'a'..=b'h') {
-            return Some(parts_to(None, Some(first - b'a'), true, to_file, to_rank));
+            return Some(parts_to(None, Some(first - b'a'), true, to));
         }
-        let kind = kind_of(first)?;
-        return Some(parts_to(Some(kind), None, true, to_file, to_rank));
+        let kind = lettered_kind(first)?;
+        return Some(parts_to(Some(kind), None, true, to));
     }
     if !matches!(second, b'a'..=b'h') {
         return None;
     }
-    let kind = kind_of(first)?;
-    Some(parts_to(Some(kind), Some(second - b'a'), false, to_file, to_rank))
+    let kind = lettered_kind(first)?;
+    Some(parts_to(Some(kind), Some(second - b'a'), false, to))
 }
 
 // The parts of a text of a usual shape, without marks; `None` for any other.
@@ -79,13 +62,18 @@ pub(crate) fn usual_parts(text: &[u8]) -> Option<Parts>
     ensures { result ≡ usual_at text.now }
 {
     match text {
-        [file @ b'a'..=b'h', rank @ b'1'..=b'8'] => Some(parts_to(None, None, false, *file, *rank)),
-        [letter, file @ b'a'..=b'h', rank @ b'1'..=b'8'] => {
-            let kind = kind_of(*letter)?;
-            Some(parts_to(Some(kind), None, false, *file, *rank))
+        [file, rank] => {
+            let to = Square::from_letters(*file, *rank)?;
+            Some(parts_to(None, None, false, to))
         }
-        [first, second, file @ b'a'..=b'h', rank @ b'1'..=b'8'] => {
-            read_four(*first, *second, *file, *rank)
+        [letter, file, rank] => {
+            let to = Square::from_letters(*file, *rank)?;
+            let kind = lettered_kind(*letter)?;
+            Some(parts_to(Some(kind), None, false, to))
+        }
+        [first, second, file, rank] => {
+            let to = Square::from_letters(*file, *rank)?;
+            read_four(*first, *second, to)
         }
         _ => None,
     }

@@ -2,7 +2,7 @@
 
 ghost use Rattle.std.specs.Prelude.{◌≡◌, ◌+◌, ◌≤◌, ◌<◌, ◌∷◌, [], ◌++◌, false, IsTrue};
 ghost use Rattle.arrayvec.specs.ArrayVec.{array_vec_len};
-ghost use Rattle.chess_base.specs.Letters.{white_letter, square_text};
+ghost use Rattle.chess_base.specs.Letters.{square_text};
 ghost use Rattle.chess_base.specs.declared.man.Kind.TheVariants.{Pawn};
 ghost use Rattle.chess_base.specs.Men.{same_kind};
 ghost use Rattle.chess_base.specs.MoveList.{moves};
@@ -106,22 +106,9 @@ fn write_square(text: &mut SanText, square: Square)
     ensures text { text.new.items ≡ text.old.items ++ square_text square }
     ensures len { array_vec_len text.new ≤ array_vec_len text.old + 2 }
 {
-    text.push(b'a' + square.file());
-    text.push(b'1' + square.rank());
-}
-
-// The capital letter of a kind of piece: `N` for a knight.
-fn letter(kind: Kind) -> u8
-    ensures { result ≡ white_letter kind }
-{
-    match kind {
-        Kind::Pawn => b'P',
-        Kind::Knight => b'N',
-        Kind::Bishop => b'B',
-        Kind::Rook => b'R',
-        Kind::Queen => b'Q',
-        Kind::King => b'K',
-    }
+    let [file, rank] = square.letters();
+    text.push(file);
+    text.push(rank);
 }
 
 // Castling to this side in SAN: `O-O` or `O-O-O`.
@@ -144,12 +131,13 @@ fn pawn_text(d: &Described) -> SanText
     ensures len { array_vec_len result ≤ 6 }
 {
     let mut text = SanText::new();
-    push_if(&mut text, d.captures, b'a' + d.from.file());
+    let [file, _] = d.from.letters();
+    push_if(&mut text, d.captures, file);
     push_if(&mut text, d.captures, b'x');
     write_square(&mut text, d.to);
     if let Some(kind) = d.promotion {
         text.push(b'=');
-        text.push(letter(kind));
+        text.push(kind.letter());
     }
     text
 }
@@ -163,9 +151,10 @@ fn lettered_text(others: SquareSet, d: &Described) -> SanText
 {
     let start = disambiguate(d.from, others);
     let mut text = SanText::new();
-    text.push(letter(d.man));
-    push_if(&mut text, start.file, b'a' + d.from.file());
-    push_if(&mut text, start.rank, b'1' + d.from.rank());
+    text.push(d.man.letter());
+    let [file, rank] = d.from.letters();
+    push_if(&mut text, start.file, file);
+    push_if(&mut text, start.rank, rank);
     push_if(&mut text, d.captures, b'x');
     write_square(&mut text, d.to);
     text

@@ -1,7 +1,7 @@
 -- How great the numbers of a level and of its clocks are.
 use Rattle.std.specs.Prelude.{◌≤◌}
 use Rattle.cecp_engine.specs.Levels.{LevelSeen, allotted}
-use Rattle.chess_game.specs.declared.game.TheConstants.{MOST_MOVES}
+use Rattle.chess_base.specs.declared.setup.TheConstants.{MOST_MOVES}
 use Rattle.cecp_engine.specs.Clocks.{Spent}
 
 -- the numbers of a time control are within what a text can denote: 999 moves, 999 minutes and 59 seconds, 999 seconds

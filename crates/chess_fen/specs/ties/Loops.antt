@@ -8,7 +8,7 @@ use Rattle.chess_base.specs.declared.man.CastlingSide.TheVariants.{KingSide, Que
 use Rattle.chess_base.specs.declared.man.Kind.TheVariants.{Rook}
 use Rattle.chess_base.specs.Men.{Men, man_at, is_man}
 use Rattle.chess_base.specs.Castling.{home_square}
-use Rattle.chess_fen.specs.ManLetters.{stroke}
+use Rattle.chess_fen.specs.Texts.{stroke}
 use Rattle.chess_fen.specs.RightNames.{nowhere, named_square, one_or_nowhere}
 use Rattle.chess_fen.specs.Writing.{fen_rank, ranks_down}
 

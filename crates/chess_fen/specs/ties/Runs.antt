@@ -4,8 +4,7 @@ use Rattle.std.specs.List.{position_or_len, before_first}
 use Rattle.chess_base.specs.declared.man.Man.{Man}
 use Rattle.chess_base.specs.Letters.{space}
 use Rattle.chess_fen.specs.declared.letters.Run.{Run}
-use Rattle.chess_fen.specs.ManLetters.{stroke}
-use Rattle.chess_fen.specs.Texts.{squares_of, placement_of}
+use Rattle.chess_fen.specs.Texts.{squares_of, placement_of, stroke}
 
 -- the squares of a run, the first with its piece and the others empty; none if they are more than a rank has
 abbrev pub squares_in : Run → Option (List (Option Man))

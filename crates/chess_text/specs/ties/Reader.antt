@@ -1,13 +1,16 @@
 -- The parts of a text as code reads them, from the front: each shows by its first byte, but for a file, which is one of
 -- the start only where a square follows.
-use Rattle.std.specs.Prelude.{ℕ, ◌+◌, ◌-◌, ◌*◌, ◌==◌, nat_le, Bool, true, false, ◌&&◌, if◌then◌else◌, List, [], ◌∷◌, find, Option, Some, None}
+use Rattle.std.specs.Prelude.{ℕ, ◌+◌, ◌-◌, ◌*◌, ◌==◌, Bool, true, false, ◌&&◌, ◌||◌, if◌then◌else◌, List, [], ◌∷◌, find, Option, Some, None}
 use Rattle.std.specs.Option.{option_map}
 use Rattle.chess_base.specs.declared.man.Kind.{Kind}
-use Rattle.chess_base.specs.Letters.{byte, white_letter}
+use Rattle.chess_base.specs.Letters.{byte, white_letter, is_file_letter, is_rank_digit}
 use Rattle.chess_text.specs.declared.parts.Parts.{Parts}
 use Rattle.chess_text.specs.declared.parts.End.{End}
 use Rattle.chess_text.specs.declared.parts.Promotion.{Promotion}
-use Rattle.chess_base.specs.declared.man.Kind.TheVariants.{King, Queen, Rook, Bishop, Knight}
+use Rattle.chess_base.specs.declared.man.Kind.TheVariants.{King, Queen, Rook, Bishop, Knight, Pawn}
+use Rattle.chess_base.specs.declared.man.Colour.TheVariants.{Black}
+use Rattle.chess_base.specs.declared.man.Man.{Man}
+use Rattle.chess_base.specs.Men.{same_colour, same_kind}
 
 -- the kinds of piece that a move's text names by a letter: all but the pawn
 abbrev pub lettered_kinds : List Kind
@@ -21,14 +24,6 @@ promoted = Queen ∷ Rook ∷ Bishop ∷ Knight ∷ []
 abbrev pub kind_from : List Kind → ℕ → Option Kind
 kind_from kinds c = find (λ k. white_letter k == c) kinds
 
--- the byte is a file's letter, `a` to `h`
-abbrev pub is_file_letter : ℕ → Bool
-is_file_letter c = nat_le (byte "a") c && nat_le c (byte "h")
-
--- the byte is a rank's digit, `1` to `8`
-abbrev pub is_rank_digit : ℕ → Bool
-is_rank_digit c = nat_le (byte "1") c && nat_le c (byte "8")
-
 -- the first value if it is there, else the second
 abbrev pub or_else : {A : Type 0} → Option A → Option A → Option A
 or_else (Some x) o = Some x
@@ -40,6 +35,12 @@ abbrev pub promotion_by : Bool → ℕ → Option Promotion
 promotion_by equals c =
     or_else (option_map (λ k. record { kind = k; equals = equals; small = false }) (kind_from promoted c))
     (option_map (λ k. record { kind = k; equals = equals; small = true }) (kind_from promoted (c - 32)))
+
+-- the promotion by the letter that this piece has in FEN, where Black's letters are small; none for a king or a pawn
+abbrev pub promotion_to : Bool → Man → Option Promotion
+promotion_to equals m =
+    if same_kind m.kind King || same_kind m.kind Pawn then None
+    else Some (record { kind = m.kind; equals = equals; small = same_colour m.colour Black })
 
 -- the promotion that the text after the end square denotes (Q, q, =Q or =q): `Some None` if that text is empty, `None`
 -- if it is neither empty nor just a promotion

@@ -4,7 +4,7 @@ use Rattle.std.proofs.Common.{arith, sym, ◌≤◌, ◌<◌, ◌+◌}
 use Rattle.cecp_engine.specs.Levels.{time_left, allotted}
 use Rattle.cecp_engine.proofs.Allotment.{within_more, room_more}
 use Rattle.cecp_engine.proofs.clocks.Clocks.charge.Goals as goal
-use Rattle.chess_game.specs.declared.game.TheConstants.{MOST_MOVES}
+use Rattle.chess_base.specs.declared.setup.TheConstants.{MOST_MOVES}
 
 pub overflow_add-self-in-White : goal.overflow_add-self-in-White
 overflow_add-self-in-White c =

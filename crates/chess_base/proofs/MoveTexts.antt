@@ -1,0 +1,134 @@
+-- A text is parsed as the square or the move that is written so, and as no other.
+use Rattle.std.proofs.Common.{◌≡◌, ℕ, ◌+◌, ◌-◌, ◌*◌, ◌/◌, ◌%◌, ◌<◌, ◌≤◌, Bool, true, false, cond, eqb, leb, ◌&&◌, List, [], ◌∷◌, ◌++◌, Option, Some, None, refl, sym, ap, subst, ◌∙◌, arith}
+use Rattle.std.specs.Prelude.{find, IfSome, option_and_then, ◌==◌}
+use Rattle.std.specs.Option.{option_map, ok_or}
+use Rattle.std.proofs.lemmas.Bool.Decides.{nat_tests}
+use Rattle.chess_base.specs.declared.man.Colour.TheVariants.{Black}
+use Rattle.chess_base.specs.declared.man.Kind.{Kind}
+use Rattle.chess_base.specs.declared.man.Kind.TheVariants.{Pawn, Knight, Bishop, Rook, Queen, King}
+use Rattle.chess_base.specs.declared.man.Move.{Move}
+use Rattle.chess_base.specs.Coordinates.{optional, small_letter_text, coordinate, ParsesSquare, ParsesMove}
+use Rattle.chess_base.specs.Letters.{kinds, letter_by, kind_with_small_letter, is_file_letter, is_rank_digit, square_text, square_with_letters}
+use Rattle.chess_base.specs.MoveList.{move_of}
+use Rattle.chess_base.specs.ties.MoveTexts.{promotion_of_text, move_of_text}
+use Rattle.chess_base.proofs.Choices.{chosen}
+
+-- ---- squares
+
+-- two bytes that are read as a square are its name
+pub square_named : (f r s : ℕ) → square_with_letters f r ≡ Some s → (f ∷ r ∷ [] ≡ square_text s) × (s < 64)
+square_named f r s e =
+    let h = chosen (is_file_letter f && is_rank_digit r) (Some (8 * (r - 49) + (f - 97))) s e in
+    let f0 : 97 ≤ f = grind (arith, nat_tests, h.0) in
+    let f1 : f ≤ 104 = grind (arith, nat_tests, h.0) in
+    let r0 : 49 ≤ r = grind (arith, nat_tests, h.0) in
+    let r1 : r ≤ 56 = grind (arith, nat_tests, h.0) in
+    let is : 8 * (r - 49) + (f - 97) ≡ s = cc (h.1) in
+    subst (λ t. (f ∷ r ∷ [] ≡ square_text t) × (t < 64)) is (named f0 f1 r0 r1, omega arith)
+  where
+    named : 97 ≤ f → f ≤ 104 → 49 ≤ r → r ≤ 56 → f ∷ r ∷ [] ≡ square_text (8 * (r - 49) + (f - 97))
+    named f0 f1 r0 r1 =
+        let file : f ≡ 97 + (8 * (r - 49) + (f - 97)) % 8 = omega arith in
+        let rank : r ≡ 49 + (8 * (r - 49) + (f - 97)) / 8 = omega arith in
+        ap (λ x. x ∷ r ∷ []) file ∙ ap (λ x. (97 + (8 * (r - 49) + (f - 97)) % 8) ∷ x ∷ []) rank
+
+-- a square's name is read as the square
+pub square_read : (s : ℕ) → s < 64 → square_with_letters (97 + s % 8) (49 + s / 8) ≡ Some s
+square_read s h =
+    let t0 : leb 97 (97 + s % 8) ≡ true = grind (arith, nat_tests) in
+    let t1 : leb (97 + s % 8) 104 ≡ true = grind (arith, nat_tests) in
+    let t2 : leb 49 (49 + s / 8) ≡ true = grind (arith, nat_tests) in
+    let t3 : leb (49 + s / 8) 56 ≡ true = grind (arith, nat_tests) in
+    let at : 8 * ((49 + s / 8) - 49) + ((97 + s % 8) - 97) ≡ s = omega arith in
+    rw (t0, t1, t2, t3, at) refl
+
+pub parses_square : {E : Type 0} (text : List ℕ) (o : Option ℕ) (error : E) → IfSome o (λ s. text ≡ square_text s)
+    → ((s : ℕ) → s < 64 → text ≡ square_text s → o ≡ Some s) → ParsesSquare text (ok_or o error)
+parses_square text None error found only = λ s below is. let impossible = only s below is in cc
+parses_square text (Some s) error found only = found
+
+-- ---- promotions
+
+abbrev small_from : List Kind → ℕ → Option Kind
+small_from ks c = find (λ k. letter_by Black k == c) ks
+
+small_found : (ks : List Kind) (c : ℕ) (k : Kind) → small_from ks c ≡ Some k → letter_by Black k ≡ c
+small_found [] c k e = absurd cc
+small_found (j ∷ ks) c k e = by_test (λ h. small_found ks c k h) (eqb (letter_by Black j) c) refl e
+  where
+    by_test : (small_from ks c ≡ Some k → letter_by Black k ≡ c) → (b : Bool) → eqb (letter_by Black j) c ≡ b
+        → cond b (Some j) (small_from ks c) ≡ Some k → letter_by Black k ≡ c
+    by_test later true t e = let same : j ≡ k = cc in let at : letter_by Black j ≡ c =
+        grind (arith, nat_tests) in ap (letter_by Black) (sym same) ∙ at
+    by_test later false t e = later e
+
+small_read : (k : Kind) → kind_with_small_letter (letter_by Black k) ≡ Some k
+small_read Pawn = refl
+small_read Knight = refl
+small_read Bishop = refl
+small_read Rook = refl
+small_read Queen = refl
+small_read King = refl
+
+mapped : {A B : Type 0} (f : A → B) (o : Option A) (y : B) → option_map f o ≡ Some y
+    → (x : A) × (o ≡ Some x) × (f x ≡ y)
+mapped f None y e = absurd cc
+mapped f (Some x) y e = (x, refl, cc)
+
+promotion_read : (o : Option Kind) → promotion_of_text (optional small_letter_text o) ≡ Some o
+promotion_read None = refl
+promotion_read (Some k) = ap (option_map Some) (small_read k)
+
+promotion_named : (text : List ℕ) (o : Option Kind) → promotion_of_text text ≡ Some o
+    → text ≡ optional small_letter_text o
+promotion_named [] o e =
+    let none : None ≡ o = cc in
+    subst (λ (p : Option Kind). [] ≡ optional small_letter_text p) none refl
+promotion_named (c ∷ []) o e =
+    let m = mapped Some (kind_with_small_letter c) o e in
+    subst (λ (p : Option Kind). c ∷ [] ≡ optional small_letter_text p) m.2
+    (ap (λ b. b ∷ []) (sym (small_found kinds c m.0 m.1)))
+promotion_named (c ∷ d ∷ cs) o e = absurd cc
+
+-- ---- moves
+
+-- a move's coordinate text is read as the move
+move_read : (m : Move) → m.from < 64 → m.to < 64 → move_of_text (coordinate m) ≡ Some m
+move_read m f t = rw (square_read m.from f, square_read m.to t, promotion_read m.promotion) refl
+
+-- a text that is read as a move is its coordinate text
+move_named : (text : List ℕ) (m : Move) → move_of_text text ≡ Some m → text ≡ coordinate m
+move_named [] m e = absurd cc
+move_named (a ∷ []) m e = absurd cc
+move_named (a ∷ b ∷ []) m e = absurd cc
+move_named (a ∷ b ∷ c ∷ []) m e = absurd cc
+move_named (a ∷ b ∷ c ∷ d ∷ rest) m e = by_from (square_with_letters a b) refl e
+  where
+    by_parts : (from to : ℕ) → square_with_letters a b ≡ Some from → square_with_letters c d ≡ Some to
+        → option_map (move_of from to) (promotion_of_text rest) ≡ Some m → a ∷ b ∷ c ∷ d ∷ rest ≡ coordinate m
+    by_parts from to at_from at_to e =
+        let p = mapped (move_of from to) (promotion_of_text rest) m e in
+        let x = (square_named a b from at_from).0 in
+        let y = (square_named c d to at_to).0 in
+        let z = promotion_named rest p.0 p.1 in
+        subst (λ (n : Move). a ∷ b ∷ c ∷ d ∷ rest ≡ coordinate n) p.2 (ap (λ xs. xs ++ (c ∷ d ∷ rest)) x
+        ∙ ap (λ xs. square_text from ++ (xs ++ rest)) y ∙ ap (λ xs. square_text from ++ (square_text to ++ xs)) z)
+
+    by_to : (from : ℕ) → square_with_letters a b ≡ Some from → (o : Option ℕ) → square_with_letters c d ≡ o
+        → option_and_then (λ to. option_map (move_of from to) (promotion_of_text rest)) o ≡ Some m
+        → a ∷ b ∷ c ∷ d ∷ rest ≡ coordinate m
+    by_to from at_from None at_to e = absurd cc
+    by_to from at_from (Some to) at_to e = by_parts from to at_from at_to e
+
+    by_from : (o : Option ℕ) → square_with_letters a b ≡ o
+        → option_and_then (λ from. option_and_then (λ to. option_map (move_of from to) (promotion_of_text rest))
+        (square_with_letters c d)) o ≡ Some m → a ∷ b ∷ c ∷ d ∷ rest ≡ coordinate m
+    by_from None at_from e = absurd cc
+    by_from (Some from) at_from e = by_to from at_from (square_with_letters c d) refl e
+
+pub parses_move : {E : Type 0} (text : List ℕ) (error : E) → ParsesMove text (ok_or (move_of_text text) error)
+parses_move text error = by_result (move_of_text text) refl
+  where
+    by_result : (o : Option Move) → move_of_text text ≡ o → ParsesMove text (ok_or o error)
+    by_result None is = λ m f t same. let impossible = sym is ∙ ap move_of_text same ∙ move_read m f t in cc
+    by_result (Some m) is = move_named text m is

@@ -1,0 +1,21 @@
+-- The move that a text denotes by coordinates, as code reads it from the front.
+use Rattle.std.specs.Prelude.{ℕ, List, [], ◌∷◌, Option, Some, None, option_and_then}
+use Rattle.std.specs.Option.{option_map}
+use Rattle.chess_base.specs.declared.man.Kind.{Kind}
+use Rattle.chess_base.specs.declared.man.Move.{Move}
+use Rattle.chess_base.specs.Letters.{kind_with_small_letter, square_with_letters}
+use Rattle.chess_base.specs.MoveList.{move_of}
+
+-- the promotion that the text after the two squares denotes: none if it is empty, a kind by its small letter; none at
+-- all (`None`) for any other text
+abbrev pub promotion_of_text : List ℕ → Option (Option Kind)
+promotion_of_text [] = Some None
+promotion_of_text (c ∷ []) = option_map Some (kind_with_small_letter c)
+promotion_of_text (c ∷ d ∷ cs) = None
+
+-- the move with this coordinate text, if there is one
+abbrev pub move_of_text : List ℕ → Option Move
+move_of_text (a ∷ b ∷ c ∷ d ∷ rest) =
+    option_and_then (λ from. option_and_then (λ to. option_map (move_of from to) (promotion_of_text rest))
+    (square_with_letters c d)) (square_with_letters a b)
+move_of_text _ = None

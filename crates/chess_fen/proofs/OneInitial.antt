@@ -1,0 +1,71 @@
+-- Only the initial position of normal chess has its FEN.
+use Rattle.std.proofs.Common.{◌≡◌, ℕ, ◌+◌, ◌%◌, true, List, [], ◌∷◌, ◌++◌, Option, Some, None, refl, sym, ap, ◌∙◌, arith}
+use Rattle.std.specs.Prelude.{◌↔◌, Ok}
+use Rattle.std.proofs.lemmas.Slice.Eq.{bytes_eq-Decides}
+use Rattle.chess_base.specs.declared.man.CastlingSide.TheVariants.{KingSide, QueenSide}
+use Rattle.chess_base.specs.declared.man.Colour.TheVariants.{White, Black}
+use Rattle.chess_base.specs.declared.man.Variant.{Variant}
+use Rattle.chess_base.specs.declared.man.Variant.TheVariants.{Normal, Fischerandom}
+use Rattle.chess_base.specs.declared.setup.Setup.{Setup}
+use Rattle.chess_base.specs.Initial.{initial_setup, initial_setup_of}
+use Rattle.chess_base.specs.Sound.{IsSound}
+use Rattle.chess_fen.specs.Reading.{fen_reading_as}
+use Rattle.chess_fen.specs.Texts.{fields_of}
+use Rattle.chess_fen.specs.Writing.{right_text, or_dash, rights_text, fen, is_initial}
+use Rattle.chess_fen.proofs.DenotedFen.{reading-denoted}
+use Rattle.chess_fen.proofs.RoundTrip.{fen_fields}
+use Rattle.chess_fen.proofs.WrittenFen.{fen-denoted}
+
+abbrev head : List ℕ → ℕ
+head [] = 0
+head (c ∷ cs) = c
+
+abbrev third : List (List ℕ) → List ℕ
+third (a ∷ b ∷ c ∷ fields) = c
+third _ = []
+
+-- the rights of Chess960 are not written as those of the initial position of normal chess, KQkq
+other_letters : (a b c d : Option ℕ) → or_dash (((right_text Fischerandom White KingSide a
+    ++ right_text Fischerandom White QueenSide b) ++ right_text Fischerandom Black KingSide c)
+    ++ right_text Fischerandom Black QueenSide d) ≡ 75 ∷ 81 ∷ 107 ∷ 113 ∷ [] → ⊥
+other_letters (Some s) b c d e = let first : 65 + s % 8 ≡ 75 = ap head e in omega (arith, first)
+other_letters None (Some s) c d e = let first : 65 + s % 8 ≡ 75 = ap head e in omega (arith, first)
+other_letters None None (Some s) d e = let first : 97 + s % 8 ≡ 75 = ap head e in omega (arith, first)
+other_letters None None None (Some s) e = let first : 97 + s % 8 ≡ 75 = ap head e in omega (arith, first)
+other_letters None None None None e = let first : 45 ≡ 75 = ap head e in omega (arith, first)
+
+initial_variant : initial_setup.variant ≡ Normal
+unfolding initial_setup initial_setup_of
+initial_variant = refl
+
+initial_rights : rights_text initial_setup.variant initial_setup.rights ≡ 75 ∷ 81 ∷ 107 ∷ 113 ∷ []
+unfolding initial_setup initial_setup_of
+initial_rights = refl
+
+normal : (p : Setup) → IsSound p → IsSound initial_setup → fen p ≡ fen initial_setup → p.variant ≡ Normal
+normal p sound initial same = by_variant p.variant refl
+  where
+    rights : rights_text p.variant p.rights ≡ 75 ∷ 81 ∷ 107 ∷ 113 ∷ []
+    rights = ap third (sym (fen_fields p sound) ∙ ap fields_of same ∙ fen_fields initial_setup initial)
+        ∙ initial_rights
+
+    by_variant : (v : Variant) → p.variant ≡ v → p.variant ≡ Normal
+    by_variant Normal is = is
+    by_variant Fischerandom is =
+        absurd (other_letters p.rights.white.king_side p.rights.white.queen_side p.rights.black.king_side
+        p.rights.black.queen_side (ap (λ v. rights_text v p.rights) (sym is) ∙ rights))
+
+read_back : (p : Setup) → IsSound p → fen_reading_as p.variant (fen p) ≡ Ok p
+read_back p sound = reading-denoted p.variant (fen p) p (fen-denoted p sound) sound
+
+only : (p : Setup) → IsSound p → IsSound initial_setup → is_initial p ≡ true → p ≡ initial_setup
+only p sound initial e =
+    let same : fen p ≡ fen initial_setup = (bytes_eq-Decides (fen p) (fen initial_setup)).0 e in
+    let variant : p.variant ≡ initial_setup.variant = normal p sound initial same ∙ sym initial_variant in
+    let both : Ok p ≡ Ok initial_setup = sym (read_back p sound) ∙ ap (fen_reading_as p.variant) same
+    ∙ ap (λ v. fen_reading_as v (fen initial_setup)) variant ∙ read_back initial_setup initial in
+    cc
+
+pub one_initial : (p : Setup) → IsSound p → IsSound initial_setup → (is_initial p ≡ true) ↔ (p ≡ initial_setup)
+one_initial p sound initial =
+    (only p sound initial, λ e. (bytes_eq-Decides (fen p) (fen initial_setup)).1 (ap fen e))

@@ -1,0 +1,9 @@
+use Rattle.std.proofs.lemmas.List.Elements.{filter_passes}
+use Rattle.chess_base.specs.Moves.{is_legal}
+use Rattle.chess_base.specs.MoveList.{moves, all_moves}
+use Rattle.chess_moves.proofs.legal.legal_moves.Goals as goal
+
+pub returns-clause-legal : goal.returns-clause-legal
+unfolding moves
+returns-clause-legal c =
+    rw (c.legal_moves.ensures, c.setup.ensures.value) (filter_passes (λ m. is_legal c.args.position.now m) all_moves)

@@ -1,0 +1,72 @@
+-- The letter of a promotion is that of a piece in FEN: a capital letter is White's, a small one Black's.
+use Rattle.std.proofs.Common.{◌≡◌, ℕ, Bool, true, false, cond, eqb, List, [], ◌∷◌, Option, Some, None, refl, sym, ap, ◌∙◌, arith}
+use Rattle.std.specs.Prelude.{find, ◌==◌}
+use Rattle.std.proofs.lemmas.Bool.Decides.{nat_tests}
+use Rattle.chess_base.specs.declared.man.Colour.{Colour}
+use Rattle.chess_base.specs.declared.man.Colour.TheVariants.{White, Black}
+use Rattle.chess_base.specs.declared.man.Kind.{Kind}
+use Rattle.chess_base.specs.declared.man.Kind.TheVariants.{Pawn, Knight, Bishop, Rook, Queen, King}
+use Rattle.chess_base.specs.declared.man.Man.{Man}
+use Rattle.chess_base.specs.Letters.{letter, letter_by, all_men, man_with_letter}
+use Rattle.chess_text.specs.declared.parts.Promotion.{Promotion}
+use Rattle.chess_text.specs.laws.Laws.{CanPromote}
+use Rattle.chess_text.specs.ties.Fitting.{promotion_letter}
+use Rattle.chess_text.specs.ties.Reader.{promotion_by, promotion_to}
+use Rattle.chess_text.proofs.Grammar.{promotion_is}
+
+abbrev man_from : List Man → ℕ → Option Man
+man_from men c = find (λ m. letter m == c) men
+
+man_found : (men : List Man) (c : ℕ) (m : Man) → man_from men c ≡ Some m → letter m ≡ c
+man_found [] c m e = absurd cc
+man_found (x ∷ men) c m e = by_test (λ h. man_found men c m h) (eqb (letter x) c) refl e
+  where
+    by_test : (man_from men c ≡ Some m → letter m ≡ c) → (b : Bool) → eqb (letter x) c ≡ b
+        → cond b (Some x) (man_from men c) ≡ Some m → letter m ≡ c
+    by_test later true t e = let same : x ≡ m = cc in let at : letter x ≡ c = grind (arith, nat_tests) in ap letter
+        (sym same) ∙ at
+    by_test later false t e = later e
+
+-- the letter of a piece, capital or small, is that of the promotion to it
+by_letter : (equals : Bool) (c : Colour) (k : Kind)
+    → promotion_by equals (letter_by c k) ≡ promotion_to equals (record { colour = c; kind = k })
+by_letter equals White Pawn = refl
+by_letter equals White Knight = refl
+by_letter equals White Bishop = refl
+by_letter equals White Rook = refl
+by_letter equals White Queen = refl
+by_letter equals White King = refl
+by_letter equals Black Pawn = refl
+by_letter equals Black Knight = refl
+by_letter equals Black Bishop = refl
+by_letter equals Black Rook = refl
+by_letter equals Black Queen = refl
+by_letter equals Black King = refl
+
+pub promotion_found : (equals : Bool) (c : ℕ) (m : Man) → man_with_letter c ≡ Some m
+    → promotion_to equals m ≡ promotion_by equals c
+promotion_found equals c m e =
+    sym (by_letter equals m.colour m.kind) ∙ ap (promotion_by equals) (man_found all_men c m e)
+
+-- a promotion's letter is a piece's
+is_letter_of : (small : Bool) (k : Kind) → CanPromote k
+    → man_with_letter (promotion_letter (record { kind = k; equals = false; small = small })) ≡ None → ⊥
+is_letter_of small Pawn h e = h
+is_letter_of small King h e = h
+is_letter_of true Knight h e = cc
+is_letter_of true Bishop h e = cc
+is_letter_of true Rook h e = cc
+is_letter_of true Queen h e = cc
+is_letter_of false Knight h e = cc
+is_letter_of false Bishop h e = cc
+is_letter_of false Rook h e = cc
+is_letter_of false Queen h e = cc
+
+pub no_promotion : (equals : Bool) (c : ℕ) → man_with_letter c ≡ None → promotion_by equals c ≡ None
+no_promotion equals c none = by_result (promotion_by equals c) refl
+  where
+    by_result : (o : Option Promotion) → promotion_by equals c ≡ o → promotion_by equals c ≡ None
+    by_result None is = is
+    by_result (Some p) is =
+        let h = promotion_is equals c p is in
+        absurd (is_letter_of p.small p.kind h.2 (ap man_with_letter (sym h.1) ∙ none))

@@ -1,0 +1,7 @@
+-- SAN is ASCII, so it is text.
+use Rattle.std.proofs.lemmas.Str.{IsUtf8-from_ascii}
+use Rattle.chess_text.proofs.san_text.San.as_str.Goals as goal
+
+pub unreachable-requires : goal.unreachable-requires
+unreachable-requires c = c.in-Err.ensures.cases.0
+    (rw c.as_bytes.ensures.value (IsUtf8-from_ascii c.args.self.now c.as_bytes.ensures.ascii))
