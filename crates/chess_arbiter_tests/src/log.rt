@@ -4,7 +4,7 @@ use crate::runs::{is_equal, is_text};
 use byte_devices::{Counted, PieceReader, PieceWriter};
 use cecp_engine::Level;
 use chess_arbiter::{Log, run_match_logged};
-use chess_base::{Colour, Position};
+use chess_base::{ByColour, Colour, Position};
 use chess_game::Game;
 use chess_match::{Ends, MatchFault, Moments, Setup};
 use chess_moves::Plain;
@@ -79,11 +79,11 @@ fn play(rt: &impl Abort, alloc: Global, input: &MatchInput<'_>) -> Result<Logged
         start: Position::initial(),
         level,
     };
-    let mut white = Ends {
+    let white = Ends {
         reader: Counted::reading(PieceReader::new(input.white, 9, input.white_read)),
         writer: Counted::writing(PieceWriter::new(alloc, 1024, 0)),
     };
-    let mut black = Ends {
+    let black = Ends {
         reader: Counted::reading(PieceReader::new(input.black, 9, 0)),
         writer: Counted::writing(PieceWriter::new(alloc, 1024, input.black_write)),
     };
@@ -92,15 +92,16 @@ fn play(rt: &impl Abort, alloc: Global, input: &MatchInput<'_>) -> Result<Logged
     };
     let mut game = Game::open(alloc, Plain::new(), 100)?;
     let mut log = Log::new(Counted::writing(PieceWriter::new(alloc, 1024, input.log_write)));
+    let mut ends = ByColour { white, black };
     let end = run_match_logged(
-        &mut white,
-        &mut black,
+        &mut ends,
         &mut moments,
         &setup,
         &mut game,
         input.first,
         &mut log,
     );
+    let ByColour { white, black } = ends;
     Ok(Logged {
         fault: end.fault,
         to_white: white.writer.into_writer().bytes,

@@ -1,6 +1,7 @@
 //! Engines as processes.
 
 use byte_devices::Counted;
+use chess_base::ByColour;
 use chess_match::Ends;
 use std::alloc::Global;
 use std::process::{Child, Command, OpenProcess, Processes, Stdio};
@@ -21,6 +22,44 @@ pub(crate) struct Engine<P: OpenProcess + Drop> {
     pub child: Child<P>,
     /// What reads its output, and what writes its input.
     pub ends: Ends<Counted<P::Stdout>, Counted<P::Stdin>>,
+}
+
+/// Both engines of a game, with this process's ends of their pipes.
+#[derive(Drop)]
+pub(crate) struct Engines<P: OpenProcess + Drop> {
+    pub children: ByColour<Child<P>>,
+    pub ends: ByColour<Ends<Counted<P::Stdout>, Counted<P::Stdin>>>,
+}
+
+impl<P: OpenProcess + Drop> Engines<P> {
+    /// Two running engines, White's and Black's.
+    pub fn of(white: Engine<P>, black: Engine<P>) -> Self {
+        let Engine {
+            child: white_child,
+            ends: white_ends,
+        } = white;
+        let Engine {
+            child: black_child,
+            ends: black_ends,
+        } = black;
+        Engines {
+            children: ByColour {
+                white: white_child,
+                black: black_child,
+            },
+            ends: ByColour {
+                white: white_ends,
+                black: black_ends,
+            },
+        }
+    }
+}
+
+/// What starts engines.
+#[derive(Drop)]
+pub(crate) struct Host<'r, R> {
+    pub rt: &'r R,
+    pub alloc: Global,
 }
 
 // Why an engine could not be started, by the system's error: no memory, or anything else.
@@ -123,19 +162,16 @@ pub(crate) fn finish<C: Clock, P: OpenProcess + Drop>(rt: &C, engine: Engine<P>)
 }
 
 /// Closes the inputs of both engines, and then waits for the end of each as [`finish`] does.
-pub(crate) fn finish_both<C: Clock, P: OpenProcess + Drop>(
-    rt: &C,
-    white: Engine<P>,
-    black: Engine<P>,
-) {
-    let Engine {
-        child: white_child,
-        ends: white_ends,
-    } = white;
-    let Engine {
-        child: black_child,
-        ends: black_ends,
-    } = black;
+pub(crate) fn finish_both<C: Clock, P: OpenProcess + Drop>(rt: &C, engines: Engines<P>) {
+    let Engines { children, ends } = engines;
+    let ByColour {
+        white: white_child,
+        black: black_child,
+    } = children;
+    let ByColour {
+        white: white_ends,
+        black: black_ends,
+    } = ends;
     let Ends {
         reader: white_reader,
         writer: white_writer,

@@ -2,29 +2,28 @@
 
 ghost use Rattle.std.specs.Prelude.{◌≡◌, ◌≤◌, ◌⊎◌, [], IfErr, IfOk};
 ghost use Rattle.byte_devices.specs.Devices.{Sends};
-ghost use Rattle.chess_match.specs.Reasons.{by_colour, comment_of};
-ghost use Rattle.chess_match.specs.Run.{Ports};
+ghost use Rattle.chess_match.specs.Reasons.{comment_of};
 ghost use Rattle.chess_match.specs.declared.reason.Reason.TheVariants.{Faulted};
 ghost use Rattle.chess_pgn.specs.GameText.{pgn};
 ghost use Rattle.match_runner.specs.Games.{RanGames, engine_command, first_side, player_name, score_line, tags_of};
 ghost use Rattle.match_runner.specs.ties.Playing.{FailsToStart, HasPlayed, IsMatchEndOf, PlayedGame, RanAndLogged, ReportsStart, logged_side};
-ghost use Rattle.match_runner.specs.Log.{log_seen};
+ghost use Rattle.match_runner.specs.Log.{log_seen, ports_of};
 ghost use Rattle.chess_game.specs.declared.game.TheConstants.{MOST_MOVES};
 
-use crate::engine::{Engine, StartFault, finish, finish_both, start};
+use crate::engine::{Engines, Host, StartFault, finish, finish_both, start};
 use crate::log::{Log, run_match_logged};
 use crate::moments::SinceStart;
 use crate::plan::GamesPlan;
 use crate::score::Score;
-use byte_devices::{Counted, Input, Output, WriteFault, send};
-use chess_base::{Colour, same_colour};
+use byte_devices::{Input, Output, WriteFault, send};
+use chess_base::{ByColour, Colour, same_colour};
 use chess_bits::{AttackTables, Bits};
 use chess_game::{Game, MOST_MOVES, TagText};
 use chess_match::{Ends, MatchEnd, MatchFault, Moments, Reason, Setup, run_match};
 use chess_pgn::{Tags, write_pgn};
 use itoa::Buffer;
 use std::alloc::Global;
-use std::process::{OpenProcess, Processes};
+use std::process::Processes;
 use std::rt::Clock;
 use thiserror::Error;
 
@@ -116,34 +115,40 @@ fn logged_side(plan: &GamesPlan<'_>, number: u32) -> Option<Colour>
     }
 }
 
-// Plays one game between two engines, whose pipes are `white` and `black`, and logs it if `first`, the side of the
-// engine of `--white`, is given.
-fn relay<'t, R: Input, W: Output, M: Moments, E: Output>(
-    white: &mut Ends<R, W>,
-    black: &mut Ends<R, W>,
-    moments: &mut M,
+// What the games of a match are played on, one after another: the clock, the game, and a board on which its moves are
+// made again.
+#[derive(Drop)]
+struct Table<'t, M> {
+    moments: M,
+    game: Game<Bits<'t>>,
+    scratch: Bits<'t>,
+}
+
+// Plays one game between two engines, whose pipes are `ends`, and logs it if `first`, the side of the engine of
+// `--white`, is given.
+fn relay<'t, R: Input, D: Output, M: Moments, E: Output>(
+    ends: &mut ByColour<Ends<R, D>>,
+    table: &mut Table<'t, M>,
     setup: &Setup,
-    game: &mut Game<Bits<'t>>,
     first: Option<Colour>,
     log: &mut Log<E>,
 ) -> MatchEnd
     ensures ran { RanAndLogged first
         (log_seen (E.seen log.old.output) log.old.pending) (log_seen (E.seen log.new.output) log.new.pending)
-        setup.now.start setup.now.level game.old game.new result
-        (record {
-          reader = by_colour (R.seen white.old.reader) (R.seen black.old.reader);
-          writer = by_colour (W.seen white.old.writer) (W.seen black.old.writer);
-        })
-        (record {
-          reader = by_colour (R.seen white.new.reader) (R.seen black.new.reader);
-          writer = by_colour (W.seen white.new.writer) (W.seen black.new.writer);
-        })
-        (M.coming moments.old) (M.coming moments.new) }
+        setup.now.start setup.now.level table.old.game table.new.game result
+        (ports_of R.seen D.seen ends.old.white ends.old.black) (ports_of R.seen D.seen ends.new.white ends.new.black)
+        (M.coming table.old.moments) (M.coming table.new.moments) }
 {
     let Some(first) = first else {
-        return run_match(white, black, moments, setup, game);
+        return run_match(
+            &mut ends.white,
+            &mut ends.black,
+            &mut table.moments,
+            setup,
+            &mut table.game,
+        );
     };
-    run_match_logged(white, black, moments, setup, game, first, log)
+    run_match_logged(ends, &mut table.moments, setup, &mut table.game, first, log)
 }
 
 // Writes a game's PGN to the output, and flushes; `scratch` is a board on which its moves are made again.
@@ -180,126 +185,86 @@ fn start_fault<'a>(fault: StartFault, command: &'a str) -> GamesFault<'a>
 // Starts both engines of a game; `white` and `black` are their commands. If Black's can't be started, White's is
 // ended.
 fn start_both<'a, P: Processes + Clock>(
-    rt: &P,
-    alloc: Global,
+    host: &Host<'_, P>,
     white: &'a str,
     black: &'a str,
-) -> Result<(Engine<P::Started>, Engine<P::Started>), GamesFault<'a>>
+) -> Result<Engines<P::Started>, GamesFault<'a>>
     ensures { IfErr result (λ f. FailsToStart white.entry.now f ⊎ FailsToStart black.entry.now f) }
 {
-    let white_engine = match start(rt, alloc, white) {
+    let white_engine = match start(host.rt, host.alloc, white) {
         Ok(engine) => engine,
         Err(fault) => return Err(start_fault(fault, white)),
     };
-    match start(rt, alloc, black) {
-        Ok(black_engine) => Ok((white_engine, black_engine)),
+    match start(host.rt, host.alloc, black) {
+        Ok(black_engine) => Ok(Engines::of(white_engine, black_engine)),
         Err(fault) => {
-            finish(rt, white_engine);
+            finish(host.rt, white_engine);
             Err(start_fault(fault, black))
         }
     }
 }
 
-// Plays the game of this number between two running engines, logs it if the plan asks for that, writes and flushes its
-// PGN, and then ends both engines.
-fn play_game<'a, 't, C: Clock, P: OpenProcess + Drop, M: Moments, W: Output, E: Output>(
-    rt: &C,
-    white: Engine<P>,
-    black: Engine<P>,
+// Plays the game of this number between two engines, whose pipes are `ends`, logs it if the plan asks for that, and
+// writes and flushes its PGN.
+fn play_game<'a, 't, R: Input, D: Output, M: Moments, W: Output, E: Output>(
+    ends: &mut ByColour<Ends<R, D>>,
     plan: &GamesPlan<'a>,
     number: u32,
-    moments: &mut M,
-    game: &mut Game<Bits<'t>>,
-    scratch: &mut Bits<'t>,
+    table: &mut Table<'t, M>,
     output: &mut W,
     log: &mut Log<E>,
 ) -> Result<MatchEnd, GamesFault<'a>>
-    requires limit { game.old.limit ≡ MOST_MOVES }
-    ensures limit { game.new.limit ≡ MOST_MOVES }
+    requires limit { table.old.game.limit ≡ MOST_MOVES }
+    ensures limit { table.new.game.limit ≡ MOST_MOVES }
     ensures played { PlayedGame plan.now number (W.seen output.old) (W.seen output.new)
         (log_seen (E.seen log.old.output) log.old.pending) (log_seen (E.seen log.new.output) log.new.pending)
         result }
     ensures ran { (end : _) × IfOk result (λ e. e ≡ end) × IsMatchEndOf (logged_side plan.now number)
         (log_seen (E.seen log.old.output) log.old.pending) (log_seen (E.seen log.new.output) log.new.pending)
-        plan.now.start plan.now.level game.old game.new end
-        (record {
-          reader = by_colour (⟦<Counted<P::Stdout> as Input>⟧.seen white.ends.reader)
-              (⟦<Counted<P::Stdout> as Input>⟧.seen black.ends.reader);
-          writer = by_colour (⟦<Counted<P::Stdin> as Output>⟧.seen white.ends.writer)
-              (⟦<Counted<P::Stdin> as Output>⟧.seen black.ends.writer);
-        }) }
+        plan.now.start plan.now.level table.old.game table.new.game end
+        (ports_of R.seen D.seen ends.old.white ends.old.black) }
 {
-    let Engine {
-        child: white_child,
-        ends: mut white_ends,
-    } = white;
-    let Engine {
-        child: black_child,
-        ends: mut black_ends,
-    } = black;
     let setup = Setup {
         start: plan.start,
         level: plan.level,
     };
     let first = logged_side(plan, number);
-    let end = relay(
-        &mut white_ends,
-        &mut black_ends,
-        moments,
-        &setup,
-        game,
-        first,
-        log,
-    );
+    let end = relay(ends, table, &setup, first, log);
     let tags = tags_of(plan, number, &end);
-    let written = write_game(game, scratch, &tags, output);
-    finish_both(
-        rt,
-        Engine {
-            child: white_child,
-            ends: white_ends,
-        },
-        Engine {
-            child: black_child,
-            ends: black_ends,
-        },
-    );
+    let written = write_game(&table.game, &mut table.scratch, &tags, output);
     match written {
         Ok(()) => Ok(end),
         Err(_) => Err(GamesFault::WriteFailed),
     }
 }
 
-// Plays the game of this number between the plan's two engines, which are started for it, logs it if the plan asks for
-// that, and writes and flushes its PGN. `game` and `scratch` are already allocated.
+// Plays the game of this number between the plan's two engines, which are started for it and then ended, logs it if the
+// plan asks for that, and writes and flushes its PGN.
 fn start_and_play<'a, 't, P: Processes + Clock, M: Moments, W: Output, E: Output>(
-    rt: &P,
-    alloc: Global,
+    host: &Host<'_, P>,
     plan: &GamesPlan<'a>,
     number: u32,
-    moments: &mut M,
-    game: &mut Game<Bits<'t>>,
-    scratch: &mut Bits<'t>,
+    table: &mut Table<'t, M>,
     output: &mut W,
     log: &mut Log<E>,
 ) -> Result<MatchEnd, GamesFault<'a>>
-    requires limit { game.old.limit ≡ MOST_MOVES }
-    ensures limit { game.new.limit ≡ MOST_MOVES }
+    requires limit { table.old.game.limit ≡ MOST_MOVES }
+    ensures limit { table.new.game.limit ≡ MOST_MOVES }
     ensures played { PlayedGame plan.now number (W.seen output.old) (W.seen output.new)
         (log_seen (E.seen log.old.output) log.old.pending) (log_seen (E.seen log.new.output) log.new.pending)
         result }
 {
-    match start_both(
-        rt,
-        alloc,
+    let mut engines = match start_both(
+        host,
         command_of(plan, number, Colour::White),
         command_of(plan, number, Colour::Black),
     ) {
-        Ok((white, black)) => play_game(
-            rt, white, black, plan, number, moments, game, scratch, output, log,
-        ),
-        Err(fault) => Err(fault),
-    }
+        Ok(engines) => engines,
+        Err(fault) => return Err(fault),
+    };
+    let played = play_game(&mut engines.ends, plan, number, table, output, log);
+    finish_both(host.rt, engines);
+    played
 }
 
 // The score of the games that were played; and, if an engine had a fault, the number of the last game, the engine's
@@ -319,18 +284,15 @@ fn game_count(plan: &GamesPlan<'_>) -> u32
 }
 
 // Plays the plan's games one after another, up to and with the first in which an engine has a fault, and writes and
-// logs each. Returns the score, and that fault. `game` and `scratch` are already allocated.
+// logs each. Returns the score, and that fault.
 fn play_each<'a, 't, P: Processes + Clock, M: Moments, W: Output, E: Output>(
-    rt: &P,
-    alloc: Global,
+    host: &Host<'_, P>,
     plan: &GamesPlan<'a>,
-    moments: &mut M,
-    game: &mut Game<Bits<'t>>,
-    scratch: &mut Bits<'t>,
+    table: &mut Table<'t, M>,
     output: &mut W,
     log: &mut Log<E>,
 ) -> Result<GamesPlayed, GamesFault<'a>>
-    requires { game.old.limit ≡ MOST_MOVES }
+    requires { table.old.game.limit ≡ MOST_MOVES }
     ensures { HasPlayed plan.now (W.seen output.old) (W.seen output.new)
         (log_seen (E.seen log.old.output) log.old.pending) (log_seen (E.seen log.new.output) log.new.pending)
         result }
@@ -339,9 +301,7 @@ fn play_each<'a, 't, P: Processes + Clock, M: Moments, W: Output, E: Output>(
     let mut number: u32 = 0;
     while number < game_count(plan) {
         number += 1;
-        let end = match start_and_play(
-            rt, alloc, plan, number, moments, game, scratch, output, log,
-        ) {
+        let end = match start_and_play(host, plan, number, table, output, log) {
             Ok(end) => end,
             Err(fault) => return Err(fault),
         };
@@ -376,21 +336,16 @@ pub fn play_games<'a, P: Processes + Clock, W: Output, E: Output>(
     let Ok(tables) = AttackTables::open(alloc) else {
         return Err(GamesFault::NoMemory);
     };
-    let Ok(mut game) = Game::open(alloc, Bits::new(&tables), MOST_MOVES) else {
+    let Ok(game) = Game::open(alloc, Bits::new(&tables), MOST_MOVES) else {
         return Err(GamesFault::NoMemory);
     };
-    let mut scratch = Bits::new(&tables);
-    let mut moments = SinceStart::new(rt);
-    let played = match play_each(
-        rt,
-        alloc,
-        plan,
-        &mut moments,
-        &mut game,
-        &mut scratch,
-        output,
-        log,
-    ) {
+    let mut table = Table {
+        moments: SinceStart::new(rt),
+        game,
+        scratch: Bits::new(&tables),
+    };
+    let host = Host { rt, alloc };
+    let played = match play_each(&host, plan, &mut table, output, log) {
         Ok(played) => played,
         Err(fault) => return Err(fault),
     };

@@ -5,14 +5,13 @@ ghost use Rattle.arrayvec.specs.ArrayVec.{array_vec_len};
 ghost use Rattle.byte_devices.specs.Devices.{OutputState};
 ghost use Rattle.chess_base.specs.Letters.{byte as letter, new_line};
 ghost use Rattle.chess_base.specs.Men.{same_colour};
-ghost use Rattle.chess_match.specs.Reasons.{by_colour};
-ghost use Rattle.chess_match.specs.Run.{Ports, text_read};
-ghost use Rattle.match_runner.specs.Log.{Logs, RanLogged, ends_line, engine_text, given_text, head, log_line, log_seen, shown};
+ghost use Rattle.chess_match.specs.Run.{text_read};
+ghost use Rattle.match_runner.specs.Log.{Logs, RanLogged, ends_line, engine_text, given_text, head, log_line, log_seen, ports_of, shown};
 ghost use Rattle.match_runner.specs.ties.Logging.{Adds, IsLog, log_start, received_text};
 
 use arrayvec::ArrayVec;
 use byte_devices::{Input, Output, send};
-use chess_base::{Colour, same_colour};
+use chess_base::{ByColour, Colour, same_colour};
 use chess_game::Game;
 use chess_match::{ENGINE_LINE_LEN, Ends, MatchEnd, Moments, Setup, Witness, run_match_watched};
 use chess_moves::Board;
@@ -389,14 +388,13 @@ impl<E: Output> Witness for Log<E> {
 }
 
 /// Plays one game as `run_match` of chess_match does, and logs it; the first engine (that of `--white`) has the side
-/// `first`.
+/// `first`. `ends` are the ends of the two engines' pipes.
 ///
 /// The contract says that the log has the transcript and all lines that each engine is sent. All of it was written
 /// and flushed; or a write or a flush of it failed, and a beginning of it was written; or one had failed before, and
 /// nothing was.
 pub fn run_match_logged<R: Input, W: Output, M: Moments, B: Board, E: Output>(
-    white: &mut Ends<R, W>,
-    black: &mut Ends<R, W>,
+    ends: &mut ByColour<Ends<R, W>>,
     moments: &mut M,
     setup: &Setup,
     game: &mut Game<B>,
@@ -406,18 +404,11 @@ pub fn run_match_logged<R: Input, W: Output, M: Moments, B: Board, E: Output>(
     ensures ran { RanLogged first
         (log_seen (E.seen log.old.output) log.old.pending) (log_seen (E.seen log.new.output) log.new.pending)
         setup.now.start setup.now.level game.old game.new result
-        (record {
-          reader = by_colour (R.seen white.old.reader) (R.seen black.old.reader);
-          writer = by_colour (W.seen white.old.writer) (W.seen black.old.writer);
-        })
-        (record {
-          reader = by_colour (R.seen white.new.reader) (R.seen black.new.reader);
-          writer = by_colour (W.seen white.new.writer) (W.seen black.new.writer);
-        })
+        (ports_of R.seen W.seen ends.old.white ends.old.black) (ports_of R.seen W.seen ends.new.white ends.new.black)
         (M.coming moments.old) (M.coming moments.new) }
 {
     log.begin(first);
-    let end = run_match_watched(white, black, moments, setup, game, log);
+    let end = run_match_watched(&mut ends.white, &mut ends.black, moments, setup, game, log);
     log.finish();
     end
 }

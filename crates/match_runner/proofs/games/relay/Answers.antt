@@ -9,7 +9,7 @@ use Rattle.match_runner.proofs.games.relay.Goals as goal
 pub returns-in_default : goal.returns-in_default
 returns-in_default g c =
     let l = log_seen (g.E.Output.seen c.args.log.now.output) c.args.log.now.pending in
-    let r = relayed l _ _ c.args.game.now _ _ _ _ _ _ c.run_match.ensures.ran in
+    let r = relayed l _ _ c.args.table.now.game _ _ _ _ _ _ c.run_match.ensures.ran in
     let none : c.args.first ≡ None = search rules in
     record { ran = (r.0, r.1, subst (λ (first : Option Colour). LogsGame first l l r.0) (sym none) r.2) }
 
