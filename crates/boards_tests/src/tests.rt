@@ -217,7 +217,9 @@ fn a_set_is_looped_over(rt: HostRuntime) {
     let black = board.men_of(Colour::Black, Kind::Knight);
     let mut numbers: u32 = 0;
     for square in white | black {
-        numbers = numbers.saturating_mul(64).saturating_add(u32::from(square.number()));
+        numbers = numbers
+            .saturating_mul(64)
+            .saturating_add(u32::from(square.number()));
     }
     assert!(rt; numbers == ((1 * 64 + 6) * 64 + 57) * 64 + 62);
     assert!(rt; (white & black).is_empty() && white != black);

@@ -88,7 +88,9 @@ const RISING: [&[u8]; 6] = [b"e2e4", b"e7d8q", b"e7e8", b"e7e8q", b"e7e8n", b"f2
 
 #[test]
 fn values_are_ordered(rt: HostRuntime) -> Result<(), Fail> {
-    assert!(rt; Square::H1 < Square::A2 && Colour::White < Colour::Black && Kind::King < Kind::Pawn);
+    assert!(rt;
+        Square::H1 < Square::A2 && Colour::White < Colour::Black && Kind::King < Kind::Pawn
+    );
     let mut last = Move::default();
     for text in &RISING {
         let m = Move::try_from(*text)?;
