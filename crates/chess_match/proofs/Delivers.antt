@@ -1,6 +1,6 @@
 -- The blocks of an event, sent one after the other.
 use Rattle.std.proofs.Common.{◌≡◌, ℕ, ◌<◌, ◌≤◌, Bool, true, false, not, inl, inr, List, [], ◌∷◌, length, refl, ap, sym, ◌∙◌, subst, arith, Option, Some, None, Result, Ok, Err}
-use Rattle.std.specs.Prelude.{if◌then◌else◌, is_some}
+use Rattle.std.specs.Prelude.{if◌then◌else◌}
 use Rattle.chess_base.specs.declared.man.Colour.{Colour}
 use Rattle.chess_base.specs.declared.man.Colour.TheVariants.{White, Black}
 use Rattle.chess_base.specs.declared.man.Move.{Move}
@@ -21,24 +21,10 @@ use Rattle.chess_match.specs.Run.{ClockReadings, text_read}
 use Rattle.chess_match.specs.Transcript.{is_on, reads, moment_in}
 use Rattle.chess_match.specs.declared.state.MatchState.{MatchState}
 use Rattle.chess_match.specs.declared.state.Actions.{Actions}
-use Rattle.chess_match.specs.declared.texts.MoveTexts.{MoveTexts}
-use Rattle.chess_match.specs.ties.Texts.{AreOfLast}
 use Rattle.chess_match.proofs.Flushes.{flushed_none}
 use Rattle.chess_match.proofs.Going.{goes_with, nothing_to}
 use Rattle.chess_match.proofs.LongerTranscripts.{asked_none}
-use Rattle.chess_match.specs.Reasons.{by_colour}
-
--- where the last move is still to be sent, its texts are kept
-pub last_told : (r : Rules) (core : MatchState) (played : List Move) (m : Match) → Represents r core played m
-    → (is_some m.unsent_to ≡ true → 0 < length m.played) → is_some core.unsent_to ≡ true → is_some core.last ≡ true
-last_told r core played m s some h = at core.last s.last
-  where
-    at : (o : Option MoveTexts) → AreOfLast r o m.played → is_some o ≡ true
-    at None e =
-        let more : 0 < length m.played = some (ap (λ (o : Option Colour). is_some o) (sym s.unsent_to) ∙ h) in
-        let none : length m.played ≡ 0 = ap length e in
-        absurd (omega (arith, more, none))
-    at (Some t) e = refl
+use Rattle.chess_base.specs.ByColour.{by_colour}
 
 pub on_too : (r : Rules) (core : MatchState) (played : List Move) (m : Match) → Represents r core played m
     → is_on core.phase ≡ true → is_on m.phase ≡ true

@@ -1,5 +1,5 @@
 -- A run whose match is over keeps the whole promise.
-use Rattle.std.proofs.Common.{◌≡◌, ℕ, List, ap, sym, ◌∙◌, refl, subst, Option, None, Some}
+use Rattle.std.proofs.Common.{◌≡◌, Bool, ℕ, List, ap, sym, ◌∙◌, refl, subst, Option, None, Some}
 use Rattle.chess_base.specs.declared.man.Colour.{Colour}
 use Rattle.chess_base.specs.declared.man.Colour.TheVariants.{White, Black}
 use Rattle.chess_base.specs.declared.man.Move.{Move}
@@ -17,7 +17,8 @@ use Rattle.chess_game.specs.declared.results.Outcome.TheVariants.{Unfinished}
 use Rattle.chess_game.specs.declared.tags.HowEnded.{HowEnded}
 use Rattle.cecp_engine.specs.Levels.{LevelSeen}
 use Rattle.chess_match.specs.Match.{Match, Event, seat}
-use Rattle.chess_match.specs.Reasons.{by_colour, reported, declared_at, outcome_by_reason, comment_of, ended_by}
+use Rattle.chess_base.specs.ByColour.{by_colour, of_colour}
+use Rattle.chess_match.specs.Reasons.{reported, declared_at, outcome_by_reason, comment_of, ended_by}
 use Rattle.chess_match.specs.Notes.{Noted}
 use Rattle.chess_match.specs.Rules.{Rules, rules_of}
 use Rattle.chess_match.specs.Run.{RanBefore}
@@ -27,7 +28,7 @@ use Rattle.chess_match.specs.Transcript.{match_of, engine_name}
 use Rattle.chess_match.proofs.RunInvariant.{IsUnderWay}
 use Rattle.chess_match.specs.declared.phase.Phase.TheVariants.{Over}
 use Rattle.chess_match.specs.declared.reason.Reason.{Reason}
-use Rattle.chess_match.specs.declared.run.Failed.{Failed}
+use Rattle.chess_base.specs.declared.by_colour.ByColour.{ByColour}
 use Rattle.chess_match.specs.declared.run.MatchEnd.{MatchEnd}
 use Rattle.chess_match.specs.declared.state.MatchState.{MatchState}
 use Rattle.chess_match.proofs.Delivers.{both_sides}
@@ -86,13 +87,13 @@ told_outcome h h' reason outcome e o none =
 
 pub ran : (g h h' : game.Seen) (start : Setup) (level : LevelSeen) (T : List Event) (core : MatchState)
     (reason : Reason)
-    (failed : Failed) (end : MatchEnd) (nw nb nw' nb' : InputState) (held : Colour → Held) (ow ob ow' ob' : OutputState)
+    (failed : ByColour Bool) (end : MatchEnd) (nw nb nw' nb' : InputState) (held : Colour → Held) (ow ob ow' ob' : OutputState)
     (coming coming' : ℕ → Option ℕ) (notes notes' : Noted)
-    → IsUnderWay (rules_of start level g.limit) T core h.state.moves (by_colour failed.white failed.black)
+    → IsUnderWay (rules_of start level g.limit) T core h.state.moves (of_colour failed)
     (by_colour nw nb)
     (by_colour nw' nb') held (by_colour ow ob) (by_colour ow' ob') coming coming' notes notes'
-    → core.phase ≡ Over reason → IsReported reason failed end → end.white_name ≡ core.white.name
-    → end.black_name ≡ core.black.name
+    → core.phase ≡ Over reason → IsReported reason failed end → end.white_name ≡ core.players.white.name
+    → end.black_name ≡ core.players.black.name
     → h.state.start ≡ start → h.limit ≡ g.limit
     → h' ≡ game.with_state h (with_declared h.state (declared_at (verdict_now h.state) reason))
     → RanBefore notes notes' start level g h' end (record { reader = by_colour nw nb; writer = by_colour ow ob })
@@ -105,7 +106,7 @@ ran g h h' start level T core reason failed end nw nb nw' nb' held ow ob ow' ob'
       u.noted,
       (
         reason,
-        by_colour failed.white failed.black,
+        of_colour failed,
         record {
           fitting = u.fitting;
           ending = sym u.stands.phase ∙ over;

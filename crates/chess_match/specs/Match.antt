@@ -9,7 +9,7 @@ use Rattle.chess_game.specs.declared.ends.Verdict.{Verdict}
 use Rattle.cecp_engine.specs.EngineLines.{LineKind, Features, Moves, Resigns, OffersDraw, ClaimsDraw, ClaimsWin, Rejects, Answers, line_kind}
 use Rattle.cecp_engine.specs.Items.{Item, items_of, has_done, takes, plays_fischerandom}
 use Rattle.cecp_engine.specs.Levels.{time_left}
-use Rattle.chess_match.specs.Reasons.{by_colour}
+use Rattle.chess_base.specs.ByColour.{by_colour}
 use Rattle.chess_match.specs.Rules.{Rules, is_fischerandom}
 use Rattle.chess_match.specs.declared.phase.Phase.{Phase}
 use Rattle.chess_match.specs.declared.phase.Phase.TheVariants.{Handshake, Setup, SendTurn, AwaitMove, AwaitPong, Over}

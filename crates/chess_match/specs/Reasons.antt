@@ -2,6 +2,7 @@
 use Rattle.std.specs.Prelude.{ℕ, Bool, if◌then◌else◌, List, ◌++◌, codes, Option, None, Some}
 use Rattle.chess_base.specs.declared.man.Colour.{Colour}
 use Rattle.chess_base.specs.declared.man.Colour.TheVariants.{White, Black}
+use Rattle.chess_base.specs.ByColour.{by_colour}
 use Rattle.chess_base.specs.Men.{other}
 use Rattle.chess_game.specs.Ends.{verdict_outcome, verdict_comment}
 use Rattle.chess_game.specs.declared.ends.Verdict.{Verdict}
@@ -16,11 +17,6 @@ use Rattle.chess_match.specs.declared.reason.MatchFault.{MatchFault}
 use Rattle.chess_match.specs.declared.reason.MatchFault.TheVariants.{Ended, Read, Write, NoDone, NoPing, NoSetboard, Flood, NoVariant}
 use Rattle.chess_match.specs.declared.reason.Reason.{Reason}
 use Rattle.chess_match.specs.declared.reason.Reason.TheVariants.{Decided, Claimed, Agreed, Resigns, MovesIllegally, MovesOutOfTurn, ClaimsFalsely, RejectsLegalMove, Forfeits, ForfeitsToBareKing, GameTooLong, Faulted}
-
--- of two values, White's and Black's, the one of the side that the last argument names
-abbrev pub by_colour : {A : Type 0} → A → A → Colour → A
-by_colour white black White = white
-by_colour white black Black = black
 
 -- a side's name in comments on how a game ended, `White` or `Black`
 abbrev pub colour_name : Colour → List ℕ

@@ -1,7 +1,7 @@
 //! Blocks put together: what an event gives to one engine.
 
 ghost use Rattle.chess_match.specs.declared.block.TheConstants.{BLOCK_LEN};
-ghost use Rattle.std.specs.Prelude.{◌≡◌, ◌+◌, false, ◌≤◌, ◌++◌, ◌∷◌, [], List, is_some, true, if◌then◌else◌, codes};
+ghost use Rattle.std.specs.Prelude.{◌≡◌, ◌+◌, ◌≤◌, ◌++◌, ◌∷◌, [], List, if◌then◌else◌, codes};
 ghost use Rattle.arrayvec.specs.ArrayVec.{array_vec_len};
 ghost use Rattle.chess_match.specs.Match.{Match};
 ghost use Rattle.chess_match.specs.Rules.{Rules};
@@ -23,10 +23,7 @@ impl MatchState {
     fn features(&self, side: Colour) -> Features
         ensures { result ≡ (player self.now side).features }
     {
-        match side {
-            Colour::White => self.white.features,
-            Colour::Black => self.black.features,
-        }
+        self.players.get(side).features
     }
 }
 
@@ -41,7 +38,7 @@ fn add_last(block: &mut Block, core: &MatchState, side: Colour)
         None => {}
         Some(last) => {
             let features = core.features(side);
-            add_move(block, features.usermove, last.text(features.san));
+            add_move(block, features.usermove, last.texts.text(features.san));
         }
     }
 }
@@ -119,13 +116,12 @@ fn add_setup<G: MatchGame>(block: &mut Block, core: &MatchState, game: &G)
 
 // Appends the line with the last move, if this side is still to be sent it.
 fn add_unsent(block: &mut Block, core: &MatchState, side: Colour)
-    requires unsent_to { is_some core.now.unsent_to ≡ true → is_some core.now.last ≡ true }
-    requires room { array_vec_len block.old + 20 ≤ BLOCK_LEN }
+    requires { array_vec_len block.old + 20 ≤ BLOCK_LEN }
     ensures text { (r : Rules) (played : List Move) (m : Match) → Represents r core.now played m
         → block.new.items ≡ block.old.items ++ bytes_of (unsent_lines r m side m.unsent_to) }
     ensures len { array_vec_len block.new ≤ array_vec_len block.old + 20 }
 {
-    match core.unsent_to {
+    match core.unsent_to() {
         None => {}
         Some(unsent_to) => {
             if same_colour(unsent_to, side) {
@@ -138,8 +134,7 @@ fn add_unsent(block: &mut Block, core: &MatchState, side: Colour)
 // Appends the last lines for this side: the last move, if it is still to be sent it, `result ..` by the reason, and
 // `quit`.
 fn add_end_lines(block: &mut Block, core: &MatchState, side: Colour, reason: Reason)
-    requires unsent_to { is_some core.now.unsent_to ≡ true → is_some core.now.last ≡ true }
-    requires room { array_vec_len block.old + 120 ≤ BLOCK_LEN }
+    requires { array_vec_len block.old + 120 ≤ BLOCK_LEN }
     ensures text { (r : Rules) (played : List Move) (m : Match) → Represents r core.now played m
         → block.new.items ≡ block.old.items ++ bytes_of (end_lines r m side reason) }
     ensures len { array_vec_len block.new ≤ array_vec_len block.old + 120 }
@@ -160,8 +155,7 @@ fn is_unwritten(reason: Reason, side: Colour) -> bool
 
 // Appends the lines that this side is sent when the match enters the phase that it is in; none if writing to it failed.
 fn add_entry<G: MatchGame>(block: &mut Block, core: &MatchState, game: &G, side: Colour)
-    requires unsent_to { is_some core.now.unsent_to ≡ true → is_some core.now.last ≡ true }
-    requires room { array_vec_len block.old + 300 ≤ BLOCK_LEN }
+    requires { array_vec_len block.old + 300 ≤ BLOCK_LEN }
     ensures { (r : Rules) (m : Match) → G.plays game.now r → Represents r core.now (G.played game.now) m
         → block.new.items ≡ block.old.items ++ bytes_of (lines_on_entering r m side) }
 {
@@ -224,8 +218,7 @@ pub(crate) fn add_entered<G: MatchGame>(
     given: Actions,
     side: Colour,
 )
-    requires unsent_to { is_some core.now.unsent_to ≡ true → is_some core.now.last ≡ true }
-    requires room { array_vec_len block.old + 300 ≤ BLOCK_LEN }
+    requires { array_vec_len block.old + 300 ≤ BLOCK_LEN }
     ensures { (r : Rules) (m : Match) → G.plays game.now r → Represents r core.now (G.played game.now) m
         → block.new.items ≡ block.old.items ++ bytes_of (if given.entered then lines_on_entering r m side else []) }
 {

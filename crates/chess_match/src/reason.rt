@@ -1,9 +1,10 @@
 //! Why a match is over, and how that is reported.
 
 ghost use Rattle.std.specs.Prelude.{◌≡◌, ◌≤◌, ◌++◌, length};
-ghost use Rattle.chess_match.specs.Reasons.{by_colour, win_of, outcome_by_reason, comment_of, claim_comment, colour_name, fault_comment, ended_by, first_fault};
+ghost use Rattle.chess_base.specs.ByColour.{of_colour};
+ghost use Rattle.chess_match.specs.Reasons.{win_of, outcome_by_reason, comment_of, claim_comment, colour_name, fault_comment, ended_by, first_fault};
 
-use chess_base::Colour;
+use chess_base::{ByColour, Colour};
 use chess_game::{HowEnded, Outcome, Verdict};
 
 /// What stopped a match.
@@ -185,21 +186,17 @@ impl Reason {
 }
 
 // The first fault of a match that ended for this reason, and whose it is: the one that ended it, if one did; else a
-// write of the last lines that failed, to White (`white_failed`) or to Black.
-pub(crate) fn first_fault(
-    reason: Reason,
-    white_failed: bool,
-    black_failed: bool,
-) -> Option<(Colour, MatchFault)>
-    ensures { result ≡ first_fault reason (by_colour white_failed black_failed) }
+// write of the last lines that failed (`failed` says to which side), White's before Black's.
+pub(crate) fn first_fault(reason: Reason, failed: ByColour<bool>) -> Option<(Colour, MatchFault)>
+    ensures { result ≡ first_fault reason (of_colour failed) }
 {
     if let Reason::Faulted(side, fault) = reason {
         return Some((side, fault));
     }
-    if white_failed {
+    if failed.white {
         return Some((Colour::White, MatchFault::Write));
     }
-    if black_failed {
+    if failed.black {
         return Some((Colour::Black, MatchFault::Write));
     }
     None

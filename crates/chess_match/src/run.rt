@@ -7,14 +7,15 @@ ghost use Rattle.chess_base.specs.declared.man.Colour.{Colour};
 ghost use Rattle.text_lines.specs.Next.{NextLine, line_read};
 ghost use Rattle.chess_game.specs.Game.{with_state, outcome_now, with_declared, verdict_now};
 ghost use Rattle.chess_match.specs.ties.Awaits.{IsAwaited};
-ghost use Rattle.chess_match.specs.ties.Delivering.{by_turn, event_read, line_event, Delivered, HasLast};
+ghost use Rattle.chess_match.specs.ties.Delivering.{by_turn, event_read, line_event, Delivered};
 ghost use Rattle.cecp_engine.specs.EngineLines.{line_kind, Features};
 ghost use Rattle.cecp_engine.specs.Items.{Item};
 ghost use Rattle.chess_match.specs.Match.{Match, FailsToWrite, match_after};
 ghost use Rattle.chess_match.specs.Notes.{WasNoted, Happened, given_note, both_notes};
-ghost use Rattle.chess_match.specs.Reasons.{declared_at, by_colour};
+ghost use Rattle.chess_base.specs.ByColour.{by_colour, of_colour};
+ghost use Rattle.chess_match.specs.Reasons.{declared_at};
 ghost use Rattle.chess_match.specs.Rules.{Rules};
-ghost use Rattle.chess_match.specs.Run.{Ports, MatchRan, RanBefore, ClockReadings, text_read};
+ghost use Rattle.chess_match.specs.Run.{ports_of, MatchRan, RanBefore, ClockReadings, text_read};
 ghost use Rattle.cecp_engine.specs.Seen.{seen};
 ghost use Rattle.chess_match.specs.Sent.{block, bytes_of, answers_to};
 ghost use Rattle.chess_match.specs.ties.Represents.{Represents, Goes, given_block, items_to};
@@ -34,7 +35,7 @@ use crate::state::{Actions, ENTRY, MatchState};
 use crate::witness::{NoWitness, Witness};
 use byte_devices::{Input, Output, ReadFault};
 use cecp_engine::{EngineLine, Level, read_engine_line};
-use chess_base::{Colour, Position};
+use chess_base::{ByColour, Colour, Position};
 use chess_game::{Comment, Game, HowEnded, Outcome, TagText};
 use chess_moves::Board;
 use text_lines::{Line, Lines};
@@ -95,14 +96,7 @@ pub fn run_match<R: Input, W: Output, M: Moments, B: Board>(
     game: &mut Game<B>,
 ) -> MatchEnd
     ensures ran { MatchRan setup.now.start setup.now.level game.old game.new result
-        (record {
-          reader = by_colour (R.seen white.old.reader) (R.seen black.old.reader);
-          writer = by_colour (W.seen white.old.writer) (W.seen black.old.writer);
-        })
-        (record {
-          reader = by_colour (R.seen white.new.reader) (R.seen black.new.reader);
-          writer = by_colour (W.seen white.new.writer) (W.seen black.new.writer);
-        })
+        (ports_of R.seen W.seen white.old black.old) (ports_of R.seen W.seen white.new black.new)
         (M.coming moments.old) (M.coming moments.new) }
 
     // The same in single facts.
@@ -128,14 +122,7 @@ pub fn run_match_watched<R: Input, W: Output, M: Moments, B: Board, L: Witness>(
 ) -> MatchEnd
     ensures ran { RanBefore (L.noted witness.old) (L.noted witness.new) setup.now.start setup.now.level game.old
         game.new result
-        (record {
-          reader = by_colour (R.seen white.old.reader) (R.seen black.old.reader);
-          writer = by_colour (W.seen white.old.writer) (W.seen black.old.writer);
-        })
-        (record {
-          reader = by_colour (R.seen white.new.reader) (R.seen black.new.reader);
-          writer = by_colour (W.seen white.new.writer) (W.seen black.new.writer);
-        })
+        (ports_of R.seen W.seen white.old black.old) (ports_of R.seen W.seen white.new black.new)
         (M.coming moments.old) (M.coming moments.new) }
 
     // The same in single facts.
@@ -145,8 +132,10 @@ pub fn run_match_watched<R: Input, W: Output, M: Moments, B: Board, L: Witness>(
 {
     game.restart(&setup.start);
     let mut core = MatchState::new(setup.level);
-    let mut white_lines: Lines<ENGINE_LINE_LEN> = Lines::new();
-    let mut black_lines: Lines<ENGINE_LINE_LEN> = Lines::new();
+    let mut lines: ByColour<Lines<ENGINE_LINE_LEN>> = ByColour {
+        white: Lines::new(),
+        black: Lines::new(),
+    };
     let mut line = Line::new();
     let mut blocks = Blocks::new();
     let mut failed = deliver(
@@ -171,8 +160,7 @@ pub fn run_match_watched<R: Input, W: Output, M: Moments, B: Board, L: Witness>(
                 let found = next_line(
                     &mut white.reader,
                     &mut black.reader,
-                    &mut white_lines,
-                    &mut black_lines,
+                    &mut lines,
                     side,
                     &mut line,
                 );
@@ -231,30 +219,21 @@ fn awaited_in(phase: Phase) -> Awaited
 fn next_line<R: Input>(
     white: &mut R,
     black: &mut R,
-    white_lines: &mut Lines<ENGINE_LINE_LEN>,
-    black_lines: &mut Lines<ENGINE_LINE_LEN>,
+    lines: &mut ByColour<Lines<ENGINE_LINE_LEN>>,
     side: Colour,
     line: &mut Line<ENGINE_LINE_LEN>,
 ) -> Result<bool, ReadFault>
     ensures next { NextLine ENGINE_LINE_LEN (by_colour (R.seen white.old) (R.seen black.old) side)
-        (by_colour (R.seen white.new) (R.seen black.new) side) (by_colour white_lines.old black_lines.old side)
-        (by_colour white_lines.new black_lines.new side) (line_read result line.new) }
+        (by_colour (R.seen white.new) (R.seen black.new) side) (of_colour lines.old side) (of_colour lines.new side)
+        (line_read result line.new) }
     ensures others { by_colour (R.seen white.new) (R.seen black.new) (other side)
         ≡ by_colour (R.seen white.old) (R.seen black.old) (other side) }
-    ensures held { by_colour white_lines.new black_lines.new (other side)
-        ≡ by_colour white_lines.old black_lines.old (other side) }
+    ensures held { of_colour lines.new (other side) ≡ of_colour lines.old (other side) }
 {
     match side {
-        Colour::White => white_lines.read_line(white, line),
-        Colour::Black => black_lines.read_line(black, line),
+        Colour::White => lines.white.read_line(white, line),
+        Colour::Black => lines.black.read_line(black, line),
     }
-}
-
-// To which engines a write failed.
-#[derive(Clone, Copy)]
-pub(crate) struct Failed {
-    white: bool,
-    black: bool,
 }
 
 // Sends both sides their last lines, White first, and returns to which sides a write failed. The blocks already have
@@ -268,8 +247,7 @@ fn send_both<W: Output, L: Witness, G: MatchGame>(
     given: Actions,
     white_block: &mut Block,
     black_block: &mut Block,
-) -> Failed
-    requires unsent_to { is_some core.now.unsent_to ≡ true → is_some core.now.last ≡ true }
+) -> ByColour<bool>
     requires white_room { array_vec_len white_block.old ≤ ANSWERS_LEN }
     requires black_room { array_vec_len black_block.old ≤ ANSWERS_LEN }
     ensures sent { (r : Rules) (m : Match) (items : Colour → List Item) → G.plays game.now r
@@ -304,7 +282,7 @@ fn send_both<W: Output, L: Witness, G: MatchGame>(
         Colour::Black,
     )
     .is_err();
-    Failed {
+    ByColour {
         white: white_failed,
         black: black_failed,
     }
@@ -320,7 +298,6 @@ fn end_for_other<W: Output, L: Witness, G: MatchGame>(
     waiting: &mut Block,
     side: Colour,
 ) -> bool
-    requires last { HasLast core.old (G.played game.now) }
     requires on { is_on core.old.phase ≡ true }
     requires empty { waiting.old.items ≡ [] }
     ensures ended { (r : Rules) (m : Match) → G.plays game.now r → Represents r core.old (G.played game.now) m
@@ -349,7 +326,6 @@ fn send_in_turn<W: Output, L: Witness, G: MatchGame>(
     blocks: &mut Blocks,
     side: Colour,
 ) -> (bool, bool)
-    requires last { HasLast core.old (G.played game.now) }
     requires on { is_on core.old.phase ≡ true }
     requires room { array_vec_len blocks.old.own ≤ ANSWERS_LEN }
     requires empty { blocks.old.others.items ≡ [] }
@@ -395,8 +371,7 @@ fn deliver<W: Output, L: Witness, G: MatchGame>(
     given: Actions,
     blocks: &mut Blocks,
     side: Colour,
-) -> Failed
-    requires last { HasLast core.old (G.played game.now) }
+) -> ByColour<bool>
     requires room { array_vec_len blocks.old.own ≤ ANSWERS_LEN }
     requires empty { blocks.old.others.items ≡ [] }
     ensures delivered { (r : Rules) (m : Match) (items : Colour → List Item) → G.plays game.now r
@@ -404,7 +379,7 @@ fn deliver<W: Output, L: Witness, G: MatchGame>(
         → items (other side) ≡ []
         → Delivered r core.new (G.played game.now) m (given_block r given items m) side
         (by_colour (W.seen white.old) (W.seen black.old)) (by_colour (W.seen white.new) (W.seen black.new))
-        (by_colour result.white result.black) (L.noted witness.old) (L.noted witness.new) }
+        (of_colour result) (L.noted witness.old) (L.noted witness.new) }
     ensures own_empty { blocks.new.own.items ≡ [] }
     ensures others_empty { blocks.new.others.items ≡ [] }
 {
@@ -426,7 +401,7 @@ fn deliver<W: Output, L: Witness, G: MatchGame>(
             let (own, others) = send_in_turn(
                 white, black, witness, core, game, given, blocks, side,
             );
-            Failed {
+            ByColour {
                 white: own,
                 black: others,
             }
@@ -447,7 +422,7 @@ fn deliver<W: Output, L: Witness, G: MatchGame>(
             let (own, others) = send_in_turn(
                 black, white, witness, core, game, given, blocks, side,
             );
-            Failed {
+            ByColour {
                 white: others,
                 black: own,
             }
@@ -573,12 +548,12 @@ fn end_of<B: Board>(
     core: MatchState,
     game: &mut Game<B>,
     reason: Reason,
-    failed: Failed,
+    failed: ByColour<bool>,
 ) -> MatchEnd
     requires { game.old.state.declared ≡ None }
     ensures report { IsReported reason failed result }
-    ensures white_name { result.white_name ≡ core.white.name }
-    ensures black_name { result.black_name ≡ core.black.name }
+    ensures white_name { result.white_name ≡ core.players.white.name }
+    ensures black_name { result.black_name ≡ core.players.black.name }
     ensures game { game.new
         ≡ with_state game.old (with_declared game.old.state (declared_at (verdict_now game.old.state) reason)) }
 {
@@ -587,8 +562,8 @@ fn end_of<B: Board>(
         outcome: reason.outcome(),
         comment: Comment::cut(reason.comment()),
         ended: reason.ended(),
-        white_name: core.white.name,
-        black_name: core.black.name,
-        fault: first_fault(reason, failed.white, failed.black),
+        white_name: core.players.white.name,
+        black_name: core.players.black.name,
+        fault: first_fault(reason, failed),
     }
 }

@@ -1,6 +1,6 @@
 //! Noting and sending the blocks of an event.
 
-ghost use Rattle.std.specs.Prelude.{◌≡◌, ◌≢◌, ◌+◌, ◌≤◌, ◌<◌, ◌++◌, [], List, length, if◌then◌else◌, is_some, true, IsErr};
+ghost use Rattle.std.specs.Prelude.{◌≡◌, ◌≢◌, ◌+◌, ◌≤◌, ◌<◌, ◌++◌, [], List, length, if◌then◌else◌, IsErr};
 ghost use Rattle.std.specs.Result.{is_err};
 ghost use Rattle.arrayvec.specs.ArrayVec.{array_vec_len};
 ghost use Rattle.chess_base.specs.declared.man.Colour.{Colour};
@@ -30,8 +30,7 @@ fn add_rest<G: MatchGame>(
     given: Actions,
     side: Colour,
 )
-    requires unsent_to { is_some core.now.unsent_to ≡ true → is_some core.now.last ≡ true }
-    requires room { array_vec_len block.old + 310 ≤ BLOCK_LEN }
+    requires { array_vec_len block.old + 310 ≤ BLOCK_LEN }
     ensures { (r : Rules) (m : Match) → G.plays game.now r → Represents r core.now (G.played game.now) m
         → block.new.items ≡ block.old.items ++ bytes_of (after_answers r given m side) }
 {
@@ -69,8 +68,7 @@ pub(crate) fn note_and_send<W: Output, L: Witness, G: MatchGame>(
     block: &mut Block,
     side: Colour,
 ) -> Result<(), WriteFault>
-    requires unsent_to { is_some core.now.unsent_to ≡ true → is_some core.now.last ≡ true }
-    requires room { array_vec_len block.old ≤ ANSWERS_LEN }
+    requires { array_vec_len block.old ≤ ANSWERS_LEN }
     ensures sends { (r : Rules) (m : Match) (items : Colour → List Item) → G.plays game.now r
         → Represents r core.now (G.played game.now) m → block.old.items ≡ bytes_of (answers_to (items side))
         → SendsIf (is_err result) (W.seen writer.old) (W.seen writer.new)

@@ -10,12 +10,13 @@ ghost use Rattle.chess_match.specs.ties.Represents.{name_by, Represents};
 ghost use Rattle.chess_match.specs.Match.{start};
 ghost use Rattle.chess_match.specs.Rules.{Rules};
 ghost use Rattle.chess_match.specs.Sent.{answers_to, bytes_of};
+ghost use Rattle.chess_match.specs.ties.Texts.{unsent_in};
 
 use crate::block::{Block, add_answer};
 use crate::phase::Phase;
-use crate::texts::MoveTexts;
+use crate::texts::LastMove;
 use cecp_engine::{Clocks, Features, Item, Level, next_item};
-use chess_base::Colour;
+use chess_base::{ByColour, Colour};
 use chess_game::TagText;
 
 /// What is kept of one engine.
@@ -39,13 +40,10 @@ pub(crate) struct Actions {
 #[derive(Drop)]
 pub(crate) struct MatchState {
     pub phase: Phase,
-    pub white: Player,
-    pub black: Player,
+    pub players: ByColour<Player>,
     pub clocks: Clocks,
-    /// The texts of the last move, if there is one.
-    pub last: Option<MoveTexts>,
-    /// Who is still to be sent the last move.
-    pub unsent_to: Option<Colour>,
+    /// The last move, if there is one.
+    pub last: Option<LastMove>,
     /// The lines of a handshake, or the ignored ones of a setup or a turn.
     pub count: u32,
     /// The moment at the end of the turn's opening.
@@ -119,13 +117,24 @@ impl MatchState {
     {
         MatchState {
             phase: Phase::Handshake(Colour::White),
-            white: Player::new(),
-            black: Player::new(),
+            players: ByColour {
+                white: Player::new(),
+                black: Player::new(),
+            },
             clocks: Clocks::new(level),
             last: None,
-            unsent_to: None,
             count: 0,
             opened: 0,
+        }
+    }
+
+    /// Who is still to be sent the last move.
+    pub(crate) fn unsent_to(&self) -> Option<Colour>
+        ensures { result ≡ unsent_in self.now.last }
+    {
+        match &self.last {
+            None => None,
+            Some(last) => last.unsent_to,
         }
     }
 }

@@ -3,6 +3,7 @@
 ghost use Rattle.std.specs.Prelude.{◌≡◌, ◌≤◌, length};
 ghost use Rattle.chess_match.specs.ties.Texts.{text_in};
 
+use chess_base::Colour;
 use chess_text::{CoordinateText, SanText};
 
 /// Both texts of a move, made when it is played: it is sent to the opponent only later, and then the game has gone on.
@@ -10,6 +11,13 @@ use chess_text::{CoordinateText, SanText};
 pub(crate) struct MoveTexts {
     pub san: SanText,
     pub squares: CoordinateText,
+}
+
+/// The last move: its texts, and who is still to be sent it.
+#[derive(Drop)]
+pub(crate) struct LastMove {
+    pub texts: MoveTexts,
+    pub unsent_to: Option<Colour>,
 }
 
 impl MoveTexts {

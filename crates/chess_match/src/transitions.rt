@@ -6,6 +6,7 @@ ghost use Rattle.chess_match.specs.Match.{Match, over, ignore, enter, open_turn}
 ghost use Rattle.chess_match.specs.Rules.{Rules};
 ghost use Rattle.chess_match.specs.Sent.{is_same_phase};
 ghost use Rattle.chess_match.specs.ties.Represents.{Represents, Goes, nothing_said};
+ghost use Rattle.chess_match.specs.ties.Texts.{all_sent};
 ghost use Rattle.chess_match.specs.Transcript.{is_on, reads};
 ghost use Rattle.chess_match.specs.declared.state.TheConstants.{FLOOD_LEN};
 
@@ -34,6 +35,15 @@ impl MatchState {
         ENTRY
     }
 
+    // Notes that nobody is still to be sent the last move.
+    fn note_sent(&mut self)
+        ensures { self.new ≡ (record self.old { last = all_sent self.old.last }) }
+    {
+        if let Some(last) = &mut self.last {
+            last.unsent_to = None;
+        }
+    }
+
     // Begins this side's turn, and returns what is to be sent: the lines that open it, in which the last move is.
     pub(crate) fn open_turn(&mut self, side: Colour) -> Actions
         ensures { (r : Rules) (played : List Move) (m : Match) → is_same_phase m.phase (Phase.SendTurn side) ≡ false
@@ -41,7 +51,7 @@ impl MatchState {
     {
         self.phase = Phase::SendTurn(side);
         self.count = 0;
-        self.unsent_to = None;
+        self.note_sent();
         ENTRY
     }
 

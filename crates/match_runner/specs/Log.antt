@@ -4,15 +4,13 @@ use Rattle.chess_base.specs.Letters.{byte, new_line}
 use Rattle.chess_base.specs.declared.man.Colour.{Colour}
 use Rattle.chess_base.specs.Men.{same_colour}
 use Rattle.chess_base.specs.declared.setup.Setup.{Setup}
-use Rattle.byte_devices.specs.Devices.{InputState, OutputState, Begins}
+use Rattle.byte_devices.specs.Devices.{OutputState, Begins}
 use Rattle.chess_game.specs.Game.{Seen}
 use Rattle.cecp_engine.specs.Levels.{LevelSeen}
 use Rattle.chess_match.specs.Match.{Event, Line, Opened, OutputEnds, FailsToRead, FailsToWrite}
 use Rattle.chess_match.specs.Notes.{Note, Happened, Gives, notes_of}
-use Rattle.chess_match.specs.Reasons.{by_colour}
 use Rattle.chess_match.specs.Rules.{rules_of}
 use Rattle.chess_match.specs.Run.{Ports, RanBy, Flushed, FlushedThenFailed}
-use Rattle.chess_match.specs.declared.run.Ends.{Ends}
 use Rattle.chess_match.specs.declared.run.MatchEnd.{MatchEnd}
 use Rattle.match_runner.specs.declared.log.Pending.{Pending}
 use Rattle.match_runner.specs.declared.log.LogState.{LogState}
@@ -111,14 +109,6 @@ abbrev pub Logged : LogSeen → LogSeen → List ℕ → Type 0
 Logged l l' text = Logs l.broken l'.broken l.output l'.output [] text
 
 -- ---- a match that is logged
-
--- what contracts see of the devices of White's engine and of Black's: `input` is what they see of one that is read,
--- `output` of one that is written
-abbrev pub ports_of : {R W : Type 0} → (R → InputState) → (W → OutputState) → Ends R W → Ends R W → Ports
-ports_of input output white black = record {
-  reader = by_colour (input white.reader) (input black.reader);
-  writer = by_colour (output white.writer) (output black.writer);
-}
 
 -- a game from the position `start` with the time control `level` ran: there is a transcript, of which these are the
 -- notes, with which devices, game and the reported `end` agree. `g`, `w` and `coming` are the game, the engines'

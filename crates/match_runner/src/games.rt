@@ -3,11 +3,12 @@
 ghost use Rattle.std.specs.Prelude.{◌≡◌, ◌≤◌, ◌⊎◌, [], IfErr, IfOk};
 ghost use Rattle.byte_devices.specs.Devices.{Sends};
 ghost use Rattle.chess_match.specs.Reasons.{comment_of};
+ghost use Rattle.chess_match.specs.Run.{ports_of};
 ghost use Rattle.chess_match.specs.declared.reason.Reason.TheVariants.{Faulted};
 ghost use Rattle.chess_pgn.specs.GameText.{pgn};
 ghost use Rattle.match_runner.specs.Games.{RanGames, engine_command, first_side, player_name, score_line, tags_of};
 ghost use Rattle.match_runner.specs.ties.Playing.{FailsToStart, HasPlayed, IsMatchEndOf, PlayedGame, RanAndLogged, ReportsStart, logged_side};
-ghost use Rattle.match_runner.specs.Log.{log_seen, ports_of};
+ghost use Rattle.match_runner.specs.Log.{log_seen};
 ghost use Rattle.chess_game.specs.declared.game.TheConstants.{MOST_MOVES};
 
 use crate::engine::{Engines, Host, StartFault, finish, finish_both, start};

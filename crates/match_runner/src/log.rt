@@ -5,8 +5,8 @@ ghost use Rattle.arrayvec.specs.ArrayVec.{array_vec_len};
 ghost use Rattle.byte_devices.specs.Devices.{OutputState};
 ghost use Rattle.chess_base.specs.Letters.{byte as letter, new_line};
 ghost use Rattle.chess_base.specs.Men.{same_colour};
-ghost use Rattle.chess_match.specs.Run.{text_read};
-ghost use Rattle.match_runner.specs.Log.{Logs, RanLogged, ends_line, engine_text, given_text, head, log_line, log_seen, ports_of, shown};
+ghost use Rattle.chess_match.specs.Run.{ports_of, text_read};
+ghost use Rattle.match_runner.specs.Log.{Logs, RanLogged, ends_line, engine_text, given_text, head, log_line, log_seen, shown};
 ghost use Rattle.match_runner.specs.ties.Logging.{Adds, IsLog, log_start, received_text};
 
 use arrayvec::ArrayVec;

@@ -1,5 +1,5 @@
 -- Which event a call for a line is, and how the blocks of an event are sent.
-use Rattle.std.specs.Prelude.{◌≡◌, ℕ, ◌<◌, ◌⊎◌, ◌&&◌, not, Bool, true, false, List, [], length, ◌∷◌, ◌++◌, if◌then◌else◌, Option, None, Some, is_some, Result, Ok, Err}
+use Rattle.std.specs.Prelude.{◌≡◌, ℕ, ◌<◌, ◌⊎◌, ◌&&◌, not, Bool, true, false, List, [], length, ◌∷◌, ◌++◌, if◌then◌else◌, Option, None, Some, Result, Ok, Err}
 use Rattle.chess_base.specs.declared.man.Colour.{Colour}
 use Rattle.chess_base.specs.declared.man.Colour.TheVariants.{White, Black}
 use Rattle.chess_base.specs.declared.man.Move.{Move}
@@ -8,7 +8,7 @@ use Rattle.chess_base.specs.Men.{other, same_colour}
 use Rattle.text_lines.specs.Lines.{LineSeen}
 use Rattle.chess_match.specs.Match.{Match, Event, Line, OutputEnds, FailsToRead, FailsToWrite, match_after}
 use Rattle.chess_match.specs.Notes.{Noted, WasNoted, Happened, Note, both_notes}
-use Rattle.chess_match.specs.Reasons.{by_colour}
+use Rattle.chess_base.specs.ByColour.{by_colour}
 use Rattle.chess_match.specs.Rules.{Rules}
 use Rattle.chess_match.specs.Run.{text_read, Flushed}
 use Rattle.chess_match.specs.Sent.{SentLine, block, bytes_of, answer_text}
@@ -89,12 +89,6 @@ abbrev pub Delivered : Rules → MatchState → List Move → Match → (Colour 
 Delivered r core played m due first w w' failed notes notes' =
     AllSent r core played m due first w w' failed notes notes'
     ⊎ ((c : Colour) × OneFailed r core played m due first w w' failed notes notes' c)
-
--- if the code's state `core` says that a side is still to be sent the last move, there is a last one among the moves
--- `played`; and `core` is the state of some match
-abbrev pub HasLast : MatchState → List Move → Type 0
-HasLast core played = (r : Rules) × (m : Match) × Represents r core played m
-    × (is_some m.unsent_to ≡ true → 0 < length m.played)
 
 -- the line that answers an item of this name, with its `\n`: `accepted ping`, or `rejected` and the name
 abbrev pub answer_line : List ℕ → List ℕ

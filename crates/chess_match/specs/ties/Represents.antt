@@ -1,9 +1,9 @@
 -- When the core and the game stand for a match, and what the core gives to send.
 use Rattle.std.specs.Prelude.{◌≡◌, ℕ, true, false, if◌then◌else◌, List, [], ◌∷◌, ◌++◌, length, sum, codes, Option, None, Some}
 use Rattle.chess_base.specs.declared.man.Colour.{Colour}
-use Rattle.chess_base.specs.declared.man.Colour.TheVariants.{White, Black}
 use Rattle.chess_base.specs.declared.man.Move.{Move}
-use Rattle.chess_base.specs.Men.{same_colour}
+use Rattle.chess_base.specs.ByColour.{of_colour, with_colour}
+use Rattle.chess_base.specs.Men.{other, same_colour}
 use Rattle.chess_game.specs.Results.{cut_tag}
 use Rattle.cecp_engine.specs.Clocks.{ClocksSeen, Spent, charged}
 use Rattle.cecp_engine.specs.EngineLines.{LineKind}
@@ -19,7 +19,7 @@ use Rattle.chess_match.specs.declared.state.Player.{Player}
 use Rattle.chess_match.specs.declared.state.Actions.{Actions}
 use Rattle.chess_match.specs.declared.state.MatchState.{MatchState}
 use Rattle.chess_match.specs.declared.texts.MoveTexts.{MoveTexts}
-use Rattle.chess_match.specs.ties.Texts.{AreOfLast}
+use Rattle.chess_match.specs.ties.Texts.{AreOfLast, unsent_in}
 
 -- the name that an engine with these items gave by its last `myname`, cut so that a PGN tag can hold it; empty if it
 -- gave none
@@ -44,12 +44,12 @@ clocks_of level m = record { level = level; white = time_used_by m.white; black 
 -- the code's state `core` and the moves `played` of its game are, by the rules `r`, the match `m` of the definitions
 pub record Represents (r : Rules) (core : MatchState) (played : List Move) (m : Match) : Type 0 where
   pub phase : core.phase ≡ m.phase
-  pub white : Keeps core.white m.white
-  pub black : Keeps core.black m.black
+  pub white : Keeps core.players.white m.white
+  pub black : Keeps core.players.black m.black
   pub clocks : core.clocks ≡ clocks_of r.level m
   pub moves : played ≡ m.played
   pub last : AreOfLast r core.last m.played
-  pub unsent_to : core.unsent_to ≡ m.unsent_to
+  pub unsent_to : unsent_in core.last ≡ m.unsent_to
   pub count : core.count ≡ m.count
   pub opened : core.opened ≡ m.opened
 
@@ -86,32 +86,20 @@ pub record Goes (r : Rules) (core : MatchState) (played : List Move) (given : Ac
 
 -- what the code's state keeps of the engine of this side
 abbrev pub player : MatchState → Colour → Player
-player core White = core.white
-player core Black = core.black
+player core S = of_colour core.players S
 
 -- the code's state `core` with the difference that this side's offer of a draw is open
 abbrev pub offered_core : MatchState → Colour → MatchState
-offered_core core White =
-    record core { white = record { features = core.white.features; name = core.white.name; offers = true } }
-offered_core core Black =
-    record core { black = record { features = core.black.features; name = core.black.name; offers = true } }
+offered_core core S = record core { players = with_colour core.players S (record (player core S) { offers = true }) }
 
 -- the code's state `core` after this side played a move, which took `used` milliseconds and has these texts: its clock
 -- is charged, the other's offer of a draw lapses, and the move is still to be sent to the other
 abbrev pub played_core : MatchState → Colour → ℕ → MoveTexts → MatchState
-played_core core White used texts = record core {
-  phase = AwaitPong White;
-  last = Some texts;
-  unsent_to = Some Black;
-  clocks = charged core.clocks White used;
-  black = record { features = core.black.features; name = core.black.name; offers = false };
-}
-played_core core Black used texts = record core {
-  phase = AwaitPong Black;
-  last = Some texts;
-  unsent_to = Some White;
-  clocks = charged core.clocks Black used;
-  white = record { features = core.white.features; name = core.white.name; offers = false };
+played_core core S used texts = record core {
+  phase = AwaitPong S;
+  last = Some (record { texts = texts; unsent_to = Some (other S) });
+  clocks = charged core.clocks S used;
+  players = with_colour core.players (other S) (record (player core (other S)) { offers = false });
 }
 
 -- the items of a line that comes in this phase; none unless the phase is a handshake, in which alone they count

@@ -1,7 +1,9 @@
--- The texts that are kept of the last move.
+-- What is kept of the last move.
 use Rattle.std.specs.Prelude.{◌≡◌, ℕ, ◌<◌, Bool, if◌then◌else◌, List, [], length, Option, None, Some}
+use Rattle.chess_base.specs.declared.man.Colour.{Colour}
 use Rattle.chess_base.specs.declared.man.Move.{Move}
 use Rattle.chess_match.specs.Rules.{Rules}
+use Rattle.chess_match.specs.declared.texts.LastMove.{LastMove}
 use Rattle.chess_match.specs.declared.texts.MoveTexts.{MoveTexts}
 
 -- of the two texts of a move that are kept, the one in SAN if `as_san`, else the one by squares (`e2e4`)
@@ -13,6 +15,16 @@ abbrev pub AreTexts : Rules → MoveTexts → List Move → Type 0
 AreTexts r t played = (as_san : Bool) → text_in t as_san ≡ r.move_text as_san played
 
 -- the texts of the last of the moves `played` are kept, if there is a move; `None` if there is none
-abbrev pub AreOfLast : Rules → Option MoveTexts → List Move → Type 0
+abbrev pub AreOfLast : Rules → Option LastMove → List Move → Type 0
 AreOfLast r None played = played ≡ []
-AreOfLast r (Some t) played = (0 < length played) × AreTexts r t played
+AreOfLast r (Some last) played = (0 < length played) × AreTexts r last.texts played
+
+-- who is still to be sent the last move, by what is kept of it
+abbrev pub unsent_in : Option LastMove → Option Colour
+unsent_in None = None
+unsent_in (Some last) = last.unsent_to
+
+-- what is kept of the last move once nobody is still to be sent it
+abbrev pub all_sent : Option LastMove → Option LastMove
+all_sent None = None
+all_sent (Some last) = Some (record last { unsent_to = None })

@@ -7,16 +7,16 @@ use Rattle.chess_match.proofs.compose.add_unsent.Goals as goal
 
 pub returns-in-None-clause-text : goal.returns-in-None-clause-text
 returns-in-None-clause-text c r played m s =
-    untold_none r m c.args.side c.args.block.now.items (sym s.unsent_to ∙ c.in-None.is)
+    untold_none r m c.args.side c.args.block.now.items (sym s.unsent_to ∙ sym c.in-None.ensures)
 
 pub returns-else-same_colour-clause-text : goal.returns-else-same_colour-clause-text
 returns-else-same_colour-clause-text c r played m s =
-    untold_other r m c.args.side c.in-Some.unsent_to c.args.block.now.items (sym s.unsent_to ∙ c.in-Some.is)
+    untold_other r m c.args.side c.in-Some.unsent_to c.args.block.now.items (sym s.unsent_to ∙ sym c.in-Some.ensures)
     (sym c.same_colour.ensures ∙ c.if-same_colour.false)
 
 pub returns-then-same_colour-clause-text : goal.returns-then-same_colour-clause-text
 returns-then-same_colour-clause-text c r played m s =
     c.add_last.ensures.text r played m s
     ∙ ap (λ (ls : List SentLine). c.args.block.now.items ++ bytes_of ls)
-    (untold_own r c.args.core.now played m c.args.side c.in-Some.unsent_to s c.requires.unsent_to c.in-Some.is
+    (untold_own r c.args.core.now played m c.args.side c.in-Some.unsent_to s (sym c.in-Some.ensures)
     (sym c.same_colour.ensures ∙ c.if-same_colour.true))

@@ -7,15 +7,9 @@ use Rattle.chess_match.specs.Notes.{Happened, given_note}
 use Rattle.chess_match.specs.Sent.{SentLine, block, bytes_of}
 use Rattle.chess_match.specs.ties.Represents.{given_block, nothing_said}
 use Rattle.chess_match.proofs.Notings.{noted_more, noted_as}
-use Rattle.chess_match.proofs.Delivers.{last_told, on_too, sends_if}
+use Rattle.chess_match.proofs.Delivers.{on_too, sends_if}
 use Rattle.chess_match.proofs.Sends.{no_answers}
 use Rattle.chess_match.proofs.run.end_for_other.Goals as goal
-
-pub note_and_send-requires-clause-unsent_to : goal.note_and_send-requires-clause-unsent_to
-note_and_send-requires-clause-unsent_to g c =
-    let l = c.requires.last in
-    let goes = c.write_fails-given.ensures l.0 _ l.1 (on_too l.0 _ _ l.1 l.2 c.requires.on) l.2 in
-    last_told l.0 _ _ (match_after l.0 l.1 (FailsToWrite c.args.side)) goes.stands l.3
 
 pub returns-clause-ended : goal.returns-clause-ended
 returns-clause-ended g c r m p s =

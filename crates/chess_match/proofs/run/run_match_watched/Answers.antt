@@ -23,18 +23,7 @@ use Rattle.chess_match.proofs.Going.{to_own, to_other}
 use Rattle.chess_match.proofs.LongerTranscripts.{asked_one}
 use Rattle.chess_match.proofs.RunInvariantKept.{opened_step, delivered_by}
 use Rattle.chess_match.proofs.run.run_match_watched.Goals as goal
-use Rattle.chess_match.specs.Reasons.{by_colour}
-
-pub deliver-failed-requires-clause-last : goal.deliver-failed-requires-clause-last
-deliver-failed-requires-clause-last g c =
-    let r : Rules = rules_of c.args.setup.now.start c.args.setup.now.level c.args.game.now.limit in (
-      r,
-      start,
-      subst (λ (ms : List Move). Represents r c.new-core.result ms start)
-          (sym (ap (λ (x : game.Seen). x.state.moves) c.restart.ensures))
-          (c.new-core.ensures r (rules_level c.args.setup.now.start c.args.setup.now.level c.args.game.now.limit)),
-      λ h. cc,
-    )
+use Rattle.chess_base.specs.ByColour.{by_colour, of_colour}
 
 pub events-init : goal.events-init
 events-init g c =
@@ -45,12 +34,12 @@ events-init g c =
     let d = c.deliver-failed.ensures.delivered r start nothing_said
     (plays_anew c.args.game.now c.restart.new.self c.args.setup.now.start c.args.setup.now.level c.restart.ensures)
     stands (no_answers _ c.new-blocks.ensures.own) refl in
-    let b = begun r _ _ (by_colour c.deliver-failed.result.white c.deliver-failed.result.black)
+    let b = begun r _ _ (of_colour c.deliver-failed.result)
     (by_colour (g.R.Input.seen c.args.white.now.reader) (g.R.Input.seen c.args.black.now.reader))
-    (by_colour c.new-white_lines.result c.new-black_lines.result)
+    (by_colour c.new.result c.new-2.result)
     _ _ (g.M.Moments.coming c.args.moments.now) _ _
-    (both_sides (λ S. by_colour c.new-white_lines.result c.new-black_lines.result S ≡ nothing_held)
-    c.new-white_lines.ensures c.new-black_lines.ensures) d in (
+    (both_sides (λ S. by_colour c.new.result c.new-2.result S ≡ nothing_held)
+    c.new.ensures c.new-2.ensures) d in (
       b.0,
       b.1,
       ap (λ (x : game.Seen). x.state.start) c.restart.ensures,
@@ -68,7 +57,7 @@ returns-in-Nothing-clause-ran g c =
     c.in-Nothing.reason c.events.failed c.end_of.result
     (g.R.Input.seen c.args.white.now.reader) (g.R.Input.seen c.args.black.now.reader)
     (g.R.Input.seen c.events.white.reader) (g.R.Input.seen c.events.black.reader)
-    (by_colour c.events.white_lines c.events.black_lines)
+    (of_colour c.events.lines)
     (g.W.Output.seen c.args.white.now.writer) (g.W.Output.seen c.args.black.now.writer)
     (g.W.Output.seen c.events.white.writer) (g.W.Output.seen c.events.black.writer) _ _ _ _
     i.1 c.in-Nothing.ensures c.end_of.ensures.report c.end_of.ensures.white_name c.end_of.ensures.black_name i.2 i.3
@@ -114,22 +103,6 @@ events-preserved-in-Moment g c =
       i.6,
     )
 
-pub deliver-failed-requires-in-Line-clause-last : goal.deliver-failed-requires-in-Line-clause-last
-deliver-failed-requires-in-Line-clause-last g c =
-    let i = c.events.invariant in
-    let r : Rules = rules_of c.args.setup.now.start c.args.setup.now.level c.args.game.now.limit in
-    let m : Match = match_of r i.0 in
-    let S : Colour = c.in-Line.side in
-    let found = line_read c.next_line-found.result c.next_line-found.new.line in
-    let reading : reads m.phase S ≡ true = ap (λ (p : Phase). reads p S) (sym i.1.stands.phase) ∙ c.in-Line.ensures in
-    let plays = plays_on c.args.game.now c.events.game c.args.setup.now.start c.args.setup.now.level i.2 i.3 i.4 in
-    let h = c.take_next-given.ensures.taken in (
-      r,
-      match_after r m (event_read S h.0 found),
-      (h.5 r m plays reading i.1.stands).stands,
-      (event_sane r m S h.0 found i.1.sane).unsent_to,
-    )
-
 pub take_next-given-requires-clause-empty : goal.take_next-given-requires-clause-empty
 take_next-given-requires-clause-empty g c = c.events.invariant.5
 
@@ -154,8 +127,8 @@ events-smaller g c =
     event_less r c.events.core.phase c.deliver-failed-in-Line.new.core _ m S h.0 found _
     (by_colour (g.R.Input.seen c.events.white.reader) (g.R.Input.seen c.events.black.reader))
     (by_colour (g.R.Input.seen c.next_line-found.new.white) (g.R.Input.seen c.next_line-found.new.black))
-    (by_colour c.events.white_lines c.events.black_lines)
-    (by_colour c.next_line-found.new.white_lines c.next_line-found.new.black_lines) _ _ _ _ _
+    (of_colour c.events.lines)
+    (of_colour c.next_line-found.new.lines) _ _ _ _ _
     c.in-Line.ensures c.next_line-found.ensures.next c.next_line-found.ensures.others c.next_line-found.ensures.held d
 
 pub events-preserved : goal.events-preserved
@@ -174,13 +147,13 @@ events-preserved g c =
     (c.take_next-given.ensures.rules r plays)
     goes.stands (h.4 ∙ ap (λ (is : List Item). bytes_of (answers_to is)) (sym (to_own S h.1))) (to_other S h.1)) in
     let u = event_on r i.0 S h.0 found c.events.core c.deliver-failed-in-Line.new.core _ _
-    (by_colour c.events.failed.white c.events.failed.black)
-    (by_colour c.deliver-failed-in-Line.result.white c.deliver-failed-in-Line.result.black)
+    (of_colour c.events.failed)
+    (of_colour c.deliver-failed-in-Line.result)
     (by_colour (g.R.Input.seen c.args.white.now.reader) (g.R.Input.seen c.args.black.now.reader))
     (by_colour (g.R.Input.seen c.events.white.reader) (g.R.Input.seen c.events.black.reader))
     (by_colour (g.R.Input.seen c.next_line-found.new.white) (g.R.Input.seen c.next_line-found.new.black))
-    (by_colour c.events.white_lines c.events.black_lines)
-    (by_colour c.next_line-found.new.white_lines c.next_line-found.new.black_lines)
+    (of_colour c.events.lines)
+    (of_colour c.next_line-found.new.lines)
     (by_colour (g.W.Output.seen c.args.white.now.writer) (g.W.Output.seen c.args.black.now.writer)) _ _ _ _ _ _ _ _ _
     i.1 c.in-Line.ensures c.next_line-found.ensures.next c.next_line-found.ensures.others c.next_line-found.ensures.held
     h.2 h.3 d in (

@@ -4,15 +4,15 @@ use Rattle.chess_match.specs.Match.{Event}
 use Rattle.chess_match.specs.Rules.{rules_of}
 use Rattle.chess_match.proofs.RunInvariant.{IsUnderWay, steps_left}
 use Rattle.chess_match.proofs.run.run_match_watched.Given as goal
-use Rattle.chess_match.specs.Reasons.{by_colour}
+use Rattle.chess_base.specs.ByColour.{by_colour, of_colour}
 
 abbrev pub invariant-events : goal.invariant-events
 invariant-events g l =
     (T : List Event)
     × IsUnderWay (rules_of l.fn.setup.start l.fn.setup.level l.fn.game.limit) T l.core l.game.state.moves
-    (by_colour l.failed.white l.failed.black)
+    (of_colour l.failed)
     (by_colour (g.R.Input.seen l.fn.white.reader) (g.R.Input.seen l.fn.black.reader))
-    (by_colour (g.R.Input.seen l.white.reader) (g.R.Input.seen l.black.reader)) (by_colour l.white_lines l.black_lines)
+    (by_colour (g.R.Input.seen l.white.reader) (g.R.Input.seen l.black.reader)) (of_colour l.lines)
     (by_colour (g.W.Output.seen l.fn.white.writer) (g.W.Output.seen l.fn.black.writer))
     (by_colour (g.W.Output.seen l.white.writer) (g.W.Output.seen l.black.writer))
     (g.M.Moments.coming l.fn.moments) (g.M.Moments.coming l.moments)
@@ -23,4 +23,4 @@ invariant-events g l =
 abbrev pub decreases-events : goal.decreases-events
 decreases-events g l =
     steps_left l.core.phase
-    (work (g.R.Input.seen l.white.reader) l.white_lines + work (g.R.Input.seen l.black.reader) l.black_lines)
+    (work (g.R.Input.seen l.white.reader) l.lines.white + work (g.R.Input.seen l.black.reader) l.lines.black)
