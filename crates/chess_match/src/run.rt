@@ -14,6 +14,7 @@ ghost use Rattle.chess_match.specs.Match.{Match, FailsToWrite, match_after};
 ghost use Rattle.chess_match.specs.Notes.{WasNoted, Happened, given_note, both_notes};
 ghost use Rattle.chess_match.specs.Reasons.{declared_at, by_colour};
 ghost use Rattle.chess_match.specs.Rules.{Rules};
+ghost use Rattle.chess_match.specs.Played.{Played, PlayedNoting};
 ghost use Rattle.chess_match.specs.Run.{Ports, MatchRan, RanBefore, ClockReadings, text_read};
 ghost use Rattle.cecp_engine.specs.Seen.{seen};
 ghost use Rattle.chess_match.specs.Sent.{block, bytes_of, answers_to};
@@ -85,8 +86,11 @@ pub struct MatchEnd {
 /// fixes all that was sent, the game and the end. Where nothing was unflushed before, nothing is at the end, but for
 /// the beginning of a block at which a write or a flush failed.
 ///
-/// That a block is flushed before the next line is read, and that a moment is asked for after its line or opening, is
-/// only tested. By the code no memory is taken, and an engine that doesn't answer is waited for.
+/// The clause `played` says it by acts: blocks that were sent, lines and moments that were read, ends of outputs, and
+/// failures. They are a match, in which each act was due when it came, and agree with the same devices.
+///
+/// The contract sees each device apart: that a block is flushed before the next line is read, and that a moment is
+/// asked for after its line or opening, is only tested. By the code no memory is taken, and an engine that doesn't answer is waited for.
 pub fn run_match<R: Input, W: Output, M: Moments, B: Board>(
     white: &mut Ends<R, W>,
     black: &mut Ends<R, W>,
@@ -104,6 +108,23 @@ pub fn run_match<R: Input, W: Output, M: Moments, B: Board>(
           writer = by_colour (W.seen white.new.writer) (W.seen black.new.writer);
         })
         (M.coming moments.old) (M.coming moments.new) }
+    ensures played { Played setup.now result
+        (record {
+          ports = record {
+            reader = by_colour (R.seen white.old.reader) (R.seen black.old.reader);
+            writer = by_colour (W.seen white.old.writer) (W.seen black.old.writer);
+          };
+          coming = M.coming moments.old;
+          game = game.old;
+        })
+        (record {
+          ports = record {
+            reader = by_colour (R.seen white.new.reader) (R.seen black.new.reader);
+            writer = by_colour (W.seen white.new.writer) (W.seen black.new.writer);
+          };
+          coming = M.coming moments.new;
+          game = game.new;
+        }) }
 
     // The same in single facts.
     ensures start { game.new.state.start ≡ setup.now.start }
@@ -137,6 +158,24 @@ pub fn run_match_watched<R: Input, W: Output, M: Moments, B: Board, L: Witness>(
           writer = by_colour (W.seen white.new.writer) (W.seen black.new.writer);
         })
         (M.coming moments.old) (M.coming moments.new) }
+    ensures played { PlayedNoting (λ notes. WasNoted (L.noted witness.old) (L.noted witness.new) notes) setup.now
+        result
+        (record {
+          ports = record {
+            reader = by_colour (R.seen white.old.reader) (R.seen black.old.reader);
+            writer = by_colour (W.seen white.old.writer) (W.seen black.old.writer);
+          };
+          coming = M.coming moments.old;
+          game = game.old;
+        })
+        (record {
+          ports = record {
+            reader = by_colour (R.seen white.new.reader) (R.seen black.new.reader);
+            writer = by_colour (W.seen white.new.writer) (W.seen black.new.writer);
+          };
+          coming = M.coming moments.new;
+          game = game.new;
+        }) }
 
     // The same in single facts.
     ensures start { game.new.state.start ≡ setup.now.start }
