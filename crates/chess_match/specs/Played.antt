@@ -12,7 +12,7 @@ use Rattle.chess_match.specs.ByDevice.{lines_read, has_ended, has_failed_read, m
 use Rattle.chess_match.specs.Effects.{Match, Over}
 use Rattle.chess_match.specs.Notes.{Note}
 use Rattle.chess_match.specs.Reasons.{reported, first_fault, declared_at}
-use Rattle.chess_match.specs.Reasons.{by_colour}
+use Rattle.chess_base.specs.ByColour.{by_colour}
 use Rattle.chess_match.specs.Rules.{Rules, rules_of}
 use Rattle.chess_match.specs.Run.{Ports, engine_lines, Flushed, FlushedThenFailed, ClockReadings}
 use Rattle.chess_match.specs.Sent.{SentLine, bytes_of}

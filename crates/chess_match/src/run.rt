@@ -15,6 +15,7 @@ ghost use Rattle.chess_match.specs.Notes.{WasNoted, Happened, given_note, both_n
 ghost use Rattle.chess_base.specs.ByColour.{by_colour, of_colour};
 ghost use Rattle.chess_match.specs.Reasons.{declared_at};
 ghost use Rattle.chess_match.specs.Rules.{Rules};
+ghost use Rattle.chess_match.specs.Played.{Played, PlayedNoting};
 ghost use Rattle.chess_match.specs.Run.{ports_of, MatchRan, RanBefore, ClockReadings, text_read};
 ghost use Rattle.cecp_engine.specs.Seen.{seen};
 ghost use Rattle.chess_match.specs.Sent.{block, bytes_of, answers_to};
@@ -86,8 +87,12 @@ pub struct MatchEnd {
 /// fixes all that was sent, the game and the end. Where nothing was unflushed before, nothing is at the end, but for
 /// the beginning of a block at which a write or a flush failed.
 ///
-/// That a block is flushed before the next line is read, and that a moment is asked for after its line or opening, is
-/// only tested. By the code no memory is taken, and an engine that doesn't answer is waited for.
+/// The clause `played` says it by acts: blocks that were sent, lines and moments that were read, ends of outputs, and
+/// failures. They are a match, in which each act was due when it came, and agree with the same devices.
+///
+/// The contract sees each device apart: that a block is flushed before the next line is read, and that a moment is
+/// asked for after its line or opening, is only tested. By the code no memory is taken, and an engine that doesn't
+/// answer is waited for.
 pub fn run_match<R: Input, W: Output, M: Moments, B: Board>(
     white: &mut Ends<R, W>,
     black: &mut Ends<R, W>,
@@ -98,6 +103,17 @@ pub fn run_match<R: Input, W: Output, M: Moments, B: Board>(
     ensures ran { MatchRan setup.now.start setup.now.level game.old game.new result
         (ports_of R.seen W.seen white.old black.old) (ports_of R.seen W.seen white.new black.new)
         (M.coming moments.old) (M.coming moments.new) }
+    ensures played { Played setup.now result
+        (record {
+          ports = ports_of R.seen W.seen white.old black.old;
+          coming = M.coming moments.old;
+          game = game.old;
+        })
+        (record {
+          ports = ports_of R.seen W.seen white.new black.new;
+          coming = M.coming moments.new;
+          game = game.new;
+        }) }
 
     // The same in single facts.
     ensures start { game.new.state.start ≡ setup.now.start }
@@ -124,6 +140,18 @@ pub fn run_match_watched<R: Input, W: Output, M: Moments, B: Board, L: Witness>(
         game.new result
         (ports_of R.seen W.seen white.old black.old) (ports_of R.seen W.seen white.new black.new)
         (M.coming moments.old) (M.coming moments.new) }
+    ensures played { PlayedNoting (λ notes. WasNoted (L.noted witness.old) (L.noted witness.new) notes) setup.now
+        result
+        (record {
+          ports = ports_of R.seen W.seen white.old black.old;
+          coming = M.coming moments.old;
+          game = game.old;
+        })
+        (record {
+          ports = ports_of R.seen W.seen white.new black.new;
+          coming = M.coming moments.new;
+          game = game.new;
+        }) }
 
     // The same in single facts.
     ensures start { game.new.state.start ≡ setup.now.start }

@@ -22,6 +22,7 @@ use Rattle.chess_match.proofs.Sends.{no_answers}
 use Rattle.chess_match.proofs.Going.{to_own, to_other}
 use Rattle.chess_match.proofs.LongerTranscripts.{asked_one}
 use Rattle.chess_match.proofs.RunInvariantKept.{opened_step, delivered_by}
+use Rattle.chess_match.proofs.RunsAsActs.{run_noted}
 use Rattle.chess_match.proofs.run.run_match_watched.Goals as goal
 use Rattle.chess_base.specs.ByColour.{by_colour, of_colour}
 
@@ -62,6 +63,36 @@ returns-in-Nothing-clause-ran g c =
     (g.W.Output.seen c.events.white.writer) (g.W.Output.seen c.events.black.writer) _ _ _ _
     i.1 c.in-Nothing.ensures c.end_of.ensures.report c.end_of.ensures.white_name c.end_of.ensures.black_name i.2 i.3
     c.end_of.ensures.game
+
+pub returns-in-Nothing-clause-played : goal.returns-in-Nothing-clause-played
+returns-in-Nothing-clause-played g c =
+    let i = c.events.invariant in
+    run_noted c.args.setup.now c.end_of.result
+    (record {
+      ports = record {
+        reader = by_colour (g.R.Input.seen c.args.white.now.reader) (g.R.Input.seen c.args.black.now.reader);
+        writer = by_colour (g.W.Output.seen c.args.white.now.writer) (g.W.Output.seen c.args.black.now.writer);
+      };
+      coming = g.M.Moments.coming c.args.moments.now;
+      game = c.args.game.now;
+    })
+    (record {
+      ports = record {
+        reader = by_colour (g.R.Input.seen c.events.white.reader) (g.R.Input.seen c.events.black.reader);
+        writer = by_colour (g.W.Output.seen c.events.white.writer) (g.W.Output.seen c.events.black.writer);
+      };
+      coming = g.M.Moments.coming c.events.moments;
+      game = c.end_of.new.game;
+    }) (g.L.Witness.noted c.args.witness.now) (g.L.Witness.noted c.events.witness)
+    (ran c.args.game.now c.events.game c.end_of.new.game c.args.setup.now.start c.args.setup.now.level i.0 c.events.core
+    c.in-Nothing.reason c.events.failed c.end_of.result
+    (g.R.Input.seen c.args.white.now.reader) (g.R.Input.seen c.args.black.now.reader)
+    (g.R.Input.seen c.events.white.reader) (g.R.Input.seen c.events.black.reader)
+    (by_colour c.events.white_lines c.events.black_lines)
+    (g.W.Output.seen c.args.white.now.writer) (g.W.Output.seen c.args.black.now.writer)
+    (g.W.Output.seen c.events.white.writer) (g.W.Output.seen c.events.black.writer) _ _ _ _
+    i.1 c.in-Nothing.ensures c.end_of.ensures.report c.end_of.ensures.white_name c.end_of.ensures.black_name i.2 i.3
+    c.end_of.ensures.game)
 
 pub returns-in-Nothing-clause-start : goal.returns-in-Nothing-clause-start
 returns-in-Nothing-clause-start g c =
