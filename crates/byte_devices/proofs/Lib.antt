@@ -1,3 +1,4 @@
 pub mod Decimals
 pub mod DeviceLaws
+pub mod Transferred
 pub mod Unflushed

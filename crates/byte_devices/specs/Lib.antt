@@ -1,2 +1,3 @@
 pub mod Devices
+pub mod Transfers
 pub mod ties

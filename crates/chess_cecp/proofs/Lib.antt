@@ -1,5 +1,8 @@
 pub mod Words
+pub mod Responses
+pub mod LinesOn
 pub mod RunLemmas
+pub mod KnownInputs
 pub mod Refusals
 pub mod OwnRows
 pub mod Ends

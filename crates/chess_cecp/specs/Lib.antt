@@ -3,6 +3,6 @@ pub mod Commands
 pub mod Declaring
 pub mod Held
 pub mod Session
-pub mod Run
+pub mod Served
 pub mod laws
 pub mod ties

@@ -1,12 +1,16 @@
 //! Laws of the definitions. A caller learns one by calling its function, which does nothing.
 
-ghost use Rattle.std.specs.Prelude.{◌≡◌, ℕ, true, List};
+ghost use Rattle.std.specs.Prelude.{◌≡◌, ℕ, true, List, Ok};
+ghost use Rattle.byte_devices.specs.Transfers.{Devices, FromInput, InputGave, Ran};
 ghost use Rattle.chess_base.specs.declared.man.Variant.TheVariants.{Normal};
 ghost use Rattle.chess_game.specs.Game.{State};
 ghost use Rattle.chess_pgn.specs.declared.tags.Tags.{Tags};
 ghost use Rattle.chess_cecp.specs.declared.command.Command.{Command};
 ghost use Rattle.chess_cecp.specs.Held.{SessionSeen};
 ghost use Rattle.text_lines.specs.Lines.{LineSeen};
+ghost use Rattle.chess_cecp.specs.declared.run.End.{End};
+ghost use Rattle.chess_cecp.specs.Served.{Served};
+ghost use Rattle.chess_cecp.specs.laws.KnownInput.{AnswersInput, AreFirstLines};
 ghost use Rattle.chess_cecp.specs.laws.Normal.{normal_row_of, has_normal_row};
 ghost use Rattle.chess_cecp.specs.Session.{row, session_response, IsRefusal};
 
@@ -23,4 +27,13 @@ pub fn normal_chess_keeps_its_rows()
     ensures { (tags : Tags) (limit : ℕ) (s : State) (text argument : List ℕ) (command : Command)
         → s.start.variant ≡ Normal → has_normal_row command ≡ true
         → row tags limit s text argument command ≡ normal_row_of tags limit s text argument command }
+{}
+
+/// States a law and does nothing: where it is known which bytes the input has to give, the lines that are read are the
+/// first of the lines of these bytes, and a session that ends without a fault answers these lines, up to `quit`. So how
+/// reads cut the bytes changes no answer.
+pub fn reads_change_no_answer()
+    ensures lines { (d d2 : Devices) (i : FromInput) → InputGave d.input d2.input i → AreFirstLines d i }
+    ensures answers { (s s2 : SessionSeen) (end : End) (d d2 : Devices)
+        → Ran (Served session_response s s2 (Ok end)) d d2 → AnswersInput session_response s s2 d d2 }
 {}

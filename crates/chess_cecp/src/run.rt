@@ -2,7 +2,8 @@
 
 ghost use Rattle.std.specs.Prelude.{◌≡◌, IfOk, if◌then◌else◌};
 ghost use Rattle.byte_devices.specs.Devices.{Sends};
-ghost use Rattle.chess_cecp.specs.Run.{Transcript, SessionRan};
+ghost use Rattle.byte_devices.specs.Transfers.{Ran};
+ghost use Rattle.chess_cecp.specs.Served.{Served};
 ghost use Rattle.chess_cecp.specs.Session.{session_response};
 
 use crate::session::{COMMAND_LEN, Go, Session};
@@ -76,8 +77,9 @@ pub fn serve_lines<R: Input, W: Output, S: LineServer>(
     writer: &mut W,
     server: &mut S,
 ) -> Result<End, Fault>
-    ensures { (t : Transcript) × SessionRan S.respond (R.seen reader.old) (R.seen reader.new) (W.seen writer.old)
-        (W.seen writer.new) server.old server.new t result }
+    ensures { Ran (Served S.respond server.old server.new result)
+        (record { input = R.seen reader.old; output = W.seen writer.old })
+        (record { input = R.seen reader.new; output = W.seen writer.new }) }
 {
     let mut lines: Lines<COMMAND_LEN> = Lines::new();
     let mut line = Line::new();
@@ -108,8 +110,9 @@ pub fn run_session<R: Input, W: Output, B: Board>(
     writer: &mut W,
     session: &mut Session<B>,
 ) -> Result<End, Fault>
-    ensures { (t : Transcript) × SessionRan session_response (R.seen reader.old) (R.seen reader.new) (W.seen writer.old)
-        (W.seen writer.new) session.old session.new t result }
+    ensures { Ran (Served session_response session.old session.new result)
+        (record { input = R.seen reader.old; output = W.seen writer.old })
+        (record { input = R.seen reader.new; output = W.seen writer.new }) }
 {
     serve_lines(reader, writer, session)
 }

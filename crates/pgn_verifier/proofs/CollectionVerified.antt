@@ -6,10 +6,10 @@ use Rattle.std.proofs.lemmas.List.Concat.{flat_map-append}
 use Rattle.std.proofs.lemmas.List.Sums.{sum_by_push}
 use Rattle.byte_devices.specs.declared.traits.WriteFault.{WriteFault}
 use Rattle.byte_devices.specs.Devices.{InputState, OutputState, Took, BreaksOff}
+use Rattle.byte_devices.specs.Transfers.{Ran}
 use Rattle.byte_devices.proofs.DeviceLaws.{breaks_longer}
-use Rattle.pgn_pieces.specs.Pieces.{Piece, pieces, IsCause}
+use Rattle.pgn_pieces.specs.Pieces.{Piece, pieces}
 use Rattle.pgn_pieces.specs.declared.pieces.PieceFault.{PieceFault}
-use Rattle.pgn_pieces.specs.declared.pieces.PieceFault.TheVariants as piece
 use Rattle.pgn_pieces.specs.Stream.{State, IsStateOf, Next, MayFollow, past_piece, current, unread, pieces_after_part, pieces_held}
 use Rattle.pgn_pieces.specs.laws.HandedOut.{PiecesAreCut}
 use Rattle.pgn_pieces.specs.laws.Places.{PiecesAreInPlace}
@@ -22,6 +22,7 @@ use Rattle.pgn_verifier.specs.Collection.{collection_reports, collection_lines, 
 use Rattle.pgn_verifier.specs.ties.OnTheWay.{WritesCollection, Writes, PieceStandsIf, GrowsBy, reports_of, counted}
 use Rattle.pgn_verifier.specs.ties.Faults.{piece_fault}
 use Rattle.pgn_verifier.proofs.Placed.{piece_there}
+use Rattle.pgn_verifier.proofs.Verifying.{collection_broke_off, reading_stopped}
 use Rattle.pgn_verifier.proofs.LinesWritten.{took_after, broke_after, lines_after, wrote_none, counted_after}
 
 abbrev pub none : Tally
@@ -154,7 +155,8 @@ module _ (options : VerifyOptions) (r r' r'' : InputState) (w w' : OutputState) 
       → Next s s' r r'' so.text (Ok true)
       → ((input : List ℕ) → PieceStandsIf options.explain line input (current s')
       → Writes options input tally w' w'' (Err fault) (reports_in options.strict (current s')))
-      → VerifiesCollection options r r'' w w'' (Err WriteFailed)
+      → Ran (VerifiesCollection options (Err WriteFailed)) (record { input = r; output = w })
+      (record { input = r''; output = w'' })
   write_failed law w'' fault next wrote =
       let later = pieces_held s'.ended (past_piece s') [] in
       let text = so.text ++ next.0 in
@@ -173,17 +175,13 @@ module _ (options : VerifyOptions) (r r' r'' : InputState) (w w' : OutputState) 
       (reports_of options.strict so.done ++ reports_in options.strict (current s')))
       (report_lines options text (1 + length
       (reports_of options.strict so.done ++ reports_in options.strict (current s')))
-      (reports_of options.strict later)) first in (
-        s'.ended,
-        text,
-        next.1.read,
-        breaks_longer w w'' (collection_lines options s'.ended text)
-            (if s'.ended then counts_line (counts_of (collection_reports options.strict s'.ended text)) else [])
-            (subst (BreaksOff w w'') (sym (lines_after options text 1
-            (reports_of options.strict so.done ++ reports_in options.strict (current s'))
-            (reports_of options.strict later))
-            ∙ ap (report_lines options text 1) (sym all)) lines),
-      )
+      (reports_of options.strict later)) first in
+      collection_broke_off options r r'' w w'' s'.ended text next.1.read
+      (breaks_longer w w'' (collection_lines options s'.ended text)
+      (if s'.ended then counts_line (counts_of (collection_reports options.strict s'.ended text)) else [])
+      (subst (BreaksOff w w'') (sym (lines_after options text 1
+      (reports_of options.strict so.done ++ reports_in options.strict (current s')) (reports_of options.strict later))
+      ∙ ap (report_lines options text 1) (sym all)) lines))
 
   pub all_written : (law : PiecesAreCut) → Next s s' r r'' so.text (Ok false)
       → WritesCollection options r r'' w w' (Ok tally)
@@ -202,7 +200,8 @@ module _ (options : VerifyOptions) (r r' r'' : InputState) (w w' : OutputState) 
       )
 
   pub stopped : (law : PiecesAreCut) (fault : PieceFault) → Next s s' r r'' so.text (Err fault)
-      → VerifiesCollection options r r'' w w' (Err (piece_fault fault))
+      → Ran (VerifiesCollection options (Err (piece_fault fault))) (record { input = r; output = w })
+      (record { input = r''; output = w' })
   stopped law fault next =
       let more = next.0 in
       let text = so.text ++ more in
@@ -211,11 +210,4 @@ module _ (options : VerifyOptions) (r r' r'' : InputState) (w w' : OutputState) 
       (subst (λ b. MayFollow b false more) (sym next.2) tt)
       ∙ ap (λ ps. so.done ++ ps) next.3 ∙ append-nil so.done) in
       let written = subst (λ xs. Took w w' (report_lines options text 1 xs)) (sym all) (so.took more) in
-      by_fault fault next.1 written
-    where
-      by_fault : (e : PieceFault) → IsCause r r'' (so.text ++ next.0) e
-          → Took w w' (collection_lines options false (so.text ++ next.0))
-          → VerifiesCollection options r r'' w w' (Err (piece_fault e))
-      by_fault piece.ReadFailed cause written = (so.text ++ next.0, cause, written)
-      by_fault piece.NoMemory cause written = (so.text ++ next.0, cause, written)
-      by_fault piece.InputTooLong (read, many) written = (so.text ++ next.0, read, many, written)
+      reading_stopped options r r'' w w' text fault next.1 written

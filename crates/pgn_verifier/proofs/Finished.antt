@@ -2,16 +2,20 @@
 use Rattle.std.proofs.Common.{◌≡◌, ℕ, Bool, true, false, List, [], ◌++◌, Ok, Err, refl, ap, subst, ◌∙◌, append-nil}
 use Rattle.std.proofs.Math.Seq.{take-length}
 use Rattle.byte_devices.specs.Devices.{InputState, OutputState, Took, Sent, BreaksOff, TookThenFailed}
+use Rattle.byte_devices.specs.Transfers.{Ran}
 use Rattle.byte_devices.proofs.DeviceLaws.{appends_more, took_none, breaks_more, failed_more}
 use Rattle.pgn_pieces.specs.Pieces.{pieces}
 use Rattle.pgn_verifier.specs.declared.options.VerifyOptions.{VerifyOptions}
 use Rattle.pgn_verifier.specs.declared.tally.Tally.{Tally}
 use Rattle.pgn_verifier.specs.declared.tally.Verified.{Verified}
-use Rattle.pgn_verifier.specs.declared.fault.VerifyFault.TheVariants.{WriteFailed}
+use Rattle.pgn_pieces.specs.declared.pieces.PieceFault.TheVariants as piece
+use Rattle.pgn_pieces.proofs.Inputs.{nothing_read}
+use Rattle.pgn_verifier.specs.declared.fault.VerifyFault.TheVariants.{WriteFailed, NoMemory}
 use Rattle.pgn_verifier.specs.Reports.{reports_on, report_lines, counts_line, counts_of, verified}
 use Rattle.pgn_verifier.specs.Verify.{text_lines}
 use Rattle.pgn_verifier.specs.Collection.{collection_reports, collection_lines, VerifiesCollection}
 use Rattle.pgn_verifier.specs.ties.OnTheWay.{WritesCollection, StandsIf, next_number, counted}
+use Rattle.pgn_verifier.proofs.Verifying.{collection_verified, collection_broke_off, reading_stopped}
 
 abbrev pub none : Tally
 none = record { games = 0; half_moves = 0; faults = 0 }
@@ -45,29 +49,31 @@ whole_counted strict t u text v is h e =
 
 pub finished : (options : VerifyOptions) (r r' : InputState) (w w' w'' : OutputState) (t : Tally) (v : Verified)
     → WritesCollection options r r' w w' (Ok t) → Sent w' w'' (counts_line t) → v ≡ verified t
-    → VerifiesCollection options r r' w w'' (Ok v)
+    → Ran (VerifiesCollection options (Ok v)) (record { input = r; output = w })
+    (record { input = r'; output = w'' })
 finished options r r' w w' w'' t v (text, read, took, is) sent h =
-    let counts = counts_line (counts_of (collection_reports options.strict true text)) in (
-      text,
-      read,
-      sent_more w w' w'' (collection_lines options true text) counts took
-          (subst (λ (u : Tally). Sent w' w'' (counts_line u)) is sent),
-      h ∙ ap verified is,
-    )
+    let counts = counts_line (counts_of (collection_reports options.strict true text)) in
+    collection_verified options r r' w w'' text v read
+    (sent_more w w' w'' (collection_lines options true text) counts took
+    (subst (λ (u : Tally). Sent w' w'' (counts_line u)) is sent)) (h ∙ ap verified is)
 
 pub not_finished : (options : VerifyOptions) (r r' : InputState) (w w' w'' : OutputState) (t : Tally)
     → WritesCollection options r r' w w' (Ok t) → BreaksOff w' w'' (counts_line t)
-    → VerifiesCollection options r r' w w'' (Err WriteFailed)
+    → Ran (VerifiesCollection options (Err WriteFailed)) (record { input = r; output = w })
+    (record { input = r'; output = w'' })
 not_finished options r r' w w' w'' t (text, read, took, is) broke =
-    let counts = counts_line (counts_of (collection_reports options.strict true text)) in (
-      true,
-      text,
-      read,
-      breaks_more w w' w'' (collection_lines options true text) counts took
-          (subst (λ (u : Tally). BreaksOff w' w'' (counts_line u)) is broke),
-    )
+    let counts = counts_line (counts_of (collection_reports options.strict true text)) in
+    collection_broke_off options r r' w w'' true text read
+    (breaks_more w w' w'' (collection_lines options true text) counts took
+    (subst (λ (u : Tally). BreaksOff w' w'' (counts_line u)) is broke))
 
--- nothing was read, and nothing written
-pub nothing_written : (options : VerifyOptions) (w : OutputState) → Took w w (collection_lines options false [])
+nothing_written : (options : VerifyOptions) (w : OutputState) → Took w w (collection_lines options false [])
 unfolding pieces
 nothing_written options w = took_none w
+
+-- out of memory, nothing was read and nothing written
+pub not_begun : (options : VerifyOptions) (r : InputState) (w : OutputState)
+    → Ran (VerifiesCollection options (Err NoMemory)) (record { input = r; output = w })
+    (record { input = r; output = w })
+not_begun options r w =
+    reading_stopped options r r w w [] piece.NoMemory (nothing_read r) (nothing_written options w)

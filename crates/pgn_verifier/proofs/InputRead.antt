@@ -6,8 +6,7 @@ use Rattle.byte_devices.specs.Devices.{InputState, GavePiece, FailedToRead, rise
 use Rattle.byte_devices.proofs.DeviceLaws.{consumes_more, consumes_kept}
 use Rattle.pgn_verifier.specs.declared.fault.VerifyFault.TheVariants.{ReadFailed, NoMemory, InputTooLong}
 use Rattle.pgn_pieces.specs.Pieces.{HasRead}
-use Rattle.pgn_verifier.specs.Verify.{IsAll}
-use Rattle.pgn_verifier.specs.ties.OnTheWay.{IsNotAll}
+use Rattle.pgn_verifier.specs.ties.OnTheWay.{IsAll, IsNotAll}
 
 -- the end was reported
 pub all_read : (r r' r'' : InputState) (text buf : List ℕ) (n : ℕ) → HasRead false r r' text → length text ≤ 16777216

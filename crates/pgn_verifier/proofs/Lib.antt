@@ -5,3 +5,4 @@ pub mod InputRead
 pub mod LinesWritten
 pub mod Placed
 pub mod TextVerified
+pub mod Verifying

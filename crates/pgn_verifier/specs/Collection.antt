@@ -1,9 +1,9 @@
--- What verifying a collection writes: however the input is cut into reads and however long it is, the lines are those
--- of its pieces.
+-- What verifying a collection reads and writes: however the input is cut into reads and however long it is, the lines
+-- are those of its pieces.
 use Rattle.std.specs.Prelude.{◌≡◌, ◌≤◌, ◌^◌, ℕ, ◌+◌, Bool, true, false, if◌then◌else◌, List, [], ◌++◌, length, Result, Ok, Err}
 use Rattle.std.specs.List.{flat_map}
-use Rattle.byte_devices.specs.Devices.{InputState, OutputState, Took, Sent, BreaksOff}
-use Rattle.pgn_pieces.specs.Pieces.{pieces, HasRead, BrokeOff}
+use Rattle.byte_devices.specs.Transfers.{FromInput, ToOutput, IsWhole, IsCutOff, IsUnbroken, all_of, all_unflushed, BreaksOffIn}
+use Rattle.pgn_pieces.specs.Pieces.{pieces}
 use Rattle.pgn_verifier.specs.declared.fault.VerifyFault.{VerifyFault}
 use Rattle.pgn_verifier.specs.declared.fault.VerifyFault.TheVariants.{ReadFailed, WriteFailed, NoMemory, InputTooLong}
 use Rattle.pgn_verifier.specs.declared.options.VerifyOptions.{VerifyOptions}
@@ -27,20 +27,19 @@ abbrev pub collection_text : VerifyOptions → Bool → List ℕ → List ℕ
 collection_text options ended text = collection_lines options ended text
     ++ (if ended then counts_line (counts_of (collection_reports options.strict ended text)) else [])
 
--- what verifying a collection does, from the input's state `r` to `r'` and the output's `w` to `w'`. It read all of
--- the input, wrote the text and flushed it; or a write failed, and a beginning was written; or a read failed, memory
--- ran out or the input was too long, and the lines of the pieces whose end was read were written
-abbrev pub VerifiesCollection : VerifyOptions → InputState → InputState → OutputState → OutputState
-    → Result Verified VerifyFault → Type 0
-VerifiesCollection options r r' w w' (Ok verdict) =
-    (text : List ℕ) × HasRead true r r' text × Sent w w' (collection_text options true text)
-    × (verdict ≡ verified (counts_of (collection_reports options.strict true text)))
-VerifiesCollection options r r' w w' (Err WriteFailed) =
-    (ended : Bool) × (text : List ℕ) × HasRead ended r r' text × BreaksOff w w' (collection_text options ended text)
-VerifiesCollection options r r' w w' (Err ReadFailed) =
-    (text : List ℕ) × BrokeOff r r' text × Took w w' (collection_lines options false text)
-VerifiesCollection options r r' w w' (Err NoMemory) =
-    (text : List ℕ) × HasRead false r r' text × Took w w' (collection_lines options false text)
-VerifiesCollection options r r' w w' (Err InputTooLong) =
-    (text : List ℕ) × HasRead false r r' text × (2 ^ 63 ≤ length text + 2 ^ 16)
-    × Took w w' (collection_lines options false text)
+-- reading stopped before the input's end, and the lines of the pieces whose end was read were written, but not flushed
+abbrev pub WritesPart : VerifyOptions → FromInput → ToOutput → Type 0
+WritesPart options i o = (i.ended ≡ false) × (o ≡ all_unflushed (collection_lines options false i.text))
+
+-- what verifying a collection reads and writes, by its result. The whole input was read, and its text was written and
+-- flushed; or a write or the flush failed, and a beginning of the text was written. Or a read failed, memory ran out or
+-- the input was too long, and the lines of the pieces whose end was read were written
+abbrev pub VerifiesCollection : VerifyOptions → Result Verified VerifyFault → FromInput → ToOutput → Type 0
+VerifiesCollection options (Ok verdict) i o = IsWhole i × (o ≡ all_of (collection_text options true i.text))
+    × (verdict ≡ verified (counts_of (collection_reports options.strict true i.text)))
+VerifiesCollection options (Err WriteFailed) i o =
+    IsUnbroken i × BreaksOffIn [] (collection_text options i.ended i.text) o
+VerifiesCollection options (Err ReadFailed) i o = IsCutOff i × WritesPart options i o
+VerifiesCollection options (Err NoMemory) i o = IsUnbroken i × WritesPart options i o
+VerifiesCollection options (Err InputTooLong) i o =
+    IsUnbroken i × (2 ^ 63 ≤ length i.text + 2 ^ 16) × WritesPart options i o

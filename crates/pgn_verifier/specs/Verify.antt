@@ -1,7 +1,6 @@
--- What verifying a text as a whole reads, and what it writes.
-use Rattle.std.specs.Prelude.{◌≡◌, ◌≤◌, ◌<◌, ◌⊎◌, ℕ, true, false, List, length, Result, Ok, Err}
-use Rattle.byte_devices.specs.Devices.{InputState, OutputState, Sent, BreaksOff}
-use Rattle.pgn_pieces.specs.Pieces.{HasRead, BrokeOff}
+-- What verifying a text as a whole reads and writes.
+use Rattle.std.specs.Prelude.{◌≡◌, ◌≤◌, ◌<◌, ℕ, true, false, List, [], length, Result, Ok, Err}
+use Rattle.byte_devices.specs.Transfers.{FromInput, ToOutput, IsWhole, IsCutOff, IsUnbroken, all_of, nothing, BreaksOffIn}
 use Rattle.pgn_pieces.specs.declared.pieces.TheConstants.{PIECE_LEN}
 use Rattle.pgn_verifier.specs.declared.fault.VerifyFault.{VerifyFault}
 use Rattle.pgn_verifier.specs.declared.fault.VerifyFault.TheVariants.{ReadFailed, WriteFailed, NoMemory, InputTooLong}
@@ -9,27 +8,20 @@ use Rattle.pgn_verifier.specs.declared.options.VerifyOptions.{VerifyOptions}
 use Rattle.pgn_verifier.specs.declared.tally.Verified.{Verified}
 use Rattle.pgn_verifier.specs.Reports.{reports_on, report_lines, counts_of, verified}
 
--- between the input's states `r` and `r'` all that was left of the input was read: this text, which has at most
--- 16,777,216 bytes
-abbrev pub IsAll : InputState → InputState → List ℕ → Type 0
-IsAll r r' text = HasRead true r r' text × (length text ≤ PIECE_LEN)
-
 -- all that is written of a text: the lines of its games up to the first fault, numbered from 1. `options` say whether
 -- results are compared, whether only faults have a line, and whether faults are explained
 abbrev pub text_lines : VerifyOptions → List ℕ → List ℕ
 text_lines options text = report_lines options text 1 (reports_on options.strict 0 text)
 
--- what verifying a text does, from the input's state `r` to `r'` and the output's `w` to `w'`. It read all of the
--- input, wrote the lines and flushed them; or a write failed, and a beginning was written; or the input failed, was
--- too long or memory ran out, and nothing was written
-abbrev pub Verifies : VerifyOptions → InputState → InputState → OutputState → OutputState
-    → Result Verified VerifyFault → Type 0
-Verifies options r r' w w' (Ok verdict) = (text : List ℕ) × IsAll r r' text × Sent w w' (text_lines options text)
-    × (verdict ≡ verified (counts_of (reports_on options.strict 0 text)))
-Verifies options r r' w w' (Err WriteFailed) =
-    (text : List ℕ) × IsAll r r' text × BreaksOff w w' (text_lines options text)
-Verifies options r r' w w' (Err ReadFailed) = (text : List ℕ) × BrokeOff r r' text × (w' ≡ w)
-Verifies options r r' w w' (Err NoMemory) =
-    (text : List ℕ) × (HasRead false r r' text ⊎ IsAll r r' text) × (w' ≡ w)
-Verifies options r r' w w' (Err InputTooLong) =
-    (text : List ℕ) × HasRead false r r' text × (PIECE_LEN < length text) × (w' ≡ w)
+-- what verifying a text reads and writes, by its result. The whole input was read, of at most 16,777,216 bytes, and its
+-- lines were written and flushed; or a write or the flush failed, and a beginning of them was written. Or a read
+-- failed, memory ran out or the input was longer, and nothing was written
+abbrev pub Verifies : VerifyOptions → Result Verified VerifyFault → FromInput → ToOutput → Type 0
+Verifies options (Ok verdict) i o = IsWhole i × (length i.text ≤ PIECE_LEN) × (o ≡ all_of (text_lines options i.text))
+    × (verdict ≡ verified (counts_of (reports_on options.strict 0 i.text)))
+Verifies options (Err WriteFailed) i o =
+    IsWhole i × (length i.text ≤ PIECE_LEN) × BreaksOffIn [] (text_lines options i.text) o
+Verifies options (Err ReadFailed) i o = IsCutOff i × (o ≡ nothing)
+Verifies options (Err NoMemory) i o = IsUnbroken i × (i.ended ≡ true → length i.text ≤ PIECE_LEN) × (o ≡ nothing)
+Verifies options (Err InputTooLong) i o =
+    IsUnbroken i × (i.ended ≡ false) × (PIECE_LEN < length i.text) × (o ≡ nothing)

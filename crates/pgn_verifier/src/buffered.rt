@@ -1,8 +1,9 @@
 //! A text verified as a whole: each game of it is read and its line written; the first fault ends it.
 
 ghost use Rattle.std.specs.Prelude.{◌≡◌, ◌≤◌, length, IfOk, IfErr};
-ghost use Rattle.pgn_verifier.specs.Verify.{IsAll, Verifies};
-ghost use Rattle.pgn_verifier.specs.ties.OnTheWay.{IsNotAll, WritesText};
+ghost use Rattle.byte_devices.specs.Transfers.{Ran};
+ghost use Rattle.pgn_verifier.specs.Verify.{Verifies};
+ghost use Rattle.pgn_verifier.specs.ties.OnTheWay.{IsAll, IsNotAll, WritesText};
 ghost use Rattle.chess_game.specs.declared.game.TheConstants.{MOST_MOVES};
 ghost use Rattle.pgn_pieces.specs.declared.pieces.TheConstants.{PIECE_LEN};
 
@@ -80,7 +81,8 @@ pub fn verify<R: Input, W: Output>(
     input: &mut R,
     output: &mut W,
 ) -> Result<Verified, VerifyFault>
-    ensures { Verifies options (R.seen input.old) (R.seen input.new) (W.seen output.old) (W.seen output.new) result }
+    ensures { Ran (Verifies options result) (record { input = R.seen input.old; output = W.seen output.old })
+        (record { input = R.seen input.new; output = W.seen output.new }) }
 {
     let text = read_all(alloc, input)?;
     let Ok(tables) = AttackTables::open(alloc) else {

@@ -2,6 +2,7 @@
 
 ghost use Rattle.std.specs.Prelude.{◌≡◌, ◌≤◌, ◌<◌, ◌+◌, ◌*◌, ◌^◌, true, List, ℕ, length, IfOk};
 ghost use Rattle.byte_devices.specs.Devices.{Sends};
+ghost use Rattle.byte_devices.specs.Transfers.{Ran};
 ghost use Rattle.pgn_pieces.specs.Stream.{unread, current};
 ghost use Rattle.pgn_verifier.specs.Reports.{reports_in, counts_line};
 ghost use Rattle.pgn_verifier.specs.Collection.{VerifiesCollection};
@@ -138,8 +139,8 @@ fn verify_all<R: Input, W: Output>(
 ) -> Result<Verified, VerifyFault>
     requires opened { pieces.old ≡ unread }
     requires limit { game.old.limit ≡ MOST_MOVES }
-    ensures { VerifiesCollection options (R.seen input.old) (R.seen input.new) (W.seen output.old) (W.seen output.new)
-        result }
+    ensures { Ran (VerifiesCollection options result) (record { input = R.seen input.old; output = W.seen output.old })
+        (record { input = R.seen input.new; output = W.seen output.new }) }
 {
     let tally = match verify_pieces(options, pieces, game, input, output) {
         Ok(tally) => tally,
@@ -170,8 +171,8 @@ pub fn verify_collection<R: Input, W: Output>(
     input: &mut R,
     output: &mut W,
 ) -> Result<Verified, VerifyFault>
-    ensures { VerifiesCollection options (R.seen input.old) (R.seen input.new) (W.seen output.old) (W.seen output.new)
-        result }
+    ensures { Ran (VerifiesCollection options result) (record { input = R.seen input.old; output = W.seen output.old })
+        (record { input = R.seen input.new; output = W.seen output.new }) }
 {
     let Ok(tables) = AttackTables::open(alloc) else {
         return Err(VerifyFault::NoMemory);

@@ -3,6 +3,7 @@
 use Rattle.std.specs.Prelude.{◌≡◌, ◌<◌, ℕ, true, false, List, length, take, drop, Some, Result, Ok, Err, ◌≤◌, ◌+◌, Bool}
 use Rattle.std.specs.List.{flat_map, fold}
 use Rattle.byte_devices.specs.Devices.{InputState, OutputState, Took, Sent, BreaksOff}
+use Rattle.byte_devices.specs.Transfers.{Ran}
 use Rattle.pgn_pieces.specs.Pieces.{Piece, HasRead, BrokeOff}
 use Rattle.pgn_pieces.specs.Places.{line_of, column_of}
 use Rattle.pgn_pieces.specs.declared.pieces.TheConstants.{PIECE_LEN}
@@ -16,6 +17,11 @@ use Rattle.pgn_verifier.specs.Reports.{Report, reports_on, reports_in, with_repo
 use Rattle.pgn_verifier.specs.Verify.{text_lines}
 use Rattle.pgn_verifier.specs.Collection.{collection_reports, collection_lines, VerifiesCollection}
 use Rattle.pgn_verifier.specs.declared.start.TextStart.{TextStart}
+
+-- between the input's states `r` and `r'` all that was left of the input was read: this text, which has at most
+-- 16,777,216 bytes
+abbrev pub IsAll : InputState → InputState → List ℕ → Type 0
+IsAll r r' text = HasRead true r r' text × (length text ≤ PIECE_LEN)
 
 -- why, between the input's states `r` and `r'`, not all of it was read: a read failed, memory ran out, or it has more
 -- than 16,777,216 bytes
@@ -39,7 +45,8 @@ abbrev pub WritesCollection : VerifyOptions → InputState → InputState → Ou
 WritesCollection options r r' w w' (Ok tally) =
     (text : List ℕ) × HasRead true r r' text × Took w w' (collection_lines options true text)
     × (tally ≡ counts_of (collection_reports options.strict true text))
-WritesCollection options r r' w w' (Err fault) = VerifiesCollection options r r' w w' (Err fault)
+WritesCollection options r r' w w' (Err fault) = Ran (VerifiesCollection options (Err fault))
+    (record { input = r; output = w }) (record { input = r'; output = w' })
 
 -- the fault with its offset counted from the input's first byte, where the game's text begins at the offset `start`
 abbrev pub moved : ℕ → GameFault → GameFault

@@ -1,5 +1,5 @@
 -- All lines so far were answered, and the server ended with none of them (RunLemmas.SoFar). An answer more keeps that
--- (RunLemmas.go_on), and each way out gives the transcript of its end (RunLemmas.by_line and those after it).
+-- (RunLemmas.go_on), and each way out has a lemma on what passed at the devices (RunLemmas.by_line and those after it).
 use Rattle.std.proofs.Common.{[], subst, sym}
 use Rattle.text_lines.specs.Lines.{Held}
 use Rattle.byte_devices.specs.declared.traits.ReadFault.{ReadFault}

@@ -1,6 +1,7 @@
 -- The pieces up to here were reported (CollectionVerified.SoFar). A piece more keeps that; the last one, a read that
 -- gave nothing and a failed write each end it by one lemma.
 use Rattle.std.proofs.Common.{Err, sym, subst, arith}
+use Rattle.byte_devices.specs.Transfers.{Ran}
 use Rattle.pgn_pieces.specs.Stream.{State}
 use Rattle.pgn_verifier.specs.Collection.{VerifiesCollection}
 use Rattle.pgn_verifier.specs.declared.tally.Tally.{Tally}
@@ -85,7 +86,8 @@ returns-in-Err g c =
     let w = g.W.Output.seen c.args.output.now in
     let w' = g.W.Output.seen c.loop-fault.output in
     let r'' = g.R.Input.seen c.next.new.input in
-    subst (λ f. VerifiesCollection c.args.options r r'' w w' (Err f)) (sym c.piece_fault.ensures)
+    subst (λ f. Ran (VerifiesCollection c.args.options (Err f)) (record { input = r; output = w })
+    (record { input = r''; output = w' })) (sym c.piece_fault.ensures)
     (stopped c.args.options r (g.R.Input.seen c.loop-fault.input) r'' w w' c.loop-fault.pieces c.next.new.self
     c.loop-fault.tally c.loop-fault.line so c.pieces_are_cut.ensures c.in-Err.fault
     (c.in-Err.ensures.next r so.text so.stands))

@@ -1,0 +1,97 @@
+-- Lines of bytes that go on, and the responses to lines that go on.
+use Rattle.std.proofs.Common.{◌≡◌, ◌≢◌, ℕ, ◌+◌, ◌-◌, ◌≤◌, Bool, true, false, List, [], ◌∷◌, ◌++◌, length, drop, ◌==◌, refl, sym, ap, ◌∙◌, arith, subst}
+use Rattle.std.proofs.lemmas.List.{take-append-drop}
+use Rattle.text_lines.specs.Lines.{LineSeen, lines_from, stream_lines, whole, line_of}
+use Rattle.text_lines.specs.Next.{before_piece}
+use Rattle.text_lines.proofs.Parts.{none_from, ten_step, byte_step}
+use Rattle.chess_cecp.specs.Serving.{Response, Server, responses}
+use Rattle.chess_cecp.specs.declared.session.TheConstants.{COMMAND_LEN}
+use Rattle.chess_cecp.proofs.Responses.{with_front, passes, stops}
+
+-- the lines that are complete in some bytes are the first lines of these and more
+abbrev pub GoesOn : List LineSeen → List LineSeen → Type 0
+GoesOn front all = (more : List LineSeen) × (all ≡ front ++ more)
+
+one_on : (line : LineSeen) (front all : List LineSeen) → GoesOn front all → GoesOn (line ∷ front) (line ∷ all)
+one_on line front all (more, e) = (more, ap (λ v. line ∷ v) e)
+
+moved : (a b c d : List LineSeen) → a ≡ b → c ≡ d → GoesOn b d → GoesOn a c
+moved a b c d e f (more, h) = (more, f ∙ h ∙ ap (λ v. v ++ more) (sym e))
+
+first_of_from : (n : ℕ) (at_end : Bool) (part a b : List ℕ)
+    → GoesOn (lines_from n false part a) (lines_from n at_end part (a ++ b))
+first_of_from n at_end part [] b =
+    (lines_from n at_end part b, ap (λ v. v ++ lines_from n at_end part b) (sym (none_from n part)))
+first_of_from n at_end part (c ∷ cs) b = at (c == 10) refl (first_of_from n at_end [] cs b)
+    (first_of_from n at_end (part ++ c ∷ []) cs b)
+  where
+    at : (t : Bool) → (c == 10) ≡ t → GoesOn (lines_from n false [] cs) (lines_from n at_end [] (cs ++ b))
+        → GoesOn (lines_from n false (part ++ c ∷ []) cs) (lines_from n at_end (part ++ c ∷ []) (cs ++ b))
+        → GoesOn (lines_from n false part (c ∷ cs)) (lines_from n at_end part (c ∷ (cs ++ b)))
+    at true e h k = let ten : c ≡ 10 = grind arith in
+        moved _ _ _ _ (ten_step n false part c cs ten) (ten_step n at_end part c (cs ++ b) ten)
+        (one_on (line_of n true part) _ _ h)
+    at false e h k = let other : c ≢ 10 = grind arith in
+        moved _ _ _ _ (byte_step n false part c cs other) (byte_step n at_end part c (cs ++ b) other) k
+
+pub first_lines : (n : ℕ) (at_end : Bool) (a b : List ℕ) → GoesOn (whole n a) (stream_lines n at_end (a ++ b))
+first_lines n at_end a b = first_of_from n at_end [] a b
+
+-- ---- responses
+
+-- once the server has ended, more lines change nothing
+pub stays_ended : {S : Type 0} (respond : Server S) (s : S) (xs ys : List LineSeen)
+    → (responses respond s xs).ends ≡ true → responses respond s (xs ++ ys) ≡ responses respond s xs
+stays_ended respond s [] ys h = cc
+stays_ended {S} respond s (x ∷ xs) ys h =
+    by (λ k. stays_ended respond (respond s x).state xs ys k) (respond s x).ends refl
+  where
+    by : ((responses respond (respond s x).state xs).ends ≡ true
+        → responses respond (respond s x).state (xs ++ ys) ≡ responses respond (respond s x).state xs)
+        → (b : Bool) → (respond s x).ends ≡ b → responses respond s (x ∷ (xs ++ ys)) ≡ responses respond s (x ∷ xs)
+    by on true e = stops (respond s x) (responses respond (respond s x).state (xs ++ ys)) e
+        ∙ sym (stops (respond s x) (responses respond (respond s x).state xs) e)
+    by on false e =
+        let p = passes (respond s x) (responses respond (respond s x).state xs) e in
+        let k : (responses respond (respond s x).state xs).ends ≡ true = ap (λ (v : Response S). v.ends) (sym p) ∙ h in
+        passes (respond s x) (responses respond (respond s x).state (xs ++ ys)) e
+        ∙ ap (with_front (respond s x).text) (on k) ∙ sym p
+
+-- what did not end with lines did not end with the first of them
+pub had_not_ended : {S : Type 0} (respond : Server S) (s : S) (xs ys : List LineSeen)
+    → (responses respond s (xs ++ ys)).ends ≡ false → (responses respond s xs).ends ≡ false
+had_not_ended {S} respond s xs ys h = by (responses respond s xs).ends refl
+  where
+    by : (b : Bool) → (responses respond s xs).ends ≡ b → (responses respond s xs).ends ≡ false
+    by true e = let k = ap (λ (v : Response S). v.ends) (stays_ended respond s xs ys e) in
+        let t : true ≡ false = sym e ∙ sym k ∙ h in cc
+    by false e = e
+
+-- of two beginnings of a list the shorter is a beginning of the longer
+pub shorter_first : (xs ys us vs : List LineSeen) → xs ++ ys ≡ us ++ vs → length xs ≤ length us → GoesOn xs us
+shorter_first [] ys us vs e h = (us, refl)
+shorter_first (x ∷ xs) ys [] vs e h = absurd (omega arith)
+shorter_first (x ∷ xs) ys (u ∷ us) vs e h =
+    let heads : x ≡ u = cc in
+    let tails : xs ++ ys ≡ us ++ vs = cc in
+    let rest = shorter_first xs ys us vs tails (omega arith) in
+    (rest.0, ap (λ v. v ∷ us) (sym heads) ∙ ap (λ v. x ∷ v) rest.1)
+
+-- the lines that were complete before the last read are the first of those that were read
+pub early_first : (at_end : Bool) (n : ℕ) (text : List ℕ)
+    → GoesOn (whole COMMAND_LEN (before_piece n text)) (stream_lines COMMAND_LEN at_end text)
+early_first at_end n text =
+    subst (λ v. GoesOn (whole COMMAND_LEN (before_piece n text)) (stream_lines COMMAND_LEN at_end v))
+    (take-append-drop (length text - n) text)
+    (first_lines COMMAND_LEN at_end (before_piece n text) (drop (length text - n) text))
+
+-- the lines that were complete before the last read did not end the server, where those before a later one did not
+pub early_goes_on : {S : Type 0} (respond : Server S) (s : S) (at_end : Bool) (n : ℕ) (text : List ℕ)
+    (done : List LineSeen) (line : LineSeen) (after : List LineSeen)
+    → stream_lines COMMAND_LEN at_end text ≡ done ++ line ∷ after → (responses respond s done).ends ≡ false
+    → length (whole COMMAND_LEN (before_piece n text)) ≤ length done
+    → (responses respond s (whole COMMAND_LEN (before_piece n text))).ends ≡ false
+early_goes_on respond s at_end n text done line after lines goes_on few =
+    let first = early_first at_end n text in
+    let within = shorter_first _ first.0 done (line ∷ after) (sym first.1 ∙ lines) few in
+    had_not_ended respond s _ within.0 (ap (λ v. (responses respond s v).ends) (sym within.1) ∙ goes_on)

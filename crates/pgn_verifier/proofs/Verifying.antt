@@ -1,0 +1,133 @@
+-- What verifying reads and writes, from what its parts did to the devices.
+use Rattle.std.proofs.Common.{◌≡◌, ℕ, Bool, true, false, List, [], Result, Ok, Err, IsErr, refl}
+use Rattle.std.specs.Prelude.{IfErr}
+use Rattle.byte_devices.specs.Devices.{InputState, OutputState, Took, Sent, BreaksOff}
+use Rattle.byte_devices.specs.Transfers.{InputGave, Ran, all_of, all_unflushed, nothing}
+use Rattle.byte_devices.proofs.Transferred.{came, broke, took_nothing, took_all, took_unflushed, took_some}
+use Rattle.pgn_pieces.specs.Pieces.{HasRead, BrokeOff, IsCause}
+use Rattle.pgn_pieces.specs.declared.pieces.PieceFault.{PieceFault}
+use Rattle.pgn_pieces.specs.declared.pieces.PieceFault.TheVariants as piece
+use Rattle.pgn_verifier.specs.declared.fault.VerifyFault.{VerifyFault}
+use Rattle.pgn_verifier.specs.declared.fault.VerifyFault.TheVariants.{ReadFailed, WriteFailed, NoMemory, InputTooLong}
+use Rattle.pgn_verifier.specs.declared.options.VerifyOptions.{VerifyOptions}
+use Rattle.pgn_verifier.specs.declared.tally.Verified.{Verified}
+use Rattle.pgn_verifier.specs.Reports.{counts_of, verified}
+use Rattle.pgn_verifier.specs.Verify.{Verifies, text_lines}
+use Rattle.pgn_verifier.specs.Collection.{VerifiesCollection, collection_reports, collection_lines, collection_text}
+use Rattle.pgn_verifier.specs.ties.Faults.{piece_fault}
+use Rattle.pgn_verifier.specs.ties.OnTheWay.{IsAll, IsNotAll, WritesText}
+
+gave : (r r' : InputState) (text : List ℕ) (ended : Bool) → HasRead ended r r' text
+    → InputGave r r' (came r' text ended false)
+gave r r' text ended h =
+    record { bytes = h.bytes; early = refl; at_end = h.at_end; ends = h.ends; failures = h.failures }
+
+gave_before_a_fault : (r r' : InputState) (text : List ℕ) → BrokeOff r r' text
+    → InputGave r r' (came r' text false true)
+gave_before_a_fault r r' text h =
+    record { bytes = h.bytes; early = refl; at_end = λ e. cc; ends = h.ends; failures = h.failures }
+
+-- ---- a text
+
+not_all_read : (options : VerifyOptions) (r r' : InputState) (w : OutputState) (fault : VerifyFault)
+    → IsNotAll r r' fault
+    → Ran (Verifies options (Err fault)) (record { input = r; output = w }) (record { input = r'; output = w })
+not_all_read options r r' w ReadFailed (text, broke_off) = (
+  came r' text false true,
+  nothing,
+  gave_before_a_fault r r' text broke_off,
+  took_nothing w,
+  ((refl, refl), refl),
+)
+not_all_read options r r' w WriteFailed none = absurd none
+not_all_read options r r' w NoMemory (text, read) =
+    (came r' text false false, nothing, gave r r' text false read, took_nothing w, (refl, (λ e. cc), refl))
+not_all_read options r r' w InputTooLong (text, read, long) =
+    (came r' text false false, nothing, gave r r' text false read, took_nothing w, (refl, refl, long, refl))
+
+pub not_all_exit : (options : VerifyOptions) (r r' : InputState) (w : OutputState)
+    (result : Result Verified VerifyFault) → IsErr result → IfErr result (λ fault. IsNotAll r r' fault)
+    → Ran (Verifies options result) (record { input = r; output = w }) (record { input = r'; output = w })
+not_all_exit options r r' w (Ok verdict) is h = cc
+not_all_exit options r r' w (Err fault) is h = not_all_read options r r' w fault h
+
+pub no_memory : (options : VerifyOptions) (r r' : InputState) (w : OutputState) (text : List ℕ) → IsAll r r' text
+    → Ran (Verifies options (Err NoMemory)) (record { input = r; output = w }) (record { input = r'; output = w })
+no_memory options r r' w text (read, few) =
+    (came r' text true false, nothing, gave r r' text true read, took_nothing w, (refl, (λ e. few), refl))
+
+pub text_verified : (E : Type 0) (options : VerifyOptions) (r r' : InputState) (w w' : OutputState) (text : List ℕ)
+    (verdict : Verified) → IsAll r r' text → WritesText {E = E} options text w w' (Ok verdict)
+    → Ran (Verifies options (Ok verdict)) (record { input = r; output = w }) (record { input = r'; output = w' })
+text_verified E options r r' w w' text verdict (read, few) (is, sent) = (
+  came r' text true false,
+  all_of (text_lines options text),
+  gave r r' text true read,
+  took_all w w' (text_lines options text) sent,
+  ((refl, refl), few, refl, is),
+)
+
+pub text_broke_off : (options : VerifyOptions) (r r' : InputState) (w w' : OutputState) (text : List ℕ)
+    → IsAll r r' text → BreaksOff w w' (text_lines options text)
+    → Ran (Verifies options (Err WriteFailed)) (record { input = r; output = w }) (record { input = r'; output = w' })
+text_broke_off options r r' w w' text (read, few) (start, begins, failed) = (
+  came r' text true false,
+  broke [] start,
+  gave r r' text true read,
+  took_some w w' start failed,
+  ((refl, refl), few, (refl, begins, refl)),
+)
+
+-- ---- a collection
+
+pub collection_verified : (options : VerifyOptions) (r r' : InputState) (w w' : OutputState) (text : List ℕ)
+    (verdict : Verified) → HasRead true r r' text → Sent w w' (collection_text options true text)
+    → verdict ≡ verified (counts_of (collection_reports options.strict true text))
+    → Ran (VerifiesCollection options (Ok verdict)) (record { input = r; output = w })
+    (record { input = r'; output = w' })
+collection_verified options r r' w w' text verdict read sent is = (
+  came r' text true false,
+  all_of (collection_text options true text),
+  gave r r' text true read,
+  took_all w w' (collection_text options true text) sent,
+  ((refl, refl), refl, is),
+)
+
+pub collection_broke_off : (options : VerifyOptions) (r r' : InputState) (w w' : OutputState) (ended : Bool)
+    (text : List ℕ) → HasRead ended r r' text → BreaksOff w w' (collection_text options ended text)
+    → Ran (VerifiesCollection options (Err WriteFailed)) (record { input = r; output = w })
+    (record { input = r'; output = w' })
+collection_broke_off options r r' w w' ended text read (start, begins, failed) = (
+  came r' text ended false,
+  broke [] start,
+  gave r r' text ended read,
+  took_some w w' start failed,
+  (refl, (refl, begins, refl)),
+)
+
+-- the lines of the pieces whose end was read were written before reading stopped
+pub reading_stopped : (options : VerifyOptions) (r r' : InputState) (w w' : OutputState) (text : List ℕ)
+    (fault : PieceFault) → IsCause r r' text fault → Took w w' (collection_lines options false text)
+    → Ran (VerifiesCollection options (Err (piece_fault fault))) (record { input = r; output = w })
+    (record { input = r'; output = w' })
+reading_stopped options r r' w w' text piece.ReadFailed broke_off took = (
+  came r' text false true,
+  all_unflushed (collection_lines options false text),
+  gave_before_a_fault r r' text broke_off,
+  took_unflushed w w' (collection_lines options false text) took,
+  ((refl, refl), (refl, refl)),
+)
+reading_stopped options r r' w w' text piece.NoMemory read took = (
+  came r' text false false,
+  all_unflushed (collection_lines options false text),
+  gave r r' text false read,
+  took_unflushed w w' (collection_lines options false text) took,
+  (refl, (refl, refl)),
+)
+reading_stopped options r r' w w' text piece.InputTooLong (read, many) took = (
+  came r' text false false,
+  all_unflushed (collection_lines options false text),
+  gave r r' text false read,
+  took_unflushed w w' (collection_lines options false text) took,
+  (refl, many, (refl, refl)),
+)

@@ -1,0 +1,44 @@
+-- Each way out gives what passed at the devices (Verifying.not_all_exit and those after it).
+use Rattle.std.proofs.Common.{rules, Ok}
+use Rattle.std.specs.Prelude.{IfErr}
+use Rattle.byte_devices.specs.Devices.{BreaksOff}
+use Rattle.byte_devices.specs.declared.traits.WriteFault.{WriteFault}
+use Rattle.pgn_verifier.specs.Verify.{text_lines}
+use Rattle.pgn_verifier.specs.ties.OnTheWay.{IsNotAll, WritesText}
+use Rattle.pgn_verifier.proofs.Verifying.{not_all_exit, no_memory, text_verified, text_broke_off}
+use Rattle.pgn_verifier.proofs.buffered.verify.Goals as goal
+
+pub returns-in_err-text : goal.returns-in_err-text
+returns-in_err-text g c =
+    let r = g.R.Input.seen c.args.input.now in
+    let r' = g.R.Input.seen c.read_all.new.input in
+    let why : IfErr c.from_residual.result (λ fault. IsNotAll r r' fault) = search rules in
+    not_all_exit c.args.options r r' (g.W.Output.seen c.args.output.now) c.from_residual.result
+    c.from_residual.ensures.0 why
+
+pub returns-in_default : goal.returns-in_default
+returns-in_default g c =
+    no_memory c.args.options (g.R.Input.seen c.args.input.now) (g.R.Input.seen c.read_all.new.input)
+    (g.W.Output.seen c.args.output.now) c.in_ok-text.text.items c.in_ok-text.ensures.all
+
+pub returns-in_default-open_game : goal.returns-in_default-open_game
+returns-in_default-open_game g c =
+    no_memory c.args.options (g.R.Input.seen c.args.input.now) (g.R.Input.seen c.read_all.new.input)
+    (g.W.Output.seen c.args.output.now) c.in_ok-text.text.items c.in_ok-text.ensures.all
+
+pub returns-in-Ok-finish : goal.returns-in-Ok-finish
+returns-in-Ok-finish g c =
+    let w = g.W.Output.seen c.args.output.now in
+    let w' = g.W.Output.seen c.finish.new.output in
+    let written : WritesText {E = WriteFault} c.args.options c.in_ok-text.text.items w w' (Ok c.in-Ok-finish.verified)
+    = search rules in
+    text_verified WriteFault c.args.options (g.R.Input.seen c.args.input.now) (g.R.Input.seen c.read_all.new.input) w w'
+    c.in_ok-text.text.items c.in-Ok-finish.verified c.in_ok-text.ensures.all written
+
+pub returns : goal.returns
+returns g c =
+    let w = g.W.Output.seen c.args.output.now in
+    let w' = g.W.Output.seen c.finish.new.output in
+    let written : BreaksOff w w' (text_lines c.args.options c.in_ok-text.text.items) = search rules in
+    text_broke_off c.args.options (g.R.Input.seen c.args.input.now) (g.R.Input.seen c.read_all.new.input) w w'
+    c.in_ok-text.text.items c.in_ok-text.ensures.all written
