@@ -1,5 +1,5 @@
 -- A fault's offset is in the text, and not before the offset where reading began.
-use Rattle.std.proofs.Common.{◌≡◌, ℕ, zero, suc, ◌-◌, ◌≤◌, Bool, true, eqb, List, [], ◌∷◌, length, take, drop, Option, Result, Ok, Err, IfErr, ap, arith}
+use Rattle.std.proofs.Common.{◌≡◌, ℕ, zero, suc, ◌-◌, ◌≤◌, Bool, true, eqb, List, [], ◌∷◌, length, take, drop, Option, Result, Ok, Err, IfErr, sym, ap, subst, arith}
 use Rattle.std.specs.Prelude.{codes, is_some, nat_lt, ◌&&◌}
 use Rattle.std.specs.Str.{bytes_eq}
 use Rattle.std.proofs.lemmas.Bool.{and_parts}
@@ -17,11 +17,13 @@ use Rattle.chess_pgn.specs.declared.read.PgnEnd.{PgnEnd}
 use Rattle.chess_pgn.specs.declared.read.PgnFault.{PgnFault}
 use Rattle.chess_pgn.specs.declared.word_kind.WordKind.{WordKind}
 use Rattle.chess_pgn.specs.declared.word_kind.WordKind.TheVariants.{End, Number, Marks, Move}
-use Rattle.chess_pgn.specs.GameRead.{SoFar, GameRead, Step, On, Stop, unless_full, move_step, word_step, fen_step, tag_step, step, read_rest_with, game_of, at_text_end, nothing_read, tagged_variant, pgn_read}
+use Rattle.chess_pgn.specs.GameRead.{GameRead, tagged_variant}
+use Rattle.chess_pgn.specs.laws.TokenByToken.{SoFar, Step, On, Stop, unless_full, move_step, word_step, fen_step, tag_step, step, read_rest_with, game_of, at_text_end, nothing_read, tokens_read}
 use Rattle.chess_pgn.specs.ties.GameSteps.{IsWithin}
 use Rattle.chess_pgn.specs.laws.Offsets.{FaultsHaveOffsets}
 use Rattle.chess_pgn.specs.Tokens.{Token, Skip, Tag, Word, Bad_tag, Unclosed_comment, Unclosed_variation, Bad, token_at, tokens_of, after_byte_order_mark, begins_line, tokens_from}
 use Rattle.chess_pgn.specs.Words.{word_kind}
+use Rattle.chess_pgn.proofs.GamesByTags.{reads_alike}
 use Rattle.chess_pgn.proofs.Cuts.{pick}
 use Rattle.chess_pgn.proofs.TokenPlaces.{within}
 use Rattle.chess_pgn.proofs.Walk.{shorter}
@@ -126,9 +128,11 @@ not_before text at h = pick (λ (n : ℕ). (at ≤ n) × (n ≤ length text))
         let few = length-take 3 text in
         (omega (arith, none), omega (arith, same, few))
 
-pub fault_in_place : FaultsHaveOffsets
-unfolding pgn_read tokens_from
-fault_in_place limit text at h =
+in_place : (limit : ℕ) (text : List ℕ) (at : ℕ) → at ≤ length text
+    → IfErr (tokens_read limit (length text) (tokens_from text (after_byte_order_mark text at))).answer
+    (λ f. (at ≤ f.offset) × (f.offset ≤ length text))
+unfolding tokens_from
+in_place limit text at h =
     let offset : ℕ = after_byte_order_mark text at in
     let g : SoFar = nothing_read (tagged_variant (tokens_from text offset)) in
     let later = not_before text at h in
@@ -138,3 +142,8 @@ fault_in_place limit text at h =
     let near : at ≤ length text - length (drop offset text) = omega (arith, low, high, left) in
     further at (length text - length (drop offset text)) (length text) _ near
     (game_in limit (length text) (length text) (begins_line text offset) g (drop offset text))
+
+pub fault_in_place : FaultsHaveOffsets
+fault_in_place limit text at h =
+    subst (λ (r : GameRead). IfErr r.answer (λ f. (at ≤ f.offset) × (f.offset ≤ length text)))
+    (sym (reads_alike limit text at)) (in_place limit text at h)

@@ -21,10 +21,12 @@ use Rattle.chess_text.specs.declared.reading.Reading.TheVariants as reads
 use Rattle.chess_text.specs.Moves.{reading}
 use Rattle.chess_pgn.specs.Words.{word_kind}
 use Rattle.chess_pgn.specs.Tokens.{Token, Skip, Tag, Word, Bad_tag, Unclosed_comment, Unclosed_variation, Bad, after_byte_order_mark, after_brace, token_at, begins_line, tokens_from}
-use Rattle.chess_pgn.specs.GameRead.{SoFar, Step, On, Stop, unless_full, move_step, word_step, fen_step, tag_step, step, read_rest_with, game_of, nothing_read, tagged_variant, tokens_read, pgn_read}
+use Rattle.chess_pgn.specs.GameRead.{tagged_variant, pgn_read}
+use Rattle.chess_pgn.specs.laws.TokenByToken.{SoFar, Step, On, Stop, unless_full, move_step, word_step, fen_step, tag_step, step, read_rest_with, game_of, nothing_read, tokens_read}
 use Rattle.chess_pgn.specs.LastTags.{may_precede_tags, named_tag}
 use Rattle.chess_pgn.specs.ties.GameSteps.{so_far, begun, IsReadOn, ReadsAlike, IsTaken, GoesOn, step_seen}
 use Rattle.chess_pgn.specs.ties.Seen.{SkipsTo}
+use Rattle.chess_pgn.proofs.GamesByTags.{reads_alike}
 use Rattle.chess_pgn.proofs.Cuts.{pick}
 use Rattle.chess_pgn.proofs.SkippedTokens.{skips_alike, skips_say}
 use Rattle.chess_pgn.proofs.TagScans.{variant_or, variant_said, variant_from, variants_are}
@@ -108,13 +110,13 @@ pub record Reads (limit : ℕ) (text : List ℕ) (from : ℕ) (game : Seen) (pro
 pub read_from : (limit : ℕ) (game : Seen) (p : Progress) (text : List ℕ) (from begin here : ℕ)
     → IsReadOn limit text begin game p here → game.limit ≡ limit → begin ≡ after_byte_order_mark text from
     → from ≤ begin → Reads limit text from game p here
-unfolding pgn_read
 read_from limit game p text from begin here r same is onward = record {
   forward = (let before = r.forward in omega (arith, before, onward));
   offset = r.offset;
   undeclared = r.undeclared;
   same_limit = same;
-  whole = r.whole ∙ ap (λ n. tokens_read limit (length text) (tokens_from text n)) is;
+  whole = r.whole ∙ ap (λ n. tokens_read limit (length text) (tokens_from text n)) is
+      ∙ sym (reads_alike limit text from);
 }
 
 -- what was read of a game before its first token

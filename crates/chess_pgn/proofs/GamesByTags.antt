@@ -20,12 +20,13 @@ use Rattle.chess_text.specs.declared.reading.Reading.TheVariants as reads
 use Rattle.chess_text.specs.Moves.{reading}
 use Rattle.chess_pgn.specs.declared.termination.Termination.{Termination}
 use Rattle.chess_pgn.specs.Terminations.{termination_named}
-use Rattle.chess_pgn.specs.GameRead.{GameRead, SoFar, Step, On, word_step, move_step, fen_step, step, read_rest_with, game_of, termination_after, tagged_variant, tokens_read, pgn_read}
+use Rattle.chess_pgn.specs.GameRead.{GameRead, tagged_variant, pgn_read, Passes, Ends, failed, move_row, row, after_row, moves_read, is_tag, tags_named, fens, last_start, first_bad_fen, after_tags, read_of_split}
+use Rattle.chess_pgn.specs.laws.TokenByToken.{SoFar, Step, On, word_step, move_step, fen_step, step, read_rest_with, game_of, termination_after, tokens_read}
+use Rattle.chess_pgn.specs.laws.TagsAndMoves.{IsRead}
 use Rattle.chess_pgn.specs.LastTags.{may_precede_tags, is_marks}
 use Rattle.chess_pgn.specs.Words.{outcome_of}
 use Rattle.chess_pgn.specs.Tokens.{Token, Skip, Tag, Word, Bad_tag, Unclosed_comment, Unclosed_variation, Bad, tokens_from, after_byte_order_mark}
 use Rattle.chess_pgn.proofs.FenVariants.{initial_variant, read_variant}
-use Rattle.chess_pgn.specs.laws.TagsAndMoves.{Passes, Ends, failed, move_row, row, after_row, moves_read, is_tag, tags_named, fens, last_start, first_bad_fen, after_tags, read_of_split, IsRead}
 use Rattle.chess_pgn.proofs.TokenSplits.{read_split, split_read}
 
 -- ---- after the tags
@@ -367,13 +368,19 @@ tokens_are limit total ts =
     (tags_pass p ts))
     ∙ ap (game_of limit total (opened false None (initial_setup_of v))) (rest_is p ts)
 
--- what is read of a text token by token
+-- what is read of a text is what is read of it token by token
+pub reads_alike : (limit : ℕ) (text : List ℕ) (at : ℕ)
+    → pgn_read limit text at ≡ tokens_read limit (length text) (tokens_from text (after_byte_order_mark text at))
+unfolding pgn_read
+reads_alike limit text at = tokens_are limit (length text) (tokens_from text (after_byte_order_mark text at))
+
+-- it is what the only split of the text says
 pub is_read : (limit : ℕ) (text : List ℕ) (at : ℕ) → IsRead limit text at (pgn_read limit text at)
 unfolding pgn_read
 is_read limit text at = record {
   tokens = tokens_from text (after_byte_order_mark text at);
   split = read_split text (after_byte_order_mark text at);
-  is = sym (tokens_are limit (length text) (tokens_from text (after_byte_order_mark text at)));
+  is = refl;
 }
 
 -- and nothing else
@@ -382,4 +389,3 @@ pub only_read : (limit : ℕ) (text : List ℕ) (at : ℕ) (r : GameRead) → Is
 unfolding pgn_read
 only_read limit text at r h =
     h.is ∙ ap (read_of_split limit (length text)) (split_read text h.split)
-    ∙ tokens_are limit (length text) (tokens_from text (after_byte_order_mark text at))

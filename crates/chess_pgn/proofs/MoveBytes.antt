@@ -1,5 +1,5 @@
 -- A half-move takes at least a byte of its game's text.
-use Rattle.std.proofs.Common.{ℕ, zero, suc, ◌+◌, ◌-◌, ◌≤◌, Bool, eqb, List, [], ◌∷◌, ◌++◌, length, drop, Option, Some, None, IfSome, IfOk, Result, Ok, Err, arith}
+use Rattle.std.proofs.Common.{ℕ, zero, suc, ◌+◌, ◌-◌, ◌≤◌, Bool, eqb, List, [], ◌∷◌, ◌++◌, length, drop, Option, Some, None, IfSome, IfOk, Result, Ok, Err, sym, subst, arith}
 use Rattle.std.specs.Prelude.{codes, is_some, nat_lt}
 use Rattle.std.specs.Str.{bytes_eq}
 use Rattle.std.proofs.lemmas.List.{length-append, length-drop}
@@ -15,10 +15,12 @@ use Rattle.chess_pgn.specs.declared.read.PgnEnd.{PgnEnd}
 use Rattle.chess_pgn.specs.declared.read.PgnFault.{PgnFault}
 use Rattle.chess_pgn.specs.declared.word_kind.WordKind.{WordKind}
 use Rattle.chess_pgn.specs.declared.word_kind.WordKind.TheVariants.{End, Number, Marks, Move}
-use Rattle.chess_pgn.specs.GameRead.{SoFar, GameRead, Step, On, Stop, unless_full, move_step, word_step, fen_step, tag_step, step, read_rest_with, game_of, at_text_end, nothing_read, tagged_variant, pgn_read}
+use Rattle.chess_pgn.specs.GameRead.{GameRead, tagged_variant}
+use Rattle.chess_pgn.specs.laws.TokenByToken.{SoFar, Step, On, Stop, unless_full, move_step, word_step, fen_step, tag_step, step, read_rest_with, game_of, at_text_end, nothing_read, tokens_read}
 use Rattle.chess_pgn.specs.laws.Offsets.{HalfMovesHaveBytes}
 use Rattle.chess_pgn.specs.Tokens.{Token, Skip, Tag, Word, Bad_tag, Unclosed_comment, Unclosed_variation, Bad, token_at, tokens_of, after_byte_order_mark, begins_line, tokens_from}
 use Rattle.chess_pgn.specs.Words.{word_kind}
+use Rattle.chess_pgn.proofs.GamesByTags.{reads_alike}
 use Rattle.chess_pgn.proofs.Cuts.{pick}
 use Rattle.chess_pgn.proofs.FaultPlaces.{not_before}
 use Rattle.chess_pgn.proofs.Walk.{shorter}
@@ -114,9 +116,11 @@ sooner at first moves (Ok None) h f = tt
 sooner at first moves (Ok (Some e)) h f = omega (arith, h, f)
 sooner at first moves (Err x) h f = tt
 
-pub half_moves_have_bytes : HalfMovesHaveBytes
-unfolding pgn_read tokens_from
-half_moves_have_bytes limit text at h =
+have_bytes : (limit : ℕ) (text : List ℕ) (at : ℕ) → at ≤ length text
+    → let r = tokens_read limit (length text) (tokens_from text (after_byte_order_mark text at)) in
+    IfOk r.answer (λ o. IfSome o (λ e. length r.state.moves + at ≤ e.offset))
+unfolding tokens_from
+have_bytes limit text at h =
     let offset : ℕ = after_byte_order_mark text at in
     let g : SoFar = nothing_read (tagged_variant (tokens_from text offset)) in
     let inside = not_before text at h in
@@ -127,3 +131,8 @@ half_moves_have_bytes limit text at h =
     let near : at ≤ length text - length (drop offset text) = omega (arith, low, high, left) in
     sooner at (length text - length (drop offset text)) _ _ near
     (game_fits limit (length text) (length text) (begins_line text offset) g (drop offset text) few)
+
+pub half_moves_have_bytes : HalfMovesHaveBytes
+half_moves_have_bytes limit text at h =
+    subst (λ (r : GameRead). IfOk r.answer (λ o. IfSome o (λ e. length r.state.moves + at ≤ e.offset)))
+    (sym (reads_alike limit text at)) (have_bytes limit text at h)

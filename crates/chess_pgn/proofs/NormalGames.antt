@@ -14,12 +14,14 @@ use Rattle.chess_text.specs.Moves.{reading}
 use Rattle.chess_pgn.specs.declared.read.PgnFaultKind.TheVariants.{NoResult}
 use Rattle.chess_pgn.specs.declared.word_kind.WordKind.{WordKind}
 use Rattle.chess_pgn.specs.declared.word_kind.WordKind.TheVariants.{End, Number, Marks, Move}
-use Rattle.chess_pgn.specs.GameRead.{SoFar, Step, On, Stop, fails, fen_step, tag_step, move_step, word_step, step, unless_full, read_rest_with, game_of, nothing_read, pgn_read, termination_after}
+use Rattle.chess_pgn.specs.GameRead.{pgn_read}
+use Rattle.chess_pgn.specs.laws.TokenByToken.{SoFar, Step, On, Stop, fails, fen_step, tag_step, move_step, word_step, step, unless_full, read_rest_with, game_of, nothing_read, termination_after}
 use Rattle.chess_pgn.specs.GameText.{start_lines_in, last_lines}
 use Rattle.chess_pgn.specs.LastTags.{is_marks}
 use Rattle.chess_pgn.specs.laws.Normal.{normal_tag_step, normal_step, normal_game_of, normal_read, is_mark_word, names_no_variant, NormalIsKept}
 use Rattle.chess_pgn.specs.Tokens.{Token, Skip, Tag, Word, Bad_tag, Unclosed_comment, Unclosed_variation, Bad, after_byte_order_mark, tokens_from}
 use Rattle.chess_pgn.specs.Words.{word_kind}
+use Rattle.chess_pgn.proofs.GamesByTags.{reads_alike}
 use Rattle.chess_pgn.proofs.Cuts.{pick}
 use Rattle.chess_pgn.proofs.TagScans.{variant_from, variants_are}
 use Rattle.chess_pgn.proofs.FenVariants.{read_variant, initial_variant}
@@ -132,10 +134,10 @@ initial_is = refl
 
 read_so : (limit : ℕ) (text : List ℕ) (at : ℕ) → names_no_variant (tokens_from text (after_byte_order_mark text at))
     ≡ true → pgn_read limit text at ≡ normal_read limit (length text) (tokens_from text (after_byte_order_mark text at))
-unfolding pgn_read
 read_so limit text at none =
     let tokens : List (ℕ × Token) = tokens_from text (after_byte_order_mark text at) in
-    ap (λ v. game_of limit (length text) (nothing_read v) tokens) (sym (variants_are tokens) ∙ normal_said tokens none)
+    reads_alike limit text at
+    ∙ ap (λ v. game_of limit (length text) (nothing_read v) tokens) (sym (variants_are tokens) ∙ normal_said tokens none)
     ∙ same_game limit (length text) (nothing_read Normal) tokens (initial_variant Normal)
     ∙ ap (λ p. normal_game_of limit (length text)
     (record { state = from_start p; is_met = false; is_begun = false; termination = None }) tokens) initial_is

@@ -26,10 +26,12 @@ use Rattle.chess_pgn.specs.declared.read.PgnFaultKind.TheVariants.{BadFen, BadTo
 use Rattle.chess_pgn.specs.declared.termination.Termination.{Termination}
 use Rattle.chess_pgn.specs.declared.word_kind.WordKind.{WordKind}
 use Rattle.chess_pgn.specs.declared.word_kind.WordKind.TheVariants.{End, Number, Marks, Move}
-use Rattle.chess_pgn.specs.GameRead.{SoFar, GameRead, Step, On, Stop, game_of, read_rest_with, step, nothing_read, tagged_variant, pgn_read, move_step, word_step, tag_step, fen_step, fails, unless_full, termination_after}
+use Rattle.chess_pgn.specs.GameRead.{GameRead, tagged_variant, pgn_read}
+use Rattle.chess_pgn.specs.laws.TokenByToken.{SoFar, Step, On, Stop, game_of, read_rest_with, step, nothing_read, move_step, word_step, tag_step, fen_step, fails, unless_full, termination_after}
 use Rattle.chess_pgn.specs.laws.GameOfTokens.{begins, counts, is_fen, can_be_taken, can_all_be_taken, if_move, move_words_of, move_words, start_by, tagged_start, termination_by_token, tagged_termination, AreReadAs, unless_closed, move_fault, word_fault, fault_at, token_fault, StopsAt, IsOfTokens, is_number_or_move, is_outcome}
 use Rattle.chess_pgn.specs.Tokens.{Token, Skip, Tag, Word, Bad_tag, Unclosed_comment, Unclosed_variation, Bad, after_byte_order_mark, tokens_from}
 use Rattle.chess_pgn.specs.Words.{word_kind}
+use Rattle.chess_pgn.proofs.GamesByTags.{reads_alike}
 use Rattle.chess_pgn.proofs.FenVariants.{read_variant, initial_variant}
 
 -- ---- tests
@@ -382,11 +384,11 @@ module _ (limit total : ℕ) (v : Variant) where
 pub game_of_tokens : (limit : ℕ) (text : List ℕ) (at : ℕ)
     → IsOfTokens limit (length text) (tagged_variant (tokens_from text (after_byte_order_mark text at)))
     (tokens_from text (after_byte_order_mark text at)) (pgn_read limit text at)
-unfolding pgn_read
 game_of_tokens limit text at =
     let tokens : List (ℕ × Token) = tokens_from text (after_byte_order_mark text at) in
     let v : Variant = tagged_variant tokens in
-    of_tokens limit (length text) v tokens [] tokens (nothing_read v) refl
+    subst (IsOfTokens limit (length text) v tokens) (sym (reads_alike limit text at))
+    (of_tokens limit (length text) v tokens [] tokens (nothing_read v) refl
     (record {
       can_be = refl;
       start = refl;
@@ -397,4 +399,4 @@ game_of_tokens limit text at =
       begun = refl;
       said = refl;
       fresh = λ e. (refl, refl);
-    })
+    }))

@@ -18,7 +18,8 @@ use Rattle.chess_game.specs.Results.{outcome_text}
 use Rattle.chess_game.specs.declared.results.Outcome.{Outcome}
 use Rattle.chess_game.specs.declared.results.Outcome.TheVariants.{WhiteWins, BlackWins, Draw, Unfinished}
 use Rattle.chess_pgn.specs.declared.termination.Termination.{Termination}
-use Rattle.chess_pgn.specs.GameRead.{SoFar, GameRead}
+use Rattle.chess_pgn.specs.GameRead.{GameRead}
+use Rattle.chess_pgn.specs.laws.TokenByToken.{SoFar}
 use Rattle.chess_pgn.specs.GameText.{number_token, move_tokens}
 use Rattle.chess_text.specs.San.{san}
 use Rattle.chess_pgn.specs.Tokens.{is_word_byte}

@@ -19,7 +19,8 @@ use Rattle.chess_game.specs.declared.results.Outcome.TheVariants.{WhiteWins, Bla
 use Rattle.chess_pgn.specs.declared.termination.Termination.{Termination}
 use Rattle.chess_pgn.specs.declared.termination.Termination.TheVariants as ending
 use Rattle.chess_pgn.specs.Terminations.{termination_text, termination_named}
-use Rattle.chess_pgn.specs.GameRead.{SoFar, GameRead, On, Stop, declared_after, move_step, word_step, fen_step, step, read_rest_with, game_of}
+use Rattle.chess_pgn.specs.GameRead.{GameRead, declared_after}
+use Rattle.chess_pgn.specs.laws.TokenByToken.{SoFar, On, Stop, move_step, word_step, fen_step, step, read_rest_with, game_of}
 use Rattle.chess_text.specs.Moves.{reading}
 use Rattle.chess_text.specs.San.{san}
 use Rattle.chess_pgn.specs.Tokens.{Token, Skip, Tag, Word, is_word_byte, token_at, tokens_of}

@@ -24,11 +24,13 @@ use Rattle.chess_game.specs.declared.results.Outcome.TheVariants.{WhiteWins, Bla
 use Rattle.chess_pgn.specs.declared.tags.Tags.{Tags}
 use Rattle.chess_pgn.specs.declared.termination.Termination.{Termination}
 use Rattle.chess_pgn.specs.Terminations.{termination_text, termination_of}
-use Rattle.chess_pgn.specs.GameRead.{SoFar, GameRead, declared_after, game_of, nothing_read, tokens_read, pgn_read}
+use Rattle.chess_pgn.specs.GameRead.{GameRead, declared_after, pgn_read}
+use Rattle.chess_pgn.specs.laws.TokenByToken.{SoFar, game_of, nothing_read, tokens_read}
 use Rattle.chess_pgn.specs.GameText.{fen_lines, start_lines_in, last_lines, further_lines, tag_lines, move_tokens, game_tokens, pgn}
 use Rattle.chess_pgn.specs.laws.PgnLaw.{AreTagTexts, IsReadBack, PgnIsReadBack}
 use Rattle.chess_pgn.specs.Tokens.{after_byte_order_mark, begins_line, tokens_of, tokens_from}
 use Rattle.chess_pgn.specs.Written.{tag_line, ended, filled_from}
+use Rattle.chess_pgn.proofs.GamesByTags.{reads_alike}
 use Rattle.chess_pgn.proofs.PgnMoves.{outcome_some, filled_long, outcome_read, read_so_far, moves_read}
 use Rattle.chess_pgn.proofs.PgnPieces.{read_on, TakesLine, empty_line, tagged, ended_game, plain_tag, termination_tag, fen_tag}
 use Rattle.chess_pgn.proofs.PgnTags.{tag_text_in_line}
@@ -212,11 +214,12 @@ read_after : (limit : ℕ) (before text : List ℕ) (v : Variant) → after_byte
     ≡ length before → said_on Normal (begins_line (before ++ text) (length before)) text ≡ v
     → pgn_read limit (before ++ text) (length before) ≡ read_on limit (length (before ++ text)) (nothing_read v)
     (begins_line (before ++ text) (length before)) text
-unfolding pgn_read tokens_from
+unfolding tokens_from
 read_after limit before text v offset said =
     let whole : List ℕ = before ++ text in
     let fewer : length text ≤ length whole = omega (arith, length-append before text) in
-    ap (λ at. tokens_read limit (length whole) (tokens_from whole at)) offset
+    reads_alike limit whole (length before)
+    ∙ ap (λ at. tokens_read limit (length whole) (tokens_from whole at)) offset
     ∙ ap (λ xs. tokens_read limit (length whole) (tokens_of (length whole) (begins_line whole (length before)) xs))
     (drop_at before text (length before) refl)
     ∙ ap (tokens_read limit (length whole))

@@ -4,7 +4,7 @@ use Rattle.std.proofs.Math.Seq.{drop-cons}
 use Rattle.std.proofs.lemmas.Bool.Decides.{nat_tests}
 use Rattle.std.proofs.lemmas.List.{length-drop}
 use Rattle.chess_base.specs.declared.man.Variant.{Variant}
-use Rattle.chess_pgn.specs.GameRead.{SoFar, game_of}
+use Rattle.chess_pgn.specs.laws.TokenByToken.{SoFar, game_of}
 use Rattle.chess_pgn.specs.Tokens.{Token, Skip, is_white_space, token_at, begins_line, tokens_from}
 use Rattle.chess_pgn.specs.ties.GameSteps.{ReadsAlike}
 use Rattle.chess_pgn.specs.ties.Seen.{SkipsTo}

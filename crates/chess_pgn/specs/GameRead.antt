@@ -1,43 +1,38 @@
--- A game read from a text (PGN standard of 1994, sections 7 to 9; which words are taken is this project's own). Token
--- after token: the tag FEN gives the start, a move's word its move by its reading in the position reached, and an
--- outcome ends the game. The first token that can't be taken is the fault, with its offset.
-use Rattle.std.specs.Prelude.{ℕ, ◌+◌, ◌-◌, nat_lt, ◌||◌, Bool, true, false, if◌then◌else◌, List, [], ◌∷◌, length, Option, Some, None, is_some, Result, Ok, Err, codes}
-use Rattle.std.specs.Option.{option_map_or}
-use Rattle.std.specs.Str.{bytes_eq, str_eq_ignore_ascii_case}
+-- What is read of a game's text (PGN standard of 1994, sections 7 to 9; which words are taken is this project's own): a
+-- game's tokens are its tags, and then its moves. The tags give the start, and each move's word denotes a move in the
+-- position reached by then. The first token that can't be taken is the fault.
+use Rattle.std.specs.Prelude.{ℕ, ◌+◌, ◌-◌, nat_lt, Bool, true, false, not, ◌||◌, if◌then◌else◌, List, [], ◌∷◌, length, drop, map, codes, slice_get, Option, Some, None, is_some, Result, Ok, Err, option_and_then, ◌==◌}
+use Rattle.std.specs.List.{list_all, list_any, filter_map, last_or, take_while}
+use Rattle.std.specs.Option.{option_map_or, unwrap_or}
+use Rattle.std.specs.Result.{is_ok, result_ok}
+use Rattle.std.specs.Str.{str_eq_ignore_ascii_case}
 use Rattle.chess_base.specs.declared.fault.FenFault.{FenFault}
+use Rattle.chess_base.specs.declared.man.Move.{Move}
 use Rattle.chess_base.specs.declared.man.Variant.{Variant}
 use Rattle.chess_base.specs.declared.man.Variant.TheVariants.{Normal, Fischerandom}
 use Rattle.chess_base.specs.declared.setup.Setup.{Setup}
 use Rattle.chess_base.specs.Initial.{initial_setup_of}
+use Rattle.chess_base.specs.Letters.{byte, is_digit}
 use Rattle.chess_fen.specs.Reading.{fen_reading_as}
 use Rattle.chess_game.specs.Game.{State, from_start, played, with_declared, current, verdict_now}
-use Rattle.chess_game.specs.Results.{same_outcome}
 use Rattle.chess_game.specs.declared.results.Declared.{Declared}
 use Rattle.chess_game.specs.declared.results.Outcome.{Outcome}
 use Rattle.chess_game.specs.declared.results.Outcome.TheVariants.{Unfinished}
+use Rattle.chess_game.specs.Results.{same_outcome}
 use Rattle.chess_text.specs.declared.reading.Reading.{Reading}
 use Rattle.chess_text.specs.declared.reading.Reading.TheVariants as reads
+use Rattle.chess_text.specs.Moves.{reading}
 use Rattle.chess_pgn.specs.declared.read.PgnEnd.{PgnEnd}
 use Rattle.chess_pgn.specs.declared.read.PgnFault.{PgnFault}
 use Rattle.chess_pgn.specs.declared.read.PgnFaultKind.{PgnFaultKind}
 use Rattle.chess_pgn.specs.declared.read.PgnFaultKind.TheVariants.{BadTag, BadFen, BadToken, IllegalMove, AmbiguousMove, AfterEnd, TooLong, UnclosedComment, UnclosedVariation, NoResult}
-use Rattle.chess_pgn.specs.declared.word_kind.WordKind.{WordKind}
-use Rattle.chess_pgn.specs.declared.word_kind.WordKind.TheVariants.{End, Number, Marks, Move}
 use Rattle.chess_pgn.specs.declared.termination.Termination.{Termination}
-use Rattle.chess_text.specs.Moves.{reading}
-use Rattle.chess_pgn.specs.LastTags.{last_tag}
 use Rattle.chess_pgn.specs.Terminations.{termination_named}
+use Rattle.chess_pgn.specs.LastTags.{last_tag, may_precede_tags, named_tag}
 use Rattle.chess_pgn.specs.Tokens.{Token, Skip, Tag, Word, Bad_tag, Unclosed_comment, Unclosed_variation, Bad, after_byte_order_mark, tokens_from}
-use Rattle.chess_pgn.specs.Words.{word_kind}
+use Rattle.chess_pgn.specs.Words.{outcome_of}
 
--- what reading has found so far in a game's text: the game; whether there was a tag, number or move (`is_met`);
--- whether there was a number or move (`is_begun`), after which a tag belongs to the next game; and what its tag
--- Termination says
-pub record SoFar : Type 0 where
-  pub state : State
-  pub is_met : Bool
-  pub is_begun : Bool
-  pub termination : Option Termination
+-- ---- what is read in the end
 
 -- what reading gives in the end: the game, and either where it ended, or `None` if the text has no more games, or the
 -- fault
@@ -45,112 +40,122 @@ pub record GameRead : Type 0 where
   pub state : State
   pub answer : Result (Option PgnEnd) PgnFault
 
--- what follows from one token: reading goes on with the game so far, or stops with what was read
-pub data Step : Type 0 where
-  On : (game : SoFar) → Step
-  Stop : (read : GameRead) → Step
-
--- stops reading with a fault at an offset: the game keeps the moves that it has so far (`g`), and has no declared
--- result
-abbrev pub fails : SoFar → PgnFaultKind → ℕ → Step
-fails g kind offset = Stop (record { state = g.state; answer = Err (record { kind = kind; offset = offset }) })
-
--- ---- words
-
 -- what a game's outcome mark declares: its outcome, but nothing if the board has a verdict (the flag) or the mark is
 -- `*`
 abbrev pub declared_after : Bool → Outcome → Option Declared
 declared_after is_decided o =
     if is_decided || same_outcome o Unfinished then None else Some (record { outcome = o; comment = [] })
 
--- stops at the outcome mark `o`: the game is `g` with that outcome declared, and `offset` is that of the byte after
--- the mark
-abbrev pub ends : SoFar → Outcome → ℕ → Step
-ends g o offset = Stop (record {
-  state = with_declared g.state (declared_after (is_some (verdict_now g.state)) o);
-  answer = Ok (Some (record { outcome = o; termination = g.termination; offset = offset }));
-})
+-- the game `s` was read, and then there was this fault
+abbrev pub failed : State → PgnFault → GameRead
+failed s fault = record { state = s; answer = Err fault }
 
--- `next`, if one more move may be played in the game so far (`g`); else a fault at `offset`, that of the move's word:
--- AfterEnd if the board has a verdict, TooLong if the game has `limit` moves
-abbrev pub unless_full : ℕ → SoFar → ℕ → Step → Step
-unless_full limit g offset next =
-    if is_some (verdict_now g.state) then fails g AfterEnd offset
-    else (if nat_lt (length g.state.moves) limit then next else fails g TooLong offset)
+-- the game `s` was read, and then this outcome: it is declared, unless the board has a verdict or it is `*`; `offset`
+-- is the one after it
+abbrev pub finished : State → Outcome → Option Termination → ℕ → GameRead
+finished s o termination offset = record {
+  state = with_declared s (declared_after (is_some (verdict_now s)) o);
+  answer = Ok (Some (record { outcome = o; termination = termination; offset = offset }));
+}
 
--- what follows from a word that may be a move, by what it denotes in the current position: the move is played, or
--- there is a fault at the word's offset. `limit` is the most half-moves of a game
-abbrev pub move_step : ℕ → SoFar → ℕ → Reading → Step
-move_step limit g offset reads.NotAMove = fails g BadToken offset
-move_step limit g offset (reads.Move m) = unless_full limit g offset
-    (On (record g { state = played g.state m; is_met = true; is_begun = true }))
-move_step limit g offset reads.Ambiguous = unless_full limit g offset (fails g AmbiguousMove offset)
-move_step limit g offset reads.NoSuch = unless_full limit g offset (fails g IllegalMove offset)
+-- ---- after the tags: a row for each kind of token
 
--- what follows from a word of the given kind at the given offset: an outcome ends the game `g`, a number begins its
--- moves, marks such as `!?` are skipped, a move is played. `limit` is the most half-moves of a game
-abbrev pub word_step : ℕ → SoFar → ℕ → List ℕ → WordKind → Step
-word_step limit g offset word (End o) = ends g o (offset + length word)
-word_step limit g offset word Number = On (record g { is_met = true; is_begun = true })
-word_step limit g offset word Marks = On g
-word_step limit g offset word Move = move_step limit g offset (reading (current g.state) word)
+-- what a token does: it is passed over, its move is played, its outcome ends the game, or it can't be taken
+pub data Row : Type 0 where
+  Passes : Row
+  Plays : (m : Move) → Row
+  Ends : (o : Outcome) → Row
+  Fails : (kind : PgnFaultKind) → Row
 
--- ---- tags
+-- what a word that may be a move does by what it denotes, where a move may be played
+abbrev pub denoted_row : Reading → Row
+denoted_row (reads.Move m) = Plays m
+denoted_row reads.Ambiguous = Fails AmbiguousMove
+denoted_row reads.NoSuch = Fails IllegalMove
+denoted_row reads.NotAMove = Fails BadToken
 
--- what follows from a tag FEN, from how its text was read: the game starts at that position, or the fault is BadFen
--- with the FEN's own fault; `offset` is the offset of the tag's string
-abbrev pub fen_step : SoFar → ℕ → Result Setup FenFault → Step
-fen_step g offset (Ok start) = On (record g { state = from_start start; is_met = true })
-fen_step g offset (Err fault) = fails g (BadFen fault) offset
+-- a word that is no outcome, number or mark, in the game `s` of at most `limit` half-moves, by what it denotes in the
+-- current position: the one move that it denotes is played, unless the game is over or full
+abbrev pub move_row : ℕ → State → Reading → Row
+move_row limit s reads.NotAMove = Fails BadToken
+move_row limit s denoted =
+    if is_some (verdict_now s) then Fails AfterEnd
+    else if not (nat_lt (length s.moves) limit) then Fails TooLong
+    else denoted_row denoted
 
--- what the last tag Termination read so far says, once a tag with this name and text is read: what that tag says, if
--- its name is Termination, else `before`, what was known before it
-abbrev pub termination_after : Option Termination → List ℕ → List ℕ → Option Termination
-termination_after before name text = if bytes_eq name (codes "Termination") then termination_named text else before
+-- a word: an outcome such as `1-0`, a number (digits alone), marks (`!` and `?` alone), or else a move's
+abbrev pub word_row : ℕ → State → List ℕ → Row
+word_row limit s word = option_map_or Ends (outcome_of word)
+    (if list_all is_digit word then Passes
+    else if list_all (λ c. c == byte "!" || c == byte "?") word then Passes
+    else move_row limit s (reading (current s) word))
 
--- what follows from a tag with this name and text: FEN sets the start, what Termination says is kept, any other tag
--- changes nothing; `g` is the game so far, `offset` that of the tag's string
-abbrev pub tag_step : SoFar → List ℕ → List ℕ → ℕ → Step
-tag_step g name text offset =
-    if bytes_eq name (codes "FEN") then fen_step g offset (fen_reading_as g.state.start.variant text)
-    else On (record g { is_met = true; termination = termination_after g.termination name text })
+-- any token; a tag here is the next game's, so that this one has no outcome
+abbrev pub row : ℕ → State → Token → Row
+row limit s Skip = Passes
+row limit s (Word word) = word_row limit s word
+row limit s (Unclosed_comment brace) = Fails UnclosedComment
+row limit s Unclosed_variation = Fails UnclosedVariation
+row limit s Bad = Fails BadToken
+row limit s Bad_tag = Fails NoResult
+row limit s (Tag name string at_string) = Fails NoResult
 
--- ---- tokens, in a text of so many bytes; each with how many bytes are left where it begins
+-- how many bytes are left at a token's fault: at the token, but for a comment that isn't closed at its brace
+abbrev pub left_at_fault : ℕ × Token → ℕ
+left_at_fault (to_end, Unclosed_comment brace) = brace
+left_at_fault (to_end, _) = to_end
 
--- what follows from one token for the game so far (`g`). `limit` is the most half-moves of a game, `total` the text's
--- length, and `to_end` how many bytes are left from the token on, so that its offset is `total - to_end`
-abbrev pub step : ℕ → ℕ → SoFar → ℕ → Token → Step
-step limit total g to_end Skip = On g
-step limit total g to_end (Tag name text string) =
-    if g.is_begun then fails g NoResult (total - to_end) else tag_step g name text (total - string)
-step limit total g to_end (Word word) = word_step limit g (total - to_end) word (word_kind word)
-step limit total g to_end Bad_tag = fails g (if g.is_begun then NoResult else BadTag) (total - to_end)
-step limit total g to_end (Unclosed_comment brace) = fails g UnclosedComment (total - brace)
-step limit total g to_end Unclosed_variation = fails g UnclosedVariation (total - to_end)
-step limit total g to_end Bad = fails g BadToken (total - to_end)
+-- the length of a word; 0 for another token
+abbrev pub word_length : Token → ℕ
+word_length (Word word) = length word
+word_length _ = 0
 
--- what was read if the text ends here, before an outcome mark: no game (`None`), or the fault NoResult at the end if a
--- tag, number or move was met. `g` is the game so far, `total` the text's length
-abbrev pub at_text_end : ℕ → SoFar → GameRead
-at_text_end total g =
-    record { state = g.state; answer = if g.is_met then Err (record { kind = NoResult; offset = total }) else Ok None }
+-- what is read where a token does this, and `later` is what is read of the tokens after it; the text has `total` bytes
+abbrev pub after_row : ℕ → Option Termination → State → ℕ × Token → Row → (State → GameRead) → GameRead
+after_row total termination s t Passes later = later s
+after_row total termination s t (Plays m) later = later (played s m)
+after_row total termination s t (Ends o) later = finished s o termination (total - t.0 + word_length t.1)
+after_row total termination s t (Fails kind) later = failed s (record { kind = kind; offset = total - left_at_fault t })
 
--- what was read in the end: if the step says that reading goes on, what `later` gives for the game so far; else what
--- the step stopped with
-abbrev pub read_rest_with : Step → (SoFar → GameRead) → GameRead
-read_rest_with (On g) later = later g
-read_rest_with (Stop read) later = read
+-- what is read of the tokens after the tags, in a text of `total` bytes, from the game `s` on
+abbrev pub moves_read : ℕ → ℕ → Option Termination → State → List (ℕ × Token) → GameRead
+moves_read limit total termination s [] = failed s (record { kind = NoResult; offset = total })
+moves_read limit total termination s (t ∷ ts) =
+    after_row total termination s t (row limit s t.1) (λ next. moves_read limit total termination next ts)
 
--- what was read in the end, from the game so far (`g`) and the tokens that are left, each after how many bytes are left
--- where it begins. `limit` is the most half-moves of a game, `total` the text's length
-abbrev pub game_of : ℕ → ℕ → SoFar → List (ℕ × Token) → GameRead
-game_of limit total g [] = at_text_end total g
-game_of limit total g (t ∷ ts) = read_rest_with (step limit total g t.0 t.1) (λ h. game_of limit total h ts)
+-- ---- the tags: the tokens before the first number, move, outcome or fault
 
--- what is known before the first token: the game is at the initial position of this variant, and nothing else was met
-abbrev pub nothing_read : Variant → SoFar
-nothing_read v =
-    record { state = from_start (initial_setup_of v); is_met = false; is_begun = false; termination = None }
+-- whether a token is a tag
+abbrev pub is_tag : ℕ × Token → Bool
+is_tag (to_end, Tag name string at_string) = true
+is_tag _ = false
+
+-- the tags of this name, each as its text and how many bytes are left where that begins
+abbrev pub tags_named : List ℕ → List (ℕ × Token) → List (List ℕ × ℕ)
+tags_named name tags = filter_map (λ t. named_tag name t.1) tags
+
+-- what the last tag Termination names
+abbrev pub last_termination : List (ℕ × Token) → Option Termination
+last_termination tags =
+    option_and_then (λ tag. termination_named tag.0) (last_or None (tags_named (codes "Termination") tags))
+
+-- what the tags FEN denote in the variant `v`, each with how many bytes are left where its text begins
+abbrev pub fens : Variant → List (ℕ × Token) → List (Result Setup FenFault × ℕ)
+fens v tags = map (λ tag. (fen_reading_as v tag.0, tag.1)) (tags_named (codes "FEN") tags)
+
+-- the position that the last FEN denotes, of those before the first that denotes none; `start` if there is no such FEN
+abbrev pub last_start : Setup → List (Result Setup FenFault × ℕ) → Setup
+last_start start fs =
+    unwrap_or (last_or None (filter_map (λ f. result_ok f.0) (take_while (λ f. is_ok f.0) fs))) start
+
+-- the fault of a FEN that denotes no sound position, in a text of `total` bytes
+abbrev pub bad_fen : ℕ → Result Setup FenFault × ℕ → Option PgnFault
+bad_fen total (Ok start, to_end) = None
+bad_fen total (Err fault, to_end) = Some (record { kind = BadFen fault; offset = total - to_end })
+
+-- the fault of the first FEN that has one
+abbrev pub first_bad_fen : ℕ → List (Result Setup FenFault × ℕ) → Option PgnFault
+first_bad_fen total fs = slice_get (filter_map (bad_fen total) fs) 0
 
 -- ---- the variant
 
@@ -168,12 +173,29 @@ tagged_variant tokens = option_map_or (λ tag. variant_named tag.0) (last_tag (c
 
 -- ---- the game
 
--- what was read from these tokens, each after how many bytes are left where it begins, in the variant that their tags
--- name. `limit` is the most half-moves of a game, `total` the text's length
-abbrev pub tokens_read : ℕ → ℕ → List (ℕ × Token) → GameRead
-tokens_read limit total tokens = game_of limit total (nothing_read (tagged_variant tokens)) tokens
+-- what is read after the tags, if each of their FENs denotes a position: a fault, if a tag comes that can't be read; no
+-- game, if nothing comes and there was no tag; or else the moves
+abbrev pub after_tags : ℕ → ℕ → Option Termination → State → Bool → List (ℕ × Token) → GameRead
+after_tags limit total termination s has_tags ((to_end, Bad_tag) ∷ rest) =
+    failed s (record { kind = BadTag; offset = total - to_end })
+after_tags limit total termination s false [] = record { state = s; answer = Ok None }
+after_tags limit total termination s has_tags rest = moves_read limit total termination s rest
+
+-- what is read of a game of variant `v` with these tags and these tokens after them, in a text of `total` bytes: the
+-- fault of a FEN, or else what is read after the tags from the start that they give
+abbrev pub game_read : ℕ → ℕ → Variant → List (ℕ × Token) → List (ℕ × Token) → GameRead
+game_read limit total v tags rest =
+    let s = from_start (last_start (initial_setup_of v) (fens v tags)) in
+    option_map_or (failed s) (first_bad_fen total (fens v tags))
+    (after_tags limit total (last_termination tags) s (list_any is_tag tags) rest)
+
+-- what is read of these tokens, in a text of `total` bytes: of its tags, and then of the tokens after them
+abbrev pub read_of_split : ℕ → ℕ → List (ℕ × Token) → GameRead
+read_of_split limit total tokens =
+    let tags = take_while (λ t. may_precede_tags t.1) tokens in
+    game_read limit total (tagged_variant tokens) tags (drop (length tags) tokens)
 
 -- what is read of a text from the offset `at` on: the game up to its outcome mark and where it ended, or `None` if no
 -- game is left, or the first fault. `limit` is the most half-moves of a game
 unfoldable pub pgn_read : ℕ → List ℕ → ℕ → GameRead
-pgn_read limit text at = tokens_read limit (length text) (tokens_from text (after_byte_order_mark text at))
+pgn_read limit text at = read_of_split limit (length text) (tokens_from text (after_byte_order_mark text at))

@@ -1,11 +1,13 @@
 //! Laws of the definitions, each the contract of a function that does nothing.
 
-ghost use Rattle.std.specs.Prelude.{◌≡◌, List, ℕ};
+ghost use Rattle.std.specs.Prelude.{◌≡◌, List, length, ℕ};
 ghost use Rattle.chess_game.specs.Game.{State, IsPlayable};
 ghost use Rattle.chess_pgn.specs.declared.tags.Tags.{Tags};
 ghost use Rattle.chess_pgn.specs.GameRead.{GameRead, pgn_read};
+ghost use Rattle.chess_pgn.specs.laws.TagsAndMoves.{IsRead};
+ghost use Rattle.chess_pgn.specs.laws.TokenByToken.{tokens_read};
 ghost use Rattle.chess_pgn.specs.GameText.{game_tokens, pgn};
-ghost use Rattle.chess_pgn.specs.Tokens.{Token, tokens_from};
+ghost use Rattle.chess_pgn.specs.Tokens.{Token, after_byte_order_mark, tokens_from};
 ghost use Rattle.chess_pgn.specs.laws.Examples.{TextsAreLaidOut, TextsAreRead, TextsAreSplit};
 ghost use Rattle.chess_pgn.specs.laws.GameOfTokens.{GamesAreOfTokens};
 ghost use Rattle.chess_pgn.specs.laws.Normal.{NormalIsKept};
@@ -15,7 +17,6 @@ ghost use Rattle.chess_pgn.specs.Written.{move_text_of};
 ghost use Rattle.chess_pgn.specs.laws.Layout.{AreShort, IsMoveText};
 ghost use Rattle.chess_pgn.specs.laws.PgnText.{IsPgn};
 ghost use Rattle.chess_pgn.specs.laws.Split.{IsSplit};
-ghost use Rattle.chess_pgn.specs.laws.TagsAndMoves.{IsRead};
 
 use chess_base::{Position, Variant, after_is_sound};
 use chess_fen::written_is_denoted;
@@ -92,12 +93,14 @@ pub fn a_text_has_one_split()
         → tokens ≡ tokens_from text at }
 {}
 
-/// States a law and does nothing: what is read of a text token by token is what its tags and then its moves say, and
-/// nothing else is.
+/// States a law and does nothing: what is read of a text is what the tags and then the moves of its only split say, and
+/// nothing else is. It is also what is read token after token, by a step for each.
 pub fn a_game_is_tags_and_moves()
     ensures read { (limit : ℕ) → (text : List ℕ) → (at : ℕ) → IsRead limit text at (pgn_read limit text at) }
     ensures no_other { (limit : ℕ) → (text : List ℕ) → (at : ℕ) → (r : GameRead) → IsRead limit text at r
         → r ≡ pgn_read limit text at }
+    ensures token_by_token { (limit : ℕ) → (text : List ℕ) → (at : ℕ) → pgn_read limit text at
+        ≡ tokens_read limit (length text) (tokens_from text (after_byte_order_mark text at)) }
 {}
 
 /// States a law and does nothing: the text that is written of a playable game has its tags, an empty line, its moves in

@@ -9,7 +9,8 @@ ghost use Rattle.chess_text.specs.Moves.{reading};
 ghost use Rattle.chess_text.specs.declared.reading.Reading.TheVariants as reads;
 ghost use Rattle.chess_pgn.specs.Words.{word_kind};
 ghost use Rattle.chess_pgn.specs.ties.Seen.{found_seen, token_seen, fault_seen};
-ghost use Rattle.chess_pgn.specs.GameRead.{declared_after, termination_after, move_step, word_step, tag_step, step, variant_named, tagged_variant, pgn_read};
+ghost use Rattle.chess_pgn.specs.GameRead.{declared_after, variant_named, tagged_variant, pgn_read};
+ghost use Rattle.chess_pgn.specs.laws.TokenByToken.{termination_after, move_step, word_step, tag_step, step};
 ghost use Rattle.chess_pgn.specs.Tokens.{tokens_from};
 ghost use Rattle.chess_pgn.specs.ties.GameSteps.{refusal_kind, EndsIn, so_far, step_seen, IsWithin, IsReadOn, ReadsAlike, IsTaken, GoesOn};
 

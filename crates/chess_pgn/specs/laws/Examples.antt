@@ -16,7 +16,8 @@ use Rattle.chess_pgn.specs.Tokens.{Skip, Tag, Word, Bad_tag, Unclosed_comment, U
 use Rattle.chess_pgn.specs.Written.{ended}
 use Rattle.chess_pgn.specs.laws.PgnText.{AreFullLines, IsPgn}
 use Rattle.chess_pgn.specs.laws.Split.{IsSplit}
-use Rattle.chess_pgn.specs.laws.TagsAndMoves.{failed, finished, IsRead}
+use Rattle.chess_pgn.specs.GameRead.{failed, finished}
+use Rattle.chess_pgn.specs.laws.TagsAndMoves.{IsRead}
 
 -- texts are split so
 pub record TextsAreSplit : Type 0 where

@@ -10,7 +10,8 @@ use Rattle.chess_pgn.specs.declared.read.PgnFaultKind.TheVariants.{NoResult}
 use Rattle.chess_pgn.specs.declared.termination.Termination.{Termination}
 use Rattle.chess_pgn.specs.declared.word_kind.WordKind.{WordKind}
 use Rattle.chess_pgn.specs.declared.word_kind.WordKind.TheVariants.{End, Number, Marks, Move}
-use Rattle.chess_pgn.specs.GameRead.{SoFar, GameRead, Step, On, fails, fen_step, termination_after, step, at_text_end, read_rest_with, pgn_read}
+use Rattle.chess_pgn.specs.GameRead.{GameRead, pgn_read}
+use Rattle.chess_pgn.specs.laws.TokenByToken.{SoFar, Step, On, fails, fen_step, termination_after, step, at_text_end, read_rest_with}
 use Rattle.chess_fen.specs.Writing.{is_initial}
 use Rattle.chess_pgn.specs.GameText.{fen_lines, further_lines}
 use Rattle.chess_pgn.specs.Terminations.{termination_text}

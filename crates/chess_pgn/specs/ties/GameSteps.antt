@@ -10,7 +10,7 @@ use Rattle.chess_pgn.specs.declared.read.Progress.{Progress}
 use Rattle.chess_pgn.specs.declared.read.Step as code
 use Rattle.chess_pgn.specs.declared.read.Step.TheVariants as does
 use Rattle.chess_pgn.specs.Tokens.{Token, Skip, Tag, Word, Bad_tag, Unclosed_comment, Unclosed_variation, Bad, tokens_from}
-use Rattle.chess_pgn.specs.GameRead.{SoFar, Step, On, Stop, game_of, tokens_read}
+use Rattle.chess_pgn.specs.laws.TokenByToken.{SoFar, Step, On, Stop, game_of, tokens_read}
 
 -- the fault to give for a move that the game refuses: it is over, full (`TooLong`), or the move is illegal
 abbrev pub refusal_kind : PlayRefusal → PgnFaultKind
