@@ -8,7 +8,10 @@
 //! let mut features = Features::new();
 //! if let EngineLine::Features(text) = read_engine_line(b"feature ping=1 done=1") {
 //!     let mut rest = text;
-//!     while let Some((item, tail)) = next_item(rest) {
+//!     for _ in 0..text.len() {
+//!         let Some((item, tail)) = next_item(rest) else {
+//!             break;
+//!         };
 //!         features = features.with_item(&item);
 //!         rest = tail;
 //!     }
@@ -25,6 +28,7 @@ mod clocks;
 mod engine_line;
 mod features;
 mod item;
+mod laws;
 mod level;
 mod level_text;
 
@@ -32,5 +36,6 @@ pub use clocks::Clocks;
 pub use engine_line::{EngineLine, read_engine_line};
 pub use features::Features;
 pub use item::{Item, Value, is_known, next_item};
+pub use laws::levels_are_parsed_back;
 pub use level::Level;
 pub use level_text::ParseLevelError;
