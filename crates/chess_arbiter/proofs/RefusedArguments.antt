@@ -10,7 +10,8 @@ use Rattle.arbiter_cli.specs.declared.fault.WordsFault.TheVariants as faults
 use Rattle.arbiter_cli.specs.declared.plan.Plan.{Plan}
 use Rattle.byte_devices.specs.Devices.{OutputState}
 use Rattle.chess_arbiter.specs.laws.Laws.{RefusesArguments, ShowsHelp}
-use Rattle.chess_arbiter.specs.Program.{RanHelp, ReportsArguments}
+use Rattle.chess_arbiter.specs.Program.{WritesHelp, ReportsArguments}
+use Rattle.chess_arbiter.proofs.PlainArguments.{both_same}
 
 no_fault : (k : ErrorKind) (kinds : Kinds) → kinds ≡ [] → kinds ≡ k ∷ [] → ⊥
 no_fault k kinds none one = absurd (cc)
@@ -43,7 +44,7 @@ no_plan ws k plan one (names, are, (none, is)) = no_fault k _ none (one names)
 
 shown : (k : ErrorKind) (fault : WordsFault) (w w' : OutputState) (status : ℕ)
     → (k ≡ DisplayHelp) ⊎ (k ≡ DisplayVersion) → IsRefusal k fault → ReportsArguments fault w w' status
-    → RanHelp w w' status
+    → WritesHelp w w' status
 shown k (faults.Words e) w w' status help is reported =
     reported.1 (subst (λ x. (x ≡ DisplayHelp) ⊎ (x ≡ DisplayVersion)) (sym is) help)
 shown k faults.NoMemory w w' status help is (same, ends) = inr (same, ends)
@@ -53,9 +54,9 @@ shown k faults.BadDate w w' status help is reported = absurd is
 
 pub shows_help : (ws : List Text) (k : ErrorKind) → (k ≡ DisplayHelp) ⊎ (k ≡ DisplayVersion) → AreRefused ws (k ∷ [])
     → ShowsHelp ws
-shows_help ws k help one r r' w w' l l' status (Ok plan, is, ran) = absurd (no_plan ws k plan one is)
-shows_help ws k help one r r' w w' l l' status (Err fault, is, (same, reported)) =
-    (same, shown k fault w w' status help (refusal ws k fault one is) reported)
+shows_help ws k help one d d' status (Ok plan, is, ran) = absurd (no_plan ws k plan one is)
+shows_help ws k help one d d' status (Err fault, is, (same, reported)) =
+    (same, shown k fault d.devices.output d'.devices.output status help (refusal ws k fault one is) reported)
 
 -- ---- other kinds
 
@@ -70,6 +71,8 @@ refused k faults.BadDate w w' status help version is reported = absurd is
 
 pub refuses_arguments : (ws : List Text) (k : ErrorKind) → k ≢ DisplayHelp → k ≢ DisplayVersion → AreRefused ws (k ∷ [])
     → RefusesArguments ws
-refuses_arguments ws k help version one r r' w w' l l' status (Ok plan, is, ran) = absurd (no_plan ws k plan one is)
-refuses_arguments ws k help version one r r' w w' l l' status (Err fault, is, (same, reported)) =
-    let t = refused k fault w w' status help version (refusal ws k fault one is) reported in (same, t.0, t.1)
+refuses_arguments ws k help version one d d' status (Ok plan, is, ran) = absurd (no_plan ws k plan one is)
+refuses_arguments ws k help version one d d' status (Err fault, is, (same, reported)) =
+    let t = refused k fault d.devices.output d'.devices.output status help version (refusal ws k fault one is)
+    reported in
+    (both_same d.devices d'.devices same t.0, t.1)

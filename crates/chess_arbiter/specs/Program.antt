@@ -7,7 +7,8 @@ use Rattle.arbiter_cli.specs.declared.plan.Plan.{Plan}
 use Rattle.arbiter_cli.specs.declared.plan.Plan.TheVariants.{Session, Verify, Stub, Match}
 use Rattle.arbiter_cli.specs.declared.fault.WordsFault.{WordsFault}
 use Rattle.arbiter_cli.specs.declared.fault.WordsFault.TheVariants as faults
-use Rattle.byte_devices.specs.Devices.{InputState, OutputState, Sends}
+use Rattle.byte_devices.specs.Devices.{OutputState, Sends}
+use Rattle.byte_devices.specs.Transfers.{FromInput, ToOutput, Devices, Ran}
 use Rattle.byte_devices.specs.declared.traits.WriteFault.{WriteFault}
 use Rattle.chess_cecp.specs.declared.run.End.{End}
 use Rattle.chess_cecp.specs.declared.run.Fault.{Fault}
@@ -15,7 +16,7 @@ use Rattle.chess_cecp.specs.Held.{opened_session}
 use Rattle.chess_pgn.specs.Tags.{default_tags}
 use Rattle.chess_cecp.specs.Serving.{Server}
 use Rattle.chess_cecp.specs.Session.{session_response}
-use Rattle.chess_cecp.specs.Run.{Transcript, SessionRan}
+use Rattle.chess_cecp.specs.Served.{Served}
 use Rattle.chess_arbiter.specs.declared.fault.ProgramFault.{ProgramFault}
 use Rattle.arbiter_cli.specs.declared.plan.MatchPlan.{MatchPlan}
 use Rattle.arbiter_cli.specs.declared.plan.VerifyPlan.{VerifyPlan}
@@ -42,29 +43,30 @@ abbrev pub fault_status : ProgramFault → ℕ
 fault_status InvalidArguments = 2
 fault_status _ = 1
 
--- the server `respond`, which began in the state `s`, answered the lines of the input on the output, up to the input's
--- end, to a line that ends it, or to a fault, and `status` is then the exit status. `r` and `w` are input and output
--- before, `r'` and `w'` after
-abbrev pub RanServer : {S : Type 0} → Server S → S → InputState → InputState → OutputState → OutputState → ℕ → Type 0
-RanServer {S} respond s r r' w w' status =
-    (outcome : Result End Fault) × (s' : S) × (t : Transcript)
-    × SessionRan respond r r' w w' s s' t outcome × (status ≡ status_of outcome)
+-- what the program works on: its input and output, and the error output, which has the log of a match
+pub record World : Type 0 where
+  pub devices : Devices
+  pub log : LogSeen
 
--- a session of at most 20,000 half-moves ran on input and output; or memory ran out for it, and nothing was read or
--- written. `r` and `w` are input and output before, `r'` and `w'` after; `status` is the exit status
-abbrev pub RanSession : InputState → InputState → OutputState → OutputState → ℕ → Type 0
-RanSession r r' w w' status =
-    RanServer session_response (opened_session default_tags MOST_MOVES) r r' w w' status
-    ⊎ ((r' ≡ r) × (w' ≡ w) × (status ≡ 1))
+-- the server `respond`, which began in the state `s`, answered the lines of the input on the output, up to the input's
+-- end, to a line that ends it, or to a fault; `status` is then the exit status
+abbrev pub Serves : {S : Type 0} → Server S → S → Devices → Devices → ℕ → Type 0
+Serves {S} respond s d d' status =
+    (result : Result End Fault) × (s' : S) × Ran (Served respond s s' result) d d' × (status ≡ status_of result)
+
+-- a session of at most 20,000 half-moves ran on input and output, with this exit status; or memory ran out for it, and
+-- nothing was read or written
+abbrev pub RunsSession : Devices → Devices → ℕ → Type 0
+RunsSession d d' status =
+    Serves session_response (opened_session default_tags MOST_MOVES) d d' status ⊎ ((d' ≡ d) × (status ≡ 1))
 
 -- the options of verifying that the flags of `verify` ask for
 abbrev pub options_of : VerifyPlan → VerifyOptions
 options_of plan = record { quiet = plan.quiet; strict = plan.strict; explain = plan.explain }
 
--- what verifying the input's PGN does, by the flag `--keep-going`: with it (true) piece by piece, so that a fault ends
--- only its piece; else as one text up to its first fault
-abbrev pub VerifiesAs : Bool → VerifyOptions → InputState → InputState → OutputState → OutputState
-    → Result Verified VerifyFault → Type 0
+-- what verifying the input's PGN reads and writes, by the flag `--keep-going`: with it (true) piece by piece, so that a
+-- fault ends only its piece; else as one text up to its first fault
+abbrev pub VerifiesAs : Bool → VerifyOptions → Result Verified VerifyFault → FromInput → ToOutput → Type 0
 VerifiesAs true = VerifiesCollection
 VerifiesAs false = Verifies
 
@@ -74,17 +76,16 @@ verify_status (Ok EachGame) = 0
 verify_status _ = 1
 
 -- the input's games were verified as the flags of the plan ask, and the exit status `status` is 0 if all was verified
--- and no game has a fault, else 1. `r` and `w` are input and output before, `r'` and `w'` after
-abbrev pub RanVerify : VerifyPlan → InputState → InputState → OutputState → OutputState → ℕ → Type 0
-RanVerify plan r r' w w' status = (outcome : Result Verified VerifyFault)
-    × VerifiesAs plan.keep_going (options_of plan) r r' w w' outcome × (status ≡ verify_status outcome)
+-- and no game has a fault, else 1
+abbrev pub VerifiesInput : VerifyPlan → Devices → Devices → ℕ → Type 0
+VerifiesInput plan d d' status = (result : Result Verified VerifyFault)
+    × Ran (VerifiesAs plan.keep_going (options_of plan) result) d d' × (status ≡ verify_status result)
 
 -- a text of help was written and flushed, or a beginning of it if that failed; or memory ran out for it, and nothing
 -- was written. `w` and `w'` are the output before and after; `status` is the exit status
-abbrev pub RanHelp : OutputState → OutputState → ℕ → Type 0
-RanHelp w w' status =
-    ((outcome : Result (Unit {0}) WriteFault) × (text : List ℕ) × Sends w w' outcome text
-    × (status ≡ status_of outcome))
+abbrev pub WritesHelp : OutputState → OutputState → ℕ → Type 0
+WritesHelp w w' status =
+    ((result : Result (Unit {0}) WriteFault) × (text : List ℕ) × Sends w w' result text × (status ≡ status_of result))
     ⊎ ((w' ≡ w) × (status ≡ 1))
 
 -- what is done with arguments that ask for nothing, by their fault: help and the version go to the output (`w` before,
@@ -92,7 +93,7 @@ RanHelp w w' status =
 abbrev pub ReportsArguments : WordsFault → OutputState → OutputState → ℕ → Type 0
 ReportsArguments (faults.Words e) w w' status =
     ((kind_of e ≢ DisplayHelp) → (kind_of e ≢ DisplayVersion) → (w' ≡ w) × (status ≡ 2))
-    × ((kind_of e ≡ DisplayHelp) ⊎ (kind_of e ≡ DisplayVersion) → RanHelp w w' status)
+    × ((kind_of e ≡ DisplayHelp) ⊎ (kind_of e ≡ DisplayVersion) → WritesHelp w w' status)
 ReportsArguments faults.NoMemory w w' status = (w' ≡ w) × (status ≡ 1)
 ReportsArguments fault w w' status = (w' ≡ w) × (status ≡ 2)
 
@@ -111,24 +112,23 @@ games_plan plan = record {
 -- the games of the plan's match were played, written and logged, and the exit status `status` is 1 if anything failed,
 -- else 0. What the error output has is said only for status 0. `w` and `l` are output and log before, `w'` and `l'`
 -- after
-abbrev pub RanMatch : MatchPlan → OutputState → OutputState → LogSeen → LogSeen → ℕ → Type 0
-RanMatch plan w w' l l' status =
-    (outcome : Result (Unit {0}) GamesFault) × (logged : LogSeen) × RanGames (games_plan plan) w w' l logged outcome
-    × (status ≡ status_of outcome) × (status ≡ 0 → l' ≡ logged)
+abbrev pub PlaysMatch : MatchPlan → OutputState → OutputState → LogSeen → LogSeen → ℕ → Type 0
+PlaysMatch plan w w' l l' status =
+    (result : Result (Unit {0}) GamesFault) × (logged : LogSeen) × RanGames (games_plan plan) w w' l logged result
+    × (status ≡ status_of result) × (status ≡ 0 → l' ≡ logged)
 
--- the program did what its arguments ask for (the plan), or reported why they ask for nothing (the fault). `r`, `w` and
--- `l` are input, output and error output before, `r'`, `w'` and `l'` after; `status` is the exit status
-abbrev pub RanPlan : Result Plan WordsFault → InputState → InputState → OutputState → OutputState → LogSeen
-    → LogSeen → ℕ → Type 0
-RanPlan (Ok Session) r r' w w' l l' status = RanSession r r' w w' status
-RanPlan (Ok (Verify plan)) r r' w w' l l' status = RanVerify plan r r' w w' status
-RanPlan (Ok (Stub arguments)) r r' w w' l l' status = RanServer stub_response (waiting arguments.items) r r' w w' status
-RanPlan (Ok (Match plan)) r r' w w' l l' status = (r' ≡ r) × RanMatch plan w w' l l' status
-RanPlan (Err fault) r r' w w' l l' status = (r' ≡ r) × ReportsArguments fault w w' status
+-- the program did what its arguments ask for (the plan), or reported why they ask for nothing (the fault), and `status`
+-- is its exit status
+abbrev pub Does : Result Plan WordsFault → World → World → ℕ → Type 0
+Does (Ok Session) d d' status = RunsSession d.devices d'.devices status
+Does (Ok (Verify plan)) d d' status = VerifiesInput plan d.devices d'.devices status
+Does (Ok (Stub arguments)) d d' status = Serves stub_response (waiting arguments.items) d.devices d'.devices status
+Does (Ok (Match plan)) d d' status = (d'.devices.input ≡ d.devices.input)
+    × PlaysMatch plan d.devices.output d'.devices.output d.log d'.log status
+Does (Err fault) d d' status = (d'.devices.input ≡ d.devices.input)
+    × ReportsArguments fault d.devices.output d'.devices.output status
 
--- what the program does with these arguments: it reads them, and does what they ask for. `r`, `w` and `l` are
--- input, output and error output before, `r'`, `w'` and `l'` after; `status` is the exit status
-abbrev pub RanProgram : List Text → InputState → InputState → OutputState → OutputState → LogSeen → LogSeen → ℕ
-    → Type 0
-RanProgram arguments r r' w w' l l' status = (read : Result Plan WordsFault) × IsReading arguments read
-    × RanPlan read r r' w w' l l' status
+-- the program ran with these arguments: it read them, and did what they ask for. `d` is its world before, `d'` after;
+-- `status` is its exit status
+abbrev pub RanProgram : List Text → World → World → ℕ → Type 0
+RanProgram arguments d d' status = (read : Result Plan WordsFault) × IsReading arguments read × Does read d d' status

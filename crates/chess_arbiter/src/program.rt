@@ -4,7 +4,8 @@ ghost use Rattle.std.specs.Prelude.{◌≡◌, IfOk, Ok, Err, map};
 ghost use Rattle.chess_cecp.specs.Held.{opened_session};
 ghost use Rattle.chess_pgn.specs.Tags.{default_tags};
 ghost use Rattle.match_runner.specs.Log.{log_seen};
-ghost use Rattle.chess_arbiter.specs.Program.{RanHelp, RanMatch, RanProgram, RanServer, RanSession, RanVerify, ReportsArguments, VerifiesAs, options_of, status_of, verify_status};
+ghost use Rattle.byte_devices.specs.Transfers.{Ran};
+ghost use Rattle.chess_arbiter.specs.Program.{PlaysMatch, RanProgram, ReportsArguments, RunsSession, Serves, VerifiesAs, VerifiesInput, WritesHelp, options_of, status_of, verify_status};
 ghost use Rattle.stub_engine.specs.Stub.{stub_response, waiting};
 ghost use Rattle.chess_arbiter.specs.ties.Faults.{fault_of, helped, served};
 ghost use Rattle.chess_game.specs.declared.game.TheConstants.{MOST_MOVES};
@@ -74,7 +75,8 @@ fn session<R: Input, W: Output, E: Output>(
     output: &mut W,
     errors: &mut E,
 ) -> u8
-    ensures { RanSession (R.seen input.old) (R.seen input.new) (W.seen output.old) (W.seen output.new) result }
+    ensures { RunsSession (record { input = R.seen input.old; output = W.seen output.old })
+        (record { input = R.seen input.new; output = W.seen output.new }) result }
 {
     let Ok(tables) = AttackTables::open(alloc) else {
         return reported(errors, &ProgramFault::NoMemory, 1);
@@ -94,8 +96,9 @@ fn stub<R: Input, W: Output, E: Output>(
     output: &mut W,
     errors: &mut E,
 ) -> u8
-    ensures { RanServer stub_response (waiting arguments.now) (R.seen input.old) (R.seen input.new) (W.seen output.old)
-        (W.seen output.new) result }
+    ensures { Serves stub_response (waiting arguments.now)
+        (record { input = R.seen input.old; output = W.seen output.old })
+        (record { input = R.seen input.new; output = W.seen output.new }) result }
 {
     let mut stub = Stub::new(arguments);
     let outcome = serve_lines(input, output, &mut stub);
@@ -131,8 +134,9 @@ fn verify_as<R: Input, W: Output>(
     input: &mut R,
     output: &mut W,
 ) -> Result<Verified, VerifyFault>
-    ensures { VerifiesAs plan.keep_going (options_of plan) (R.seen input.old) (R.seen input.new) (W.seen output.old)
-        (W.seen output.new) result }
+    ensures { Ran (VerifiesAs plan.keep_going (options_of plan) result)
+        (record { input = R.seen input.old; output = W.seen output.old })
+        (record { input = R.seen input.new; output = W.seen output.new }) }
 {
     let options = options_of(plan);
     if plan.keep_going {
@@ -151,7 +155,8 @@ fn verified<R: Input, W: Output, E: Output>(
     output: &mut W,
     errors: &mut E,
 ) -> u8
-    ensures { RanVerify plan (R.seen input.old) (R.seen input.new) (W.seen output.old) (W.seen output.new) result }
+    ensures { VerifiesInput plan (record { input = R.seen input.old; output = W.seen output.old })
+        (record { input = R.seen input.new; output = W.seen output.new }) result }
 {
     match verify_as(alloc, plan, input, output) {
         Ok(verified) => verified_status(verified),
@@ -179,7 +184,7 @@ fn help<W: Output, E: Output, D: Display>(
     output: &mut W,
     errors: &mut E,
 ) -> u8
-    ensures { RanHelp (W.seen output.old) (W.seen output.new) result }
+    ensures { WritesHelp (W.seen output.old) (W.seen output.new) result }
 {
     let text = match format!(in alloc; "{help}") {
         Ok(text) => text,
@@ -223,7 +228,7 @@ fn matched<P: Processes + Clock, W: Output, E: Output>(
     output: &mut W,
     log: &mut Log<E>,
 ) -> u8
-    ensures { RanMatch plan.now (W.seen output.old) (W.seen output.new)
+    ensures { PlaysMatch plan.now (W.seen output.old) (W.seen output.new)
         (log_seen (E.seen log.old.output) log.old.pending) (log_seen (E.seen log.new.output) log.new.pending)
         result }
 {
@@ -272,10 +277,15 @@ pub fn run_program<'a, P: Processes + Clock, R: Input, W: Output, E: Output>(
     output: &mut W,
     errors: &mut Log<E>,
 ) -> u8
-    ensures { RanProgram (map (λ w. w.now) arguments.entry.now) (R.seen input.old) (R.seen input.new)
-        (W.seen output.old)
-        (W.seen output.new) (log_seen (E.seen errors.old.output) errors.old.pending)
-        (log_seen (E.seen errors.new.output) errors.new.pending) result }
+    ensures { RanProgram (map (λ w. w.now) arguments.entry.now)
+        (record {
+          devices = record { input = R.seen input.old; output = W.seen output.old };
+          log = log_seen (E.seen errors.old.output) errors.old.pending;
+        })
+        (record {
+          devices = record { input = R.seen input.new; output = W.seen output.new };
+          log = log_seen (E.seen errors.new.output) errors.new.pending;
+        }) result }
 {
     let plan = match read_words(alloc, arguments) {
         Ok(plan) => plan,

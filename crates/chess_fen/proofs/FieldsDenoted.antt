@@ -8,7 +8,7 @@ use Rattle.std.proofs.lemmas.Bool.{and_parts}
 use Rattle.std.proofs.lemmas.Bool.Decides.{nat_tests}
 use Rattle.chess_base.specs.declared.man.Man.{Man}
 use Rattle.chess_base.specs.Letters.{is_digit, value_after}
-use Rattle.chess_fen.specs.ManLetters.{stroke}
+use Rattle.chess_fen.specs.Texts.{stroke}
 use Rattle.chess_fen.specs.Denotation.{from_top}
 use Rattle.chess_fen.specs.Texts.{squares_of, rank_after, squares_by_ranks}
 use Rattle.chess_fen.specs.Texts as reads

@@ -9,7 +9,7 @@ use Rattle.chess_base.specs.declared.man.Kind.TheVariants.{Pawn, Knight, Bishop,
 use Rattle.chess_base.specs.declared.man.Colour.{Colour}
 use Rattle.chess_base.specs.declared.man.Colour.TheVariants.{White, Black}
 use Rattle.chess_base.specs.Letters.{is_digit}
-use Rattle.chess_fen.specs.ManLetters.{letter, letter_by}
+use Rattle.chess_base.specs.Letters.{letter, letter_by}
 use Rattle.chess_fen.specs.Denotation.{StandsFor, DenotesSquares}
 use Rattle.chess_fen.specs.Writing.{run_text, row_text, fen_rank}
 use Rattle.chess_fen.proofs.DenotedRanks.{denoted-rank}

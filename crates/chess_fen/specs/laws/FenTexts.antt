@@ -23,7 +23,7 @@ use Rattle.chess_base.specs.Attacks.{is_in_check}
 use Rattle.chess_base.specs.Castling.{home_square, king_square, rook_file, rights_by}
 use Rattle.chess_base.specs.Sound.{has_one_king, no_pawn_on_end_ranks, has_at_most_16, target_is_sound}
 use Rattle.chess_base.specs.Faults.{counters_fit, rights_are_sound, first_failing}
-use Rattle.chess_fen.specs.ManLetters.{stroke}
+use Rattle.chess_fen.specs.Texts.{stroke}
 use Rattle.chess_fen.specs.Texts.{squares_of, first_letter, names_file, is_castling, target_of, fields_of}
 use Rattle.chess_fen.specs.Denotation.{from_top}
 use Rattle.chess_fen.specs.RightNames.{side_letter, right_named, from_edge, is_towards}

@@ -9,7 +9,7 @@ use Rattle.chess_arbiter.proofs.program.session.Goals as goal
 
 pub returns : goal.returns
 returns g c =
-    inl (server_ran session_response (opened_session default_tags MOST_MOVES) _ _ _ _ _
+    inl (server_ran session_response (opened_session default_tags MOST_MOVES) _ _ _
     c.run_session-outcome.new.session
     c.run_session-outcome.result c.status_of.result c.in-Ok-open_session.ensures c.run_session-outcome.ensures
     (c.status_of.ensures ∙ ap status_of c.report_served.ensures))
