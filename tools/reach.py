@@ -11,7 +11,7 @@
                                 if there are any
 
 What is at the top of specs/ is to be reached by the contract of a function that a user of the crates can call; what is in
-specs/laws/ or specs/ties/ is not. A function reaches the definitions that its clauses name, those by which contracts see its
+specs/laws/, specs/shared/ or specs/ties/ is not. A function reaches the definitions that its clauses name, those by which contracts see its
 arguments, and what these name in turn. A definition's lines are counted without comments, imports and empty lines. Names are
 resolved by the imports of their file; no prover is asked."""
 
@@ -95,7 +95,7 @@ class Reach:
         """For each file the definitions that are at the top of specs/ and serve no call, or that are below it and serve one."""
         found = {}
         for key, room in self.rooms().items():
-            is_top = not key.module.startswith(("laws.", "ties."))
+            is_top = not key.module.startswith(("laws.", "shared.", "ties."))
             if is_top != (room in ("program", "calls")):
                 found.setdefault(key.path, []).append(f"{key.name} ({room})")
         return found

@@ -6,7 +6,8 @@
                                 listed exactly once; which headings of the lists differ from the claims; whether figures, theorems
                                 or files to read of the lists are old; which file of specs/ is not in docs/DEFINITIONS.md exactly
                                 once, after those on which it rests; which definitions are misplaced or have no comment (by
-                                tools/reach.py); where the graph of docs/ARCHITECTURE.md differs from crates.txt; whether the
+                                tools/reach.py); where the graph of docs/ARCHITECTURE.md differs from crates.txt; where a
+                                crate cites what is private to another (by citations.py); whether the
                                 program in docs/USAGE.md is old; and which link of a document leads to no file or to no heading
     tools/theorems.py --fill    writes the generated parts of docs/claims/ anew (headings, theorems with their clauses, files to
                                 read, figures, links), and the program in docs/USAGE.md, moves a mutation's name where its file
@@ -21,6 +22,7 @@ sys.dont_write_bytecode = True
 
 import needed
 import reach
+from citations import private_citations
 from sources import SHORT, TOP, direct_uses, mutations, reading_order, target_of
 
 PAGE = "docs/THEOREMS.md"
@@ -50,7 +52,7 @@ def read(page):
 
 # ---- short links: `[base/Moves]`, `[base/position.rt]`; `[pieces/laws/Places]` if the crate has another file of that name
 
-SHORT_LINK = re.compile(r"\[([a-z_]+/(?:laws/|ties/)?[\w.]+)\](?!\(|:)")
+SHORT_LINK = re.compile(r"\[([a-z_]+/(?:laws/|shared/|ties/)?[\w.]+)\](?!\(|:)")
 
 
 def links_of(page, text):
@@ -74,7 +76,7 @@ def slug(heading):
     return text.replace(" ", "-")
 
 
-READ = re.compile(r"\[([a-z_]+/(?:laws/|ties/)?\w+)\](?: \(([^)]*)\))?")
+READ = re.compile(r"\[([a-z_]+/(?:laws/|shared/|ties/)?\w+)\](?: \(([^)]*)\))?")
 
 
 class Claim:
@@ -421,6 +423,8 @@ def main(words):
     counts = check_mutations(claims)
     check_mutations_fit()
     check_graph(read(GRAPH))
+    for where, module in private_citations():
+        fault(where, f"{module} is private to its crate")
     for path, names in reached.misplaced().items():
         fault(path, f"misplaced: {', '.join(names)}")
     for path, names in reached.uncommented().items():

@@ -1,4 +1,3 @@
-pub mod Decimals
-pub mod DeviceLaws
-pub mod Transferred
-pub mod Unflushed
+pub mod shared
+mod Decimals
+mod Unflushed

@@ -1,31 +1,10 @@
 -- The time that a level gives grows with the moves.
-use Rattle.std.proofs.Common.{◌≡◌, ℕ, zero, suc, ◌+◌, ◌*◌, ◌/◌, ◌≤◌, ◌<◌, arith, ne_eqb, false}
-use Rattle.std.specs.Prelude.{if◌then◌else◌, ◌==◌}
-use Rattle.std.proofs.Math.Nat.{div-mul-le_self, mul-le-mul_left}
-use Rattle.std.proofs.lemmas.Nat.{le-div}
-use Rattle.cecp_engine.specs.Levels.{LevelSeen, sessions, allotted, time_left}
+use Rattle.std.proofs.Common.{ℕ, ◌+◌, ◌≤◌, ◌<◌, arith}
+use Rattle.cecp_engine.specs.Levels.{LevelSeen, allotted, time_left}
 use Rattle.cecp_engine.specs.Clocks.{Spent, spent_more}
 use Rattle.cecp_engine.specs.ties.Bounds.{IsWithin}
 use Rattle.chess_base.specs.declared.setup.TheConstants.{MOST_MOVES}
-
-div_grows : (m k : ℕ) → 0 < m → k / m ≤ (k + 1) / m
-div_grows m k some = let low : k / m * m ≤ k = div-mul-le_self k m in le-div (k / m) (k + 1) m some (omega arith)
-
-sessions_grow : (m k : ℕ) → (if m == 0 then 1 else 1 + k / m) ≤ (if m == 0 then 1 else 1 + (k + 1) / m)
-sessions_grow zero k = omega arith
-sessions_grow (suc m) k =
-    let some : 0 < suc m = omega arith in
-    let d : k / suc m ≤ (k + 1) / suc m = div_grows (suc m) k some in
-    let e : (suc m == 0) ≡ false = ne_eqb (suc m) 0 (omega arith) in
-    rw e (omega arith)
-
-pub allotted_grows : (l : LevelSeen) (k : ℕ) → allotted l k ≤ allotted l (k + 1)
-unfolding allotted sessions
-allotted_grows l k =
-    let s : l.base * (if l.moves == 0 then 1 else 1 + k / l.moves) ≤ l.base *
-    (if l.moves == 0 then 1 else 1 + (k + 1) / l.moves) = mul-le-mul_left l.base (sessions_grow l.moves k) in
-    let i : l.increment * k ≤ l.increment * (k + 1) = mul-le-mul_left l.increment (omega arith) in
-    omega arith
+use Rattle.cecp_engine.proofs.shared.Levels.{allotted_grows}
 
 pub within_more : (l : LevelSeen) (s : Spent) (used : ℕ) → IsWithin l s → used ≤ time_left l s.moves s.used
     → s.moves < MOST_MOVES

@@ -1,5 +1,6 @@
-pub mod Allotment
-pub mod ItemRuns
-pub mod Pieces
+pub mod shared
+mod Allotment
+mod Pieces
 mod TwoDigits
-pub mod LevelTexts
+mod LevelTexts
+mod FeatureRuns

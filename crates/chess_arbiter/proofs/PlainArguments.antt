@@ -11,8 +11,8 @@ use Rattle.arbiter_cli.specs.declared.plan.VerifyPlan.{VerifyPlan}
 use Rattle.arbiter_cli.specs.declared.plan.Plan.TheVariants.{Session, Verify, Stub, Match}
 use Rattle.byte_devices.specs.Devices.{InputState}
 use Rattle.byte_devices.specs.Transfers.{Devices, InputGave, Ran, nothing}
-use Rattle.byte_devices.proofs.Transferred.{came, took_nothing}
-use Rattle.byte_devices.proofs.DeviceLaws.{consumes_none}
+use Rattle.byte_devices.proofs.shared.Transfers.{came, took_nothing}
+use Rattle.byte_devices.proofs.shared.Devices.{consumes_none}
 use Rattle.chess_arbiter.specs.laws.Laws.{ServesSession, VerifiesGames}
 use Rattle.chess_arbiter.specs.Program.{World, Does, RunsSession, VerifiesInput, options_of}
 use Rattle.pgn_verifier.specs.Verify.{Verifies}

@@ -8,7 +8,7 @@ use Rattle.chess_base.specs.Squares.{file, rank, gap, lies_inside, share_diagona
 use Rattle.chess_base.specs.Men.{Men, man_at}
 use Rattle.chess_base.specs.Attacks.{is_clear}
 use Rattle.chess_base.specs.ties.Lines.{line_number, same_line, step_of}
-use Rattle.chess_base.proofs.OverSquares.{each_square-all, each_square-fails, each_square_same}
+use Rattle.chess_base.proofs.shared.Squares.{each_square-all, each_square-fails, each_square_same}
 use Rattle.chess_base.proofs.Geometry.{between_on_line}
 
 -- ---- which squares are between two does not depend on their order

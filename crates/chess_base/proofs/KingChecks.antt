@@ -6,8 +6,8 @@ use Rattle.chess_base.specs.declared.man.Kind.TheVariants.{King}
 use Rattle.chess_base.specs.Men.{Men, man_at, is_man, other}
 use Rattle.chess_base.specs.Attacks.{is_attacked, is_in_check}
 use Rattle.chess_base.specs.Sound.{has_one_king}
-use Rattle.chess_base.proofs.OverSquares.{some_square-at, some_square-none}
-use Rattle.chess_base.proofs.Kings.{one_king}
+use Rattle.chess_base.proofs.shared.Squares.{some_square-at, some_square-none}
+use Rattle.chess_base.proofs.shared.Kings.{one_king}
 
 guarded : (p q : Bool) → (p ≡ true → q ≡ false) → (p && q) ≡ false
 guarded true q h = h refl

@@ -8,7 +8,7 @@ use Rattle.chess_base.specs.Squares.{file, rank, gap}
 use Rattle.chess_base.specs.Men.{Men, man_at, is_man}
 use Rattle.chess_base.specs.Attacks.{could_capture}
 use Rattle.chess_base.specs.ties.Lines.{struck_by_knight, struck_by_knight_from_below, struck_by_knight_from_above}
-use Rattle.chess_base.proofs.OverSquares.{some_square-at, some_square-none}
+use Rattle.chess_base.proofs.shared.Squares.{some_square-at, some_square-none}
 
 -- a knight of colour c is on the square of this file and rank, both counted from 2: so a knight's way from a square
 -- gives no number below 0. False for a square that is not on the board

@@ -1,26 +1,17 @@
-pub mod OverSquares
-pub mod Geometry
-pub mod ClearLines
-pub mod Rays
-pub mod Reaches
-pub mod Knights
-pub mod Counts
-pub mod MenAfter
-pub mod MenFacts
-pub mod Kings
-pub mod KingChecks
-pub mod MoveKinds
-pub mod Landing
-pub mod Changes
-pub mod Castlings
-pub mod Writes
-pub mod StaysSound
-pub mod TakesBack
-pub mod CountsAfter
-pub mod ReserveAfter
-pub mod Choices
-pub mod FaultsLemmas
-pub mod InitialIsSound
-pub mod NormalKept
-pub mod MovesRise
-pub mod MoveTexts
+pub mod shared
+mod Geometry
+mod ClearLines
+mod Rays
+mod Reaches
+mod Knights
+mod Counts
+mod KingChecks
+mod Castlings
+mod StaysSound
+mod TakesBack
+mod CountsAfter
+mod ReserveAfter
+mod InitialIsSound
+mod NormalKept
+mod MovesRise
+mod MoveTexts

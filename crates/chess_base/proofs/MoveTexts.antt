@@ -11,7 +11,7 @@ use Rattle.chess_base.specs.Coordinates.{optional, small_letter_text, coordinate
 use Rattle.chess_base.specs.Letters.{kinds, letter_by, kind_with_small_letter, is_file_letter, is_rank_digit, square_text, square_with_letters}
 use Rattle.chess_base.specs.MoveList.{move_of}
 use Rattle.chess_base.specs.ties.MoveTexts.{promotion_of_text, move_of_text}
-use Rattle.chess_base.proofs.Choices.{chosen}
+use Rattle.chess_base.proofs.shared.Choices.{chosen}
 
 -- ---- squares
 

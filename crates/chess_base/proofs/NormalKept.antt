@@ -12,7 +12,7 @@ use Rattle.chess_base.specs.declared.man.Variant.TheVariants.{Normal}
 use Rattle.chess_base.specs.declared.setup.Setup.{Setup}
 use Rattle.chess_base.specs.Men.{Men, man_at, is_man, same_colour, same_kind, other}
 use Rattle.chess_base.specs.Moves.{one_rank_back, is_en_passant, arriving_man, moves_as, is_pseudo_legal, pawn_moves, second_square_emptied, men_after, rights_after, target_after, halfmove_after, fullmove_after, is_legal, after}
-use Rattle.chess_base.specs.ties.Splits.{castles_or_moves, names_castling, rook_from, rook_to, right_is_sound_at}
+use Rattle.chess_base.specs.shared.Splits.{castles_or_moves, names_castling, rook_from, rook_to, right_is_sound_at}
 use Rattle.chess_base.specs.Castling.{is_castling_to, castling, castle_by, castle_of, mover_end, castling_rook_to, castled_king_file, right_of, right_is_sound, home_square, king_home_file}
 use Rattle.chess_base.specs.Before.{mover_to}
 use Rattle.chess_base.specs.Steps.{men_stepped}

@@ -14,7 +14,7 @@ use Rattle.chess_base.specs.Squares.{file, rank, gap, lies_inside, share_rank_or
 use Rattle.chess_base.specs.Men.{Men, man_at, is_of, is_man, same_colour, same_kind}
 use Rattle.chess_base.specs.Attacks.{is_clear, is_rank_ahead, could_capture, attacks, is_attacked}
 use Rattle.chess_base.specs.ties.Lines.{same_line, step_of, is_above, is_below, strikes, struck_from_above, struck_from_below, struck_along, struck_by_knight, struck_by_knight_from_below, struck_by_knight_from_above, attacked_from_below, attacked_from_above}
-use Rattle.chess_base.proofs.OverSquares.{each_square-fails, some_square-at, some_square-none, some_square_same, some_square-or}
+use Rattle.chess_base.proofs.shared.Squares.{each_square-fails, some_square-at, some_square-none, some_square_same, some_square-or}
 use Rattle.chess_base.proofs.Geometry.{between_on_line}
 use Rattle.chess_base.proofs.Knights.{struck_by_knight_is}
 use Rattle.chess_base.proofs.ClearLines.{is_clear_back, clear_by, step_fits, step_stays, none_between, rises, line_back, line_on}

@@ -19,15 +19,14 @@ use Rattle.chess_base.specs.Sound.{IsSound, no_pawn_on_end_ranks, pawn_is_allowe
 use Rattle.chess_base.specs.Castling.{castle_from, mover_end, castles}
 use Rattle.chess_base.specs.Moves.{arriving_man, man_moves, is_pseudo_legal, is_legal, men_after, halfmove_after, resets_clock, after}
 use Rattle.chess_base.specs.laws.Reserve.{ranks_to_go, weight, reserve}
-use Rattle.chess_base.proofs.OverSquares.{each_square-at}
-use Rattle.chess_base.proofs.MenAfter.{length-from_below, get_or-from_below}
-use Rattle.chess_base.proofs.MenFacts.{same_colour-true, is_of-from_is_man, is_man-kind, is_none-None, in_board}
-use Rattle.chess_base.proofs.MoveKinds.{is_of-mover, Moves, MoveKind, ManMoves, Castles, PawnMoves, PawnKind, Advances, Captures, TakesEnPassant}
-use Rattle.chess_base.proofs.Changes.{Change, Rest, Alone, WithCapture, WithRook, pawn_attack, pawn_no_castling, rank_ahead_White, rank_ahead_Black, advance_goes}
-use Rattle.chess_base.proofs.Landing.{says_from_castling, castling_says, lands_on_to}
+use Rattle.chess_base.proofs.shared.Squares.{each_square-at, length-from_below, get_or-from_below}
+use Rattle.chess_base.proofs.shared.Men.{same_colour-true, is_of-from_is_man, is_man-kind, is_none-None, in_board}
+use Rattle.chess_base.proofs.shared.MoveKinds.{is_of-mover, Moves, MoveKind, ManMoves, Castles, PawnMoves, PawnKind, Advances, Captures, TakesEnPassant}
+use Rattle.chess_base.proofs.shared.Changes.{Change, Rest, Alone, WithCapture, WithRook, pawn_attack, pawn_no_castling, rank_ahead_White, rank_ahead_Black, advance_goes}
+use Rattle.chess_base.proofs.shared.Castling.{says_from_castling, castling_says, lands_on_to}
 use Rattle.chess_base.proofs.Castlings.{change_of}
 use Rattle.chess_base.proofs.CountsAfter.{castled_rook, apart_by, from_apart}
-use Rattle.chess_base.proofs.Writes.{written, men_after-written}
+use Rattle.chess_base.proofs.shared.Writes.{written, men_after-written}
 
 -- a write to one square
 

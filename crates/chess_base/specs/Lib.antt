@@ -15,4 +15,5 @@ pub mod Letters
 pub mod Options
 pub mod Coordinates
 pub mod laws
+pub mod shared
 pub mod ties

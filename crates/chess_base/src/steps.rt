@@ -1,7 +1,7 @@
 //! The steps in which a move, made or taken back, changes the pieces.
 
 ghost use Rattle.std.specs.Prelude.{◌≡◌};
-ghost use Rattle.chess_base.specs.ties.Changes.{with_man};
+ghost use Rattle.chess_base.specs.shared.OneSquare.{with_man};
 ghost use Rattle.chess_base.specs.Steps.{men_stepped};
 
 use crate::man::Man;

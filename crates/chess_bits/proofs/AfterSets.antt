@@ -14,9 +14,9 @@ use Rattle.chess_base.specs.Attacks.{is_attacked, is_in_check}
 use Rattle.chess_base.specs.declared.setup.Setup.{Setup}
 use Rattle.chess_base.specs.Moves.{arriving_man, men_after, second_square_emptied}
 use Rattle.chess_base.specs.Castling.{mover_end, castling_rook_to}
-use Rattle.chess_base.proofs.MenAfter.{man_after, man_at-men_after}
-use Rattle.chess_base.proofs.MenFacts.{not_is_man}
-use Rattle.chess_base.proofs.OverSquares.{some_square-at, some_square-none}
+use Rattle.chess_base.proofs.shared.MenAfter.{man_after, man_at-men_after}
+use Rattle.chess_base.proofs.shared.Men.{not_is_man}
+use Rattle.chess_base.proofs.shared.Squares.{some_square-at, some_square-none}
 use Rattle.chess_moves.specs.Sets.{contains}
 use Rattle.chess_bits.specs.ties.Changes.{is_changed, is_filled}
 use Rattle.chess_bits.specs.ties.Occupancy.{IsLater}

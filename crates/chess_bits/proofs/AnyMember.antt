@@ -4,7 +4,7 @@ use Rattle.std.specs.List.{filter, range_with_len}
 use Rattle.std.proofs.lemmas.Bool.{cases_Bool, or_parts, both_ways, false_from_ne_true}
 use Rattle.chess_base.specs.MoveList.{squares}
 use Rattle.chess_base.specs.Squares.{each_square}
-use Rattle.chess_base.proofs.OverSquares.{each_square-all, each_square-at}
+use Rattle.chess_base.proofs.shared.Squares.{each_square-all, each_square-at}
 use Rattle.chess_moves.specs.Sets.{contains, members}
 
 abbrev pub any_of : (ℕ → Bool) → List ℕ → Bool

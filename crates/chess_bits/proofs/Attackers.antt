@@ -10,12 +10,12 @@ use Rattle.chess_base.specs.declared.man.Man.{Man}
 use Rattle.chess_base.specs.Squares.{file, rank, gap, lies_inside, share_rank_or_file, share_diagonal, is_between, is_between_on_file, is_between_on_rank, is_between_on_diagonal, each_below, each_square, some_below, some_square}
 use Rattle.chess_base.specs.Men.{Men, man_at, other, same_colour, same_kind, is_of, is_man}
 use Rattle.chess_base.specs.Attacks.{is_clear, could_capture, attacks, is_attacked}
-use Rattle.chess_base.specs.ties.Splits.{could_capture_as}
+use Rattle.chess_base.specs.shared.Splits.{could_capture_as}
 use Rattle.chess_bits.specs.declared.line.Line.TheVariants.{Rank, File, Diagonal, Antidiagonal}
 use Rattle.chess_bits.specs.declared.table.Shape.TheVariants as shape
 use mathlib.Core.Bool.{not-not}
 use Rattle.chess_moves.specs.Sets.{contains}
-use Rattle.chess_moves.proofs.Words.{has_zero}
+use Rattle.chess_moves.proofs.shared.Members.{has_zero}
 use Rattle.chess_bits.specs.ties.Rays.{is_on_ray, is_open}
 use Rattle.chess_bits.specs.ties.Shapes.{in_shape}
 use Rattle.chess_bits.specs.ties.Occupancy.{IsOccupied}

@@ -6,10 +6,10 @@ use Rattle.std.proofs.lemmas.Bool.{and_parts, and_right, both_ways, cases_Bool, 
 use Rattle.chess_base.specs.Squares.{is_between}
 use Rattle.chess_bits.specs.declared.line.Line.{Line}
 use Rattle.chess_moves.specs.Sets.{contains, is_beyond}
-use Rattle.chess_moves.proofs.Words.{has_zero}
+use Rattle.chess_moves.proofs.shared.Members.{has_zero}
 use Rattle.chess_bits.specs.ties.Rays.{same_line, is_on_ray, is_open}
 use Rattle.chess_bits.proofs.Geometry.{between_on_line}
-use Rattle.chess_base.proofs.OverSquares.{each_square-all, each_square-fails}
+use Rattle.chess_base.proofs.shared.Squares.{each_square-all, each_square-fails}
 
 -- what lies between a square and one on a ray from it lies on that ray, before that square
 between_on_ray : (l : Line) (up : Bool) (a b x : ℕ) → is_on_ray l up a b ≡ true

@@ -9,7 +9,7 @@ use Rattle.chess_base.specs.declared.man.Man.{Man}
 use Rattle.chess_base.specs.Men.{Men, man_at, is_of, is_man, other, kind_number}
 use Rattle.chess_moves.specs.Sets.{contains}
 use Rattle.std.proofs.lemmas.List.{set-get_or}
-use Rattle.chess_base.proofs.MenFacts.{is_man-none}
+use Rattle.chess_base.proofs.shared.Men.{is_man-none}
 use Rattle.chess_bits.specs.ties.KindSets.{IsKinds}
 
 -- the sets of a colour none of whose pieces came or went

@@ -17,11 +17,10 @@ use Rattle.chess_base.specs.Men.{Men, man_at, other, is_man, is_of, same_kind, s
 use Rattle.chess_base.specs.Moves.{is_pseudo_legal, is_legal, after, arriving_man, man_moves, men_after, second_square_emptied, promotion_fits}
 use Rattle.chess_base.specs.Sound.{IsSound, target_is_sound, target_is_sound_at}
 use Rattle.chess_base.specs.Squares.{file, rank, is_between, is_between_on_file, is_between_on_rank, is_between_on_diagonal, lies_inside, is_square, share_rank_or_file, share_diagonal}
-use Rattle.chess_base.specs.ties.Splits.{could_capture_as}
-use Rattle.chess_base.proofs.MenFacts.{is_none-None}
-use Rattle.chess_base.proofs.MoveKinds.{Moves, MoveKind, ManMoves, Castles, PawnMoves, moves_from_pattern}
-use Rattle.chess_base.proofs.OverSquares.{each_square-all, each_square-at, some_square-at}
-use Rattle.chess_base.proofs.TakesBack.{castles_unpromoted}
+use Rattle.chess_base.specs.shared.Splits.{could_capture_as}
+use Rattle.chess_base.proofs.shared.Men.{is_none-None}
+use Rattle.chess_base.proofs.shared.MoveKinds.{Moves, MoveKind, ManMoves, Castles, PawnMoves, moves_from_pattern, castles_unpromoted}
+use Rattle.chess_base.proofs.shared.Squares.{each_square-all, each_square-at, some_square-at}
 use Rattle.chess_moves.specs.Sets.{contains}
 use Rattle.chess_bits.specs.ties.Bounds.{aims_from, IsShield}
 use Rattle.chess_bits.specs.ties.Goes.{lifted}

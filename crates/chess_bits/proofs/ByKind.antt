@@ -16,9 +16,9 @@ use Rattle.chess_base.specs.Castling.{castle_of}
 use Rattle.chess_base.specs.Men.{man_at, is_of, is_man, kind_number, same_colour, same_kind}
 use Rattle.chess_base.specs.MoveList.{move_of}
 use Rattle.chess_base.specs.Moves.{is_pseudo_legal, is_legal, after, man_moves, pawn_advances, pawn_captures, promotion_fits}
-use Rattle.chess_base.specs.ties.Splits.{castles_or_moves}
+use Rattle.chess_base.specs.shared.Splits.{castles_or_moves}
 use Rattle.chess_base.specs.Squares.{is_square}
-use Rattle.chess_base.proofs.MenFacts.{is_man-kind}
+use Rattle.chess_base.proofs.shared.Men.{is_man-kind}
 use Rattle.chess_moves.specs.Promoting.{would_promote}
 use Rattle.chess_moves.specs.Sets.{contains}
 use Rattle.chess_bits.specs.ties.Changes.{StepsPlainly}

@@ -10,11 +10,11 @@ use Rattle.chess_base.specs.declared.man.Kind.TheVariants.{King, Rook}
 use Rattle.chess_base.specs.declared.man.Variant.TheVariants.{Normal}
 use Rattle.chess_base.specs.declared.setup.Setup.{Setup}
 use Rattle.chess_base.specs.Castling.{home_square, king_home_file, rook_file, castled_king_file, castled_rook_file, right_of, are_placed_for_castling, right_is_sound, is_castling_to, castling, castle_from, castle_by, castle_of}
-use Rattle.chess_base.specs.ties.Splits.{names_castling, castle_with}
+use Rattle.chess_base.specs.shared.Splits.{names_castling, castle_with}
 use Rattle.chess_base.specs.Men.{man_at, is_man}
 use Rattle.chess_base.specs.MoveList.{move_of}
 use Rattle.chess_base.specs.Sound.{IsSound}
-use Rattle.chess_base.proofs.Castlings.{right_stands_of, right_that_stands}
+use Rattle.chess_base.proofs.shared.Castling.{right_stands_of, right_that_stands}
 use Rattle.chess_base.specs.declared.man.Variant.{Variant}
 use Rattle.chess_bits.specs.ties.Goes.{castling_end}
 use Rattle.chess_bits.proofs.OneKing.{alone, has_king}

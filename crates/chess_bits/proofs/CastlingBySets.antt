@@ -18,13 +18,12 @@ use Rattle.chess_base.specs.Castling.{home_square, king_home_file, rook_file, ca
 use Rattle.chess_base.specs.Men.{Men, man_at, other, is_man, first_rank}
 use Rattle.chess_base.specs.MoveList.{move_of}
 use Rattle.chess_base.specs.Moves.{is_pseudo_legal, is_legal, promotion_fits, arriving_man, second_square_emptied, steps_of}
-use Rattle.chess_base.specs.ties.Splits.{castles_or_moves}
+use Rattle.chess_base.specs.shared.Splits.{castles_or_moves}
 use Rattle.chess_base.specs.Sound.{IsSound}
 use Rattle.chess_base.specs.Squares.{rank, is_between, each_below, some_below, each_square, some_square}
-use Rattle.chess_base.proofs.Castlings.{right_stands_of, right_that_stands}
-use Rattle.chess_base.proofs.Landing.{says_from_castling, castling_says, castle_there, no_castle}
-use Rattle.chess_base.proofs.Changes.{no_en_passant}
-use Rattle.chess_base.proofs.MenFacts.{in_board, is_man-kind}
+use Rattle.chess_base.proofs.shared.Castling.{right_stands_of, right_that_stands, says_from_castling, castling_says, castle_there, no_castle}
+use Rattle.chess_base.proofs.shared.Changes.{no_en_passant}
+use Rattle.chess_base.proofs.shared.Men.{in_board, is_man-kind}
 use Rattle.chess_moves.specs.Promoting.{would_promote}
 use Rattle.chess_bits.specs.declared.line.Line.TheVariants.{Rank}
 use Rattle.chess_bits.specs.ties.Goes.{goes}

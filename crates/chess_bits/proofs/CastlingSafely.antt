@@ -14,19 +14,18 @@ use Rattle.chess_base.specs.declared.man.Variant.{Variant}
 use Rattle.chess_base.specs.declared.man.Variant.TheVariants.{Normal}
 use Rattle.chess_base.specs.declared.setup.Setup.{Setup}
 use Rattle.chess_base.specs.Attacks.{is_clear, attacks, is_attacked}
-use Rattle.chess_base.specs.ties.Splits.{could_capture_as}
+use Rattle.chess_base.specs.shared.Splits.{could_capture_as}
 use Rattle.chess_base.specs.Castling.{home_square, king_home_file, rook_file, castled_king_file, castled_rook_file, right_of, names_castling_with, are_placed_for_castling, right_is_sound, castling, castle_from, castle_of, is_on_way, castling_way_is_empty, castling_way_is_safe, mover_end, castling_rook_to}
 use Rattle.chess_base.specs.Before.{mover_to}
 use Rattle.chess_base.specs.Men.{Men, man_at, other, is_of, is_man}
 use Rattle.chess_base.specs.Moves.{is_pseudo_legal, is_legal, arriving_man, men_after, second_square_emptied}
 use Rattle.chess_base.specs.Sound.{IsSound}
 use Rattle.chess_base.specs.Squares.{is_between, is_between_on_file, is_between_on_rank, is_between_on_diagonal}
-use Rattle.chess_base.proofs.Castlings.{right_stands_of, right_that_stands}
-use Rattle.chess_base.proofs.Changes.{no_en_passant}
-use Rattle.chess_base.proofs.Landing.{says_from_castling, castling_says, castle_there, no_castle}
-use Rattle.chess_base.proofs.MenAfter.{man_after, man_at-men_after}
-use Rattle.chess_base.proofs.MenFacts.{is_man-kind}
-use Rattle.chess_base.proofs.OverSquares.{each_square-all, each_square-at, some_square-at, some_square-none}
+use Rattle.chess_base.proofs.shared.Castling.{right_stands_of, right_that_stands, says_from_castling, castling_says, castle_there, no_castle}
+use Rattle.chess_base.proofs.shared.Changes.{no_en_passant}
+use Rattle.chess_base.proofs.shared.MenAfter.{man_after, man_at-men_after}
+use Rattle.chess_base.proofs.shared.Men.{is_man-kind}
+use Rattle.chess_base.proofs.shared.Squares.{each_square-all, each_square-at, some_square-at, some_square-none}
 use Rattle.chess_bits.proofs.CastlingBySets.{king_goes, castle_pattern}
 use Rattle.chess_bits.proofs.KingAfter.{mover_own, king_lands, check_after, legal_is}
 use Rattle.chess_bits.proofs.KingSteps.{not_between_end}

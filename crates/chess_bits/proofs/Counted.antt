@@ -8,11 +8,11 @@ use Rattle.chess_base.specs.declared.setup.Setup.{Setup}
 use Rattle.chess_base.specs.MoveList.{move_of, squares, moves}
 use Rattle.chess_base.specs.Moves.{is_legal, promotion_fits}
 use Rattle.chess_base.specs.Sound.{IsSound}
-use Rattle.chess_moves.specs.ties.Candidates.{moves_between, moves_from}
+use Rattle.chess_moves.specs.shared.MovesBySquares.{moves_between, moves_from}
 use Rattle.chess_moves.specs.Promoting.{would_promote}
 use Rattle.chess_moves.specs.Sets.{contains, members}
-use Rattle.chess_moves.proofs.Parts.{moves-by_start, all_promote, none_promotes}
-use Rattle.chess_moves.proofs.Room.{moves_fit}
+use Rattle.chess_moves.proofs.shared.MovesBySquares.{moves-by_start, all_promote, none_promotes}
+use Rattle.chess_moves.proofs.shared.LegalMoves.{moves_fit}
 
 counted : {A : Type 0} (q : A → Bool) (x : A) (xs : List A)
     → length (filter q (x ∷ xs)) ≡ cond (q x) 1 0 + length (filter q xs)

@@ -11,17 +11,17 @@ use Rattle.chess_base.specs.declared.man.Man.{Man}
 use Rattle.chess_base.specs.declared.man.Move.{Move}
 use Rattle.chess_base.specs.declared.setup.Setup.{Setup}
 use Rattle.chess_base.specs.Attacks.{attacks, is_clear, is_in_check, is_attacked, is_rank_ahead, could_capture}
-use Rattle.chess_base.specs.ties.Splits.{could_capture_as}
+use Rattle.chess_base.specs.shared.Splits.{could_capture_as}
 use Rattle.chess_base.specs.Castling.{castle_of, castling_rook_to}
 use Rattle.chess_base.specs.Men.{Men, man_at, same_kind, other, is_of, is_man, forward, first_rank, pawn_rank}
 use Rattle.chess_base.specs.MoveList.{move_of}
 use Rattle.chess_base.specs.Moves.{is_pseudo_legal, is_legal, is_en_passant, men_after, second_square_emptied, pawn_advances, pawn_captures}
 use Rattle.chess_base.specs.Sound.{IsSound, no_pawn_on_end_ranks}
 use Rattle.chess_base.specs.Squares.{rank, some_square, is_square, share_rank_or_file, share_diagonal}
-use Rattle.chess_base.proofs.Changes.{advance_goes, pawn_attack}
-use Rattle.chess_base.proofs.OverSquares.{each_square-at, some_square-at, some_square-none}
+use Rattle.chess_base.proofs.shared.Changes.{advance_goes, pawn_attack}
+use Rattle.chess_base.proofs.shared.Squares.{each_square-at, some_square-at, some_square-none}
 use Rattle.chess_bits.proofs.Lifted.{lifted_at}
-use Rattle.chess_moves.specs.ties.Candidates.{moves_between, moves_from}
+use Rattle.chess_moves.specs.shared.MovesBySquares.{moves_between, moves_from}
 use Rattle.chess_moves.specs.Promoting.{would_promote}
 use Rattle.chess_moves.specs.Sets.{contains, members}
 use Rattle.chess_bits.specs.declared.table.Shape.TheVariants as shape
@@ -30,7 +30,7 @@ use Rattle.chess_bits.specs.ties.Goes.{goes, aims_at, OpensNoLine, OpensNoDiagon
 use Rattle.chess_bits.proofs.AfterSets.{check_is}
 use Rattle.chess_bits.proofs.Counted.{one_counted}
 use Rattle.chess_bits.proofs.KingAfter.{mover_some, mover_own, king_stays, check_after, legal_is}
-use Rattle.chess_moves.proofs.Parts.{none_promotes}
+use Rattle.chess_moves.proofs.shared.MovesBySquares.{none_promotes}
 use Rattle.chess_bits.proofs.Listed.{Each, each_member, room_for, from_targets, pattern_of}
 use Rattle.chess_bits.proofs.OriginsOf.{off_lowest}
 use Rattle.chess_bits.proofs.Patterns.{pawn_goes}

@@ -9,7 +9,7 @@ use Rattle.chess_base.specs.declared.man.Kind.TheVariants.{King, Queen, Rook, Bi
 use Rattle.chess_base.specs.declared.man.Man.{Man}
 use Rattle.chess_base.specs.Attacks.{attacks}
 use Rattle.chess_base.specs.Men.{Men, man_at, is_man, is_of, same_colour, same_kind, kind_number}
-use Rattle.chess_base.proofs.MenFacts.{same_colour-self, is_man-none}
+use Rattle.chess_base.proofs.shared.Men.{same_colour-self, is_man-none}
 use Rattle.chess_moves.specs.Sets.{contains}
 use Rattle.chess_bits.specs.ties.Occupancy.{IsLater}
 use Rattle.chess_bits.specs.ties.KindSets.{AreKindsAt, IsKinds}

@@ -9,8 +9,8 @@ use Rattle.chess_base.specs.Attacks.{could_capture}
 use Rattle.chess_base.specs.Men.{man_at, is_of, is_man, same_kind}
 use Rattle.chess_base.specs.MoveList.{squares}
 use Rattle.chess_base.specs.Sound.{IsSound}
-use Rattle.chess_base.proofs.MenFacts.{is_of-from_is_man}
-use Rattle.chess_moves.specs.ties.Candidates.{moves_from}
+use Rattle.chess_base.proofs.shared.Men.{is_of-from_is_man}
+use Rattle.chess_moves.specs.shared.MovesBySquares.{moves_from}
 use Rattle.chess_moves.specs.Sets.{contains, members}
 use Rattle.chess_bits.specs.ties.Goes.{man_goes, IsFree, AreFree}
 use Rattle.chess_bits.proofs.Freely.{no_pawn_usual, free_counted}

@@ -14,11 +14,9 @@ use Rattle.chess_base.specs.Squares.{is_square}
 use Rattle.chess_base.specs.Castling.{mover_end, castling_rook_to}
 use Rattle.chess_base.specs.Moves.{is_pseudo_legal, is_legal, after, arriving_man, men_after, second_square_emptied}
 use Rattle.chess_base.specs.Sound.{IsSound, has_one_king}
-use Rattle.chess_base.proofs.Castlings.{change_of}
-use Rattle.chess_base.proofs.CountsAfter.{one_king_after}
-use Rattle.chess_base.proofs.MenAfter.{man_after, man_at-men_after, length-men_after}
-use Rattle.chess_base.proofs.MoveKinds.{moves_from_pattern}
-use Rattle.chess_base.proofs.StaysSound.{man_after-to}
+use Rattle.chess_base.proofs.shared.LegalMoves.{change_of, one_king_after}
+use Rattle.chess_base.proofs.shared.MenAfter.{man_after, man_at-men_after, length-men_after, man_after-to}
+use Rattle.chess_base.proofs.shared.MoveKinds.{moves_from_pattern}
 use Rattle.chess_bits.proofs.AfterSets.{check_is}
 use Rattle.chess_bits.proofs.BoardSets.{theirs_of}
 use Rattle.chess_bits.proofs.OneKing.{none_counted, alone, has_king}

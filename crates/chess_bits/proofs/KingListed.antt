@@ -10,11 +10,11 @@ use Rattle.chess_base.specs.Castling.{castle_of}
 use Rattle.chess_base.specs.Men.{man_at, is_man}
 use Rattle.chess_base.specs.MoveList.{move_of}
 use Rattle.chess_base.specs.Moves.{is_legal, man_moves}
-use Rattle.chess_moves.specs.ties.Candidates.{moves_between, moves_from}
+use Rattle.chess_moves.specs.shared.MovesBySquares.{moves_between, moves_from}
 use Rattle.chess_moves.specs.Promoting.{would_promote}
 use Rattle.chess_moves.specs.Sets.{contains, members}
-use Rattle.chess_moves.proofs.Members.{flat_map_members}
-use Rattle.chess_moves.proofs.Parts.{none_promotes}
+use Rattle.chess_moves.proofs.shared.Members.{flat_map_members}
+use Rattle.chess_moves.proofs.shared.MovesBySquares.{none_promotes}
 use Rattle.chess_bits.specs.ties.Goes.{legal_or}
 use Rattle.chess_bits.proofs.ByKind.{king_otherwise}
 use Rattle.chess_bits.proofs.Patterns.{not_promoting}

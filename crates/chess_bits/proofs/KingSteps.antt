@@ -16,7 +16,7 @@ use Rattle.chess_base.specs.declared.man.Variant.{Variant}
 use Rattle.chess_base.specs.declared.man.Variant.TheVariants.{Normal, Fischerandom}
 use Rattle.chess_base.specs.declared.setup.Setup.{Setup}
 use Rattle.chess_base.specs.Attacks.{is_clear, could_capture, attacks, is_attacked}
-use Rattle.chess_base.specs.ties.Splits.{could_capture_as, names_castling}
+use Rattle.chess_base.specs.shared.Splits.{could_capture_as, names_castling}
 use Rattle.chess_base.specs.Castling.{home_square, king_home_file, castled_king_file, right_of, is_castling_to, castle_of, mover_end, castling_rook_to}
 use Rattle.chess_base.specs.Before.{mover_to}
 use Rattle.chess_base.specs.Men.{Men, man_at, other, is_of, is_man}
@@ -24,9 +24,9 @@ use Rattle.chess_base.specs.MoveList.{move_of, squares}
 use Rattle.chess_base.specs.Moves.{is_pseudo_legal, is_legal, is_en_passant, man_moves, men_after, second_square_emptied}
 use Rattle.chess_base.specs.Sound.{IsSound}
 use Rattle.chess_base.specs.Squares.{file, rank, gap, is_between, is_between_on_file, is_between_on_rank, is_between_on_diagonal}
-use Rattle.chess_base.proofs.Castlings.{right_stands_of, castling_rook_stands}
-use Rattle.chess_base.proofs.MenFacts.{is_of-from_is_man}
-use Rattle.chess_moves.specs.ties.Candidates.{moves_between, moves_from}
+use Rattle.chess_base.proofs.shared.Castling.{right_stands_of, castling_rook_stands}
+use Rattle.chess_base.proofs.shared.Men.{is_of-from_is_man}
+use Rattle.chess_moves.specs.shared.MovesBySquares.{moves_between, moves_from}
 use Rattle.chess_moves.specs.Promoting.{would_promote}
 use Rattle.chess_moves.specs.Sets.{contains, members}
 use Rattle.chess_bits.specs.ties.Goes.{goes, legal_or, lifted}

@@ -1,34 +1,34 @@
-pub mod Geometry
-pub mod Blockers
-pub mod Attackers
-pub mod BetweenSquares
-pub mod KindSets
-pub mod BoardSets
-pub mod AfterSets
-pub mod Quiet
-pub mod Making
+mod Geometry
+mod Blockers
+mod Attackers
+mod BetweenSquares
+mod KindSets
+mod BoardSets
+mod AfterSets
+mod Quiet
+mod Making
 mod Keyed
-pub mod Reached
-pub mod OneKing
-pub mod Standing
-pub mod KingAfter
-pub mod KingListed
-pub mod Patterns
-pub mod TargetsOf
-pub mod Listed
+mod Reached
+mod OneKing
+mod Standing
+mod KingAfter
+mod KingListed
+mod Patterns
+mod TargetsOf
+mod Listed
 mod Counted
-pub mod OriginsOf
-pub mod CastlingBySets
-pub mod Freely
-pub mod Lifted
-pub mod KingSteps
-pub mod AnyMember
-pub mod Starts
-pub mod ByKind
-pub mod Shields
-pub mod KindsCounted
-pub mod CastlingAtHome
-pub mod CastlingSafely
-pub mod PawnStarts
-pub mod PawnsCounted
-pub mod Bounds
+mod OriginsOf
+mod CastlingBySets
+mod Freely
+mod Lifted
+mod KingSteps
+mod AnyMember
+mod Starts
+mod ByKind
+mod Shields
+mod KindsCounted
+mod CastlingAtHome
+mod CastlingSafely
+mod PawnStarts
+mod PawnsCounted
+mod Bounds

@@ -12,12 +12,12 @@ use Rattle.chess_base.specs.Men.{man_at, is_of}
 use Rattle.chess_base.specs.MoveList.{move_of, squares, moves}
 use Rattle.chess_base.specs.Moves.{is_pseudo_legal, is_legal, promotion_fits}
 use Rattle.chess_base.specs.Sound.{IsSound}
-use Rattle.chess_moves.specs.ties.Candidates.{moves_between, moves_from}
+use Rattle.chess_moves.specs.shared.MovesBySquares.{moves_between, moves_from}
 use Rattle.chess_moves.specs.Promoting.{would_promote}
 use Rattle.chess_moves.specs.Sets.{contains, members}
-use Rattle.chess_moves.proofs.Members.{flat_map_members}
-use Rattle.chess_moves.proofs.Parts.{moves-by_start, none_from}
-use Rattle.chess_moves.proofs.Room.{moves_fit}
+use Rattle.chess_moves.proofs.shared.Members.{flat_map_members}
+use Rattle.chess_moves.proofs.shared.MovesBySquares.{moves-by_start, none_from}
+use Rattle.chess_moves.proofs.shared.LegalMoves.{moves_fit}
 use Rattle.chess_bits.specs.ties.Goes.{goes}
 use Rattle.chess_bits.proofs.Patterns.{pattern_is}
 

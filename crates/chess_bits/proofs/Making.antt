@@ -21,14 +21,14 @@ use Rattle.chess_base.specs.Squares.{is_square}
 use Rattle.chess_base.specs.Men.{Men, man_at, other, is_man, is_of, same_colour, same_kind}
 use Rattle.chess_base.specs.Before.{captured_square, man_on, saved_of}
 use Rattle.chess_base.specs.Castling.{castling_rook_to, home_square, is_beside, king_home_file, king_square, mover_end, right_of, right_is_sound, rook_file, is_castling_to, are_placed_for_castling}
-use Rattle.chess_base.specs.ties.Splits.{right_is_sound_at}
+use Rattle.chess_base.specs.shared.Splits.{right_is_sound_at}
 use Rattle.chess_base.specs.Sound.{IsSound}
 use Rattle.chess_base.specs.Attacks.{is_in_check}
 use Rattle.chess_base.specs.Moves.{after, fullmove_after, halfmove_after, is_pseudo_legal, is_double_advance, is_legal, arriving_man, men_after, resets_clock, right_after, rights_after, second_square_emptied, target_after}
-use Rattle.chess_base.proofs.Castlings.{change_of}
-use Rattle.chess_base.proofs.Changes.{Change, Rest, Alone, WithCapture, WithRook}
-use Rattle.chess_base.proofs.MoveKinds.{is_of-mover}
-use Rattle.chess_base.proofs.Writes.{men_after-written}
+use Rattle.chess_base.proofs.shared.LegalMoves.{change_of}
+use Rattle.chess_base.proofs.shared.Changes.{Change, Rest, Alone, WithCapture, WithRook}
+use Rattle.chess_base.proofs.shared.MoveKinds.{is_of-mover}
+use Rattle.chess_base.proofs.shared.Writes.{men_after-written}
 use Rattle.chess_bits.specs.ties.Changes.{clock_left, goes_plainly, has_no_right, is_king_or_rook, shifted, shifts, IsPlainly}
 use Rattle.chess_bits.proofs.BoardSets.{set_twice}
 use Rattle.chess_bits.proofs.Quiet.{not_passing}

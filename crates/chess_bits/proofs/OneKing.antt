@@ -7,10 +7,10 @@ use Rattle.chess_base.specs.declared.man.Kind.TheVariants.{King}
 use Rattle.chess_base.specs.declared.setup.Setup.{Setup}
 use Rattle.chess_base.specs.Men.{Men, man_at, is_man}
 use Rattle.chess_base.specs.Sound.{IsSound, has_one_king}
-use Rattle.chess_base.proofs.Kings.{one_king}
+use Rattle.chess_base.proofs.shared.Kings.{one_king}
 use Rattle.chess_base.specs.declared.man.Colour.TheVariants.{White, Black}
 use Rattle.chess_moves.specs.Sets.{contains}
-use Rattle.chess_moves.proofs.Words.{has_zero}
+use Rattle.chess_moves.proofs.shared.Members.{has_zero}
 
 pub none_counted : {X : Type 0} (q : X → Bool) (d : X) (xs : List X)
     → ((k : ℕ) → k < length xs → q (get_or xs k d) ≡ false) → count_by q xs ≡ 0

@@ -16,11 +16,11 @@ use Rattle.chess_base.specs.MoveList.{move_of}
 use Rattle.chess_base.specs.Moves.{is_legal, pawn_advances, pawn_captures}
 use Rattle.chess_base.specs.Sound.{IsSound, no_pawn_on_end_ranks, pawn_is_allowed}
 use Rattle.chess_base.specs.Squares.{file, rank, is_square}
-use Rattle.chess_base.proofs.Changes.{advance_goes, pawn_from_same}
-use Rattle.chess_base.proofs.MenFacts.{is_of-from_is_man}
-use Rattle.chess_base.proofs.OverSquares.{each_square-at}
+use Rattle.chess_base.proofs.shared.Changes.{advance_goes, pawn_from_same}
+use Rattle.chess_base.proofs.shared.Men.{is_of-from_is_man}
+use Rattle.chess_base.proofs.shared.Squares.{each_square-at}
 use Rattle.chess_moves.specs.Sets.{contains, HasOrigins}
-use Rattle.chess_moves.proofs.Origins.{begins_below}
+use Rattle.chess_moves.proofs.shared.Origins.{begins_below}
 use Rattle.chess_bits.specs.declared.line.Line.TheVariants.{File}
 use Rattle.chess_bits.specs.declared.table.Shape.TheVariants as shape
 use Rattle.chess_bits.specs.ties.Goes.{man_goes}

@@ -14,9 +14,9 @@ use Rattle.chess_base.specs.Castling.{castle_of, castles}
 use Rattle.chess_base.specs.Men.{man_at, other, same_colour, same_kind, is_man, is_of, first_rank}
 use Rattle.chess_base.specs.MoveList.{move_of}
 use Rattle.chess_base.specs.Moves.{is_pseudo_legal, is_legal, after, moves_as, man_moves, pawn_moves, pawn_advances, pawn_captures, is_double_advance, promotion_fits}
-use Rattle.chess_base.specs.ties.Splits.{castles_or_moves}
+use Rattle.chess_base.specs.shared.Splits.{castles_or_moves}
 use Rattle.chess_base.specs.Squares.{rank}
-use Rattle.chess_base.proofs.MenFacts.{same_colour-self}
+use Rattle.chess_base.proofs.shared.Men.{same_colour-self}
 use Rattle.chess_moves.specs.Promoting.{would_promote}
 use Rattle.chess_moves.specs.Sets.{contains}
 use Rattle.chess_bits.specs.ties.Goes.{usual_promotion, goes, legal_or, man_goes}

@@ -14,10 +14,10 @@ use Rattle.chess_base.specs.MoveList.{move_of, squares}
 use Rattle.chess_base.specs.Moves.{is_legal, pawn_advances, pawn_captures}
 use Rattle.chess_base.specs.Sound.{IsSound, no_pawn_on_end_ranks, pawn_is_allowed}
 use Rattle.chess_base.specs.Squares.{file, rank, gap, is_square}
-use Rattle.chess_base.proofs.OverSquares.{each_square-at}
-use Rattle.chess_moves.specs.ties.Candidates.{moves_between, moves_from}
+use Rattle.chess_base.proofs.shared.Squares.{each_square-at}
+use Rattle.chess_moves.specs.shared.MovesBySquares.{moves_between, moves_from}
 use Rattle.chess_moves.specs.Sets.{contains, members}
-use Rattle.chess_moves.proofs.Members.{filter_none, filter_first, by_range}
+use Rattle.chess_moves.proofs.shared.Members.{filter_none, filter_first, by_range}
 use Rattle.chess_bits.specs.declared.table.Shape.TheVariants as shape
 use Rattle.chess_bits.specs.ties.Goes.{goes, aims_at, goes_unusually, IsFree, AreFree}
 use Rattle.chess_bits.specs.ties.Shapes.{in_shape}

@@ -11,12 +11,12 @@ use Rattle.chess_base.specs.declared.man.Move.{Move}
 use Rattle.chess_base.specs.Squares.{is_square, share_rank_or_file, share_diagonal, is_between}
 use Rattle.chess_base.specs.Men.{Men, man_at, other, is_man, is_of}
 use Rattle.chess_base.specs.Attacks.{is_clear, could_capture, attacks, is_attacked}
-use Rattle.chess_base.specs.ties.Splits.{could_capture_as}
+use Rattle.chess_base.specs.shared.Splits.{could_capture_as}
 use Rattle.chess_base.specs.declared.setup.Setup.{Setup}
 use Rattle.chess_base.specs.Moves.{is_en_passant, arriving_man, men_after, second_square_emptied, steps_of}
 use Rattle.chess_base.specs.Castling.{castle_of, mover_end, castling_rook_to}
-use Rattle.chess_base.proofs.MenAfter.{man_after, man_at-men_after}
-use Rattle.chess_base.proofs.OverSquares.{some_square-at, some_square-none, each_square-all, each_square-at}
+use Rattle.chess_base.proofs.shared.MenAfter.{man_after, man_at-men_after}
+use Rattle.chess_base.proofs.shared.Squares.{some_square-at, some_square-none, each_square-all, each_square-at}
 use Rattle.chess_base.specs.declared.steps.Steps.{Steps}
 use Rattle.chess_base.specs.MoveList.{move_of}
 use Rattle.chess_bits.specs.ties.Changes.{StepsPlainly, is_changed, is_filled}

@@ -4,7 +4,7 @@ use Rattle.std.proofs.lemmas.Bool.{and_parts, or_cases, or_left, or_right, both_
 use Rattle.chess_base.specs.Attacks.{is_clear}
 use Rattle.chess_base.specs.Men.{Men, man_at}
 use Rattle.chess_base.specs.Squares.{share_rank_or_file, share_diagonal, lies_inside, is_between}
-use Rattle.chess_base.proofs.OverSquares.{each_square-all, each_square-at}
+use Rattle.chess_base.proofs.shared.Squares.{each_square-all, each_square-at}
 use Rattle.chess_bits.specs.declared.line.Line.{Line}
 use Rattle.chess_bits.specs.declared.line.Line.TheVariants.{Rank, File, Diagonal, Antidiagonal}
 use Rattle.chess_bits.specs.ties.Goes.{lifted}

@@ -5,11 +5,11 @@ use Rattle.chess_base.specs.declared.man.Colour.TheVariants.{White, Black}
 use Rattle.chess_base.specs.declared.man.Kind.{Kind}
 use Rattle.chess_base.specs.declared.man.Kind.TheVariants.{King, Queen, Rook, Bishop, Knight, Pawn}
 use Rattle.chess_base.specs.declared.man.Man.{Man}
-use Rattle.std.specs.Prelude.{slice_index}
+use Rattle.std.specs.Prelude.{slice_index, cond}
 use Rattle.chess_base.specs.Men.{Men, man_at, is_of, is_man, kind_number}
 use Rattle.chess_moves.specs.PositionWord.{square_keys, xor_of}
 use Rattle.chess_moves.specs.Sets.{contains, members}
-use Rattle.chess_moves.proofs.Xored.{no_men_keys, same_men_keys}
+use Rattle.chess_moves.proofs.shared.PositionWord.{no_men_keys, same_men_keys}
 use Rattle.chess_bits.specs.ties.Occupancy.{IsOccupied}
 use Rattle.chess_bits.specs.declared.sets.Sets.{Sets}
 use Rattle.chess_bits.specs.ties.KindSets.{IsKinds}
@@ -17,7 +17,6 @@ use Rattle.chess_bits.specs.ties.BoardSets.{IsSets}
 use Rattle.chess_bits.proofs.BoardSets.{set_twice, same_written}
 use Rattle.chess_bits.proofs.Starts.{first_gone, taken_first, none_left}
 use Rattle.std.proofs.lemmas.Bool.{cases_eq, eq-eqb, ne_eqb}
-use Rattle.std.specs.Prelude.{cond}
 
 pub kinds_same : (sets : List ℕ) (c : Colour) (a b : Men) → ((k : ℕ) → k < 64 → man_at a k ≡ man_at b k)
     → IsKinds sets c a → IsKinds sets c b

@@ -18,16 +18,16 @@ use Rattle.chess_base.specs.declared.man.Variant.{Variant}
 use Rattle.chess_base.specs.declared.man.Variant.TheVariants.{Normal, Fischerandom}
 use Rattle.chess_base.specs.declared.setup.Setup.{Setup}
 use Rattle.chess_base.specs.Attacks.{attacks, could_capture}
-use Rattle.chess_base.specs.ties.Splits.{could_capture_as, names_castling}
+use Rattle.chess_base.specs.shared.Splits.{could_capture_as, names_castling}
 use Rattle.chess_base.specs.Castling.{home_square, king_home_file, castled_king_file, right_of, is_castling_to, castling, castle_of}
 use Rattle.chess_base.specs.Men.{man_at, other, is_of, is_man, same_kind, same_colour, kind_number, forward, pawn_rank}
 use Rattle.chess_base.specs.MoveList.{move_of}
 use Rattle.chess_base.specs.Moves.{is_legal, is_pseudo_legal, man_moves, pawn_advances, pawn_captures, is_double_advance}
 use Rattle.chess_base.specs.Squares.{rank, is_square}
-use Rattle.chess_base.proofs.Landing.{no_castle}
-use Rattle.chess_base.proofs.MenFacts.{same_colour-self, same_colour-true}
+use Rattle.chess_base.proofs.shared.Castling.{no_castle}
+use Rattle.chess_base.proofs.shared.Men.{same_colour-self, same_colour-true}
 use Rattle.chess_moves.specs.Sets.{contains}
-use Rattle.chess_moves.proofs.Reach.{own_man_moves}
+use Rattle.chess_moves.proofs.shared.LegalMoves.{own_man_moves}
 use Rattle.chess_bits.specs.ties.Goes.{goes, names_end, castling_end, legal_or, castling_or, man_goes}
 use Rattle.chess_bits.proofs.Patterns.{pawn_goes, legal_goes, man_sound, man_complete}
 

@@ -8,7 +8,7 @@ ghost use Rattle.chess_base.specs.Moves.{is_pseudo_legal, is_legal, man_moves, p
 ghost use Rattle.chess_base.specs.declared.man.Kind.TheVariants.{King, Knight, Pawn};
 ghost use Rattle.chess_bits.specs.ties.Bounds.{AreEnds, EndsOn};
 ghost use Rattle.chess_bits.specs.ties.Goes.{goes, IsFree, AreFree};
-ghost use Rattle.chess_moves.specs.ties.Candidates.{moves_between, moves_from};
+ghost use Rattle.chess_moves.specs.shared.MovesBySquares.{moves_between, moves_from};
 ghost use Rattle.chess_moves.specs.Promoting.{would_promote};
 ghost use Rattle.chess_moves.specs.Sets.{contains, members};
 

@@ -9,7 +9,7 @@ ghost use Rattle.chess_base.specs.declared.man.Kind.{Kind as ManKind};
 ghost use Rattle.chess_base.specs.declared.man.Kind.TheVariants.{King, Pawn};
 ghost use Rattle.chess_bits.specs.ties.Bounds.{AreEnds, EndsOn};
 ghost use Rattle.chess_bits.specs.ties.Goes.{goes, goes_unusually, IsFree};
-ghost use Rattle.chess_moves.specs.ties.Candidates.{moves_with, moves_between, moves_from};
+ghost use Rattle.chess_moves.specs.shared.MovesBySquares.{moves_with, moves_between, moves_from};
 ghost use Rattle.chess_moves.specs.Promoting.{would_promote};
 ghost use Rattle.chess_moves.specs.Sets.{contains};
 

@@ -8,7 +8,7 @@ ghost use Rattle.chess_base.specs.Moves.{pawn_advances};
 ghost use Rattle.chess_base.specs.Squares.{file};
 ghost use Rattle.chess_base.specs.declared.man.Kind.TheVariants.{Pawn};
 ghost use Rattle.chess_bits.specs.ties.Goes.{AreFree, goes_unusually};
-ghost use Rattle.chess_moves.specs.ties.Candidates.{moves_from};
+ghost use Rattle.chess_moves.specs.shared.MovesBySquares.{moves_from};
 ghost use Rattle.chess_moves.specs.Sets.{contains, members};
 
 use crate::bits::Bits;

@@ -3,7 +3,7 @@
 ghost use Rattle.std.specs.Prelude.{◌≡◌, ℕ, ◌==◌, ◌&&◌, ◌||◌, length, IsTrue, Some, None, if◌then◌else◌};
 ghost use Rattle.chess_base.specs.Before.{before, saved_of};
 ghost use Rattle.chess_base.specs.Men.{man_at};
-ghost use Rattle.chess_base.specs.ties.Changes.{with_man};
+ghost use Rattle.chess_base.specs.shared.OneSquare.{with_man};
 ghost use Rattle.chess_base.specs.Moves.{after, is_legal, rights_after, steps_of, target_after};
 ghost use Rattle.chess_base.specs.Sound.{IsSound};
 ghost use Rattle.chess_base.specs.Squares.{is_square};

@@ -1,10 +1,10 @@
-pub mod Words
-pub mod Responses
-pub mod LinesOn
-pub mod RunLemmas
-pub mod KnownInputs
-pub mod Refusals
-pub mod OwnRows
-pub mod Ends
-pub mod NormalGames
-pub mod NormalRows
+mod Words
+mod Responses
+mod LinesOn
+mod RunLemmas
+mod KnownInputs
+mod Refusals
+mod OwnRows
+mod Ends
+mod NormalGames
+mod NormalRows

@@ -3,7 +3,7 @@ use Rattle.std.proofs.Common.{◌≡◌, ◌≢◌, ℕ, ◌+◌, ◌-◌, ◌�
 use Rattle.std.proofs.lemmas.List.{take-append-drop}
 use Rattle.text_lines.specs.Lines.{LineSeen, lines_from, stream_lines, whole, line_of}
 use Rattle.text_lines.specs.Next.{before_piece}
-use Rattle.text_lines.proofs.Parts.{none_from, ten_step, byte_step}
+use Rattle.text_lines.proofs.shared.LineSteps.{none_from, ten_step, byte_step}
 use Rattle.chess_cecp.specs.Serving.{Response, Server, responses}
 use Rattle.chess_cecp.specs.declared.session.TheConstants.{COMMAND_LEN}
 use Rattle.chess_cecp.proofs.Responses.{with_front, passes, stops}

@@ -14,12 +14,12 @@ use Rattle.chess_base.specs.Initial.{initial_setup, initial_setup_of}
 use Rattle.chess_base.specs.Men.{other, same_colour}
 use Rattle.chess_base.specs.Moves.{after, is_en_passant}
 use Rattle.chess_base.specs.laws.Normal.{normal_after}
-use Rattle.chess_base.proofs.NormalKept.{normal_kept as rules_kept}
+use Rattle.chess_base.proofs.shared.Normal.{normal_kept as rules_kept}
 use Rattle.chess_fen.specs.Writing.{fen, is_initial}
 use Rattle.chess_fen.specs.laws.Normal.{normal_fen}
-use Rattle.chess_fen.proofs.NormalWritten.{fen_kept}
+use Rattle.chess_fen.proofs.shared.Normal.{fen_kept}
 use Rattle.chess_text.specs.laws.Normal.{normal_moves, normal_san}
-use Rattle.chess_text.proofs.NormalTexts.{normal_kept as texts_kept}
+use Rattle.chess_text.proofs.shared.Normal.{normal_kept as texts_kept}
 use Rattle.chess_game.specs.declared.ends.Verdict.{Verdict}
 use Rattle.chess_game.specs.declared.ends.Verdict.TheVariants.{Stalemate, InsufficientMaterial, FivefoldRepetition, SeventyFiveMoves}
 use Rattle.chess_game.specs.declared.results.Declared.{Declared}

@@ -11,14 +11,13 @@ use Rattle.chess_base.specs.MoveList.{moves}
 use Rattle.chess_fen.specs.Reading.{fen_reading_as}
 use Rattle.chess_fen.specs.Writing.{fen}
 use Rattle.chess_fen.specs.laws.Normal.{normal_fen, normal_fen_reading}
-use Rattle.chess_fen.proofs.NormalRead.{reading_kept, reading_is_normal}
-use Rattle.chess_fen.proofs.NormalWritten.{fen_kept}
+use Rattle.chess_fen.proofs.shared.Normal.{reading_kept, reading_is_normal, fen_kept}
 use Rattle.chess_text.specs.declared.reading.Reading.{Reading}
 use Rattle.chess_text.specs.declared.reading.Reading.TheVariants as reads
 use Rattle.chess_text.specs.Moves.{reading}
 use Rattle.chess_text.specs.San.{shown_move}
 use Rattle.chess_text.specs.laws.Normal.{normal_moves, normal_reading}
-use Rattle.chess_text.proofs.NormalTexts.{normal_kept as texts_kept}
+use Rattle.chess_text.proofs.shared.Normal.{normal_kept as texts_kept}
 use Rattle.chess_game.specs.declared.ends.Claims.{Claims}
 use Rattle.chess_game.specs.declared.ends.Verdict.{Verdict}
 use Rattle.chess_game.specs.declared.results.Declared.{Declared}

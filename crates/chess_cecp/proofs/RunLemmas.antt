@@ -6,11 +6,11 @@ use Rattle.std.specs.Bool.{MatchBool}
 use Rattle.std.proofs.lemmas.Grind.{common_steps}
 use Rattle.byte_devices.specs.Devices.{InputState, OutputState, Sent, BreaksOff, risen}
 use Rattle.byte_devices.specs.Transfers.{FromInput, InputGave, OutputTook, Ran, all_of, risen_if}
-use Rattle.byte_devices.proofs.DeviceLaws.{consumes_more, consumes_none}
-use Rattle.byte_devices.proofs.Transferred.{came, broke, took_nothing, took_more, took_some_more}
+use Rattle.byte_devices.proofs.shared.Devices.{consumes_more, consumes_none}
+use Rattle.byte_devices.proofs.shared.Transfers.{came, broke, took_nothing, took_more, took_some_more}
 use Rattle.text_lines.specs.Lines.{LineSeen, Held, nothing_held, stream_lines, lines_held, whole}
 use Rattle.text_lines.specs.Next.{before_piece, Waits, GotLine, GotLast, NextLine}
-use Rattle.text_lines.proofs.Parts.{nothing_left}
+use Rattle.text_lines.proofs.shared.Lines.{nothing_left}
 use Rattle.chess_cecp.specs.Serving.{Response, Server, responses}
 use Rattle.chess_cecp.specs.Served.{Served, AnswersAll, lines_read}
 use Rattle.chess_cecp.specs.declared.session.Go.{Go}

@@ -12,7 +12,7 @@ use Rattle.chess_base.specs.Men.{Men}
 use Rattle.chess_base.specs.Castling.{rights_by}
 use Rattle.chess_base.specs.Sound.{IsSound}
 use Rattle.chess_base.specs.Faults.{setup_fault}
-use Rattle.chess_base.proofs.FaultsLemmas.{no_fault_from_IsSound}
+use Rattle.chess_base.proofs.shared.Sound.{no_fault_from_IsSound}
 use Rattle.chess_base.specs.declared.fault.FenFault.{FenFault}
 use Rattle.chess_base.specs.declared.fault.FenFault.TheVariants as faults
 use Rattle.chess_fen.specs.RightNames.{right_by_letters}

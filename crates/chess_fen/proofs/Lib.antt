@@ -1,24 +1,25 @@
-pub mod Lengths
-pub mod RanksText
-pub mod Ranks
-pub mod Placing
-pub mod Splits
-pub mod FirstField
-pub mod DenotedRanks
-pub mod Runs
-pub mod RookAmong
-pub mod DenotedRights
-pub mod RightsBack
-pub mod NamedRooks
-pub mod Joined
-pub mod RoundTrip
-pub mod DenotedFields
-pub mod DenotedFen
-pub mod NormalWritten
-pub mod NormalRead
-pub mod WrittenFen
-pub mod Ascii
-pub mod FieldsDenoted
-pub mod OneRankText
-pub mod RightsAlike
+pub mod shared
+mod Lengths
+mod RanksText
+mod Ranks
+mod Placing
+mod Splits
+mod FirstField
+mod DenotedRanks
+mod Runs
+mod RookAmong
+mod DenotedRights
+mod RightsBack
+mod NamedRooks
+mod Joined
+mod RoundTrip
+mod DenotedFields
+mod DenotedFen
+mod NormalWritten
+mod NormalRead
+mod WrittenFen
+mod Ascii
+mod FieldsDenoted
+mod OneRankText
+mod RightsAlike
 mod OneInitial

@@ -13,7 +13,7 @@ use Rattle.chess_base.specs.declared.setup.Setup.{Setup}
 use Rattle.chess_base.specs.Squares.{file, rank}
 use Rattle.chess_base.specs.Men.{Men, man_at, is_man, first_rank}
 use Rattle.chess_base.specs.Castling.{home_square, king_square, is_to_side, right_is_sound, right_of}
-use Rattle.chess_base.specs.ties.Splits.{right_is_sound_at}
+use Rattle.chess_base.specs.shared.Splits.{right_is_sound_at}
 use Rattle.chess_fen.specs.Texts.{first_letter, names_file}
 use Rattle.chess_fen.specs.RightNames.{side_letter, is_towards, nowhere, outer_rook, named_square, one_or_nowhere}
 use Rattle.chess_fen.specs.ties.Loops.{edge_file, rook_among, right_after_letters}
@@ -21,7 +21,7 @@ use Rattle.chess_fen.specs.Denotation.{IsCastling, IsHeld, DenotesRights}
 use Rattle.chess_base.specs.Sound.{IsSound}
 use Rattle.chess_fen.specs.laws.NamedRooks.{IsOutermost, NamesRook, NamesNone, RightIsNamed}
 use Rattle.chess_fen.specs.laws.Laws.{RightsAreNamed}
-use Rattle.chess_base.proofs.Castlings.{right_stands_of}
+use Rattle.chess_base.proofs.shared.Castling.{right_stands_of}
 use Rattle.chess_fen.proofs.RookAmong.{outer_among}
 use Rattle.chess_fen.proofs.RightsBack.{Beside, beside, no_side_letter, own_file, file_back, file_in, named_own, only-none, after-append}
 

@@ -13,7 +13,7 @@ use Rattle.chess_base.specs.Attacks.{is_in_check}
 use Rattle.chess_base.specs.Faults.{counters_fit, rights_are_sound, first_failing, setup_fault}
 use Rattle.chess_base.specs.Men.{Men, other}
 use Rattle.chess_base.specs.Sound.{has_one_king, no_pawn_on_end_ranks, has_at_most_16, target_is_sound}
-use Rattle.chess_base.proofs.NormalKept.{normal_kept}
+use Rattle.chess_base.proofs.shared.Normal.{normal_kept}
 use Rattle.chess_fen.specs.Reading.{◌>>=◌, side_of, rights_of, unless_fault, setup_by, setup_in, fen_reading_as}
 use Rattle.chess_fen.specs.Texts.{may_name_right, placement_of, target_of, number_of, fields_of, is_castling}
 use Rattle.chess_fen.specs.laws.Normal.{normal_is_castling, normal_rights_of, normal_rights_named, normal_setup_by, normal_setup_in, normal_rights_are_sound, normal_fault, normal_sound, normal_fen_reading}

@@ -16,7 +16,7 @@ use Rattle.chess_base.specs.declared.man.Variant.TheVariants.{Fischerandom}
 use Rattle.chess_base.specs.Squares.{file, rank}
 use Rattle.chess_base.specs.Men.{Men, man_at, is_man, other, first_rank}
 use Rattle.chess_base.specs.Castling.{home_square, king_square, is_to_side, is_beside, right_of}
-use Rattle.chess_base.specs.ties.Splits.{right_is_sound_at}
+use Rattle.chess_base.specs.shared.Splits.{right_is_sound_at}
 use Rattle.chess_fen.specs.Texts.{times, first_letter, names_file, may_name_right}
 use Rattle.chess_fen.specs.RightNames.{side_letter, is_towards, named_square, one_or_nowhere}
 use Rattle.chess_fen.specs.ties.Loops.{right_after_letters}

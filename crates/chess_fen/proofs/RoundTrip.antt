@@ -28,7 +28,7 @@ use Rattle.chess_base.specs.declared.man.CastlingSide.TheVariants.{KingSide, Que
 use Rattle.chess_base.specs.Men.{Men, man_at, is_man, other, forward, crossed_rank}
 use Rattle.chess_base.specs.Sound.{IsSound, target_is_sound_at, target_is_sound}
 use Rattle.chess_base.specs.Castling.{home_square, rook_file, right_of, right_is_sound}
-use Rattle.chess_base.specs.ties.Splits.{right_is_sound_at}
+use Rattle.chess_base.specs.shared.Splits.{right_is_sound_at}
 use Rattle.std.proofs.lemmas.Bool.{and_parts, eqb-true}
 use Rattle.std.proofs.Math.Seq.{take-add}
 use Rattle.chess_fen.specs.Reading.{side_of, rights_of, setup_in}

@@ -9,7 +9,7 @@ use Rattle.chess_base.specs.declared.man.Kind.TheVariants.{King, Queen, Rook, Bi
 use Rattle.chess_base.specs.declared.man.Man.{Man}
 use Rattle.chess_base.specs.Men.{Men, man_at, is_of, is_man, same_colour, same_kind}
 use Rattle.chess_base.specs.Squares.{some_below, each_below, some_square, each_square, from_below}
-use Rattle.chess_base.proofs.MenAfter.{length-from_below, get_or-from_below}
+use Rattle.chess_base.proofs.shared.Squares.{length-from_below, get_or-from_below}
 use Rattle.chess_moves.specs.Sets.{contains}
 use Rattle.chess_game.specs.Ends.{is_kind}
 use Rattle.chess_game.specs.Same.{same_man, same_men}

@@ -10,13 +10,12 @@ use Rattle.chess_base.specs.declared.setup.Setup.{Setup}
 use Rattle.chess_base.specs.Attacks.{attacks}
 use Rattle.chess_base.specs.Men.{man_at, is_man, other, first_rank, crossed_rank}
 use Rattle.chess_base.specs.Moves.{is_legal, is_en_passant}
-use Rattle.chess_base.specs.Squares.{is_square}
+use Rattle.chess_base.specs.Squares.{is_square, rank}
 use Rattle.chess_base.specs.Sound.{IsSound, target_is_sound, target_is_sound_at}
-use Rattle.chess_base.specs.Squares.{rank}
 use Rattle.chess_moves.specs.Promoting.{would_promote}
 use Rattle.chess_moves.specs.Sets.{HasOrigins}
-use Rattle.chess_moves.proofs.Reach.{promotes_on_last_rank}
-use Rattle.chess_moves.proofs.SomeMember.{AllFound}
+use Rattle.chess_moves.proofs.shared.LegalMoves.{promotes_on_last_rank}
+use Rattle.chess_moves.proofs.shared.AnyMove.{AllFound}
 
 -- the target's rank
 pub target_rank : (p : Setup) (t : ℕ) → IsSound p → p.target ≡ Some t → rank t ≡ crossed_rank (other p.side)

@@ -10,8 +10,8 @@ use Rattle.chess_base.specs.declared.man.Rights.{Rights}
 use Rattle.chess_base.specs.declared.setup.Setup.{Setup}
 use Rattle.chess_base.specs.Men.{Men, man_at, same_colour, same_kind, kind_number}
 use Rattle.chess_base.specs.Sound.{IsSound}
-use Rattle.chess_base.proofs.MenFacts.{same_colour-true}
-use Rattle.chess_base.proofs.OverSquares.{each_square-at}
+use Rattle.chess_base.proofs.shared.Men.{same_colour-true}
+use Rattle.chess_base.proofs.shared.Squares.{each_square-at}
 use Rattle.chess_game.specs.Same.{is_same_position, same_man, same_men, same_square, same_colour_rights, same_rights, live_target}
 use Rattle.chess_game.specs.ties.PlayedMoves.{Hashing, HasHash}
 use Rattle.chess_game.specs.declared.repetition.Hashed.{Hashed}

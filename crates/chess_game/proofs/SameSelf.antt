@@ -7,7 +7,7 @@ use Rattle.chess_base.specs.declared.man.ColourRights.{ColourRights}
 use Rattle.chess_base.specs.declared.setup.Setup.{Setup}
 use Rattle.chess_base.specs.Men.{Men, man_at, kind_number}
 use Rattle.chess_base.specs.Squares.{each_below, each_square}
-use Rattle.chess_base.proofs.MenFacts.{same_colour-self}
+use Rattle.chess_base.proofs.shared.Men.{same_colour-self}
 use Rattle.chess_game.specs.Same.{is_same_position, same_man, same_men, same_square, same_colour_rights, same_rights, live_target}
 
 pub man_self : (o : Option Man) → same_man o o ≡ true

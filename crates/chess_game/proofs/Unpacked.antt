@@ -11,9 +11,9 @@ use Rattle.chess_base.specs.declared.man.Man.{Man}
 use Rattle.chess_base.specs.Men.{Men, man_at}
 use Rattle.chess_base.specs.MoveList.{squares}
 use Rattle.chess_base.specs.Squares.{from_below}
-use Rattle.chess_base.proofs.MenAfter.{length-from_below, get_or-from_below}
+use Rattle.chess_base.proofs.shared.Squares.{length-from_below, get_or-from_below}
 use Rattle.chess_moves.specs.Sets.{contains, members}
-use Rattle.chess_moves.proofs.SomeMember.{any-filter, any-square}
+use Rattle.chess_moves.proofs.shared.AnyMove.{any-filter, any-square}
 use Rattle.chess_game.specs.ties.Packed.{colour_in, man_of, man_in, men_in, put_at}
 use Rattle.chess_game.specs.declared.packed.PackedMen.{PackedMen}
 

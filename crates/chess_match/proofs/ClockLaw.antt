@@ -12,7 +12,7 @@ use Rattle.chess_match.specs.Match.{Match, Event, take_items, start, clock, play
 use Rattle.chess_match.specs.Rules.{Rules}
 use Rattle.chess_match.specs.Sent.{SentLine, lines_on_entering}
 use Rattle.chess_match.specs.Transcript.{fits_next, fits, match_of}
-use Rattle.cecp_engine.proofs.Allotment.{allotted_grows}
+use Rattle.cecp_engine.proofs.shared.Levels.{allotted_grows}
 use Rattle.chess_match.proofs.Outcomes.{InTurn, event_outcome, kept_by}
 use Rattle.chess_match.proofs.Going.{offered, sum-snoc}
 

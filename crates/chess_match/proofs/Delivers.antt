@@ -21,7 +21,7 @@ use Rattle.chess_match.specs.Run.{ClockReadings, text_read}
 use Rattle.chess_match.specs.Transcript.{is_on, reads, moment_in}
 use Rattle.chess_match.specs.declared.state.MatchState.{MatchState}
 use Rattle.chess_match.specs.declared.state.Actions.{Actions}
-use Rattle.chess_match.proofs.Flushes.{flushed_none}
+use Rattle.chess_match.proofs.shared.Flushes.{flushed_none}
 use Rattle.chess_match.proofs.Going.{goes_with, nothing_to}
 use Rattle.chess_match.proofs.LongerTranscripts.{asked_none}
 use Rattle.chess_base.specs.ByColour.{by_colour}

@@ -8,7 +8,7 @@ use Rattle.chess_base.specs.declared.man.Colour.TheVariants.{White, Black}
 use Rattle.chess_base.specs.declared.man.Move.{Move}
 use Rattle.byte_devices.specs.Devices.{InputState, OutputState}
 use Rattle.chess_base.specs.Men.{other}
-use Rattle.chess_base.proofs.MenFacts.{same_colour-self}
+use Rattle.chess_base.proofs.shared.Men.{same_colour-self}
 use Rattle.text_lines.specs.Lines.{LineSeen, Held}
 use Rattle.text_lines.specs.Next.{NextLine, GotLine, GotLast, work}
 use Rattle.chess_match.specs.ties.Delivering.{event_read, Delivered}

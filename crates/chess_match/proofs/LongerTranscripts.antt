@@ -11,7 +11,7 @@ use Rattle.chess_match.specs.Run.{Flushed, Written, ClockReadings}
 use Rattle.chess_match.specs.Sent.{SentLine, block, lines_on_entering, bytes_of}
 use Rattle.chess_match.specs.ties.Reported.{SendsIf}
 use Rattle.chess_match.specs.Transcript.{match_of, fits_from, fits_next, fits, is_dropped, is_fault, block_at, blocks_from, blocks, joined_blocks, line_in, lines_of_engine, moment_in, moments_of, has_fault}
-use Rattle.chess_match.proofs.Flushes.{flushed_more, failed_behind}
+use Rattle.chess_match.proofs.shared.Flushes.{flushed_more, failed_behind}
 use Rattle.chess_match.proofs.Sends.{bytes_of-append}
 use Rattle.chess_match.specs.ties.Steps.{match_from}
 use Rattle.chess_match.specs.declared.reason.MatchFault.{MatchFault}

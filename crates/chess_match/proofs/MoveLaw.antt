@@ -19,18 +19,17 @@ use Rattle.chess_match.specs.Sent.{SentLine, Says, Time, Otim, block, lines_on_e
 use Rattle.chess_match.specs.Transcript.{is_on, reads, match_of, fits, fits_next, fits_from, is_dropped, is_fault, blocks_from, joined_blocks, has_fault}
 use Rattle.chess_base.specs.declared.man.Variant.{Variant}
 use Rattle.chess_base.specs.declared.man.Variant.TheVariants.{Normal, Fischerandom}
-use Rattle.chess_base.proofs.MenFacts.{same_colour-true}
+use Rattle.chess_base.proofs.shared.Men.{same_colour-true}
 use Rattle.chess_match.specs.declared.phase.Phase.{Phase}
 use Rattle.chess_match.specs.declared.phase.Phase.TheVariants.{Handshake, Setup, SendTurn, AwaitMove, AwaitPong, Over}
 use Rattle.chess_match.specs.declared.reason.Reason.{Reason}
 use Rattle.chess_match.specs.declared.reason.Reason.TheVariants.{Decided, Faulted}
 use Rattle.chess_match.specs.declared.reason.MatchFault.{MatchFault}
 use Rattle.chess_match.specs.declared.reason.MatchFault.TheVariants.{NoDone, Ended, Read, Write}
-use Rattle.chess_match.proofs.Blocks.{if_nil, of_block, joined_at}
+use Rattle.chess_match.proofs.Blocks.{if_nil, of_block, joined_at, told_more}
 use Rattle.chess_match.proofs.Outcomes.{Lines, InTurn, line_outcome, opens_at, and_first, and_second}
 use Rattle.chess_match.proofs.Going.{items_phase, leaves, offered, plain_block, reads_on, reads_stays}
 use Rattle.chess_match.proofs.Seats.{items_played, items_unsent_to, items_same}
-use Rattle.chess_match.proofs.Blocks.{told_more}
 use Rattle.cecp_engine.specs.Levels.{level_text}
 use Rattle.chess_match.specs.ties.Steps.{match_from}
 

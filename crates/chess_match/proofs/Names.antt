@@ -4,7 +4,7 @@ use Rattle.std.specs.Prelude.{codes}
 use Rattle.std.specs.Str.{bytes_eq}
 use Rattle.chess_game.specs.Results.{cut_tag}
 use Rattle.cecp_engine.specs.Items.{Item, last_value, value_text}
-use Rattle.cecp_engine.proofs.ItemRuns.{last_said-snoc}
+use Rattle.cecp_engine.proofs.shared.Items.{last_said-snoc}
 use Rattle.chess_match.specs.ties.Represents.{name_by}
 
 pub name_said : (items : List Item) (i : Item) → bytes_eq i.name (codes "myname") ≡ true

@@ -6,7 +6,7 @@ use Rattle.std.proofs.lemmas.Bool.{or_left, or_right}
 use Rattle.chess_base.specs.declared.man.Colour.{Colour}
 use Rattle.chess_base.specs.declared.man.Colour.TheVariants.{White, Black}
 use Rattle.chess_base.specs.Men.{same_colour}
-use Rattle.chess_base.proofs.MenFacts.{same_colour-true, same_colour-self}
+use Rattle.chess_base.proofs.shared.Men.{same_colour-true, same_colour-self}
 use Rattle.chess_match.specs.laws.Laws.{Streams, IsOf, OnlyOne, ending_in}
 use Rattle.chess_match.specs.Match.{Match, Event, Line, Opened, OutputEnds, FailsToRead, FailsToWrite, start, match_after}
 use Rattle.chess_match.specs.Rules.{Rules}

@@ -6,7 +6,7 @@ use Rattle.chess_base.specs.declared.man.Colour.TheVariants.{White, Black}
 use Rattle.chess_base.specs.declared.man.Move.{Move}
 use Rattle.byte_devices.specs.Devices.{InputState, OutputState, BreaksOff}
 use Rattle.chess_base.specs.Men.{other, same_colour}
-use Rattle.chess_base.proofs.MenFacts.{same_colour-true}
+use Rattle.chess_base.proofs.shared.Men.{same_colour-true}
 use Rattle.text_lines.specs.Lines.{Held, nothing_held}
 use Rattle.chess_match.specs.ties.Delivering.{AllSent, OneFailed, Delivered, first_in}
 use Rattle.chess_match.proofs.EngineOutput.{OutputSoFar, OutputAt, is_of_output}
@@ -23,7 +23,7 @@ use Rattle.chess_match.proofs.RunInvariant.{IsStillRead, ReadSoFar, IsUnderWay}
 use Rattle.chess_match.specs.declared.phase.Phase.{Phase}
 use Rattle.chess_match.specs.declared.phase.Phase.TheVariants.{Handshake, Setup, SendTurn, AwaitMove, AwaitPong, Over}
 use Rattle.chess_match.specs.declared.state.MatchState.{MatchState}
-use Rattle.chess_match.proofs.Flushes.{flushed_none, flushed_more}
+use Rattle.chess_match.proofs.shared.Flushes.{flushed_none, flushed_more}
 use Rattle.chess_match.proofs.OutputByEvents.{is_stop, still_read, output_longer, not_both}
 use Rattle.chess_match.proofs.OutputByCalls.{output_start}
 use Rattle.chess_match.proofs.LongerTranscripts.{is_sound, match_of-append, IsTail, no_tail, failed_tail, moments_more, has_fault-append, fits-append, nothing_due, blocks-append, block_alone, sent_more, written_more, all_sent, asked_none, asked_more}

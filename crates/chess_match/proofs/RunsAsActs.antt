@@ -4,36 +4,31 @@ use Rattle.std.specs.Prelude.{if◌then◌else◌, nat_lt}
 use Rattle.chess_base.specs.declared.man.Colour.{Colour}
 use Rattle.chess_base.specs.declared.man.Colour.TheVariants.{White, Black}
 use Rattle.chess_base.specs.Men.{other, same_colour}
-use Rattle.chess_base.proofs.MenFacts.{same_colour-self}
+use Rattle.chess_base.proofs.shared.Men.{same_colour-self}
 use Rattle.chess_match.specs.Match as machine
 use Rattle.chess_match.specs.Match.{Event, Line, Opened, OutputEnds, FailsToRead, FailsToWrite}
-use Rattle.chess_match.specs.Rules.{Rules}
+use Rattle.chess_match.specs.Rules.{Rules, rules_of}
 use Rattle.chess_match.specs.Sent.{SentLine, block, lines_on_entering, list_if}
-use Rattle.chess_match.specs.Transcript.{is_on, fits, fits_next, fits_from, match_of, is_fault, has_fault, block_at, blocks_from as blocks_at_all, blocks, joined_blocks}
+use Rattle.chess_match.specs.Transcript.{is_on, fits, fits_next, fits_from, match_of, is_fault, has_fault, block_at, blocks_from as blocks_at_all, blocks, joined_blocks, lines_of_engine}
 use Rattle.chess_match.specs.declared.phase.Phase.{Phase as MachinePhase}
 use Rattle.chess_match.specs.declared.phase.Phase.TheVariants as phases
-use Rattle.chess_match.specs.declared.reason.MatchFault.TheVariants.{Write}
+use Rattle.chess_match.specs.declared.reason.MatchFault.TheVariants.{Write, Ended, Read}
 use Rattle.chess_match.specs.declared.reason.Reason.{Reason}
 use Rattle.chess_match.specs.ties.Steps.{match_from}
 use Rattle.chess_match.proofs.OneLaw.{over_stops}
 use Rattle.chess_match.proofs.Outcomes.{and_first, and_second}
-use Rattle.chess_match.proofs.TranscriptsAsActs.{At, at_next, at_start, fits_on, among, has_block}
+use Rattle.chess_match.proofs.TranscriptsAsActs.{At, at_next, at_start, fits_on, among, has_block, transcripts_are_matches}
 use Rattle.chess_match.proofs.ActsNoted.{dropped, first_same, line_drops, maps-append, acts_are_noted}
 use Rattle.chess_match.proofs.LastBlocks.{IsSome, end_block, no_write}
 use Rattle.chess_match.specs.ties.TranscriptActs.{send_act, up_to, first_of, acts_from, acts_of}
 use Rattle.chess_match.specs.Acts.{Block, Act, Sends, SendFails, Reads, ReadsEnd, ReadFails, ReadsClock, block_of, blocks_from}
-use Rattle.byte_devices.specs.Devices.{OutputState}
-use Rattle.byte_devices.specs.Devices.{InputState}
+use Rattle.byte_devices.specs.Devices.{OutputState, InputState}
 use Rattle.text_lines.specs.Unflushed.{risen_if}
 use Rattle.chess_match.specs.Reasons.{first_fault}
-use Rattle.chess_match.specs.Rules.{rules_of}
-use Rattle.chess_match.specs.Transcript.{lines_of_engine}
-use Rattle.chess_match.specs.declared.reason.MatchFault.TheVariants.{Ended, Read}
 use Rattle.std.proofs.Math.Path.{fun_ext}
 use Rattle.chess_match.specs.ties.SameEffects.{view, phase_of}
 use Rattle.chess_match.specs.ByDevice.{lines_read, has_ended, has_failed_read, lines_sent, broken_blocks, is_broken}
 use Rattle.chess_match.specs.Run.{Written, ReadFrom, RanBefore}
-use Rattle.chess_match.proofs.TranscriptsAsActs.{transcripts_are_matches}
 use Rattle.chess_match.proofs.ActsByDevice.{lines_are_read, moments_are_shown, ends_are_read}
 use Rattle.chess_match.specs.Played.{WrittenAs, ReadAs, World, PlayedNoting}
 use Rattle.chess_match.specs.Notes.{Note, Noted, WasNoted}

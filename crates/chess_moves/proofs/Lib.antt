@@ -1,14 +1,10 @@
-pub mod Steps
-pub mod Gathered
-pub mod Reach
-pub mod Parts
-pub mod Room
-pub mod SomeMove
-pub mod Words
-pub mod Members
-pub mod Origins
-pub mod SomeMember
-pub mod Counting
-pub mod Xored
-pub mod SomeLegal
-pub mod Shifted
+pub mod shared
+mod Gathered
+mod Reach
+mod Room
+mod SomeMove
+mod Words
+mod Counting
+mod SomeLegal
+mod Shifted
+mod OutOfReach

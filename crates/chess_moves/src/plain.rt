@@ -137,7 +137,7 @@ impl Board for Plain {
 
     // A set of squares that has at least the starts of the legal moves of this kind to a square: here all pieces of the
     // kind, of the side on move, whether or not they could go there.
-    #[tactic(auto, using(crate::proofs::Origins::all_men))]
+    #[tactic(auto, using(crate::proofs::shared::Origins::all_men))]
     fn origins(&self, kind: Kind, _to: Square) -> SquareSet {
         men_of(&self.setup.men, self.setup.side, kind)
     }

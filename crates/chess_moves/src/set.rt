@@ -38,7 +38,7 @@ impl Model for SquareSet {
 
 impl SquareSet {
     /// The set without any square.
-    #[tactic(auto, using(crate::proofs::Words::has_zero))]
+    #[tactic(auto, using(crate::proofs::shared::Members::has_zero))]
     pub const fn empty() -> Self
         ensures { (k : ℕ) → contains result k ≡ false }
     {
@@ -174,7 +174,7 @@ impl SquareSet {
     }
 
     /// Takes the lowest square out of the set and returns it; `None` if the set is empty.
-    #[tactic(auto, using(crate::proofs::Members::members_none, crate::proofs::Members::members_first))]
+    #[tactic(auto, using(crate::proofs::shared::Members::members_none, crate::proofs::shared::Members::members_first))]
     pub fn take_first(&mut self) -> Option<Square>
         ensures { MatchOption result ((members self.old ≡ []) × (self.new ≡ self.old))
             (λ s. members self.old ≡ s ∷ members self.new) }

@@ -4,7 +4,7 @@ use Rattle.std.specs.List.{flat_map}
 use Rattle.std.proofs.lemmas.List.{take-append-drop}
 use Rattle.std.proofs.lemmas.List.Concat.{flat_map-append}
 use Rattle.byte_devices.specs.Devices.{OutputState, BreaksOff, Puts}
-use Rattle.byte_devices.proofs.DeviceLaws.{took_none, took_more, breaks_more, breaks_longer, flat_more}
+use Rattle.byte_devices.proofs.shared.Devices.{took_none, took_more, breaks_more, breaks_longer, flat_more}
 use Rattle.chess_pgn.specs.ties.Waiting.{TookSome, Adds}
 
 -- ---- texts that are added

@@ -1,37 +1,38 @@
-pub mod Added
-pub mod ByteClasses
-pub mod Cuts
-pub mod FaultPlaces
-pub mod FenVariants
-pub mod FilledLines
-pub mod GameReads
-pub mod GameTexts
-pub mod LastTagReads
-pub mod MoveBytes
-pub mod NormalGames
-pub mod OfTokens
-pub mod PgnFen
-pub mod PgnMoves
-pub mod PgnPieces
-pub mod PgnTags
-pub mod PgnWhole
-pub mod PgnWords
-pub mod PlainBytes
-pub mod ShortTokens
-pub mod Skipped
-pub mod SkippedTokens
-pub mod Strings
-pub mod TagLines
-pub mod TagParts
-pub mod TagScans
-pub mod TokenPlaces
-pub mod VariantSaid
-pub mod Variations
-pub mod Walk
-pub mod ByteRuns
-pub mod VariationInsides
-pub mod TagSplits
-pub mod TokenSplits
-pub mod GamesByTags
-pub mod LaidOut
-pub mod WorkedOut
+pub mod shared
+mod Added
+mod ByteClasses
+mod Cuts
+mod FaultPlaces
+mod FenVariants
+mod FilledLines
+mod GameReads
+mod GameTexts
+mod LastTagReads
+mod MoveBytes
+mod NormalGames
+mod OfTokens
+mod PgnFen
+mod PgnMoves
+mod PgnPieces
+mod PgnTags
+mod PgnWhole
+mod PgnWords
+mod PlainBytes
+mod ShortTokens
+mod Skipped
+mod SkippedTokens
+mod Strings
+mod TagLines
+mod TagParts
+mod TagScans
+mod TokenPlaces
+mod VariantSaid
+mod Variations
+mod Walk
+mod ByteRuns
+mod VariationInsides
+mod TagSplits
+mod TokenSplits
+mod GamesByTags
+mod LaidOut
+mod WorkedOut

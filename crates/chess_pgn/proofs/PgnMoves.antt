@@ -25,7 +25,7 @@ use Rattle.chess_text.specs.San.{san}
 use Rattle.chess_pgn.specs.Tokens.{is_word_byte}
 use Rattle.chess_pgn.specs.Written.{fits_line, wrapped_token, next_column, line_close, filled_from}
 use Rattle.chess_pgn.proofs.PgnPieces.{read_on, Takes, begun, white_number, black_number, san_takes, skip_space, skip_line_end, ended_game, outcome_ends}
-use Rattle.chess_text.proofs.SanLaw.{san_short}
+use Rattle.chess_text.proofs.shared.San.{san_short}
 
 -- ---- tokens in filled lines
 

@@ -29,7 +29,7 @@ use Rattle.chess_pgn.specs.Written.{escaped, tag_line}
 use Rattle.chess_pgn.proofs.PgnFen.{fen_bare}
 use Rattle.chess_pgn.proofs.PgnTags.{is_in_line, is_bare, bare_escaped, bare_in_line, is_tag_name, tag_token, tag_line_bytes}
 use Rattle.chess_pgn.proofs.PgnWords.{not_byte, word_token, number_kind, move_kind, decimal_digits, decimal_some, number_bytes, san_bytes_in_word}
-use Rattle.chess_text.proofs.SanLaw.{san_read, san_short, san_bytes, san_letter}
+use Rattle.chess_text.proofs.shared.San.{san_read, san_short, san_bytes, san_letter}
 use Rattle.chess_pgn.proofs.Walk.{enough, shorter}
 
 -- reading goes on with a text, where a line begins or not

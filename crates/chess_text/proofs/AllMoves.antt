@@ -11,8 +11,8 @@ use Rattle.chess_base.specs.declared.setup.Setup.{Setup}
 use Rattle.chess_base.specs.Moves.{is_legal}
 use Rattle.chess_base.specs.Squares.{from_below}
 use Rattle.chess_base.specs.MoveList.{promotions, move_of, squares, all_moves, moves}
-use Rattle.chess_moves.proofs.Parts.{filter-flat_map}
-use Rattle.chess_moves.proofs.SomeMember.{any-filter, any-flat_map, any-square}
+use Rattle.chess_moves.proofs.shared.MovesBySquares.{filter-flat_map}
+use Rattle.chess_moves.proofs.shared.AnyMove.{any-filter, any-flat_map, any-square}
 use Rattle.chess_text.specs.laws.Laws.{CanPromote}
 use Rattle.chess_text.proofs.Legal.{legal_move}
 

@@ -13,7 +13,7 @@ use Rattle.chess_base.specs.Men.{man_at}
 use Rattle.chess_base.specs.Moves.{is_legal}
 use Rattle.chess_base.specs.Castling.{right_of}
 use Rattle.chess_base.specs.MoveList.{promotions, move_of, squares, all_moves, moves}
-use Rattle.chess_moves.proofs.Parts.{filter-flat_map}
+use Rattle.chess_moves.proofs.shared.MovesBySquares.{filter-flat_map}
 use Rattle.chess_text.specs.declared.described.Described.{Described}
 use Rattle.chess_text.specs.declared.form.Form.{Form}
 use Rattle.chess_text.specs.declared.form.Form.TheVariants.{Castling, Piece}

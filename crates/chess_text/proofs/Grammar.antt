@@ -7,15 +7,14 @@ use Rattle.chess_base.specs.declared.man.Kind.{Kind}
 use Rattle.chess_base.specs.declared.man.Kind.TheVariants.{Pawn, Knight, Bishop, Rook, Queen, King}
 use Rattle.chess_base.specs.Coordinates.{optional}
 use Rattle.chess_base.specs.Letters.{white_letter, square_text, is_file_letter, is_rank_digit}
-use Rattle.chess_base.proofs.Choices.{chosen}
+use Rattle.chess_base.proofs.shared.Choices.{chosen}
 use Rattle.chess_text.specs.declared.parts.Parts.{Parts}
 use Rattle.chess_text.specs.declared.parts.End.{End}
 use Rattle.chess_text.specs.declared.parts.Promotion.{Promotion}
 use Rattle.chess_text.specs.Parts.{when, kind_text}
 use Rattle.chess_text.specs.ties.Fitting.{promotion_letter, promotion_text, end_text, parts_text}
-use Rattle.chess_text.specs.ties.Reader.{lettered_kinds, promoted}
+use Rattle.chess_text.specs.ties.Reader.{lettered_kinds, promoted, kind_from, or_else, promotion_by, promotion_at, end_at, takes_at, rank_at, with_parts, file_at, at_letter, parts_at}
 use Rattle.chess_text.specs.laws.Laws.{CanPromote, HasLetter, AreParts}
-use Rattle.chess_text.specs.ties.Reader.{kind_from, or_else, promotion_by, promotion_at, end_at, takes_at, rank_at, with_parts, file_at, at_letter, parts_at}
 
 mapped : {A B : Type 0} (f : A → B) (o : Option A) (y : B) → option_map f o ≡ Some y
     → (x : A) × (o ≡ Some x) × (f x ≡ y)

@@ -15,13 +15,13 @@ use Rattle.chess_base.specs.declared.setup.Setup.{Setup}
 use Rattle.chess_base.specs.Attacks.{attacks, is_in_check}
 use Rattle.chess_base.specs.Men.{is_of, man_at, other, same_colour, same_kind, is_man, first_rank}
 use Rattle.chess_base.specs.Moves.{is_legal, is_pseudo_legal, after, moves_as, man_moves, pawn_moves, pawn_advances, pawn_captures, promotion_fits}
-use Rattle.chess_base.specs.ties.Splits.{castles_or_moves, names_castling}
+use Rattle.chess_base.specs.shared.Splits.{castles_or_moves, names_castling}
 use Rattle.chess_base.specs.declared.castling.Castle.{Castle}
 use Rattle.chess_base.specs.Castling.{castling, is_castling_to, castled_king_file, castle_of, home_square, king_home_file, right_of}
 use Rattle.chess_base.specs.Squares.{rank}
-use Rattle.chess_base.proofs.MenFacts.{same_colour-true, is_none-None}
-use Rattle.chess_base.proofs.Landing.{says_from_castling}
-use Rattle.chess_base.proofs.TakesBack.{castles_unpromoted}
+use Rattle.chess_base.proofs.shared.Men.{same_colour-true, is_none-None}
+use Rattle.chess_base.proofs.shared.Castling.{says_from_castling}
+use Rattle.chess_base.proofs.shared.MoveKinds.{castles_unpromoted}
 use Rattle.chess_text.specs.declared.described.Described.{Described}
 use Rattle.chess_text.specs.laws.Laws.{CanPromote}
 use Rattle.chess_text.specs.ties.Forms.{castling_end}

@@ -1,33 +1,34 @@
-pub mod DenotedMoves
-pub mod Grammar
-pub mod Lists
-pub mod SameKinds
-pub mod Denotations
-pub mod Shaped
-pub mod Castlings
-pub mod FormFacts
-pub mod Legal
-pub mod SanWritten
-pub mod AllMoves
-pub mod Marks
-pub mod Told
-pub mod Pawns
-pub mod PieceText
-pub mod Alone
-pub mod CoordinateLaw
-pub mod Solid
+pub mod shared
+mod DenotedMoves
+mod Grammar
+mod Lists
+mod SameKinds
+mod Denotations
+mod Shaped
+mod Castlings
+mod FormFacts
+mod Legal
+mod SanWritten
+mod AllMoves
+mod Marks
+mod Told
+mod Pawns
+mod PieceText
+mod Alone
+mod CoordinateLaw
+mod Solid
 mod SanAscii
 mod TextLetters
 mod PromotionLetters
-pub mod UsualForms
-pub mod TwoSquares
-pub mod Words
-pub mod SanLaw
-pub mod ShownLaw
-pub mod Origins
+mod UsualForms
+mod TwoSquares
+mod Words
+mod SanLaw
+mod ShownLaw
+mod Origins
 mod DenotedStart
-pub mod Starts
+mod Starts
 mod Rivals
 mod Promoting
 mod Shapes
-pub mod NormalTexts
+mod NormalTexts

@@ -4,7 +4,7 @@ use Rattle.std.specs.Prelude.{IfSome}
 use Rattle.std.specs.List.{list_any, flat_map}
 use Rattle.std.proofs.lemmas.Bool.{or_cases, or_left, or_right}
 use Rattle.chess_base.specs.Squares.{from_below}
-use Rattle.chess_moves.proofs.SomeMember.{any-flat_map}
+use Rattle.chess_moves.proofs.shared.AnyMove.{any-flat_map}
 
 -- ---- an element of a list
 

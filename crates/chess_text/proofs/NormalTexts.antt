@@ -13,12 +13,12 @@ use Rattle.chess_base.specs.declared.setup.Setup.{Setup}
 use Rattle.chess_base.specs.Attacks.{is_in_check}
 use Rattle.chess_base.specs.Coordinates.{coordinate, optional}
 use Rattle.chess_base.specs.Castling.{castling, is_castling_to, right_of, home_square, king_home_file, castled_king_file}
-use Rattle.chess_base.specs.ties.Splits.{names_castling}
+use Rattle.chess_base.specs.shared.Splits.{names_castling}
 use Rattle.chess_base.specs.Men.{man_at, is_man, same_kind}
 use Rattle.chess_base.specs.Moves.{after}
 use Rattle.chess_base.specs.MoveList.{all_moves, moves}
 use Rattle.chess_base.specs.laws.Normal.{normal_says_castling, normal_castling, normal_after}
-use Rattle.chess_base.proofs.NormalKept.{normal_kept as rules_kept}
+use Rattle.chess_base.proofs.shared.Normal.{normal_kept as rules_kept}
 use Rattle.chess_text.specs.declared.described.Described.{Described}
 use Rattle.chess_text.specs.declared.reading.Reading.TheVariants.{NotAMove}
 use Rattle.chess_text.specs.Moves.{described, captures, passes, shape, denotes, denotes_described, one_of, reading}

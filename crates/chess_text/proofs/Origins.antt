@@ -17,7 +17,7 @@ use Rattle.chess_base.specs.Men.{man_at, is_man, same_kind, same_colour}
 use Rattle.chess_base.specs.Moves.{is_legal}
 use Rattle.chess_base.specs.MoveList.{promotions, move_of, moves}
 use Rattle.chess_moves.specs.Sets.{contains, members, HasOrigins}
-use Rattle.chess_moves.proofs.Members.{flat_map_members}
+use Rattle.chess_moves.proofs.shared.Members.{flat_map_members}
 use Rattle.chess_text.specs.declared.described.Described.{Described}
 use Rattle.chess_text.specs.declared.form.Form.{Form}
 use Rattle.chess_text.specs.declared.form.Form.TheVariants.{Castling, Piece}

@@ -10,12 +10,11 @@ use Rattle.chess_base.specs.declared.setup.Setup.{Setup}
 use Rattle.chess_base.specs.Attacks.{attacks, could_capture, is_rank_ahead}
 use Rattle.chess_base.specs.Men.{Men, man_at, other, is_of, is_man, same_colour, forward, first_rank, pawn_rank}
 use Rattle.chess_base.specs.Moves.{is_double_advance, is_en_passant, pawn_advances, pawn_captures, pawn_moves, promotion_fits}
-use Rattle.chess_base.specs.Squares.{is_square}
+use Rattle.chess_base.specs.Squares.{is_square, file, rank, gap, each_square}
 use Rattle.chess_base.specs.Sound.{IsSound, pawn_is_allowed, no_pawn_on_end_ranks}
-use Rattle.chess_base.specs.Squares.{file, rank, gap, each_square}
-use Rattle.chess_base.proofs.OverSquares.{each_below-at}
-use Rattle.chess_base.proofs.MenFacts.{same_colour-self, is_none-None}
-use Rattle.chess_base.proofs.Changes.{advance_to_empty}
+use Rattle.chess_base.proofs.shared.Squares.{each_below-at}
+use Rattle.chess_base.proofs.shared.Men.{same_colour-self, is_none-None}
+use Rattle.chess_base.proofs.shared.Changes.{advance_to_empty}
 use Rattle.chess_text.specs.Moves.{captures}
 
 abbrev pub pawn_of : Colour → Man

@@ -7,9 +7,9 @@ use Rattle.chess_base.specs.declared.man.Kind.TheVariants.{Queen, Rook, Bishop, 
 use Rattle.chess_base.specs.declared.setup.Setup.{Setup}
 use Rattle.chess_base.specs.Moves.{is_legal}
 use Rattle.chess_base.specs.MoveList.{promotions, move_of}
-use Rattle.chess_moves.specs.ties.Candidates.{moves_with, moves_between}
+use Rattle.chess_moves.specs.shared.MovesBySquares.{moves_with, moves_between}
 use Rattle.chess_moves.specs.Promoting.{would_promote}
-use Rattle.chess_moves.proofs.Parts as parts
+use Rattle.chess_moves.proofs.shared.MovesBySquares as parts
 use Rattle.chess_text.specs.declared.form.Form.{Form}
 use Rattle.chess_text.specs.ties.Forms.{is_denoted, denoted_with}
 

@@ -12,14 +12,14 @@ use Rattle.chess_base.specs.declared.man.Kind.TheVariants.{King, Queen, Rook, Bi
 use Rattle.chess_base.specs.declared.man.Move.{Move}
 use Rattle.chess_base.specs.declared.setup.Setup.{Setup}
 use Rattle.chess_base.specs.Squares.{file, rank, some_square}
-use Rattle.chess_base.proofs.OverSquares.{some_square-none}
+use Rattle.chess_base.proofs.shared.Squares.{some_square-none}
 use Rattle.chess_base.specs.Men.{man_at, is_man, same_kind, same_colour}
 use Rattle.chess_base.specs.Moves.{is_legal}
 use Rattle.chess_base.specs.MoveList.{promotions, move_of, squares, all_moves, moves}
 use Rattle.chess_moves.specs.Sets.{contains, members, HasLegalStarts}
-use Rattle.chess_moves.proofs.Members.{by_range, members_none, of_range}
-use Rattle.chess_moves.proofs.Parts.{filter-flat_map}
-use Rattle.chess_moves.proofs.SomeMember.{any-filter, any-square}
+use Rattle.chess_moves.proofs.shared.Members.{by_range, members_none, of_range}
+use Rattle.chess_moves.proofs.shared.MovesBySquares.{filter-flat_map}
+use Rattle.chess_moves.proofs.shared.AnyMove.{any-filter, any-square}
 use Rattle.chess_text.specs.declared.described.Described.{Described}
 use Rattle.chess_text.specs.Moves.{described, passes}
 use Rattle.chess_text.specs.San.{is_rival, rival_starts}

@@ -18,21 +18,19 @@ use Rattle.chess_base.specs.Moves.{is_legal, after, pawn_moves}
 use Rattle.chess_base.specs.Castling.{castling, right_of}
 use Rattle.chess_base.specs.MoveList.{moves}
 use Rattle.chess_base.specs.Sound.{IsSound}
-use Rattle.chess_base.proofs.Kings.{one_king}
+use Rattle.chess_base.proofs.shared.Kings.{one_king, one_king_of}
 use Rattle.chess_base.specs.Squares.{file, rank}
 use Rattle.chess_text.specs.declared.parts.Parts.{Parts}
 use Rattle.chess_text.specs.declared.parts.Promotion.{Promotion}
 use Rattle.chess_text.specs.declared.reading.Reading.TheVariants as reads
 use mathlib.Core.Bool.{not-or_self}
-use Rattle.chess_base.proofs.MenFacts.{is_none-None}
-use Rattle.chess_base.proofs.StaysSound.{one_king_of}
-use Rattle.chess_moves.proofs.SomeMember.{any-filter}
+use Rattle.chess_base.proofs.shared.Men.{is_none-None}
+use Rattle.chess_moves.proofs.shared.AnyMove.{any-filter}
 use Rattle.chess_text.specs.declared.writing.Disambiguation.{Disambiguation}
 use Rattle.chess_text.specs.laws.Laws.{DenotesAlone, is_san_byte, begins_with_letter, AreParts, HasLetter, CanPromote}
 use Rattle.chess_text.specs.Parts.{unmarked}
-use Rattle.chess_text.specs.ties.Fitting.{parts_text}
+use Rattle.chess_text.specs.ties.Fitting.{parts_text, admits, has_equals, promotes_so, is_form, parts_fit, is_by_squares, is_by_letter, is_straight, is_by_file}
 use Rattle.chess_text.specs.Moves.{captures, passes, shape, reading}
-use Rattle.chess_text.specs.ties.Fitting.{admits, has_equals, promotes_so, is_form, parts_fit, is_by_squares, is_by_letter, is_straight, is_by_file}
 use Rattle.chess_text.specs.ties.Forms.{same_side}
 use Rattle.chess_text.specs.San.{castling_text, is_rival, rival_starts, piece_text, unmarked_san, check_mark, san}
 use Rattle.chess_text.specs.ties.SanParts.{disambiguate, if_written, pawn_parts, lettered_parts, piece_parts}

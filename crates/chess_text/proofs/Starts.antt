@@ -13,7 +13,7 @@ use Rattle.chess_base.specs.Men.{man_at, is_man, same_kind}
 use Rattle.chess_base.specs.Moves.{is_legal}
 use Rattle.chess_base.specs.MoveList.{promotions, move_of, moves}
 use Rattle.chess_moves.specs.Sets.{contains, members, HasLegalStarts}
-use Rattle.chess_moves.proofs.Members.{of_range}
+use Rattle.chess_moves.proofs.shared.Members.{of_range}
 use Rattle.chess_text.specs.declared.described.Described.{Described}
 use Rattle.chess_text.specs.declared.form.Form.TheVariants.{Piece}
 use Rattle.chess_text.specs.declared.parts.Parts.{Parts}

@@ -11,7 +11,7 @@ use Rattle.chess_base.specs.declared.setup.Setup.{Setup}
 use Rattle.chess_base.specs.Moves.{is_legal}
 use Rattle.chess_base.specs.MoveList.{move_of, all_moves, moves}
 use Rattle.chess_base.specs.Squares.{file, rank}
-use Rattle.chess_base.proofs.Choices.{chosen}
+use Rattle.chess_base.proofs.shared.Choices.{chosen}
 use Rattle.chess_text.specs.declared.described.Described.{Described}
 use Rattle.chess_text.specs.declared.form.Form.TheVariants.{Piece}
 use Rattle.chess_text.specs.declared.parts.Parts.{Parts}

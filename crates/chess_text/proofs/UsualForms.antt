@@ -8,7 +8,7 @@ use Rattle.chess_base.specs.declared.man.CastlingSide.TheVariants.{KingSide, Que
 use Rattle.chess_base.specs.declared.man.Kind.{Kind}
 use Rattle.chess_base.specs.declared.man.Kind.TheVariants.{King, Queen, Rook, Bishop, Knight, Pawn}
 use Rattle.std.specs.Option.{option_map}
-use Rattle.chess_base.proofs.Choices.{chosen}
+use Rattle.chess_base.proofs.shared.Choices.{chosen}
 use Rattle.chess_text.specs.declared.form.Form.TheVariants.{Piece}
 use Rattle.chess_text.specs.declared.parts.Parts.{Parts}
 use Rattle.chess_text.specs.laws.Laws.{HasLetter, AreParts}

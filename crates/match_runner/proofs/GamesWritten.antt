@@ -9,7 +9,7 @@ use Rattle.match_runner.specs.declared.plan.GamesPlan.{GamesPlan}
 use Rattle.chess_base.specs.Men.{other}
 use Rattle.chess_base.specs.declared.man.Colour.{Colour}
 use Rattle.byte_devices.specs.Devices.{OutputState, Begins, BreaksOff, Sends, Sent}
-use Rattle.byte_devices.proofs.DeviceLaws.{appends_more}
+use Rattle.byte_devices.proofs.shared.Devices.{appends_more}
 use Rattle.chess_game.specs.Game.{Seen}
 use Rattle.chess_game.specs.Results.{same_outcome}
 use Rattle.chess_game.specs.declared.results.Outcome.{Outcome}
@@ -23,7 +23,7 @@ use Rattle.chess_match.specs.Run.{Flushed, Ports, MatchRan}
 use Rattle.chess_match.specs.declared.reason.MatchFault.{MatchFault}
 use Rattle.chess_match.specs.declared.reason.Reason.TheVariants.{Faulted}
 use Rattle.chess_match.specs.declared.run.MatchEnd.{MatchEnd}
-use Rattle.chess_match.proofs.Flushes.{flushed_none, failed_behind}
+use Rattle.chess_match.proofs.shared.Flushes.{flushed_none, failed_behind}
 use Rattle.match_runner.specs.Games.{EndsGames, GameRecord, IsOfPlan, LogsGames, RanGames, SoundGames, count_of, first_side, game_logs, game_text, game_texts, match_text, score_line, score_of}
 use Rattle.match_runner.specs.ties.Playing.{HasPlayed, LogsGame, PlayedGame, RanAndLogged, logged_side, no_score, plus, score_after}
 use Rattle.match_runner.specs.Log.{LogSeen, Logged, RanNoted, log_text}

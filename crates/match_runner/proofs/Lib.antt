@@ -1,3 +1,3 @@
-pub mod GamesWritten
-pub mod Logged
-pub mod FaultTexts
+mod GamesWritten
+mod Logged
+mod FaultTexts

@@ -9,7 +9,7 @@ use Rattle.chess_base.specs.declared.man.Colour.{Colour}
 use Rattle.chess_base.specs.declared.man.Colour.TheVariants.{White, Black}
 use Rattle.chess_base.specs.declared.setup.Setup.{Setup}
 use Rattle.byte_devices.specs.Devices.{OutputState, Sent, Sends, risen}
-use Rattle.byte_devices.proofs.DeviceLaws.{appends_more}
+use Rattle.byte_devices.proofs.shared.Devices.{appends_more}
 use Rattle.chess_game.specs.Game.{Seen}
 use Rattle.cecp_engine.specs.Levels.{LevelSeen}
 use Rattle.chess_base.specs.Men.{same_colour}
@@ -18,7 +18,7 @@ use Rattle.chess_match.specs.Notes.{Note, Happened, WasNoted, notes_of}
 use Rattle.chess_match.specs.Rules.{rules_of}
 use Rattle.chess_match.specs.Run.{Flushed, FlushedThenFailed, Ports, RanBefore}
 use Rattle.chess_match.specs.declared.run.MatchEnd.{MatchEnd}
-use Rattle.chess_match.proofs.Flushes.{flushed_none, flushed_more, failed_behind}
+use Rattle.chess_match.proofs.shared.Flushes.{flushed_none, flushed_more, failed_behind}
 use Rattle.match_runner.specs.Log.{LogSeen, Logged, Logs, RanLogged, after_note, ends_line, given_text, log_from, log_text, note_text, shown}
 use Rattle.match_runner.specs.ties.Logging.{Adds, IsLog, after_notes, first_of_text, log_of_text, log_start, received_text, text_of_log}
 use Rattle.match_runner.specs.declared.log.LogState.{LogState}

@@ -1,11 +1,11 @@
-pub mod CutLines
-pub mod InPlace
-pub mod Inputs
-pub mod Kept
-pub mod LineEnds
-pub mod LineKinds
-pub mod Runs
-pub mod Seens
-pub mod Shards
-pub mod Steps
-pub mod Views
+pub mod shared
+mod CutLines
+mod InPlace
+mod Kept
+mod LineEnds
+mod LineKinds
+mod Runs
+mod Seens
+mod Shards
+mod Steps
+mod Views

@@ -15,7 +15,7 @@ use Rattle.pgn_pieces.specs.Stream.{State, IsStateOf, Next, MayFollow, past_piec
 use Rattle.pgn_pieces.specs.Places.{line_ends}
 use Rattle.pgn_pieces.specs.ties.Held.{HasSeen, Ends, FindsEnd, SameCounts, IsLike, LetGo, Adds, passed, with_more}
 use Rattle.pgn_pieces.proofs.CutLines.{has_piece, piece_of_some}
-use Rattle.pgn_pieces.proofs.Inputs.{read_on, broke_off}
+use Rattle.pgn_pieces.proofs.shared.Inputs.{read_on, broke_off}
 
 -- ---- what is held of a piece
 

@@ -7,13 +7,13 @@ use Rattle.std.proofs.lemmas.List.Sums.{sum_by_push}
 use Rattle.byte_devices.specs.declared.traits.WriteFault.{WriteFault}
 use Rattle.byte_devices.specs.Devices.{InputState, OutputState, Took, BreaksOff}
 use Rattle.byte_devices.specs.Transfers.{Ran}
-use Rattle.byte_devices.proofs.DeviceLaws.{breaks_longer}
+use Rattle.byte_devices.proofs.shared.Devices.{breaks_longer}
 use Rattle.pgn_pieces.specs.Pieces.{Piece, pieces}
 use Rattle.pgn_pieces.specs.declared.pieces.PieceFault.{PieceFault}
 use Rattle.pgn_pieces.specs.Stream.{State, IsStateOf, Next, MayFollow, past_piece, current, unread, pieces_after_part, pieces_held}
 use Rattle.pgn_pieces.specs.laws.HandedOut.{PiecesAreCut}
 use Rattle.pgn_pieces.specs.laws.Places.{PiecesAreInPlace}
-use Rattle.pgn_pieces.proofs.Inputs.{nothing_read}
+use Rattle.pgn_pieces.proofs.shared.Inputs.{nothing_read}
 use Rattle.pgn_verifier.specs.declared.options.VerifyOptions.{VerifyOptions}
 use Rattle.pgn_verifier.specs.declared.tally.Tally.{Tally}
 use Rattle.pgn_verifier.specs.declared.fault.VerifyFault.TheVariants.{WriteFailed}

@@ -3,13 +3,13 @@ use Rattle.std.proofs.Common.{◌≡◌, ℕ, Bool, true, false, List, [], ◌++
 use Rattle.std.proofs.Math.Seq.{take-length}
 use Rattle.byte_devices.specs.Devices.{InputState, OutputState, Took, Sent, BreaksOff, TookThenFailed}
 use Rattle.byte_devices.specs.Transfers.{Ran}
-use Rattle.byte_devices.proofs.DeviceLaws.{appends_more, took_none, breaks_more, failed_more}
+use Rattle.byte_devices.proofs.shared.Devices.{appends_more, took_none, breaks_more, failed_more}
 use Rattle.pgn_pieces.specs.Pieces.{pieces}
 use Rattle.pgn_verifier.specs.declared.options.VerifyOptions.{VerifyOptions}
 use Rattle.pgn_verifier.specs.declared.tally.Tally.{Tally}
 use Rattle.pgn_verifier.specs.declared.tally.Verified.{Verified}
 use Rattle.pgn_pieces.specs.declared.pieces.PieceFault.TheVariants as piece
-use Rattle.pgn_pieces.proofs.Inputs.{nothing_read}
+use Rattle.pgn_pieces.proofs.shared.Inputs.{nothing_read}
 use Rattle.pgn_verifier.specs.declared.fault.VerifyFault.TheVariants.{WriteFailed, NoMemory}
 use Rattle.pgn_verifier.specs.Reports.{reports_on, report_lines, counts_line, counts_of, verified}
 use Rattle.pgn_verifier.specs.Verify.{text_lines}

@@ -3,7 +3,7 @@ use Rattle.std.proofs.Common.{◌≡◌, ◌≤◌, ◌<◌, ◌-◌, ◌==◌, 
 use Rattle.std.proofs.lemmas.List.{length-take-le}
 use Rattle.std.specs.Io.KnownBytes.{Consumes}
 use Rattle.byte_devices.specs.Devices.{InputState, GavePiece, FailedToRead, risen}
-use Rattle.byte_devices.proofs.DeviceLaws.{consumes_more, consumes_kept}
+use Rattle.byte_devices.proofs.shared.Devices.{consumes_more, consumes_kept}
 use Rattle.pgn_verifier.specs.declared.fault.VerifyFault.TheVariants.{ReadFailed, NoMemory, InputTooLong}
 use Rattle.pgn_pieces.specs.Pieces.{HasRead}
 use Rattle.pgn_verifier.specs.ties.OnTheWay.{IsAll, IsNotAll}

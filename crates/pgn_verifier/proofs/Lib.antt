@@ -1,8 +1,8 @@
-pub mod CollectionVerified
-pub mod Finished
-pub mod GamesJudged
-pub mod InputRead
-pub mod LinesWritten
-pub mod Placed
-pub mod TextVerified
-pub mod Verifying
+mod CollectionVerified
+mod Finished
+mod GamesJudged
+mod InputRead
+mod LinesWritten
+mod Placed
+mod TextVerified
+mod Verifying

@@ -1,7 +1,7 @@
 -- Reports that are written one after the other, and counted.
 use Rattle.std.proofs.Common.{◌≡◌, ℕ, ◌+◌, List, [], ◌∷◌, ◌++◌, length, Result, Ok, Err, refl, sym, ap, subst, ◌∙◌, append_assoc, append-nil, arith}
 use Rattle.byte_devices.specs.Devices.{OutputState, Took, BreaksOff}
-use Rattle.byte_devices.proofs.DeviceLaws.{took_none, took_more, breaks_more, breaks_longer}
+use Rattle.byte_devices.proofs.shared.Devices.{took_none, took_more, breaks_more, breaks_longer}
 use Rattle.pgn_verifier.specs.declared.options.VerifyOptions.{VerifyOptions}
 use Rattle.pgn_verifier.specs.declared.tally.Tally.{Tally}
 use Rattle.pgn_verifier.specs.Reports.{Report, Game, Faulty, written_line, report_lines, with_report}

@@ -3,7 +3,7 @@ use Rattle.std.proofs.Common.{◌≡◌, ℕ, Bool, true, false, List, [], Resul
 use Rattle.std.specs.Prelude.{IfErr}
 use Rattle.byte_devices.specs.Devices.{InputState, OutputState, Took, Sent, BreaksOff}
 use Rattle.byte_devices.specs.Transfers.{InputGave, Ran, all_of, all_unflushed, nothing}
-use Rattle.byte_devices.proofs.Transferred.{came, broke, took_nothing, took_all, took_unflushed, took_some}
+use Rattle.byte_devices.proofs.shared.Transfers.{came, broke, took_nothing, took_all, took_unflushed, took_some}
 use Rattle.pgn_pieces.specs.Pieces.{HasRead, BrokeOff, IsCause}
 use Rattle.pgn_pieces.specs.declared.pieces.PieceFault.{PieceFault}
 use Rattle.pgn_pieces.specs.declared.pieces.PieceFault.TheVariants as piece

@@ -1,1 +1,1 @@
-pub mod Remarks
+mod Remarks

@@ -1,5 +1,6 @@
-pub mod FewDigits
-pub mod Trims
-pub mod Parts
-pub mod LineEnds
-pub mod Reading
+pub mod shared
+mod FewDigits
+mod Trims
+mod Parts
+mod LineEnds
+mod Reading

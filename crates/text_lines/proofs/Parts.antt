@@ -8,6 +8,7 @@ use Rattle.std.proofs.lemmas.Grind.{common_steps}
 use Rattle.std.proofs.lemmas.Bool.Decides.{nat_tests}
 use Rattle.text_lines.specs.ties.Kept.{kept_part, SameLines}
 use Rattle.text_lines.specs.Lines.{line_of, lines_from, parts, lines_of_parts, with_front, trimmed, is_blank, without_front_blanks, without_end_blanks, without_return}
+use Rattle.text_lines.proofs.shared.Lines.{wfb_short}
 
 lt_true : (m n : ℕ) → m < n → nat_lt m n ≡ true
 lt_true m n h = grind arith
@@ -116,11 +117,6 @@ last_at_end n part h = rw (lt_true 0 (length part) h) refl
 pub last_left : (n : ℕ) (part : List ℕ) → 0 < length part → lines_from n true part [] ≡ line_of n false part ∷ []
 last_left n part h = ap (lines_of_parts n true) (alone part) ∙ last_at_end n part h
 
-pub nothing_left : (n : ℕ) (at_end : Bool) → lines_from n at_end [] [] ≡ []
-unfolding lines_of_parts
-nothing_left n true = refl
-nothing_left n false = refl
-
 -- lines that are too long are alike where the bytes are that show
 long_same : (n : ℕ) (x y : List ℕ) → n < length x → n < length y → take (shown_len n) x ≡ take (shown_len n) y
     → SameLines n x y
@@ -192,11 +188,6 @@ cond_short : (b : Bool) (c : ℕ) (xs ys : List ℕ) → length xs ≤ length ys
 cond_short true c xs ys h = grind arith
 cond_short false c xs ys h = grind arith
 
-front_cond : (b : Bool) (c : ℕ) (cs xs : List ℕ) → length xs ≤ length cs
-    → length (if b then xs else c ∷ cs) ≤ length (c ∷ cs)
-front_cond true c cs xs h = grind arith
-front_cond false c cs xs h = grind arith
-
 line_short : (n : ℕ) (e : Bool) (x : List ℕ) → length x ≤ n
     → line_of n e x ≡ record { text = trimmed x; too_long = false; ended = e }
 unfolding line_of
@@ -255,12 +246,6 @@ web_short [] = omega arith
 web_short (c ∷ cs) =
     let ih : length (without_end_blanks cs) ≤ length cs = web_short cs in
     cond_short (is_blank c && list_all is_blank cs) c (without_end_blanks cs) cs ih
-
-pub wfb_short : (xs : List ℕ) → length (without_front_blanks xs) ≤ length xs
-wfb_short [] = omega arith
-wfb_short (c ∷ cs) =
-    let ih : length (without_front_blanks cs) ≤ length cs = wfb_short cs in
-    front_cond (is_blank c) c cs (without_front_blanks cs) ih
 
 pub wr_short : (xs : List ℕ) → length (without_return xs) ≤ length xs
 wr_short xs = at (get_or xs (length xs - 1) 0 == 13)

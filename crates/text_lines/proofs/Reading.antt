@@ -1,11 +1,12 @@
 -- The reads of one call for the next line.
 use Rattle.std.proofs.Common.{◌≡◌, ℕ, ◌+◌, ◌-◌, ◌<◌, ◌≤◌, inl, inr, Bool, true, false, List, [], ◌∷◌, ◌++◌, length, take, Some, None, Ok, refl, sym, ap, ◌∙◌, arith, append_assoc, append-nil, length-append, nat_eq}
 use Rattle.std.proofs.Math.Seq.{take-append_seam}
-use Rattle.text_lines.proofs.Parts.{line_ended, ten_step, byte_step, none_from, last_left, nothing_left}
+use Rattle.text_lines.proofs.Parts.{line_ended, ten_step, byte_step, none_from, last_left}
+use Rattle.text_lines.proofs.shared.Lines.{nothing_left}
 use Rattle.std.specs.Io.KnownBytes.{Consumes}
 use Rattle.std.specs.Bool.{MatchBool}
 use Rattle.byte_devices.specs.Devices.{InputState, GavePiece, risen}
-use Rattle.byte_devices.proofs.DeviceLaws.{consumes_more, consumes_none}
+use Rattle.byte_devices.proofs.shared.Devices.{consumes_more, consumes_none}
 use Rattle.text_lines.specs.Lines.{LineSeen, Held, nothing_held, lines_from, lines_held, line_of}
 use Rattle.text_lines.specs.laws.Unended.{HasNoEnd}
 use Rattle.text_lines.specs.Next.{before_piece, Waits, work, NextLine}

@@ -13,7 +13,7 @@ use Rattle.chess_base.specs.declared.setup.Setup.{Setup}
 use Rattle.chess_base.specs.Attacks.{is_clear, is_attacked}
 use Rattle.chess_base.specs.Castling.{home_square, castled_king_file, right_of, castle_of}
 use Rattle.chess_base.specs.Men.{Men, man_at, other, is_man, same_kind, pawn_rank}
-use Rattle.chess_base.specs.ties.Changes.{with_man}
+use Rattle.chess_base.specs.shared.OneSquare.{with_man}
 use Rattle.chess_base.specs.MoveList.{move_of}
 use Rattle.chess_base.specs.Moves.{is_pseudo_legal, is_legal, man_moves}
 use Rattle.chess_base.specs.Squares.{rank, share_rank_or_file, share_diagonal}

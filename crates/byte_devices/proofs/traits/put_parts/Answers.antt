@@ -1,7 +1,7 @@
--- So far the texts before this one were taken (parts_more of DeviceLaws); where one breaks off, a beginning of them all
+-- So far the texts before this one were taken (parts_more of Devices); where one breaks off, a beginning of them all
 -- was taken (parts_break).
 use Rattle.std.proofs.Common.{List, ℕ, Bor}
-use Rattle.byte_devices.proofs.DeviceLaws.{parts_more, parts_break, puts_exit}
+use Rattle.byte_devices.proofs.shared.Devices.{parts_more, parts_break, puts_exit}
 use Rattle.byte_devices.proofs.traits.put_parts.Goals as goal
 
 pub returns-in_err-put : goal.returns-in_err-put

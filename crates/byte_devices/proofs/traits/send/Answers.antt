@@ -1,4 +1,4 @@
-use Rattle.byte_devices.proofs.DeviceLaws.{flush_on, sends_exit}
+use Rattle.byte_devices.proofs.shared.Devices.{flush_on, sends_exit}
 use Rattle.byte_devices.proofs.traits.send.Goals as goal
 
 pub returns-in_err-put : goal.returns-in_err-put

@@ -1,5 +1,5 @@
 -- A quote that is not closed gives no value (ItemRuns.unclosed).
-use Rattle.cecp_engine.proofs.ItemRuns.{unclosed}
+use Rattle.cecp_engine.proofs.shared.Items.{unclosed}
 use Rattle.cecp_engine.proofs.item.read_value.Goals as goal
 
 pub returns-else-at-tail : goal.returns-else-at-tail

@@ -2,7 +2,7 @@
 use Rattle.std.proofs.Common.{sym, ◌∙◌}
 use Rattle.chess_base.proofs.Castlings.{change_of}
 use Rattle.chess_base.proofs.CountsAfter.{one_king_after}
-use Rattle.chess_base.proofs.StaysSound.{one_king_of}
+use Rattle.chess_base.proofs.shared.Kings.{one_king_of}
 use Rattle.chess_base.proofs.legality.is_legal.Goals as goal
 
 pub is_king_attacked-requires : goal.is_king_attacked-requires

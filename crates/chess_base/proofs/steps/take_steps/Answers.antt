@@ -1,5 +1,5 @@
 use Rattle.std.proofs.Common.{sym, arith}
-use Rattle.chess_base.proofs.Writes.{men_stepped-written}
+use Rattle.chess_base.proofs.shared.Writes.{men_stepped-written}
 use Rattle.chess_base.proofs.steps.take_steps.Goals as goal
 
 pub returns : goal.returns

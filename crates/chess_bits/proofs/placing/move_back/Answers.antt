@@ -1,4 +1,4 @@
-use Rattle.chess_moves.proofs.Steps.{captured_in_board}
+use Rattle.chess_moves.proofs.shared.Made.{captured_in_board}
 use Rattle.chess_bits.proofs.placing.move_back.Goals as goal
 
 pub steps_back-steps-requires : goal.steps_back-steps-requires

@@ -1,6 +1,6 @@
 -- The squares from which pawns may go to the target are all to be looked at (EnPassant.en_passant_found).
 use Rattle.chess_base.specs.Moves.{is_en_passant}
-use Rattle.chess_moves.proofs.SomeMember.{any_from_members}
+use Rattle.chess_moves.proofs.shared.AnyMove.{any_from_members}
 use Rattle.chess_game.proofs.EnPassant.{en_passant_found, target_in}
 use Rattle.chess_game.proofs.repetition.is_captured_on.Goals as goal
 

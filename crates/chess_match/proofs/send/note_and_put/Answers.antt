@@ -3,7 +3,8 @@ use Rattle.std.proofs.Common.{List, ℕ, sym, subst}
 use Rattle.chess_match.specs.Notes.{WasNoted, given_note}
 use Rattle.chess_match.specs.Run.{Flushed}
 use Rattle.chess_match.proofs.Due.{is_nil, is_some_text}
-use Rattle.chess_match.proofs.Flushes.{flushed_none, sent_now}
+use Rattle.chess_match.proofs.shared.Flushes.{flushed_none}
+use Rattle.chess_match.proofs.SentNow.{sent_now}
 use Rattle.chess_match.proofs.Notings.{noted_none, given_some}
 use Rattle.chess_match.proofs.send.note_and_put.Goals as goal
 

@@ -3,7 +3,7 @@ use Rattle.std.proofs.Common.{sym, ap, ◌∙◌}
 use Rattle.std.proofs.lemmas.Bool.{eqb-true}
 use Rattle.std.specs.List.{flat_map}
 use Rattle.chess_moves.specs.Sets.{members}
-use Rattle.chess_moves.proofs.Members.{members_none}
+use Rattle.chess_moves.proofs.shared.Members.{members_none}
 use Rattle.chess_text.specs.Moves.{one_of}
 use Rattle.chess_text.specs.declared.reading.Reading.TheVariants as reads
 use Rattle.chess_text.specs.ties.Forms.{denoted_start}

@@ -1,7 +1,7 @@
 -- The lines of the text's reports were written, from the first byte on (Finished.whole_lines), and then flushed.
 use Rattle.std.proofs.Common.{subst}
 use Rattle.byte_devices.specs.Devices.{Took, BreaksOff}
-use Rattle.byte_devices.proofs.DeviceLaws.{sent_on}
+use Rattle.byte_devices.proofs.shared.Devices.{sent_on}
 use Rattle.pgn_verifier.specs.Verify.{text_lines}
 use Rattle.pgn_verifier.proofs.Finished.{whole_there, whole_lines, whole_counted, not_flushed}
 use Rattle.pgn_verifier.proofs.buffered.finish.Goals as goal

@@ -2,7 +2,7 @@
 use Rattle.std.proofs.Common.{◌≡◌, ◌<◌, ◌∙◌, ◌++◌, length, take, false, is_err, sym, arith}
 use Rattle.pgn_verifier.proofs.InputRead.{all_read, more_read, no_room, too_long, pushed, still_few}
 use Rattle.pgn_verifier.proofs.buffered.read_all.Goals as goal
-use Rattle.pgn_pieces.proofs.Inputs.{nothing_read}
+use Rattle.pgn_pieces.proofs.shared.Inputs.{nothing_read}
 
 pub loop-count-init : goal.loop-count-init
 loop-count-init g c = record {

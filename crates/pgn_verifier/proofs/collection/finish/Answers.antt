@@ -1,5 +1,5 @@
 -- The counts were written, and then flushed; or a beginning of them was written.
-use Rattle.byte_devices.proofs.DeviceLaws.{flush_on, sends_exit}
+use Rattle.byte_devices.proofs.shared.Devices.{flush_on, sends_exit}
 use Rattle.pgn_verifier.proofs.collection.finish.Goals as goal
 
 pub returns-in_err-write_counts : goal.returns-in_err-write_counts

@@ -2,7 +2,7 @@
 -- and white space (Skipped.gap_line_more, gap_blank_more).
 use Rattle.std.proofs.Common.{sym, ap, ◌∙◌, false}
 use Rattle.chess_pgn.specs.Tokens.{after_gap}
-use Rattle.chess_pgn.proofs.Skipped.{gap_line_more, gap_blank_more}
+use Rattle.chess_pgn.proofs.shared.Tokens.{gap_line_more, gap_blank_more}
 use Rattle.pgn_verifier.proofs.token_reason.after_gap.Goals as goal
 use Rattle.pgn_verifier.proofs.token_reason.after_gap.Goals.{then-line_begins+then-byte-eq37, else-line_begins+then-is_white_space}
 

@@ -3,7 +3,7 @@
 use Rattle.std.proofs.Common.{sym, ap, ◌∙◌}
 use Rattle.std.specs.Prelude.{is_some}
 use Rattle.chess_pgn.specs.Tokens.{string_at}
-use Rattle.chess_pgn.proofs.Strings.{onto-nil, place_line, place_quote, place_kept, place_other}
+use Rattle.chess_pgn.proofs.shared.Tokens.{onto-nil, place_line, place_quote, place_kept, place_other}
 use Rattle.pgn_verifier.proofs.token_reason.is_closed.Goals as goal
 use Rattle.pgn_verifier.proofs.token_reason.is_closed.Goals.{then-is_kept, else-is_kept+else-byte-eq34}
 

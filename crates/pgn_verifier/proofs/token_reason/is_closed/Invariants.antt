@@ -1,6 +1,6 @@
 use Rattle.std.proofs.Common.{◌≡◌, ◌-◌, length, drop, take}
 use Rattle.chess_pgn.specs.Tokens.{onto, string_at}
-use Rattle.chess_pgn.proofs.Strings.{string_after}
+use Rattle.chess_pgn.proofs.shared.Tokens.{string_after}
 use Rattle.pgn_verifier.proofs.token_reason.is_closed.Given as goal
 
 abbrev pub invariant-loop-offset : goal.invariant-loop-offset

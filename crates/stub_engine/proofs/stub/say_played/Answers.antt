@@ -1,4 +1,4 @@
-use Rattle.byte_devices.proofs.DeviceLaws.{breaks_longer, puts_exit, puts_more}
+use Rattle.byte_devices.proofs.shared.Devices.{breaks_longer, puts_exit, puts_more}
 use Rattle.stub_engine.proofs.stub.say_played.Goals as goal
 
 pub returns-in_err-say_argument : goal.returns-in_err-say_argument

@@ -1,7 +1,7 @@
 -- A king promotes nothing, so there is one move to each square where it may go (from_ends, one_there of KingListed).
 use Rattle.std.proofs.Common.{◌≡◌, ◌++◌, ◌≤◌, ◌∷◌, [], None, length, lit<, ap, sym, ◌∙◌, length-append, arith}
 use Rattle.chess_base.specs.MoveList.{move_of}
-use Rattle.chess_moves.specs.ties.Candidates.{moves_between, moves_from}
+use Rattle.chess_moves.specs.shared.MovesBySquares.{moves_between, moves_from}
 use Rattle.chess_bits.proofs.Freely.{one_fits}
 use Rattle.chess_bits.proofs.KingListed.{from_ends, one_there}
 use Rattle.chess_bits.proofs.Listed.{each_member, each_first}

@@ -5,9 +5,9 @@ use Rattle.arrayvec.specs.ArrayVec.{array_vec_len}
 use Rattle.chess_base.specs.declared.man.Kind.{Kind}
 use Rattle.chess_base.specs.declared.man.Move.{Move}
 use Rattle.chess_base.specs.Moves.{promotion_fits}
-use Rattle.chess_moves.specs.ties.Candidates.{moves_between, moves_with}
+use Rattle.chess_moves.specs.shared.MovesBySquares.{moves_between, moves_with}
 use Rattle.chess_moves.specs.Promoting.{would_promote}
-use Rattle.chess_moves.proofs.Parts.{all_promote, none_promotes}
+use Rattle.chess_moves.proofs.shared.MovesBySquares.{all_promote, none_promotes}
 use Rattle.chess_bits.proofs.Listed.{four_fit, none_fit}
 use Rattle.chess_bits.proofs.bits.Bits.add_moves_between.Goals as goal
 

@@ -1,6 +1,6 @@
 -- Each legal move of the piece ends on one of the squares, so the moves to these are all (from_targets of Listed).
 use Rattle.std.proofs.Common.{◌≡◌, ◌++◌, ◌≤◌, length, true, ap, length-append, arith}
-use Rattle.chess_moves.specs.ties.Candidates.{moves_between, moves_from}
+use Rattle.chess_moves.specs.shared.MovesBySquares.{moves_between, moves_from}
 use Rattle.chess_bits.specs.ties.Goes.{goes}
 use Rattle.chess_bits.proofs.Listed.{from_targets, each_member, room_for}
 use Rattle.chess_bits.proofs.bits.Bits.add_moves_to.Goals as goal

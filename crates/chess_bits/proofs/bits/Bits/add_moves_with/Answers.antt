@@ -1,6 +1,6 @@
 -- A piece that goes there with a promotion that fits has a move's pattern (pattern_of): only the king's safety is left.
 use Rattle.std.proofs.Common.{lit<, sym, ◌∙◌}
-use Rattle.chess_moves.proofs.Parts.{room_for_next}
+use Rattle.chess_moves.proofs.shared.MovesBySquares.{room_for_next}
 use Rattle.chess_bits.proofs.Listed.{pattern_of}
 use Rattle.chess_bits.proofs.bits.Bits.add_moves_with.Goals as goal
 

@@ -1,5 +1,5 @@
 use Rattle.std.proofs.Common.{◌≡◌, ◌++◌, take}
-use Rattle.chess_moves.specs.ties.Candidates.{moves_with}
+use Rattle.chess_moves.specs.shared.MovesBySquares.{moves_with}
 use Rattle.chess_bits.proofs.bits.Bits.add_moves_with.Given as goal
 
 abbrev pub invariant-loop-promotion : goal.invariant-loop-promotion

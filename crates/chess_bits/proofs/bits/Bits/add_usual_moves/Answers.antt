@@ -3,7 +3,7 @@
 use Rattle.std.proofs.Common.{◌≡◌, ◌<◌, ◌++◌, ◌≤◌, ◌∷◌, [], None, length, lit<, ap, subst, length-append, arith}
 use Rattle.chess_base.specs.MoveList.{move_of}
 use Rattle.chess_base.specs.Sound.{IsSound}
-use Rattle.chess_moves.specs.ties.Candidates.{moves_between, moves_from}
+use Rattle.chess_moves.specs.shared.MovesBySquares.{moves_between, moves_from}
 use Rattle.chess_bits.proofs.Freely.{usual_from, free_listed, one_fits}
 use Rattle.chess_bits.proofs.Listed.{from_targets, each_member, each_first}
 use Rattle.chess_bits.proofs.bits.Bits.add_usual_moves.Goals as goal

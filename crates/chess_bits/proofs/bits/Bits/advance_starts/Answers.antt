@@ -3,7 +3,7 @@ use mathlib.Core.Bool.{not-not}
 use Rattle.std.proofs.Common.{◌≡◌, ◌<◌, ◌==◌, ◌||◌, false, true, not, is_none, sym, ap, subst, ◌∙◌}
 use Rattle.chess_base.specs.Men.{man_at}
 use Rattle.chess_base.specs.Squares.{rank}
-use Rattle.chess_base.proofs.OverSquares.{each_square-at}
+use Rattle.chess_base.proofs.shared.Squares.{each_square-at}
 use Rattle.chess_base.specs.Sound.{no_pawn_on_end_ranks}
 use Rattle.chess_bits.proofs.OriginsOf.{off_lowest}
 use Rattle.chess_bits.proofs.PawnStarts.{none_onto, advances_are}

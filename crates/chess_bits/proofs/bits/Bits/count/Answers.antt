@@ -4,9 +4,9 @@ use Rattle.std.proofs.Common.{◌≡◌, ◌+◌, ◌<◌, ℕ, length, ap, arit
 use Rattle.std.specs.List.{flat_map}
 use Rattle.chess_base.specs.Men.{man_at, is_of}
 use Rattle.chess_base.specs.MoveList.{moves}
-use Rattle.chess_moves.specs.ties.Candidates.{moves_from}
+use Rattle.chess_moves.specs.shared.MovesBySquares.{moves_from}
 use Rattle.chess_moves.specs.Sets.{contains, members}
-use Rattle.chess_moves.proofs.Room.{moves_fit}
+use Rattle.chess_moves.proofs.shared.LegalMoves.{moves_fit}
 use Rattle.chess_bits.proofs.Listed.{from_men}
 use Rattle.chess_bits.proofs.bits.Bits.count.Goals as goal
 

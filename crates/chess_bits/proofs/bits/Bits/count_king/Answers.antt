@@ -5,7 +5,7 @@ use Rattle.std.specs.List.{flat_map}
 use Rattle.chess_base.specs.MoveList.{move_of}
 use Rattle.chess_base.specs.Moves.{man_moves}
 use Rattle.chess_base.specs.Sound.{IsSound}
-use Rattle.chess_moves.specs.ties.Candidates.{moves_between}
+use Rattle.chess_moves.specs.shared.MovesBySquares.{moves_between}
 use Rattle.chess_moves.specs.Sets.{contains, members}
 use Rattle.chess_bits.proofs.KingSteps.{king_counted, steps_are}
 use Rattle.chess_bits.proofs.Listed.{each_member}

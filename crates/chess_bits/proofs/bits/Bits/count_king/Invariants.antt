@@ -2,7 +2,7 @@ use Rattle.std.proofs.Common.{◌≡◌, ◌+◌, length, None, true}
 use Rattle.std.specs.List.{flat_map}
 use Rattle.chess_base.specs.MoveList.{move_of}
 use Rattle.chess_base.specs.Moves.{man_moves}
-use Rattle.chess_moves.specs.ties.Candidates.{moves_between, moves_from}
+use Rattle.chess_moves.specs.shared.MovesBySquares.{moves_between, moves_from}
 use Rattle.chess_moves.specs.Sets.{members}
 use Rattle.chess_bits.proofs.Listed.{Each}
 use Rattle.chess_bits.proofs.bits.Bits.count_king.Given as goal

@@ -3,7 +3,7 @@
 use Rattle.std.proofs.Common.{◌≡◌, length, not, sym, ◌∙◌, arith}
 use Rattle.std.specs.List.{flat_map}
 use Rattle.std.proofs.lemmas.Bool.{and_parts, not-true}
-use Rattle.chess_moves.specs.ties.Candidates.{moves_from}
+use Rattle.chess_moves.specs.shared.MovesBySquares.{moves_from}
 use Rattle.chess_moves.specs.Sets.{contains, members}
 use Rattle.chess_bits.proofs.KindsCounted.{split}
 use Rattle.chess_bits.proofs.bits.Bits.count_pawns.Goals as goal

@@ -4,7 +4,7 @@ use Rattle.chess_base.specs.declared.man.Kind.TheVariants.{Knight}
 use Rattle.chess_base.specs.Men.{man_at, is_man}
 use Rattle.chess_bits.specs.ties.Goes.{IsFree}
 use Rattle.chess_bits.proofs.Listed.{Each}
-use Rattle.chess_moves.specs.ties.Candidates.{moves_from}
+use Rattle.chess_moves.specs.shared.MovesBySquares.{moves_from}
 use Rattle.chess_moves.specs.Sets.{members}
 use Rattle.chess_bits.proofs.bits.Bits.has_knight_move.Given as goal
 

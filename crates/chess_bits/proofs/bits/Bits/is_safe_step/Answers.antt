@@ -4,7 +4,7 @@ use Rattle.std.proofs.Common.{◌≡◌, ◌<◌, true, false, not, ◌&&◌, su
 use Rattle.chess_base.specs.declared.man.Kind.TheVariants.{King}
 use Rattle.chess_base.specs.Attacks.{is_attacked}
 use Rattle.chess_base.specs.Men.{man_at, is_of, is_man}
-use Rattle.chess_base.proofs.MenFacts.{no_other}
+use Rattle.chess_base.proofs.shared.Men.{no_other}
 use Rattle.chess_moves.specs.Sets.{contains}
 use Rattle.chess_bits.specs.ties.Goes.{lifted}
 use Rattle.chess_bits.proofs.KingSteps.{step_is}

@@ -7,7 +7,7 @@ use Rattle.chess_base.specs.Men.{first_rank, man_at, is_man, other}
 use Rattle.chess_base.specs.MoveList.{move_of}
 use Rattle.chess_base.specs.Moves.{is_pseudo_legal, promotion_fits}
 use Rattle.chess_base.specs.Squares.{is_square, rank}
-use Rattle.chess_base.proofs.MoveKinds.{moves_from_pattern}
+use Rattle.chess_base.proofs.shared.MoveKinds.{moves_from_pattern}
 use Rattle.chess_moves.specs.Promoting.{would_promote}
 use Rattle.chess_moves.specs.Sets.{contains}
 use Rattle.chess_bits.specs.ties.Changes.{is_changed, is_filled}

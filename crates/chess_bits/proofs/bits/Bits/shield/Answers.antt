@@ -4,7 +4,7 @@
 use Rattle.std.proofs.Common.{◌≡◌, ◌<◌, ◌==◌, ◌&&◌, ℕ, not, false, sym, ap, subst, ◌∙◌}
 use Rattle.std.proofs.lemmas.Bool.{both_ways}
 use Rattle.chess_base.specs.Squares.{is_between}
-use Rattle.chess_base.proofs.OverSquares.{some_square-none}
+use Rattle.chess_base.proofs.shared.Squares.{some_square-none}
 use Rattle.chess_moves.specs.Sets.{contains}
 use Rattle.chess_bits.proofs.Attackers.{none_there}
 use Rattle.chess_bits.proofs.BetweenSquares.{by_line}

@@ -1,7 +1,7 @@
 -- A legal move of a sound position leaves a sound one (IsSound-after), and the sets change as the pieces do.
 use Rattle.std.proofs.Common.{◌≡◌, true}
 use Rattle.chess_base.specs.Moves.{is_legal}
-use Rattle.chess_base.proofs.StaysSound.{IsSound-after}
+use Rattle.chess_base.proofs.shared.LegalMoves.{IsSound-after}
 use Rattle.chess_bits.proofs.bits.BitsBoard.make.Goals as goal
 
 pub invariant_of-self : goal.invariant_of-self

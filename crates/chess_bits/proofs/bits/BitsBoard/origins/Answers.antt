@@ -2,7 +2,7 @@
 -- attacked back from there (officer_origins). All pieces of a kind are always enough (all_men of chess_moves).
 use Rattle.std.proofs.Common.{sym, ap, ◌∙◌}
 use Rattle.chess_moves.specs.Sets.{contains}
-use Rattle.chess_moves.proofs.Origins.{all_men}
+use Rattle.chess_moves.proofs.shared.Origins.{all_men}
 use Rattle.chess_bits.proofs.OriginsOf.{pawn_origins, officer_origins}
 use Rattle.chess_bits.proofs.bits.BitsBoard.origins.Goals as goal
 

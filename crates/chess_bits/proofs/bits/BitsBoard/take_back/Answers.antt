@@ -1,6 +1,6 @@
 -- The position before a move that was made is that sound position (Steps of chess_moves); the sets change as the pieces
 -- do.
-use Rattle.chess_moves.proofs.Steps.{IsMade-sound, WasMade-back}
+use Rattle.chess_moves.proofs.shared.Made.{IsMade-sound, WasMade-back}
 use Rattle.chess_bits.proofs.bits.BitsBoard.take_back.Goals as goal
 
 pub invariant_of-self : goal.invariant_of-self

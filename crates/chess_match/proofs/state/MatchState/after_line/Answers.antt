@@ -9,7 +9,7 @@ use Rattle.chess_match.specs.declared.phase.Phase.TheVariants.{SendTurn}
 use Rattle.chess_match.proofs.Going.{clocks_moves}
 use Rattle.chess_match.proofs.OtherLines.{after_other}
 use Rattle.chess_match.proofs.state.MatchState.after_line.Goals as goal
-use Rattle.chess_base.proofs.MenFacts.{same_colour-self}
+use Rattle.chess_base.proofs.shared.Men.{same_colour-self}
 
 pub returns-in-Move : goal.returns-in-Move
 unfolding after_line

@@ -9,7 +9,7 @@ use Rattle.chess_match.specs.Transcript.{reads, is_on}
 use Rattle.chess_match.proofs.Going.{clocks_left}
 use Rattle.chess_match.proofs.OtherLines.{before_other}
 use Rattle.chess_match.proofs.state.MatchState.before_line.Goals as goal
-use Rattle.chess_base.proofs.MenFacts.{same_colour-self}
+use Rattle.chess_base.proofs.shared.Men.{same_colour-self}
 
 -- the flag falls in the core where it falls in the match
 flag_kept : (left used clock elapsed : ℕ) (b : Bool) → left ≡ clock → used ≡ elapsed → nat_lt left used ≡ b

@@ -13,7 +13,7 @@ use Rattle.chess_match.specs.declared.reason.Reason.TheVariants.{Faulted}
 use Rattle.chess_match.specs.declared.phase.Phase.TheVariants.{Over}
 use Rattle.chess_match.proofs.Going.{handshake_goes, items_phase, one_core}
 use Rattle.chess_match.proofs.state.MatchState.handshake_line.Goals as goal
-use Rattle.chess_base.proofs.MenFacts.{same_colour-self}
+use Rattle.chess_base.proofs.shared.Men.{same_colour-self}
 
 pub returns-then-done-clause-goes : goal.returns-then-done-clause-goes
 unfolding handshake_line

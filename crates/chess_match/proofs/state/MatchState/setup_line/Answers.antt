@@ -6,7 +6,7 @@ use Rattle.chess_match.specs.laws.Laws.{is_pong}
 use Rattle.cecp_engine.specs.Seen.{seen}
 use Rattle.chess_match.specs.Transcript.{reads}
 use Rattle.chess_match.proofs.state.MatchState.setup_line.Goals as goal
-use Rattle.chess_base.proofs.MenFacts.{same_colour-self}
+use Rattle.chess_base.proofs.shared.Men.{same_colour-self}
 
 pub returns-then-is_pong : goal.returns-then-is_pong
 returns-then-is_pong g c r m p at s =

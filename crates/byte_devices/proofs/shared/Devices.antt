@@ -1,0 +1,145 @@
+-- For crates that read or write in steps: what holds after one text more, of the definitions in specs/Devices.
+use Rattle.std.proofs.Common.{◌≡◌, ℕ, ◌+◌, ◌<◌, List, [], ◌++◌, length, take, drop, Option, None, Some, Result, Ok, Err, IsErr, refl, sym, ap, ◌∙◌, append_assoc, append-nil, arith, ◌-◌}
+use Rattle.std.specs.Io.KnownBytes.{Keeps, Appends, Consumes}
+use Rattle.std.proofs.Math.Seq.{take-add, take-suc}
+use Rattle.std.proofs.lemmas.List.Concat.{flat_map-append}
+use Rattle.std.specs.List.{flat_map}
+use Rattle.std.proofs.Common.{get_or, add-one, ◌∷◌}
+use Rattle.std.proofs.lemmas.List.{take-append-drop}
+use Rattle.std.proofs.lemmas.Grind.{common_steps}
+use Rattle.byte_devices.specs.Devices.{OutputState, Took, TookThenFailed, Sent, BreaksOff, Puts, Sends, FlushStep, risen, raised}
+
+pub appends_more : (a b c : Option (List ℕ)) (x y : List ℕ) → Appends a b x → Appends b c y → Appends a c (x ++ y)
+appends_more None b c x y h k = tt
+appends_more (Some s) None c x y h k = absurd h
+appends_more (Some s) (Some t) None x y h k = absurd k
+appends_more (Some s) (Some t) (Some u) x y h k = k ∙ ap (λ v. v ++ y) h ∙ append_assoc s x y
+
+pub consumes_more : (a b c : Option (List ℕ)) (x y : List ℕ) → Consumes a b x → Consumes b c y → Consumes a c (x ++ y)
+consumes_more None b c x y h k = tt
+consumes_more (Some s) None c x y h k = absurd h
+consumes_more (Some s) (Some t) None x y h k = absurd k
+consumes_more (Some s) (Some t) (Some u) x y h k = h ∙ ap (λ v. x ++ v) k ∙ sym (append_assoc x y u)
+
+pub consumes_none : (a : Option (List ℕ)) → Consumes a a []
+consumes_none None = tt
+consumes_none (Some s) = refl
+
+pub appends_none : (a : Option (List ℕ)) → Appends a a []
+appends_none None = tt
+appends_none (Some s) = sym (append-nil s)
+
+pub consumes_kept : (a b : Option (List ℕ)) → Keeps a b → Consumes a b []
+consumes_kept None b h = tt
+consumes_kept (Some s) None h = absurd h
+consumes_kept (Some s) (Some t) h = sym h
+
+-- a count after some bytes, and after more
+pub raised_more : (n : ℕ) (x y : List ℕ) → raised n (x ++ y) ≡ raised (raised n x) y
+raised_more n [] y = refl
+raised_more n (b ∷ x) y = raised_more (risen n) x y
+
+unflushed_more : (l m n : ℕ) (x y : List ℕ) → m ≡ raised l x → n ≡ raised m y → n ≡ raised l (x ++ y)
+unflushed_more l m n x y e f = f ∙ ap (λ k. raised k y) e ∙ sym (raised_more l x y)
+
+pub took_none : (a : OutputState) → Took a a []
+took_none a = record { bytes = appends_none a.known_bytes; failures = refl; unflushed = refl }
+
+pub took_more : (a b c : OutputState) (x y : List ℕ) → Took a b x → Took b c y → Took a c (x ++ y)
+took_more a b c x y h k = record {
+  bytes = appends_more a.known_bytes b.known_bytes c.known_bytes x y h.bytes k.bytes;
+  failures = k.failures ∙ h.failures;
+  unflushed = unflushed_more a.unflushed b.unflushed c.unflushed x y h.unflushed k.unflushed;
+}
+
+pub failed_more : (a b c : OutputState) (x y : List ℕ) → Took a b x → TookThenFailed b c y → TookThenFailed a c (x ++ y)
+failed_more a b c x y h k = record {
+  bytes = appends_more a.known_bytes b.known_bytes c.known_bytes x y h.bytes k.bytes;
+  failures = k.failures ∙ ap risen h.failures;
+  unflushed = unflushed_more a.unflushed b.unflushed c.unflushed x y h.unflushed k.unflushed;
+}
+
+pub breaks_more : (a b c : OutputState) (x y : List ℕ) → Took a b x → BreaksOff b c y → BreaksOff a c (x ++ y)
+breaks_more a b c x y h (start, (rest, is), k) =
+    (x ++ start, (rest, append_assoc x start rest ∙ ap (λ v. x ++ v) is), failed_more a b c x start h k)
+
+-- a text of which a beginning was written is itself a beginning of a longer one
+pub breaks_longer : (a b : OutputState) (x y : List ℕ) → BreaksOff a b x → BreaksOff a b (x ++ y)
+breaks_longer a b x y (start, (rest, is), k) =
+    (start, (rest ++ y, sym (append_assoc start rest y) ∙ ap (λ v. v ++ y) is), k)
+
+-- a text, and then another: what was written of both
+pub puts_more : {A E : Type 0} (a b c : OutputState) (r : Result A E) (x y : List ℕ) → Took a b x → Puts b c r y
+    → Puts a c r (x ++ y)
+puts_more a b c (Ok v) x y h k = took_more a b c x y h k
+puts_more a b c (Err e) x y h k = breaks_more a b c x y h k
+
+-- at the exit of a `?`
+pub puts_exit : {A E : Type 0} (a b : OutputState) (r : Result A E) (x : List ℕ) → BreaksOff a b x → IsErr r
+    → Puts a b r x
+puts_exit a b (Ok v) x h k = cc
+puts_exit a b (Err e) x h k = h
+
+-- the rest of a slice, as code cuts it
+pub rest_is : (at : ℕ) (xs : List ℕ) → take (length xs - at) (drop at xs) ≡ drop at xs
+rest_is at xs = grind (arith, common_steps)
+
+-- one write more
+pub wrote_more : (a b c : OutputState) (at n : ℕ) (text : List ℕ) → Took a b (take at text)
+    → Took b c (take n (take (length text - at) (drop at text))) → Took a c (take (at + n) text)
+wrote_more a b c at n text h k =
+    rw (take-add at n text) (took_more a b c (take at text) (take n (drop at text)) h (rw (rest_is at text) at k))
+
+-- a write fails
+pub wrote_part : (a b c : OutputState) (at : ℕ) (text : List ℕ) → Took a b (take at text) → TookThenFailed b c []
+    → BreaksOff a c text
+wrote_part a b c at text h k = (
+  take at text ++ [],
+  (drop at text, rw (append-nil, take-append-drop) refl),
+  failed_more a b c (take at text) [] h
+      k,
+)
+
+-- a text, and then a flush
+pub sent_on : (a b c : OutputState) (x : List ℕ) → Took a b x → Sent b c [] → Sent a c x
+sent_on a b c x h k = record {
+  bytes = rw (← append-nil x) (appends_more a.known_bytes b.known_bytes c.known_bytes x [] h.bytes k.bytes);
+  failures = k.failures ∙ h.failures;
+  flushed = k.flushed;
+}
+
+pub flush_on : {A E : Type 0} (a b c : OutputState) (r : Result A E) (x : List ℕ) → Took a b x → FlushStep b c r
+    → Sends a c r x
+flush_on a b c (Ok v) x h k = sent_on a b c x h k
+flush_on a b c (Err e) x h k = (x ++ [], ([], append_assoc x [] [] ∙ append-nil x), failed_more a b c x [] h k)
+
+-- at the exit of a `?`
+pub sends_exit : {A E : Type 0} (a b : OutputState) (r : Result A E) (x : List ℕ) → BreaksOff a b x → IsErr r
+    → Sends a b r x
+sends_exit a b (Ok v) x h k = cc
+sends_exit a b (Err e) x h k = h
+
+flat_one : {X : Type 0} (f : X → List ℕ) (x : X) → flat_map f (x ∷ []) ≡ f x
+flat_one f x = append-nil (f x)
+
+pub flat_more : {X : Type 0} (f : X → List ℕ) (xs : List X) (i : ℕ) (d : X) → i < length xs
+    → flat_map f (take (i + 1) xs) ≡ flat_map f (take i xs) ++ f (get_or xs i d)
+flat_more f xs i d h =
+    ap (flat_map f) (rw add-one (take-suc xs i d h)) ∙ flat_map-append f (take i xs) (get_or xs i d ∷ [])
+    ∙ ap (λ v. flat_map f (take i xs) ++ v) (flat_one f (get_or xs i d))
+
+-- texts of the elements of a list, one more of them
+pub parts_more : {X : Type 0} (a b c : OutputState) (f : X → List ℕ) (xs : List X) (i : ℕ) (d : X) → i < length xs
+    → Took a b (flat_map f (take i xs)) → Took b c (f (get_or xs i d)) → Took a c (flat_map f (take (i + 1) xs))
+parts_more a b c f xs i d h s t =
+    rw (flat_more f xs i d h) (took_more a b c (flat_map f (take i xs)) (f (get_or xs i d)) s t)
+
+-- one of them broke off
+pub parts_break : {X : Type 0} (a b c : OutputState) (f : X → List ℕ) (xs : List X) (i : ℕ) (d : X) → i < length xs
+    → Took a b (flat_map f (take i xs)) → BreaksOff b c (f (get_or xs i d)) → BreaksOff a c (flat_map f xs)
+parts_break a b c f xs i d h s t =
+    let e : flat_map f xs ≡ flat_map f (take (i + 1) xs) ++ flat_map f (drop (i + 1) xs) =
+    ap (flat_map f) (sym (take-append-drop (i + 1) xs)) ∙ flat_map-append f (take (i + 1) xs) (drop (i + 1) xs) in
+    rw e (rw (flat_more f xs i d h)
+    (breaks_longer a c (flat_map f (take i xs) ++ f (get_or xs i d)) (flat_map f (drop (i + 1) xs))
+    (breaks_more a b c (flat_map f (take i xs)) (f (get_or xs i d)) s t)))

@@ -1,0 +1,112 @@
+-- For laws of whole runs: what passed at the devices, put together from what the calls did.
+use Rattle.std.proofs.Common.{◌≡◌, ℕ, ◌+◌, ◌-◌, ◌^◌, ◌≤◌, min, Bool, true, List, [], ◌∷◌, ◌++◌, length, take, suc, refl, sym, ap, subst, ◌∙◌, arith, append-nil}
+use Rattle.std.proofs.lemmas.Grind.{common_steps}
+use Rattle.std.specs.Io.KnownBytes.{Appends}
+use Rattle.byte_devices.specs.Devices.{InputState, OutputState, Took, TookThenFailed, Sent, risen, raised}
+use Rattle.byte_devices.specs.Transfers.{FromInput, ToOutput, OutputTook, all_of, all_unflushed, nothing}
+use Rattle.byte_devices.proofs.shared.Devices.{appends_more, appends_none}
+
+-- ---- a count of bytes, byte by byte and at once
+
+min_step : (n k top : ℕ) → min (min (n + 1) top + k) top ≡ min (n + (k + 1)) top
+min_step n k top = grind (arith, common_steps)
+
+step : (n : ℕ) (b : ℕ) (bs : List ℕ)
+    → min (risen n + length bs) (2 ^ 64 - 1) ≡ min (n + length (b ∷ bs)) (2 ^ 64 - 1)
+unfolding risen
+step n b bs =
+    let e : length bs + 1 ≡ suc (length bs) = omega arith in
+    min_step n (length bs) (2 ^ 64 - 1) ∙ ap (λ v. min (n + v) (2 ^ 64 - 1)) e
+
+risen_le : (n : ℕ) → risen n ≤ 2 ^ 64 - 1
+unfolding risen
+risen_le n = grind (arith, common_steps)
+
+small : (n : ℕ) → n ≤ 2 ^ 64 - 1 → n ≡ min (n + 0) (2 ^ 64 - 1)
+small n h = grind (arith, common_steps)
+
+raised_at_once : (n : ℕ) (bs : List ℕ) → n ≤ 2 ^ 64 - 1 → raised n bs ≡ min (n + length bs) (2 ^ 64 - 1)
+raised_at_once n [] h = small n h
+raised_at_once n (b ∷ bs) h = raised_at_once (risen n) bs (risen_le n) ∙ step n b bs
+
+zero_plus : (k : ℕ) → 0 + k ≡ k
+zero_plus k = omega arith
+
+pub raised_from_0 : (bs : List ℕ) → raised 0 bs ≡ min (length bs) (2 ^ 64 - 1)
+raised_from_0 bs = raised_at_once 0 bs (omega arith) ∙ ap (λ v. min v (2 ^ 64 - 1)) (zero_plus (length bs))
+
+none_left : min (length {A = ℕ} []) (2 ^ 64 - 1) ≡ 0
+none_left = sym (raised_from_0 [])
+
+-- ---- the input
+
+-- what came from an input whose state is then `r'`
+abbrev pub came : InputState → List ℕ → Bool → Bool → FromInput
+came r' text ended failed =
+    record { text = text; early = take (length text - r'.last_len) text; ended = ended; failed = failed }
+
+-- ---- the output
+
+-- what went to an output that took a beginning of a text, and then failed
+abbrev pub broke : List ℕ → List ℕ → ToOutput
+broke before start = record { flushed = before; left = start; failed = true }
+
+-- the bytes of a text that was flushed
+flushed_bytes : (w w' : OutputState) (text : List ℕ) → OutputTook w w' (all_of text)
+    → Appends w.known_bytes w'.known_bytes text
+flushed_bytes w w' text h = subst (Appends w.known_bytes w'.known_bytes) (append-nil text) h.bytes
+
+all_bytes : (w w' : OutputState) (text : List ℕ) → Appends w.known_bytes w'.known_bytes text
+    → Appends w.known_bytes w'.known_bytes (text ++ [])
+all_bytes w w' text h = subst (Appends w.known_bytes w'.known_bytes) (sym (append-nil text)) h
+
+unflushed_by : (n m : ℕ) (text : List ℕ) → n ≡ 0 → m ≡ raised n text → m ≡ min (length text) (2 ^ 64 - 1)
+unflushed_by n m text h e = e ∙ ap (λ v. raised v text) h ∙ raised_from_0 text
+
+-- an output that was left as it was
+pub took_nothing : (w : OutputState) → OutputTook w w nothing
+took_nothing w =
+    record { bytes = appends_none w.known_bytes; unflushed = λ none. none ∙ sym none_left; failures = refl }
+
+-- a text was sent
+pub took_all : (w w' : OutputState) (text : List ℕ) → Sent w w' text → OutputTook w w' (all_of text)
+took_all w w' text h = record {
+  bytes = all_bytes w w' text h.bytes;
+  unflushed = λ none. h.flushed ∙ sym none_left;
+  failures = h.failures;
+}
+
+-- a text was written, and nothing flushed
+pub took_unflushed : (w w' : OutputState) (text : List ℕ) → Took w w' text → OutputTook w w' (all_unflushed text)
+took_unflushed w w' text h = record {
+  bytes = h.bytes;
+  unflushed = λ none. unflushed_by w.unflushed w'.unflushed text none h.unflushed;
+  failures = h.failures;
+}
+
+-- a beginning of a text was written, and then a call failed
+pub took_some : (w w' : OutputState) (start : List ℕ) → TookThenFailed w w' start → OutputTook w w' (broke [] start)
+took_some w w' start h = record {
+  bytes = h.bytes;
+  unflushed = λ none. unflushed_by w.unflushed w'.unflushed start none h.unflushed;
+  failures = h.failures;
+}
+
+-- a text was sent after one that was flushed
+pub took_more : (w w' w'' : OutputState) (x y : List ℕ) → OutputTook w w' (all_of x) → Sent w' w'' y
+    → OutputTook w w'' (all_of (x ++ y))
+took_more w w' w'' x y h k = record {
+  bytes = all_bytes w w'' (x ++ y)
+      (appends_more w.known_bytes w'.known_bytes w''.known_bytes x y (flushed_bytes w w' x h) k.bytes);
+  unflushed = λ none. k.flushed ∙ sym none_left;
+  failures = k.failures ∙ h.failures;
+}
+
+-- a beginning of a text was written after one that was flushed, and then a call failed
+pub took_some_more : (w w' w'' : OutputState) (x start : List ℕ) → OutputTook w w' (all_of x)
+    → TookThenFailed w' w'' start → OutputTook w w'' (broke x start)
+took_some_more w w' w'' x start h k = record {
+  bytes = appends_more w.known_bytes w'.known_bytes w''.known_bytes x start (flushed_bytes w w' x h) k.bytes;
+  unflushed = λ none. unflushed_by w'.unflushed w''.unflushed start (h.unflushed none ∙ none_left) k.unflushed;
+  failures = k.failures ∙ ap risen h.failures;
+}

@@ -1,0 +1,216 @@
+-- For matches: the items of a `feature` line, one after the other.
+use Rattle.std.proofs.Common.{◌≡◌, ℕ, zero, suc, ◌+◌, ◌-◌, ◌≤◌, ◌<◌, Bool, true, false, List, [], ◌∷◌, ◌++◌, length, take, drop, get_or, refl, ap, sym, ◌∙◌, Option, None, Some, arith, length-append, length-drop, append_assoc, append-nil}
+use Rattle.std.proofs.lemmas.List.{take-append-drop, take_all}
+use Rattle.std.specs.Prelude.{if◌then◌else◌, ◌==◌, ◌&&◌, nat_lt, option_and_then, take_while}
+use Rattle.std.specs.Option.{option_map_or}
+use Rattle.std.specs.Str.{bytes_eq}
+use Rattle.chess_base.specs.Letters.{is_digit}
+use Rattle.text_lines.specs.Lines.{without_front_blanks}
+use Rattle.text_lines.proofs.shared.Lines.{wfb_short}
+use Rattle.text_lines.specs.Words.{is_name_byte}
+use Rattle.std.specs.List.{prefix_len}
+use Rattle.cecp_engine.specs.Items.{Item, Value, Digits, Quoted, quote_at, value_of, is_apart, with_value, with_name, item_of, ends_handshake, first_items, items_of, has_done, last_said}
+
+-- ---- the last value
+
+pub last_said-snoc : {A : Type 0} (f : Value → A) (default : A) (name : List ℕ) (items : List Item) (i : Item)
+    → last_said f default name (items ++ i ∷ [])
+    ≡ (if bytes_eq i.name name then f i.value else last_said f default name items)
+last_said-snoc f default name [] i = refl
+last_said-snoc f default name (j ∷ items) i =
+    last_said-snoc f (if bytes_eq j.name name then f j.value else default) name items i
+
+-- ---- an item takes a byte
+
+value_shorter : (text : List ℕ) (p : Value × List ℕ) → value_of text ≡ Some p → length p.1 < length text
+value_shorter [] p e = cc
+value_shorter (c ∷ cs) p e = by_tests ((c == 34) && nat_lt (quote_at cs) (length cs)) (is_digit c) refl e
+  where
+    by_tests : (a b : Bool) → is_digit c ≡ b
+        → (if a then Some (Quoted (take (quote_at cs) cs), drop (quote_at cs + 1) cs)
+        else if b then Some (Digits (take_while is_digit (c ∷ cs)), drop (prefix_len is_digit (c ∷ cs)) (c ∷ cs))
+        else None) ≡ Some p
+        → length p.1 < length (c ∷ cs)
+    by_tests true b k e =
+        let d : length (drop (quote_at cs + 1) cs) ≡ length cs - (quote_at cs + 1) = length-drop (quote_at cs + 1) cs in
+        let s : length p.1 ≡ length (drop (quote_at cs + 1) cs) = cc in
+        omega arith
+    by_tests false true k e =
+        let n : prefix_len is_digit (c ∷ cs) ≡ 1 + prefix_len is_digit cs = rw k refl in
+        let d : length (drop (prefix_len is_digit (c ∷ cs)) (c ∷ cs)) ≡ length (c ∷ cs) - prefix_len is_digit (c ∷ cs) =
+        length-drop (prefix_len is_digit (c ∷ cs)) (c ∷ cs) in
+        let s : length p.1 ≡ length (drop (prefix_len is_digit (c ∷ cs)) (c ∷ cs)) = cc in
+        omega arith
+    by_tests false false k e = cc
+
+-- what follows the first byte, as code cuts it
+after_first : List ℕ → List ℕ
+after_first text = take (length text - 1) (drop 1 text)
+
+after_first-is : (c : ℕ) (cs : List ℕ) → after_first (c ∷ cs) ≡ cs
+unfolding after_first
+after_first-is c cs = take_all (length (c ∷ cs) - 1) cs (omega arith)
+
+-- a quote with no other after it is no value
+pub unclosed : (text : List ℕ) (at : ℕ) → get_or text 0 0 ≡ 34 → at ≡ quote_at (take (length text - 1) (drop 1 text))
+    → length (take (length text - 1) (drop 1 text)) ≤ at → None ≡ value_of text
+unfolding after_first
+unclosed [] at h e k = refl
+unclosed (c ∷ cs) at h e k =
+    let rest : take (length (c ∷ cs) - 1) cs ≡ cs = after_first-is c cs in
+    let place : at ≡ quote_at cs = e ∙ ap (λ (l : List ℕ). quote_at l) rest in
+    let same : length (take (length (c ∷ cs) - 1) cs) ≡ length cs = ap (λ (l : List ℕ). length l) rest in
+    let none : nat_lt (quote_at cs) (length cs) ≡ false = grind (arith, place, same, k) in
+    rw (h, none) refl
+
+abbrev name_or : List ℕ → Option (Item × List ℕ) → List ℕ
+name_or default None = default
+name_or default (Some p) = p.0.name
+
+with_value_shorter : (name rest : List ℕ) (v : Option (Value × List ℕ)) (p : Item × List ℕ) → value_of rest ≡ v
+    → option_and_then (λ (p : Value × List ℕ). if is_apart p.1 then
+    Some (record { name = name; value = p.0 }, without_front_blanks p.1) else None) v ≡ Some p
+    → (p.0.name ≡ name) × (length p.1 < length rest)
+with_value_shorter name rest None p is e = cc
+with_value_shorter name rest (Some q) p is e = by_test (is_apart q.1) e
+  where
+    by_test : (b : Bool) → (if b then Some (record { name = name; value = q.0 }, without_front_blanks q.1) else None)
+        ≡ Some p → (p.0.name ≡ name) × (length p.1 < length rest)
+    by_test true e =
+        let n : name ≡ p.0.name = ap (λ (o : Option (Item × List ℕ)). name_or name o) e in
+        let s : length p.1 ≡ length (without_front_blanks q.1) = cc in
+        let b = wfb_short q.1 in
+        let v = value_shorter rest q is in
+        let l : length p.1 < length rest = omega arith in
+        (sym n, l)
+    by_test false e = cc
+
+with_name_shorter : (name rest : List ℕ) (p : Item × List ℕ) → with_name name rest ≡ Some p
+    → (p.0.name ≡ name) × (0 < length name) × (length p.1 + 1 < length rest)
+with_name_shorter [] rest p e = cc
+with_name_shorter (n ∷ ns) [] p e = cc
+with_name_shorter (n ∷ ns) (c ∷ cs) p e = by_test (c == 61) e
+  where
+    by_test : (b : Bool) → (if b then with_value (n ∷ ns) cs else None) ≡ Some p
+        → (p.0.name ≡ n ∷ ns) × (0 < length (n ∷ ns)) × (length p.1 + 1 < length (c ∷ cs))
+    by_test true e =
+        let h = with_value_shorter (n ∷ ns) cs (value_of cs) p refl e in
+        let some : 0 < length (n ∷ ns) = omega arith in
+        let fewer : length p.1 + 1 < length (c ∷ cs) = omega (arith, h.1) in
+        (h.0, some, fewer)
+    by_test false e = cc
+
+-- an item takes at least two bytes more than its name, which is not empty
+pub item_room : (text : List ℕ) (p : Item × List ℕ) → item_of text ≡ Some p
+    → (0 < length p.0.name) × (length p.0.name + length p.1 + 2 ≤ length text)
+unfolding item_of
+item_room text p e =
+    let h = with_name_shorter (take (prefix_len is_name_byte text) text) (drop (prefix_len is_name_byte text) text) p e
+    in
+    let all : length (take (prefix_len is_name_byte text) text) + length (drop (prefix_len is_name_byte text) text)
+    ≡ length text = sym (length-append (take (prefix_len is_name_byte text) text)
+    (drop (prefix_len is_name_byte text) text))
+    ∙ ap (λ (l : List ℕ). length l) (take-append-drop (prefix_len is_name_byte text) text) in
+    let named : length p.0.name ≡ length (take (prefix_len is_name_byte text) text) =
+    ap (λ (l : List ℕ). length l) h.0 in
+    let some : 0 < length p.0.name = omega (arith, h.1, named) in
+    let fewer : length p.0.name + length p.1 + 2 ≤ length text = omega (arith, all, named, h.2) in
+    (some, fewer)
+
+pub item_shorter : (text : List ℕ) (p : Item × List ℕ) → item_of text ≡ Some p → length p.1 < length text
+item_shorter text p e = let h = item_room text p e in omega (arith, h.1)
+
+-- ---- the items of a text, step by step
+
+abbrev pub items_by : (List ℕ → List Item) → Option (Item × List ℕ) → List Item
+items_by more None = []
+items_by more (Some p) = if ends_handshake p.0 then p.0 ∷ [] else p.0 ∷ more p.1
+
+first_items-by : (n : ℕ) (text : List ℕ) → first_items (suc n) text ≡ items_by (first_items n) (item_of text)
+first_items-by n text = at (item_of text)
+  where
+    at : (o : Option (Item × List ℕ))
+        → option_map_or (λ (p : Item × List ℕ). if ends_handshake p.0 then p.0 ∷ [] else p.0 ∷ first_items n p.1) o []
+        ≡ items_by (first_items n) o
+    at None = refl
+    at (Some p) = refl
+
+none_left : (text : List ℕ) → length text ≤ 0 → item_of text ≡ None
+unfolding item_of
+none_left [] h = refl
+none_left (c ∷ cs) h = absurd (omega arith)
+
+same_by : (f g : List ℕ → List Item) (o : Option (Item × List ℕ)) → ((p : Item × List ℕ) → o ≡ Some p → f p.1 ≡ g p.1)
+    → items_by f o ≡ items_by g o
+same_by f g None h = refl
+same_by f g (Some p) h = ap (λ (is : List Item). if ends_handshake p.0 then p.0 ∷ [] else p.0 ∷ is) (h p refl)
+
+-- as many leaves as a text has bytes are enough
+enough : (n k : ℕ) (text : List ℕ) → length text ≤ n → length text ≤ k → first_items n text ≡ first_items k text
+enough zero zero text a b = refl
+enough zero (suc k) text a b = sym (first_items-by k text ∙ ap (items_by (first_items k)) (none_left text a))
+enough (suc n) zero text a b = first_items-by n text ∙ ap (items_by (first_items n)) (none_left text b)
+enough (suc n) (suc k) text a b =
+    first_items-by n text
+    ∙ same_by (first_items n) (first_items k) (item_of text)
+    (λ p e. let h = item_shorter text p e in enough n k p.1 (omega arith) (omega arith))
+    ∙ sym (first_items-by k text)
+
+-- the items of a text: those of what follows the first one
+pub items_of-step : (text : List ℕ) → items_of text ≡ items_by items_of (item_of text)
+unfolding items_of
+items_of-step text = at (length text) refl
+  where
+    at : (n : ℕ) → length text ≡ n → first_items n text ≡ items_by (λ t. first_items (length t) t) (item_of text)
+    at zero e = sym (ap (items_by (λ t. first_items (length t) t)) (none_left text (omega arith)))
+    at (suc n) e =
+        first_items-by n text
+        ∙ same_by (first_items n) (λ t. first_items (length t) t) (item_of text)
+        (λ p h. let s = item_shorter text p h in enough n (length p.1) p.1 (omega arith) (omega arith))
+
+-- ---- what an engine takes
+
+-- ---- a loop over items
+
+-- so far these were read of a text, and this is left
+pub record SoFar (text rest : List ℕ) (read : List Item) : Type 0 where
+  pub items : items_of text ≡ read ++ items_of rest
+  pub going : has_done (items_of text) ≡ has_done (items_of rest)
+
+some_at : (rest : List ℕ) (p : Item × List ℕ) → item_of rest ≡ Some p → ends_handshake p.0 ≡ false
+    → items_of rest ≡ p.0 ∷ items_of p.1
+some_at rest p e f = items_of-step rest ∙ ap (items_by items_of) e ∙ rw f refl
+
+last_at : (rest : List ℕ) (p : Item × List ℕ) → item_of rest ≡ Some p → ends_handshake p.0 ≡ true
+    → items_of rest ≡ p.0 ∷ []
+last_at rest p e f = items_of-step rest ∙ ap (items_by items_of) e ∙ rw f refl
+
+pub none_at : (rest : List ℕ) → item_of rest ≡ None → items_of rest ≡ []
+none_at rest e = items_of-step rest ∙ ap (items_by items_of) e
+
+pub so_far_more : (text rest : List ℕ) (items : List Item) (p : Item × List ℕ) → SoFar text rest items
+    → item_of rest ≡ Some p → ends_handshake p.0 ≡ false → SoFar text p.1 (items ++ p.0 ∷ [])
+unfolding has_done
+so_far_more text rest items p s e f = record {
+  items = s.items ∙ ap (λ (is : List Item). items ++ is) (some_at rest p e f)
+      ∙ sym (append_assoc items (p.0 ∷ []) (items_of p.1));
+  going = s.going ∙ ap has_done (some_at rest p e f) ∙ rw f refl;
+}
+
+pub so_far_done : (text rest : List ℕ) (items : List Item) (p : Item × List ℕ) → SoFar text rest items
+    → item_of rest ≡ Some p → ends_handshake p.0 ≡ true
+    → (items_of text ≡ items ++ p.0 ∷ []) × (has_done (items_of text) ≡ true)
+unfolding has_done
+so_far_done text rest items p s e f = (
+  s.items ∙ ap (λ (is : List Item). items ++ is) (last_at rest p e f),
+  s.going ∙ ap has_done (last_at rest p e f) ∙ rw f refl,
+)
+
+pub so_far_none : (text rest : List ℕ) (items : List Item) → SoFar text rest items → item_of rest ≡ None
+    → (items_of text ≡ items) × (has_done (items_of text) ≡ false)
+unfolding has_done
+so_far_none text rest items s e = (
+  s.items ∙ ap (λ (is : List Item). items ++ is) (none_at rest e) ∙ append-nil items,
+  s.going
+      ∙ ap has_done (none_at rest e),
+)

@@ -1,0 +1,13 @@
+-- Lemmas for crates above: all are about definitions, none about functions. They can cite no other module of proofs/.
+pub mod Castling
+pub mod Changes
+pub mod Choices
+pub mod Kings
+pub mod LegalMoves
+pub mod Men
+pub mod MenAfter
+pub mod MoveKinds
+pub mod Normal
+pub mod Sound
+pub mod Squares
+pub mod Writes

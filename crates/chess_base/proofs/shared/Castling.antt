@@ -1,0 +1,95 @@
+-- For lists and texts of moves: when a move castles, which squares that names, and the rights of a sound position.
+use Rattle.std.proofs.Common.{◌≡◌, ◌⊎◌, inl, inr, Bool, true, false, cond, ℕ, Option, Some, None, refl, ap, ◌∙◌, ◌&&◌, ◌==◌}
+use Rattle.std.proofs.lemmas.Bool.{and_parts}
+use Rattle.chess_base.specs.declared.man.Colour.{Colour}
+use Rattle.chess_base.specs.declared.man.Variant.{Variant}
+use Rattle.chess_base.specs.declared.man.Kind.TheVariants.{King, Rook}
+use Rattle.chess_base.specs.declared.man.CastlingSide.{CastlingSide}
+use Rattle.chess_base.specs.declared.man.CastlingSide.TheVariants.{KingSide, QueenSide}
+use Rattle.chess_base.specs.declared.man.Move.{Move}
+use Rattle.chess_base.specs.Men.{man_at, is_man, Men}
+use Rattle.chess_base.specs.declared.setup.Setup.{Setup}
+use Rattle.chess_base.specs.Castling.{home_square, right_of, castling, is_castling_to, castled_king_file, castle_from, castle_by, castle_of, mover_end, king_home_file, rook_file, king_square, is_beside, are_placed_for_castling, right_is_sound}
+use Rattle.chess_base.specs.shared.Splits.{names_castling, castle_with, right_is_sound_at}
+use Rattle.chess_base.specs.Before.{mover_to}
+use Rattle.chess_base.specs.declared.man.Colour.TheVariants.{White, Black}
+use Rattle.chess_base.specs.declared.man.Variant.TheVariants.{Normal, Fischerandom}
+use Rattle.chess_base.specs.Sound.{IsSound}
+
+castling_by : (a b : Bool) (w : CastlingSide) → cond a (Some KingSide) (cond b (Some QueenSide) None) ≡ Some w
+    → ((w ≡ KingSide) × (a ≡ true)) ⊎ ((w ≡ QueenSide) × (b ≡ true))
+castling_by true b w e = inl (cc, refl)
+castling_by false true w e = inr (cc, refl)
+castling_by false false w e = cc
+
+pub says_from_castling : (p : Setup) (m : Move) (w : CastlingSide) → castling p m ≡ Some w → is_castling_to p m w ≡ true
+unfolding castling
+says_from_castling p m w e =
+    elim (castling_by (is_castling_to p m KingSide) (is_castling_to p m QueenSide) w e) [
+      | inl k ↦ rw k.0 k.1
+      | inr q ↦ rw q.0 q.1
+    ]
+
+-- the parts of what a castling says
+pub castling_says : (p : Setup) (m : Move) (w : CastlingSide) → is_castling_to p m w ≡ true
+    → (is_man p.side King (man_at p.men m.from) ≡ true)
+    × (names_castling p.variant p.side m w (right_of p.rights p.side w) ≡ true)
+unfolding is_castling_to
+castling_says p m w e = and_parts (is_man p.side King (man_at p.men m.from))
+    (names_castling p.variant p.side m w (right_of p.rights p.side w)) e
+
+right_named : (v : Variant) (c : Colour) (m : Move) (w : CastlingSide) (o : Option ℕ) → names_castling v c m w o ≡ true
+    → (r : ℕ) × (o ≡ Some r)
+right_named v c m w None e = cc
+right_named v c m w (Some r) e = (r, refl)
+
+-- the squares of the castling that a move is
+pub castle_there : (p : Setup) (m : Move) (w : CastlingSide) → castling p m ≡ Some w → (r : ℕ)
+    × (right_of p.rights p.side w ≡ Some r) × (castle_of p m ≡ Some (castle_from p.side w m.from r))
+unfolding castle_of
+castle_there p m w e =
+    let right = right_named p.variant p.side m w (right_of p.rights p.side w)
+    (castling_says p m w (says_from_castling p m w e)).1 in
+    (right.0, right.1, ap (castle_by p.side p.rights m) e ∙ ap (castle_with p.side w m.from) right.1)
+
+pub no_castle : (p : Setup) (m : Move) → castling p m ≡ None → castle_of p m ≡ None
+unfolding castle_of
+no_castle p m e = ap (castle_by p.side p.rights m) e
+
+-- where a move does not castle, the mover lands on the end square that it names
+pub lands_on_to : (p : Setup) (m : Move) → castling p m ≡ None → mover_end p m ≡ m.to
+unfolding mover_end
+lands_on_to p m e = ap (mover_to m) (no_castle p m e)
+
+-- and castling takes the king to its file for that side
+pub lands_on_castled : (p : Setup) (m : Move) (w : CastlingSide) → castling p m ≡ Some w
+    → mover_end p m ≡ home_square p.side (castled_king_file w)
+unfolding mover_end
+lands_on_castled p m w e = ap (mover_to m) (castle_there p m w e).2
+
+pub right_stands_of : (p : Setup) → IsSound p → (c : Colour) (w : CastlingSide) → right_is_sound p c w ≡ true
+right_stands_of p h White KingSide = h.white_king_side
+right_stands_of p h White QueenSide = h.white_queen_side
+right_stands_of p h Black KingSide = h.black_king_side
+right_stands_of p h Black QueenSide = h.black_queen_side
+
+rook_that_stands : (v : Variant) (men : Men) (c : Colour) (w : CastlingSide) (s : ℕ)
+    → are_placed_for_castling v men c w s ≡ true → is_man c Rook (man_at men s) ≡ true
+rook_that_stands Normal men c w s h =
+    (and_parts ((s == home_square c (rook_file w)) && is_man c King (man_at men (home_square c king_home_file)))
+    (is_man c Rook (man_at men s)) h).1
+rook_that_stands Fischerandom men c w s h =
+    (and_parts (is_beside c w (king_square men c) s) (is_man c Rook (man_at men s)) h).1
+
+-- a right that is there is available
+pub right_that_stands : (v : Variant) (men : Men) (c : Colour) (w : CastlingSide) (o : Option ℕ) (e : ℕ)
+    → right_is_sound_at v men c w o ≡ true → o ≡ Some e → are_placed_for_castling v men c w e ≡ true
+right_that_stands v men c w None e h at = cc
+right_that_stands v men c w (Some s) e h at = let here : s ≡ e = cc in rw (← here) h
+
+-- the rook with which a colour may castle is on its square
+pub castling_rook_stands : (p : Setup) (c : Colour) (w : CastlingSide) (e : ℕ) → right_is_sound p c w ≡ true
+    → right_of p.rights c w ≡ Some e → is_man c Rook (man_at p.men e) ≡ true
+unfolding right_is_sound
+castling_rook_stands p c w e h at =
+    rook_that_stands p.variant p.men c w e (right_that_stands p.variant p.men c w (right_of p.rights c w) e h at)

@@ -1,0 +1,88 @@
+-- For proofs about pieces: what follows from the tests on the piece of a square, if there is one.
+use Rattle.std.proofs.Common.{◌≡◌, ℕ, ◌<◌, ◌⊎◌, inl, inr, true, false, Option, Some, None, is_none, length, refl, arith}
+use Rattle.std.proofs.lemmas.Bool.{and_parts, and_left, and_right, eqb-true, cases_lt}
+use Rattle.std.proofs.lemmas.List.{get_or_past}
+use Rattle.chess_base.specs.declared.man.Colour.{Colour}
+use Rattle.chess_base.specs.declared.man.Colour.TheVariants.{White, Black}
+use Rattle.chess_base.specs.declared.man.Kind.{Kind}
+use Rattle.chess_base.specs.declared.man.Man.{Man}
+use Rattle.chess_base.specs.Men.{Men, man_at, other, same_colour, same_kind, kind_number, is_of, is_man}
+
+pub same_colour-self : (c : Colour) → same_colour c c ≡ true
+same_colour-self White = refl
+same_colour-self Black = refl
+
+pub same_colour-true : (c d : Colour) → same_colour c d ≡ true → c ≡ d
+same_colour-true White White e = refl
+same_colour-true Black Black e = refl
+same_colour-true White Black e = cc
+same_colour-true Black White e = cc
+
+pub same_colour-other : (c d : Colour) → same_colour (other c) d ≡ true → same_colour c d ≡ false
+same_colour-other White White e = cc
+same_colour-other Black Black e = cc
+same_colour-other White Black e = refl
+same_colour-other Black White e = refl
+
+pub other-other : (c : Colour) → other (other c) ≡ c
+other-other White = refl
+other-other Black = refl
+
+pub colour_cases : (c d : Colour) → (d ≡ c) ⊎ (d ≡ other c)
+colour_cases White White = inl refl
+colour_cases Black Black = inl refl
+colour_cases White Black = inr refl
+colour_cases Black White = inr refl
+
+pub is_of-from_is_man : (c : Colour) (k : Kind) (o : Option Man) → is_man c k o ≡ true → is_of c o ≡ true
+unfolding is_man is_of
+is_of-from_is_man c k None e = cc
+is_of-from_is_man c k (Some x) e = (and_parts (same_colour c x.colour) (same_kind k x.kind) e).0
+
+pub not_is_man : (c : Colour) (k : Kind) (o : Option Man) → is_of c o ≡ false → is_man c k o ≡ false
+unfolding is_man is_of
+not_is_man c k None e = refl
+not_is_man c k (Some x) e = and_left (same_colour c x.colour) (same_kind k x.kind) e
+
+pub is_of-other : (c : Colour) (o : Option Man) → is_of (other c) o ≡ true → is_of c o ≡ false
+unfolding is_of
+is_of-other c None e = refl
+is_of-other c (Some x) e = same_colour-other c x.colour e
+
+-- a piece of colour c is none of the other colour
+pub no_other : (c : Colour) (k : Kind) (o : Option Man) → is_man c k o ≡ true → is_of (other c) o ≡ false
+no_other c k o e = is_of-other (other c) o (rw other-other (is_of-from_is_man c k o e))
+
+pub is_of-none : (c : Colour) (o : Option Man) → is_none o ≡ true → is_of c o ≡ false
+unfolding is_of
+is_of-none c None e = refl
+is_of-none c (Some x) e = cc
+
+pub is_man-none : (c : Colour) (k : Kind) (o : Option Man) → is_none o ≡ true → is_man c k o ≡ false
+is_man-none c k o e = not_is_man c k o (is_of-none c o e)
+
+pub is_man-kind : (c d : Colour) (k l : Kind) (o : Option Man) → same_kind l k ≡ false → is_man c k o ≡ true
+    → is_man d l o ≡ false
+unfolding is_man
+is_man-kind c d k l None n e = refl
+is_man-kind c d k l (Some x) n e =
+    let at : kind_number k ≡ kind_number x.kind = eqb-true (kind_number k) (kind_number x.kind)
+    (and_parts (same_colour c x.colour) (same_kind k x.kind) e).1 in
+    let other_kind : same_kind l x.kind ≡ false = rw (← at) n in
+    and_right (same_colour d x.colour) (same_kind l x.kind) other_kind
+
+pub is_man-colour : (c : Colour) (k l : Kind) (o : Option Man) → is_man (other c) k o ≡ true → is_man c l o ≡ false
+is_man-colour c k l o e = not_is_man c l o (is_of-other c o (is_of-from_is_man (other c) k o e))
+
+pub in_board : (men : Men) (c : Colour) (k : Kind) (s : ℕ) → length men ≡ 64 → is_man c k (man_at men s) ≡ true → s < 64
+unfolding is_man
+in_board men c k s l e =
+    elim (cases_lt s 64) [
+      | inl h ↦ h
+      | inr h ↦ let past : man_at men s ≡ None = get_or_past men s None (omega arith) in
+          absurd (let f = rw past at e in cc f)
+    ]
+
+pub is_none-None : {A : Type 0} (o : Option A) → is_none o ≡ true → o ≡ None
+is_none-None None e = refl
+is_none-None (Some x) e = cc

@@ -1,0 +1,74 @@
+-- For readers of positions: a setup is sound exactly if it has no fault.
+use Rattle.std.proofs.Common.{◌≡◌, Bool, true, false, not, ◌&&◌, cond, nat_le, Option, Some, None, length, refl}
+use Rattle.std.proofs.lemmas.Bool.{and_parts}
+use Rattle.chess_base.specs.declared.man.Colour.TheVariants.{White, Black}
+use Rattle.chess_base.specs.declared.man.CastlingSide.TheVariants.{KingSide, QueenSide}
+use Rattle.chess_base.specs.declared.setup.Setup.{Setup}
+use Rattle.chess_base.specs.declared.fault.FenFault.{FenFault}
+use Rattle.chess_base.specs.declared.fault.FenFault.TheVariants.{Counters, Kings, Pawns, Men, Castling, EnPassant, Check}
+use Rattle.chess_base.specs.Men.{other}
+use Rattle.chess_base.specs.Attacks.{is_in_check}
+use Rattle.chess_base.specs.Sound.{IsSound, has_one_king, no_pawn_on_end_ranks, has_at_most_16, target_is_sound}
+use Rattle.chess_base.specs.Castling.{right_is_sound}
+use Rattle.chess_base.specs.Faults.{counters_fit, rights_are_sound, setup_fault}
+
+passes : (a : Bool) (f : FenFault) (rest : Option FenFault) → cond a rest (Some f) ≡ None → (a ≡ true) × (rest ≡ None)
+passes true f rest e = (refl, e)
+passes false f rest e = cc
+
+pub IsSound-from_no_fault : (p : Setup) → length p.men ≡ 64 → setup_fault p ≡ None → IsSound p
+unfolding setup_fault counters_fit rights_are_sound
+IsSound-from_no_fault p l e =
+    let counters = passes (counters_fit p) Counters _ e in
+    let kings = passes (has_one_king p.men White && has_one_king p.men Black) Kings _ counters.1 in
+    let pawns = passes (no_pawn_on_end_ranks p.men) Pawns _ kings.1 in
+    let men = passes (has_at_most_16 p.men White && has_at_most_16 p.men Black) Men _ pawns.1 in
+    let castling = passes (rights_are_sound p) Castling _ men.1 in
+    let passed = passes (target_is_sound p) EnPassant _ castling.1 in
+    let calm = passes (not (is_in_check p.men (other p.side))) Check _ passed.1 in
+    let c2 = and_parts (nat_le p.halfmove 999999 && nat_le 1 p.fullmove) (nat_le p.fullmove 999999) counters.0 in
+    let c1 = and_parts (nat_le p.halfmove 999999) (nat_le 1 p.fullmove) c2.0 in
+    let k = and_parts (has_one_king p.men White) (has_one_king p.men Black) kings.0 in
+    let m = and_parts (has_at_most_16 p.men White) (has_at_most_16 p.men Black) men.0 in
+    let r3 = and_parts (right_is_sound p White KingSide && right_is_sound p White QueenSide
+    && right_is_sound p Black KingSide) (right_is_sound p Black QueenSide) castling.0 in
+    let r2 = and_parts (right_is_sound p White KingSide && right_is_sound p White QueenSide) (right_is_sound p Black KingSide)
+    r3.0 in
+    let r1 = and_parts (right_is_sound p White KingSide) (right_is_sound p White QueenSide) r2.0 in
+    record {
+      board = l;
+      white_king = k.0;
+      black_king = k.1;
+      pawns = pawns.0;
+      white_men = m.0;
+      black_men = m.1;
+      white_king_side = r1.0;
+      white_queen_side = r1.1;
+      black_king_side = r2.1;
+      black_queen_side = r3.1;
+      target = passed.0;
+      check = calm.0;
+      halfmove = c1.0;
+      fullmove_low = c1.1;
+      fullmove_high = c2.1;
+    }
+
+pub no_fault_from_IsSound : (p : Setup) → IsSound p → setup_fault p ≡ None
+unfolding setup_fault counters_fit rights_are_sound
+no_fault_from_IsSound p h =
+    rw (
+      h.halfmove,
+      h.fullmove_low,
+      h.fullmove_high,
+      h.white_king,
+      h.black_king,
+      h.pawns,
+      h.white_men,
+      h.black_men,
+      h.white_king_side,
+      h.white_queen_side,
+      h.black_king_side,
+      h.black_queen_side,
+      h.target,
+      h.check,
+    ) refl

@@ -1,0 +1,105 @@
+-- For proofs that go over squares: tests of all 64, square by square, and lists that are made of numbers.
+use Rattle.std.proofs.Common.{◌≡◌, ℕ, ◌<◌, ◌⊎◌, inl, inr, Bool, true, false, ◌||◌, refl, arith, zero, suc, length, get_or, ap}
+use Rattle.std.proofs.lemmas.Bool.{and_parts, and_from, and_left, and_right, or_from, or_left, or_right}
+use Rattle.chess_base.specs.Squares.{some_below, each_below, some_square, each_square, from_below}
+
+last_or_below : (n k : ℕ) → k < suc n → (k ≡ n) ⊎ (k < n)
+last_or_below n k h = grind arith
+
+pub each_below-all : (n : ℕ) (p : ℕ → Bool) → ((k : ℕ) → k < n → p k ≡ true) → each_below n p ≡ true
+each_below-all zero p h = refl
+each_below-all (suc n) p h = and_from (each_below n p) (p n) (each_below-all n p (λ k l. h k (omega arith)))
+    (h n (omega arith))
+
+pub each_below-at : (n : ℕ) (p : ℕ → Bool) → each_below n p ≡ true → (k : ℕ) → k < n → p k ≡ true
+each_below-at zero p e k h = absurd (omega arith)
+each_below-at (suc n) p e k h =
+    let both = and_parts (each_below n p) (p n) e in
+    elim (last_or_below n k h) [ inl same ↦ rw same both.1 | inr less ↦ each_below-at n p both.0 k less ]
+
+pub some_below-at : (n : ℕ) (p : ℕ → Bool) (k : ℕ) → k < n → p k ≡ true → some_below n p ≡ true
+some_below-at zero p k h e = absurd (omega arith)
+some_below-at (suc n) p k h e =
+    elim (last_or_below n k h) [
+      | inl same ↦ or_right (some_below n p) (p n) (rw (← same) e)
+      | inr less ↦ or_left (some_below n p) (p n) (some_below-at n p k less e)
+    ]
+
+pub some_below-none : (n : ℕ) (p : ℕ → Bool) → ((k : ℕ) → k < n → p k ≡ false) → some_below n p ≡ false
+some_below-none zero p h = refl
+some_below-none (suc n) p h = or_from (some_below n p) (p n) (some_below-none n p (λ k l. h k (omega arith)))
+    (h n (omega arith))
+
+pub each_below-fails : (n : ℕ) (p : ℕ → Bool) (k : ℕ) → k < n → p k ≡ false → each_below n p ≡ false
+each_below-fails zero p k h e = absurd (omega arith)
+each_below-fails (suc n) p k h e =
+    elim (last_or_below n k h) [
+      | inl same ↦ and_right (each_below n p) (p n) (rw (← same) e)
+      | inr less ↦ and_left (each_below n p) (p n) (each_below-fails n p k less e)
+    ]
+
+-- the same over the 64 squares
+
+pub each_square-all : (p : ℕ → Bool) → ((k : ℕ) → k < 64 → p k ≡ true) → each_square p ≡ true
+unfolding each_square
+each_square-all p h = each_below-all 64 p h
+
+pub each_square-at : (p : ℕ → Bool) → each_square p ≡ true → (k : ℕ) → k < 64 → p k ≡ true
+unfolding each_square
+each_square-at p e k h = each_below-at 64 p e k h
+
+pub each_square-fails : (p : ℕ → Bool) (k : ℕ) → k < 64 → p k ≡ false → each_square p ≡ false
+unfolding each_square
+each_square-fails p k h e = each_below-fails 64 p k h e
+
+pub some_square-at : (p : ℕ → Bool) (k : ℕ) → k < 64 → p k ≡ true → some_square p ≡ true
+unfolding some_square
+some_square-at p k h e = some_below-at 64 p k h e
+
+pub some_square-none : (p : ℕ → Bool) → ((k : ℕ) → k < 64 → p k ≡ false) → some_square p ≡ false
+unfolding some_square
+some_square-none p h = some_below-none 64 p h
+
+-- two tests that agree on each square
+
+each_below_same : (n : ℕ) (p q : ℕ → Bool) → ((k : ℕ) → k < n → p k ≡ q k) → each_below n p ≡ each_below n q
+each_below_same zero p q h = refl
+each_below_same (suc n) p q h = rw (each_below_same n p q (λ k l. h k (omega arith)), h n (omega arith)) refl
+
+pub each_square_same : (p q : ℕ → Bool) → ((k : ℕ) → k < 64 → p k ≡ q k) → each_square p ≡ each_square q
+unfolding each_square
+each_square_same p q h = each_below_same 64 p q h
+
+some_below_same : (n : ℕ) (p q : ℕ → Bool) → ((k : ℕ) → k < n → p k ≡ q k) → some_below n p ≡ some_below n q
+some_below_same zero p q h = refl
+some_below_same (suc n) p q h = rw (some_below_same n p q (λ k l. h k (omega arith)), h n (omega arith)) refl
+
+pub some_square_same : (p q : ℕ → Bool) → ((k : ℕ) → k < 64 → p k ≡ q k) → some_square p ≡ some_square q
+unfolding some_square
+some_square_same p q h = some_below_same 64 p q h
+
+-- a test by two ways, over all squares
+
+swap_inner : (p q r s : Bool) → ((p || q) || (r || s)) ≡ ((p || r) || (q || s))
+swap_inner true q r s = refl
+swap_inner false true true s = refl
+swap_inner false true false s = refl
+swap_inner false false true s = refl
+swap_inner false false false s = refl
+
+some_below-or : (n : ℕ) (p q : ℕ → Bool) → some_below n (λ k. p k || q k) ≡ (some_below n p || some_below n q)
+some_below-or zero p q = refl
+some_below-or (suc n) p q = rw (some_below-or n p q) (swap_inner (some_below n p) (some_below n q) (p n) (q n))
+
+pub some_square-or : (p q : ℕ → Bool) → some_square (λ k. p k || q k) ≡ (some_square p || some_square q)
+unfolding some_square
+some_square-or p q = some_below-or 64 p q
+
+pub length-from_below : {A : Type 0} (n : ℕ) (f : ℕ → A) → length (from_below n f) ≡ n
+length-from_below zero f = refl
+length-from_below (suc n) f = ap suc (length-from_below n (λ k. f (suc k)))
+
+pub get_or-from_below : {A : Type 0} (n : ℕ) (f : ℕ → A) (k : ℕ) (d : A) → k < n → get_or (from_below n f) k d ≡ f k
+get_or-from_below zero f k d h = absurd (omega arith)
+get_or-from_below (suc n) f zero d h = refl
+get_or-from_below (suc n) f (suc k) d h = get_or-from_below n (λ j. f (suc j)) k d (omega arith)

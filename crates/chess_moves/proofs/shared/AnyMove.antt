@@ -1,0 +1,149 @@
+-- For texts of moves and games: a test of the legal moves, made only on the squares of a set.
+use Rattle.std.proofs.Common.{◌≡◌, ◌≢◌, ℕ, zero, suc, ◌<◌, inl, inr, Bool, true, false, ◌&&◌, ◌||◌, ◌==◌, Option, Some, None, List, [], ◌∷◌, map, refl, sym, ap, ◌∙◌, arith}
+use Rattle.std.proofs.lemmas.Bool.{cases_Bool, and_parts, false_from_ne_true, or_left, or_right, eqb-true, eqb-false}
+use Rattle.std.proofs.lemmas.List.Folds.{list_any-append}
+use Rattle.std.specs.List.{filter, flat_map, list_any}
+use Rattle.chess_base.specs.declared.man.Kind.{Kind}
+use Rattle.chess_base.specs.declared.man.Kind.TheVariants.{Queen, Rook, Bishop, Knight}
+use Rattle.chess_base.specs.declared.man.Move.{Move}
+use Rattle.chess_base.specs.declared.setup.Setup.{Setup}
+use Rattle.chess_base.specs.Moves.{is_legal}
+use Rattle.chess_base.specs.Squares.{from_below}
+use Rattle.chess_base.specs.MoveList.{promotions, move_of, squares, all_moves, moves}
+use Rattle.chess_moves.specs.Sets.{contains, members}
+
+-- ---- over lists
+
+pub any-filter : {A : Type 0} (q t : A → Bool) (xs : List A) → list_any t (filter q xs) ≡ list_any (λ x. q x && t x) xs
+any-filter q t [] = refl
+any-filter q t (x ∷ xs) =
+    elim (cases_Bool (q x)) [
+      | inr failed ↦ rw failed (any-filter q t xs)
+      | inl passed ↦ rw passed (ap (λ b. t x || b) (any-filter q t xs))
+    ]
+
+pub any-flat_map : {A B : Type 0} (t : B → Bool) (f : A → List B) (xs : List A)
+    → list_any t (flat_map f xs) ≡ list_any (λ x. list_any t (f x)) xs
+any-flat_map t f [] = refl
+any-flat_map t f (x ∷ xs) = list_any-append t (f x) (flat_map f xs)
+    ∙ ap (λ b. list_any t (f x) || b) (any-flat_map t f xs)
+
+any-same : {A : Type 0} (f g : A → Bool) (xs : List A) → ((x : A) → f x ≡ g x) → list_any f xs ≡ list_any g xs
+any-same f g [] h = refl
+any-same f g (x ∷ xs) h = rw (h x, any-same f g xs h) refl
+
+any-none : {A : Type 0} (f : A → Bool) (xs : List A) → ((x : A) → f x ≡ false) → list_any f xs ≡ false
+any-none f [] h = refl
+any-none f (x ∷ xs) h = rw (h x) (any-none f xs h)
+
+-- what a filter leaves out would not pass
+any-kept : {A : Type 0} (q t : A → Bool) (xs : List A) → ((x : A) → q x ≡ false → t x ≡ false)
+    → list_any t (filter q xs) ≡ list_any t xs
+any-kept q t [] h = refl
+any-kept q t (x ∷ xs) h =
+    elim (cases_Bool (q x)) [
+      | inl on ↦ rw on (ap (λ b. t x || b) (any-kept q t xs h))
+      | inr off ↦ rw (off, h x off) (any-kept q t xs h)
+    ]
+
+-- ---- over squares
+
+any-from_below : (n : ℕ) (g : ℕ → ℕ) (t : ℕ → Bool) (k : ℕ) → k < n → t (g k) ≡ true
+    → list_any t (from_below n g) ≡ true
+any-from_below zero g t k h e = absurd (omega arith)
+any-from_below (suc n) g t zero h e = or_left (t (g 0)) _ e
+any-from_below (suc n) g t (suc k) h e = or_right (t (g 0)) _ (any-from_below n (λ i. g (suc i)) t k (omega arith) e)
+
+pub any-square : (t : ℕ → Bool) (k : ℕ) → k < 64 → t k ≡ true → list_any t squares ≡ true
+unfolding squares
+any-square t k h e = any-from_below 64 (λ s. s) t k h e
+
+-- where no square but one passes, it decides
+any-alone : (f : ℕ → Bool) (b : ℕ) → b < 64 → ((k : ℕ) → k ≢ b → f k ≡ false) → list_any f squares ≡ f b
+any-alone f b low away =
+    elim (cases_Bool (f b)) [
+      | inl on ↦ any-square f b low on ∙ sym on
+      | inr off ↦ any-none f squares (λ k. elim (cases_Bool (k == b)) [
+        | inl same ↦ ap f (eqb-true k b same) ∙ off
+        | inr other ↦ away k (eqb-false k b other)
+      ]) ∙ sym off
+    ]
+
+-- the squares outside a set need not be looked at where none of them passes
+pub any_members : (t : ℕ → Bool) (w : ℕ) → ((k : ℕ) → contains w k ≡ false → t k ≡ false)
+    → list_any t (members w) ≡ list_any t squares
+unfolding members
+any_members t w h = any-kept (λ k. contains w k) t squares h
+
+-- ---- over the legal moves
+
+-- the moves that a test finds begin on squares of the set, end on one square and promote nothing
+pub record AllFound (p : Setup) (t : Move → Bool) (to w : ℕ) : Type 0 where
+  pub begins : (m : Move) → is_legal p m ≡ true → t m ≡ true → contains w m.from ≡ true
+  pub ends : (m : Move) → is_legal p m ≡ true → t m ≡ true → m.to ≡ to
+  pub stays : (m : Move) → is_legal p m ≡ true → t m ≡ true → m.promotion ≡ None
+
+abbrev found : Setup → (Move → Bool) → Move → Bool
+found p t m = is_legal p m && t m
+
+not_found : (p : Setup) (t : Move → Bool) (m : Move) → (is_legal p m ≡ true → t m ≡ true → ⊥) → found p t m ≡ false
+not_found p t m h = false_from_ne_true (found p t m)
+    (λ e. let both = and_parts (is_legal p m) (t m) e in h both.0 both.1)
+
+elsewhere : (p : Setup) (t : Move → Bool) (to w a b : ℕ) → AllFound p t to w → b ≢ to → (k : Option Kind)
+    → found p t (move_of a b k) ≡ false
+elsewhere p t to w a b all away k = not_found p t (move_of a b k) (λ e f. away (all.ends (move_of a b k) e f))
+
+promoted : (p : Setup) (t : Move → Bool) (to w a : ℕ) → AllFound p t to w → (k : Kind)
+    → found p t (move_of a to (Some k)) ≡ false
+promoted p t to w a all k =
+    not_found p t (move_of a to (Some k)) (λ e f. let none = all.stays (move_of a to (Some k)) e f in cc)
+
+between : (p : Setup) (t : Move → Bool) (to w a : ℕ) → AllFound p t to w
+    → list_any (found p t) (map (move_of a to) promotions) ≡ (t (move_of a to None) && is_legal p (move_of a to None))
+between p t to w a all =
+    rw (
+      promoted p t to w a all Queen,
+      promoted p t to w a all Rook,
+      promoted p t to w a all Bishop,
+      promoted p t to w a
+          all Knight,
+    )
+    (by_one (is_legal p (move_of a to None)) (t (move_of a to None)))
+  where
+    by_one : (x y : Bool) → ((x && y) || false) ≡ (y && x)
+    by_one true true = refl
+    by_one true false = refl
+    by_one false true = refl
+    by_one false false = refl
+
+none_elsewhere : (p : Setup) (t : Move → Bool) (to w a b : ℕ) → AllFound p t to w → b ≢ to
+    → list_any (found p t) (map (move_of a b) promotions) ≡ false
+none_elsewhere p t to w a b all away =
+    rw (
+      elsewhere p t to w a b all away None,
+      elsewhere p t to w a b all away (Some Queen),
+      elsewhere p t to w a b all away (Some Rook),
+      elsewhere p t to w a b all away (Some Bishop),
+      elsewhere p t to w a b all away (Some Knight),
+    ) refl
+
+-- such a test need look at the squares of the set alone
+pub any_from_members : (p : Setup) (t : Move → Bool) (to w : ℕ) → to < 64 → AllFound p t to w
+    → list_any (λ a. t (move_of a to None) && is_legal p (move_of a to None)) (members w) ≡ list_any t (moves p)
+unfolding moves all_moves
+any_from_members p t to w low all =
+    any_members (λ a. t (move_of a to None) && is_legal p (move_of a to None)) w (λ a out. outside a out)
+    ∙ sym (any-filter (λ m. is_legal p m) t
+    (flat_map (λ a. flat_map (λ b. map (move_of a b) promotions) squares) squares)
+    ∙ any-flat_map (found p t) (λ a. flat_map (λ b. map (move_of a b) promotions) squares) squares
+    ∙ any-same _ _ squares (λ a. any-flat_map (found p t) (λ b. map (move_of a b) promotions) squares
+    ∙ any-alone (λ b. list_any (found p t) (map (move_of a b) promotions)) to low
+    (λ b away. none_elsewhere p t to w a b all away)
+    ∙ between p t to w a all))
+  where
+    outside : (a : ℕ) → contains w a ≡ false → (t (move_of a to None) && is_legal p (move_of a to None)) ≡ false
+    outside a out = false_from_ne_true (t (move_of a to None) && is_legal p (move_of a to None))
+        (λ e. let both = and_parts (t (move_of a to None)) (is_legal p (move_of a to None)) e in
+        let there = all.begins (move_of a to None) both.1 both.0 in
+        cc)

@@ -1,0 +1,94 @@
+-- For boards: the list of legal moves, put together from its parts.
+use Rattle.std.proofs.Common.{◌≡◌, ℕ, zero, suc, ◌+◌, ◌<◌, ◌≤◌, Bool, true, false, Option, Some, None, List, [], ◌∷◌, ◌++◌, length, get_or, map, take, refl, ◌∙◌, ap, arith, inl, inr, length-append}
+use Rattle.std.proofs.lemmas.Bool.{cases_Bool, false_from_ne_true, both_ways}
+use Rattle.std.proofs.lemmas.List.Elements.{filter-append}
+use Rattle.std.specs.List.{filter, flat_map}
+use Rattle.chess_base.specs.declared.man.Kind.{Kind}
+use Rattle.chess_base.specs.declared.man.Kind.TheVariants.{Queen, Rook, Bishop, Knight}
+use Rattle.chess_base.specs.declared.man.Move.{Move}
+use Rattle.chess_base.specs.declared.setup.Setup.{Setup}
+use Rattle.chess_base.specs.Men.{man_at, is_of}
+use Rattle.chess_base.specs.Moves.{is_legal}
+use Rattle.chess_base.specs.MoveList.{promotions, move_of, squares, all_moves, moves}
+use Rattle.chess_moves.specs.shared.MovesBySquares.{moves_with, moves_between, moves_from}
+use Rattle.chess_moves.specs.Promoting.{would_promote}
+use Rattle.chess_moves.proofs.Reach.{own_man_moves, promotes_on_last_rank, stays_below_last_rank}
+
+pub filter-flat_map : {A B : Type 0} (q : B → Bool) (f : A → List B) (xs : List A)
+    → filter q (flat_map f xs) ≡ flat_map (λ x. filter q (f x)) xs
+filter-flat_map q f [] = refl
+filter-flat_map q f (x ∷ xs) = filter-append q (f x) (flat_map f xs)
+    ∙ ap (λ ys. filter q (f x) ++ ys) (filter-flat_map q f xs)
+
+flat_map-same : {A B : Type 0} (f g : A → List B) (xs : List A) → ((x : A) → f x ≡ g x) → flat_map f xs ≡ flat_map g xs
+flat_map-same f g [] h = refl
+flat_map-same f g (x ∷ xs) h = rw (h x, flat_map-same f g xs h) refl
+
+flat_map-empty : {A B : Type 0} (f : A → List B) (xs : List A) → ((x : A) → f x ≡ []) → flat_map f xs ≡ []
+flat_map-empty f [] h = refl
+flat_map-empty f (x ∷ xs) h = rw (h x) (flat_map-empty f xs h)
+
+-- the legal moves, start square by start square
+pub moves-by_start : (p : Setup) → moves p ≡ flat_map (λ a. moves_from p a) squares
+unfolding moves all_moves moves_from moves_between
+moves-by_start p =
+    filter-flat_map (λ m. is_legal p m) (λ a. flat_map (λ b. map (move_of a b) promotions) squares) squares
+    ∙ flat_map-same _ _ squares (λ a. filter-flat_map (λ m. is_legal p m) (λ b. map (move_of a b) promotions) squares)
+
+pub none_with : (p : Setup) (a b : ℕ) (kinds : List (Option Kind)) → ((k : Option Kind) → is_legal p (move_of a b k) ≡ false)
+    → moves_with p a b kinds ≡ []
+none_with p a b [] h = refl
+none_with p a b (k ∷ ks) h = rw (h k) (none_with p a b ks h)
+
+-- none from a square without an own piece
+pub none_from : (p : Setup) (a : ℕ) → is_of p.side (man_at p.men a) ≡ false → moves_from p a ≡ []
+unfolding moves_from moves_between
+none_from p a n =
+    flat_map-empty (λ b. moves_with p a b promotions) squares
+    (λ b. none_with p a b promotions
+    (λ k. false_from_ne_true (is_legal p (move_of a b k)) (λ e. both_ways _ n (own_man_moves p (move_of a b k) e))))
+
+abbrev pub promoting : List (Option Kind)
+promoting = Some Queen ∷ Some Rook ∷ Some Bishop ∷ Some Knight ∷ []
+
+-- with a promotion where a pawn would promote, and without one elsewhere
+pub all_promote : (p : Setup) (a b : ℕ) → would_promote p a b ≡ true → moves_between p a b ≡ moves_with p a b promoting
+unfolding moves_between
+all_promote p a b e =
+    let none : is_legal p (move_of a b None) ≡ false = false_from_ne_true (is_legal p (move_of a b None))
+    (λ h. both_ways _ (stays_below_last_rank p (move_of a b None) refl h) e) in
+    rw none (refl {a = moves_with p a b promoting})
+
+not_promoted : (p : Setup) (a b : ℕ) (k : Kind) → would_promote p a b ≡ false → is_legal p (move_of a b (Some k)) ≡ false
+not_promoted p a b k n = false_from_ne_true (is_legal p (move_of a b (Some k)))
+    (λ h. both_ways _ n (promotes_on_last_rank p (move_of a b (Some k)) k refl h))
+
+pub none_promotes : (p : Setup) (a b : ℕ) → would_promote p a b ≡ false
+    → moves_between p a b ≡ moves_with p a b (None ∷ [])
+unfolding moves_between
+none_promotes p a b n =
+    rw (not_promoted p a b Queen n, not_promoted p a b Rook n, not_promoted p a b Bishop n, not_promoted p a b Knight n)
+    refl
+
+with_more : (p : Setup) (a b : ℕ) (kinds : List (Option Kind)) (i : ℕ) (d : Option Kind) → i < length kinds
+    → is_legal p (move_of a b (get_or kinds i d)) ≡ true
+    → length (moves_with p a b (take i kinds)) < length (moves_with p a b kinds)
+with_more p a b [] i d h e = absurd (omega arith)
+with_more p a b (k ∷ ks) zero d h e = rw e (omega arith)
+with_more p a b (k ∷ ks) (suc i) d h e =
+    let rest = with_more p a b ks i d (omega arith) e in
+    elim (cases_Bool (is_legal p (move_of a b k))) [
+      | inl legal ↦ rw legal (omega arith)
+      | inr not_legal ↦ rw not_legal rest
+    ]
+
+-- where the legal moves of a list fit, there is room for the next of them
+pub room_for_next : (p : Setup) (a b : ℕ) (kinds : List (Option Kind)) (i : ℕ) (d : Option Kind) (start now : List Move)
+    (room : ℕ) → i < length kinds → now ≡ start ++ moves_with p a b (take i kinds)
+    → length start + length (moves_with p a b kinds) ≤ room → is_legal p (move_of a b (get_or kinds i d)) ≡ true
+    → length now < room
+room_for_next p a b kinds i d start now room h e fits legal =
+    let more = with_more p a b kinds i d h legal in
+    let all : length now ≡ length start + length (moves_with p a b (take i kinds)) =
+    rw e (length-append start (moves_with p a b (take i kinds))) in
+    omega arith

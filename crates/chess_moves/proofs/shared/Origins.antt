@@ -1,0 +1,18 @@
+-- For boards: from where pieces go to a square.
+use Rattle.std.proofs.Common.{◌≡◌, ℕ, ◌<◌, true, ◌∙◌, arith}
+use Rattle.std.proofs.lemmas.Bool.Decides.{nat_tests}
+use Rattle.chess_base.specs.declared.man.Kind.{Kind}
+use Rattle.chess_base.specs.declared.man.Move.{Move}
+use Rattle.chess_base.specs.declared.setup.Setup.{Setup}
+use Rattle.chess_base.specs.Men.{man_at, is_man}
+use Rattle.chess_base.specs.Moves.{is_legal, is_pseudo_legal}
+use Rattle.chess_moves.specs.Sets.{contains, HasOrigins}
+
+pub begins_below : (p : Setup) (m : Move) → is_legal p m ≡ true → m.from < 64
+unfolding is_legal is_pseudo_legal
+begins_below p m h = grind (arith, nat_tests, h)
+
+-- all pieces of the kind
+pub all_men : (p : Setup) (kind : Kind) (to w : ℕ) → ((k : ℕ) → k < 64 → contains w k ≡ is_man p.side kind (man_at p.men k))
+    → HasOrigins p kind to w
+all_men p kind to w h = λ m legal man there. h m.from (begins_below p m legal) ∙ man

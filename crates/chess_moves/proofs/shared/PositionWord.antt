@@ -1,0 +1,154 @@
+-- For boards that keep their hash: exclusive or over keys, as pieces come and go.
+use Rattle.std.proofs.Common.{◌≡◌, ◌≢◌, ℕ, zero, suc, ◌+◌, ◌<◌, ◌≤◌, inl, inr, List, [], ◌∷◌, ◌++◌, length, refl, sym, ◌∙◌, ap, arith, add-one, bit_xor, fold, Option, Some, None, set, get_or-set_same, get_or-set_other}
+use lib.Bits.{xor_assoc, xor_comm, xor_self, xor_zero_r}
+use Rattle.std.proofs.lemmas.Bool.{cases_lt}
+use Rattle.std.proofs.lemmas.List.Sums.{fold-append}
+use Rattle.std.specs.List.{flat_map, range_with_len}
+use Rattle.chess_base.specs.declared.man.Colour.{Colour}
+use Rattle.chess_base.specs.declared.man.Colour.TheVariants.{White, Black}
+use Rattle.chess_base.specs.declared.man.Man.{Man}
+use Rattle.chess_base.specs.declared.man.Rights.{Rights}
+use Rattle.chess_base.specs.Men.{Men, man_at}
+use Rattle.chess_base.specs.MoveList.{squares}
+use Rattle.chess_moves.specs.PositionWord.{man_key, square_keys, keys_on, men_keys, side_keys, right_keys, rights_keys, xor_of, position_word}
+use Rattle.chess_moves.proofs.Gathered.{numbers, gathered-more}
+use Rattle.chess_moves.proofs.shared.Members.{by_range}
+
+-- ---- lists
+
+xor_from : (a : ℕ) (ns : List ℕ) → fold bit_xor a ns ≡ bit_xor a (xor_of ns)
+xor_from a [] = sym (xor_zero_r a)
+xor_from a (n ∷ ns) = xor_from (bit_xor a n) ns ∙ xor_assoc a n (xor_of ns)
+    ∙ ap (λ x. bit_xor a x) (sym (xor_from n ns))
+
+pub xor_append : (ms ns : List ℕ) → xor_of (ms ++ ns) ≡ bit_xor (xor_of ms) (xor_of ns)
+xor_append ms ns = fold-append bit_xor 0 ms ns ∙ xor_from (xor_of ms) ns
+
+-- ---- a position's parts
+
+pub rights_apart : (r : Rights)
+    → xor_of (rights_keys r)
+    ≡ bit_xor
+    (bit_xor (bit_xor (xor_of (right_keys White r.white.king_side)) (xor_of (right_keys White r.white.queen_side)))
+    (xor_of (right_keys Black r.black.king_side))) (xor_of (right_keys Black r.black.queen_side))
+unfolding rights_keys
+rights_apart r =
+    let a = right_keys White r.white.king_side in
+    let b = right_keys White r.white.queen_side in
+    let c = right_keys Black r.black.king_side in
+    let d = right_keys Black r.black.queen_side in
+    xor_append (a ++ b ++ c) d
+    ∙ ap (λ x. bit_xor x (xor_of d)) (xor_append (a ++ b) c ∙ ap (λ x. bit_xor x (xor_of c)) (xor_append a b))
+
+pub word_apart : (men : Men) (side : Colour) (rights : Rights)
+    → position_word men side rights
+    ≡ bit_xor (bit_xor (xor_of (men_keys men)) (xor_of (side_keys side))) (xor_of (rights_keys rights))
+unfolding position_word
+word_apart men side rights =
+    let a = men_keys men in
+    let b = side_keys side in
+    let c = rights_keys rights in
+    xor_append (a ++ b) c ∙ ap (λ x. bit_xor x (xor_of c)) (xor_append a b)
+
+-- ---- square by square
+
+-- one turn of a loop over the squares, and its end
+pub xor_turn : (g : ℕ → List ℕ) (word k : ℕ) → word ≡ xor_of (flat_map g (numbers k))
+    → bit_xor word (xor_of (g k)) ≡ xor_of (flat_map g (numbers (k + 1)))
+xor_turn g word k e =
+    ap (λ x. bit_xor x (xor_of (g k))) e ∙ sym (xor_append (flat_map g (numbers k)) (g k))
+    ∙ ap (λ ns. xor_of ns) (sym (gathered-more g k)) ∙ ap (λ v. xor_of (flat_map g (numbers v))) (sym (add-one k))
+
+pub xor_end : (men : Men) (word k : ℕ) → word ≡ xor_of (flat_map (keys_on men) (numbers k)) → k ≡ 64
+    → word ≡ xor_of (men_keys men)
+unfolding men_keys squares
+xor_end men word k e all = e ∙ ap (λ v. xor_of (flat_map (keys_on men) (numbers v))) all
+
+same_lists : (f g : ℕ → List ℕ) (n a : ℕ) → ((k : ℕ) → a ≤ k → k < a + n → g k ≡ f k)
+    → flat_map g (range_with_len a n) ≡ flat_map f (range_with_len a n)
+same_lists f g zero a same = refl
+same_lists f g (suc n) a same =
+    ap (λ xs. xs ++ flat_map g (range_with_len (a + 1) n)) (same a (omega arith) (omega arith))
+    ∙ ap (λ xs. f a ++ xs) (same_lists f g n (a + 1) (λ k l h. same k (omega arith) (omega arith)))
+
+pub no_lists : (g : ℕ → List ℕ) (n a : ℕ) → ((k : ℕ) → a ≤ k → k < a + n → g k ≡ [])
+    → flat_map g (range_with_len a n) ≡ []
+no_lists g zero a none = refl
+no_lists g (suc n) a none =
+    ap (λ xs. xs ++ flat_map g (range_with_len (a + 1) n)) (none a (omega arith) (omega arith))
+    ∙ no_lists g n (a + 1) (λ k l h. none k (omega arith) (omega arith))
+
+-- the keys of an empty board, and of boards with the same pieces
+pub no_men_keys : (men : Men) → ((k : ℕ) → k < 64 → man_at men k ≡ None) → men_keys men ≡ []
+unfolding men_keys
+no_men_keys men none =
+    rw by_range (no_lists (keys_on men) 64 0 (λ k l h. ap (λ v. square_keys k v) (none k (omega arith))))
+
+pub same_men_keys : (men others : Men)
+    → ((k : ℕ) → k < 64 → square_keys k (man_at others k) ≡ square_keys k (man_at men k))
+    → men_keys others ≡ men_keys men
+unfolding men_keys
+same_men_keys men others same =
+    rw by_range (same_lists (keys_on men) (keys_on others) 64 0 (λ k l h. same k (omega arith)))
+
+-- x, y and z joined, the last two the other way round
+turned : (x y z : ℕ) → bit_xor (bit_xor x y) z ≡ bit_xor (bit_xor x z) y
+turned x y z = xor_assoc x y z ∙ ap (λ v. bit_xor x v) (xor_comm y z) ∙ sym (xor_assoc x z y)
+
+-- where the keys of one square change by d, all change by d
+changed_at : (f g : ℕ → List ℕ) (s d n a : ℕ) → ((k : ℕ) → k ≢ s → g k ≡ f k)
+    → xor_of (g s) ≡ bit_xor (xor_of (f s)) d
+    → a ≤ s → s < a + n
+    → xor_of (flat_map g (range_with_len a n)) ≡ bit_xor (xor_of (flat_map f (range_with_len a n))) d
+changed_at f g s d zero a same e low high = absurd (omega arith)
+changed_at f g s d (suc n) a same e low high =
+    let fs = flat_map f (range_with_len (a + 1) n) in
+    let gs = flat_map g (range_with_len (a + 1) n) in
+    elim (cases_lt a s) [
+      | inl before ↦
+          let rest : xor_of gs ≡ bit_xor (xor_of fs) d =
+          changed_at f g s d n (a + 1) same e (omega arith) (omega arith) in
+          xor_append (g a) gs ∙ ap (λ xs. bit_xor (xor_of xs) (xor_of gs)) (same a (omega arith))
+          ∙ ap (λ x. bit_xor (xor_of (f a)) x) rest ∙ sym (xor_assoc (xor_of (f a)) (xor_of fs) d)
+          ∙ ap (λ x. bit_xor x d) (sym (xor_append (f a) fs))
+      | inr on ↦
+          let here : a ≡ s = omega arith in
+          let rest : gs ≡ fs = same_lists f g n (a + 1) (λ k l h. same k (omega arith)) in
+          let first : xor_of (g a) ≡ bit_xor (xor_of (f a)) d = rw here e in
+          xor_append (g a) gs ∙ ap (λ x. bit_xor x (xor_of gs)) first
+          ∙ ap (λ xs. bit_xor (bit_xor (xor_of (f a)) d) (xor_of xs)) rest ∙ turned (xor_of (f a)) d (xor_of fs)
+          ∙ ap (λ x. bit_xor x d) (sym (xor_append (f a) fs))
+    ]
+
+-- ---- a write of one square
+
+men_changed : (men : Men) (s d : ℕ) (o : Option Man) → length men ≡ 64 → s < 64
+    → xor_of (square_keys s o) ≡ bit_xor (xor_of (square_keys s (man_at men s))) d
+    → xor_of (men_keys (set men s o)) ≡ bit_xor (xor_of (men_keys men)) d
+unfolding men_keys
+men_changed men s d o all low e =
+    let inside : s < length men = omega arith in
+    let here : man_at (set men s o) s ≡ o = get_or-set_same men s o None inside in
+    let others : (k : ℕ) → k ≢ s → keys_on (set men s o) k ≡ keys_on men k =
+    λ k away. ap (λ v. square_keys k v) (get_or-set_other men s k o None away) in
+    rw by_range
+    (changed_at (keys_on men) (keys_on (set men s o)) s d 64 0 others (ap (λ v. xor_of (square_keys s v)) here ∙ e)
+    (omega arith)
+    (omega arith))
+
+-- a piece comes to an empty square, or leaves its own: the hash changes by its key
+pub word_put : (men : Men) (s : ℕ) (x : Man) (word change : ℕ) → length men ≡ 64 → s < 64 → man_at men s ≡ None
+    → word ≡ xor_of (men_keys men) → change ≡ man_key x s
+    → bit_xor word change ≡ xor_of (men_keys (set men s (Some x)))
+word_put men s x word change all low bare e f =
+    ap (λ w. bit_xor w change) e ∙ ap (λ w. bit_xor (xor_of (men_keys men)) w) f
+    ∙ sym (men_changed men s (man_key x s) (Some x) all low
+    (ap (λ v. bit_xor (xor_of (square_keys s v)) (man_key x s)) (sym bare)))
+
+pub word_lifted : (men : Men) (s : ℕ) (x : Man) (word change : ℕ) → length men ≡ 64 → s < 64 → man_at men s ≡ Some x
+    → word ≡ xor_of (men_keys men) → change ≡ man_key x s
+    → bit_xor word change ≡ xor_of (men_keys (set men s None))
+word_lifted men s x word change all low there e f =
+    ap (λ w. bit_xor w change) e ∙ ap (λ w. bit_xor (xor_of (men_keys men)) w) f
+    ∙ sym (men_changed men s (man_key x s) None all low
+    (sym (xor_self (man_key x s)) ∙ ap (λ v. bit_xor (xor_of (square_keys s v)) (man_key x s)) (sym there)))

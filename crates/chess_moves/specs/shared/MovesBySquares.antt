@@ -1,0 +1,20 @@
+-- The legal moves by their squares: from one square to another, and all from one square.
+use Rattle.std.specs.Prelude.{ℕ, Option, List, map, filter, flat_map}
+use Rattle.chess_base.specs.declared.man.Kind.{Kind}
+use Rattle.chess_base.specs.declared.man.Move.{Move}
+use Rattle.chess_base.specs.declared.setup.Setup.{Setup}
+use Rattle.chess_base.specs.Moves.{is_legal}
+use Rattle.chess_base.specs.MoveList.{promotions, move_of, squares}
+
+-- the legal moves from square a to square b that name one of the promotions `kinds` (none for a move that promotes
+-- nothing)
+abbrev pub moves_with : Setup → ℕ → ℕ → List (Option Kind) → List Move
+moves_with p a b kinds = filter (λ m. is_legal p m) (map (move_of a b) kinds)
+
+-- the legal moves from square a to square b, with a promotion or without
+unfoldable pub moves_between : Setup → ℕ → ℕ → List Move
+moves_between p a b = moves_with p a b promotions
+
+-- the legal moves from square a, rising by end square
+unfoldable pub moves_from : Setup → ℕ → List Move
+moves_from p a = flat_map (λ b. moves_between p a b) squares

@@ -1,0 +1,3 @@
+-- For crates that look into tokens: gaps and strings, byte by byte.
+pub use Rattle.chess_pgn.proofs.Skipped.{gap_blank_more, gap_line_more}
+pub use Rattle.chess_pgn.proofs.Strings.{onto-nil, place_kept, place_line, place_other, place_quote, string_after}

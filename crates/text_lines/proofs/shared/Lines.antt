@@ -1,0 +1,19 @@
+-- For readers of lines: texts without their spaces and tabs in front, and where no line is left.
+use Rattle.std.proofs.Common.{◌≡◌, ℕ, ◌≤◌, Bool, true, false, List, [], ◌∷◌, length, refl, arith, if◌then◌else◌}
+use Rattle.text_lines.specs.Lines.{lines_from, lines_of_parts, is_blank, without_front_blanks}
+
+pub nothing_left : (n : ℕ) (at_end : Bool) → lines_from n at_end [] [] ≡ []
+unfolding lines_of_parts
+nothing_left n true = refl
+nothing_left n false = refl
+
+front_cond : (b : Bool) (c : ℕ) (cs xs : List ℕ) → length xs ≤ length cs
+    → length (if b then xs else c ∷ cs) ≤ length (c ∷ cs)
+front_cond true c cs xs h = grind arith
+front_cond false c cs xs h = grind arith
+
+pub wfb_short : (xs : List ℕ) → length (without_front_blanks xs) ≤ length xs
+wfb_short [] = omega arith
+wfb_short (c ∷ cs) =
+    let ih : length (without_front_blanks cs) ≤ length cs = wfb_short cs in
+    front_cond (is_blank c) c cs (without_front_blanks cs) ih
