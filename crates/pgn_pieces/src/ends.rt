@@ -3,7 +3,7 @@
 ghost use Rattle.std.specs.Prelude.{◌≡◌, ◌<◌, ◌++◌, ◌∷◌, ◌&&◌, ◌||◌, List, ℕ, [], length, take, drop, true, false};
 ghost use Rattle.pgn_pieces.specs.ties.Held.{HasSeen, Steps, SeesWhole, Looks, has_line_end};
 
-use crate::lines::{FRONT_LEN, Kind, kind_of, plain_len};
+use crate::line_kinds::{FRONT_LEN, Kind, kind_of, plain_len};
 
 // What is known of the lines that a piece has so far.
 #[derive(Clone, Copy)]

@@ -4,7 +4,7 @@ ghost use Rattle.std.specs.Prelude.{◌≡◌, ◌≤◌, ◌<◌, ◌+◌, ◌^
 ghost use Rattle.pgn_pieces.specs.Places.{line_ends};
 ghost use Rattle.pgn_pieces.specs.ties.Held.{SameCounts};
 
-use crate::lines::line_ends;
+use crate::line_kinds::line_ends;
 use arrayvec::ArrayVec;
 use byte_devices::append;
 use std::marker::Model;

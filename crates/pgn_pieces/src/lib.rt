@@ -15,7 +15,7 @@
 mod ends;
 mod gone;
 mod laws;
-mod lines;
+mod line_kinds;
 mod pieces;
 
 pub use laws::{pieces_are_cut, pieces_are_in_place, shards_are_cut};

@@ -9,7 +9,7 @@ ghost use Rattle.pgn_pieces.specs.ties.Held.{passed, FindsEnd, LetGo, Adds};
 
 use crate::ends::Seen;
 use crate::gone::{BEGINNING_LEN, Gone};
-use crate::lines::line_ends;
+use crate::line_kinds::line_ends;
 use byte_devices::Input;
 use std::alloc::{AllocError, Global};
 use std::marker::Model;

@@ -1,6 +1,6 @@
 use Rattle.std.proofs.Common.{◌≡◌, ◌∙◌, arith}
 use Rattle.pgn_pieces.proofs.Runs.{skipped}
-use Rattle.pgn_pieces.proofs.lines.plain_blocks.Goals as goal
+use Rattle.pgn_pieces.proofs.line_kinds.plain_blocks.Goals as goal
 
 pub loop-offset-preserved : goal.loop-offset-preserved
 loop-offset-preserved c =

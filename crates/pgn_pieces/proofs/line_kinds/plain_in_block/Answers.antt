@@ -1,7 +1,7 @@
 use Rattle.std.proofs.Common.{eqb, take, drop, w8, arith}
 use Rattle.std.proofs.lemmas.Simd.{length-chunk, bitmask_splat}
 use Rattle.pgn_pieces.proofs.Runs.{by_mask}
-use Rattle.pgn_pieces.proofs.lines.plain_in_block.Goals as goal
+use Rattle.pgn_pieces.proofs.line_kinds.plain_in_block.Goals as goal
 
 pub returns-clause-count : goal.returns-clause-count
 returns-clause-count c =

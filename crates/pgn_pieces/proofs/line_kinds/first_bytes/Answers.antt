@@ -1,7 +1,7 @@
 use Rattle.std.proofs.Common.{sym, arith}
 use Rattle.std.proofs.lemmas.List.{length-take-le}
 use Rattle.pgn_pieces.proofs.LineKinds.{whole}
-use Rattle.pgn_pieces.proofs.lines.first_bytes.Goals as goal
+use Rattle.pgn_pieces.proofs.line_kinds.first_bytes.Goals as goal
 
 pub slice_bounds-result-end : goal.slice_bounds-result-end
 slice_bounds-result-end c =

@@ -1,6 +1,6 @@
 use Rattle.std.proofs.Common.{◌≡◌, ◌≤◌, ◌+◌, ◌-◌, length, drop}
 use Rattle.pgn_pieces.proofs.Runs.{plain_len}
-use Rattle.pgn_pieces.proofs.lines.plain_blocks.Given as goal
+use Rattle.pgn_pieces.proofs.line_kinds.plain_blocks.Given as goal
 
 -- so far there is no byte 10
 abbrev pub invariant-loop-offset : goal.invariant-loop-offset
