@@ -4,13 +4,13 @@ use Rattle.std.specs.Prelude.{◌&&◌, ◌||◌, ◌==◌}
 use Rattle.std.specs.List.{list_any, concat}
 use Rattle.std.proofs.lemmas.Bool.{and_parts, and_left}
 use Rattle.std.proofs.lemmas.List.Folds.{list_any-append}
-use Rattle.pgn_pieces.specs.declared.ends.Seen.{Seen}
+use Rattle.pgn_pieces.specs.declared.piece_end.Seen.{Seen}
 use Rattle.pgn_pieces.specs.Pieces.{lines_of, is_tag_line, is_event_line, is_moves_line, begins_piece, cut_lines, cut, piece_of}
 use Rattle.pgn_pieces.specs.ties.Held.{HasSeen, MayGoOn, Told, SameKind, Ends, Steps, Looks, has_line_end}
 use Rattle.std.proofs.Math.Seq.{take-length, take-add}
 use Rattle.std.proofs.lemmas.List.{take-append-drop}
 use Rattle.std.proofs.lemmas.Grind.{common_steps}
-use Rattle.pgn_pieces.specs.declared.ends.Step.TheVariants.{Begins, Waits, Belongs}
+use Rattle.pgn_pieces.specs.declared.piece_end.Step.TheVariants.{Begins, Waits, Belongs}
 use Rattle.pgn_pieces.proofs.LineKinds.{told_on, told_tag, whole}
 use Rattle.pgn_pieces.proofs.CutLines.{whole_line, first_line, concat_more, goes_on, ends_here, begun, last_line, some_bytes}
 

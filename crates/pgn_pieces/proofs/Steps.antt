@@ -7,7 +7,7 @@ use Rattle.std.proofs.Math.Seq.{take-length, drop-length}
 use Rattle.pgn_pieces.proofs.LineEnds.{count_append, take_append}
 use Rattle.std.proofs.lemmas.List.{take-append-drop}
 use Rattle.byte_devices.specs.Devices.{InputState, GavePiece}
-use Rattle.pgn_pieces.specs.declared.ends.Seen.{Seen}
+use Rattle.pgn_pieces.specs.declared.piece_end.Seen.{Seen}
 use Rattle.pgn_pieces.specs.declared.pieces.PieceFault.{PieceFault}
 use Rattle.pgn_pieces.specs.declared.pieces.PieceFault.TheVariants.{ReadFailed, NoMemory, InputTooLong}
 use Rattle.pgn_pieces.specs.Pieces.{piece_at, with_offsets, pieces_from, piece_of, cut, HasRead, IsCause}

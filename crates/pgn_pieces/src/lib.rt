@@ -12,10 +12,10 @@
 //! ```
 #![tactic(auto)]
 
-mod ends;
 mod gone;
 mod laws;
 mod line_kinds;
+mod piece_end;
 mod pieces;
 
 pub use laws::{pieces_are_cut, pieces_are_in_place, shards_are_cut};

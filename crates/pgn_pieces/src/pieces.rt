@@ -7,7 +7,7 @@ ghost use Rattle.pgn_pieces.specs.declared.pieces.TheConstants.{PIECE_LEN};
 ghost use Rattle.pgn_pieces.specs.Stream.{State, unread, past_piece, current, IsStateOf, Next};
 ghost use Rattle.pgn_pieces.specs.ties.Held.{passed, FindsEnd, LetGo, Adds};
 
-use crate::ends::Seen;
+use crate::piece_end::Seen;
 use crate::gone::{BEGINNING_LEN, Gone};
 use crate::line_kinds::line_ends;
 use byte_devices::Input;

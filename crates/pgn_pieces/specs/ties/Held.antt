@@ -2,9 +2,9 @@
 use Rattle.std.specs.Prelude.{◌≡◌, ◌≤◌, ◌<◌, ◌^◌, ℕ, ◌+◌, Bool, true, false, ◌||◌, ◌==◌, List, [], ◌∷◌, ◌++◌, length, take, drop, Result, Ok, Err}
 use Rattle.std.specs.List.{list_any, concat}
 use Rattle.byte_devices.specs.Devices.{InputState, GavePiece, FailedToRead}
-use Rattle.pgn_pieces.specs.declared.ends.Seen.{Seen}
-use Rattle.pgn_pieces.specs.declared.ends.Step.{Step}
-use Rattle.pgn_pieces.specs.declared.ends.Step.TheVariants.{Begins, Waits, Belongs}
+use Rattle.pgn_pieces.specs.declared.piece_end.Seen.{Seen}
+use Rattle.pgn_pieces.specs.declared.piece_end.Step.{Step}
+use Rattle.pgn_pieces.specs.declared.piece_end.Step.TheVariants.{Begins, Waits, Belongs}
 use Rattle.pgn_pieces.specs.declared.pieces.PieceFault.{PieceFault}
 use Rattle.pgn_pieces.specs.declared.pieces.PieceFault.TheVariants.{ReadFailed, NoMemory, InputTooLong}
 use Rattle.pgn_pieces.specs.declared.pieces.TheConstants.{PIECE_LEN}

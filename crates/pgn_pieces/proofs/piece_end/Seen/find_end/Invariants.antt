@@ -1,6 +1,6 @@
 use Rattle.std.proofs.Common.{◌≤◌, ◌-◌, List, ℕ, ◌++◌, length, take}
 use Rattle.pgn_pieces.specs.ties.Held.{HasSeen}
-use Rattle.pgn_pieces.proofs.ends.Seen.find_end.Given as goal
+use Rattle.pgn_pieces.proofs.piece_end.Seen.find_end.Given as goal
 
 -- what was looked through belongs to the piece
 abbrev pub invariant-loop-offset : goal.invariant-loop-offset
