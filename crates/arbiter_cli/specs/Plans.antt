@@ -15,7 +15,7 @@ use Rattle.arbiter_cli.specs.declared.fault.WordsFault.{WordsFault}
 use Rattle.arbiter_cli.specs.declared.fault.WordsFault.TheVariants.{Words, NoMemory, BadLevel, BadFen, BadDate}
 use Rattle.chess_base.specs.Initial.{initial_setup_of}
 use Rattle.chess_fen.specs.Reading.{◌>>=◌, fen_reading_as}
-use Rattle.chess_base.specs.declared.fault.FenFault.{FenFault}
+use Rattle.chess_base.specs.declared.fen_fault.FenFault.{FenFault}
 use Rattle.chess_base.specs.declared.man.Variant.{Variant}
 use Rattle.chess_base.specs.declared.man.Variant.TheVariants.{Normal, Fischerandom}
 use Rattle.chess_base.specs.declared.setup.Setup.{Setup}

@@ -13,7 +13,7 @@ mod attack;
 mod before;
 mod by_colour;
 mod castling;
-mod fault;
+mod fen_fault;
 mod initial;
 mod laws;
 mod legality;
@@ -30,7 +30,7 @@ mod square;
 mod steps;
 
 pub use by_colour::ByColour;
-pub use fault::FenFault;
+pub use fen_fault::FenFault;
 pub use laws::{
     after_is_sound, before_undoes_after, moves_rise, normal_is_kept, reserve_never_grows,
 };

@@ -10,7 +10,7 @@ ghost use Rattle.chess_base.specs.Initial.{initial_setup, initial_setup_of};
 
 use crate::after::{fullmove_after, halfmove_after, men_after, rights_after, target_after};
 use crate::attack::{is_attacked, is_in_check};
-use crate::fault::FenFault;
+use crate::fen_fault::FenFault;
 use crate::initial::initial_men;
 use crate::legality::is_legal;
 use crate::man::{Colour, ColourRights, Man, Move, Rights, Variant};

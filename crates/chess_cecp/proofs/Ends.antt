@@ -2,7 +2,7 @@
 use Rattle.std.proofs.Common.{◌≡◌, ℕ, Bool, true, false, ◌&&◌, List, [], codes, refl, sym, ap, ◌∙◌, if◌then◌else◌, length, Option, None, Some}
 use Rattle.std.specs.Prelude.{nat_le, nat_lt, not, Result, Ok, Err}
 use Rattle.std.specs.Str.{bytes_eq}
-use Rattle.chess_base.specs.declared.fault.FenFault.{FenFault}
+use Rattle.chess_base.specs.declared.fen_fault.FenFault.{FenFault}
 use Rattle.chess_base.specs.declared.man.Variant.{Variant as Rules}
 use Rattle.chess_base.specs.declared.man.Variant.TheVariants.{Normal, Fischerandom}
 use Rattle.chess_base.specs.declared.setup.Setup.{Setup}

@@ -13,8 +13,8 @@ use Rattle.chess_base.specs.Castling.{rights_by}
 use Rattle.chess_base.specs.Sound.{IsSound}
 use Rattle.chess_base.specs.Faults.{setup_fault}
 use Rattle.chess_base.proofs.shared.Sound.{no_fault_from_IsSound}
-use Rattle.chess_base.specs.declared.fault.FenFault.{FenFault}
-use Rattle.chess_base.specs.declared.fault.FenFault.TheVariants as faults
+use Rattle.chess_base.specs.declared.fen_fault.FenFault.{FenFault}
+use Rattle.chess_base.specs.declared.fen_fault.FenFault.TheVariants as faults
 use Rattle.chess_fen.specs.RightNames.{right_by_letters}
 use Rattle.chess_fen.specs.Texts.{number_of, placement_of, is_castling, target_of, fields_of}
 use Rattle.chess_fen.specs.Reading.{◌>>=◌, side_of, rights_of, setup_by, setup_in, unless_fault, fen_reading_as}

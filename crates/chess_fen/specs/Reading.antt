@@ -12,8 +12,8 @@ use Rattle.chess_base.specs.declared.setup.Setup.{Setup}
 use Rattle.chess_base.specs.Men.{Men}
 use Rattle.chess_base.specs.Castling.{rights_by}
 use Rattle.chess_base.specs.Faults.{setup_fault}
-use Rattle.chess_base.specs.declared.fault.FenFault.{FenFault}
-use Rattle.chess_base.specs.declared.fault.FenFault.TheVariants as faults
+use Rattle.chess_base.specs.declared.fen_fault.FenFault.{FenFault}
+use Rattle.chess_base.specs.declared.fen_fault.FenFault.TheVariants as faults
 use Rattle.chess_base.specs.Letters.{byte}
 use Rattle.chess_fen.specs.RightNames.{right_by_letters}
 use Rattle.chess_fen.specs.Texts.{placement_of, is_castling, target_of, number_of, fields_of}

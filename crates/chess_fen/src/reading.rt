@@ -4,7 +4,7 @@ ghost use Rattle.std.specs.Prelude.{◌≡◌, ℕ, List, ◌∷◌, None, IfOk,
 ghost use Rattle.chess_base.specs.declared.man.Variant.{Variant};
 ghost use Rattle.chess_base.specs.declared.setup.Setup.{Setup};
 ghost use Rattle.chess_base.specs.Sound.{IsSound};
-ghost use Rattle.chess_base.specs.declared.fault.FenFault.{FenFault};
+ghost use Rattle.chess_base.specs.declared.fen_fault.FenFault.{FenFault};
 ghost use Rattle.chess_fen.specs.FenFaults.{IsFault, IsFaultAs};
 ghost use Rattle.chess_fen.specs.Texts.{placement_of, fields_of};
 ghost use Rattle.chess_fen.specs.Reading.{side_of, rights_of, setup_in, fen_reading, fen_reading_as};

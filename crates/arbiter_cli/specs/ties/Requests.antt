@@ -11,7 +11,7 @@ use Rattle.arbiter_cli.specs.declared.request.MatchRequest.{MatchRequest}
 use Rattle.arbiter_cli.specs.declared.request.Request.{Request}
 use Rattle.arbiter_cli.specs.declared.request.Request.TheVariants as request
 use Rattle.chess_base.specs.Initial.{initial_setup_of}
-use Rattle.chess_base.specs.declared.fault.FenFault.{FenFault}
+use Rattle.chess_base.specs.declared.fen_fault.FenFault.{FenFault}
 use Rattle.chess_base.specs.declared.man.Variant.{Variant}
 use Rattle.chess_base.specs.declared.setup.Setup.{Setup}
 use Rattle.chess_fen.specs.Reading.{fen_reading_as}

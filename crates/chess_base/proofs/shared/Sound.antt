@@ -4,8 +4,8 @@ use Rattle.std.proofs.lemmas.Bool.{and_parts}
 use Rattle.chess_base.specs.declared.man.Colour.TheVariants.{White, Black}
 use Rattle.chess_base.specs.declared.man.CastlingSide.TheVariants.{KingSide, QueenSide}
 use Rattle.chess_base.specs.declared.setup.Setup.{Setup}
-use Rattle.chess_base.specs.declared.fault.FenFault.{FenFault}
-use Rattle.chess_base.specs.declared.fault.FenFault.TheVariants.{Counters, Kings, Pawns, Men, Castling, EnPassant, Check}
+use Rattle.chess_base.specs.declared.fen_fault.FenFault.{FenFault}
+use Rattle.chess_base.specs.declared.fen_fault.FenFault.TheVariants.{Counters, Kings, Pawns, Men, Castling, EnPassant, Check}
 use Rattle.chess_base.specs.Men.{other}
 use Rattle.chess_base.specs.Attacks.{is_in_check}
 use Rattle.chess_base.specs.Sound.{IsSound, has_one_king, no_pawn_on_end_ranks, has_at_most_16, target_is_sound}

@@ -15,8 +15,8 @@ use Rattle.chess_base.specs.declared.man.Variant.{Variant}
 use Rattle.chess_base.specs.declared.man.Variant.TheVariants.{Normal, Fischerandom}
 use Rattle.chess_base.specs.declared.man.Rights.{Rights}
 use Rattle.chess_base.specs.declared.setup.Setup.{Setup}
-use Rattle.chess_base.specs.declared.fault.FenFault.{FenFault}
-use Rattle.chess_base.specs.declared.fault.FenFault.TheVariants as faults
+use Rattle.chess_base.specs.declared.fen_fault.FenFault.{FenFault}
+use Rattle.chess_base.specs.declared.fen_fault.FenFault.TheVariants as faults
 use Rattle.chess_base.specs.Letters.{is_digit}
 use Rattle.chess_base.specs.Men.{Men, man_at, is_man, other}
 use Rattle.chess_base.specs.Attacks.{is_in_check}

@@ -5,8 +5,8 @@ use Rattle.std.specs.Prelude.{ℕ, max, ◌==◌, nat_lt, nat_le, Bool, not, ◌
 use Rattle.std.specs.List.{list_all, join_with_byte}
 use Rattle.std.specs.Option.{ok_or}
 use Rattle.std.specs.Str.{bytes_eq}
-use Rattle.chess_base.specs.declared.fault.FenFault.{FenFault}
-use Rattle.chess_base.specs.declared.fault.FenFault.TheVariants as faults
+use Rattle.chess_base.specs.declared.fen_fault.FenFault.{FenFault}
+use Rattle.chess_base.specs.declared.fen_fault.FenFault.TheVariants as faults
 use Rattle.chess_base.specs.declared.man.Colour.TheVariants.{White, Black}
 use Rattle.chess_base.specs.declared.man.CastlingSide.TheVariants.{KingSide, QueenSide}
 use Rattle.chess_base.specs.declared.man.Rights.{Rights}

@@ -1,7 +1,7 @@
 -- Small texts by which the law `texts_are_worked_out` shows what the definitions of a split, of a game that is read and
 -- of a game's text mean.
 use Rattle.std.specs.Prelude.{◌≡◌, ℕ, List, [], ◌∷◌, ◌++◌, length, codes, None, Ok}
-use Rattle.chess_base.specs.declared.fault.FenFault.TheVariants.{Fields}
+use Rattle.chess_base.specs.declared.fen_fault.FenFault.TheVariants.{Fields}
 use Rattle.chess_base.specs.declared.man.Move.{Move}
 use Rattle.chess_base.specs.declared.man.Variant.TheVariants.{Normal}
 use Rattle.chess_base.specs.Initial.{initial_setup_of}
