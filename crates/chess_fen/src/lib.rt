@@ -14,7 +14,7 @@
 //! ```
 #![tactic(auto)]
 
-mod castling;
+mod castling_rights;
 mod fen;
 mod fields;
 mod initial;

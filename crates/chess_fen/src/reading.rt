@@ -11,7 +11,7 @@ ghost use Rattle.chess_fen.specs.Reading.{side_of, rights_of, setup_in, fen_read
 ghost use Rattle.chess_fen.specs.Denotation.{DenotesFen, DenotesFenAs};
 ghost use Rattle.chess_fen.specs.ties.Fields.{setup_with};
 
-use crate::castling::{is_castling, rights_by_letters};
+use crate::castling_rights::{is_castling, rights_by_letters};
 use crate::fields::{Fields, next_field, read_fields, skip_spaces};
 use crate::number::read_number;
 use crate::placement::read_placement;

@@ -4,7 +4,7 @@ ghost use Rattle.std.specs.Prelude.{◌≡◌, ℕ, ◌+◌, ◌*◌, ◌<◌, �
 ghost use Rattle.arrayvec.specs.ArrayVec.{array_vec_len};
 ghost use Rattle.chess_fen.specs.Writing.{run_text, fen_rank, placement_text, side_text, right_text, rights_text, target_text, fen};
 
-use crate::castling::right_letter;
+use crate::castling_rights::right_letter;
 use arrayvec::ArrayVec;
 use chess_base::{CastlingSide, Colour, Man, Position, Rights, Square, Variant};
 use itoa::Buffer;

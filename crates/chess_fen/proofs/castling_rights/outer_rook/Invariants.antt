@@ -1,7 +1,7 @@
 use Rattle.std.proofs.Common.{◌≡◌}
 use Rattle.chess_fen.specs.RightNames.{outer_rook}
 use Rattle.chess_fen.specs.ties.Loops.{rook_among}
-use Rattle.chess_fen.proofs.castling.outer_rook.Given as goal
+use Rattle.chess_fen.proofs.castling_rights.outer_rook.Given as goal
 
 -- what is left gives the whole
 abbrev pub invariant-loop-left : goal.invariant-loop-left

@@ -1,7 +1,7 @@
 -- No rook is on the files already passed, so the first rook among those left is the outermost of all (RookAmong).
 use Rattle.std.proofs.Common.{◌-◌, ◌∙◌, sym, arith}
 use Rattle.chess_fen.proofs.RookAmong.{rook_here, no_rook_here, outer_among}
-use Rattle.chess_fen.proofs.castling.outer_rook.Goals as goal
+use Rattle.chess_fen.proofs.castling_rights.outer_rook.Goals as goal
 
 pub loop-left-init : goal.loop-left-init
 loop-left-init c = sym (outer_among c.args.men.now c.args.colour c.args.castling_side)

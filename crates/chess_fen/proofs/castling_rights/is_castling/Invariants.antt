@@ -1,7 +1,7 @@
 use Rattle.std.proofs.Common.{◌≡◌, drop}
 use Rattle.std.specs.List.{list_all}
 use Rattle.chess_fen.specs.Texts.{names_once}
-use Rattle.chess_fen.proofs.castling.is_castling.Given as goal
+use Rattle.chess_fen.proofs.castling_rights.is_castling.Given as goal
 
 -- what is left gives the whole
 abbrev pub invariant-loop-byte : goal.invariant-loop-byte
