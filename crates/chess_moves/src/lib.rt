@@ -19,13 +19,13 @@
 #![tactic(auto)]
 
 mod board;
+mod hashing;
 mod legal;
 mod listing;
 mod moving;
 mod plain;
 mod set;
 mod squares;
-mod word;
 
 pub use board::{Board, MoveList, make_then_take_back};
 pub use legal::legal_moves;
@@ -33,4 +33,4 @@ pub use listing::would_promote;
 pub use plain::Plain;
 pub use set::SquareSet;
 pub use squares::Squares;
-pub use word::{ComputedKeys, Keys, man_key, position_word, word_with};
+pub use hashing::{ComputedKeys, Keys, man_key, position_word, word_with};

@@ -12,7 +12,7 @@ use crate::board::{Board, MoveList};
 use crate::listing::{has_legal_move, legal_moves};
 use crate::moving::{move_back, move_on};
 use crate::set::SquareSet;
-use crate::word::position_word;
+use crate::hashing::position_word;
 use chess_base::rules::{is_in_check, is_legal, is_man, saved_of};
 use chess_base::{Colour, Kind, Man, Move, Position, Saved, Setup, Square};
 use std::marker::Model;
