@@ -20,8 +20,8 @@ use Rattle.chess_fen.specs.laws.Normal.{normal_fen}
 use Rattle.chess_fen.proofs.shared.Normal.{fen_kept}
 use Rattle.chess_text.specs.laws.Normal.{normal_moves, normal_san}
 use Rattle.chess_text.proofs.shared.Normal.{normal_kept as texts_kept}
-use Rattle.chess_game.specs.declared.ends.Verdict.{Verdict}
-use Rattle.chess_game.specs.declared.ends.Verdict.TheVariants.{Stalemate, InsufficientMaterial, FivefoldRepetition, SeventyFiveMoves}
+use Rattle.chess_game.specs.declared.verdicts.Verdict.{Verdict}
+use Rattle.chess_game.specs.declared.verdicts.Verdict.TheVariants.{Stalemate, InsufficientMaterial, FivefoldRepetition, SeventyFiveMoves}
 use Rattle.chess_game.specs.declared.results.Declared.{Declared}
 use Rattle.chess_game.specs.declared.results.Outcome.TheVariants.{Unfinished}
 use Rattle.chess_game.specs.Ends.{has_insufficient_material, mates, verdict, verdict_outcome, claims}

@@ -18,8 +18,8 @@ use Rattle.chess_text.specs.Moves.{reading}
 use Rattle.chess_text.specs.San.{shown_move}
 use Rattle.chess_text.specs.laws.Normal.{normal_moves, normal_reading}
 use Rattle.chess_text.proofs.shared.Normal.{normal_kept as texts_kept}
-use Rattle.chess_game.specs.declared.ends.Claims.{Claims}
-use Rattle.chess_game.specs.declared.ends.Verdict.{Verdict}
+use Rattle.chess_game.specs.declared.verdicts.Claims.{Claims}
+use Rattle.chess_game.specs.declared.verdicts.Verdict.{Verdict}
 use Rattle.chess_game.specs.declared.results.Declared.{Declared}
 use Rattle.chess_game.specs.Ends.{claims}
 use Rattle.chess_game.specs.Game.{State, from_start, played, with_declared, current, verdict_now, contradicts_verdict}

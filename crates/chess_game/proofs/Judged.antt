@@ -7,7 +7,7 @@ use Rattle.chess_base.specs.declared.man.Move.{Move}
 use Rattle.chess_game.specs.Ends.{verdict}
 use Rattle.chess_game.specs.Game.{State, last_move, is_over}
 use Rattle.chess_game.specs.ties.PlayedMoves.{moves_of, IsUnended}
-use Rattle.chess_game.specs.declared.ends.Verdict.{Verdict}
+use Rattle.chess_game.specs.declared.verdicts.Verdict.{Verdict}
 use Rattle.chess_game.specs.declared.game.PlayedMove.{PlayedMove}
 
 last_or_below : (n k : ℕ) → k < n + 1 → (k ≡ n) ⊎ (k < n)

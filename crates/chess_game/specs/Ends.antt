@@ -18,9 +18,9 @@ use Rattle.chess_game.specs.Line.{position_after}
 use Rattle.chess_game.specs.Same.{repetition_count}
 use Rattle.chess_game.specs.declared.results.Outcome.{Outcome}
 use Rattle.chess_game.specs.declared.results.Outcome.TheVariants.{WhiteWins, BlackWins, Draw}
-use Rattle.chess_game.specs.declared.ends.Verdict.{Verdict}
-use Rattle.chess_game.specs.declared.ends.Verdict.TheVariants.{WhiteMates, BlackMates, Stalemate, InsufficientMaterial, FivefoldRepetition, SeventyFiveMoves}
-use Rattle.chess_game.specs.declared.ends.Claims.{Claims}
+use Rattle.chess_game.specs.declared.verdicts.Verdict.{Verdict}
+use Rattle.chess_game.specs.declared.verdicts.Verdict.TheVariants.{WhiteMates, BlackMates, Stalemate, InsufficientMaterial, FivefoldRepetition, SeventyFiveMoves}
+use Rattle.chess_game.specs.declared.verdicts.Claims.{Claims}
 
 -- the colour of a square: a1 is black (2.1)
 abbrev pub square_colour : ℕ → Colour

@@ -9,7 +9,7 @@ use Rattle.chess_base.specs.Initial.{initial_setup}
 use Rattle.chess_game.specs.Line.{position_after, IsLine}
 use Rattle.chess_game.specs.Results.{same_outcome}
 use Rattle.chess_game.specs.Ends.{verdict, verdict_outcome}
-use Rattle.chess_game.specs.declared.ends.Verdict.{Verdict}
+use Rattle.chess_game.specs.declared.verdicts.Verdict.{Verdict}
 use Rattle.chess_game.specs.declared.results.Outcome.{Outcome}
 use Rattle.chess_game.specs.declared.results.Outcome.TheVariants.{Unfinished}
 use Rattle.chess_game.specs.declared.results.Declared.{Declared}

@@ -13,7 +13,7 @@ ghost use Rattle.chess_game.specs.ties.PlayedMoves.{moves_of, Follows, IsKept};
 ghost use Rattle.chess_game.specs.ties.Buckets.{HaveEntries};
 ghost use Rattle.chess_game.specs.declared.repetition.Hashed.{Hashed};
 
-use crate::ends::{Claims, Verdict, has_insufficient_material, mates};
+use crate::verdicts::{Claims, Verdict, has_insufficient_material, mates};
 use crate::index::{Entry, Index};
 use crate::iter::{Moves, Positions};
 use crate::packed::PackedPosition;

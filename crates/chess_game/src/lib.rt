@@ -11,7 +11,6 @@
 //! ```
 #![tactic(auto)]
 
-mod ends;
 mod game;
 mod index;
 mod iter;
@@ -20,8 +19,9 @@ mod repetition;
 mod result_text;
 mod results;
 mod tags;
+mod verdicts;
 
-pub use ends::{Claims, Verdict};
+pub use verdicts::{Claims, Verdict};
 pub use game::{BoardSaysOtherwise, Game, MOST_MOVES, NoMove, PlayRefusal};
 pub use iter::{Moves, Positions};
 pub use result_text::ParseOutcomeError;

@@ -9,7 +9,7 @@ use Rattle.chess_base.specs.declared.man.Colour.{Colour}
 use Rattle.chess_base.specs.declared.man.Colour.TheVariants.{White, Black}
 use Rattle.chess_base.specs.declared.man.Move.{Move}
 use Rattle.chess_base.specs.Men.{other, same_colour}
-use Rattle.chess_game.specs.declared.ends.Verdict.{Verdict}
+use Rattle.chess_game.specs.declared.verdicts.Verdict.{Verdict}
 use Rattle.cecp_engine.specs.EngineLines.{LineKind, line_kind}
 use Rattle.cecp_engine.specs.Items.{Item, takes}
 use Rattle.chess_match.specs.laws.Laws.{move_sent, moves_sent, texts_from, move_texts, owed_to, MovesAreSent, AllMovesAreSent, sent, ending_in}

@@ -6,7 +6,7 @@ use Rattle.chess_base.specs.declared.man.Colour.{Colour}
 use Rattle.chess_base.specs.declared.man.Colour.TheVariants.{White, Black}
 use Rattle.chess_base.specs.declared.man.Move.{Move}
 use Rattle.chess_base.specs.Men.{other, same_colour}
-use Rattle.chess_game.specs.declared.ends.Verdict.{Verdict}
+use Rattle.chess_game.specs.declared.verdicts.Verdict.{Verdict}
 use Rattle.cecp_engine.specs.EngineLines.{line_kind, LineKind, Features, Moves, Resigns, OffersDraw, ClaimsDraw, ClaimsWin, Rejects, Answers, SaysElse}
 use Rattle.cecp_engine.specs.Items.{Item, has_done}
 use Rattle.chess_match.specs.laws.Laws.{move_said, is_pong}

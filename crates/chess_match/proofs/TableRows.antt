@@ -7,7 +7,7 @@ use Rattle.chess_base.specs.declared.man.Colour.{Colour}
 use Rattle.chess_base.specs.declared.man.Colour.TheVariants.{White, Black}
 use Rattle.text_lines.specs.Words.{argument_of, command_number}
 use Rattle.chess_game.specs.Results.{result_text}
-use Rattle.chess_game.specs.declared.ends.Verdict.TheVariants.{BlackMates}
+use Rattle.chess_game.specs.declared.verdicts.Verdict.TheVariants.{BlackMates}
 use Rattle.std.specs.Str.{bytes_eq}
 use Rattle.chess_base.specs.declared.man.Move.{Move}
 use Rattle.chess_base.specs.Coordinates.{coordinate}

@@ -12,8 +12,8 @@ use Rattle.chess_base.specs.Moves.{after}
 use Rattle.chess_fen.specs.Writing.{fen, is_initial}
 use Rattle.chess_game.specs.Ends.{verdict, claims}
 use Rattle.chess_game.specs.Line.{position_after}
-use Rattle.chess_game.specs.declared.ends.Claims.{Claims}
-use Rattle.chess_game.specs.declared.ends.Verdict.{Verdict}
+use Rattle.chess_game.specs.declared.verdicts.Claims.{Claims}
+use Rattle.chess_game.specs.declared.verdicts.Verdict.{Verdict}
 use Rattle.chess_text.specs.Moves.{reading}
 use Rattle.chess_text.specs.San.{san, shown_move}
 use Rattle.chess_text.specs.declared.reading.Reading.{Reading}

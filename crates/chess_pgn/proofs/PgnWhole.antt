@@ -13,7 +13,7 @@ use Rattle.chess_fen.specs.laws.Laws.{WrittenIsReadBack}
 use Rattle.chess_fen.specs.Reading.{fen_reading_as}
 use Rattle.chess_base.specs.Sound.{IsSound}
 use Rattle.chess_fen.specs.Writing.{fen, is_initial}
-use Rattle.chess_game.specs.declared.ends.Verdict.{Verdict}
+use Rattle.chess_game.specs.declared.verdicts.Verdict.{Verdict}
 use Rattle.chess_game.specs.Game.{State, from_start, outcome_now, verdict_now, IsPlayable}
 use Rattle.std.specs.Option.{option_map_or}
 use Rattle.chess_game.specs.Ends.{verdict_outcome}

@@ -3,7 +3,7 @@ use Rattle.std.proofs.Common.{◌≡◌, ℕ, ◌+◌, ◌≤◌, Bool, true, fa
 use Rattle.std.specs.Prelude.{if◌then◌else◌, IfOk, IfErr, IfSome}
 use Rattle.std.specs.Option.{option_eq, option_map_or, option_or}
 use Rattle.chess_game.specs.Game.{Seen, with_state as left_at, contradicts_verdict, verdict_now}
-use Rattle.chess_game.specs.declared.ends.Verdict.{Verdict}
+use Rattle.chess_game.specs.declared.verdicts.Verdict.{Verdict}
 use Rattle.chess_game.specs.declared.game.TheConstants.{MOST_MOVES}
 use Rattle.chess_game.specs.Results.{same_outcome}
 use Rattle.chess_pgn.specs.GameRead.{pgn_read}

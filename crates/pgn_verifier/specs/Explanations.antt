@@ -8,7 +8,7 @@ use Rattle.chess_fen.specs.Writing.{fen}
 use Rattle.chess_game.specs.Ends.{verdict_outcome, verdict_comment}
 use Rattle.chess_game.specs.Game.{State, current, verdict_now}
 use Rattle.chess_game.specs.Results.{outcome_text, result_text}
-use Rattle.chess_game.specs.declared.ends.Verdict.{Verdict}
+use Rattle.chess_game.specs.declared.verdicts.Verdict.{Verdict}
 use Rattle.chess_pgn.specs.Tokens.{is_white_space}
 use Rattle.chess_pgn.specs.declared.read.PgnFaultKind.{PgnFaultKind}
 use Rattle.chess_pgn.specs.declared.read.PgnFaultKind.TheVariants.{BadTag, BadFen, BadToken, AfterEnd}

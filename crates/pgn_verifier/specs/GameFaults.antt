@@ -3,7 +3,7 @@ use Rattle.std.specs.Prelude.{ℕ, ◌-◌, Bool, if◌then◌else◌, List, len
 use Rattle.std.specs.Option.{option_eq, option_map_or, option_or}
 use Rattle.chess_game.specs.Game.{contradicts_verdict, verdict_now}
 use Rattle.chess_game.specs.Results.{outcome_text, same_outcome}
-use Rattle.chess_game.specs.declared.ends.Verdict.{Verdict}
+use Rattle.chess_game.specs.declared.verdicts.Verdict.{Verdict}
 use Rattle.chess_game.specs.declared.game.TheConstants.{MOST_MOVES}
 use Rattle.chess_pgn.specs.GameRead.{GameRead, pgn_read}
 use Rattle.chess_pgn.specs.LastTags.{result_tag_of}

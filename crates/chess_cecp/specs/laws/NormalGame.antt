@@ -13,9 +13,9 @@ use Rattle.chess_base.specs.Men.{other, same_colour}
 use Rattle.chess_base.specs.Moves.{is_en_passant}
 use Rattle.chess_base.specs.laws.Normal.{normal_after}
 use Rattle.chess_text.specs.laws.Normal.{normal_moves}
-use Rattle.chess_game.specs.declared.ends.Claims.{Claims}
-use Rattle.chess_game.specs.declared.ends.Verdict.{Verdict}
-use Rattle.chess_game.specs.declared.ends.Verdict.TheVariants.{Stalemate, InsufficientMaterial, FivefoldRepetition, SeventyFiveMoves}
+use Rattle.chess_game.specs.declared.verdicts.Claims.{Claims}
+use Rattle.chess_game.specs.declared.verdicts.Verdict.{Verdict}
+use Rattle.chess_game.specs.declared.verdicts.Verdict.TheVariants.{Stalemate, InsufficientMaterial, FivefoldRepetition, SeventyFiveMoves}
 use Rattle.chess_game.specs.declared.results.Outcome.{Outcome}
 use Rattle.chess_game.specs.declared.results.Outcome.TheVariants.{Unfinished}
 use Rattle.chess_game.specs.Ends.{has_insufficient_material, mates, verdict_outcome}

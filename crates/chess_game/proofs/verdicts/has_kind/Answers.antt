@@ -1,6 +1,6 @@
 -- Where the squares of the kind's pieces are some, there is such a piece (some_of_kind of SomeKind).
 use Rattle.chess_game.proofs.SomeKind.{some_of_kind}
-use Rattle.chess_game.proofs.ends.has_kind.Goals as goal
+use Rattle.chess_game.proofs.verdicts.has_kind.Goals as goal
 
 pub returns : goal.returns
 returns g c =
