@@ -7,7 +7,7 @@ use Rattle.chess_base.specs.declared.man.Kind.TheVariants.{King, Queen, Rook, Bi
 use Rattle.chess_base.specs.declared.man.Man.{Man}
 use Rattle.std.specs.Prelude.{slice_index, cond}
 use Rattle.chess_base.specs.Men.{Men, man_at, is_of, is_man, kind_number}
-use Rattle.chess_moves.specs.PositionWord.{square_keys, xor_of}
+use Rattle.chess_moves.specs.PositionHash.{square_keys, xor_of}
 use Rattle.chess_moves.specs.Sets.{contains, members}
 use Rattle.chess_moves.proofs.shared.PositionWord.{no_men_keys, same_men_keys}
 use Rattle.chess_bits.specs.ties.Occupancy.{IsOccupied}

@@ -81,7 +81,7 @@ impl<'t> Bits<'t> {
 }
 
 impl Board for Bits<'_> {
-    ghost use Rattle.chess_moves.specs.PositionWord.{position_word};
+    ghost use Rattle.chess_moves.specs.PositionHash.{position_word};
 
     ghost position = { λ b. b };
 

@@ -1,7 +1,7 @@
 //! The keys of position hashes, computed once.
 
 ghost use Rattle.std.specs.Prelude.{◌≡◌, ℕ, ◌<◌, slice_index};
-ghost use Rattle.chess_moves.specs.PositionWord.{key};
+ghost use Rattle.chess_moves.specs.PositionHash.{key};
 
 use chess_moves::{ComputedKeys, Keys};
 

@@ -1,5 +1,5 @@
 pub mod Made
-pub mod PositionWord
+pub mod PositionHash
 pub mod Promoting
 pub mod Sets
 pub mod shared

@@ -1,7 +1,7 @@
 //! The position hash: the keys of pieces, side on move and castling rights, joined by exclusive or.
 
 ghost use Rattle.std.specs.Prelude.{◌≡◌, ◌<◌};
-ghost use Rattle.chess_moves.specs.PositionWord.{key, colour_index, kind_index, man_key, square_keys, men_keys, side_keys, right_keys, rights_keys, xor_of, position_word};
+ghost use Rattle.chess_moves.specs.PositionHash.{key, colour_index, kind_index, man_key, square_keys, men_keys, side_keys, right_keys, rights_keys, xor_of, position_word};
 
 use chess_base::{Colour, Kind, Man, Rights, Setup, Square};
 
@@ -30,7 +30,7 @@ pub struct ComputedKeys;
 
 impl Keys for ComputedKeys {
     // The Zobrist key with this number, from 0 on, computed by the three steps of the generator SplitMix64.
-    #[tactic(auto, unfolding(crate::specs::PositionWord::key))]
+    #[tactic(auto, unfolding(crate::specs::PositionHash::key))]
     fn key(&self, number: u16) -> u64 {
         let mut z = (number as u64 + 1).wrapping_mul(INCREMENT);
         z = (z ^ (z >> 30)).wrapping_mul(FIRST_FACTOR);

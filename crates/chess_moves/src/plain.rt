@@ -94,7 +94,7 @@ impl Plain {
 }
 
 impl Board for Plain {
-    ghost use Rattle.chess_moves.specs.PositionWord.{position_word};
+    ghost use Rattle.chess_moves.specs.PositionHash.{position_word};
 
     ghost position = { λ b. b };
 

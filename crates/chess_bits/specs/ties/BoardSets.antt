@@ -4,7 +4,7 @@ use Rattle.chess_base.specs.declared.man.Colour.TheVariants.{White, Black}
 use Rattle.chess_base.specs.Men.{Men, man_at, is_of}
 use Rattle.chess_bits.specs.declared.sets.Sets.{Sets}
 use Rattle.chess_bits.specs.ties.KindSets.{IsKinds}
-use Rattle.chess_moves.specs.PositionWord.{men_keys, xor_of}
+use Rattle.chess_moves.specs.PositionHash.{men_keys, xor_of}
 use Rattle.chess_moves.specs.Sets.{contains}
 
 -- the sets s are those of these pieces: of each colour by kind and together; and `men_word` is the exclusive or of

@@ -10,7 +10,7 @@ use Rattle.chess_base.specs.declared.man.Man.{Man}
 use Rattle.chess_base.specs.declared.man.Rights.{Rights}
 use Rattle.chess_base.specs.Men.{Men, man_at}
 use Rattle.chess_base.specs.MoveList.{squares}
-use Rattle.chess_moves.specs.PositionWord.{man_key, square_keys, keys_on, men_keys, side_keys, right_keys, rights_keys, xor_of, position_word}
+use Rattle.chess_moves.specs.PositionHash.{man_key, square_keys, keys_on, men_keys, side_keys, right_keys, rights_keys, xor_of, position_word}
 use Rattle.chess_moves.proofs.Gathered.{numbers, gathered-more}
 use Rattle.chess_moves.proofs.shared.Members.{by_range}
 

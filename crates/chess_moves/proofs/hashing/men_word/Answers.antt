@@ -1,7 +1,7 @@
--- The hash so far is the hash of the squares so far (xor_turn of PositionWord).
+-- The hash so far is the hash of the squares so far (xor_turn of PositionHash).
 use Rattle.std.proofs.Common.{◌≡◌, ℕ, ◌∙◌, ap, arith}
 use Rattle.chess_base.specs.Men.{man_at}
-use Rattle.chess_moves.specs.PositionWord.{square_keys, keys_on, xor_of}
+use Rattle.chess_moves.specs.PositionHash.{square_keys, keys_on, xor_of}
 use Rattle.chess_moves.proofs.shared.PositionWord.{xor_turn, xor_end}
 use Rattle.chess_moves.proofs.hashing.men_word.Goals as goal
 

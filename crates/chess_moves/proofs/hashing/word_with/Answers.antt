@@ -1,4 +1,4 @@
--- The hash of all keys is that of the pieces', the side's and the rights', joined (word_apart of PositionWord).
+-- The hash of all keys is that of the pieces', the side's and the rights', joined (word_apart of PositionHash).
 use Rattle.std.proofs.Common.{sym}
 use Rattle.chess_moves.proofs.shared.PositionWord.{word_apart}
 use Rattle.chess_moves.proofs.hashing.word_with.Goals as goal

@@ -1,6 +1,6 @@
 -- The entry that is written is the key of its number, and those below stay (filled_more of Keyed).
 use Rattle.std.proofs.Common.{arith, ◌∙◌, length-set}
-use Rattle.chess_moves.specs.PositionWord.{key}
+use Rattle.chess_moves.specs.PositionHash.{key}
 use Rattle.chess_bits.proofs.Keyed.{filled_more}
 use Rattle.chess_bits.proofs.keys.KeyTable.new.Goals as goal
 

@@ -1,5 +1,5 @@
 use Rattle.std.proofs.Common.{◌≡◌, ℕ, ◌<◌, length, get_or}
-use Rattle.chess_moves.specs.PositionWord.{key}
+use Rattle.chess_moves.specs.PositionHash.{key}
 use Rattle.chess_bits.proofs.keys.KeyTable.new.Given as goal
 
 -- the keys so far are those of their numbers
