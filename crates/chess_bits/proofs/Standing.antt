@@ -9,7 +9,7 @@ use Rattle.std.specs.Prelude.{slice_index, cond}
 use Rattle.chess_base.specs.Men.{Men, man_at, is_of, is_man, kind_number}
 use Rattle.chess_moves.specs.PositionHash.{square_keys, xor_of}
 use Rattle.chess_moves.specs.Sets.{contains, members}
-use Rattle.chess_moves.proofs.shared.PositionWord.{no_men_keys, same_men_keys}
+use Rattle.chess_moves.proofs.shared.PositionHash.{no_men_keys, same_men_keys}
 use Rattle.chess_bits.specs.ties.Occupancy.{IsOccupied}
 use Rattle.chess_bits.specs.declared.sets.Sets.{Sets}
 use Rattle.chess_bits.specs.ties.KindSets.{IsKinds}

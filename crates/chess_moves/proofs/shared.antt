@@ -5,4 +5,4 @@ pub mod Made
 pub mod Members
 pub mod MovesBySquares
 pub mod Origins
-pub mod PositionWord
+pub mod PositionHash

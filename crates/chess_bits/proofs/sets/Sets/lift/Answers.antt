@@ -2,7 +2,7 @@
 use Rattle.std.proofs.Common.{refl, ◌∙◌}
 use Rattle.chess_base.specs.declared.man.Colour.TheVariants.{White, Black}
 use Rattle.chess_bits.proofs.BoardSets.{theirs_lifted, all_theirs_lifted, all_lift, as_own}
-use Rattle.chess_moves.proofs.shared.PositionWord.{word_lifted}
+use Rattle.chess_moves.proofs.shared.PositionHash.{word_lifted}
 use Rattle.chess_bits.proofs.sets.Sets.lift.Goals as goal
 
 pub returns-in-White : goal.returns-in-White

@@ -3,7 +3,7 @@ use Rattle.std.proofs.Common.{slice_set, Some, refl, sym, ◌∙◌, subst}
 use Rattle.chess_base.specs.declared.man.Colour.TheVariants.{White, Black}
 use Rattle.chess_bits.specs.ties.KindSets.{IsKinds}
 use Rattle.chess_bits.proofs.BoardSets.{theirs_put, all_theirs_put, all_put, own_of, as_own}
-use Rattle.chess_moves.proofs.shared.PositionWord.{word_put}
+use Rattle.chess_moves.proofs.shared.PositionHash.{word_put}
 use Rattle.chess_bits.proofs.sets.Sets.put.Goals as goal
 
 pub returns-in-White : goal.returns-in-White

@@ -5,7 +5,7 @@ use Rattle.chess_base.specs.declared.man.Colour.TheVariants.{White, Black}
 use Rattle.chess_base.specs.Men.{man_at}
 use Rattle.chess_bits.specs.ties.KindSets.{IsKinds}
 use Rattle.chess_bits.proofs.BoardSets.{theirs_put, theirs_lifted, all_theirs_put, all_theirs_lifted, all_put, all_lift, own_of, as_own, still_empty}
-use Rattle.chess_moves.proofs.shared.PositionWord.{word_put, word_lifted}
+use Rattle.chess_moves.proofs.shared.PositionHash.{word_put, word_lifted}
 use Rattle.chess_bits.proofs.sets.Sets.shift.Goals as goal
 
 pub returns-in-White : goal.returns-in-White
