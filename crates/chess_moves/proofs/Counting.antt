@@ -8,7 +8,7 @@ use Rattle.std.proofs.Math.Nat.{div-div-eq-div-mul, pow-suc}
 use lib.Count.{ones_step}
 use Rattle.chess_moves.specs.Sets.{contains, members}
 use Rattle.chess_moves.proofs.shared.Members.{of_range}
-use Rattle.chess_moves.proofs.Words.{bit_cases}
+use Rattle.chess_moves.proofs.SetBits.{bit_cases}
 
 one_more : (q : ℕ → Bool) (a : ℕ) (xs : List ℕ) → length (filter q (a ∷ xs)) ≡ cond (q a) 1 0 + length (filter q xs)
 one_more q a xs = elim (cases_Bool (q a)) [ inl kept ↦ rw kept (omega arith) | inr left ↦ rw left (omega arith) ]

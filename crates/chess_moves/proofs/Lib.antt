@@ -3,7 +3,7 @@ mod Gathered
 mod Reach
 mod Room
 mod SomeMove
-mod Words
+mod SetBits
 mod Counting
 mod SomeLegal
 mod Shifted

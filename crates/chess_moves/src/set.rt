@@ -46,7 +46,7 @@ impl SquareSet {
     }
 
     /// The set that has this square alone.
-    #[tactic(auto, using(crate::proofs::Words::has_single))]
+    #[tactic(auto, using(crate::proofs::SetBits::has_single))]
     pub fn single(square: Square) -> Self
         ensures value { (k : ℕ) → contains result k ≡ (k == square) }
         ensures in_range { square < 64 }
@@ -75,7 +75,7 @@ impl SquareSet {
     }
 
     /// Whether the square is in the set.
-    #[tactic(auto, using(crate::proofs::Words::has_shr))]
+    #[tactic(auto, using(crate::proofs::SetBits::has_shr))]
     pub fn contains(self, square: Square) -> bool
         ensures { result ≡ contains self square }
     {
@@ -83,7 +83,7 @@ impl SquareSet {
     }
 
     /// Whether no square is in the set.
-    #[tactic(auto, using(crate::proofs::Words::empty_is))]
+    #[tactic(auto, using(crate::proofs::SetBits::empty_is))]
     pub fn is_empty(self) -> bool
         ensures zero { result ≡ (self == 0) }
         ensures none { result ≡ not (some_square (λ k. contains self k)) }
@@ -100,7 +100,7 @@ impl SquareSet {
     }
 
     /// The squares that are in either set.
-    #[tactic(auto, using(crate::proofs::Words::has_or))]
+    #[tactic(auto, using(crate::proofs::SetBits::has_or))]
     pub fn union(self, other: Self) -> Self
         ensures { (k : ℕ) → contains result k ≡ (contains self k || contains other k) }
     {
@@ -110,7 +110,7 @@ impl SquareSet {
     }
 
     /// The squares that are in both sets.
-    #[tactic(auto, using(crate::proofs::Words::has_and))]
+    #[tactic(auto, using(crate::proofs::SetBits::has_and))]
     pub fn intersection(self, other: Self) -> Self
         ensures { (k : ℕ) → contains result k ≡ (contains self k && contains other k) }
     {
@@ -120,7 +120,7 @@ impl SquareSet {
     }
 
     /// The squares of this set that are not in the other.
-    #[tactic(auto, using(crate::proofs::Words::has_minus))]
+    #[tactic(auto, using(crate::proofs::SetBits::has_minus))]
     pub fn without(self, other: Self) -> Self
         ensures { (k : ℕ) → k < 64 → contains result k ≡ (contains self k && not (contains other k)) }
     {
@@ -154,7 +154,7 @@ impl SquareSet {
     }
 
     /// The lowest square of a set that is not empty.
-    #[tactic(auto, using(crate::proofs::Words::first_of))]
+    #[tactic(auto, using(crate::proofs::SetBits::first_of))]
     pub fn first(self) -> Square
         requires { 0 < self }
         ensures nearest { IsNearest true self result }
@@ -164,7 +164,7 @@ impl SquareSet {
     }
 
     /// The highest square of a set that is not empty.
-    #[tactic(auto, using(crate::proofs::Words::last_of))]
+    #[tactic(auto, using(crate::proofs::SetBits::last_of))]
     pub fn last(self) -> Square
         requires { 0 < self }
         ensures nearest { IsNearest false self result }
