@@ -5,6 +5,6 @@ mod Room
 mod SomeMove
 mod SetBits
 mod Counting
-mod SomeLegal
+mod ListNotEmpty
 mod Shifted
 mod OutOfReach
