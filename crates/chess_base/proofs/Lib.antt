@@ -6,7 +6,7 @@ mod Reaches
 mod Knights
 mod Counts
 mod KingChecks
-mod Castlings
+mod CastlingChange
 mod StaysSound
 mod TakesBack
 mod CountsAfter

@@ -24,7 +24,7 @@ use Rattle.chess_base.proofs.shared.Men.{same_colour-true, is_of-from_is_man, is
 use Rattle.chess_base.proofs.shared.MoveKinds.{is_of-mover, Moves, MoveKind, ManMoves, Castles, PawnMoves, PawnKind, Advances, Captures, TakesEnPassant}
 use Rattle.chess_base.proofs.shared.Changes.{Change, Rest, Alone, WithCapture, WithRook, pawn_attack, pawn_no_castling, rank_ahead_White, rank_ahead_Black, advance_goes}
 use Rattle.chess_base.proofs.shared.Castling.{says_from_castling, castling_says, lands_on_to}
-use Rattle.chess_base.proofs.Castlings.{change_of}
+use Rattle.chess_base.proofs.CastlingChange.{change_of}
 use Rattle.chess_base.proofs.CountsAfter.{castled_rook, apart_by, from_apart}
 use Rattle.chess_base.proofs.shared.Writes.{written, men_after-written}
 
