@@ -4,7 +4,7 @@ mod ClearLines
 mod Rays
 mod Reaches
 mod Knights
-mod Counts
+mod CountedWrites
 mod KingChecks
 mod CastlingChange
 mod StaysSound

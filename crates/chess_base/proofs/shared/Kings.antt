@@ -13,7 +13,7 @@ use Rattle.chess_base.specs.Sound.{has_one_king, IsSound}
 use Rattle.chess_base.specs.Castling.{king_square}
 use Rattle.chess_base.specs.declared.man.Colour.TheVariants.{White, Black}
 use Rattle.chess_base.specs.declared.setup.Setup.{Setup}
-use Rattle.chess_base.proofs.Counts.{count_by-set}
+use Rattle.chess_base.proofs.CountedWrites.{count_by-set}
 use Rattle.chess_base.proofs.shared.Men.{in_board}
 
 -- where one piece passes, no two squares do
