@@ -1,6 +1,6 @@
 pub mod shared
 mod FewDigits
 mod Trims
-mod Parts
+mod LineParts
 mod LineEnds
 mod Reading

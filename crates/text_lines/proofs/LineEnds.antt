@@ -10,7 +10,7 @@ use lib.Count.{count_trailing_zeros}
 use lib.Lanes.{mask_l}
 use Rattle.text_lines.specs.Lines.{LineSeen, Held, line_of, lines_from, lines_held}
 use Rattle.text_lines.specs.ties.Kept.{line_len, SameLines, HeldLine}
-use Rattle.text_lines.proofs.Parts.{byte_step, ten_step, none_from, line_ended}
+use Rattle.text_lines.proofs.LineParts.{byte_step, ten_step, none_from, line_ended}
 
 -- ---- by blocks
 

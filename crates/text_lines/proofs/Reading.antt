@@ -1,7 +1,7 @@
 -- The reads of one call for the next line.
 use Rattle.std.proofs.Common.{◌≡◌, ℕ, ◌+◌, ◌-◌, ◌<◌, ◌≤◌, inl, inr, Bool, true, false, List, [], ◌∷◌, ◌++◌, length, take, Some, None, Ok, refl, sym, ap, ◌∙◌, arith, append_assoc, append-nil, length-append, nat_eq}
 use Rattle.std.proofs.Math.Seq.{take-append_seam}
-use Rattle.text_lines.proofs.Parts.{line_ended, ten_step, byte_step, none_from, last_left}
+use Rattle.text_lines.proofs.LineParts.{line_ended, ten_step, byte_step, none_from, last_left}
 use Rattle.text_lines.proofs.shared.Lines.{nothing_left}
 use Rattle.std.specs.Io.KnownBytes.{Consumes}
 use Rattle.std.specs.Bool.{MatchBool}

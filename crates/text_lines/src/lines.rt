@@ -149,7 +149,7 @@ impl<const N: usize> Part<N> {
 }
 
 // The first 64 bytes of a text, or all if it has no more.
-#[tactic(auto, using(crate::proofs::Parts::all_taken, crate::proofs::Parts::beginning_short))]
+#[tactic(auto, using(crate::proofs::LineParts::all_taken, crate::proofs::LineParts::beginning_short))]
 fn beginning(text: &[u8]) -> &[u8]
     ensures value { result.now ≡ take 64 text.now }
     ensures short { length result.now ≤ length text.now }

@@ -45,7 +45,7 @@ fn cut_end(text: &[u8]) -> &[u8]
 
 /// A line's text, of its bytes before `\n`: without one `\r` at the end, and then without spaces and tabs at both
 /// ends.
-#[tactic(auto, using(crate::proofs::Parts::trimmed_short), unfolding(crate::specs::Lines::trimmed))]
+#[tactic(auto, using(crate::proofs::LineParts::trimmed_short), unfolding(crate::specs::Lines::trimmed))]
 pub fn trim(piece: &[u8]) -> &[u8]
     ensures text { result.now ≡ trimmed piece.now }
     ensures short { length result.now ≤ length piece.now }

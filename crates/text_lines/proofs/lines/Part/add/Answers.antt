@@ -1,7 +1,7 @@
 -- Bytes past the last that is kept: whichever they are, the lines are the same (Parts.overflow_same).
 use Rattle.std.proofs.Common.{arith, ◌≡◌, ◌++◌, ◌∷◌, ◌-◌, ◌<◌, [], length, take, List, ℕ, ap, sym, subst, ◌∙◌}
 use Rattle.text_lines.specs.ties.Kept.{kept_part, SameLines}
-use Rattle.text_lines.proofs.Parts.{overflow_same}
+use Rattle.text_lines.proofs.LineParts.{overflow_same}
 use Rattle.text_lines.proofs.lines.Part.add.Goals as goal
 
 pub returns-then-bytes-room : goal.returns-then-bytes-room

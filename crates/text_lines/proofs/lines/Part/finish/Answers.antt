@@ -1,6 +1,6 @@
 use Rattle.std.proofs.Common.{take, ap, ◌∙◌}
 use Rattle.text_lines.specs.Lines.{trimmed}
-use Rattle.text_lines.proofs.Parts.{line_kept}
+use Rattle.text_lines.proofs.LineParts.{line_kept}
 use Rattle.text_lines.proofs.lines.Part.finish.Goals as goal
 
 pub returns-clause-line : goal.returns-clause-line

@@ -1,4 +1,4 @@
-use Rattle.text_lines.proofs.Parts.{long_has_bytes}
+use Rattle.text_lines.proofs.LineParts.{long_has_bytes}
 use Rattle.text_lines.proofs.lines.Part.is_empty.Goals as goal
 
 pub returns-then-self : goal.returns-then-self
