@@ -19,7 +19,7 @@ use Rattle.chess_text.specs.Moves.{is_castling_text, passes, shape, denotes_desc
 use Rattle.chess_text.specs.ties.Fitting.{is_form, parts_fit, promotes_so, has_form, fits_text}
 use Rattle.chess_text.specs.ties.Forms.{same_side}
 use Rattle.chess_text.proofs.AllMoves.{only-move}
-use Rattle.chess_text.proofs.Castlings.{IsCastling, names_side, castling_from_name}
+use Rattle.chess_text.proofs.CastlingTexts.{IsCastling, names_side, castling_from_name}
 use Rattle.chess_text.proofs.FormFacts.{has-read, denoted_castling as castling_denoted}
 use Rattle.chess_text.proofs.SameKinds.{same_kind-self, same_kind-true}
 use Rattle.chess_text.proofs.Shaped.{shape_is}

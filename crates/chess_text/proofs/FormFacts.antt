@@ -26,7 +26,7 @@ use Rattle.chess_text.proofs.AllMoves.{filter-both}
 use Rattle.chess_text.proofs.Legal.{legal_move, told_of, described_is}
 use Rattle.chess_text.proofs.Shaped.{no_form, shape_is}
 use Rattle.chess_text.proofs.Denotations.{denotes_is}
-use Rattle.chess_text.proofs.Castlings.{IsCastling, castling_from_name}
+use Rattle.chess_text.proofs.CastlingTexts.{IsCastling, castling_from_name}
 
 pub has-read : (test : Parts → Bool) (text : List ℕ) → has_parts test text ≡ passes test (parts_at (unmarked text))
 unfolding has_parts

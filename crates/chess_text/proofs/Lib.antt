@@ -5,7 +5,7 @@ mod Lists
 mod SameKinds
 mod Denotations
 mod Shaped
-mod Castlings
+mod CastlingTexts
 mod FormFacts
 mod Legal
 mod SanWritten
