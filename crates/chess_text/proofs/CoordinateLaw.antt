@@ -21,7 +21,7 @@ use Rattle.chess_text.specs.ties.Fitting.{has_equals, promotes_so, is_form, part
 use Rattle.chess_text.proofs.Alone.{read_alone, denoted_parts, shape_parts, denotes_move, move_is, written, promotes-self, promotes-same}
 use Rattle.chess_text.proofs.Legal.{IsMove, legal_move, told_of}
 use Rattle.chess_text.proofs.Solid.{bare_parts}
-use Rattle.chess_text.proofs.Told.{same_square}
+use Rattle.chess_text.proofs.WrittenStarts.{same_square}
 
 abbrev squares_named : Move → Parts
 squares_named m = record {

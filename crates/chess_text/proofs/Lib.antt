@@ -11,7 +11,7 @@ mod Legal
 mod SanWritten
 mod AllMoves
 mod Marks
-mod Told
+mod WrittenStarts
 mod Pawns
 mod PieceText
 mod Alone
