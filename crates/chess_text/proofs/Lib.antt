@@ -22,7 +22,7 @@ mod TextLetters
 mod PromotionLetters
 mod UsualForms
 mod TwoSquares
-mod Words
+mod WrittenBytes
 mod SanLaw
 mod ShownLaw
 mod Origins

@@ -43,7 +43,7 @@ use Rattle.chess_text.proofs.Legal.{MovesAs, IsMove, legal_move, told_of, descri
 use Rattle.chess_text.proofs.Pawns.{pawn_of, pawn_stands, advances_on_file, same_advance, advances_without, advances_straight, captures_ahead, same_ahead}
 use Rattle.chess_text.proofs.Solid.{bare_parts, bare_castling, bare_marked}
 use Rattle.chess_text.proofs.PieceText.{piece_written}
-use Rattle.chess_text.proofs.Words.{IsWord, Word, file_letter, man_letter, parts_bytes, castling_word, castling_bytes, marked_word}
+use Rattle.chess_text.proofs.WrittenBytes.{IsWord, Word, file_letter, man_letter, parts_bytes, castling_word, castling_bytes, marked_word}
 use Rattle.chess_text.proofs.WrittenStarts.{told_admits, told_apart}
 
 -- ---- castling
