@@ -27,7 +27,7 @@ mod SanLaw
 mod ShownLaw
 mod Origins
 mod DenotedStart
-mod Starts
+mod MovesFromStarts
 mod Rivals
 mod Promoting
 mod Shapes

@@ -27,7 +27,7 @@ use Rattle.chess_text.specs.ties.SanParts.{distinction, some_on_file, some_on_ra
 use Rattle.chess_text.proofs.SameKinds.{same_kind-self, same_kind-true}
 use Rattle.chess_text.proofs.AllMoves.{filter-both, none-kept, kept, alone-square}
 use Rattle.chess_text.proofs.Legal.{IsMove, legal_move, described_is}
-use Rattle.chess_text.proofs.Starts.{unpromoted, one_kept}
+use Rattle.chess_text.proofs.MovesFromStarts.{unpromoted, one_kept}
 
 -- ---- one rival
 

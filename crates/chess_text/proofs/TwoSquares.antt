@@ -25,7 +25,7 @@ use Rattle.chess_text.proofs.DenotedMoves.{denoted_ends}
 use Rattle.chess_text.proofs.DenotedStart.{denoted_as}
 use Rattle.chess_text.proofs.Legal.{legal_move, told_of}
 use Rattle.chess_text.proofs.Origins.{begins_there, fits_told}
-use Rattle.chess_text.proofs.Starts.{none_told, promotes_as}
+use Rattle.chess_text.proofs.MovesFromStarts.{none_told, promotes_as}
 
 -- ---- the parts
 

@@ -5,7 +5,7 @@ use Rattle.std.specs.List.{flat_map}
 use Rattle.chess_moves.specs.Sets.{members}
 use Rattle.chess_text.specs.Moves.{one_of}
 use Rattle.chess_text.specs.ties.Forms.{denoted_start}
-use Rattle.chess_text.proofs.Starts.{by_starts}
+use Rattle.chess_text.proofs.MovesFromStarts.{by_starts}
 use Rattle.chess_text.proofs.reading.denoted_by_kind.Goals as goal
 
 pub returns : goal.returns
