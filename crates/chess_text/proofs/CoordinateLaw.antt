@@ -18,7 +18,7 @@ use Rattle.chess_text.specs.Parts.{unmarked}
 use Rattle.chess_text.specs.ties.Fitting.{promotion_text, parts_text}
 use Rattle.chess_text.specs.Moves.{shape, reading}
 use Rattle.chess_text.specs.ties.Fitting.{has_equals, promotes_so, is_form, parts_fit, is_by_squares, is_by_letter, is_straight, is_by_file}
-use Rattle.chess_text.proofs.Alone.{read_alone, denoted_parts, shape_parts, denotes_move, move_is, written, promotes-self, promotes-same}
+use Rattle.chess_text.proofs.OneMoveFits.{read_alone, denoted_parts, shape_parts, denotes_move, move_is, written, promotes-self, promotes-same}
 use Rattle.chess_text.proofs.Legal.{IsMove, legal_move, told_of}
 use Rattle.chess_text.proofs.Solid.{bare_parts}
 use Rattle.chess_text.proofs.WrittenStarts.{same_square}

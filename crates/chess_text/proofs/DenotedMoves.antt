@@ -21,7 +21,7 @@ use Rattle.chess_text.specs.declared.parts.Parts.{Parts}
 use Rattle.chess_text.specs.Moves.{described, passes}
 use Rattle.chess_text.specs.ties.Fitting.{is_by_squares, is_by_letter, is_straight, is_by_file, parts_fit}
 use Rattle.chess_text.specs.ties.Forms.{same_side, form_fits, is_denoted, castling_end, end_square, denoted_with}
-use Rattle.chess_text.proofs.Alone.{castled}
+use Rattle.chess_text.proofs.OneMoveFits.{castled}
 use Rattle.chess_text.proofs.AllMoves.{filter-both, none-kept, kept, alone-square}
 use Rattle.chess_text.proofs.Legal.{described_by, castling_says, names_end, legal_move}
 

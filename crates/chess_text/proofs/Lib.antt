@@ -14,7 +14,7 @@ mod Marks
 mod WrittenStarts
 mod Pawns
 mod PieceText
-mod Alone
+mod OneMoveFits
 mod CoordinateLaw
 mod Solid
 mod SanAscii

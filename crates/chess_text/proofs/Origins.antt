@@ -27,7 +27,7 @@ use Rattle.chess_text.specs.declared.reading.Reading.TheVariants as reads
 use Rattle.chess_text.specs.Moves.{one_of, described, passes}
 use Rattle.chess_text.specs.ties.Fitting.{names, admits, is_by_squares, is_by_letter, is_straight, is_by_file, parts_fit}
 use Rattle.chess_text.specs.ties.Forms.{same_side, form_fits, is_denoted, end_square, denoted_with, with_move, with_moves, named_square, IsStart}
-use Rattle.chess_text.proofs.Alone.{castled}
+use Rattle.chess_text.proofs.OneMoveFits.{castled}
 use Rattle.chess_text.proofs.AllMoves.{none-kept}
 use Rattle.chess_text.proofs.Legal.{described_by, castling_says, legal_move, IsMove, told_of, described_is}
 use Rattle.chess_text.proofs.DenotedMoves.{denoted_ends, all_denoted}

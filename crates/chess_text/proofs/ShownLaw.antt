@@ -14,7 +14,7 @@ use Rattle.chess_text.specs.declared.reading.Reading.TheVariants as reads
 use Rattle.chess_text.specs.laws.Laws.{DenotesAlone}
 use Rattle.chess_text.specs.Moves.{shape, reading}
 use Rattle.chess_text.specs.San.{castling_text, shown_as, shown_move}
-use Rattle.chess_text.proofs.Alone.{read_alone}
+use Rattle.chess_text.proofs.OneMoveFits.{read_alone}
 use Rattle.chess_text.proofs.CoordinateLaw.{coordinate_alone, coordinate_shape}
 use Rattle.chess_text.proofs.Legal.{legal_move}
 use Rattle.chess_text.proofs.SanLaw.{Law, castling_law}

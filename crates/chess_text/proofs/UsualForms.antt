@@ -18,7 +18,7 @@ use Rattle.chess_text.specs.ties.Forms.{castling_named, form_of_parts, form_at, 
 use Rattle.chess_base.specs.Letters.{is_file_letter, is_rank_digit, square_with_letters}
 use Rattle.chess_text.specs.ties.Reader.{kind_from, lettered_kinds, end_at, parts_at}
 use Rattle.chess_text.specs.ties.Usual.{parts_to, lettered_to, four_at, usual_at, usual_kind}
-use Rattle.chess_text.proofs.Alone.{no_name}
+use Rattle.chess_text.proofs.OneMoveFits.{no_name}
 use Rattle.chess_text.proofs.Grammar.{found, lettered_is, denoted-end, parts-denoted}
 use Rattle.chess_text.proofs.Marks.{unmarked-marked}
 use Rattle.chess_text.proofs.Solid.{bare_parts}

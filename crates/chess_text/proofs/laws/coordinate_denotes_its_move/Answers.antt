@@ -1,5 +1,5 @@
 -- The text names start, end and promotion, so its parts fit one legal move alone (CoordinateLaw); a text that denotes
--- one alone is read as it (read_alone of Alone).
+-- one alone is read as it (read_alone of OneMoveFits).
 use Rattle.chess_text.proofs.CoordinateLaw.{coordinate_alone, coordinate_shape, coordinate_read}
 use Rattle.chess_text.proofs.laws.coordinate_denotes_its_move.Goals as goal
 
