@@ -24,7 +24,7 @@ use Rattle.chess_text.specs.ties.Fitting.{is_form, parts_fit, has_parts, has_for
 use Rattle.chess_text.specs.ties.Forms.{form_of_parts, form_at, form_of, same_side, form_fits, is_denoted}
 use Rattle.chess_text.proofs.AllMoves.{filter-both}
 use Rattle.chess_text.proofs.Legal.{legal_move, told_of, described_is}
-use Rattle.chess_text.proofs.Shaped.{no_form, shape_is}
+use Rattle.chess_text.proofs.ShapeByForm.{no_form, shape_is}
 use Rattle.chess_text.proofs.Denotations.{denotes_is}
 use Rattle.chess_text.proofs.CastlingTexts.{IsCastling, castling_from_name}
 

@@ -4,7 +4,7 @@ mod Grammar
 mod Lists
 mod SameKinds
 mod Denotations
-mod Shaped
+mod ShapeByForm
 mod CastlingTexts
 mod FormFacts
 mod Legal

@@ -22,7 +22,7 @@ use Rattle.chess_text.proofs.AllMoves.{only-move}
 use Rattle.chess_text.proofs.CastlingTexts.{IsCastling, names_side, castling_from_name}
 use Rattle.chess_text.proofs.FormFacts.{has-read, denoted_castling as castling_denoted}
 use Rattle.chess_text.proofs.SameKinds.{same_kind-self, same_kind-true}
-use Rattle.chess_text.proofs.Shaped.{shape_is}
+use Rattle.chess_text.proofs.ShapeByForm.{shape_is}
 use Rattle.chess_text.proofs.Denotations.{denotes_is}
 use Rattle.chess_text.proofs.Grammar.{denoted-parts, parts-denoted}
 use Rattle.chess_text.proofs.Legal.{IsMove, told_of, described_is}
