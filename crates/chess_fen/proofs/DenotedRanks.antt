@@ -12,7 +12,7 @@ use Rattle.chess_base.specs.declared.man.Colour.TheVariants.{White, Black}
 use Rattle.chess_base.specs.Letters.{letter, letter_by, man_with_letter, all_men}
 use Rattle.chess_fen.specs.Texts.{squares_of, rank_after, rank_of}
 use Rattle.chess_fen.specs.Denotation.{StandsFor, DenotesSquares, DenotesRank}
-use Rattle.chess_fen.proofs.Ranks.{squares-digit}
+use Rattle.chess_fen.proofs.RankBytes.{squares-digit}
 
 -- a piece's letter is read as the piece
 squares-letter_by : (colour : Colour) (kind : Kind)

@@ -1,7 +1,7 @@
 pub mod shared
 mod Lengths
 mod RanksText
-mod Ranks
+mod RankBytes
 mod Placing
 mod Splits
 mod FirstField

@@ -10,7 +10,7 @@ use Rattle.chess_base.specs.declared.man.Man.{Man}
 use Rattle.chess_base.specs.Letters.{man_with_letter}
 use Rattle.chess_fen.specs.Texts.{squares_of, rank_after, squares_by_ranks, placement_of}
 use Rattle.chess_fen.specs.ties.Runs.{at_lower, last_rank, placing, from_space, NoRankIsRead, RankIsPlaced, SlashIsRead, NoSlashIsRead, Ends, PlacementIsRead}
-use Rattle.chess_fen.proofs.Ranks.{no_man, all_none, placing_over}
+use Rattle.chess_fen.proofs.RankBytes.{no_man, all_none, placing_over}
 
 abbrev no_board : Option (List (Option Man))
 no_board = None

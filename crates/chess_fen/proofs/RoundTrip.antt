@@ -32,7 +32,7 @@ use Rattle.chess_base.specs.shared.Splits.{right_is_sound_at}
 use Rattle.std.proofs.lemmas.Bool.{and_parts, eqb-true}
 use Rattle.std.proofs.Math.Seq.{take-add}
 use Rattle.chess_fen.specs.Reading.{side_of, rights_of, setup_in}
-use Rattle.chess_fen.proofs.Ranks.{squares-digit}
+use Rattle.chess_fen.proofs.RankBytes.{squares-digit}
 use Rattle.chess_fen.proofs.DenotedRanks.{squares-letter}
 use Rattle.chess_fen.proofs.Lengths.{short_decimal}
 use Rattle.chess_fen.proofs.Joined.{From, From-append, From-weaker, From-join, slice_split-join, fields_of-join}

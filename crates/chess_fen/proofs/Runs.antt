@@ -10,7 +10,7 @@ use Rattle.chess_fen.specs.declared.letters.TheConstants.{RUNS}
 use Rattle.chess_base.specs.Letters.{letter, man_with_letter}
 use Rattle.chess_fen.specs.Texts.{squares_of}
 use Rattle.chess_fen.specs.ties.Runs.{squares_in}
-use Rattle.chess_fen.proofs.Ranks.{no_man, squares-digit}
+use Rattle.chess_fen.proofs.RankBytes.{no_man, squares-digit}
 use Rattle.chess_fen.proofs.DenotedRanks.{squares-letter}
 
 abbrev no_squares : Option (List (Option Man))

@@ -1,7 +1,7 @@
 -- The squares so far, followed by what the rest of the text stands for, give the board of the whole text (RowSoFar). A
 -- byte's run moves squares from the rest to those so far; more than eight squares are no rank (overfull).
 use Rattle.std.proofs.Common.{◌≡◌, ◌+◌, ◌<◌, arith}
-use Rattle.chess_fen.proofs.Ranks.{more, whole, overfull, cut_short}
+use Rattle.chess_fen.proofs.RankBytes.{more, whole, overfull, cut_short}
 use Rattle.chess_fen.proofs.rank.read_rank.Goals as goal
 
 pub returns-then-file-eq8-clause-read : goal.returns-then-file-eq8-clause-read

@@ -1,4 +1,4 @@
-use Rattle.chess_fen.proofs.Ranks.{RowSoFar}
+use Rattle.chess_fen.proofs.RankBytes.{RowSoFar}
 use Rattle.chess_fen.proofs.rank.read_rank.Given as goal
 
 abbrev pub invariant-loop-index : goal.invariant-loop-index
