@@ -1,6 +1,6 @@
 pub mod shared
 mod Lengths
-mod RanksText
+mod WrittenRanks
 mod RankBytes
 mod Placing
 mod Splits
