@@ -6,7 +6,7 @@ mod Placing
 mod Splits
 mod FirstField
 mod DenotedRanks
-mod Runs
+mod RunTable
 mod RookAmong
 mod DenotedRights
 mod RightsBack

@@ -1,5 +1,5 @@
 use Rattle.std.proofs.Common.{arith}
-use Rattle.chess_fen.proofs.Runs.{run_stands, run_some}
+use Rattle.chess_fen.proofs.RunTable.{run_stands, run_some}
 use Rattle.chess_fen.proofs.letters.run_of.Goals as goal
 
 pub returns-clause-squares : goal.returns-clause-squares
