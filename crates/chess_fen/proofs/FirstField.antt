@@ -10,7 +10,7 @@ use Rattle.chess_fen.specs.Reading.{setup_by}
 use Rattle.chess_fen.specs.Texts.{placement_of, fields_of}
 use Rattle.chess_fen.specs.ties.Fields.{setup_with}
 use Rattle.chess_fen.specs.ties.Runs.{PlacementIsRead, from_space}
-use Rattle.chess_fen.proofs.Splits.{no_fields, next_fields}
+use Rattle.chess_fen.proofs.CutFields.{no_fields, next_fields}
 
 -- a text without its first spaces
 abbrev skipped : List ℕ → List ℕ

@@ -3,7 +3,7 @@ mod Lengths
 mod WrittenRanks
 mod RankBytes
 mod Placing
-mod Splits
+mod CutFields
 mod FirstField
 mod DenotedRanks
 mod RunTable

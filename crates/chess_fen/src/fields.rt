@@ -21,7 +21,7 @@ fn first_space(text: &[u8]) -> Option<usize>
 }
 
 // The text from its first byte that is no space on.
-#[tactic(auto, using(crate::proofs::Splits::place_or_len, crate::proofs::Splits::place_le))]
+#[tactic(auto, using(crate::proofs::CutFields::place_or_len, crate::proofs::CutFields::place_le))]
 pub(crate) fn skip_spaces(text: &[u8]) -> &[u8]
     ensures { result.now ≡ drop (position_or_len (λ b. not (b == space)) text.now) text.now }
 {
@@ -31,7 +31,7 @@ pub(crate) fn skip_spaces(text: &[u8]) -> &[u8]
 
 // Splits a text before its first space: what is before it, and what begins with it. Without a space the second part is
 // empty.
-#[tactic(auto, using(crate::proofs::Splits::place_or_len, crate::proofs::Splits::place_le))]
+#[tactic(auto, using(crate::proofs::CutFields::place_or_len, crate::proofs::CutFields::place_le))]
 fn split_before_space(text: &[u8]) -> (&[u8], &[u8])
     ensures front { result.0.now ≡ before_first (λ b. b == space) text.now }
     ensures back { result.1.now ≡ drop (position_or_len (λ b. b == space) text.now) text.now }

@@ -1,7 +1,7 @@
 -- Spaces before a field don't count; after them the field goes up to the next space, if anything is left (Splits).
 use Rattle.std.proofs.Common.{arith, ◌<◌, ◌≡◌, length}
 use Rattle.std.proofs.lemmas.Bool.Decides.{nat_tests}
-use Rattle.chess_fen.proofs.Splits.{next_fields, no_fields}
+use Rattle.chess_fen.proofs.CutFields.{next_fields, no_fields}
 use Rattle.chess_fen.proofs.fields.next_field.Goals as goal
 
 pub returns-then-is_empty-clause-none : goal.returns-then-is_empty-clause-none

@@ -5,7 +5,7 @@ use Rattle.std.specs.List.{before_first}
 use Rattle.chess_fen.specs.Reading.{setup_in}
 use Rattle.chess_fen.specs.Texts.{fields_of}
 use Rattle.chess_fen.proofs.FirstField.{first_is_menless, fields-read, setup-with}
-use Rattle.chess_fen.proofs.Splits.{fields_of-skip}
+use Rattle.chess_fen.proofs.CutFields.{fields_of-skip}
 use Rattle.chess_fen.proofs.reading.read_setup.Goals as goal
 
 pub no_pieces_fault-requires : goal.no_pieces_fault-requires
