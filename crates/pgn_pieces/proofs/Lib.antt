@@ -4,7 +4,7 @@ mod InPlace
 mod Kept
 mod LineEnds
 mod LineKinds
-mod Runs
+mod PlainLengths
 mod Seens
 mod Shards
 mod Steps

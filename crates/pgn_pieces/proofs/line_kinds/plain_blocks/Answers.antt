@@ -1,5 +1,5 @@
 use Rattle.std.proofs.Common.{◌≡◌, ◌∙◌, arith}
-use Rattle.pgn_pieces.proofs.Runs.{skipped}
+use Rattle.pgn_pieces.proofs.PlainLengths.{skipped}
 use Rattle.pgn_pieces.proofs.line_kinds.plain_blocks.Goals as goal
 
 pub loop-offset-preserved : goal.loop-offset-preserved

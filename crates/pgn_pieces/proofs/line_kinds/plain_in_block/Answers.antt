@@ -1,6 +1,6 @@
 use Rattle.std.proofs.Common.{eqb, take, drop, w8, arith}
 use Rattle.std.proofs.lemmas.Simd.{length-chunk, bitmask_splat}
-use Rattle.pgn_pieces.proofs.Runs.{by_mask}
+use Rattle.pgn_pieces.proofs.PlainLengths.{by_mask}
 use Rattle.pgn_pieces.proofs.line_kinds.plain_in_block.Goals as goal
 
 pub returns-clause-count : goal.returns-clause-count

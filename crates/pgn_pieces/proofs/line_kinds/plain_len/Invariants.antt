@@ -1,5 +1,5 @@
 use Rattle.std.proofs.Common.{◌≡◌, ◌≤◌, ◌+◌, ◌-◌, length, drop}
-use Rattle.pgn_pieces.proofs.Runs.{plain_len}
+use Rattle.pgn_pieces.proofs.PlainLengths.{plain_len}
 use Rattle.pgn_pieces.proofs.line_kinds.plain_len.Given as goal
 
 -- so far there is no byte 10

@@ -2,7 +2,7 @@
 use Rattle.std.proofs.Common.{◌+◌, drop, sym, subst, ◌∙◌, arith}
 use Rattle.std.proofs.lemmas.List.{length-take-le, take-append-drop}
 use Rattle.pgn_pieces.specs.ties.Held.{Ends}
-use Rattle.pgn_pieces.proofs.Runs.{none_in, line_of}
+use Rattle.pgn_pieces.proofs.PlainLengths.{none_in, line_of}
 use Rattle.pgn_pieces.proofs.piece_end.Seen.step.Goals as goal
 
 pub see_open-requires : goal.see_open-requires
