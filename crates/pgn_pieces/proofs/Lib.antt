@@ -5,7 +5,7 @@ mod Kept
 mod LineEnds
 mod LineKinds
 mod PlainLengths
-mod Seens
+mod SeenLines
 mod Shards
 mod Steps
 mod Views

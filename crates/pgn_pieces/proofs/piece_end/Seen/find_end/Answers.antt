@@ -1,6 +1,6 @@
 -- Each way on is a lemma of proofs/Seens.
 use Rattle.std.proofs.Common.{arith}
-use Rattle.pgn_pieces.proofs.Seens.{look_on, look_ends, look_waits, look_all}
+use Rattle.pgn_pieces.proofs.SeenLines.{look_on, look_ends, look_waits, look_all}
 use Rattle.pgn_pieces.proofs.piece_end.Seen.find_end.Goals as goal
 
 pub loop-offset-preserved : goal.loop-offset-preserved

@@ -3,7 +3,7 @@ use Rattle.std.proofs.Common.{refl, sym, ◌∙◌, arith}
 use Rattle.std.proofs.lemmas.Bool.{not-true, not-false}
 use Rattle.pgn_pieces.specs.ties.Held.{Told}
 use Rattle.pgn_pieces.proofs.LineKinds.{told_long, told_tag}
-use Rattle.pgn_pieces.proofs.Seens.{open_inside, open_ends, open_waits, open_comes}
+use Rattle.pgn_pieces.proofs.SeenLines.{open_inside, open_ends, open_waits, open_comes}
 use Rattle.pgn_pieces.proofs.piece_end.Seen.see_open.Goals as goal
 use Rattle.pgn_pieces.proofs.piece_end.Seen.see_open.Goals.{else-not-kind-via-then-not-kind+else-line-lt-FRONT_LEN, else-not-kind-via-else-not-kind}
 

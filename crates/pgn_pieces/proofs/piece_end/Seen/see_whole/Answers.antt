@@ -1,6 +1,6 @@
 -- Each way out is a lemma of proofs/Seens.
 use Rattle.std.proofs.Common.{refl, sym, ◌∙◌}
-use Rattle.pgn_pieces.proofs.Seens.{whole_inside, whole_ends, whole_comes}
+use Rattle.pgn_pieces.proofs.SeenLines.{whole_inside, whole_ends, whole_comes}
 use Rattle.pgn_pieces.proofs.piece_end.Seen.see_whole.Goals as goal
 
 pub returns-then-self : goal.returns-then-self
