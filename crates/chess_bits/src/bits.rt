@@ -81,11 +81,11 @@ impl<'t> Bits<'t> {
 }
 
 impl Board for Bits<'_> {
-    ghost use Rattle.chess_moves.specs.PositionHash.{position_word};
+    ghost use Rattle.chess_moves.specs.PositionHash.{position_hash};
 
     ghost position = { λ b. b };
 
-    ghost word_of = { position_word };
+    ghost word_of = { position_hash };
 
     // Sets the board to the position `to`.
     fn set(&mut self, to: &Position) {

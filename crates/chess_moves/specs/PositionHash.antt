@@ -105,5 +105,5 @@ abbrev pub xor_of : List ℕ → ℕ
 xor_of ns = fold bit_xor 0 ns
 
 -- the Zobrist hash of a position: the exclusive or of the keys of its pieces, side on move and castling rights
-unfoldable pub position_word : Men → Colour → Rights → ℕ
-position_word men side rights = xor_of (men_keys men ++ side_keys side ++ rights_keys rights)
+unfoldable pub position_hash : Men → Colour → Rights → ℕ
+position_hash men side rights = xor_of (men_keys men ++ side_keys side ++ rights_keys rights)

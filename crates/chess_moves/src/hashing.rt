@@ -1,7 +1,7 @@
 //! The position hash: the keys of pieces, side on move and castling rights, joined by exclusive or.
 
 ghost use Rattle.std.specs.Prelude.{◌≡◌, ◌<◌};
-ghost use Rattle.chess_moves.specs.PositionHash.{key, colour_index, kind_index, man_key, square_keys, men_keys, side_keys, right_keys, rights_keys, xor_of, position_word};
+ghost use Rattle.chess_moves.specs.PositionHash.{key, colour_index, kind_index, man_key, square_keys, men_keys, side_keys, right_keys, rights_keys, xor_of, position_hash};
 
 use chess_base::{Colour, Kind, Man, Rights, Setup, Square};
 
@@ -131,14 +131,14 @@ fn rights_word<K: Keys>(keys: &K, rights: &Rights) -> u64
 /// The Zobrist hash of a position, from `of_men`, the exclusive or of its pieces' keys, which the caller knows already.
 pub fn word_with<K: Keys>(keys: &K, of_men: u64, setup: &Setup) -> u64
     requires { of_men ≡ xor_of (men_keys setup.now.men) }
-    ensures { result ≡ position_word setup.now.men setup.now.side setup.now.rights }
+    ensures { result ≡ position_hash setup.now.men setup.now.side setup.now.rights }
 {
     of_men ^ side_word(keys, setup.side) ^ rights_word(keys, &setup.rights)
 }
 
 /// The position hash of a setup, computed anew: a Zobrist hash of pieces, side on move and castling rights.
-pub fn position_word(setup: &Setup) -> u64
-    ensures { result ≡ position_word setup.now.men setup.now.side setup.now.rights }
+pub fn position_hash(setup: &Setup) -> u64
+    ensures { result ≡ position_hash setup.now.men setup.now.side setup.now.rights }
 {
     word_with(&ComputedKeys, men_word(&setup.men), setup)
 }

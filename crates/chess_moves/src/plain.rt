@@ -12,7 +12,7 @@ use crate::board::{Board, MoveList};
 use crate::listing::{has_legal_move, legal_moves};
 use crate::moving::{move_back, move_on};
 use crate::set::SquareSet;
-use crate::hashing::position_word;
+use crate::hashing::position_hash;
 use chess_base::rules::{is_in_check, is_legal, is_man, saved_of};
 use chess_base::{Colour, Kind, Man, Move, Position, Saved, Setup, Square};
 use std::marker::Model;
@@ -94,11 +94,11 @@ impl Plain {
 }
 
 impl Board for Plain {
-    ghost use Rattle.chess_moves.specs.PositionHash.{position_word};
+    ghost use Rattle.chess_moves.specs.PositionHash.{position_hash};
 
     ghost position = { λ b. b };
 
-    ghost word_of = { position_word };
+    ghost word_of = { position_hash };
 
     // Sets the board to the position `to`.
     fn set(&mut self, to: &Position) {
@@ -159,7 +159,7 @@ impl Board for Plain {
 
     // The position's Zobrist hash, computed from all its pieces at each call.
     fn word(&self) -> u64 {
-        position_word(&self.setup)
+        position_hash(&self.setup)
     }
 
     // Makes a legal move, and returns what `take_back` needs to take it back.

@@ -10,7 +10,7 @@ use Rattle.chess_base.specs.declared.man.Man.{Man}
 use Rattle.chess_base.specs.declared.man.Rights.{Rights}
 use Rattle.chess_base.specs.Men.{Men, man_at}
 use Rattle.chess_base.specs.MoveList.{squares}
-use Rattle.chess_moves.specs.PositionHash.{man_key, square_keys, keys_on, men_keys, side_keys, right_keys, rights_keys, xor_of, position_word}
+use Rattle.chess_moves.specs.PositionHash.{man_key, square_keys, keys_on, men_keys, side_keys, right_keys, rights_keys, xor_of, position_hash}
 use Rattle.chess_moves.proofs.Gathered.{numbers, gathered-more}
 use Rattle.chess_moves.proofs.shared.Members.{by_range}
 
@@ -41,9 +41,9 @@ rights_apart r =
     ∙ ap (λ x. bit_xor x (xor_of d)) (xor_append (a ++ b) c ∙ ap (λ x. bit_xor x (xor_of c)) (xor_append a b))
 
 pub word_apart : (men : Men) (side : Colour) (rights : Rights)
-    → position_word men side rights
+    → position_hash men side rights
     ≡ bit_xor (bit_xor (xor_of (men_keys men)) (xor_of (side_keys side))) (xor_of (rights_keys rights))
-unfolding position_word
+unfolding position_hash
 word_apart men side rights =
     let a = men_keys men in
     let b = side_keys side in
