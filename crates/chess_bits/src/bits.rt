@@ -13,7 +13,7 @@ use crate::sets::Sets;
 use crate::tables::AttackTables;
 use crate::targets::{is_king, is_pawn};
 use chess_base::{Colour, Kind, Move, Position, Saved, Setup, Square};
-use chess_moves::{Board, MoveList, SquareSet, word_with};
+use chess_moves::{Board, MoveList, SquareSet, hash_with};
 use std::marker::Model;
 
 /// A board that keeps, along with the piece of each square, bitboards: sets of the squares of the pieces by colour and
@@ -166,7 +166,7 @@ impl Board for Bits<'_> {
     // The position's Zobrist hash; that of the pieces is kept up to date by each move.
     #[inline(always)]
     fn word(&self) -> u64 {
-        word_with(self.tables.keys(), self.sets.men_word, &self.setup)
+        hash_with(self.tables.keys(), self.sets.men_word, &self.setup)
     }
 
     // Makes a legal move, and returns what `take_back` needs to take it back.

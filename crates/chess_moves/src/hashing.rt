@@ -129,7 +129,7 @@ fn rights_word<K: Keys>(keys: &K, rights: &Rights) -> u64
 }
 
 /// The Zobrist hash of a position, from `of_men`, the exclusive or of its pieces' keys, which the caller knows already.
-pub fn word_with<K: Keys>(keys: &K, of_men: u64, setup: &Setup) -> u64
+pub fn hash_with<K: Keys>(keys: &K, of_men: u64, setup: &Setup) -> u64
     requires { of_men ≡ xor_of (men_keys setup.now.men) }
     ensures { result ≡ position_hash setup.now.men setup.now.side setup.now.rights }
 {
@@ -140,5 +140,5 @@ pub fn word_with<K: Keys>(keys: &K, of_men: u64, setup: &Setup) -> u64
 pub fn position_hash(setup: &Setup) -> u64
     ensures { result ≡ position_hash setup.now.men setup.now.side setup.now.rights }
 {
-    word_with(&ComputedKeys, men_word(&setup.men), setup)
+    hash_with(&ComputedKeys, men_word(&setup.men), setup)
 }

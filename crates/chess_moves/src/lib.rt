@@ -33,4 +33,4 @@ pub use listing::would_promote;
 pub use plain::Plain;
 pub use set::SquareSet;
 pub use squares::Squares;
-pub use hashing::{ComputedKeys, Keys, man_key, position_hash, word_with};
+pub use hashing::{ComputedKeys, Keys, man_key, position_hash, hash_with};

@@ -1,7 +1,7 @@
 -- The hash of all keys is that of the pieces', the side's and the rights', joined (word_apart of PositionHash).
 use Rattle.std.proofs.Common.{sym}
 use Rattle.chess_moves.proofs.shared.PositionHash.{word_apart}
-use Rattle.chess_moves.proofs.hashing.word_with.Goals as goal
+use Rattle.chess_moves.proofs.hashing.hash_with.Goals as goal
 
 pub returns : goal.returns
 returns g c =
