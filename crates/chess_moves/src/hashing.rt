@@ -75,7 +75,7 @@ pub fn man_key<K: Keys>(keys: &K, man: Man, square: Square) -> u64
 }
 
 // The part of the Zobrist hash of what is on a square: the key of the piece there, or 0 if it is empty.
-fn square_word(square: Square, man: Option<Man>) -> u64
+fn square_hash(square: Square, man: Option<Man>) -> u64
     ensures { result ≡ xor_of (square_keys square man) }
 {
     match man {
@@ -91,7 +91,7 @@ fn men_word(men: &[Option<Man>; 64]) -> u64
     let mut word = 0;
     for number in 0..64 {
         let square = Square::new(number);
-        word ^= square_word(square, men[square.index()]);
+        word ^= square_hash(square, men[square.index()]);
     }
     word
 }
