@@ -85,7 +85,7 @@ fn square_hash(square: Square, man: Option<Man>) -> u64
 }
 
 // The part of the Zobrist hash of the pieces: the exclusive or of the keys of all pieces on their squares.
-fn men_word(men: &[Option<Man>; 64]) -> u64
+fn men_hash(men: &[Option<Man>; 64]) -> u64
     ensures { result ≡ xor_of (men_keys men.now) }
 {
     let mut word = 0;
@@ -140,5 +140,5 @@ pub fn hash_with<K: Keys>(keys: &K, of_men: u64, setup: &Setup) -> u64
 pub fn position_hash(setup: &Setup) -> u64
     ensures { result ≡ position_hash setup.now.men setup.now.side setup.now.rights }
 {
-    hash_with(&ComputedKeys, men_word(&setup.men), setup)
+    hash_with(&ComputedKeys, men_hash(&setup.men), setup)
 }

@@ -2,7 +2,7 @@ use Rattle.std.proofs.Common.{◌≡◌}
 use Rattle.std.specs.List.{flat_map}
 use Rattle.chess_moves.specs.PositionHash.{keys_on, xor_of}
 use Rattle.chess_moves.proofs.Gathered.{numbers}
-use Rattle.chess_moves.proofs.hashing.men_word.Given as goal
+use Rattle.chess_moves.proofs.hashing.men_hash.Given as goal
 
 abbrev pub invariant-loop-number : goal.invariant-loop-number
 invariant-loop-number l = l.word ≡ xor_of (flat_map (keys_on l.men) (numbers l.number))

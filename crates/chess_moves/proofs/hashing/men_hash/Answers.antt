@@ -3,7 +3,7 @@ use Rattle.std.proofs.Common.{◌≡◌, ℕ, ◌∙◌, ap, arith}
 use Rattle.chess_base.specs.Men.{man_at}
 use Rattle.chess_moves.specs.PositionHash.{square_keys, keys_on, xor_of}
 use Rattle.chess_moves.proofs.shared.PositionHash.{xor_turn, xor_end}
-use Rattle.chess_moves.proofs.hashing.men_word.Goals as goal
+use Rattle.chess_moves.proofs.hashing.men_hash.Goals as goal
 
 pub loop-number-preserved : goal.loop-number-preserved
 loop-number-preserved c =
