@@ -97,7 +97,7 @@ fn men_hash(men: &[Option<Man>; 64]) -> u64
 }
 
 // The part of the Zobrist hash of the side on move: 0 for White, a key for Black.
-fn side_word<K: Keys>(keys: &K, side: Colour) -> u64
+fn side_hash<K: Keys>(keys: &K, side: Colour) -> u64
     ensures { result ≡ xor_of (side_keys side) }
 {
     match side {
@@ -133,7 +133,7 @@ pub fn hash_with<K: Keys>(keys: &K, of_men: u64, setup: &Setup) -> u64
     requires { of_men ≡ xor_of (men_keys setup.now.men) }
     ensures { result ≡ position_hash setup.now.men setup.now.side setup.now.rights }
 {
-    of_men ^ side_word(keys, setup.side) ^ rights_word(keys, &setup.rights)
+    of_men ^ side_hash(keys, setup.side) ^ rights_word(keys, &setup.rights)
 }
 
 /// The position hash of a setup, computed anew: a Zobrist hash of pieces, side on move and castling rights.
