@@ -108,7 +108,7 @@ fn side_hash<K: Keys>(keys: &K, side: Colour) -> u64
 
 // The part of the Zobrist hash of one castling right of this colour, given as its rook's square: 0 if there is no
 // right.
-fn right_word<K: Keys>(keys: &K, colour: Colour, rook: Option<Square>) -> u64
+fn right_hash<K: Keys>(keys: &K, colour: Colour, rook: Option<Square>) -> u64
     ensures { result ≡ xor_of (right_keys colour rook) }
 {
     match rook {
@@ -121,10 +121,10 @@ fn right_word<K: Keys>(keys: &K, colour: Colour, rook: Option<Square>) -> u64
 fn rights_word<K: Keys>(keys: &K, rights: &Rights) -> u64
     ensures { result ≡ xor_of (rights_keys rights.now) }
 {
-    let white_king_side = right_word(keys, Colour::White, rights.white.king_side);
-    let white_queen_side = right_word(keys, Colour::White, rights.white.queen_side);
-    let black_king_side = right_word(keys, Colour::Black, rights.black.king_side);
-    let black_queen_side = right_word(keys, Colour::Black, rights.black.queen_side);
+    let white_king_side = right_hash(keys, Colour::White, rights.white.king_side);
+    let white_queen_side = right_hash(keys, Colour::White, rights.white.queen_side);
+    let black_king_side = right_hash(keys, Colour::Black, rights.black.king_side);
+    let black_queen_side = right_hash(keys, Colour::Black, rights.black.queen_side);
     white_king_side ^ white_queen_side ^ black_king_side ^ black_queen_side
 }
 

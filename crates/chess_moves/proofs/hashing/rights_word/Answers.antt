@@ -6,8 +6,8 @@ use Rattle.chess_moves.proofs.hashing.rights_word.Goals as goal
 pub returns : goal.returns
 returns g c =
     rw (
-      c.right_word-white_king_side.ensures,
-      c.right_word-white_queen_side.ensures,
-      c.right_word-black_king_side.ensures,
-      c.right_word-black_queen_side.ensures,
+      c.right_hash-white_king_side.ensures,
+      c.right_hash-white_queen_side.ensures,
+      c.right_hash-black_king_side.ensures,
+      c.right_hash-black_queen_side.ensures,
     ) (sym (rights_apart c.args.rights.now))
