@@ -118,7 +118,7 @@ fn right_hash<K: Keys>(keys: &K, colour: Colour, rook: Option<Square>) -> u64
 }
 
 // The part of the Zobrist hash of the castling rights: the exclusive or of the keys of those that are there.
-fn rights_word<K: Keys>(keys: &K, rights: &Rights) -> u64
+fn rights_hash<K: Keys>(keys: &K, rights: &Rights) -> u64
     ensures { result ≡ xor_of (rights_keys rights.now) }
 {
     let white_king_side = right_hash(keys, Colour::White, rights.white.king_side);
@@ -133,7 +133,7 @@ pub fn hash_with<K: Keys>(keys: &K, of_men: u64, setup: &Setup) -> u64
     requires { of_men ≡ xor_of (men_keys setup.now.men) }
     ensures { result ≡ position_hash setup.now.men setup.now.side setup.now.rights }
 {
-    of_men ^ side_hash(keys, setup.side) ^ rights_word(keys, &setup.rights)
+    of_men ^ side_hash(keys, setup.side) ^ rights_hash(keys, &setup.rights)
 }
 
 /// The position hash of a setup, computed anew: a Zobrist hash of pieces, side on move and castling rights.

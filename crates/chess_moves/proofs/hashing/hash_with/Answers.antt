@@ -6,4 +6,4 @@ use Rattle.chess_moves.proofs.hashing.hash_with.Goals as goal
 pub returns : goal.returns
 returns g c =
     let p = c.args.setup.now in
-    rw (c.requires, c.side_hash.ensures, c.rights_word.ensures) (sym (word_apart p.men p.side p.rights))
+    rw (c.requires, c.side_hash.ensures, c.rights_hash.ensures) (sym (word_apart p.men p.side p.rights))

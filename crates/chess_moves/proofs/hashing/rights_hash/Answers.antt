@@ -1,7 +1,7 @@
 -- The hash of all rights is that of each, joined (rights_apart of PositionHash).
 use Rattle.std.proofs.Common.{sym}
 use Rattle.chess_moves.proofs.shared.PositionHash.{rights_apart}
-use Rattle.chess_moves.proofs.hashing.rights_word.Goals as goal
+use Rattle.chess_moves.proofs.hashing.rights_hash.Goals as goal
 
 pub returns : goal.returns
 returns g c =
