@@ -11,7 +11,7 @@ use Rattle.chess_match.specs.Run.{Flushed, Written, ClockReadings}
 use Rattle.chess_match.specs.Sent.{SentLine, block, lines_on_entering, bytes_of}
 use Rattle.chess_match.specs.ties.Reported.{SendsIf}
 use Rattle.chess_match.specs.Transcript.{match_of, fits_from, fits_next, fits, is_dropped, is_fault, block_at, blocks_from, blocks, joined_blocks, line_in, lines_of_engine, moment_in, moments_of, has_fault}
-use Rattle.chess_match.proofs.shared.Flushes.{flushed_more, failed_behind}
+use Rattle.chess_match.proofs.shared.Flushes.{flushed_more, failed_after}
 use Rattle.chess_match.proofs.Sends.{bytes_of-append}
 use Rattle.chess_match.specs.ties.Steps.{match_from}
 use Rattle.chess_match.specs.declared.reason.MatchFault.{MatchFault}
@@ -206,7 +206,7 @@ pub written_more : (f : Bool) (w v v' : OutputState) (bs : List (List SentLine))
     → Flushed w v (bytes_of (joined_blocks bs)) → SendsIf f v v' (bytes_of b) → Written f w v' (bs ++ b ∷ [])
 written_more false w v v' bs b t p = sent_more w v v' bs b t p
 written_more true w v v' bs b t (begun, begins, fails) =
-    (bs, b, begun, refl, begins, failed_behind w v v' _ begun t fails)
+    (bs, b, begun, refl, begins, failed_after w v v' _ begun t fails)
 
 pub all_sent : (f : Bool) (w v : OutputState) (bs : List (List SentLine)) → f ≡ false → Written f w v bs
     → Flushed w v (bytes_of (joined_blocks bs))

@@ -23,7 +23,7 @@ use Rattle.chess_match.specs.Run.{Flushed, Ports, MatchRan}
 use Rattle.chess_match.specs.declared.reason.MatchFault.{MatchFault}
 use Rattle.chess_match.specs.declared.reason.Reason.TheVariants.{Faulted}
 use Rattle.chess_match.specs.declared.run.MatchEnd.{MatchEnd}
-use Rattle.chess_match.proofs.shared.Flushes.{flushed_none, failed_behind}
+use Rattle.chess_match.proofs.shared.Flushes.{flushed_none, failed_after}
 use Rattle.match_runner.specs.Games.{EndsGames, GameRecord, IsOfPlan, LogsGames, RanGames, SoundGames, count_of, first_side, game_logs, game_text, game_texts, match_text, score_line, score_of}
 use Rattle.match_runner.specs.ties.Playing.{HasPlayed, LogsGame, PlayedGame, RanAndLogged, logged_side, no_score, plus, score_after}
 use Rattle.match_runner.specs.Log.{LogSeen, Logged, RanNoted, log_text}
@@ -238,7 +238,7 @@ module _ (plan : GamesPlan) (w w' w'' : OutputState) (l l' l'' : LogSeen) (numbe
         omega (arith, n, le),
         of,
         subst (λ k. Begins begun (game_text plan k next)) m begins,
-        failed_behind w w' w'' (game_texts plan games) begun s.written failed,
+        failed_after w w' w'' (game_texts plan games) begun s.written failed,
         logged_on next log,
       )
   broke NoMemory le (is, same, log) =
@@ -307,6 +307,6 @@ module _ (plan : GamesPlan) (w w' w'' : OutputState) (l l' : LogSeen) (played : 
     begun,
     h.1,
     subst (λ v. Begins begun (score_line v)) h.2 begins,
-    failed_behind w w' w'' (game_texts plan h.0) begun h.3 failed,
+    failed_after w w' w'' (game_texts plan h.0) begun h.3 failed,
     h.4,
   )

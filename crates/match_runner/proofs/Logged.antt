@@ -18,7 +18,7 @@ use Rattle.chess_match.specs.Notes.{Note, Happened, WasNoted, notes_of}
 use Rattle.chess_match.specs.Rules.{rules_of}
 use Rattle.chess_match.specs.Run.{Flushed, FlushedThenFailed, Ports, RanBefore}
 use Rattle.chess_match.specs.declared.run.MatchEnd.{MatchEnd}
-use Rattle.chess_match.proofs.shared.Flushes.{flushed_none, flushed_more, failed_behind}
+use Rattle.chess_match.proofs.shared.Flushes.{flushed_none, flushed_more, failed_after}
 use Rattle.match_runner.specs.Log.{LogSeen, Logged, Logs, RanLogged, after_note, ends_line, given_text, log_from, log_text, note_text, shown}
 use Rattle.match_runner.specs.ties.Logging.{Adds, IsLog, after_notes, first_of_text, log_of_text, log_start, received_text, text_of_log}
 use Rattle.match_runner.specs.declared.log.LogState.{LogState}
@@ -41,7 +41,7 @@ logs_sent o o' (Ok v) failed text s is =
     subst (λ (b : Bool). Logs false b o o' [] text) (sym is) (text, flushed_sent o o' text s, append-nil text)
 logs_sent o o' (Err e) failed text (start, begins, took) is =
     subst (λ (b : Bool). Logs false b o o' [] text) (sym is)
-    ([], start, begins, failed_behind o o o' [] start (flushed_none o) took)
+    ([], start, begins, failed_after o o o' [] start (flushed_none o) took)
 
 failed_more : (a b c : OutputState) (x y start : List ℕ) → Flushed a b x → FlushedThenFailed b c y start
     → FlushedThenFailed a c (x ++ y) start

@@ -14,9 +14,9 @@ flushed_more a b c x y h k = record {
   unflushed = λ e. k.unflushed (h.unflushed e);
 }
 
-pub failed_behind : (a b c : OutputState) (x start : List ℕ) → Flushed a b x → TookThenFailed b c start
+pub failed_after : (a b c : OutputState) (x start : List ℕ) → Flushed a b x → TookThenFailed b c start
     → FlushedThenFailed a c x start
-failed_behind a b c x start h k = record {
+failed_after a b c x start h k = record {
   bytes = appends_more a.known_bytes b.known_bytes c.known_bytes x start h.bytes k.bytes;
   failures = k.failures ∙ ap risen h.failures;
   unflushed = λ e. k.unflushed ∙ ap (λ (n : ℕ). raised n start) (h.unflushed e);
