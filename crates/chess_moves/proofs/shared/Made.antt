@@ -24,9 +24,9 @@ WasMade-back p m s q h = rw (h.left, h.saved) (before-after p m h.sound h.legal)
 pub IsMade-sound : (q : Setup) (m : Move) (s : Saved) → IsMade q m s → IsSound (before q m s)
 IsMade-sound q m s h = rw (WasMade-back h.0 m s q h.1) h.1.sound
 
-behind_in_board : (c : Colour) (t : ℕ) → rank t ≡ crossed_rank (other c) → one_rank_back c t < 64
-behind_in_board White t e = omega arith
-behind_in_board Black t e = omega arith
+one_rank_back_in_board : (c : Colour) (t : ℕ) → rank t ≡ crossed_rank (other c) → one_rank_back c t < 64
+one_rank_back_in_board White t e = omega arith
+one_rank_back_in_board Black t e = omega arith
 
 -- a pawn taken en passant was on the board
 pub captured_in_board : (q : Setup) (m : Move) (s : Saved) → IsMade q m s → IsTrue (is_square s.target m.to)
@@ -36,7 +36,7 @@ captured_in_board q m s h at =
     let p = h.0 in
     let at' = rw h.1.saved at at in
     let there = at_target p m.to h.1.sound.target at' in
-    rw (h.1.left, other-other) (behind_in_board p.side m.to there.0)
+    rw (h.1.left, other-other) (one_rank_back_in_board p.side m.to there.0)
 
 pub IsMade-board : (q : Setup) (m : Move) (s : Saved) → IsMade q m s → length q.men ≡ 64
 IsMade-board q m s h = (WasMade-sound h.0 m s q h.1).board
