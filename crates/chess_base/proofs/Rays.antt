@@ -131,11 +131,11 @@ hidden_strikes men c b k x h e piece =
 -- ---- of the squares that pass a test, only the first piece counts
 
 -- square k is empty, or it is x, or x stands between it and b
-abbrev IsBehind : Men → ℕ → ℕ → ℕ → Type 0
-IsBehind men b x k = (is_none (man_at men k) ≡ true) ⊎ ((k ≡ x) ⊎ (is_between k b x ≡ true))
+abbrev IsHidden : Men → ℕ → ℕ → ℕ → Type 0
+IsHidden men b x k = (is_none (man_at men k) ≡ true) ⊎ ((k ≡ x) ⊎ (is_between k b x ≡ true))
 
 all_behind : (p : ℕ → Bool) (men : Men) (c : Colour) (b x k : ℕ) → x < 64 → is_none (man_at men x) ≡ false
-    → strikes men c b x ≡ false → IsBehind men b x k → strikes men c b k ≡ false
+    → strikes men c b x ≡ false → IsHidden men b x k → strikes men c b k ≡ false
 all_behind p men c b x k h piece fails (inl empty) = empty_strikes men c b k empty
 all_behind p men c b x k h piece fails (inr (inl same)) = rw same fails
 all_behind p men c b x k h piece fails (inr (inr between)) = hidden_strikes men c b k x h between piece
@@ -145,7 +145,7 @@ guarded true q h = h refl
 guarded false q h = refl
 
 pub first_decides : (p : ℕ → Bool) (men : Men) (c : Colour) (b x : ℕ) → x < 64 → p x ≡ true
-    → is_none (man_at men x) ≡ false → ((k : ℕ) → k < 64 → p k ≡ true → IsBehind men b x k)
+    → is_none (man_at men x) ≡ false → ((k : ℕ) → k < 64 → p k ≡ true → IsHidden men b x k)
     → strikes men c b x ≡ some_square (λ a. p a && strikes men c b a)
 first_decides p men c b x h on piece behind =
     elim (cases_Bool (strikes men c b x)) [
@@ -246,7 +246,7 @@ above_from l b k e h = and_from (same_line l b k) (nat_lt b k) e (grind (arith, 
 
 behind_first : (men : Men) (l : Line) (b end n : ℕ) → same_line l b end ≡ true → HasRisen men l b end n → n < end
     → end < 64 → same_line l b (n + step_of l) ≡ true → (k : ℕ) → b < k → same_line l b k ≡ true
-    → IsBehind men b (n + step_of l) k
+    → IsHidden men b (n + step_of l) k
 behind_first men l b end n on w more in_board there k above e =
     elim (cases_order k (n + step_of l)) [
       | inl same ↦ inr (inl same)
@@ -372,7 +372,7 @@ below_from : (l : Line) (b k : ℕ) → same_line l b k ≡ true → k < b → i
 below_from l b k e h = and_from (same_line l b k) (nat_lt k b) e (grind (arith, nat_tests))
 
 beyond_first : (men : Men) (l : Line) (b end n x : ℕ) → b < 64 → same_line l b end ≡ true → HasFallen men l b end n
-    → x + step_of l ≡ n → same_line l b x ≡ true → (k : ℕ) → k < b → same_line l b k ≡ true → IsBehind men b x k
+    → x + step_of l ≡ n → same_line l b x ≡ true → (k : ℕ) → k < b → same_line l b k ≡ true → IsHidden men b x k
 beyond_first men l b end n x in_board on w next there k below e =
     elim (cases_order k x) [
       | inl same ↦ inr (inl same)
