@@ -134,11 +134,11 @@ hidden_strikes men c b k x h e piece =
 abbrev IsHidden : Men → ℕ → ℕ → ℕ → Type 0
 IsHidden men b x k = (is_none (man_at men k) ≡ true) ⊎ ((k ≡ x) ⊎ (is_between k b x ≡ true))
 
-all_behind : (p : ℕ → Bool) (men : Men) (c : Colour) (b x k : ℕ) → x < 64 → is_none (man_at men x) ≡ false
+all_hidden : (p : ℕ → Bool) (men : Men) (c : Colour) (b x k : ℕ) → x < 64 → is_none (man_at men x) ≡ false
     → strikes men c b x ≡ false → IsHidden men b x k → strikes men c b k ≡ false
-all_behind p men c b x k h piece fails (inl empty) = empty_strikes men c b k empty
-all_behind p men c b x k h piece fails (inr (inl same)) = rw same fails
-all_behind p men c b x k h piece fails (inr (inr between)) = hidden_strikes men c b k x h between piece
+all_hidden p men c b x k h piece fails (inl empty) = empty_strikes men c b k empty
+all_hidden p men c b x k h piece fails (inr (inl same)) = rw same fails
+all_hidden p men c b x k h piece fails (inr (inr between)) = hidden_strikes men c b k x h between piece
 
 guarded : (p q : Bool) → (p ≡ true → q ≡ false) → (p && q) ≡ false
 guarded true q h = h refl
@@ -155,7 +155,7 @@ first_decides p men c b x h on piece behind =
       | inr fails ↦
           fails ∙ sym (some_square-none (λ a. p a && strikes men c b a)
           (λ k low. guarded (p k) (strikes men c b k)
-          (λ e. all_behind p men c b x k h piece fails (behind k low e))))
+          (λ e. all_hidden p men c b x k h piece fails (behind k low e))))
     ]
 
 pub none_decides : (p : ℕ → Bool) (men : Men) (c : Colour) (b : ℕ)
