@@ -244,10 +244,10 @@ above_parts l b k e =
 above_from : (l : Line) (b k : ℕ) → same_line l b k ≡ true → b < k → is_above l b k ≡ true
 above_from l b k e h = and_from (same_line l b k) (nat_lt b k) e (grind (arith, nat_tests))
 
-behind_first : (men : Men) (l : Line) (b end n : ℕ) → same_line l b end ≡ true → HasRisen men l b end n → n < end
+hidden_by_first : (men : Men) (l : Line) (b end n : ℕ) → same_line l b end ≡ true → HasRisen men l b end n → n < end
     → end < 64 → same_line l b (n + step_of l) ≡ true → (k : ℕ) → b < k → same_line l b k ≡ true
     → IsHidden men b (n + step_of l) k
-behind_first men l b end n on w more in_board there k above e =
+hidden_by_first men l b end n on w more in_board there k above e =
     elim (cases_order k (n + step_of l)) [
       | inl same ↦ inr (inl same)
       | inr apart ↦
@@ -271,7 +271,7 @@ rise_stops men l c b end n on w more in_board piece =
     first_decides (λ a. is_above l b a) men c b (n + step_of l) (omega (arith, fit, in_board))
     (above_from l b (n + step_of l) there (omega (arith, far, w.begun))) piece
     (λ k low e.
-    let parts = above_parts l b k e in behind_first men l b end n on w more in_board there k parts.1 parts.0)
+    let parts = above_parts l b k e in hidden_by_first men l b end n on w more in_board there k parts.1 parts.0)
 
 -- between b and the next square of the line nothing stands
 pub rise_clear : (men : Men) (l : Line) (b end n : ℕ) → same_line l b end ≡ true → HasRisen men l b end n → n < end
