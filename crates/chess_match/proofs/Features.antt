@@ -5,7 +5,7 @@ use Rattle.std.specs.Option.{option_map_or}
 use Rattle.std.specs.Str.{bytes_eq}
 use Rattle.chess_base.specs.declared.man.Colour.TheVariants.{White, Black}
 use Rattle.text_lines.specs.Words.{word_of, argument_of, command_number}
-use Rattle.text_lines.proofs.shared.Lines.{wfb_short}
+use Rattle.text_lines.proofs.shared.Lines.{without_front_blanks-short}
 use Rattle.cecp_engine.specs.EngineLines.{LineKind, Features, Moves, Resigns, OffersDraw, ClaimsDraw, ClaimsWin, Rejects, Answers, SaysElse, kind_of}
 
 argument_short : (text : List ℕ) → length (argument_of text) ≤ length text
@@ -13,7 +13,7 @@ unfolding argument_of
 argument_short text =
     let d : length (drop (length (word_of text)) text) ≡ length text - length (word_of text) =
     length-drop (length (word_of text)) text in
-    omega (arith, d, wfb_short (drop (length (word_of text)) text))
+    omega (arith, d, without_front_blanks-short (drop (length (word_of text)) text))
 
 abbrev items_text : List ℕ → LineKind → List ℕ
 items_text default (Features text) = text

@@ -8,7 +8,7 @@ use Rattle.std.proofs.lemmas.Grind.{common_steps}
 use Rattle.std.proofs.lemmas.Bool.Decides.{nat_tests}
 use Rattle.text_lines.specs.ties.Kept.{kept_part, SameLines}
 use Rattle.text_lines.specs.Lines.{line_of, lines_from, parts, lines_of_parts, with_front, trimmed, is_blank, without_front_blanks, without_end_blanks, without_return}
-use Rattle.text_lines.proofs.shared.Lines.{wfb_short}
+use Rattle.text_lines.proofs.shared.Lines.{without_front_blanks-short}
 
 lt_true : (m n : ℕ) → m < n → nat_lt m n ≡ true
 lt_true m n h = grind arith
@@ -263,7 +263,7 @@ trimmed_short xs =
     let a : length (without_end_blanks (without_front_blanks (without_return xs))) ≤ length
     (without_front_blanks (without_return xs)) = web_short (without_front_blanks (without_return xs)) in
     let b : length (without_front_blanks (without_return xs)) ≤ length (without_return xs) =
-    wfb_short (without_return xs) in
+    without_front_blanks-short (without_return xs) in
     let d : length (without_return xs) ≤ length xs = wr_short xs in
     omega arith
 

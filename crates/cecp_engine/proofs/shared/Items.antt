@@ -6,7 +6,7 @@ use Rattle.std.specs.Option.{option_map_or}
 use Rattle.std.specs.Str.{bytes_eq}
 use Rattle.chess_base.specs.Letters.{is_digit}
 use Rattle.text_lines.specs.Lines.{without_front_blanks}
-use Rattle.text_lines.proofs.shared.Lines.{wfb_short}
+use Rattle.text_lines.proofs.shared.Lines.{without_front_blanks-short}
 use Rattle.text_lines.specs.Words.{is_name_byte}
 use Rattle.std.specs.List.{prefix_len}
 use Rattle.cecp_engine.specs.Items.{Item, Value, Digits, Quoted, quote_at, value_of, is_apart, with_value, with_name, item_of, ends_handshake, first_items, items_of, has_done, last_said}
@@ -79,7 +79,7 @@ with_value_shorter name rest (Some q) p is e = by_test (is_apart q.1) e
     by_test true e =
         let n : name ≡ p.0.name = ap (λ (o : Option (Item × List ℕ)). name_or name o) e in
         let s : length p.1 ≡ length (without_front_blanks q.1) = cc in
-        let b = wfb_short q.1 in
+        let b = without_front_blanks-short q.1 in
         let v = value_shorter rest q is in
         let l : length p.1 < length rest = omega arith in
         (sym n, l)

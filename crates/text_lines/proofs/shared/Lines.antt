@@ -12,8 +12,8 @@ front_cond : (b : Bool) (c : ℕ) (cs xs : List ℕ) → length xs ≤ length cs
 front_cond true c cs xs h = grind arith
 front_cond false c cs xs h = grind arith
 
-pub wfb_short : (xs : List ℕ) → length (without_front_blanks xs) ≤ length xs
-wfb_short [] = omega arith
-wfb_short (c ∷ cs) =
-    let ih : length (without_front_blanks cs) ≤ length cs = wfb_short cs in
+pub without_front_blanks-short : (xs : List ℕ) → length (without_front_blanks xs) ≤ length xs
+without_front_blanks-short [] = omega arith
+without_front_blanks-short (c ∷ cs) =
+    let ih : length (without_front_blanks cs) ≤ length cs = without_front_blanks-short cs in
     front_cond (is_blank c) c cs (without_front_blanks cs) ih
