@@ -241,10 +241,10 @@ line_put n e bytes kept text long short front whole = at (nat_lt n (length bytes
         ap (λ v. record { text = v; too_long = false; ended = e }) (s refl ∙ ap trimmed (whole fits))
         ∙ sym (line_short n e bytes fits)
 
-pub web_short : (xs : List ℕ) → length (without_end_blanks xs) ≤ length xs
-web_short [] = omega arith
-web_short (c ∷ cs) =
-    let ih : length (without_end_blanks cs) ≤ length cs = web_short cs in
+pub without_end_blanks-short : (xs : List ℕ) → length (without_end_blanks xs) ≤ length xs
+without_end_blanks-short [] = omega arith
+without_end_blanks-short (c ∷ cs) =
+    let ih : length (without_end_blanks cs) ≤ length cs = without_end_blanks-short cs in
     cond_short (is_blank c && list_all is_blank cs) c (without_end_blanks cs) cs ih
 
 pub wr_short : (xs : List ℕ) → length (without_return xs) ≤ length xs
@@ -261,7 +261,7 @@ pub trimmed_short : (xs : List ℕ) → length (trimmed xs) ≤ length xs
 unfolding trimmed
 trimmed_short xs =
     let a : length (without_end_blanks (without_front_blanks (without_return xs))) ≤ length
-    (without_front_blanks (without_return xs)) = web_short (without_front_blanks (without_return xs)) in
+    (without_front_blanks (without_return xs)) = without_end_blanks-short (without_front_blanks (without_return xs)) in
     let b : length (without_front_blanks (without_return xs)) ≤ length (without_return xs) =
     without_front_blanks-short (without_return xs) in
     let d : length (without_return xs) ≤ length xs = wr_short xs in
