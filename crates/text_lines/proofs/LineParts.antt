@@ -247,8 +247,8 @@ without_end_blanks-short (c ∷ cs) =
     let ih : length (without_end_blanks cs) ≤ length cs = without_end_blanks-short cs in
     cond_short (is_blank c && list_all is_blank cs) c (without_end_blanks cs) cs ih
 
-pub wr_short : (xs : List ℕ) → length (without_return xs) ≤ length xs
-wr_short xs = at (get_or xs (length xs - 1) 0 == 13)
+pub without_return-short : (xs : List ℕ) → length (without_return xs) ≤ length xs
+without_return-short xs = at (get_or xs (length xs - 1) 0 == 13)
   where
     at : (b : Bool) → length (if b then take (length xs - 1) xs else xs) ≤ length xs
     at true =
@@ -264,7 +264,7 @@ trimmed_short xs =
     (without_front_blanks (without_return xs)) = without_end_blanks-short (without_front_blanks (without_return xs)) in
     let b : length (without_front_blanks (without_return xs)) ≤ length (without_return xs) =
     without_front_blanks-short (without_return xs) in
-    let d : length (without_return xs) ≤ length xs = wr_short xs in
+    let d : length (without_return xs) ≤ length xs = without_return-short xs in
     omega arith
 
 pub line_ended : (n : ℕ) (e : Bool) (piece : List ℕ) → (line_of n e piece).ended ≡ e
