@@ -21,7 +21,7 @@ use Rattle.chess_fen.specs.Denotation.{IsCastling, IsHeld, DenotesRights}
 use Rattle.chess_base.specs.Sound.{IsSound}
 use Rattle.chess_fen.specs.laws.NamedRooks.{IsOutermost, NamesRook, NamesNone, RightIsNamed}
 use Rattle.chess_fen.specs.laws.Laws.{RightsAreNamed}
-use Rattle.chess_base.proofs.shared.Castling.{right_stands_of}
+use Rattle.chess_base.proofs.shared.Castling.{right_is_sound_of}
 use Rattle.chess_fen.proofs.RookAmong.{outer_among}
 use Rattle.chess_fen.proofs.RightsBack.{Beside, beside, no_side_letter, own_file, file_back, file_in, named_own, only-none, after-append}
 
@@ -331,7 +331,7 @@ stands_of : (p : Setup) → p.variant ≡ Fischerandom → IsSound p → (c : Co
     → right_is_sound_at Fischerandom p.men c w (right_of p.rights c w) ≡ true
 unfolding right_is_sound
 stands_of p e sound c w = subst (λ v. right_is_sound_at v p.men c w (right_of p.rights c w) ≡ true) e
-    (right_stands_of p sound c w)
+    (right_is_sound_of p sound c w)
 
 field_of : (text : List ℕ) (p : Setup) → DenotesRights text p → (c : Colour) (w : CastlingSide)
     → IsHeld p.variant p.men text c w (right_of p.rights c w)

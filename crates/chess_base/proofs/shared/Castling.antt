@@ -67,11 +67,11 @@ pub lands_on_castled : (p : Setup) (m : Move) (w : CastlingSide) → castling p 
 unfolding mover_end
 lands_on_castled p m w e = ap (mover_to m) (castle_there p m w e).2
 
-pub right_stands_of : (p : Setup) → IsSound p → (c : Colour) (w : CastlingSide) → right_is_sound p c w ≡ true
-right_stands_of p h White KingSide = h.white_king_side
-right_stands_of p h White QueenSide = h.white_queen_side
-right_stands_of p h Black KingSide = h.black_king_side
-right_stands_of p h Black QueenSide = h.black_queen_side
+pub right_is_sound_of : (p : Setup) → IsSound p → (c : Colour) (w : CastlingSide) → right_is_sound p c w ≡ true
+right_is_sound_of p h White KingSide = h.white_king_side
+right_is_sound_of p h White QueenSide = h.white_queen_side
+right_is_sound_of p h Black KingSide = h.black_king_side
+right_is_sound_of p h Black QueenSide = h.black_queen_side
 
 rook_that_stands : (v : Variant) (men : Men) (c : Colour) (w : CastlingSide) (s : ℕ)
     → are_placed_for_castling v men c w s ≡ true → is_man c Rook (man_at men s) ≡ true
