@@ -14,7 +14,7 @@ use Rattle.chess_base.specs.shared.Splits.{names_castling, castle_with}
 use Rattle.chess_base.specs.Men.{man_at, is_man}
 use Rattle.chess_base.specs.MoveList.{move_of}
 use Rattle.chess_base.specs.Sound.{IsSound}
-use Rattle.chess_base.proofs.shared.Castling.{right_is_sound_of, right_that_stands}
+use Rattle.chess_base.proofs.shared.Castling.{right_is_sound_of, placed_for_right}
 use Rattle.chess_base.specs.declared.man.Variant.{Variant}
 use Rattle.chess_bits.specs.ties.Goes.{castling_end}
 use Rattle.chess_bits.proofs.OneKing.{alone, has_king}
@@ -24,7 +24,7 @@ stands : (p : Setup) (w : CastlingSide) (rook : ℕ) → IsSound p → p.variant
 unfolding right_is_sound
 stands p w rook sound normal right =
     sym (ap (λ (v : Variant). are_placed_for_castling v p.men p.side w rook) normal)
-    ∙ right_that_stands p.variant p.men p.side w (right_of p.rights p.side w) rook (right_is_sound_of p sound p.side w)
+    ∙ placed_for_right p.variant p.men p.side w (right_of p.rights p.side w) rook (right_is_sound_of p sound p.side w)
     right
 
 at_home : (p : Setup) (w : CastlingSide) (a rook : ℕ) → IsSound p → p.variant ≡ Normal

@@ -21,7 +21,7 @@ use Rattle.chess_base.specs.Moves.{is_pseudo_legal, is_legal, promotion_fits, ar
 use Rattle.chess_base.specs.shared.Splits.{castles_or_moves}
 use Rattle.chess_base.specs.Sound.{IsSound}
 use Rattle.chess_base.specs.Squares.{rank, is_between, each_below, some_below, each_square, some_square}
-use Rattle.chess_base.proofs.shared.Castling.{right_is_sound_of, right_that_stands, says_from_castling, castling_says, castle_there, no_castle}
+use Rattle.chess_base.proofs.shared.Castling.{right_is_sound_of, placed_for_right, says_from_castling, castling_says, castle_there, no_castle}
 use Rattle.chess_base.proofs.shared.Changes.{no_en_passant}
 use Rattle.chess_base.proofs.shared.Men.{in_board, is_man-kind}
 use Rattle.chess_moves.specs.Promoting.{would_promote}
@@ -91,7 +91,7 @@ on_rank_by p m k sound e (Some w) says =
     let there = castle_there p m w says in
     let names = (castling_says p m w (says_from_castling p m w says)).1 in
     let named : names_castling_with p.variant p.side m w there.0 ≡ true = rw there.1 at names in
-    let stands = right_that_stands p.variant p.men p.side w (right_of p.rights p.side w) there.0
+    let stands = placed_for_right p.variant p.men p.side w (right_of p.rights p.side w) there.0
     (right_is_sound_of p sound p.side w) there.1 in
     let ranks = starts p.variant p.men p.side w m there.0 named stands in
     let same : castle_from p.side w m.from there.0 ≡ k = cc in

@@ -21,7 +21,7 @@ use Rattle.chess_base.specs.Men.{Men, man_at, other, is_of, is_man}
 use Rattle.chess_base.specs.Moves.{is_pseudo_legal, is_legal, arriving_man, men_after, second_square_emptied}
 use Rattle.chess_base.specs.Sound.{IsSound}
 use Rattle.chess_base.specs.Squares.{is_between, is_between_on_file, is_between_on_rank, is_between_on_diagonal}
-use Rattle.chess_base.proofs.shared.Castling.{right_is_sound_of, right_that_stands, says_from_castling, castling_says, castle_there, no_castle}
+use Rattle.chess_base.proofs.shared.Castling.{right_is_sound_of, placed_for_right, says_from_castling, castling_says, castle_there, no_castle}
 use Rattle.chess_base.proofs.shared.Changes.{no_en_passant}
 use Rattle.chess_base.proofs.shared.MenAfter.{man_after, man_at-men_after}
 use Rattle.chess_base.proofs.shared.Men.{is_man-kind}
@@ -188,7 +188,7 @@ home_starts p m w r sound normal says right =
     sym (ap (λ (v : Variant). names_castling_with v p.side m w r) normal) ∙ named in
     let stands : are_placed_for_castling Normal p.men p.side w r ≡ true =
     sym (ap (λ (v : Variant). are_placed_for_castling v p.men p.side w r) normal)
-    ∙ right_that_stands p.variant p.men p.side w (right_of p.rights p.side w) r (right_is_sound_of p sound p.side w)
+    ∙ placed_for_right p.variant p.men p.side w (right_of p.rights p.side w) r (right_is_sound_of p sound p.side w)
     right in
     let two = and_parts ((r == home_square p.side (rook_file w))
     && is_man p.side King (man_at p.men (home_square p.side king_home_file))) (is_man p.side Rook (man_at p.men r))

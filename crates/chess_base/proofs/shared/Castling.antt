@@ -82,14 +82,14 @@ rook_that_stands Fischerandom men c w s h =
     (and_parts (is_beside c w (king_square men c) s) (is_man c Rook (man_at men s)) h).1
 
 -- a right that is there is available
-pub right_that_stands : (v : Variant) (men : Men) (c : Colour) (w : CastlingSide) (o : Option ℕ) (e : ℕ)
+pub placed_for_right : (v : Variant) (men : Men) (c : Colour) (w : CastlingSide) (o : Option ℕ) (e : ℕ)
     → right_is_sound_at v men c w o ≡ true → o ≡ Some e → are_placed_for_castling v men c w e ≡ true
-right_that_stands v men c w None e h at = cc
-right_that_stands v men c w (Some s) e h at = let here : s ≡ e = cc in rw (← here) h
+placed_for_right v men c w None e h at = cc
+placed_for_right v men c w (Some s) e h at = let here : s ≡ e = cc in rw (← here) h
 
 -- the rook with which a colour may castle is on its square
 pub castling_rook_stands : (p : Setup) (c : Colour) (w : CastlingSide) (e : ℕ) → right_is_sound p c w ≡ true
     → right_of p.rights c w ≡ Some e → is_man c Rook (man_at p.men e) ≡ true
 unfolding right_is_sound
 castling_rook_stands p c w e h at =
-    rook_that_stands p.variant p.men c w e (right_that_stands p.variant p.men c w (right_of p.rights c w) e h at)
+    rook_that_stands p.variant p.men c w e (placed_for_right p.variant p.men c w (right_of p.rights c w) e h at)
