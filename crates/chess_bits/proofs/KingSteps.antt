@@ -24,7 +24,7 @@ use Rattle.chess_base.specs.MoveList.{move_of, squares}
 use Rattle.chess_base.specs.Moves.{is_pseudo_legal, is_legal, is_en_passant, man_moves, men_after, second_square_emptied}
 use Rattle.chess_base.specs.Sound.{IsSound}
 use Rattle.chess_base.specs.Squares.{file, rank, gap, is_between, is_between_on_file, is_between_on_rank, is_between_on_diagonal}
-use Rattle.chess_base.proofs.shared.Castling.{right_is_sound_of, castling_rook_stands}
+use Rattle.chess_base.proofs.shared.Castling.{right_is_sound_of, castling_rook_is_there}
 use Rattle.chess_base.proofs.shared.Men.{is_of-from_is_man}
 use Rattle.chess_moves.specs.shared.MovesBySquares.{moves_between, moves_from}
 use Rattle.chess_moves.specs.Promoting.{would_promote}
@@ -139,7 +139,7 @@ not_said p a b w sound step free =
     false_from_ne_true _
     (λ e.
     named_apart p.variant p.men p.side a b w (right_of p.rights p.side w)
-    (λ r at. castling_rook_stands p p.side w r (right_is_sound_of p sound p.side w) at)
+    (λ r at. castling_rook_is_there p p.side w r (right_is_sound_of p sound p.side w) at)
     step free
     (and_parts (is_man p.side King (man_at p.men a))
     (names_castling p.variant p.side (move_of a b None) w (right_of p.rights p.side w)) e).1)

@@ -88,8 +88,8 @@ placed_for_right v men c w None e h at = cc
 placed_for_right v men c w (Some s) e h at = let here : s ≡ e = cc in rw (← here) h
 
 -- the rook with which a colour may castle is on its square
-pub castling_rook_stands : (p : Setup) (c : Colour) (w : CastlingSide) (e : ℕ) → right_is_sound p c w ≡ true
+pub castling_rook_is_there : (p : Setup) (c : Colour) (w : CastlingSide) (e : ℕ) → right_is_sound p c w ≡ true
     → right_of p.rights c w ≡ Some e → is_man c Rook (man_at p.men e) ≡ true
 unfolding right_is_sound
-castling_rook_stands p c w e h at =
+castling_rook_is_there p c w e h at =
     rook_that_stands p.variant p.men c w e (placed_for_right p.variant p.men c w (right_of p.rights c w) e h at)
