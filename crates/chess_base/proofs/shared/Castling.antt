@@ -73,12 +73,12 @@ right_is_sound_of p h White QueenSide = h.white_queen_side
 right_is_sound_of p h Black KingSide = h.black_king_side
 right_is_sound_of p h Black QueenSide = h.black_queen_side
 
-rook_that_stands : (v : Variant) (men : Men) (c : Colour) (w : CastlingSide) (s : ℕ)
+rook_of_right : (v : Variant) (men : Men) (c : Colour) (w : CastlingSide) (s : ℕ)
     → are_placed_for_castling v men c w s ≡ true → is_man c Rook (man_at men s) ≡ true
-rook_that_stands Normal men c w s h =
+rook_of_right Normal men c w s h =
     (and_parts ((s == home_square c (rook_file w)) && is_man c King (man_at men (home_square c king_home_file)))
     (is_man c Rook (man_at men s)) h).1
-rook_that_stands Fischerandom men c w s h =
+rook_of_right Fischerandom men c w s h =
     (and_parts (is_beside c w (king_square men c) s) (is_man c Rook (man_at men s)) h).1
 
 -- a right that is there is available
@@ -92,4 +92,4 @@ pub castling_rook_is_there : (p : Setup) (c : Colour) (w : CastlingSide) (e : �
     → right_of p.rights c w ≡ Some e → is_man c Rook (man_at p.men e) ≡ true
 unfolding right_is_sound
 castling_rook_is_there p c w e h at =
-    rook_that_stands p.variant p.men c w e (placed_for_right p.variant p.men c w (right_of p.rights c w) e h at)
+    rook_of_right p.variant p.men c w e (placed_for_right p.variant p.men c w (right_of p.rights c w) e h at)
