@@ -19,7 +19,7 @@ use Rattle.chess_text.specs.ties.Fitting.{promotion_text, parts_text}
 use Rattle.chess_text.specs.Moves.{shape, reading}
 use Rattle.chess_text.specs.ties.Fitting.{has_equals, promotes_so, is_form, parts_fit, is_by_squares, is_by_letter, is_straight, is_by_file}
 use Rattle.chess_text.proofs.OneMoveFits.{read_alone, denoted_parts, shape_parts, denotes_move, move_is, written, promotes-self, promotes-same}
-use Rattle.chess_text.proofs.Legal.{IsMove, legal_move, told_of}
+use Rattle.chess_text.proofs.Legal.{IsMove, legal_move, described_as}
 use Rattle.chess_text.proofs.Solid.{bare_parts}
 use Rattle.chess_text.proofs.WrittenStarts.{same_square}
 
@@ -60,7 +60,7 @@ no_equals : (o : Option Kind) → not (has_equals (written false true o)) ≡ tr
 no_equals None = refl
 no_equals (Some k) = refl
 
-fits_itself : (p : Setup) (m : Move) (k : Kind) → parts_fit (squares_named m) (told_of p m k) ≡ true
+fits_itself : (p : Setup) (m : Move) (k : Kind) → parts_fit (squares_named m) (described_as p m k) ≡ true
 unfolding parts_fit is_by_squares
 fits_itself p m k =
     let a = eq-eqb (file m.from) (file m.from) refl in
@@ -75,7 +75,7 @@ record Same (m n : Move) : Type 0 where
   to : n.to ≡ m.to
   promotion : n.promotion ≡ m.promotion
 
-by_squares : (p : Setup) (m n : Move) (k : Kind) → is_by_squares (squares_named m) (told_of p n k) ≡ true → Same m n
+by_squares : (p : Setup) (m n : Move) (k : Kind) → is_by_squares (squares_named m) (described_as p n k) ≡ true → Same m n
 unfolding is_by_squares
 by_squares p m n k e =
     let e5 = and_parts ((file m.from == file n.from) && (rank m.from == rank n.from) && true && (m.to == n.to)
@@ -93,7 +93,7 @@ by_squares p m n k e =
       promotion = promotes-same false true m.promotion n.promotion e5.1;
     }
 
-from_file : (p : Setup) (m n : Move) (k : Kind) → is_by_file (squares_named m) (told_of p n k) ≡ true → Same m n
+from_file : (p : Setup) (m n : Move) (k : Kind) → is_by_file (squares_named m) (described_as p n k) ≡ true → Same m n
 unfolding is_by_file
 from_file p m n k e =
     let e4 = and_parts ((file m.from == file n.from) && (rank m.from == rank n.from) && same_kind Pawn k && true
@@ -110,28 +110,28 @@ from_file p m n k e =
       promotion = promotes-same false true m.promotion n.promotion e4.1;
     }
 
-not_by_letter : (p : Setup) (m n : Move) (k : Kind) → is_by_letter (squares_named m) (told_of p n k) ≡ false
+not_by_letter : (p : Setup) (m n : Move) (k : Kind) → is_by_letter (squares_named m) (described_as p n k) ≡ false
 unfolding is_by_letter
 not_by_letter p m n k = refl
 
-not_straight : (p : Setup) (m n : Move) (k : Kind) → is_straight (squares_named m) (told_of p n k) ≡ false
+not_straight : (p : Setup) (m n : Move) (k : Kind) → is_straight (squares_named m) (described_as p n k) ≡ false
 unfolding is_straight
 not_straight p m n k = refl
 
-fits_alone : (p : Setup) (m n : Move) (k : Kind) → parts_fit (squares_named m) (told_of p n k) ≡ true → Same m n
+fits_alone : (p : Setup) (m n : Move) (k : Kind) → parts_fit (squares_named m) (described_as p n k) ≡ true → Same m n
 unfolding parts_fit
 fits_alone p m n k e =
     let a = not_by_letter p m n k in
     let b = not_straight p m n k in
-    elim (or_cases (is_by_squares (squares_named m) (told_of p n k) || is_by_letter (squares_named m) (told_of p n k)
-    || is_straight (squares_named m) (told_of p n k)) (is_by_file (squares_named m) (told_of p n k)) e) [
+    elim (or_cases (is_by_squares (squares_named m) (described_as p n k) || is_by_letter (squares_named m) (described_as p n k)
+    || is_straight (squares_named m) (described_as p n k)) (is_by_file (squares_named m) (described_as p n k)) e) [
       | inr h ↦ from_file p m n k h
       | inl h ↦ elim
-          (or_cases (is_by_squares (squares_named m) (told_of p n k) || is_by_letter (squares_named m) (told_of p n k))
-          (is_straight (squares_named m) (told_of p n k)) h) [
+          (or_cases (is_by_squares (squares_named m) (described_as p n k) || is_by_letter (squares_named m) (described_as p n k))
+          (is_straight (squares_named m) (described_as p n k)) h) [
             | inr g ↦ absurd cc
-            | inl g ↦ elim (or_cases (is_by_squares (squares_named m) (told_of p n k))
-                (is_by_letter (squares_named m) (told_of p n k)) g) [ inl f ↦ by_squares p m n k f | inr f ↦ absurd cc ]
+            | inl g ↦ elim (or_cases (is_by_squares (squares_named m) (described_as p n k))
+                (is_by_letter (squares_named m) (described_as p n k)) g) [ inl f ↦ by_squares p m n k f | inr f ↦ absurd cc ]
           ]
     ]
 
@@ -140,14 +140,14 @@ coordinate_alone p m sound legal =
     let h = legal_move p m legal in
     let at = bare m h.to_in in
     let are = are_parts p m h in (
-      denotes_move p (coordinate m) m h ∙ denoted_parts (coordinate m) (squares_named m) (told_of p m h.man) at are
+      denotes_move p (coordinate m) m h ∙ denoted_parts (coordinate m) (squares_named m) (described_as p m h.man) at are
           ∙ fits_itself p m h.man,
       λ n n_legal e.
           let g = legal_move p n n_legal in
           let same =
           fits_alone p m n g.man
           (sym (denotes_move p (coordinate m) n g
-          ∙ denoted_parts (coordinate m) (squares_named m) (told_of p n g.man) at are) ∙ e) in
+          ∙ denoted_parts (coordinate m) (squares_named m) (described_as p n g.man) at are) ∙ e) in
           move_is n m same.from same.to same.promotion,
     )
 

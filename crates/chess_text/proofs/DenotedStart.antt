@@ -22,7 +22,7 @@ use Rattle.chess_text.specs.declared.parts.Promotion.{Promotion}
 use Rattle.chess_text.specs.Moves.{captures}
 use Rattle.chess_text.specs.ties.Fitting.{admits, names, is_by_squares, is_by_letter, is_straight, is_by_file, parts_fit}
 use Rattle.chess_text.specs.ties.Forms.{is_denoted, is_denoted_by_letter, is_denoted_by_pawn, is_denoted_of, kind_by, named_square, one_kind}
-use Rattle.chess_text.proofs.Legal.{castling_says, legal_move, IsMove, told_of, described_is}
+use Rattle.chess_text.proofs.Legal.{castling_says, legal_move, IsMove, described_as, described_is}
 use Rattle.chess_text.proofs.Origins.{named_is}
 
 -- ---- the piece
@@ -168,7 +168,7 @@ pawn_fits_by (Some n) r takes captured a to o e = rw (e, eq-eqb to to refl)
 -- ---- as the parts are
 
 pub denoted_as : (p : Setup) (m : Move) (h : IsMove p m) (q : Parts) → is_denoted (Piece q) p m
-    ≡ parts_fit q (told_of p m h.man)
+    ≡ parts_fit q (described_as p m h.man)
 unfolding is_denoted
 denoted_as p m h q = rw (described_is p m h) refl
 
@@ -183,10 +183,10 @@ lettered q letter promotion = record {
 
 of_letter : (q : Parts) (p : Setup) (k : Kind) (m : Move) → q.letter ≡ Some k → q.end.promotion ≡ None
     → m.to ≡ q.end.to → m.promotion ≡ None → is_man p.side k (man_at p.men m.from) ≡ true
-    → parts_fit q (told_of p m k) ≡ is_denoted_by_letter q p k m
+    → parts_fit q (described_as p m k) ≡ is_denoted_by_letter q p k m
 of_letter q p k m letter plain to none man =
-    ap (λ l. parts_fit (lettered q l q.end.promotion) (told_of p m k)) letter
-    ∙ ap (λ o. parts_fit (lettered q (Some k) o) (told_of p m k)) plain
+    ap (λ l. parts_fit (lettered q l q.end.promotion) (described_as p m k)) letter
+    ∙ ap (λ o. parts_fit (lettered q (Some k) o) (described_as p m k)) plain
     ∙ ap (λ o. parts_fit (lettered q (Some k) None) (record {
       man = k;
       from = m.from;
@@ -209,10 +209,10 @@ of_letter q p k m letter plain to none man =
 
 of_pawn : (q : Parts) (p : Setup) (m : Move) → q.letter ≡ None → q.end.promotion ≡ None
     → named_square q.file q.rank ≡ None → m.from < 64
-    → m.to ≡ q.end.to → m.promotion ≡ None → parts_fit q (told_of p m Pawn) ≡ is_denoted_by_pawn q p m
+    → m.to ≡ q.end.to → m.promotion ≡ None → parts_fit q (described_as p m Pawn) ≡ is_denoted_by_pawn q p m
 of_pawn q p m letter plain square low to none =
-    ap (λ l. parts_fit (lettered q l q.end.promotion) (told_of p m Pawn)) letter
-    ∙ ap (λ o. parts_fit (lettered q None o) (told_of p m Pawn)) plain
+    ap (λ l. parts_fit (lettered q l q.end.promotion) (described_as p m Pawn)) letter
+    ∙ ap (λ o. parts_fit (lettered q None o) (described_as p m Pawn)) plain
     ∙ ap (λ o. parts_fit (lettered q None None) (record {
       man = Pawn;
       from = m.from;
@@ -242,20 +242,20 @@ of_pawn q p m letter plain square low to none =
     (names q.file (file m.from) && admits q.rank (rank m.from) && (not q.takes || captures p m))) (sym to)
 
 abbrev Denoted : Parts → Setup → Kind → Move → Type 0
-Denoted q p k m = parts_fit q (told_of p m k) ≡ is_denoted_of q p k m
+Denoted q p k m = parts_fit q (described_as p m k) ≡ is_denoted_of q p k m
 
 -- the letter's kind, or a pawn
 by_kind : (q : Parts) (p : Setup) (k : Kind) (m : Move) (letter : Option Kind) (square : Option ℕ)
     (promotion : Option Promotion) → q.letter ≡ letter → named_square q.file q.rank ≡ square
     → q.end.promotion ≡ promotion → cond (is_some promotion) None (kind_by letter square) ≡ Some k
     → m.from < 64 → m.to ≡ q.end.to → m.promotion ≡ None → is_man p.side k (man_at p.men m.from) ≡ true
-    → parts_fit q (told_of p m k)
+    → parts_fit q (described_as p m k)
     ≡ cond (is_some letter) (is_denoted_by_letter q p k m) (is_denoted_by_pawn q p m)
 by_kind q p k m letter square (Some x) l s n e low to none man = absurd cc
 by_kind q p k m None (Some x) None l s n e low to none man = absurd cc
 by_kind q p k m None None None l s n e low to none man =
     let pawn : k ≡ Pawn = cc in
-    ap (λ j. parts_fit q (told_of p m j)) pawn ∙ of_pawn q p m l n s low to none
+    ap (λ j. parts_fit q (described_as p m j)) pawn ∙ of_pawn q p m l n s low to none
 by_kind q p k m (Some Pawn) square None l s n e low to none man = absurd cc
 by_kind q p k m (Some King) square None l s n e low to none man =
     of_letter q p k m (l ∙ e) n to none man
@@ -274,6 +274,6 @@ pub denoted_of : (q : Parts) (p : Setup) (k : Kind) (m : Move) → one_kind q �
 denoted_of q p k m e legal to none man =
     let h = legal_move p m legal in
     denoted_as p m h q
-    ∙ ap (λ j. parts_fit q (told_of p m j)) (sym (kind_there p.side k (man_at p.men m.from)
+    ∙ ap (λ j. parts_fit q (described_as p m j)) (sym (kind_there p.side k (man_at p.men m.from)
     (record { colour = p.side; kind = h.man }) h.at_from man))
     ∙ by_kind q p k m q.letter (named_square q.file q.rank) q.end.promotion refl refl refl e h.from_in to none man

@@ -23,7 +23,7 @@ use Rattle.chess_text.specs.Moves.{castling_texts, is_castling_text, passes, sha
 use Rattle.chess_text.specs.ties.Fitting.{is_form, parts_fit, has_parts, has_form, fits_text}
 use Rattle.chess_text.specs.ties.Forms.{form_of_parts, form_at, form_of, same_side, form_fits, is_denoted}
 use Rattle.chess_text.proofs.AllMoves.{filter-both}
-use Rattle.chess_text.proofs.Legal.{legal_move, told_of, described_is}
+use Rattle.chess_text.proofs.Legal.{legal_move, described_as, described_is}
 use Rattle.chess_text.proofs.ShapeByForm.{no_form, shape_is}
 use Rattle.chess_text.proofs.Denotations.{denotes_is}
 use Rattle.chess_text.proofs.CastlingTexts.{IsCastling, castling_from_name}
@@ -109,7 +109,7 @@ pub denotes-read : (form : Form) (text : List ℕ) (p : Setup) (m : Move) → is
 unfolding denotes is_denoted
 denotes-read form text p m legal e =
     let h = legal_move p m legal in
-    let d = told_of p m h.man in
+    let d = described_as p m h.man in
     ap (passes (denotes_described text)) (described_is p m h)
     ∙ denotes_is text d h.from_in h.to_in h.promotion_is
     ∙ fits-form text d

@@ -28,8 +28,8 @@ use Rattle.chess_text.specs.ties.Forms.{castling_end}
 use Rattle.chess_text.specs.Moves.{captures, described}
 
 -- what a text can say of a move of that piece
-abbrev pub told_of : Setup → Move → Kind → Described
-told_of p m k = record {
+abbrev pub described_as : Setup → Move → Kind → Described
+described_as p m k = record {
   man = k;
   from = m.from;
   to = m.to;
@@ -40,7 +40,7 @@ told_of p m k = record {
 
 -- the same of the piece, if there is one
 abbrev pub described_by : Setup → Move → Option Man → Option Described
-described_by p m o = option_map (λ (x : Man). told_of p m x.kind) o
+described_by p m o = option_map (λ (x : Man). described_as p m x.kind) o
 
 -- by the kind of piece: a pawn's move, or one without a promotion
 abbrev pub MovesAs : Setup → Move → Kind → Type 0
@@ -156,6 +156,6 @@ legal_move p m e =
     let two = and_parts (nat_lt m.from 64) (nat_lt m.to 64) three.0 in
     move_by p m (man_at p.men m.from) refl (ltb-true m.from 64 two.0) (ltb-true m.to 64 two.1) three.1
 
-pub described_is : (p : Setup) (m : Move) (h : IsMove p m) → described p m ≡ Some (told_of p m h.man)
+pub described_is : (p : Setup) (m : Move) (h : IsMove p m) → described p m ≡ Some (described_as p m h.man)
 unfolding described
 described_is p m h = ap (described_by p m) h.at_from

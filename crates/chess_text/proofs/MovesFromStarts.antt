@@ -22,7 +22,7 @@ use Rattle.chess_text.specs.declared.reading.Reading.{Reading}
 use Rattle.chess_text.specs.Moves.{one_of}
 use Rattle.chess_text.specs.ties.Fitting.{promotes_so, is_by_squares, is_by_letter, is_straight, is_by_file, parts_fit}
 use Rattle.chess_text.specs.ties.Forms.{is_denoted, denoted_with, named_square, kind_by, one_kind, is_denoted_of, denoted_start, IsStart}
-use Rattle.chess_text.proofs.Legal.{legal_move, MovesAs, told_of}
+use Rattle.chess_text.proofs.Legal.{legal_move, MovesAs, described_as}
 use Rattle.chess_text.proofs.Origins.{man_is, fits_told, letter_fits, pawn_named, denoted_from}
 use Rattle.chess_text.proofs.DenotedMoves.{denoted_ends}
 use Rattle.chess_text.proofs.DenotedStart.{denoted_of}
@@ -62,16 +62,16 @@ lettered : (p : Setup) (q : Parts) (k : Kind) (m : Move) → q.letter ≡ Some k
     → is_denoted (Piece q) p m ≡ true → is_legal p m ≡ true → OfKind p k m
 lettered p q k m at other denoted legal =
     let h = legal_move p m legal in
-    let same : same_kind k h.man ≡ true = letter_fits q (told_of p m h.man) k at (fits_told p q m h denoted) in
+    let same : same_kind k h.man ≡ true = letter_fits q (described_as p m h.man) k at (fits_told p q m h denoted) in
     (man_is p m h k same, unpromoted p m k h.man h.moves_as same other)
 
 of_pawn : (p : Setup) (q : Parts) (m : Move) → q.letter ≡ None → named_square q.file q.rank ≡ None
     → q.end.promotion ≡ None → is_denoted (Piece q) p m ≡ true → is_legal p m ≡ true → OfKind p Pawn m
 of_pawn p q m at square plain denoted legal =
     let h = legal_move p m legal in
-    let told : parts_fit q (told_of p m h.man) ≡ true = fits_told p q m h denoted in (
-      man_is p m h Pawn (pawn_named q (told_of p m h.man) h.from_in at square told),
-      none_told m.promotion (rw plain at (promotes_as q (told_of p m h.man) at told)),
+    let told : parts_fit q (described_as p m h.man) ≡ true = fits_told p q m h denoted in (
+      man_is p m h Pawn (pawn_named q (described_as p m h.man) h.from_in at square told),
+      none_told m.promotion (rw plain at (promotes_as q (described_as p m h.man) at told)),
     )
 
 by_kind : (p : Setup) (q : Parts) (letter : Option Kind) (square : Option ℕ) (promotion : Option Promotion) (k : Kind)

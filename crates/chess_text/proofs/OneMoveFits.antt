@@ -25,7 +25,7 @@ use Rattle.chess_text.proofs.SameKinds.{same_kind-self, same_kind-true}
 use Rattle.chess_text.proofs.ShapeByForm.{shape_is}
 use Rattle.chess_text.proofs.Denotations.{denotes_is}
 use Rattle.chess_text.proofs.Grammar.{denoted-parts, parts-denoted}
-use Rattle.chess_text.proofs.Legal.{IsMove, told_of, described_is}
+use Rattle.chess_text.proofs.Legal.{IsMove, described_as, described_is}
 
 -- ---- what is read
 
@@ -89,11 +89,11 @@ shape_castling text w h = shape_is text ∙ form_castling text w h
 -- ---- of a legal move
 
 pub denotes_move : (p : Setup) (text : List ℕ) (m : Move) (h : IsMove p m)
-    → denotes p text m ≡ fits_text text (told_of p m h.man)
+    → denotes p text m ≡ fits_text text (described_as p m h.man)
 unfolding denotes
 denotes_move p text m h =
     ap (passes (denotes_described text)) (described_is p m h)
-    ∙ denotes_is text (told_of p m h.man) h.from_in h.to_in h.promotion_is
+    ∙ denotes_is text (described_as p m h.man) h.from_in h.to_in h.promotion_is
 
 pub move_is : (n m : Move) → n.from ≡ m.from → n.to ≡ m.to → n.promotion ≡ m.promotion → n ≡ m
 move_is n m a b k =

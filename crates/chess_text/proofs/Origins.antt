@@ -29,7 +29,7 @@ use Rattle.chess_text.specs.ties.Fitting.{names, admits, is_by_squares, is_by_le
 use Rattle.chess_text.specs.ties.Forms.{same_side, form_fits, is_denoted, end_square, denoted_with, with_move, with_moves, named_square, IsStart}
 use Rattle.chess_text.proofs.OneMoveFits.{castled}
 use Rattle.chess_text.proofs.AllMoves.{none-kept}
-use Rattle.chess_text.proofs.Legal.{described_by, castling_says, legal_move, IsMove, told_of, described_is}
+use Rattle.chess_text.proofs.Legal.{described_by, castling_says, legal_move, IsMove, described_as, described_is}
 use Rattle.chess_text.proofs.DenotedMoves.{denoted_ends, all_denoted}
 
 -- the piece of a legal move, as a test
@@ -44,7 +44,7 @@ man_is p m h k e = rw h.at_from (by_colour p.side e)
 
 -- what is described of a legal move that is denoted
 pub fits_told : (p : Setup) (q : Parts) (m : Move) (h : IsMove p m) → is_denoted (Piece q) p m ≡ true
-    → parts_fit q (told_of p m h.man) ≡ true
+    → parts_fit q (described_as p m h.man) ≡ true
 unfolding is_denoted
 fits_told p q m h e = rw (described_is p m h) at e
 
@@ -117,7 +117,7 @@ pub by_letter : (p : Setup) (q : Parts) (k : Kind) (w : ℕ) → q.letter ≡ So
     → IsStart p (Piece q) w
 by_letter p q k w at origins = λ m denoted legal.
     let h = legal_move p m legal in
-    origins m legal (man_is p m h k (letter_fits q (told_of p m h.man) k at (fits_told p q m h denoted)))
+    origins m legal (man_is p m h k (letter_fits q (described_as p m h.man) k at (fits_told p q m h denoted)))
     (denoted_ends (Piece q) p m denoted)
 
 some_is : (f r : Option ℕ) (s t : ℕ) → named_square f r ≡ Some s → named_square f r ≡ Some t → s ≡ t
@@ -137,8 +137,8 @@ pub begins_there : (p : Setup) (q : Parts) (s : ℕ) (m : Move) → q.letter ≡
     → is_denoted (Piece q) p m ≡ true → is_legal p m ≡ true → m.from ≡ s
 begins_there p q s m at square denoted legal =
     let h = legal_move p m legal in
-    from_square m.from h.from_in (told_of p m h.man) refl
-    (no_letter q (told_of p m h.man) at (fits_told p q m h denoted))
+    from_square m.from h.from_in (described_as p m h.man) refl
+    (no_letter q (described_as p m h.man) at (fits_told p q m h denoted))
   where
     from_square : (a : ℕ) → a < 64 → (d : Described) → d.from ≡ a → NoLetter q d → a ≡ s
     from_square a low d e (BySquares f r) =
@@ -168,7 +168,7 @@ pub by_pawn : (p : Setup) (q : Parts) (w : ℕ) → q.letter ≡ None → named_
 by_pawn p q w at square origins = λ m denoted legal.
     let h = legal_move p m legal in
     origins m legal (man_is p m h Pawn
-    (pawn_named q (told_of p m h.man) h.from_in at square (fits_told p q m h denoted)))
+    (pawn_named q (described_as p m h.man) h.from_in at square (fits_told p q m h denoted)))
     (denoted_ends (Piece q) p m denoted)
 
 king_by : (v : CastlingSide) (p : Setup) (m : Move) (o : Option Man)

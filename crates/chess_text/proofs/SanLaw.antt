@@ -39,7 +39,7 @@ use Rattle.chess_text.proofs.SameKinds.{same_kind-self, same_kind-true}
 use Rattle.chess_text.proofs.AllMoves.{any-move}
 use Rattle.chess_text.proofs.Lists.{any-map}
 use Rattle.chess_text.proofs.CastlingTexts.{IsCastling, letters_kingside, letters_queenside}
-use Rattle.chess_text.proofs.Legal.{MovesAs, IsMove, legal_move, told_of, described_is, castling_says, names_end}
+use Rattle.chess_text.proofs.Legal.{MovesAs, IsMove, legal_move, described_as, described_is, castling_says, names_end}
 use Rattle.chess_text.proofs.Pawns.{pawn_of, pawn_stands, advances_on_file, same_advance, advances_without, advances_straight, captures_ahead, same_ahead}
 use Rattle.chess_text.proofs.Solid.{bare_parts, bare_castling, bare_marked}
 use Rattle.chess_text.proofs.PieceText.{piece_written}
@@ -103,7 +103,7 @@ as_written None = refl
 as_written (Some k) = refl
 
 pawn_is : (p : Setup) (m : Move) (k : Kind)
-    → pawn_parts (told_of p m k) ≡ pawn_named (captures p m) m.from m.to (written true false m.promotion)
+    → pawn_parts (described_as p m k) ≡ pawn_named (captures p m) m.from m.to (written true false m.promotion)
 pawn_is p m k = ap (pawn_named (captures p m) m.from m.to) (as_written m.promotion)
 
 written_file : (c : Bool) (s : ℕ) → IfSome (if_written c (file s)) (λ f. f < 8)
@@ -134,7 +134,7 @@ pawn_form true from to o = refl
 pawn_form false from to o = refl
 
 pawn_fits : (p : Setup) (m : Move) (c : Bool) → captures p m ≡ c → (c ≡ false → file m.from ≡ file m.to)
-    → parts_fit (pawn_named c m.from m.to (written true false m.promotion)) (told_of p m Pawn) ≡ true
+    → parts_fit (pawn_named c m.from m.to (written true false m.promotion)) (described_as p m Pawn) ≡ true
 unfolding parts_fit is_by_squares is_by_letter is_straight is_by_file
 pawn_fits p m true e on =
     let a = eq-eqb (file m.from) (file m.from) refl in
@@ -155,7 +155,7 @@ record GoesStraight (p : Setup) (m n : Move) (l : Kind) : Type 0 where
   promotion : n.promotion ≡ m.promotion
 
 straight_fits : (p : Setup) (m n : Move) (l : Kind)
-    → parts_fit (pawn_named false m.from m.to (written true false m.promotion)) (told_of p n l) ≡ true → GoesStraight p m n l
+    → parts_fit (pawn_named false m.from m.to (written true false m.promotion)) (described_as p n l) ≡ true → GoesStraight p m n l
 unfolding parts_fit is_by_squares is_by_letter is_straight is_by_file
 straight_fits p m n l e =
     let straight : (same_kind Pawn l && (file n.from == file n.to) && (m.to == n.to)
@@ -181,7 +181,7 @@ record Takes (p : Setup) (m n : Move) (l : Kind) : Type 0 where
   promotion : n.promotion ≡ m.promotion
 
 takes_fits : (p : Setup) (m n : Move) (l : Kind)
-    → parts_fit (pawn_named true m.from m.to (written true false m.promotion)) (told_of p n l) ≡ true → Takes p m n l
+    → parts_fit (pawn_named true m.from m.to (written true false m.promotion)) (described_as p n l) ≡ true → Takes p m n l
 unfolding parts_fit is_by_squares is_by_letter is_straight is_by_file
 takes_fits p m n l e =
     let e4 = and_parts ((file m.from == file n.from) && true && same_kind Pawn l && captures p n && (m.to == n.to))
@@ -202,7 +202,7 @@ takes_fits p m n l e =
     no_rank true b c d e = refl
     no_rank false b c d e = refl
 
-    by_squares : parts_fit (pawn_named true m.from m.to (written true false m.promotion)) (told_of p n l) ≡ true
+    by_squares : parts_fit (pawn_named true m.from m.to (written true false m.promotion)) (described_as p n l) ≡ true
         → ((file m.from == file n.from) && true && same_kind Pawn l && captures p n && (m.to == n.to)
         && promotes_so (written true false m.promotion) n.promotion) ≡ true
     by_squares e =
@@ -243,7 +243,7 @@ as_pawn p n g is =
 
 pub pawn_alone : (p : Setup) (m n : Move) (c : Bool) → IsSound p → (h : IsMove p m) → h.man ≡ Pawn → (g : IsMove p n)
     → captures p m ≡ c
-    → parts_fit (pawn_named c m.from m.to (written true false m.promotion)) (told_of p n g.man) ≡ true → n ≡ m
+    → parts_fit (pawn_named c m.from m.to (written true false m.promotion)) (described_as p n g.man) ≡ true → n ≡ m
 pawn_alone p m n true sound h is g e fit =
     let f = takes_fits p m n g.man fit in
     let a = as_pawn p m h is in
@@ -271,7 +271,7 @@ pawn_on_file p m sound h is e =
 -- ---- other pieces
 
 abbrev rivals : Setup → Move → Kind → List ℕ
-rivals p m k = rival_starts p (moves p) (told_of p m k)
+rivals p m k = rival_starts p (moves p) (described_as p m k)
 
 abbrev lettered_named : Kind → Disambiguation → Bool → ℕ → ℕ → Parts
 lettered_named k start c from to =
@@ -284,7 +284,7 @@ lettered_named k start c from to =
     }
 
 lettered_is : (p : Setup) (m : Move) (k : Kind) (others : List ℕ) → m.promotion ≡ None
-    → lettered_parts others (told_of p m k) ≡ lettered_named k (disambiguate m.from others) (captures p m) m.from m.to
+    → lettered_parts others (described_as p m k) ≡ lettered_named k (disambiguate m.from others) (captures p m) m.from m.to
 lettered_is p m k others none =
     ap (λ (o : Option Kind). let start = disambiguate m.from others in
     let q : Parts = record {
@@ -314,7 +314,7 @@ unfolding is_form
 lettered_form k start c from to = refl
 
 lettered_fits : (p : Setup) (m : Move) (k : Kind) (start : Disambiguation) → castling p m ≡ None
-    → parts_fit (lettered_named k start (captures p m) m.from m.to) (told_of p m k) ≡ true
+    → parts_fit (lettered_named k start (captures p m) m.from m.to) (described_as p m k) ≡ true
 unfolding parts_fit is_by_squares is_by_letter is_straight is_by_file
 lettered_fits p m k start none =
     let a = same_kind-self k in
@@ -332,7 +332,7 @@ record Goes (p : Setup) (m n : Move) (k l : Kind) (start : Disambiguation) : Typ
   to : n.to ≡ m.to
 
 lettered_goes : (p : Setup) (m n : Move) (k l : Kind) (start : Disambiguation) (c : Bool)
-    → parts_fit (lettered_named k start c m.from m.to) (told_of p n l) ≡ true → Goes p m n k l start
+    → parts_fit (lettered_named k start c m.from m.to) (described_as p n l) ≡ true → Goes p m n k l start
 unfolding parts_fit is_by_squares is_by_letter is_straight is_by_file
 lettered_goes p m n k l start c e =
     let by_letter : (same_kind k l && is_none (castling p n) && admits (if_written start.file (file m.from)) (file n.from)
@@ -377,16 +377,16 @@ lettered_goes p m n k l start c e =
 
 -- a rival's start is among the rivals'
 rival_stands : (p : Setup) (m n : Move) (k : Kind) (t : ℕ → Bool) → is_legal p n ≡ true
-    → is_rival p (told_of p m k) n ≡ true → t n.from ≡ true → list_any t (rivals p m k) ≡ true
+    → is_rival p (described_as p m k) n ≡ true → t n.from ≡ true → list_any t (rivals p m k) ≡ true
 unfolding rival_starts
 rival_stands p m n k t legal rival e =
-    any-map t (λ (x : Move). x.from) (filter (λ x. is_rival p (told_of p m k) x) (moves p))
-    ∙ any-filter (λ x. is_rival p (told_of p m k) x) (λ (x : Move). t x.from) (moves p)
-    ∙ any-move p (λ x. is_rival p (told_of p m k) x && t x.from) n legal
-    (and_from (is_rival p (told_of p m k) n) (t n.from) rival e)
+    any-map t (λ (x : Move). x.from) (filter (λ x. is_rival p (described_as p m k) x) (moves p))
+    ∙ any-filter (λ x. is_rival p (described_as p m k) x) (λ (x : Move). t x.from) (moves p)
+    ∙ any-move p (λ x. is_rival p (described_as p m k) x && t x.from) n legal
+    (and_from (is_rival p (described_as p m k) n) (t n.from) rival e)
 
 rival_is : (p : Setup) (m n : Move) (k : Kind) (g : IsMove p n) → g.man ≡ k → n.to ≡ m.to → (n.from == m.from) ≡ false
-    → is_rival p (told_of p m k) n ≡ true
+    → is_rival p (described_as p m k) n ≡ true
 unfolding is_rival
 rival_is p m n k g man to apart =
     let a = eq-eqb n.to m.to to in
@@ -404,7 +404,7 @@ no_promotion p n Knight lettered h = h
 
 lettered_alone : (p : Setup) (m n : Move) (k : Kind) → HasLetter k → m.promotion ≡ None → is_legal p n ≡ true
     → (g : IsMove p n)
-    → parts_fit (lettered_named k (disambiguate m.from (rivals p m k)) (captures p m) m.from m.to) (told_of p n g.man) ≡ true
+    → parts_fit (lettered_named k (disambiguate m.from (rivals p m k)) (captures p m) m.from m.to) (described_as p n g.man) ≡ true
     → n ≡ m
 lettered_alone p m n k lettered none legal g fit = by_start (n.from == m.from) refl
   where
@@ -450,8 +450,8 @@ record HasParts (p : Setup) (m : Move) (k : Kind) (q : Parts) : Type 0 where
   are : AreParts q
   form : is_form q ≡ true
   word : IsWord (parts_text q)
-  fits_it : parts_fit q (told_of p m k) ≡ true
-  alone : (n : Move) → is_legal p n ≡ true → (g : IsMove p n) → parts_fit q (told_of p n g.man) ≡ true → n ≡ m
+  fits_it : parts_fit q (described_as p m k) ≡ true
+  alone : (n : Move) → is_legal p n ≡ true → (g : IsMove p n) → parts_fit q (described_as p n g.man) ≡ true → n ≡ m
 
 pawn_parts_of : (p : Setup) (m : Move) → IsSound p → (h : IsMove p m) → h.man ≡ Pawn
     → HasParts p m Pawn (pawn_named (captures p m) m.from m.to (written true false m.promotion))
@@ -478,14 +478,14 @@ along : (p : Setup) (m : Move) (k : Kind) (q r : Parts) → r ≡ q → HasParts
 along p m k q r e h = rw e h
 
 lettered_by : (p : Setup) (m : Move) (h : IsMove p m) → castling p m ≡ None → (k : Kind) → HasLetter k → h.man ≡ k
-    → HasParts p m k (lettered_parts (rivals p m k) (told_of p m k))
+    → HasParts p m k (lettered_parts (rivals p m k) (described_as p m k))
 lettered_by p m h walks k lettered is =
     let so : MovesAs p m k = subst (MovesAs p m) is h.moves_as in
     let none = no_promotion p m k lettered so in
     along p m k _ _ (lettered_is p m k (rivals p m k) none) (lettered_parts_of p m k lettered walks none h.from_in h.to_in)
 
 piece_by : (p : Setup) (m : Move) → IsSound p → (h : IsMove p m) → castling p m ≡ None → (k : Kind) → h.man ≡ k
-    → HasParts p m k (piece_parts (rivals p m k) (told_of p m k))
+    → HasParts p m k (piece_parts (rivals p m k) (described_as p m k))
 unfolding piece_parts
 piece_by p m sound h walks Pawn is = along p m Pawn _ _ (pawn_is p m Pawn) (pawn_parts_of p m sound h is)
 piece_by p m sound h walks King is = lettered_by p m h walks King tt is
@@ -495,11 +495,11 @@ piece_by p m sound h walks Bishop is = lettered_by p m h walks Bishop tt is
 piece_by p m sound h walks Knight is = lettered_by p m h walks Knight tt is
 
 piece_has_parts : (p : Setup) (m : Move) → IsSound p → (h : IsMove p m) → castling p m ≡ None
-    → HasParts p m h.man (piece_parts (rivals p m h.man) (told_of p m h.man))
+    → HasParts p m h.man (piece_parts (rivals p m h.man) (described_as p m h.man))
 piece_has_parts p m sound h walks = piece_by p m sound h walks h.man refl
 
 san_text : (p : Setup) (m : Move) (h : IsMove p m)
-    → san p m ≡ option_map_or castling_text (castling p m) (piece_text (rivals p m h.man) (told_of p m h.man)) ++ check_mark (after p m)
+    → san p m ≡ option_map_or castling_text (castling p m) (piece_text (rivals p m h.man) (described_as p m h.man)) ++ check_mark (after p m)
 unfolding san
 san_text p m h =
     ap (optional (λ d. unmarked_san (rival_starts p (moves p) d) d ++ check_mark (after p m))) (described_is p m h)
@@ -516,13 +516,13 @@ castling_law p m text w sound h e bare =
     record {
       has_shape = shape_castling text w is;
       alone = (
-        denotes_move p text m h ∙ denoted_castling text w (told_of p m h.man) is ∙ ap (passes (same_side w)) e
+        denotes_move p text m h ∙ denoted_castling text w (described_as p m h.man) is ∙ ap (passes (same_side w)) e
             ∙ same_side-self w,
         λ n legal s.
             let g = legal_move p n legal in
             let to =
             castles_so w (castling p n)
-            (sym (denotes_move p text n g ∙ denoted_castling text w (told_of p n g.man) is) ∙ s) in
+            (sym (denotes_move p text n g ∙ denoted_castling text w (described_as p n g.man) is) ∙ s) in
             same_castling p m n w sound h g e to,
       );
     }
@@ -532,27 +532,27 @@ piece_law : (p : Setup) (m : Move) (text : List ℕ) (q : Parts) (h : IsMove p m
 piece_law p m text q h parts bare = record {
   has_shape = shape_parts text q bare parts.are parts.form;
   alone = (
-    denotes_move p text m h ∙ denoted_parts text q (told_of p m h.man) bare parts.are ∙ parts.fits_it,
+    denotes_move p text m h ∙ denoted_parts text q (described_as p m h.man) bare parts.are ∙ parts.fits_it,
     λ n legal s.
         let g = legal_move p n legal in
-        parts.alone n legal g (sym (denotes_move p text n g ∙ denoted_parts text q (told_of p n g.man) bare parts.are)
+        parts.alone n legal g (sym (denotes_move p text n g ∙ denoted_parts text q (described_as p n g.man) bare parts.are)
         ∙ s),
   );
 }
 
 law_by : (p : Setup) (m : Move) (text : List ℕ) → IsSound p → (h : IsMove p m) → (o : Option CastlingSide)
     → castling p m ≡ o
-    → text ≡ option_map_or castling_text o (piece_text (rivals p m h.man) (told_of p m h.man)) ++ check_mark (after p m)
+    → text ≡ option_map_or castling_text o (piece_text (rivals p m h.man) (described_as p m h.man)) ++ check_mark (after p m)
     → Law p m text × Word text
 law_by p m text sound h (Some w) e is = (
   castling_law p m text w sound h e (ap unmarked is ∙ bare_marked (after p m) (castling_text w) (bare_castling w)),
   marked_word (after p m) (castling_text w) text (castling_word w) (castling_bytes w) is,
 )
 law_by p m text sound h None e is =
-    let q = piece_parts (rivals p m h.man) (told_of p m h.man) in
+    let q = piece_parts (rivals p m h.man) (described_as p m h.man) in
     let parts = piece_has_parts p m sound h e in
     let written : text ≡ parts_text q ++ check_mark (after p m) =
-    is ∙ ap (λ v. v ++ check_mark (after p m)) (piece_written (rivals p m h.man) (told_of p m h.man)) in (
+    is ∙ ap (λ v. v ++ check_mark (after p m)) (piece_written (rivals p m h.man) (described_as p m h.man)) in (
       piece_law p m text q h parts (ap unmarked written ∙ bare_marked (after p m) (parts_text q)
           (bare_parts q parts.are.to_is)),
       marked_word (after p m) (parts_text q) text parts.word (parts_bytes q parts.are) written,

@@ -12,9 +12,9 @@ use Rattle.chess_text.specs.declared.described.Described.{Described}
 use Rattle.chess_text.specs.Moves.{described}
 use Rattle.chess_text.specs.San.{rival_starts, unmarked_san, check_mark, san}
 use Rattle.chess_text.specs.ties.Forms.{promotes_as_a_pawn}
-use Rattle.chess_text.proofs.Legal.{MovesAs, legal_move, described_is, told_of}
+use Rattle.chess_text.proofs.Legal.{MovesAs, legal_move, described_is, described_as}
 
-by_kind : (p : Setup) (m : Move) (k : Kind) → MovesAs p m k → promotes_as_a_pawn (told_of p m k)
+by_kind : (p : Setup) (m : Move) (k : Kind) → MovesAs p m k → promotes_as_a_pawn (described_as p m k)
 by_kind p m Pawn h = refl
 by_kind p m King h = rw h refl
 by_kind p m Queen h = rw h refl
@@ -30,13 +30,13 @@ pub legal_promotes : (p : Setup) (m : Move) (d : Described) → IsTrue (is_legal
     → promotes_as_a_pawn d
 legal_promotes p m d h e =
     let move = legal_move p m h in
-    let is : d ≡ told_of p m move.man = some_same _ _ (e ∙ described_is p m move) in
+    let is : d ≡ described_as p m move.man = some_same _ _ (e ∙ described_is p m move) in
     rw is (by_kind p m move.man move.moves_as)
 
 -- a legal move is one of a piece
 pub always_described : {A : Type 0} (p : Setup) (m : Move) → IsTrue (is_legal p m) → None ≡ described p m → A
 always_described p m h e =
-    let is : described p m ≡ Some (told_of p m (legal_move p m h).man) = described_is p m (legal_move p m h) in
+    let is : described p m ≡ Some (described_as p m (legal_move p m h).man) = described_is p m (legal_move p m h) in
     absurd cc
 
 pub san_marked : (p : Setup) (m : Move) (d : Described) (unmarked : List ℕ) → Some d ≡ described p m

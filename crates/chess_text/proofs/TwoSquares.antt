@@ -23,7 +23,7 @@ use Rattle.chess_text.specs.ties.Forms.{is_denoted, named_square, squares_alone}
 use Rattle.chess_text.proofs.AllMoves.{only-move}
 use Rattle.chess_text.proofs.DenotedMoves.{denoted_ends}
 use Rattle.chess_text.proofs.DenotedStart.{denoted_as}
-use Rattle.chess_text.proofs.Legal.{legal_move, told_of}
+use Rattle.chess_text.proofs.Legal.{legal_move, described_as}
 use Rattle.chess_text.proofs.Origins.{begins_there, fits_told}
 use Rattle.chess_text.proofs.MovesFromStarts.{none_told, promotes_as}
 
@@ -98,7 +98,7 @@ move_denoted p q s h legal =
     let m = move_of s q.end.to None in
     let is = legal_move p m legal in
     let named = named_from q.file q.rank s h.square_is in
-    let d = told_of p m is.man in
+    let d = described_as p m is.man in
     denoted_as p m is q
     ∙ fits_between q s d h (squares_fit q.file q.rank s q.end.to is.man d.captures d.castles named.0 named.1)
 
@@ -111,10 +111,10 @@ no_other : (p : Setup) (q : Parts) (s : ℕ) (m : Move) → AreSquares q s → i
     → is_denoted (Piece q) p m ≡ true → m ≡ move_of s q.end.to None
 no_other p q s m h legal denoted =
     let is = legal_move p m legal in
-    let told : parts_fit q (told_of p m is.man) ≡ true = fits_told p q m is denoted in
+    let told : parts_fit q (described_as p m is.man) ≡ true = fits_told p q m is denoted in
     move_is m s q.end.to (begins_there p q s m h.no_letter h.square_is denoted legal)
     (denoted_ends (Piece q) p m denoted)
-    (none_told m.promotion (rw h.no_promotion at (promotes_as q (told_of p m is.man) h.no_letter told)))
+    (none_told m.promotion (rw h.no_promotion at (promotes_as q (described_as p m is.man) h.no_letter told)))
 
 none_of : (p : Setup) (t : Move → Bool) → ((m : Move) → is_legal p m ≡ true → t m ≡ true → ⊥) → (ms : List Move)
     → filter t (filter (λ m. is_legal p m) ms) ≡ []
