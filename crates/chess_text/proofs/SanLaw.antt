@@ -44,7 +44,7 @@ use Rattle.chess_text.proofs.Pawns.{pawn_of, pawn_stands, advances_on_file, same
 use Rattle.chess_text.proofs.Solid.{bare_parts, bare_castling, bare_marked}
 use Rattle.chess_text.proofs.PieceText.{piece_written}
 use Rattle.chess_text.proofs.WrittenBytes.{IsWord, Word, file_letter, man_letter, parts_bytes, castling_word, castling_bytes, marked_word}
-use Rattle.chess_text.proofs.WrittenStarts.{told_admits, told_apart}
+use Rattle.chess_text.proofs.WrittenStarts.{written_admits, told_apart}
 
 -- ---- castling
 
@@ -318,8 +318,8 @@ lettered_fits : (p : Setup) (m : Move) (k : Kind) (start : Disambiguation) → c
 unfolding parts_fit is_by_squares is_by_letter is_straight is_by_file
 lettered_fits p m k start none =
     let a = same_kind-self k in
-    let b = told_admits start.file (file m.from) in
-    let c = told_admits start.rank (rank m.from) in
+    let b = written_admits start.file (file m.from) in
+    let c = written_admits start.rank (rank m.from) in
     let d = not-or_self (captures p m) in
     let e = eq-eqb m.to m.to refl in
     rw (none, a, b, c, d, e) refl

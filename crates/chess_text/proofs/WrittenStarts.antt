@@ -6,9 +6,9 @@ use Rattle.chess_text.specs.ties.Fitting.{admits}
 use Rattle.chess_text.specs.ties.SanParts.{some_on_file, some_on_rank, distinction, disambiguate, if_written}
 
 -- the start itself is as written
-pub told_admits : (b : Bool) (n : ℕ) → admits (if_written b n) n ≡ true
-told_admits true n = eq-eqb n n refl
-told_admits false n = refl
+pub written_admits : (b : Bool) (n : ℕ) → admits (if_written b n) n ≡ true
+written_admits true n = eq-eqb n n refl
+written_admits false n = refl
 
 admitted : (n k : ℕ) → admits (if_written true n) k ≡ true → n ≡ k
 admitted n k e = eqb-true n k e
