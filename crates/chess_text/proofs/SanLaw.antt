@@ -44,7 +44,7 @@ use Rattle.chess_text.proofs.Pawns.{pawn_of, pawn_stands, advances_on_file, same
 use Rattle.chess_text.proofs.Solid.{bare_parts, bare_castling, bare_marked}
 use Rattle.chess_text.proofs.PieceText.{piece_written}
 use Rattle.chess_text.proofs.WrittenBytes.{IsWord, Word, file_letter, man_letter, parts_bytes, castling_word, castling_bytes, marked_word}
-use Rattle.chess_text.proofs.WrittenStarts.{written_admits, told_apart}
+use Rattle.chess_text.proofs.WrittenStarts.{written_admits, start_is_apart}
 
 -- ---- castling
 
@@ -417,7 +417,7 @@ lettered_alone p m n k lettered none legal g fit = by_start (n.from == m.from) r
         move_is n m (eqb-true n.from m.from e) goes.to (no_promotion p n k lettered so ∙ sym none)
     by_start false e =
         let rival = rival_is p m n k g goes.man goes.to e in
-        absurd (told_apart m.from n.from (rivals p m k)
+        absurd (start_is_apart m.from n.from (rivals p m k)
         (rival_stands p m n k (λ s. file s == file n.from) legal rival (eq-eqb (file n.from) (file n.from) refl))
         (rival_stands p m n k (λ s. rank s == rank n.from) legal rival (eq-eqb (rank n.from) (rank n.from) refl))
         (λ same. both_ways (n.from == m.from) e (eq-eqb n.from m.from same)) goes.file_fits goes.rank_fits)

@@ -17,12 +17,12 @@ pub same_square : (a b : ℕ) → file a ≡ file b → rank a ≡ rank b → b 
 same_square a b f r = omega arith
 
 -- no other start among the others is
-pub told_apart : (from s : ℕ) (others : List ℕ) → some_on_file (file s) others ≡ true
+pub start_is_apart : (from s : ℕ) (others : List ℕ) → some_on_file (file s) others ≡ true
     → some_on_rank (rank s) others ≡ true → s ≢ from
     → admits (if_written (disambiguate from others).file (file from)) (file s) ≡ true
     → admits (if_written (disambiguate from others).rank (rank from)) (rank s) ≡ true → ⊥
-told_apart from s [] f r differs a b = cc
-told_apart from s (o ∷ os) f r differs a b = by_tests (some_on_file (file from) (o ∷ os)) refl
+start_is_apart from s [] f r differs a b = cc
+start_is_apart from s (o ∷ os) f r differs a b = by_tests (some_on_file (file from) (o ∷ os)) refl
     (some_on_rank (rank from) (o ∷ os)) refl a b
   where
     by_tests : (x : Bool) → some_on_file (file from) (o ∷ os) ≡ x → (y : Bool) → some_on_rank (rank from) (o ∷ os) ≡ y
