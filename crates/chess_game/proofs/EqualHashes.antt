@@ -111,9 +111,9 @@ same_alike p q r this that e =
     && same_square (live_target p) (d i))
 
 -- so hashes that differ tell positions apart
-pub told_apart : (f : Hashing) (x y : Hashed) → IsSound x.position → IsSound y.position → HasHash f x → HasHash f y
+pub hashes_differ : (f : Hashing) (x y : Hashed) → IsSound x.position → IsSound y.position → HasHash f x → HasHash f y
     → not (x.hash == y.hash) ≡ true → is_same_position x.position y.position ≡ false
-told_apart f x y this that has_hash other_has differ =
+hashes_differ f x y this that has_hash other_has differ =
     false_from_ne_true (is_same_position x.position y.position)
     (λ e. let one : x.hash ≡ y.hash = has_hash ∙ equal_hashes f x.position y.position this that e ∙ sym other_has in
     let met : (x.hash == y.hash) ≡ true = eq-eqb x.hash y.hash one in
