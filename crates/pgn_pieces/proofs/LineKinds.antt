@@ -10,7 +10,7 @@ use Rattle.std.proofs.lemmas.List.{take-append-le, drop-append-le}
 use Rattle.std.proofs.lemmas.List.Folds.{prefix_len-append, length-prefix_len}
 use Rattle.std.proofs.lemmas.List.Sums.{prefix_len-le-length}
 use Rattle.pgn_pieces.specs.Pieces.{without_mark, front_of, is_name_byte, is_blank, tag_name, after_name, begins_tag, is_nothing, is_tag_line, is_event_line, is_moves_line}
-use Rattle.pgn_pieces.specs.ties.Held.{SameKind, Told}
+use Rattle.pgn_pieces.specs.ties.Held.{SameKind, IsDecided}
 
 -- ---- a line of 256 bytes or more
 
@@ -21,7 +21,7 @@ same_front a b h = record {
   moves = ap (λ f. not (begins_tag f || is_nothing f)) h;
 }
 
-pub told_long : (line : List ℕ) → 256 ≤ length line → Told line
+pub told_long : (line : List ℕ) → 256 ≤ length line → IsDecided line
 told_long line h more = same_front (line ++ more) line (ap without_mark (take-append-le 256 line more h))
 
 -- ---- a shorter tag line
@@ -138,7 +138,7 @@ taken (suc n) (x ∷ xs) ys h = let w = taken n xs ys (omega (arith, h)) in (w.0
 pub whole : (n : ℕ) (xs : List ℕ) → length xs ≤ n → take n xs ≡ xs
 whole n xs h = grind (arith, common_steps, h)
 
-told_short : (line : List ℕ) → length line ≤ 256 → is_tag_line line ≡ true → Told line
+told_short : (line : List ℕ) → length line ≤ 256 → is_tag_line line ≡ true → IsDecided line
 told_short line h tag more =
     let f = without_mark line in
     let front : front_of line ≡ f = ap without_mark (whole 256 line h) in
@@ -159,15 +159,15 @@ told_short line h tag more =
           ∙ sym (ap (λ b. not (b || is_nothing (front_of line))) tag);
     }
 
-pub told_tag : (line : List ℕ) → is_tag_line line ≡ true → Told line
+pub told_tag : (line : List ℕ) → is_tag_line line ≡ true → IsDecided line
 told_tag line tag = by_test (leb 256 (length line)) refl
   where
-    by_test : (b : Bool) → leb 256 (length line) ≡ b → Told line
+    by_test : (b : Bool) → leb 256 (length line) ≡ b → IsDecided line
     by_test true e = told_long line (leb-true 256 (length line) e)
     by_test false e = told_short line (grind (arith, nat_tests, e)) tag
 
 -- how a line of a known kind continues does not matter
-pub told_on : (line more : List ℕ) → Told line → Told (line ++ more)
+pub told_on : (line more : List ℕ) → IsDecided line → IsDecided (line ++ more)
 told_on line more told rest =
     let far = told (more ++ rest) in
     let near = told more in record {

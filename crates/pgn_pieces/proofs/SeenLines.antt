@@ -6,7 +6,7 @@ use Rattle.std.proofs.lemmas.Bool.{and_parts, and_left}
 use Rattle.std.proofs.lemmas.List.Folds.{list_any-append}
 use Rattle.pgn_pieces.specs.declared.piece_end.Seen.{Seen}
 use Rattle.pgn_pieces.specs.Pieces.{lines_of, is_tag_line, is_event_line, is_moves_line, begins_piece, cut_lines, cut, piece_of}
-use Rattle.pgn_pieces.specs.ties.Held.{HasSeen, MayGoOn, Told, SameKind, Ends, Steps, Looks, has_line_end}
+use Rattle.pgn_pieces.specs.ties.Held.{HasSeen, MayGoOn, IsDecided, SameKind, Ends, Steps, Looks, has_line_end}
 use Rattle.std.proofs.Math.Seq.{take-length, take-add}
 use Rattle.std.proofs.lemmas.List.{take-append-drop}
 use Rattle.std.proofs.lemmas.Grind.{common_steps}
@@ -114,7 +114,7 @@ add_whole seen seen' piece h body line is plain belongs out moves event =
 
 -- bytes of a line that may continue, and whose kind is known
 pub add_open : (seen seen' : Seen) (piece : List ℕ) (h : HasSeen seen piece) (text : List ℕ) → has_line_end text ≡ false
-    → Told (h.line ++ text) → begins_piece h.before (h.line ++ text) ≡ false → seen'.inside ≡ true
+    → IsDecided (h.line ++ text) → begins_piece h.before (h.line ++ text) ≡ false → seen'.inside ≡ true
     → seen'.moves ≡ (list_any is_moves_line h.before || is_moves_line (h.line ++ text))
     → seen'.event ≡ (list_any is_event_line h.before || is_event_line (h.line ++ text))
     → HasSeen seen' (piece ++ text)
@@ -163,7 +163,7 @@ pub whole_inside : (seen seen' : Seen) (body line : List ℕ) → line ≡ body 
     → seen.inside ≡ true → seen'.inside ≡ false → seen'.moves ≡ seen.moves → seen'.event ≡ seen.event
     → (piece : List ℕ) → HasSeen seen piece → HasSeen seen' (piece ++ line)
 whole_inside seen seen' body line is plain on out moves event piece h =
-    let told : Told h.line = subst (λ b. MayGoOn b h.line) on h.inside in
+    let told : IsDecided h.line = subst (λ b. MayGoOn b h.line) on h.inside in
     let same = told line in
     add_whole seen seen' piece h body line is plain (same_begin h.before (h.line ++ line) h.line same ∙ h.belongs) out
     (moves ∙ h.moves ∙ ap (λ b. list_any is_moves_line h.before || b) (sym same.moves))
@@ -203,7 +203,7 @@ whole_comes seen seen' body line is plain out t e m is_tag is_event is_moves bel
 pub open_inside : (seen : Seen) (line : List ℕ) → has_line_end line ≡ false → seen.inside ≡ true
     → (piece : List ℕ) → HasSeen seen piece → HasSeen seen (piece ++ take (length line) line)
 open_inside seen line plain on piece h =
-    let told : Told h.line = subst (λ b. MayGoOn b h.line) on h.inside in
+    let told : IsDecided h.line = subst (λ b. MayGoOn b h.line) on h.inside in
     let same = told line in
     subst (λ xs. HasSeen seen (piece ++ xs)) (sym (take-length line))
     (add_open seen seen piece h line plain (told_on h.line line told)
@@ -236,7 +236,7 @@ open_waits seen line plain out t is_tag not_tag piece h =
     ∙ and_left (is_tag_line line)
     (list_any is_moves_line h.before || (is_event_line line && list_any is_event_line h.before)) (sym is_tag ∙ not_tag))
 
-pub open_comes : (seen seen' : Seen) (line : List ℕ) → has_line_end line ≡ false → seen.inside ≡ false → Told line
+pub open_comes : (seen seen' : Seen) (line : List ℕ) → has_line_end line ≡ false → seen.inside ≡ false → IsDecided line
     → (t e m : Bool) → t ≡ is_tag_line line → e ≡ is_event_line line → m ≡ is_moves_line line
     → (t && (seen.moves || (e && seen.event))) ≡ false
     → seen'.moves ≡ (seen.moves || m) → seen'.event ≡ (seen.event || e) → seen'.inside ≡ true
@@ -244,7 +244,7 @@ pub open_comes : (seen seen' : Seen) (line : List ℕ) → has_line_end line ≡
 open_comes seen seen' line plain out told t e m is_tag is_event is_moves belongs moves event inside piece h =
     let none = out_of seen piece h out in
     subst (λ xs. HasSeen seen' (piece ++ xs)) (sym (take-length line))
-    (add_open seen seen' piece h line plain (subst (λ xs. Told (xs ++ line)) (sym none) told)
+    (add_open seen seen' piece h line plain (subst (λ xs. IsDecided (xs ++ line)) (sym none) told)
     (ap (λ xs. begins_piece h.before (xs ++ line)) none ∙ sym (test_is seen piece h none line t e is_tag is_event) ∙ belongs)
     inside
     (joined is_moves_line refl h.before h.line line seen.moves seen'.moves m h.moves none moves is_moves)

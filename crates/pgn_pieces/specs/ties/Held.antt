@@ -30,13 +30,13 @@ pub record SameKind (line line' : List ℕ) : Type 0 where
   pub moves : is_moves_line line ≡ is_moves_line line'
 
 -- the kind of a line that begins with these bytes is known, however it continues
-abbrev pub Told : List ℕ → Type 0
-Told line = (more : List ℕ) → SameKind (line ++ more) line
+abbrev pub IsDecided : List ℕ → Type 0
+IsDecided line = (more : List ℕ) → SameKind (line ++ more) line
 
 -- whether the last line of a piece may continue (true); then its kind is known
 abbrev pub MayGoOn : Bool → List ℕ → Type 0
 MayGoOn false line = line ≡ []
-MayGoOn true line = Told line
+MayGoOn true line = IsDecided line
 
 -- `seen` is what is known of the lines of a piece that has the bytes `piece` so far: the lines `before`, and then the
 -- beginning of one more, `line`
