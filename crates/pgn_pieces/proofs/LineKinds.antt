@@ -21,8 +21,8 @@ same_front a b h = record {
   moves = ap (λ f. not (begins_tag f || is_nothing f)) h;
 }
 
-pub told_long : (line : List ℕ) → 256 ≤ length line → IsDecided line
-told_long line h more = same_front (line ++ more) line (ap without_mark (take-append-le 256 line more h))
+pub decided_long : (line : List ℕ) → 256 ≤ length line → IsDecided line
+decided_long line h more = same_front (line ++ more) line (ap without_mark (take-append-le 256 line more h))
 
 -- ---- a shorter tag line
 
@@ -163,7 +163,7 @@ pub told_tag : (line : List ℕ) → is_tag_line line ≡ true → IsDecided lin
 told_tag line tag = by_test (leb 256 (length line)) refl
   where
     by_test : (b : Bool) → leb 256 (length line) ≡ b → IsDecided line
-    by_test true e = told_long line (leb-true 256 (length line) e)
+    by_test true e = decided_long line (leb-true 256 (length line) e)
     by_test false e = told_short line (grind (arith, nat_tests, e)) tag
 
 -- how a line of a known kind continues does not matter
