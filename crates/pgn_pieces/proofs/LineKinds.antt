@@ -138,8 +138,8 @@ taken (suc n) (x ∷ xs) ys h = let w = taken n xs ys (omega (arith, h)) in (w.0
 pub whole : (n : ℕ) (xs : List ℕ) → length xs ≤ n → take n xs ≡ xs
 whole n xs h = grind (arith, common_steps, h)
 
-told_short : (line : List ℕ) → length line ≤ 256 → is_tag_line line ≡ true → IsDecided line
-told_short line h tag more =
+decided_short : (line : List ℕ) → length line ≤ 256 → is_tag_line line ≡ true → IsDecided line
+decided_short line h tag more =
     let f = without_mark line in
     let front : front_of line ≡ f = ap without_mark (whole 256 line h) in
     let tag' : begins_tag f ≡ true = ap begins_tag (sym front) ∙ tag in
@@ -164,7 +164,7 @@ told_tag line tag = by_test (leb 256 (length line)) refl
   where
     by_test : (b : Bool) → leb 256 (length line) ≡ b → IsDecided line
     by_test true e = decided_long line (leb-true 256 (length line) e)
-    by_test false e = told_short line (grind (arith, nat_tests, e)) tag
+    by_test false e = decided_short line (grind (arith, nat_tests, e)) tag
 
 -- how a line of a known kind continues does not matter
 pub told_on : (line more : List ℕ) → IsDecided line → IsDecided (line ++ more)
