@@ -159,8 +159,8 @@ decided_short line h tag more =
           ∙ sym (ap (λ b. not (b || is_nothing (front_of line))) tag);
     }
 
-pub told_tag : (line : List ℕ) → is_tag_line line ≡ true → IsDecided line
-told_tag line tag = by_test (leb 256 (length line)) refl
+pub decided_tag : (line : List ℕ) → is_tag_line line ≡ true → IsDecided line
+decided_tag line tag = by_test (leb 256 (length line)) refl
   where
     by_test : (b : Bool) → leb 256 (length line) ≡ b → IsDecided line
     by_test true e = decided_long line (leb-true 256 (length line) e)

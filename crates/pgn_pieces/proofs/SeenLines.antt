@@ -11,7 +11,7 @@ use Rattle.std.proofs.Math.Seq.{take-length, take-add}
 use Rattle.std.proofs.lemmas.List.{take-append-drop}
 use Rattle.std.proofs.lemmas.Grind.{common_steps}
 use Rattle.pgn_pieces.specs.declared.piece_end.Step.TheVariants.{Begins, Waits, Belongs}
-use Rattle.pgn_pieces.proofs.LineKinds.{told_on, told_tag, whole}
+use Rattle.pgn_pieces.proofs.LineKinds.{told_on, decided_tag, whole}
 use Rattle.pgn_pieces.proofs.CutLines.{whole_line, first_line, concat_more, goes_on, ends_here, begun, last_line, some_bytes}
 
 or_false : (b : Bool) → (b || false) ≡ b
@@ -223,7 +223,7 @@ open_ends seen (c ∷ cs) some plain out t e is_tag is_event begins piece h =
       (c ∷ cs) ++ f.0,
       f.1,
       f.2,
-      same_begin h.before ((c ∷ cs) ++ f.0) (c ∷ cs) (told_tag (c ∷ cs) tag f.0)
+      same_begin h.before ((c ∷ cs) ++ f.0) (c ∷ cs) (decided_tag (c ∷ cs) tag f.0)
           ∙ sym (test_is seen piece h none (c ∷ cs) t e is_tag is_event) ∙ begins,
     )))
 

@@ -2,7 +2,7 @@
 use Rattle.std.proofs.Common.{refl, sym, ◌∙◌, arith}
 use Rattle.std.proofs.lemmas.Bool.{not-true, not-false}
 use Rattle.pgn_pieces.specs.ties.Held.{IsDecided}
-use Rattle.pgn_pieces.proofs.LineKinds.{decided_long, told_tag}
+use Rattle.pgn_pieces.proofs.LineKinds.{decided_long, decided_tag}
 use Rattle.pgn_pieces.proofs.SeenLines.{open_inside, open_ends, open_waits, open_comes}
 use Rattle.pgn_pieces.proofs.piece_end.Seen.see_open.Goals as goal
 use Rattle.pgn_pieces.proofs.piece_end.Seen.see_open.Goals.{else-not-kind-via-then-not-kind+else-line-lt-FRONT_LEN, else-not-kind-via-else-not-kind}
@@ -32,7 +32,7 @@ returns c =
     let k = c.kind_of-kind.ensures in
     let told : IsDecided c.args.line.now = elim c.else-not-kind.branch [
       | else-not-kind-via-then-not-kind+else-line-lt-FRONT_LEN w ↦ let long = w.if-line-lt-FRONT_LEN.false in decided_long c.args.line.now (omega (arith, long))
-      | else-not-kind-via-else-not-kind w ↦ told_tag c.args.line.now (sym k.tag ∙ not-false c.kind_of-kind.result.is_tag w.if-not-kind.false)
+      | else-not-kind-via-else-not-kind w ↦ decided_tag c.args.line.now (sym k.tag ∙ not-false c.kind_of-kind.result.is_tag w.if-not-kind.false)
     ] in (
       c.requires.plain.0,
       omega arith,
