@@ -167,8 +167,8 @@ decided_tag line tag = by_test (leb 256 (length line)) refl
     by_test false e = decided_short line (grind (arith, nat_tests, e)) tag
 
 -- how a line of a known kind continues does not matter
-pub told_on : (line more : List ℕ) → IsDecided line → IsDecided (line ++ more)
-told_on line more told rest =
+pub decided_on : (line more : List ℕ) → IsDecided line → IsDecided (line ++ more)
+decided_on line more told rest =
     let far = told (more ++ rest) in
     let near = told more in record {
       tag = ap is_tag_line (append_assoc line more rest) ∙ far.tag ∙ sym near.tag;

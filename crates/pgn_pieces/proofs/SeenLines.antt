@@ -11,7 +11,7 @@ use Rattle.std.proofs.Math.Seq.{take-length, take-add}
 use Rattle.std.proofs.lemmas.List.{take-append-drop}
 use Rattle.std.proofs.lemmas.Grind.{common_steps}
 use Rattle.pgn_pieces.specs.declared.piece_end.Step.TheVariants.{Begins, Waits, Belongs}
-use Rattle.pgn_pieces.proofs.LineKinds.{told_on, decided_tag, whole}
+use Rattle.pgn_pieces.proofs.LineKinds.{decided_on, decided_tag, whole}
 use Rattle.pgn_pieces.proofs.CutLines.{whole_line, first_line, concat_more, goes_on, ends_here, begun, last_line, some_bytes}
 
 or_false : (b : Bool) → (b || false) ≡ b
@@ -206,7 +206,7 @@ open_inside seen line plain on piece h =
     let told : IsDecided h.line = subst (λ b. MayGoOn b h.line) on h.inside in
     let same = told line in
     subst (λ xs. HasSeen seen (piece ++ xs)) (sym (take-length line))
-    (add_open seen seen piece h line plain (told_on h.line line told)
+    (add_open seen seen piece h line plain (decided_on h.line line told)
     (same_begin h.before (h.line ++ line) h.line same ∙ h.belongs) on
     (h.moves ∙ ap (λ b. list_any is_moves_line h.before || b) (sym same.moves))
     (h.event ∙ ap (λ b. list_any is_event_line h.before || b) (sym same.event)))
