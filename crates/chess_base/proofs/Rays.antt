@@ -147,7 +147,7 @@ guarded false q h = refl
 pub first_decides : (p : ℕ → Bool) (men : Men) (c : Colour) (b x : ℕ) → x < 64 → p x ≡ true
     → is_none (man_at men x) ≡ false → ((k : ℕ) → k < 64 → p k ≡ true → IsHidden men b x k)
     → strikes men c b x ≡ some_square (λ a. p a && strikes men c b a)
-first_decides p men c b x h on piece behind =
+first_decides p men c b x h on piece hidden =
     elim (cases_Bool (strikes men c b x)) [
       | inl passes ↦
           passes ∙ sym (some_square-at (λ a. p a && strikes men c b a) x h
@@ -155,7 +155,7 @@ first_decides p men c b x h on piece behind =
       | inr fails ↦
           fails ∙ sym (some_square-none (λ a. p a && strikes men c b a)
           (λ k low. guarded (p k) (strikes men c b k)
-          (λ e. all_hidden p men c b x k h piece fails (behind k low e))))
+          (λ e. all_hidden p men c b x k h piece fails (hidden k low e))))
     ]
 
 pub none_decides : (p : ℕ → Bool) (men : Men) (c : Colour) (b : ℕ)

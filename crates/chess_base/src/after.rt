@@ -36,8 +36,8 @@ pub fn second_square_emptied(setup: &Setup, m: &Move) -> Option<Square>
     ensures { result ≡ second_square_emptied setup.now m.now }
 {
     if is_en_passant(setup, m) {
-        let behind = forward(setup.side.other(), m.to.number());
-        return Some(Square::new(behind));
+        let one_back = forward(setup.side.other(), m.to.number());
+        return Some(Square::new(one_back));
     }
     rook_from(&castle_of(setup, m))
 }

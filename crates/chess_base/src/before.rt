@@ -25,8 +25,8 @@ fn captured_square(setup: &Setup, m: &Move) -> Option<Square>
     ensures { result ≡ captured_square setup.now m.now }
 {
     if is_en_passant(setup, m) {
-        let behind = forward(setup.side.other(), m.to.number());
-        Some(Square::new(behind))
+        let one_back = forward(setup.side.other(), m.to.number());
+        Some(Square::new(one_back))
     } else if is_of(setup.side.other(), setup.men[m.to.index()]) {
         Some(m.to)
     } else {
@@ -64,8 +64,8 @@ fn captured_from(colour: Colour, m: &Move, saved: &Saved) -> Option<Square>
     if saved.captured.is_none() {
         None
     } else if is_square(saved.target, m.to) {
-        let behind = forward(colour.other(), m.to.number());
-        Some(Square::new(behind))
+        let one_back = forward(colour.other(), m.to.number());
+        Some(Square::new(one_back))
     } else {
         Some(m.to)
     }

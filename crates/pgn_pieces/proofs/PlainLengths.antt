@@ -31,9 +31,9 @@ skip (suc n) (x ∷ xs) = by_test (eqb x 10) refl (skip n xs)
         ap (λ b. cond (not b) (1 + plain_len (take n xs)) 0) e in
         let here : plain_len (x ∷ xs) ≡ 1 + plain_len xs = ap (λ b. cond (not b) (1 + plain_len xs) 0) e in
         let up : 1 + plain_len (take n xs) ≡ suc (plain_len (take n xs)) = omega arith in
-        let behind : plain_len (drop (1 + plain_len (take n xs)) (x ∷ xs)) ≡ plain_len (drop (plain_len (take n xs)) xs) =
+        let further : plain_len (drop (1 + plain_len (take n xs)) (x ∷ xs)) ≡ plain_len (drop (plain_len (take n xs)) xs) =
         ap (λ k. plain_len (drop k (x ∷ xs))) up in
-        ap (λ k. past k (x ∷ xs)) front ∙ omega (arith, behind, on, here)
+        ap (λ k. past k (x ∷ xs)) front ∙ omega (arith, further, on, here)
 
 pub skipped : (n k r : ℕ) (text : List ℕ) → r ≡ plain_len (take n (drop k text)) → k + plain_len (drop k text) ≡ plain_len text
     → k + r + plain_len (drop (k + r) text) ≡ plain_len text

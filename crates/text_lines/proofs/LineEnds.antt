@@ -36,9 +36,9 @@ skip (suc n) (x ∷ xs) = by_test (eqb x 10) refl (skip n xs)
     by_test false e on =
         let here : line_len (x ∷ xs) ≡ 1 + line_len xs = one_more x xs e in
         let up : 1 + line_len (take n xs) ≡ suc (line_len (take n xs)) = omega arith in
-        let behind : line_len (drop (1 + line_len (take n xs)) (x ∷ xs)) ≡ line_len (drop (line_len (take n xs)) xs) =
+        let further : line_len (drop (1 + line_len (take n xs)) (x ∷ xs)) ≡ line_len (drop (line_len (take n xs)) xs) =
         ap (λ k. line_len (drop k (x ∷ xs))) up in
-        ap (λ k. past k (x ∷ xs)) (one_more x (take n xs) e) ∙ omega (arith, behind, on, here)
+        ap (λ k. past k (x ∷ xs)) (one_more x (take n xs) e) ∙ omega (arith, further, on, here)
 
 pub skipped : (n k r : ℕ) (text : List ℕ) → r ≡ line_len (take n (drop k text))
     → k + line_len (drop k text) ≡ line_len text → k + r + line_len (drop (k + r) text) ≡ line_len text

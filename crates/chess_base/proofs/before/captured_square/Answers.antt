@@ -6,5 +6,5 @@ use Rattle.chess_base.proofs.before.captured_square.Goals as goal
 pub new-requires : goal.new-requires
 new-requires c =
     let passed : is_en_passant c.args.setup.now c.args.m.now ≡ true = grind arith in
-    rw (c.forward-behind.ensures, c.number.ensures.value, c.other.ensures)
+    rw (c.forward-one_back.ensures, c.number.ensures.value, c.other.ensures)
     (en_passant_in_board c.args.setup.now c.args.m.now c.requires passed)
