@@ -104,7 +104,9 @@ is_castling_to p m w = is_man p.side King (man_at p.men m.from)
 
 -- the side to which move m castles; none if it is not castling
 unfoldable pub castling : Setup → Move → Option CastlingSide
-castling p m = if is_castling_to p m KingSide then Some KingSide else if is_castling_to p m QueenSide then Some QueenSide
+castling p m =
+    if is_castling_to p m KingSide then Some KingSide
+    else if is_castling_to p m QueenSide then Some QueenSide
     else None
 
 -- ---- the squares of a castling

@@ -84,7 +84,8 @@ one_rank_back c s = forward (other c) s
 -- the square, beside its start square, that move m empties: that of the pawn taken en passant, or of the castling rook;
 -- none for any other move
 unfoldable pub second_square_emptied : Setup → Move → Option ℕ
-second_square_emptied p m = if is_en_passant p m then Some (one_rank_back p.side m.to) else option_map (λ k. k.rook_from) (castle_of p m)
+second_square_emptied p m =
+    if is_en_passant p m then Some (one_rank_back p.side m.to) else option_map (λ k. k.rook_from) (castle_of p m)
 
 -- what the move changes on the board: the mover leaves `from` and arrives on `to`; in castling the rook does so from
 -- `second_from` to `second_to`, and a pawn taken en passant leaves `second_from`

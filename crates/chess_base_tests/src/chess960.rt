@@ -177,8 +177,8 @@ fn castles(position: Position, king: u8, rook: u8, ends: (u8, u8)) -> Result<boo
     Ok(true)
 }
 
-// Whether castling to the king's side and to the queen's side is legal from the start with that number, its other pieces
-// gone.
+// Whether castling to the king's side and to the queen's side is legal from the start with that number, its other
+// pieces gone.
 fn castlings_from(number: usize) -> Result<(bool, bool), Fail> {
     let rank = start_rank(number);
     let king = place_of(&rank, b'k').ok_or("a king")?;

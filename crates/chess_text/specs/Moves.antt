@@ -72,8 +72,8 @@ texts_by_letter d =
     else for_each (start_texts d.from) (λ start. for_each (capture_texts d.captures) (λ takes.
     (kind_text d.man ++ (start ++ (takes ++ square_text d.to))) ∷ []))
 
--- what may come before the end square of a pawn's move: nothing, if the pawn stays on its file; or, in any case, its file
--- or its start square, and `x` for a capture
+-- what may come before the end square of a pawn's move: nothing, if the pawn stays on its file; or, in any case, its
+-- file or its start square, and `x` for a capture
 abbrev pub pawn_starts : Described → List (List ℕ)
 pawn_starts d =
     (if file d.from == file d.to then [] ∷ [] else [])

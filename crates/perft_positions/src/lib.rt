@@ -1,5 +1,5 @@
-//! Positions from which other programs have counted the lines of legal moves (chessprogramming.org, Perft Results; Chess960 Perft
-//! Results), for tests and measurements.
+//! Positions from which other programs have counted the lines of legal moves (chessprogramming.org, Perft Results;
+//! Chess960 Perft Results), for tests and measurements.
 #![tactic(auto)]
 
 /// A position as a FEN, and how many lines of 1, 2, 3 and 4 legal moves begin there.

@@ -89,7 +89,8 @@ piece_of (c ∷ cs) = (c ∷ cs) ∷ []
 abbrev pub cut_lines : List (List ℕ) → List (List ℕ) → List (List ℕ)
 cut_lines before [] = piece_of (concat before)
 cut_lines before (line ∷ lines) =
-    if begins_piece before line then concat before ∷ cut_lines (line ∷ []) lines else cut_lines (before ++ line ∷ []) lines
+    if begins_piece before line then concat before ∷ cut_lines (line ∷ []) lines
+    else cut_lines (before ++ line ∷ []) lines
 
 -- the pieces that a text is cut into
 abbrev pub cut : List ℕ → List (List ℕ)
@@ -120,7 +121,8 @@ with_offsets offset (bytes ∷ rest) = piece_at offset bytes ∷ with_offsets (o
 -- the pieces that are known of an input from this offset on, where a piece begins, if this text follows there: all
 -- pieces, if the input ends after the text (`ended`), else all but the last, which may go on
 abbrev pub pieces_from : Bool → ℕ → List ℕ → List Piece
-pieces_from ended offset text = let all = cut text in with_offsets offset (if ended then all else take (length all - 1) all)
+pieces_from ended offset text =
+    let all = cut text in with_offsets offset (if ended then all else take (length all - 1) all)
 
 -- the pieces that are known of an input whose first bytes are this text
 unfoldable pub pieces : Bool → List ℕ → List Piece

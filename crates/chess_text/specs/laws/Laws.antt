@@ -87,7 +87,8 @@ ReadMovesAreLegal = (p : Setup) → (text : List ℕ) → (m : Move) → reading
 
 -- the coordinate text (e2e4) of a legal move of a sound position denotes that move, and no other legal move
 abbrev pub CoordinateDenotesItsMove : Type 0
-CoordinateDenotesItsMove = (p : Setup) → (m : Move) → IsSound p → IsTrue (is_legal p m) → DenotesAlone p (coordinate m) m
+CoordinateDenotesItsMove =
+    (p : Setup) → (m : Move) → IsSound p → IsTrue (is_legal p m) → DenotesAlone p (coordinate m) m
 
 -- the coordinate text of a legal move of a sound position has the shape of a move
 abbrev pub CoordinateHasShape : Type 0
@@ -100,7 +101,8 @@ CoordinateIsReadBack = (p : Setup) → (m : Move) → IsSound p → IsTrue (is_l
 
 -- the text by which lists of moves show a legal move of a sound position denotes that move, and no other legal move
 abbrev pub ShownMoveDenotesItsMove : Type 0
-ShownMoveDenotesItsMove = (p : Setup) → (m : Move) → IsSound p → IsTrue (is_legal p m) → DenotesAlone p (shown_move p m) m
+ShownMoveDenotesItsMove =
+    (p : Setup) → (m : Move) → IsSound p → IsTrue (is_legal p m) → DenotesAlone p (shown_move p m) m
 
 -- the text by which lists of moves show a legal move of a sound position has the shape of a move
 abbrev pub ShownMoveHasShape : Type 0
@@ -127,8 +129,8 @@ IsDenoted text d =
     ((w : CastlingSide) × (d.castles ≡ Some w) × IsTrue (is_castling_text text w))
     ⊎ ((q : Parts) × IfSome q.letter HasLetter × (unmarked text ≡ parts_text q) × IsTrue (parts_fit q d))
 
--- a text denotes a described move by `denotes_described`, which compares it with lists of all texts of that move, if and
--- only if it does by `IsDenoted`, which needs no lists: it names the castling, or is the text of parts that fit the
+-- a text denotes a described move by `denotes_described`, which compares it with lists of all texts of that move, if
+-- and only if it does by `IsDenoted`, which needs no lists: it names the castling, or is the text of parts that fit the
 -- move
 abbrev pub DenotedByText : Type 0
 DenotedByText = (text : List ℕ) → (d : Described) → IsTrue (denotes_described text d) ↔ IsDenoted text d

@@ -106,7 +106,8 @@ named_square (Some f) (Some r) = if nat_lt f 8 && nat_lt r 8 then Some (8 * r + 
 -- the set of squares w has at least the start square of each legal move that a text of this form denotes; it may have
 -- others too
 abbrev pub IsStart : Setup → Form → ℕ → Type 0
-IsStart p form w = (m : Move) → is_denoted form p m ≡ Bool.true → is_legal p m ≡ Bool.true → contains w m.from ≡ Bool.true
+IsStart p form w =
+    (m : Move) → is_denoted form p m ≡ Bool.true → is_legal p m ≡ Bool.true → contains w m.from ≡ Bool.true
 
 -- the kind of the pieces whose moves a text denotes, from the letter and the start square that it names, either of
 -- which may be missing: a letter's kind; without both a pawn (e4, exd5); with a start square alone none, since any
