@@ -13,12 +13,12 @@ ghost use Rattle.chess_game.specs.ties.PlayedMoves.{moves_of, Follows, IsKept};
 ghost use Rattle.chess_game.specs.ties.Buckets.{HaveEntries};
 ghost use Rattle.chess_game.specs.declared.repetition.Hashed.{Hashed};
 
-use crate::verdicts::{Claims, Verdict, has_insufficient_material, mates};
 use crate::index::{Entry, Index};
 use crate::iter::{Moves, Positions};
 use crate::packed::PackedPosition;
 use crate::repetition::Hashed;
 use crate::results::{Comment, Declared, Outcome};
+use crate::verdicts::{Claims, Verdict, has_insufficient_material, mates};
 use chess_base::{Colour, Man, Move, Position, Variant};
 use chess_moves::Board;
 use std::alloc::{AllocError, Global};

@@ -21,9 +21,9 @@ mod results;
 mod tags;
 mod verdicts;
 
-pub use verdicts::{Claims, Verdict};
 pub use game::{BoardSaysOtherwise, Game, MOST_MOVES, NoMove, PlayRefusal};
 pub use iter::{Moves, Positions};
 pub use result_text::ParseOutcomeError;
 pub use results::{Comment, Declared, Outcome};
 pub use tags::{HowEnded, TagText};
+pub use verdicts::{Claims, Verdict};

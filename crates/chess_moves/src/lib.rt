@@ -28,9 +28,9 @@ mod set;
 mod squares;
 
 pub use board::{Board, MoveList, make_then_take_back};
+pub use hashing::{ComputedKeys, Keys, hash_with, man_key, position_hash};
 pub use legal::legal_moves;
 pub use listing::would_promote;
 pub use plain::Plain;
 pub use set::SquareSet;
 pub use squares::Squares;
-pub use hashing::{ComputedKeys, Keys, man_key, position_hash, hash_with};

@@ -9,10 +9,10 @@ ghost use Rattle.chess_base.specs.Sound.{IsSound};
 ghost use Rattle.chess_moves.specs.Sets.{HasLegalStarts, contains};
 
 use crate::board::{Board, MoveList};
+use crate::hashing::position_hash;
 use crate::listing::{has_legal_move, legal_moves};
 use crate::moving::{move_back, move_on};
 use crate::set::SquareSet;
-use crate::hashing::position_hash;
 use chess_base::rules::{is_in_check, is_legal, is_man, saved_of};
 use chess_base::{Colour, Kind, Man, Move, Position, Saved, Setup, Square};
 use std::marker::Model;

@@ -206,9 +206,7 @@ fn plain_in_block(text: &[u8], offset: usize) -> usize
 #[inline(always)]
 fn plain_blocks(text: &[u8]) -> usize
     ensures within { result ≤ length text.now }
-    ensures plain {
-        result + position_or_len (λ c. c == 10) (drop result text.now) ≡ position_or_len (λ c. c == 10) text.now
-    }
+    ensures plain { result + position_or_len (λ c. c == 10) (drop result text.now) ≡ position_or_len (λ c. c == 10) text.now }
 {
     let mut offset = 0;
     while text.len() - offset >= BLOCK_LEN {

@@ -7,9 +7,9 @@ ghost use Rattle.pgn_pieces.specs.declared.pieces.TheConstants.{PIECE_LEN};
 ghost use Rattle.pgn_pieces.specs.Stream.{State, unread, past_piece, current, IsStateOf, Next};
 ghost use Rattle.pgn_pieces.specs.ties.Held.{passed, FindsEnd, LetGo, Adds};
 
-use crate::piece_end::Seen;
 use crate::gone::{BEGINNING_LEN, Gone};
 use crate::line_kinds::line_ends;
+use crate::piece_end::Seen;
 use byte_devices::Input;
 use std::alloc::{AllocError, Global};
 use std::marker::Model;
