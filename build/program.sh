@@ -44,7 +44,7 @@ build() {
     trap '' PIPE TTOU
     for it in rt flock find sort grep; do command -v "$it" >/dev/null || fail "$it is not on the path"; done
     find "$top/crates.txt" -printf '' 2>/dev/null || fail "find is not GNU find"
-    exec 9<"$top/tools"
+    exec 9<"$top/build"
     flock -n 9 || [ $? -ne 1 ] || { say "waiting for another build to end"; flock 9; }
     ! is_built || return 0
     mkdir -p "$out" && rm -f "$out/arbiter.sources" && : >"$log" || fail "$out can't be written"

@@ -1,14 +1,4 @@
-#!/usr/bin/env python3
-"""What a theorem rests on: counts, from the sources, which definitions of specs/ the contract of a function reaches.
-
-    tools/reach.py              the table of docs/claims/README.md
-    tools/reach.py NAME..       what these functions reach, file by file in reading order (`run_match`, `Game::play`)
-    tools/reach.py --rooms      for each file of specs/ which of its definitions serve the program, other calls, laws, or only ties,
-                                and which definitions are misplaced; the exit status is 1 if there are any
-    tools/reach.py --rooms NAME the definitions of one room: program, calls, laws, ties, proofs, nothing
-    tools/reach.py --uncommented
-                                the definitions that run_program reaches and that no comment is right above; the exit status is 1
-                                if there are any
+"""Counts, from the sources, which definitions of specs/ the contract of a function reaches; tools/checks/reach prints it.
 
 What is at the top of specs/ is to be reached by the contract of a function that a user of the crates can call; what is in
 specs/laws/ or specs/ties/ is not. A function reaches the definitions that its clauses name, those by which contracts see its
@@ -16,11 +6,7 @@ arguments, and what these name in turn. A definition's lines are counted without
 resolved by the imports of their file; no prover is asked."""
 
 import re
-import sys
 
-sys.dont_write_bytecode = True
-
-import needed
 from sources import HEAD, TOP, Name, Sources, Specs, imports_of, read, reading_order, without_comment
 
 HEADLINES = [
@@ -147,68 +133,3 @@ def table(reach):
         d, l, _ = reach.specs.count(keys)
         rows.append(f"| {room} | {d} | {l} | {meaning} |")
     return "\n".join(rows)
-
-
-def show(reach, name):
-    functions = reach.functions(name)
-    if not functions:
-        needed.stop(f"no public function with a contract is named {name}")
-    keys = reach.of(functions)
-    d, l, f = reach.specs.count(keys)
-    print(f"{name}: {d} definitions, {l} lines, {f} files")
-    for path, names in reach.by_file(keys):
-        print(f"  {path}: {' '.join(n for n in in_order(reach, path) if n in names)}")
-
-
-def in_order(reach, path):
-    return [k.name for k in reach.specs.definitions if k.path == path]
-
-
-def show_rooms(reach, wanted):
-    rooms = reach.rooms()
-    for path in reach.order:
-        keys = [k for k in reach.specs.definitions if k.path == path]
-        if not keys:
-            continue
-        if wanted:
-            names = [k.name for k in keys if rooms[k] == wanted]
-            if names:
-                print(f"{path} ({len(names)} of {len(keys)}): {' '.join(names)}")
-            continue
-        counts = [f"{room} {n}" for room in ROOMS if (n := sum(rooms[k] == room for k in keys))]
-        print(f"{path}: {', '.join(counts)}")
-
-
-def show_found(found, what):
-    """Prints what was found file by file. Returns the exit status."""
-    for path, names in found.items():
-        print(f"{path}: {', '.join(names)}")
-    print(f"{sum(map(len, found.values()))} definitions {what}")
-    return 1 if found else 0
-
-
-def main(words):
-    reach = Reach()
-    if words == ["--uncommented"]:
-        return show_found(reach.uncommented(), "have no comment right above them")
-    if words == ["--rooms"]:
-        show_rooms(reach, None)
-        print()
-        return show_found(reach.misplaced(), "are misplaced")
-    if words[:1] == ["--rooms"]:
-        if len(words) > 2 or words[1] not in ROOMS:
-            needed.stop(f"the rooms are {', '.join(ROOMS)}")
-        show_rooms(reach, words[1])
-    elif words:
-        for name in words:
-            show(reach, name)
-    else:
-        print(table(reach))
-    return 0
-
-
-if __name__ == "__main__":
-    try:
-        sys.exit(main(sys.argv[1:]))
-    except BrokenPipeError:
-        sys.stderr.close()

@@ -12,6 +12,11 @@ SEATS = ("first", "second")
 HANDSHAKE = ("xboard", "protover 2")
 
 
+def sans(movetext):
+    """Returns the moves of a movetext, without move numbers and result."""
+    return [word for word in movetext.split() if not re.fullmatch(r"\d+\.+|1-0|0-1|1/2-1/2|\*", word)]
+
+
 class WrittenGame:
     """A game of a match's PGN: its tags and its movetext."""
 
@@ -33,7 +38,7 @@ class WrittenGame:
 
     def sans(self):
         """Returns the moves, without move numbers and result."""
-        return [word for word in self.movetext.split() if not re.fullmatch(r"\d+\.+|1-0|0-1|1/2-1/2|\*", word)]
+        return sans(self.movetext)
 
 
 class LoggedLine:
@@ -115,9 +120,15 @@ class LoggedGame:
         return names[-1].strip() if names else ""
 
 
+def texts_of_games(pgn):
+    """Returns the text of each game of a PGN, from its line `[Event` on. It may be bytes; then so are these."""
+    event = rb"(?m)^(?=\[Event )" if isinstance(pgn, bytes) else r"(?m)^(?=\[Event )"
+    return re.split(event, pgn)[1:]
+
+
 def written_games(text):
     """Returns the games of a match's PGN."""
-    return [WrittenGame(part) for part in re.split(r"(?m)^(?=\[Event )", text)[1:]]
+    return [WrittenGame(part) for part in texts_of_games(text)]
 
 
 def logged_games(text):

@@ -61,6 +61,12 @@ def folder(path):
     return Path(path).resolve()
 
 
+def add_arbiter(parser, note=""):
+    """Adds the option --arbiter to the parser of a script for users, with a note on the program."""
+    about = f"the arbiter{note} [default: arbiter on the path]"
+    parser.add_argument("--arbiter", metavar="PROGRAM", default="arbiter", help=about)
+
+
 def positive(text):
     """Reads a number of an argument, from 1 on."""
     number = int(text)

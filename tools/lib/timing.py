@@ -1,13 +1,9 @@
-"""How long a program takes; for the scripts beside this one."""
+"""How long a program takes."""
 
 import os
 import resource
 import subprocess
 import time
-from pathlib import Path
-
-TOP = Path(__file__).resolve().parent.parent
-ARBITER = str(TOP / "crates/arbiter/out/arbiter")
 
 
 def processor_time(words, text=b"", stdout=subprocess.PIPE):

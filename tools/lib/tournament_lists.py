@@ -12,9 +12,9 @@ from dataclasses import dataclass
 from pathlib import Path
 
 import needed
+import sessions
 
 GIVEN = ("--white", "--black", "--games", "--fen", "--log")
-INITIAL = "rnbqkbnr/pppppppp/8/8/8/8/PPPPPPPP/RNBQKBNR w KQkq - 0 1"
 DEFAULT_LEVEL = "40 5 0"
 MOST_NAME = 60  # characters
 LONG_GAME = 100  # The moves of a game that --timeout should allow.
@@ -143,11 +143,7 @@ def session_commands(line, variant):
 
 def session(commands):
     """Returns the lines that a session answers. Ctrl-C does not reach it."""
-    how = {"encoding": "utf-8", "errors": "replace", "start_new_session": True}
-    run = subprocess.run(["arbiter"], input="\n".join(commands) + "\n", stdout=subprocess.PIPE, **how)
-    if run.returncode != 0:
-        needed.stop(f"arbiter ended with status {run.returncode}")
-    return run.stdout.splitlines()
+    return sessions.answers("arbiter", commands, encoding="utf-8", errors="replace", start_new_session=True)
 
 
 def read_openings(path, variant):

@@ -1,7 +1,8 @@
 """Plays the games of a tournament on one or several hosts, and tries its engines. tools/tournament uses it.
 
-A host plays a game by tools/play_game, here as a process of this script, elsewhere by ssh. GNU parallel is not used: it
-reports neither a game when it ends nor a host when it dies, and starting a job takes it longer than two stubs play.
+A host plays a game by tools/lib/play_game, here as a process of this script, elsewhere by ssh. GNU parallel is not
+used: it reports neither a game when it ends nor a host when it dies, and starting a job takes it longer than two stubs
+play.
 """
 
 import contextlib
@@ -18,10 +19,11 @@ from concurrent.futures import ThreadPoolExecutor
 from pathlib import Path
 
 import match_records
-from tournament_lists import INITIAL, refuse, report, show, without_date
+from boards import INITIAL
+from tournament_lists import refuse, report, show, without_date
 from tournament_table import CRASHES, STATUS, TIMED_OUT, collect, read_game
 
-TOOLS = Path(__file__).resolve().parent
+LIB = Path(__file__).resolve().parent
 # ssh gives a host up that does not answer for three intervals.
 SSH = "ssh -o ServerAliveInterval=15 -o ConnectTimeout=15"
 READY_SECONDS = 30  # for a host's answer to whether it can play
@@ -226,8 +228,8 @@ def try_engine(host, engine, opening, options, seconds):
 
 def game_words(host, seconds, quit_seconds, pair, opening, options):
     """Returns the command that plays a game on a host."""
-    scripts = [(TOOLS / name).read_text() for name in ("play_game", "watch_engine")]
-    return host.words(scripts[0], str(seconds), str(quit_seconds), scripts[1], *pair, "--fen", opening, *options)
+    play_game, watch_engine = (LIB / "play_game").read_text(), (LIB.parent / "watch_engine").read_text()
+    return host.words(play_game, str(seconds), str(quit_seconds), watch_engine, *pair, "--fen", opening, *options)
 
 
 def trials_of(hosts, lists, seconds):

@@ -66,8 +66,8 @@ def read_row(row, games):
 
 
 def judge(game, text, errors):
-    """Returns a game's outcome; None if it was not played to its end: then its host had trouble. Once tools/play_game
-    ends a game, the engines do nothing any more that counts."""
+    """Returns a game's outcome; None if it was not played to its end: then its host had trouble. Once play_game ends a
+    game, the engines do nothing any more that counts."""
     statuses = STATUS.findall(errors)
     status = int(statuses[-1]) if statuses else None
     written, logged = match_records.written_games(text), match_records.logged_games(ENDED_AFTER.split(errors)[0])

@@ -1,6 +1,8 @@
 # Plays a game of 20,000 half-moves in a session with 16 MiB: long.sh PROGRAM. After each move, and after each move that is
-# taken back, `rep` is how often the position has occurred, as it was counted with no part of this program (tools/long_game
-# made the game and the counts).
+# taken back, `rep` is how often the position has occurred, as it was counted with no part of this program: Debian's stockfish
+# listed the legal moves and gave each position's FEN, chance picked a move, and positions were counted by the first four
+# fields of their FENs. No pawn advances two squares, so there are no targets. No position occurs five times and no clock
+# gets to 150, so the game needs 133 captures and moves of pawns at least; the start has 138 moves of pawns.
 program=$1
 start='3k4/4pppp/4pppp/PPP1pppp/PPPPppp1/PPPP4/PPPP4/4K3 w - - 0 1'
 
