@@ -7,7 +7,9 @@ resolved by the imports of their file; no prover is asked."""
 
 import re
 
-from sources import HEAD, TOP, Name, Sources, Specs, imports_of, read, reading_order, without_comment
+from declared import Types
+from sources import HEAD, TOP, Name, Places, Sources, Specs, imports_of, read, reading_order, used_crates, without_comment
+from toolchain import Toolchain, guides
 
 HEADLINES = [
     "run_program", "run_session", "run_match", "read_words",
@@ -18,6 +20,9 @@ HEADLINES = [
     "Board::legal_moves", "Board::make", "Board::take_back", "make_then_take_back",
     "put", "Input::read", "Output::write",
 ]
+
+# The crates of the toolchain that together are std.
+STD = {"core", "std", "std_alloc", "std_collections", "std_io"}
 
 ROOMS = {
     "program": "reached by the contract of run_program",
@@ -34,6 +39,8 @@ class Reach:
         self.specs = Specs()
         self.sources = Sources()
         self.order = reading_order(read("docs/DEFINITIONS.md"))
+        self.types = Types(TOP / "crates", used_crates(), self.sources.models)
+        self.toolchain = Toolchain(guides()) if guides() else None
 
     def functions(self, name):
         """The public functions of that name; of methods the ones of the type itself."""
@@ -46,6 +53,30 @@ class Reach:
         for f in functions:
             roots |= self.sources.names_in(self.specs, f)
         return self.specs.reached(roots)
+
+    def places(self, functions):
+        """The (crate, module, name) of all that the contracts of functions, and the definitions that they reach, name."""
+        found = set().union(*(self.sources.names_in(Places(), f) for f in functions))
+        return found.union(*(self.specs.places(key) for key in self.of(functions)))
+
+    def types_of(self, functions):
+        """The types and constants of the code that these and the functions' signatures name, and that such types contain."""
+        roots = {self.types.find(*place) for place in self.places(functions)} - {None}
+        for f in functions:
+            roots |= self.types.in_text(f.crate, f.path.partition("/src/")[2].removesuffix(".rt"), f.signature)
+        return self.types.reached(roots)
+
+    def besides(self, functions):
+        """What is to be believed besides the definitions: rows of what it is, how many, and how many lines."""
+        rows = [("types and constants of the code", *self.types.count(self.types_of(functions)))]
+        if self.toolchain:
+            definitions, types = self.toolchain.beneath(self.places(functions))
+            crates = sorted({key.crate for key in definitions} - STD)
+            for name, keys in [*((crate, {crate}) for crate in crates), ("std", STD)]:
+                found = [key for key in definitions if key.crate in keys]
+                rows.append((f"definitions of the toolchain's {name}", *self.toolchain.count(found)[:2]))
+            rows.append(("types and constants of the toolchain", *self.toolchain.types.count(types)))
+        return [row for row in rows if row[1]]
 
     def by_file(self, keys):
         files = {}
@@ -133,3 +164,11 @@ def table(reach):
         d, l, _ = reach.specs.count(keys)
         rows.append(f"| {room} | {d} | {l} | {meaning} |")
     return "\n".join(rows)
+
+
+def table_besides(reach, version):
+    """The table of docs/claims/README.md on what run_program's contract rests on in all."""
+    functions = reach.functions("run_program")
+    rows = [("definitions of this repository", *reach.specs.count(reach.of(functions))[:2]), *reach.besides(functions)]
+    head = [f"| with {version} | how many | lines |", "|---|---:|---:|"]
+    return "\n".join(head + [f"| {what} | {count} | {lines} |" for what, count, lines in rows])

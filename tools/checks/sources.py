@@ -122,61 +122,101 @@ def imported_names(text):
             yield there.strip(), (here or there).strip()
 
 
+IMPORT = re.compile(r"(?:pub |unfoldable |ghost )*use ([^\s{]+?)(?:\.\{(.*)\}| as (\S+))?$")
+
+
+def place_of(path):
+    """The crate and the module of a path `Rattle.CRATE.specs.MODULE`; of another one, without a crate, the path itself."""
+    m = re.match(r"Rattle\.(\w+)\.specs\.(.*)$", path)
+    return (m.group(1), m.group(2)) if m else ("", path)
+
+
+# How the imports of a file of specs/ begin.
+IMPORTS = ("use ", "pub use ", "unfoldable pub use ")
+
+
 def imports_of(lines, prefix):
-    """Local name to (crate, module, name), and local alias to (crate, module)."""
+    """Local name to (crate, module, name), and local alias to (crate, module). Types of the code are in the modules
+    `declared.FILE.TYPE`, their variants in `declared.FILE.TYPE.TheVariants`, and constants in `declared.FILE.TheConstants`."""
     names, aliases = {}, {}
     for line in lines:
         line = line.strip().rstrip(";")
-        if not line.startswith(prefix):
-            continue
-        m = re.match(r"(?:ghost )?use Rattle\.(\w+)\.specs\.([\w.]+?)\.\{(.*)\}$", line)
-        if m and not m.group(2).startswith("declared"):
-            for there, here in imported_names(m.group(3)):
-                names[here] = (m.group(1), m.group(2), there)
-            continue
-        m = re.match(r"(?:ghost )?use Rattle\.(\w+)\.specs\.([\w.]+) as (\w+)$", line)
-        if m and not m.group(2).startswith("declared"):
-            aliases[m.group(3)] = (m.group(1), m.group(2))
+        m = IMPORT.match(line) if line.startswith(prefix) else None
+        if m and m.group(2) is not None:
+            for there, here in imported_names(m.group(2)):
+                names[here] = (*place_of(m.group(1)), there)
+        elif m and m.group(3):
+            aliases[m.group(3)] = place_of(m.group(1))
     return names, aliases
+
+
+def is_written(name, text):
+    """Whether a text uses a name that is no word, such as `◌++◌` or `⊤`."""
+    words = re.split(r"[\s(){}\[\],]+", text)
+    return all(part in words for part in name.split("◌") if part)
+
+
+def named(text, names, aliases, home=None, bound=frozenset()):
+    """Yields the (crate, module, name) of each name in a text that is imported, and of each other word as a name of `home`."""
+    for m in re.finditer(rf"(?<![\w.'])({WORD})(?:\.({WORD}))?", text):
+        first, second = m.group(1), m.group(2)
+        if first in bound or is_field(text, m.end(1)):
+            continue
+        if first in aliases and second:
+            yield (*aliases[first], second)
+        elif first in names:
+            yield names[first]
+        elif home:
+            yield (*home, first)
+    for here, there in names.items():
+        if not re.fullmatch(WORD, here) and is_written(here, text):
+            yield there
 
 
 # ---- definitions
 
 HEAD = re.compile(r"^(abbrev|unfoldable|record|data|pub record|pub data)(?: pub)? (\S+)")
+# The head of what is proved, and so is no definition; what follows belongs to it.
+LEMMA = re.compile(r"^(?:pub |unfolding .* )?[^\s(]+(?: \{[^{}]*\})? : ")
 
 
 class Specs:
-    """All definitions of all specs/."""
+    """The definitions of files of specs/: of all of this repository, unless others are given."""
 
-    def __init__(self):
+    def __init__(self, paths=None):
         self.definitions = {}
         self.files = []
         self.imports = {}
         self.constructors = {}
         self.infix = []
-        for path in sorted(TOP.glob("crates/*/specs/**/*.antt")):
+        for path in sorted(TOP.glob("crates/*/specs/**/*.antt")) if paths is None else paths:
             relative = path.relative_to(TOP).as_posix()
             crate = relative.split("/")[1]
             module = relative.split("/specs/")[1][: -len(".antt")].replace("/", ".")
-            self.read_file(relative, crate, module)
+            self.read_lines(relative, crate, module, read(relative).split("\n"))
 
-    def read_file(self, path, crate, module):
-        lines = read(path).split("\n")
-        found = 0
+    def read_lines(self, path, crate, module, lines):
+        """Reads the definitions of a file. Those of a block `module _ .. where` are indented."""
+        found = margin = 0
         current = None
         for raw in lines:
             line = without_comment(raw)
             if not line.strip():
+                continue
+            margin = min(margin, len(line) - len(line.lstrip()))
+            line = line[margin:]
+            if re.match(r"^module .* where$", line):
+                margin, current = margin + 2, None
                 continue
             m = HEAD.match(line)
             if m:
                 key = Name(crate, module, m.group(2))
                 current = Definition(key, m.group(1).replace("pub ", ""))
                 self.definitions[key] = current
-                if "◌" in key.name:
+                if not re.fullmatch(WORD, key.name):
                     self.infix.append(key)
                 found += 1
-            elif re.match(r"^(use|infix\w*|pub mod) ", line):
+            elif re.match(r"^(use|infix\w*|pub mod|pub use|mod) ", line) or LEMMA.match(line):
                 current = None
             if current:
                 current.body.append(line)
@@ -185,7 +225,7 @@ class Specs:
                     self.constructors[Name(crate, module, c.group(1))] = current.key
         if found:
             self.files.append(path)
-        self.imports[(crate, module)] = imports_of(lines, "use ")
+        self.imports[(crate, module)] = imports_of(lines, IMPORTS)
 
     def find(self, crate, module, name):
         """The definition, or the data type whose constructor has that name."""
@@ -194,42 +234,42 @@ class Specs:
 
     def resolve(self, text, names, aliases, home=None, bound=frozenset()):
         """The definitions that a text names."""
-        found = set()
-        for m in re.finditer(rf"(?<![\w.'])({WORD})(?:\.({WORD}))?", text):
-            first, second = m.group(1), m.group(2)
-            if first in bound or is_field(text, m.end(1)):
-                continue
-            if first in aliases and second:
-                found.add(self.find(*aliases[first], second))
-            elif first in names:
-                found.add(self.find(*names[first]))
-            elif home:
-                found.add(self.find(*home, first))
-        for here, there in names.items():
-            if "◌" in here and here.strip("◌") in text.split():
-                found.add(self.find(*there))
+        found = {self.find(*place) for place in named(text, names, aliases, home, bound)}
         if home:
-            found |= {k for k in self.infix if (k.crate, k.module) == home and k.name.strip("◌") in text.split()}
+            found |= {k for k in self.infix if (k.crate, k.module) == home and is_written(k.name, text)}
         found.discard(None)
         return found
 
-    def references(self, key):
+    def texts(self, key):
+        """The parts of a definition, each with the names that are bound in it."""
         definition = self.definitions[key]
-        names, aliases = self.imports[(key.crate, key.module)]
-        found = set()
         if definition.kind in ("record", "data"):
             bound = set(re.findall(rf"[({{]((?:{WORD} )+):", definition.body[0]))
             bound = {w for group in bound for w in group.split()}
-            text = "\n".join([definition.body[0].split(" where")[0]] + [re.sub(rf"^  (pub )?{WORD} :", "  ", l) for l in definition.body[1:]])
-            found = self.resolve(text, names, aliases, (key.crate, key.module), bound)
-        else:
-            for equation in equations(definition):
-                found |= self.resolve(equation, names, aliases, (key.crate, key.module), bound_in(equation, key.name))
-        if "do" in re.findall(WORD, "\n".join(definition.body)):
+            fields = [re.sub(rf"^  (pub )?{WORD} :", "  ", line) for line in definition.body[1:]]
+            return [("\n".join([definition.body[0].split(" where")[0]] + fields), bound)]
+        return [(equation, bound_in(equation, key.name)) for equation in equations(definition)]
+
+    def references(self, key):
+        """The definitions that a definition names."""
+        names, aliases = self.imports[(key.crate, key.module)]
+        found = set()
+        for text, bound in self.texts(key):
+            found |= self.resolve(text, names, aliases, (key.crate, key.module), bound)
+        if "do" in re.findall(WORD, "\n".join(self.definitions[key].body)):
             found |= {k for k in self.infix if (k.crate, k.module) == (key.crate, key.module) and k.name == "◌>>=◌"}
             if "◌>>=◌" in names:
                 found.add(self.find(*names["◌>>=◌"]))
         found.discard(key)
+        found.discard(None)
+        return found
+
+    def places(self, key):
+        """The (crate, module, name) of all that a definition names from elsewhere."""
+        names, aliases = self.imports[(key.crate, key.module)]
+        found = {place for text, bound in self.texts(key) for place in named(text, names, aliases, None, bound)}
+        if "do" in re.findall(WORD, "\n".join(self.definitions[key].body)) and "◌>>=◌" in names:
+            found.add(names["◌>>=◌"])
         return found
 
     def reached(self, roots):
@@ -244,6 +284,14 @@ class Specs:
     def count(self, keys):
         """How many definitions, how many lines of them, and in how many files."""
         return len(keys), sum(self.definitions[k].lines for k in keys), len({k.path for k in keys})
+
+
+class Places:
+    """Takes the place of definitions where all that clauses name is looked for."""
+
+    def resolve(self, text, names, aliases, home=None, bound=frozenset()):
+        """The (crate, module, name) of all that a text names from elsewhere."""
+        return set(named(text, names, aliases, None, bound))
 
 
 def is_field(text, end):
