@@ -67,6 +67,7 @@ class Name:
 class Definition:
     key: Name
     kind: str
+    line: int  # in its file, from 1 on
     body: list = field(default_factory=list)
     constructors: list = field(default_factory=list)
 
@@ -81,12 +82,15 @@ class Function:
 
     crate: str
     path: str
+    line: int  # in its file, from 1 on
+    margin: int  # of its clauses
     owner: str
     name: str
     is_pub: bool
     signature: str
     clauses: list = field(default_factory=list)  # (requires or ensures, name or '', text)
     body_is_empty: bool = False
+    gives: list = field(default_factory=list)  # what its impl promises by `ghost NAME = {TEXT};`: (name, TEXT)
 
     @property
     def full_name(self):
@@ -185,6 +189,7 @@ class Specs:
 
     def __init__(self, paths=None):
         self.definitions = {}
+        self.named_by = {}  # what `references` found
         self.files = []
         self.imports = {}
         self.constructors = {}
@@ -199,7 +204,7 @@ class Specs:
         """Reads the definitions of a file. Those of a block `module _ .. where` are indented."""
         found = margin = 0
         current = None
-        for raw in lines:
+        for number, raw in enumerate(lines, 1):
             line = without_comment(raw)
             if not line.strip():
                 continue
@@ -211,7 +216,7 @@ class Specs:
             m = HEAD.match(line)
             if m:
                 key = Name(crate, module, m.group(2))
-                current = Definition(key, m.group(1).replace("pub ", ""))
+                current = Definition(key, m.group(1).replace("pub ", ""), number)
                 self.definitions[key] = current
                 if not re.fullmatch(WORD, key.name):
                     self.infix.append(key)
@@ -252,6 +257,11 @@ class Specs:
 
     def references(self, key):
         """The definitions that a definition names."""
+        if key not in self.named_by:
+            self.named_by[key] = self.find_references(key)
+        return self.named_by[key]
+
+    def find_references(self, key):
         names, aliases = self.imports[(key.crate, key.module)]
         found = set()
         for text, bound in self.texts(key):
@@ -349,7 +359,7 @@ class Sources:
         lines = read(path).split("\n")
         names, aliases = imports_of(lines, "ghost use ")
         self.imports[path] = (names, aliases)
-        owner, model, is_trait, of_trait = "", None, False, False
+        owner, model, is_trait, of_trait, gives = "", None, False, False, []
         i = 0
         while i < len(lines):
             line = lines[i]
@@ -358,7 +368,7 @@ class Sources:
             elif m := re.match(r"^impl(?:<.*?>+)? (?:(.+?) for )?([\w:]+)", line):
                 what = m.group(1)
                 owner, is_trait, of_trait = m.group(2).split("::")[-1], False, bool(what)
-                model = owner if what == "Model" else None
+                model, gives = owner if what == "Model" else None, []
             elif re.match(r"^\}", line):
                 owner, model, is_trait, of_trait = "", None, False, False
             if model and (m := re.match(r"^\s+ghost Value = \{(.*)\};", line)):
@@ -367,22 +377,24 @@ class Sources:
                 self.ghosts.setdefault(owner, []).append((path, m.group(2)))
             if of_trait and (m := re.match(r"^\s+ghost (\w+) = ", line)):
                 self.members.setdefault((crate, owner), set()).add(m.group(1))
-            if of_trait and (m := re.match(r"^\s+ghost (?:output|\w+_gives) = \{(.*)\};", line)):
-                self.promised.append((path, m.group(1)))
+            if of_trait and (m := re.match(r"^\s+ghost (output|\w+_gives) = \{(.*)\};", line)):
+                self.promised.append((path, m.group(2)))
+                gives.append((m.group(1), m.group(2)))
             if m := re.match(r"^\s*(pub )?(?:pub\(\w+\) )?(?:const )?fn (\w+)", line):
                 is_pub = bool(m.group(1)) or is_trait or of_trait
                 i = self.read_function(crate, path, lines, i, owner, m.group(2), is_pub)
+                self.functions[-1].gives = gives if of_trait else []
             i += 1
 
     def read_function(self, crate, path, lines, i, owner, name, is_pub):
-        signature, clauses, kind = [], [], None
+        signature, clauses, kind, line_number, is_whole = [], [], None, i + 1, True
         indent = len(lines[i]) - len(lines[i].lstrip())
         while True:
             line = lines[i]
             if m := re.match(r"^\s+(requires|ensures|decreases)( \w+)? \{(.*)$", line):
                 kind = m.group(1)
                 clauses.append([kind, (m.group(2) or "").strip(), m.group(3)])
-            elif kind and line.strip() not in ("{", "{}", "}") and not line.strip().startswith("//"):
+            elif kind and not line.strip().startswith("//") and (line.strip() not in ("{", "{}", "}") or not is_whole):
                 clauses[-1][2] += "\n" + line
             elif not kind:
                 signature.append(line)
@@ -395,7 +407,10 @@ class Sources:
             if not kind and line.rstrip().endswith(("{", "{}")) or ends_here:
                 break
             i += 1
-        self.functions.append(Function(crate, path, owner, name, is_pub, "\n".join(signature), [tuple(c) for c in clauses], lines[i].strip() == "{}"))
+        clauses, is_empty = [tuple(c) for c in clauses], lines[i].strip() == "{}"
+        self.functions.append(
+            Function(crate, path, line_number, indent + 4, owner, name, is_pub, "\n".join(signature), clauses, is_empty)
+        )
         return i
 
     def exported(self, crate):
@@ -429,18 +444,21 @@ class Sources:
     def is_law(self, f):
         return self.is_public(f) and f.path.endswith("/laws.rt")
 
+    def bound_in_clause(self, f, text):
+        """The names that stand for values in a clause: parameters, and what the clause binds."""
+        parameters = set(re.findall(r"(?:^|[(,\s])(?:mut )?([a-z_]\w*):", f.signature))
+        bound = parameters | {w for g in re.findall(r"λ ([^.]*)\.", text) for w in re.findall(WORD, g)}
+        bound |= {w for g in re.findall(rf"\(((?:{WORD} )+):", text) for w in g.split()}
+        used = {w for w in bound if not re.search(rf"(?<![\w.']){re.escape(w)}\.(now|old|new|entry)", text)}
+        return bound - (used & set(self.imports[f.path][0]) & parameters)
+
     def names_in(self, specs, f, wanted=None):
         """The definitions that its clauses name, or the wanted ones of them, with those by which contracts see its arguments."""
         names, aliases = self.imports[f.path]
-        parameters = set(re.findall(r"(?:^|[(,\s])(?:mut )?([a-z_]\w*):", f.signature))
         found = set()
         for kind, name, text in f.clauses:
-            if wanted is not None and kind == "ensures" and name not in wanted:
-                continue
-            bound = parameters | {w for g in re.findall(r"λ ([^.]*)\.", text) for w in re.findall(WORD, g)}
-            bound |= {w for g in re.findall(rf"\(((?:{WORD} )+):", text) for w in g.split()}
-            used = {w for w in bound if not re.search(rf"(?<![\w.']){re.escape(w)}\.(now|old|new|entry)", text)}
-            found |= specs.resolve(text, names, aliases, None, bound - (used & set(names) & parameters))
+            if wanted is None or kind != "ensures" or name in wanted:
+                found |= specs.resolve(text, names, aliases, None, self.bound_in_clause(f, text))
         for word in set(re.findall(r"\w+", f.signature)) | {f.owner}:
             for (crate, model), (path, text) in self.models.items():
                 if model == word and (crate == f.crate or crate in self.uses.get(f.crate, []) and model in self.exports[crate]):
