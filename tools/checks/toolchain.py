@@ -18,11 +18,6 @@ def guides():
     return folder if folder and folder.is_dir() else None
 
 
-def version():
-    """The name of the toolchain's version, such as `rattle-kit-13b`."""
-    return subprocess.run(["rt", "version"], stdout=subprocess.PIPE, encoding="utf-8").stdout.split()[0]
-
-
 class Toolchain(Specs):
     """The definitions of the toolchain's crates; a file is read when a name of it is looked up."""
 
@@ -30,6 +25,10 @@ class Toolchain(Specs):
         super().__init__([])
         self.folder, self.known, self.passed_on, self.modules = folder, set(), {}, {}
         self.types = Types(folder, {}, {})
+
+    def version(self):
+        """The name of the toolchain's version, such as `rattle-kit-13b`."""
+        return subprocess.run(["rt", "version"], stdout=subprocess.PIPE, encoding="utf-8").stdout.split()[0]
 
     def lines_of(self, crate, module):
         path = self.folder / crate / "specs" / f"{module.replace('.', '/')}.antt"
