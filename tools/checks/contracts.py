@@ -14,8 +14,8 @@ def link(name, path, line):
 
 
 def clause_lines(function, wanted):
-    """The lines of a function's clauses `requires`, of the wanted ones of its clauses `ensures`, and of the wanted promises
-    of its impl."""
+    """The lines of a function's clauses `requires`, of the wanted ones of its clauses `ensures`, and of what its impl
+    promises of these."""
     lines = [f"ghost {name} = {{{text}}};" for name, text in function.gives if name in wanted]
     for kind, name, text in function.clauses:
         if kind == "requires" or kind == "ensures" and name in wanted:
@@ -26,7 +26,7 @@ def clause_lines(function, wanted):
 
 
 def top_definitions(reached, function, wanted):
-    """The definitions that wanted clauses name and that no other one of the same clause reaches, in the clauses' order."""
+    """The definitions that wanted clauses name and that no other one there reaches, in the clauses' order."""
     names, aliases = reached.sources.imports[function.path]
     texts = [text for name, text in function.gives if name in wanted]
     texts += [text for kind, name, text in function.clauses if kind == "ensures" and name in wanted]
@@ -93,6 +93,8 @@ def paths(reached, table, readme):
     head, rows = table.split("\n")[:2], [row.strip("| ").split(" | ") for row in table.split("\n")[2:]]
     claims = [re.findall(r"\[`([^`]+)`\]\(docs/THEOREMS", line) for line in readme.split("\n") if line.startswith("| ")]
     claims = [names for names in claims if names]
-    faults = [] if [names_of(theorems) for theorems, _ in rows] == claims else [f"its theorems are not README's: {claims}"]
     found = [path_row(reached, *row) for row in rows]
-    return "\n".join(head + [row for row, _ in found]), faults + [fault for _, wrong in found for fault in wrong]
+    faults = [fault for _, wrong in found for fault in wrong]
+    if [names_of(theorems) for theorems, _ in rows] != claims:
+        faults.append(f"its theorems are not README's: {claims}")
+    return "\n".join(head + [row for row, _ in found]), faults

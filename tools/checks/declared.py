@@ -1,6 +1,6 @@
-"""The types and constants of the code that definitions name: in imports they are under `declared`. Their lines are counted
-without comments, attributes and empty lines. A type brings with it the types that its fields name, but for those that
-contracts see by a model and not by their fields."""
+"""The types and constants of the code that definitions name: in imports they are under `declared`. Their lines are
+counted without comments, attributes and empty lines. A type brings with it the types that its fields name, but for those
+that contracts see by a model and not by their fields."""
 
 import re
 from dataclasses import dataclass
@@ -19,8 +19,8 @@ class Item:
 
 
 class Types:
-    """The types and constants that the files of some crates declare. `folder` has the crates, `uses` names those that each
-    crate uses, and `models` has the crate and the name of each type with a model."""
+    """The types and constants that the files of some crates declare. `folder` has the crates, `uses` names those that
+    each crate uses, and `models` has the crate and the name of each type with a model."""
 
     def __init__(self, folder, uses, models):
         self.folder, self.uses, self.models, self.crates, self.imports = folder, uses, models, {}, {}

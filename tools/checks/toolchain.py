@@ -1,4 +1,4 @@
-"""The definitions and types of the toolchain's crates, whose sources it publishes beside its guides; they are only read."""
+"""The definitions and types of the toolchain's crates. It publishes their sources beside its guides; they are only read."""
 
 import re
 import shutil
@@ -47,7 +47,7 @@ class Toolchain(Specs):
         return True
 
     def home_of(self, crate, module):
-        """The crate and module in whose file a module's text is: a crate passes on modules of another one in its Lib."""
+        """The crate and module in whose file a module's text is: a crate may pass on another one's modules in its Lib."""
         if not crate or self.read_module(crate, module):
             return crate, module
         if crate not in self.modules:
@@ -58,7 +58,7 @@ class Toolchain(Specs):
         return self.home_of(*place_of(f"{path}{dot}{rest}")) if path else ("", f"{crate}.{module}")
 
     def find(self, crate, module, name):
-        """The definition of a name, or the data type whose constructor has it; None of a name of the logic or of a type."""
+        """The definition of a name, or the data type whose constructor has it; None for names of the logic and types."""
         crate, module = self.home_of(crate, module)
         if (crate, module) not in self.known:
             return None
@@ -66,7 +66,7 @@ class Toolchain(Specs):
         return super().find(crate, module, name) or (self.find(*there) if there else None)
 
     def beneath(self, places):
-        """The definitions that these (crate, module, name) and what they name in turn reach, and the types that they name."""
+        """The definitions that these (crate, module, name) reach, and the types that they and these definitions name."""
         reached = self.reached({self.find(*place) for place in places} - {None})
         places = places.union(*(self.places(key) for key in reached))
         return reached, {self.types.find(*place) for place in places} - {None}
