@@ -42,7 +42,7 @@ def top_definitions(reached, function, wanted):
 def contract(reached, function, wanted):
     """The lines that show a function's contract: links to it and to its top definitions, and its clauses."""
     tops = ", ".join(link(top.key.name, top.key.path, top.line) for top in top_definitions(reached, function, wanted))
-    head = link(function.full_name, function.path, function.line) + (f", by {tops}" if tops else "")
+    head = link(function.full_name, function.path, function.line) + (f" in terms of {tops}" if tops else "")
     lines = clause_lines(function, wanted)
     if not lines:
         return [head, ""]
