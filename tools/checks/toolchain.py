@@ -65,8 +65,16 @@ class Toolchain(Specs):
         there = self.passed_on[crate, module].get(name)
         return super().find(crate, module, name) or (self.find(*there) if there else None)
 
+    def origin(self, crate, module, name):
+        """The place from which a name is passed on to here, or this place."""
+        if module.startswith("declared"):
+            return crate, module, name
+        home = self.home_of(crate, module)
+        there = self.passed_on.get(home, {}).get(name)
+        return self.origin(*there) if there else (*home, name)
+
     def beneath(self, places):
         """The definitions that these (crate, module, name) reach, and the types that they and these definitions name."""
         reached = self.reached({self.find(*place) for place in places} - {None})
         places = places.union(*(self.places(key) for key in reached))
-        return reached, {self.types.find(*place) for place in places} - {None}
+        return reached, {self.types.find(*self.origin(*place)) for place in places} - {None}
