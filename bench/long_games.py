@@ -5,6 +5,7 @@ import random
 import subprocess
 
 import needed
+from boards import board_of
 
 
 class Session:
@@ -32,20 +33,6 @@ class Session:
     def end(self):
         self.program.stdin.close()
         self.program.wait()
-
-
-def board_of(fen):
-    """Returns the pieces of a FEN by square."""
-    pieces = {}
-    for rank, row in zip("87654321", fen.split()[0].split("/")):
-        file = 0
-        for letter in row:
-            if letter.isdigit():
-                file += int(letter)
-            else:
-                pieces["abcdefgh"[file] + rank] = letter
-                file += 1
-    return pieces
 
 
 def long_game(arbiter, length):

@@ -1,0 +1,169 @@
+"""Reads the records of a match: the PGN that `arbiter match` writes, and the log of `--log` with its other lines."""
+
+import re
+
+LOG_LINE = re.compile(r"(\d+) ([<>!])(first|second) ?: (.*)")
+RESULT_LINE = re.compile(r"result (1-0|0-1|1/2-1/2|\*) \{(.*)\}")
+FAULT_LINE = re.compile(r"arbiter: game (\d+): ((White|Black) .*)")
+# What tools/watch_engine writes.
+ENDED_LINE = re.compile(r"(first|second) engine: (exit status \d+|signal \w+)")
+WROTE_LINE = re.compile(r"(first|second) engine wrote: (.*)")
+SEATS = ("first", "second")
+HANDSHAKE = ("xboard", "protover 2")
+
+
+def sans(movetext):
+    """Returns the moves of a movetext, without move numbers and result."""
+    return [word for word in movetext.split() if not re.fullmatch(r"\d+\.+|1-0|0-1|1/2-1/2|\*", word)]
+
+
+class WrittenGame:
+    """A game of a match's PGN: its tags and its movetext."""
+
+    def __init__(self, text):
+        self.tags = dict(re.findall(r'(?m)^\[(\w+) "(.*)"\]$', text))
+        self.movetext = " ".join(text.partition("\n\n")[2].split("score ", 1)[0].split())
+
+    @property
+    def result(self):
+        return self.tags.get("Result", "*")
+
+    @property
+    def termination(self):
+        return self.tags.get("Termination", "normal")
+
+    def is_decided(self):
+        """Says whether the game is whole and has a result."""
+        return self.result != "*" and self.movetext.split(" ")[-1] == self.result
+
+    def sans(self):
+        """Returns the moves, without move numbers and result."""
+        return sans(self.movetext)
+
+
+class LoggedLine:
+    """A line of a log: its moment in milliseconds, its mark (`<` received, `>` sent, `!` report), engine and text."""
+
+    def __init__(self, fields):
+        self.moment, self.mark, self.seat, self.text = int(fields[0]), fields[1], fields[2], fields[3]
+
+    def asks(self):
+        """Says whether the match waits for this engine once it has sent it the line."""
+        ignored = ("accepted", "rejected", "draw", "result", "quit")
+        return self.mark == ">" and self.text.split(" ", 1)[0] not in ignored
+
+
+class LoggedGame:
+    """A game of a log: its lines, what was reported of the engines' processes (how each ended, and the last lines of
+    its standard error), and other lines. The first line is the `xboard` sent to White."""
+
+    def __init__(self, first_line):
+        self.lines = [first_line]
+        self.ended, self.wrote, self.others = {}, {seat: [] for seat in SEATS}, []
+
+    @property
+    def white(self):
+        """The engine, `first` or `second`, that has White."""
+        return self.lines[0].seat
+
+    def side(self, seat):
+        return "White" if seat == self.white else "Black"
+
+    def seat(self, side):
+        return self.white if side == "White" else SEATS[self.white == "first"]
+
+    def add_report(self, line):
+        """Takes a line that is no line of the log: one of tools/watch_engine, or what an engine wrote."""
+        ended, wrote = ENDED_LINE.fullmatch(line), WROTE_LINE.fullmatch(line)
+        if ended:
+            self.ended[ended[1]] = ended[2]
+        elif wrote:
+            self.wrote[wrote[1]].append(wrote[2])
+        elif not line.startswith(("arbiter: ", "tournament: ")):
+            self.others.append(line)
+
+    def start(self):
+        """Returns the session commands for the start of the game, as the engines were sent it."""
+        sent = [line.text for line in self.lines if line.mark == ">"]
+        commands = [text for text in sent if re.fullmatch("variant fischerandom|setboard .*", text)]
+        return sorted(set(commands), reverse=True)
+
+    def end(self):
+        """Returns the result and the reason that the engines were sent; (None, None) if the game did not end."""
+        results = (RESULT_LINE.fullmatch(line.text) for line in self.lines if line.mark == ">")
+        return next(((found[1], found[2]) for found in results if found), (None, None))
+
+    def fault(self):
+        """Returns the words of the fault by which an engine ended the game, as the other one was sent them, or None."""
+        result, reason = self.end()
+        return reason if result == "*" and reason.startswith(("White ", "Black ")) else None
+
+    def awaited(self):
+        """Returns the line after which the match waited for an answer at the end of this log."""
+        return next(line for line in reversed(self.lines) if line.asks())
+
+    def moves(self):
+        """Returns the moves that the engines sent; the last one may be illegal."""
+        received = (re.fullmatch(r"move (\S+).*", line.text) for line in self.lines if line.mark == "<")
+        return [move[1] for move in received if move]
+
+    def clock(self, before):
+        """Returns the last line `time N` that the engine of the line `before` had been sent."""
+        lines = self.lines[: self.lines.index(before) + 1]
+        times = (line for line in reversed(lines) if line.seat == before.seat and line.mark == ">")
+        return next((line for line in times if re.fullmatch(r"time -?\d+", line.text)), None)
+
+    def own_name(self, seat):
+        """Returns what an engine calls itself in its features; an empty text if it doesn't."""
+        own = (line.text for line in self.lines if line.seat == seat and line.mark == "<")
+        names = re.findall(r'(?m)^feature .*\bmyname="([^"]*)"', "\n".join(own))
+        return names[-1].strip() if names else ""
+
+
+def texts_of_games(pgn):
+    """Returns the text of each game of a PGN, from its line `[Event` on. It may be bytes; then so are these."""
+    event = rb"(?m)^(?=\[Event )" if isinstance(pgn, bytes) else r"(?m)^(?=\[Event )"
+    return re.split(event, pgn)[1:]
+
+
+def written_games(text):
+    """Returns the games of a match's PGN."""
+    return [WrittenGame(part) for part in texts_of_games(text)]
+
+
+def logged_games(text):
+    """Returns the games of a log. Each game begins at every other line `xboard`: one is sent to each engine."""
+    games, handshakes = [], 0
+    for line in text.splitlines():
+        fields = LOG_LINE.fullmatch(line)
+        if not fields:
+            if games:
+                games[-1].add_report(line)
+            continue
+        line = LoggedLine(fields.groups())
+        if line.mark == ">" and line.text == "xboard":
+            handshakes += 1
+            if handshakes % 2 == 1:
+                games.append(LoggedGame(line))
+                continue
+        if games:
+            games[-1].lines.append(line)
+    return games
+
+
+def fault(text):
+    """Returns the number of the game and the words of the fault that ended a match, or None."""
+    faults = [FAULT_LINE.fullmatch(line) for line in text.splitlines() if line.startswith("arbiter: ")]
+    faults = [found for found in faults if found]
+    return (int(faults[-1][1]), faults[-1][2]) if faults else None
+
+
+def is_handshake(line):
+    """Says whether an engine that does not answer this line may not know the protocol."""
+    return line.text in HANDSHAKE
+
+
+def polyglot_hint(command):
+    """Returns how a UCI engine is started: polyglot takes a command without arguments."""
+    how = f"SCRIPT, with a script that starts {command}" if " " in command else command
+    return f"a UCI engine plays through polyglot: polyglot -noini -ec {how}"

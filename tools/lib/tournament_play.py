@@ -1,0 +1,400 @@
+"""Plays the games of a tournament on one or several hosts, and tries its engines. tools/tournament uses it.
+
+A host plays a game by tools/lib/play_game, here as a process of this script, elsewhere by ssh. GNU parallel is not
+used: it reports neither a game when it ends nor a host when it dies, and starting a job takes it longer than two stubs
+play.
+"""
+
+import contextlib
+import os
+import re
+import shlex
+import shutil
+import signal
+import subprocess
+import threading
+import time
+from collections import Counter, deque
+from concurrent.futures import ThreadPoolExecutor
+from pathlib import Path
+
+import match_records
+from boards import INITIAL
+from tournament_lists import refuse, report, show, without_date
+from tournament_table import CRASHES, STATUS, TIMED_OUT, collect, read_game
+
+LIB = Path(__file__).resolve().parent
+# ssh gives a host up that does not answer for three intervals.
+SSH = "ssh -o ServerAliveInterval=15 -o ConnectTimeout=15"
+READY_SECONDS = 30  # for a host's answer to whether it can play
+QUIT_SECONDS = 10  # for an engine to end after its game
+TRIAL_QUIT_SECONDS = 2  # the same in a trial
+EXTRA_SECONDS = 60  # for a host to end a game whose time is over
+END_SECONDS = 5  # for a game to end that is ended from here
+TICK = 0.2  # the seconds after which a signal is noticed
+MOST_TRIALS = 16
+STUB = "arbiter stub"
+READY = """lacks=
+for program; do command -v "$program" >/dev/null || lacks+=" $program"; done
+[ "$lacks" ] && echo "it lacks$lacks" || echo "ready $(nproc)"
+"""
+
+
+# Processes
+
+
+class Stop:
+    """When a signal asked this script to end: at `at`, or not yet. All runs are then asked to end."""
+
+    def __init__(self):
+        self.at, self.runs = None, set()
+
+    def catch_signals(self):
+        for number in (signal.SIGINT, signal.SIGTERM, signal.SIGHUP):
+            if signal.getsignal(number) != signal.SIG_IGN:
+                signal.signal(number, lambda *_: self.now())
+
+    def now(self):
+        self.at = self.at or time.monotonic()
+        for run in list(self.runs):
+            run.ask_to_end()
+
+
+STOP = Stop()
+
+
+class Run:
+    """A script that runs on a host. It ends when its standard input ends, and thus with this process."""
+
+    def __init__(self, words, output, errors):
+        reader, writer = os.pipe()
+        self.inputs = [writer]
+        with os.fdopen(reader) as stdin:
+            self.process = subprocess.Popen(words, stdin=stdin, stdout=output, stderr=errors, start_new_session=True)
+        STOP.runs.add(self)
+        if STOP.at:
+            self.ask_to_end()
+
+    def ask_to_end(self):
+        # A list gives each entry once, also to threads and a signal's handler.
+        with contextlib.suppress(IndexError):
+            os.close(self.inputs.pop())
+
+    def end(self):
+        """Asks the script to end, and ends it if it doesn't."""
+        self.ask_to_end()
+        time.sleep(END_SECONDS)
+        self.kill()
+
+    def kill(self):
+        with contextlib.suppress(ProcessLookupError):
+            if self.process.returncode is None:
+                os.killpg(self.process.pid, signal.SIGKILL)
+
+    def wait(self):
+        self.process.wait()
+        self.ask_to_end()
+        STOP.runs.discard(self)
+
+
+def captured(words, seconds):
+    """Returns what a script on a host writes to standard output and error; it is ended after so many seconds."""
+    run = Run(words, subprocess.PIPE, subprocess.PIPE)
+    watch = threading.Timer(seconds, run.end)
+    watch.start()
+    with run.process.stdout, run.process.stderr, ThreadPoolExecutor(1) as reader:
+        errors = reader.submit(run.process.stderr.read)
+        found = run.process.stdout.read(), errors.result()
+    run.wait()
+    watch.cancel()
+    return tuple(text.decode("latin-1") for text in found)
+
+
+# Hosts
+
+
+class Host:
+    """A host of --hosts, `[N/][SSH_COMMAND ]NAME`: how many games it plays at a time, and how it is reached. The name
+    `:` is this machine."""
+
+    def __init__(self, label):
+        number, slash, rest = label.partition("/")
+        if not (slash and number.isdigit()):
+            number, rest = "", label
+        *ssh, self.name = shlex.split(rest) or [""]
+        self.label, self.slots = label, int(number or 0)
+        self.ssh = ssh or shlex.split(os.environ.get("PARALLEL_SSH", SSH))
+        self.is_here = self.name == ":"
+        self.fault, self.is_suspect, self.played, self.lock = None, False, 0, threading.Lock()
+        self.failed = set()  # the games that were not played here since one was
+
+    def words(self, script, *arguments):
+        """Returns the command that runs a bash script there."""
+        words = ["bash", "-c", script, "tournament", *arguments]
+        if self.is_here:
+            return words
+        return [*self.ssh, self.name, "--", shlex.join(["exec", "env", f"PATH={os.environ['PATH']}", *words])]
+
+    def trouble(self, programs):
+        """Asks the host for its programs; returns why it can't play, or None. Sets the number of its slots if none was
+        given."""
+        if not self.is_here and not shutil.which(self.ssh[0]):
+            return f"{self.ssh[0]} is no program that can be run"
+        output, errors = captured(self.words(READY, "arbiter", *programs), READY_SECONDS)
+        ready = re.search(r"(?m)^ready (\d+)$", output)
+        if ready:
+            self.slots = self.slots or int(ready[1])
+            return None
+        return " ".join((output + errors).split()) or "no answer"
+
+
+def ready_hosts(label, programs):
+    """Returns the hosts that can play; the others are left out, with a line each."""
+    try:
+        hosts = [Host(part.strip()) for part in label.split(",")]
+    except ValueError:
+        hosts = []  # A quote is open.
+    if not hosts or not all(host.name for host in hosts):
+        refuse([f"--hosts '{label}' is no list of hosts"])
+    with ThreadPoolExecutor(len(hosts)) as pool:
+        troubles = list(pool.map(lambda host: host.trouble(programs), hosts))
+    for host, trouble in zip(hosts, troubles):
+        if trouble:
+            report(f"host {host.label} is left out: {trouble}")
+    return [host for host, trouble in zip(hosts, troubles) if not trouble]
+
+
+# Trials
+
+
+class Trial:
+    """What a short game against a stub that resigns showed of an engine: the name that the engine gives itself, why it
+    can't play, and what to warn of; each may be an empty text."""
+
+    def __init__(self, engine, seat, errors, seconds):
+        self.name = self.fault = self.warning = ""
+        logged, statuses = match_records.logged_games(errors), STATUS.findall(errors)
+        if not logged or not statuses:
+            self.fault = f"its trial was not played: {last_words(errors) or 'no answer'}"
+            return
+        game, status, found = logged[0], int(statuses[-1]), match_records.fault(errors)
+        self.name = game.own_name(seat)
+        if status == 1 and found:
+            self.fault = failure(game, seat, found[1])
+        elif status == TIMED_OUT and game.fault():
+            self.fault = failure(game, seat, game.fault())
+        elif status == TIMED_OUT and game.end()[0]:
+            self.warning = f"did not end within {TRIAL_QUIT_SECONDS} seconds after quit"
+        elif status == TIMED_OUT:
+            self.fault = silence(engine, seat, game.awaited(), seconds)
+        elif status != 0:
+            self.fault = f"its trial ended with status {status}: {last_words(errors)}"
+
+
+def last_words(errors):
+    """Returns the last line on standard error that isn't of the log."""
+    said = [line for line in errors.splitlines() if line and not match_records.LOG_LINE.match(line)]
+    return said[-1] if said else ""
+
+
+def failure(game, seat, words):
+    """Returns the words of a fault that ended a trial, with how the engine's process ended."""
+    what = words.partition(" ")[2]
+    if what not in CRASHES:
+        return what
+    ended = [game.ended[seat]] if seat in game.ended else []
+    return ": ".join([", ".join([what, *ended]), *game.wrote[seat][-1:]])
+
+
+def silence(engine, seat, asked, seconds):
+    """Returns the words for an engine that did not answer in its trial."""
+    if asked.seat != seat:
+        return f"its trial was not over within {seconds} seconds"
+    words = f"no answer to '{asked.text}' within {seconds} seconds"
+    if not match_records.is_handshake(asked):
+        return words
+    command = [shutil.which(engine.program) or engine.program, *engine.command.split()[1:]]
+    return f"{words}; {match_records.polyglot_hint(' '.join(command))}"
+
+
+def try_engine(host, engine, opening, options, seconds):
+    """Plays an engine's trial on a host. The stub is to move first, and resigns."""
+    pair = [STUB, engine.command] if opening.split()[1] == "w" else [engine.command, STUB]
+    seat = match_records.SEATS[pair.index(engine.command)]
+    words = game_words(host, seconds, TRIAL_QUIT_SECONDS, pair, opening, options)
+    errors = "" if STOP.at else captured(words, seconds + READY_SECONDS)[1]
+    return Trial(engine, seat, errors, seconds)
+
+
+def game_words(host, seconds, quit_seconds, pair, opening, options):
+    """Returns the command that plays a game on a host."""
+    play_game, watch_engine = (LIB / "play_game").read_text(), (LIB.parent / "watch_engine").read_text()
+    return host.words(play_game, str(seconds), str(quit_seconds), watch_engine, *pair, "--fen", opening, *options)
+
+
+def trials_of(hosts, lists, seconds):
+    """Returns each engine's trials by host. The opening is one that an engine must be sent by `setboard`, if there is
+    one."""
+    engines = {engine.command: engine for engine in lists.engines}.values()
+    opening = next((fen for fen in lists.openings if fen != INITIAL), lists.openings[0])
+    with ThreadPoolExecutor(min(MOST_TRIALS, sum(host.slots for host in hosts))) as pool:
+        asked = [
+            (engine, {host: pool.submit(try_engine, host, engine, opening, lists.options, seconds) for host in hosts})
+            for engine in engines
+        ]
+    return [(engine, {host: trial.result() for host, trial in trials.items()}) for engine, trials in asked]
+
+
+def try_engines(hosts, lists, seconds):
+    """Tries each engine on each host. An engine that plays nowhere is refused; a host on which an engine does not play
+    that plays elsewhere is left out. Returns the other hosts, and by command what the engines call themselves."""
+    refusals, names, left_out = [], {}, {}
+    tried = trials_of(hosts, lists, seconds)
+    if STOP.at:
+        return [], {}
+    for engine, trials in tried:
+        label = engine.given or engine.command
+        good = [trial for trial in trials.values() if not trial.fault]
+        if not good:
+            refusals.append(f"{engine.source}: {label}: {trials[hosts[0]].fault}")
+            continue
+        names[engine.command] = good[0].name
+        if good[0].warning:
+            report(f"warning: {engine.source}: {label} {good[0].warning}")
+        left_out |= {host: f"{label}: {trial.fault}" for host, trial in trials.items() if trial.fault}
+    refuse(refusals)
+    for host, why in left_out.items():
+        report(f"host {host.label} is left out: {why}")
+    return [host for host in hosts if host not in left_out], names
+
+
+# Games
+
+
+class Player:
+    """Plays games on hosts, with a thread for each game that a host plays at a time. A game whose host fails is played
+    again, at most `most_tries` times, and on another host if there is one; a host that can't play any more is given up,
+    and so is one on which `most_tries` games in a row were not played, if there is another one."""
+
+    def __init__(self, book, lists, hosts, timeout, most_tries, date):
+        self.book, self.folder, self.lists, self.hosts = book, book.folder, lists, hosts
+        self.timeout, self.most_tries, self.date = timeout, most_tries, date
+        self.queue, self.running, self.tries = deque(), {}, Counter()
+        self.changed, self.workers = threading.Condition(), 0
+
+    def play(self, games):
+        """Plays these games, until all are played, no host is left, or a signal ends the script."""
+        self.queue.extend(games)
+        threads = [threading.Thread(target=self.serve, args=[host]) for host in self.hosts for _ in range(host.slots)]
+        self.workers = len(threads)
+        for thread in threads:
+            thread.start()
+        with self.changed:
+            while self.workers:
+                self.changed.wait(TICK)
+                self.end_late()
+        for host in self.hosts:
+            if host.fault:
+                report(f"host {host.label} was given up after {host.played} games: {host.fault}")
+
+    def end_late(self):
+        """Ends the games whose host did not end them, and all once the script was stopped."""
+        now = time.monotonic()
+        for run, _ in self.running.values():
+            late = now - min(run.deadline, STOP.at or run.deadline)
+            if late > 0:
+                run.ask_to_end()
+            if late > END_SECONDS:
+                run.kill()
+
+    def serve(self, host):
+        """Plays games on a host, one after another."""
+        try:
+            while game := self.next_game(host):
+                self.play_game(host, game)
+        except OSError as fault:
+            report(f"{fault.filename or self.folder} can't be written: {fault.strerror}")
+            STOP.now()
+        except BaseException:
+            STOP.now()
+            raise
+        finally:
+            with self.changed:
+                self.workers -= 1
+                self.changed.notify_all()
+
+    def next_game(self, host):
+        """Returns the next game for a host; None if there is none, nor may be one."""
+        with self.changed:
+            while not STOP.at and not host.fault and (self.queue or self.running):
+                game = next((game for game in self.queue if self.suits(host, game)), None)
+                if game:
+                    self.queue.remove(game)
+                    self.running[game.number] = self.start(host, game), host
+                    return game
+                self.changed.wait()
+
+    def suits(self, host, game):
+        """Says whether a host should play a game now. After it failed there, a host where it did not should play it."""
+        others = (game.number not in other.failed for other in self.others(host))
+        return not host.is_suspect and not (game.number in host.failed and any(others))
+
+    def others(self, host):
+        """Returns the other hosts that were not given up."""
+        return [other for other in self.hosts if other is not host and not other.fault]
+
+    def start(self, host, game):
+        engines = {engine.name: engine for engine in self.lists.engines}
+        pair = [engines[name].command for name in (game.white, game.black)]
+        opening, options = self.lists.openings[game.opening], [*without_date(self.lists.options), "--date", self.date]
+        words = game_words(host, self.timeout, QUIT_SECONDS, pair, opening, options)
+        path = self.folder / "running" / str(game.number)
+        with open(path, "wb") as output, open(path.with_name(f"{path.name}.err"), "wb") as errors:
+            run = Run(words, output, errors)
+        run.deadline = time.monotonic() + self.timeout + EXTRA_SECONDS
+        return run
+
+    def play_game(self, host, game):
+        """Waits for the end of a game, and keeps it; if it was not played, its host is asked whether it can play."""
+        self.running[game.number][0].wait()
+        outcome = collect(self.folder, game, self.date)
+        with self.changed:
+            del self.running[game.number]
+            if outcome:
+                host.played += 1
+                host.failed.clear()
+                self.book.add(outcome)
+                show(self.book.line(outcome))
+            elif not STOP.at:
+                self.put_back(host, game)
+            self.changed.notify_all()
+        if not outcome and not STOP.at:
+            self.ask_again(host)
+
+    def put_back(self, host, game):
+        """Puts a game that was not played back into the queue, unless it was tried often enough."""
+        self.tries[game.number] += 1
+        host.failed.add(game.number)
+        reason = last_words(read_game(self.folder, game)[1]) or "its end was not reported"
+        again = self.tries[game.number] < self.most_tries
+        host.is_suspect = True
+        if again:
+            self.queue.appendleft(game)
+        where = "" if host.is_here else f" on {host.label}"
+        report(f"game {game.number}{where} was not played{', and is played again' if again else ''}: {reason}")
+
+    def ask_again(self, host):
+        """Gives a host up if it can't play any more, with the games that it is playing."""
+        with host.lock:
+            fault = host.fault or (None if host.is_here else host.trouble(self.lists.programs()))
+        with self.changed:
+            host.is_suspect = False
+            if len(host.failed) >= self.most_tries and self.others(host):
+                fault = fault or f"{len(host.failed)} games in a row were not played"
+            if fault and not host.fault:
+                host.fault = fault
+                report(f"host {host.label} is given up: {fault}")
+                for run, where in self.running.values():
+                    if where is host:
+                        run.kill()
+            self.changed.notify_all()

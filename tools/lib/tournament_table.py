@@ -1,0 +1,397 @@
+"""The outcomes of a tournament's games, their table, and the PGN files. tools/tournament uses it.
+
+An outcome is judged from what a game left: `games/N`, the game as the match wrote it, and `games/N.err`, its log.
+"""
+
+import re
+import subprocess
+from collections import Counter
+from dataclasses import dataclass
+
+import match_records
+from tournament_lists import Game, kept_games, kept_names, kept_options, lines, session, write_lines
+
+STATUS = re.compile(r"(?m)^tournament: status (\d+)$")
+STILL_RUNNING = re.compile(r"(?m)^tournament: still running: (first|second)$")
+ENDED_AFTER = re.compile(r"(?m)^tournament: ended after (\d+) seconds$")
+TIMED_OUT = 124
+RESULTS_HEAD = "game\twhite\tblack\tresult\tend\tfault\tside\treason"
+COLOURS = {"first": "White", "second": "Black"}
+MOST_FAULT_LINES = 20
+
+# The kinds of faults by which an engine loses a game, in the order of the table's columns.
+KINDS = ("crash", "protocol", "timeout", "quit")
+RULES = ("illegal move", "moves out of turn", "false claim", "rejects a legal move", "rules infraction")
+CRASHES = ("ended its output", "can not be read", "can not be written")
+
+
+# Outcomes
+
+
+@dataclass
+class Outcome:
+    """How a game ended: the result that the match wrote, the kind of its end, and the reason in words. If it ended by a
+    fault: its kind, and the sides whose engines are at fault."""
+
+    game: Game
+    result: str
+    end: str
+    reason: str
+    fault: str = ""
+    sides: tuple = ()
+
+    def counts(self, faults):
+        """Returns the result that counts where faults are a `loss` or `void`; `*` counts for nobody."""
+        if not self.fault:
+            return self.result
+        if faults == "void" or len(self.sides) != 1:
+            return "*"
+        return "0-1" if self.sides[0] == "White" else "1-0"
+
+    def at_fault(self):
+        return [self.game.white if side == "White" else self.game.black for side in self.sides]
+
+    def row(self):
+        """Returns the outcome's line of results.tsv."""
+        words = (self.result, self.end, self.fault, " ".join(self.sides), self.reason)
+        return "\t".join([str(self.game.number), self.game.white, self.game.black, *words])
+
+
+def read_row(row, games):
+    """Returns the outcome of a line of results.tsv; None if its writing was cut off."""
+    words = row.split("\t")
+    if len(words) != 8 or not words[0].isdigit() or int(words[0]) not in games:
+        return None
+    return Outcome(games[int(words[0])], words[3], words[4], words[7], words[5], tuple(words[6].split()))
+
+
+def judge(game, text, errors):
+    """Returns a game's outcome; None if it was not played to its end: then its host had trouble. Once play_game ends a
+    game, the engines do nothing any more that counts."""
+    statuses = STATUS.findall(errors)
+    status = int(statuses[-1]) if statuses else None
+    written, logged = match_records.written_games(text), match_records.logged_games(ENDED_AFTER.split(errors)[0])
+    if status == 0 and written and logged and "\nscore " in text:
+        return finished(game, written[0], logged[0])
+    if status == 1 and match_records.fault(errors) and logged:
+        return failed(game, written, logged[0], match_records.fault(errors)[1])
+    if status == TIMED_OUT and logged:
+        return timed_out(game, written, logged[0], errors)
+    if status is None and written and logged and written[0].is_decided() and logged[0].end()[0] == written[0].result:
+        return finished(game, written[0], logged[0])  # The script ended while an engine was quitting.
+    return None
+
+
+def finished(game, written, logged):
+    reason = logged.end()[1] or ""
+    return Outcome(game, written.result, kind_of_end(written, reason), reason)
+
+
+def failed(game, written, logged, words):
+    """Judges a game that the match ended by a fault. A result that was not read by an engine holds all the same."""
+    side, _, what = words.partition(" ")
+    if written and written[0].result != "*":
+        return finished(game, written[0], logged)
+    how = logged.ended.get(logged.seat(side))
+    kind = "crash" if what in CRASHES else "protocol"
+    reason = f"{words}, {how}" if how and kind == "crash" else words
+    return Outcome(game, "*", kind, reason, kind, (side,))
+
+
+def timed_out(game, written, logged, errors):
+    """Judges a game that was ended after its time: by the first fault in its log, which is that of the side that ended
+    the match, that was to answer, or that did not end after the game."""
+    result, reason = logged.end()
+    if logged.fault():
+        return failed(game, written, logged, logged.fault())
+    if result:
+        sides = tuple(logged.side(seat) for seat in STILL_RUNNING.findall(errors))
+        if not written:
+            return None
+        if not sides:
+            return finished(game, written[0], logged)
+        words = f"{' and '.join(sides)} did not end after quit ({result} {reason})"
+        return Outcome(game, result, "quit", words, "quit", sides)
+    asked = logged.awaited()
+    side, clock = logged.side(asked.seat), logged.clock(asked)
+    after = ENDED_AFTER.findall(errors)
+    waited = int(after[-1]) * 1000 - asked.moment if after else 0
+    left = f", {clock_time(clock) / 1000:.0f} s on its clock" if clock and clock_time(clock) > waited else ""
+    words = f"{side} did not answer '{asked.text}' for {max(waited, 0) / 1000:.0f} s{left}"
+    return Outcome(game, "*", "timeout", words, "timeout", (side,))
+
+
+def clock_time(line):
+    """Returns the milliseconds that a line `time N` gives."""
+    return int(line.text.removeprefix("time ")) * 10
+
+
+def kind_of_end(written, comment):
+    """Names how a game ended, for the table."""
+    if written.result == "*":
+        return "unfinished"
+    if written.termination == "time forfeit":
+        return "draw by time against a bare king" if written.result == "1/2-1/2" else "time"
+    if written.termination == "rules infraction":
+        return re.sub(r"^(White|Black) (makes an? )?", "", comment) or "rules infraction"
+    if written.result == "1/2-1/2":
+        return f"draw: {comment[0].lower()}{comment[1:]}" if comment else "draw"
+    if comment.endswith(" mates"):
+        return "mate"
+    return "resignation" if comment.endswith(" resigns") else "won"
+
+
+# The records in a folder
+
+
+def read_text(path):
+    return path.read_text(encoding="latin-1") if path.exists() else ""
+
+
+def read_game(folder, game):
+    """Returns the text and the log of a game."""
+    return tuple(read_text(path) for path in records(folder, game))
+
+
+def records(folder, game):
+    """Returns the paths of a game's text and log: in `running` until they are moved to `games`."""
+    names = (str(game.number), f"{game.number}.err")
+    running = [folder / "running" / name for name in names]
+    return [path if path.exists() else folder / "games" / path.name for path in running]
+
+
+def outcomes(folder):
+    """Returns the outcomes of a folder's games that have records, by number: from results.tsv, or judged anew."""
+    games = {game.number: game for game in kept_games(folder) if records(folder, game)[0].exists()}
+    rows = (read_row(row, games) for row in lines(folder / "results.tsv")[1:])
+    found = {outcome.game.number: outcome for outcome in rows if outcome}
+    for game in games.values():
+        if game.number not in found and (outcome := judge(game, *read_game(folder, game))):
+            found[game.number] = outcome
+    return dict(sorted(found.items()))
+
+
+def collect(folder, game, date):
+    """Moves a game that ended from running/ to games/, and returns its outcome; None if it was not played."""
+    text, errors = read_game(folder, game)
+    outcome = judge(game, text, errors)
+    if not outcome:
+        return None
+    path, log = records(folder, game)
+    if not match_records.written_games(text):
+        path.write_text(rebuilt(game, match_records.logged_games(errors)[0], date), encoding="latin-1")
+    for record in (log, path):
+        record.replace(folder / "games" / record.name)
+    return outcome
+
+
+def rebuilt(game, logged, date):
+    """Returns the PGN of a game that was ended before the match wrote it: a session plays the moves of its log."""
+    commands = logged.start() + [f"usermove {move}" for move in logged.moves()] + ["showpgn"]
+    shown = [line[2:].rstrip() for line in session(commands) if line.startswith("# ") or line == "#"]
+    text = "\n".join(shown).strip("\n") + "\n\n"
+    names = {"White": tag_value(game.white), "Black": tag_value(game.black)}
+    return with_tags(text, {"Event": "CECP match", "Date": date, **names})
+
+
+# PGN
+
+
+def is_board_verdict(reason):
+    """Says whether the board itself ended a game with this reason."""
+    return re.search(r" mates|Stalemate|Insufficient material|Fivefold repetition|75-move rule", reason)
+
+
+def tag_value(name):
+    """Returns a name as it is in a tag, in the encoding in which the records are read."""
+    return name.encode().decode("latin-1").replace("\\", "\\\\").replace('"', '\\"')
+
+
+def with_tags(text, tags):
+    """Returns the PGN of a game with other values of these tags."""
+    head, separator, movetext = text.partition("\n\n")
+    for tag, value in tags.items():
+        head = re.sub(rf'(?m)^\[{tag} ".*"\]$', lambda _: f'[{tag} "{value}"]', head)
+    return head + separator + movetext
+
+
+def own_pgn(outcome, text):
+    """Returns a game as it is in games.pgn: as the match wrote it, with the tournament's names and round."""
+    game = outcome.game
+    text = re.sub(r"(?m)^score .*\n", "", text)
+    return with_tags(text, {"Round": game.round, "White": tag_value(game.white), "Black": tag_value(game.black)})
+
+
+def rated_pgn(outcome, text, faults):
+    """Returns a game as it is in rated.pgn, with the result that counts; nothing if it counts for nobody. Moves that
+    lead to another result by the Laws are left out."""
+    counts = outcome.counts(faults)
+    if counts == "*":
+        return ""
+    text = own_pgn(outcome, text)
+    if not outcome.fault:
+        return text
+    text = with_tags(text, {"Result": counts, "Termination": "abandoned"})
+    head, separator, movetext = text.rstrip("\n").partition("\n\n")
+    is_other = counts != outcome.result and is_board_verdict(outcome.reason)
+    moves = "" if is_other else re.sub(r"\S+\Z", "", movetext)
+    return f"{head}{separator}{moves}{counts}\n\n"
+
+
+# The table
+
+
+class Row:
+    """An engine's line of the table."""
+
+    def __init__(self, engine):
+        self.engine, self.points, self.time, self.rules = engine, 0, 0, 0
+        self.scores, self.faults = Counter(), Counter()
+        self.against = {}
+
+    def add(self, opponent, points):
+        scored, games = self.against.get(opponent, (0, 0))
+        self.against[opponent] = scored + points, games + 1
+        self.points += points
+        self.scores[points] += 1
+
+    def games(self):
+        return sum(self.scores.values())
+
+    def cells(self, kinds):
+        """Returns the row's cells before those of the cross table."""
+        games = self.games()
+        share = f"{100 * self.points / games:.1f}" if games else "-"
+        cells = [f"{self.points:g}", games, self.scores[1], self.scores[0.5], self.scores[0], share]
+        return cells + [sum(self.faults.values()), *(self.faults[kind] for kind in kinds), self.time, self.rules]
+
+
+def aligned(head, body):
+    """Returns the lines of a table: the second column is set left, all others right."""
+    rows = [[str(cell) for cell in row] for row in [head, *body]]
+    widths = [max(len(row[column]) for row in rows) for column in range(len(head))]
+    texts = []
+    for row in rows:
+        cells = [cell.ljust(width) if i == 1 else cell.rjust(width) for i, (cell, width) in enumerate(zip(row, widths))]
+        texts.append("  ".join(cells).rstrip())
+    return texts
+
+
+class Table:
+    """The table of a tournament: a row for each engine, the ends of the games, and what each fault was."""
+
+    def __init__(self, names, faults):
+        self.faults, self.rows = faults, {name: Row(name) for name in names}
+        self.ends, self.faulty = Counter(), []
+
+    def add(self, outcome):
+        """Counts a game."""
+        self.ends[outcome.end] += 1
+        if outcome.fault:
+            self.faulty.append(outcome)
+        for engine in outcome.at_fault():
+            self.rows[engine].faults[outcome.fault] += 1
+        points = {"1-0": 1, "0-1": 0, "1/2-1/2": 0.5}.get(outcome.counts(self.faults))
+        if points is not None:
+            self.add_points(outcome, points)
+
+    def add_points(self, outcome, points):
+        """Counts the points of a game for both engines, and what it was lost by."""
+        white, black = self.rows[outcome.game.white], self.rows[outcome.game.black]
+        white.add(black.engine, points)
+        black.add(white.engine, 1 - points)
+        loser = {1: black, 0: white}.get(points)
+        if loser and not outcome.fault:
+            loser.time += outcome.end == "time"
+            loser.rules += outcome.end in RULES
+
+    def standings(self):
+        """Returns the lines of the rows, the engine with most points first."""
+        ordered = sorted(self.rows.values(), key=lambda row: -row.points)
+        kinds = [kind for kind in KINDS if any(row.faults[kind] for row in ordered)]
+        head = ["", "engine", "points", "games", "won", "drawn", "lost", "%", "faults", *kinds, "time", "rules"]
+        body = []
+        for number, row in enumerate(ordered, 1):
+            against = ("{:g}/{}".format(*row.against.get(other.engine, (0, 0))) for other in ordered)
+            cross = ["-" if other is row else cell for other, cell in zip(ordered, against)]
+            body.append([number, row.engine, *row.cells(kinds), *cross])
+        return aligned([*head, *range(1, len(ordered) + 1)], body)
+
+    def lines(self, total):
+        """Returns the lines of the whole table."""
+        kinds = ", ".join(f"{kind} {number}" for kind, number in self.ends.most_common())
+        text = [*self.standings(), "", f"{self.ends.total()} of {total} games" + (f": {kinds}" if kinds else "")]
+        for outcome in self.faulty[:MOST_FAULT_LINES]:
+            game = outcome.game.number
+            text.append(f"game {game}: {' and '.join(outcome.at_fault())}: {outcome.reason} (games/{game}.err)")
+        if len(self.faulty) > MOST_FAULT_LINES:
+            text.append(f"and {len(self.faulty) - MOST_FAULT_LINES} more faults: see results.tsv")
+        return text
+
+
+class Book:
+    """What a folder keeps of the games that ended: results.tsv, games.pgn, rated.pgn and table.txt. Each is written on
+    as a game ends, so that nothing is lost however the script ends."""
+
+    FILES = ("results.tsv", "games.pgn", "rated.pgn", "table.txt")
+
+    def __init__(self, folder, total):
+        self.folder, self.total = folder, total
+        self.faults = kept_options(folder)[1]
+        self.found = outcomes(folder)
+        self.count()
+
+    def count(self):
+        """Makes the table of the games in the order of their numbers."""
+        self.found = dict(sorted(self.found.items()))
+        self.counted = Table(kept_names(self.folder), self.faults)
+        for outcome in self.found.values():
+            self.counted.add(outcome)
+
+    def write_all(self):
+        """Writes the files anew, with the games in the order of their numbers."""
+        self.count()
+        write_lines(self.folder / "results.tsv", [RESULTS_HEAD, *(outcome.row() for outcome in self.found.values())])
+        parts = [self.pgn(outcome) for outcome in self.found.values()]
+        for name, texts in zip(("games.pgn", "rated.pgn"), zip(*parts) if parts else ((), ())):
+            new = self.folder / f".{name}"
+            new.write_text("".join(texts), encoding="latin-1")
+            new.replace(self.folder / name)
+        self.write_table()
+
+    def pgn(self, outcome):
+        """Returns a game as it is in games.pgn and in rated.pgn."""
+        text = read_text(self.folder / "games" / str(outcome.game.number))
+        return own_pgn(outcome, text), rated_pgn(outcome, text, self.faults)
+
+    def add(self, outcome):
+        """Adds the outcome of a game that has just ended."""
+        self.found[outcome.game.number] = outcome
+        self.counted.add(outcome)
+        for name, text in zip(("games.pgn", "rated.pgn"), self.pgn(outcome)):
+            with open(self.folder / name, "a", encoding="latin-1") as file:
+                file.write(text)
+        with open(self.folder / "results.tsv", "a", encoding="utf-8") as file:
+            file.write(f"{outcome.row()}\n")
+        self.write_table()
+
+    def write_table(self):
+        write_lines(self.folder / "table.txt", self.table())
+
+    def table(self):
+        return self.counted.lines(self.total)
+
+    def line(self, outcome):
+        """Returns the line that is shown when a game ends."""
+        game = outcome.game
+        result = f"{game.white} - {game.black} {outcome.counts(self.faults)} {outcome.reason}"
+        return f"{len(self.found)}/{self.total} {result}"
+
+
+def verified(folder, name):
+    """Returns what `arbiter verify` finds in a file of the folder, and whether that is no fault."""
+    with open(folder / name, "rb") as file:
+        words = ["arbiter", "verify", "--keep-going", "--strict", "--quiet"]
+        run = subprocess.run(words, stdin=file, stdout=subprocess.PIPE, encoding="latin-1")
+    found = run.stdout.splitlines() or [f"verify ended with status {run.returncode}"]
+    return found[-1], run.returncode == 0
