@@ -84,7 +84,7 @@ fn texts_are_parsed_as_squares_and_moves(rt: HostRuntime) -> Result<(), Fail> {
 }
 
 // Moves in the order of the list of legal moves.
-const RISING: [&[u8]; 6] = [b"e2e4", b"e7d8q", b"e7e8", b"e7e8q", b"e7e8n", b"f2f3"];
+const RISING: [&[u8]; 6] = [b"e2e4", b"f2f3", b"e7d8q", b"e7e8", b"e7e8q", b"e7e8n"];
 
 #[test]
 fn values_are_ordered(rt: HostRuntime) -> Result<(), Fail> {
