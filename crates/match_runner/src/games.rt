@@ -7,11 +7,12 @@ ghost use Rattle.chess_match.specs.Run.{Ports};
 ghost use Rattle.chess_match.specs.declared.reason.Reason.TheVariants.{Faulted};
 ghost use Rattle.chess_pgn.specs.GameText.{pgn};
 ghost use Rattle.match_runner.specs.Games.{RanGames, engine_command, first_side, player_name, score_line, tags_of};
-ghost use Rattle.match_runner.specs.ties.Playing.{FailsToStart, HasPlayed, IsMatchEndOf, PlayedGame, RanAndLogged, ReportsStart, logged_side};
+ghost use Rattle.match_runner.specs.ties.Playing.{FailsToStart, HasPlayed, IsMatchEndOf, PlayedGame, RanAndLogged, logged_side};
 ghost use Rattle.match_runner.specs.Log.{log_seen};
 ghost use Rattle.chess_game.specs.declared.game.TheConstants.{MOST_MOVES};
 
-use crate::engine::{Engine, StartFault, finish, finish_both, start};
+use crate::engine::{Engine, finish, finish_both, start};
+use crate::fault::GamesFault;
 use crate::log::{Log, run_match_logged};
 use crate::moments::SinceStart;
 use crate::plan::GamesPlan;
@@ -26,24 +27,6 @@ use itoa::Buffer;
 use std::alloc::Global;
 use std::process::{OpenProcess, Processes};
 use std::rt::Clock;
-use thiserror::Error;
-
-/// Why a match was not played to its end.
-#[derive(Clone, Copy, Debug, Error)]
-pub enum GamesFault<'a> {
-    /// A write or a flush of the output failed.
-    #[error("write failed")]
-    WriteFailed,
-    /// There was no memory.
-    #[error("no memory")]
-    NoMemory,
-    /// An engine of that command could not be started.
-    #[error("can not start {0}")]
-    CanNotStart(&'a str),
-    /// An engine failed in that game.
-    #[error("game {0}: {1}")]
-    Game(u32, &'static str),
-}
 
 // How a fault of the engine of this side is reported, such as `White has no ping`.
 fn fault_text(side: Colour, fault: MatchFault) -> &'static str
@@ -166,17 +149,6 @@ fn write_score<W: Output>(score: Score, output: &mut W) -> Result<(), WriteFault
     send(output, score.line().as_slice())
 }
 
-// How the fault of starting the engine with this command is reported: out of memory as such, all else by the command.
-fn start_fault<'a>(fault: StartFault, command: &'a str) -> GamesFault<'a>
-    ensures fails { FailsToStart command.entry.now result }
-    ensures reported { ReportsStart fault command.entry.now result }
-{
-    match fault {
-        StartFault::NoMemory => GamesFault::NoMemory,
-        StartFault::CanNotStart => GamesFault::CanNotStart(command),
-    }
-}
-
 // Starts both engines of a game; `white` and `black` are their commands. If Black's can't be started, White's is
 // ended.
 fn start_both<'a, P: Processes + Clock>(
@@ -187,15 +159,12 @@ fn start_both<'a, P: Processes + Clock>(
 ) -> Result<(Engine<P::Started>, Engine<P::Started>), GamesFault<'a>>
     ensures { IfErr result (λ f. FailsToStart white.entry.now f ⊎ FailsToStart black.entry.now f) }
 {
-    let white_engine = match start(rt, alloc, white) {
-        Ok(engine) => engine,
-        Err(fault) => return Err(start_fault(fault, white)),
-    };
+    let white_engine = start(rt, alloc, white)?;
     match start(rt, alloc, black) {
         Ok(black_engine) => Ok((white_engine, black_engine)),
         Err(fault) => {
             finish(rt, white_engine);
-            Err(start_fault(fault, black))
+            Err(fault)
         }
     }
 }
@@ -264,10 +233,8 @@ fn play_game<'a, 't, C: Clock, P: OpenProcess + Drop, M: Moments, W: Output, E: 
             ends: black_ends,
         },
     );
-    match written {
-        Ok(()) => Ok(end),
-        Err(_) => Err(GamesFault::WriteFailed),
-    }
+    written?;
+    Ok(end)
 }
 
 // Plays the game of this number between the plan's two engines, which are started for it, logs it if the plan asks for
@@ -289,17 +256,15 @@ fn start_and_play<'a, 't, P: Processes + Clock, M: Moments, W: Output, E: Output
         (log_seen (E.seen log.old.output) log.old.pending) (log_seen (E.seen log.new.output) log.new.pending)
         result }
 {
-    match start_both(
+    let (white, black) = start_both(
         rt,
         alloc,
         command_of(plan, number, Colour::White),
         command_of(plan, number, Colour::Black),
-    ) {
-        Ok((white, black)) => play_game(
-            rt, white, black, plan, number, moments, game, scratch, output, log,
-        ),
-        Err(fault) => Err(fault),
-    }
+    )?;
+    play_game(
+        rt, white, black, plan, number, moments, game, scratch, output, log,
+    )
 }
 
 // The score of the games that were played; and, if an engine had a fault, the number of the last game, the engine's
@@ -339,12 +304,9 @@ fn play_each<'a, 't, P: Processes + Clock, M: Moments, W: Output, E: Output>(
     let mut number: u32 = 0;
     while number < game_count(plan) {
         number += 1;
-        let end = match start_and_play(
+        let end = start_and_play(
             rt, alloc, plan, number, moments, game, scratch, output, log,
-        ) {
-            Ok(end) => end,
-            Err(fault) => return Err(fault),
-        };
+        )?;
         score = score.after(first_side(number), end.outcome);
         if let Some((side, fault)) = end.fault {
             return Ok(GamesPlayed {
@@ -373,15 +335,11 @@ pub fn play_games<'a, P: Processes + Clock, W: Output, E: Output>(
         (log_seen (E.seen log.old.output) log.old.pending) (log_seen (E.seen log.new.output) log.new.pending)
         result }
 {
-    let Ok(tables) = AttackTables::open(alloc) else {
-        return Err(GamesFault::NoMemory);
-    };
-    let Ok(mut game) = Game::open(alloc, Bits::new(&tables), MOST_MOVES) else {
-        return Err(GamesFault::NoMemory);
-    };
+    let tables = AttackTables::open(alloc)?;
+    let mut game = Game::open(alloc, Bits::new(&tables), MOST_MOVES)?;
     let mut scratch = Bits::new(&tables);
     let mut moments = SinceStart::new(rt);
-    let played = match play_each(
+    let played = play_each(
         rt,
         alloc,
         plan,
@@ -390,13 +348,8 @@ pub fn play_games<'a, P: Processes + Clock, W: Output, E: Output>(
         &mut scratch,
         output,
         log,
-    ) {
-        Ok(played) => played,
-        Err(fault) => return Err(fault),
-    };
-    if write_score(played.score, output).is_err() {
-        return Err(GamesFault::WriteFailed);
-    }
+    )?;
+    write_score(played.score, output)?;
     match played.fault {
         None => Ok(()),
         Some((number, side, fault)) => Err(GamesFault::Game(number, fault_text(side, fault))),

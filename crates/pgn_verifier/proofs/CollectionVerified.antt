@@ -20,7 +20,7 @@ use Rattle.pgn_verifier.specs.declared.fault.VerifyFault.TheVariants.{WriteFaile
 use Rattle.pgn_verifier.specs.Reports.{reports_in, report_lines, counts_line, counts_of}
 use Rattle.pgn_verifier.specs.Collection.{collection_reports, collection_lines, VerifiesCollection}
 use Rattle.pgn_verifier.specs.ties.OnTheWay.{WritesCollection, Writes, PieceStandsIf, GrowsBy, reports_of, counted}
-use Rattle.pgn_verifier.specs.ties.Faults.{piece_fault}
+use Rattle.pgn_verifier.specs.Faults.{of_piece}
 use Rattle.pgn_verifier.proofs.Placed.{piece_there}
 use Rattle.pgn_verifier.proofs.LinesWritten.{took_after, broke_after, lines_after, wrote_none, counted_after}
 
@@ -202,7 +202,7 @@ module _ (options : VerifyOptions) (r r' r'' : InputState) (w w' : OutputState) 
       )
 
   pub stopped : (law : PiecesAreCut) (fault : PieceFault) → Next s s' r r'' so.text (Err fault)
-      → VerifiesCollection options r r'' w w' (Err (piece_fault fault))
+      → VerifiesCollection options r r'' w w' (Err (of_piece fault))
   stopped law fault next =
       let more = next.0 in
       let text = so.text ++ more in
@@ -215,7 +215,7 @@ module _ (options : VerifyOptions) (r r' r'' : InputState) (w w' : OutputState) 
     where
       by_fault : (e : PieceFault) → IsCause r r'' (so.text ++ next.0) e
           → Took w w' (collection_lines options false (so.text ++ next.0))
-          → VerifiesCollection options r r'' w w' (Err (piece_fault e))
+          → VerifiesCollection options r r'' w w' (Err (of_piece e))
       by_fault piece.ReadFailed cause written = (so.text ++ next.0, cause, written)
       by_fault piece.NoMemory cause written = (so.text ++ next.0, cause, written)
       by_fault piece.InputTooLong (read, many) written = (so.text ++ next.0, read, many, written)
