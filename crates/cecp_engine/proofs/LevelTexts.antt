@@ -128,12 +128,16 @@ base_back base h = by_seconds (eqb (base % 60) 0) refl
   where
     minutes : ℕ
     minutes = base / 60
+
     seconds : ℕ
     seconds = base % 60
+
     few : minutes ≤ 999
     few = omega arith
+
     ds : List ℕ
     ds = decimal minutes
+
     by_seconds : (whole : Bool) → eqb seconds 0 ≡ whole → base_of (base_text base) ≡ Some base
     by_seconds true e =
         let none : seconds ≡ 0 = grind (arith, nat_tests) in
@@ -165,6 +169,7 @@ base_solid base h = by_seconds (eqb (base % 60) 0) refl
   where
     few : base / 60 ≤ 999
     few = omega arith
+
     by_seconds : (whole : Bool) → eqb (base % 60) 0 ≡ whole → Solid (base_text base)
     by_seconds true e = rw e (decimal_solid (base / 60) few)
     by_seconds false e = rw e (solid_append (decimal (base / 60)) (byte ":" ∷ two_digits (base % 60))
@@ -175,6 +180,7 @@ base_some base h = by_seconds (eqb (base % 60) 0) refl
   where
     some : 0 < length (decimal (base / 60))
     some = decimal_nonempty (base / 60) (omega arith)
+
     by_seconds : (whole : Bool) → eqb (base % 60) 0 ≡ whole → 0 < length (base_text base)
     by_seconds true e = rw e some
     by_seconds false e = rw e (omega (arith, some, length-append (decimal (base / 60)) (byte ":" ∷ two_digits (base % 60))))

@@ -8,11 +8,11 @@ use crate::fault::GamesFault;
 use byte_devices::Counted;
 use chess_match::Ends;
 use std::alloc::Global;
+use std::io::{self, ErrorKind};
 use std::process::{Child, Command, OpenProcess, Processes, Stdio};
 use std::rt::Clock;
-use std::time::Duration;
-use std::io::{self, ErrorKind};
 use std::thread;
+use std::time::Duration;
 
 /// A running engine, with this process's ends of its pipes.
 #[derive(Drop)]

@@ -304,9 +304,7 @@ fn play_each<'a, 't, P: Processes + Clock, M: Moments, W: Output, E: Output>(
     let mut number: u32 = 0;
     while number < game_count(plan) {
         number += 1;
-        let end = start_and_play(
-            rt, alloc, plan, number, moments, game, scratch, output, log,
-        )?;
+        let end = start_and_play(rt, alloc, plan, number, moments, game, scratch, output, log)?;
         score = score.after(first_side(number), end.outcome);
         if let Some((side, fault)) = end.fault {
             return Ok(GamesPlayed {
