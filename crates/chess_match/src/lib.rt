@@ -4,8 +4,7 @@
 //! The engines are any two inputs and outputs:
 //!
 //! ```
-//! let level = Level::read(b"40 5 0").ok_or("a level")?;
-//! let setup = Setup { start: Position::initial(), level };
+//! let setup = Setup { start: Position::initial(), level: "40 5 0".parse()? };
 //! let mut white = Ends { reader: white_output, writer: white_input };
 //! let mut black = Ends { reader: black_output, writer: black_input };
 //! let end = run_match(&mut white, &mut black, &mut moments, &setup, &mut game);
