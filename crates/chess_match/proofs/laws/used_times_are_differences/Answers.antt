@@ -1,5 +1,5 @@
-use Rattle.chess_match.proofs.UsedLaw.{used_times_are_differences}
+use Rattle.chess_match.proofs.LawsOfActs.{used_times_differ}
 use Rattle.chess_match.proofs.laws.used_times_are_differences.Goals as goal
 
 pub returns : goal.returns
-returns c = used_times_are_differences
+returns c = used_times_differ
