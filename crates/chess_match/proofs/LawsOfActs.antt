@@ -258,7 +258,8 @@ counted (FailsToWrite c ∷ T) = counted T
 pub lines_few : LinesAreFewInMatches
 lines_few r H final h =
     let (T, failed, a) = has_acts r H final h in
-    rw (lines r H final T failed a White, lines r H final T failed a Black, sym (counted T)) (lines_are_few r T a.fitting)
+    rw (lines r H final T failed a White, lines r H final T failed a Black, sym (counted T))
+    (lines_are_few r T a.fitting)
 
 -- ---- only one
 

@@ -61,7 +61,8 @@ PlayedAreRuns = (H : List Act) (reason : Reason) (setup : Setup) (end : MatchEnd
 
 -- ---- what two engines and a clock give fixes the match
 
--- the acts `H` come from these engines and this clock (`s`): the lines read are the first of each engine's lines, all of
+-- the acts `H` come from these engines and this clock (`s`): the lines read are the first of each engine's lines, all
+-- of
 -- them if its output ended or a read failed, and the moments shown are the first of the clock's; each block was sent
 pub record AreOf (s : Streams) (H : List Act) : Type 0 where
   pub lines : (S : Colour) → (rest : List (Option (List ℕ))) × (s.lines S ≡ lines_read S H ++ rest)
@@ -93,7 +94,8 @@ abbrev pub ItemsAreSaidInMatches : Type 0
 ItemsAreSaidInMatches = (r : Rules) (H : List Act) (final : Match) (S : Colour) → IsMatch r H final
     → (final.seat S).items ≡ items_said (lines_read S H)
 
--- the engines' lines fix the moves that each engine is sent: in every match there are moves `ms`, which the two engines'
+-- the engines' lines fix the moves that each engine is sent: in every match there are moves `ms`, which the two
+-- engines'
 -- `move` lines denote in turn. Each side `O` is sent those of the other side, each once, in order, in the notation that
 -- its handshake asked for. `rest` is what `O` was not sent: at most the last of them, and nothing if each block for `O`
 -- was sent
