@@ -88,7 +88,7 @@ returns-in-Nothing-clause-played g c =
     c.in-Nothing.reason c.events.failed c.end_of.result
     (g.R.Input.seen c.args.white.now.reader) (g.R.Input.seen c.args.black.now.reader)
     (g.R.Input.seen c.events.white.reader) (g.R.Input.seen c.events.black.reader)
-    (by_colour c.events.white_lines c.events.black_lines)
+    (of_colour c.events.lines)
     (g.W.Output.seen c.args.white.now.writer) (g.W.Output.seen c.args.black.now.writer)
     (g.W.Output.seen c.events.white.writer) (g.W.Output.seen c.events.black.writer) _ _ _ _
     i.1 c.in-Nothing.ensures c.end_of.ensures.report c.end_of.ensures.white_name c.end_of.ensures.black_name i.2 i.3
