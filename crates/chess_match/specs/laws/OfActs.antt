@@ -61,8 +61,8 @@ PlayedAreRuns = (H : List Act) (reason : Reason) (setup : Setup) (end : MatchEnd
 
 -- ---- what two engines and a clock give fixes the match
 
--- the acts `H` come from these engines and this clock (`s`): the lines read are the first of each engine's lines, or all
--- of them if its output ended or a read failed, and the moments shown are the first of the clock's; each block was sent
+-- the acts `H` come from these engines and this clock (`s`): the lines read are the first of each engine's lines, or
+-- all of them if its output ended or a read failed; the moments shown are the first of the clock's; each block was sent
 pub record AreOf (s : Streams) (H : List Act) : Type 0 where
   pub lines : (S : Colour) → (rest : List (Option (List ℕ))) × (s.lines S ≡ lines_read S H ++ rest)
   pub ends : (S : Colour) → has_ended S H ≡ true → (s.lines S ≡ lines_read S H) × (s.fails S ≡ false)
