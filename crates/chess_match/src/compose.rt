@@ -3,10 +3,12 @@
 ghost use Rattle.chess_match.specs.declared.block.TheConstants.{BLOCK_LEN};
 ghost use Rattle.std.specs.Prelude.{◌≡◌, ◌+◌, ◌≤◌, ◌++◌, ◌∷◌, [], List, if◌then◌else◌, codes};
 ghost use Rattle.arrayvec.specs.ArrayVec.{array_vec_len};
-ghost use Rattle.chess_match.specs.Match.{Match};
+ghost use Rattle.chess_match.specs.laws.Machine.{Match};
 ghost use Rattle.chess_match.specs.Rules.{Rules};
 ghost use Rattle.chess_base.specs.declared.man.Move.{Move};
-ghost use Rattle.chess_match.specs.Sent.{Says, bytes_of, last_move_lines, clock_lines, opening_lines, setup_lines, end_lines, lines_on_entering, unsent_lines, variant_command, is_unwritten};
+ghost use Rattle.chess_match.specs.Lines.{Says, bytes_of, setup_lines, variant_command};
+ghost use Rattle.chess_match.specs.laws.Blocks.{last_move_lines, clock_lines, opening_lines, end_lines, lines_on_entering, unsent_lines};
+ghost use Rattle.chess_match.specs.Reasons.{is_unwritten};
 ghost use Rattle.chess_match.specs.ties.Represents.{Represents, player, lines_if_to};
 
 use crate::block::{Block, add_end, add_level, add_move, add_ping, add_times};

@@ -10,7 +10,7 @@ use Rattle.chess_base.specs.declared.man.Colour.TheVariants.{White, Black}
 use Rattle.byte_devices.specs.Devices.{OutputState, Sent, Sends, risen}
 use Rattle.byte_devices.proofs.shared.Devices.{appends_more}
 use Rattle.chess_base.specs.Men.{same_colour}
-use Rattle.chess_match.specs.Match.{Line}
+use Rattle.chess_match.specs.Events.{Line}
 use Rattle.chess_match.specs.Notes.{Note, Happened, WasNoted}
 use Rattle.chess_match.specs.Run.{Flushed, FlushedThenFailed}
 use Rattle.chess_match.proofs.shared.Flushes.{flushed_none, flushed_more, failed_after}

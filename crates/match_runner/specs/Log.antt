@@ -4,7 +4,7 @@ use Rattle.chess_base.specs.Letters.{byte, new_line}
 use Rattle.chess_base.specs.declared.man.Colour.{Colour}
 use Rattle.chess_base.specs.Men.{same_colour}
 use Rattle.byte_devices.specs.Devices.{OutputState, Begins}
-use Rattle.chess_match.specs.Match.{Line, Opened, OutputEnds, FailsToRead, FailsToWrite}
+use Rattle.chess_match.specs.Events.{Line, Opened, OutputEnds, FailsToRead, FailsToWrite}
 use Rattle.chess_match.specs.Notes.{Note, Happened, Gives}
 use Rattle.chess_match.specs.Run.{Flushed, FlushedThenFailed}
 use Rattle.match_runner.specs.declared.log.Pending.{Pending}

@@ -7,12 +7,14 @@ use Rattle.text_lines.specs.Lines.{nothing_held}
 use Rattle.text_lines.specs.Next.{line_read}
 use Rattle.chess_game.specs.Game as game
 use Rattle.chess_match.specs.ties.Delivering.{event_read}
-use Rattle.chess_match.specs.Match.{Match, Opened, start, match_after}
+use Rattle.chess_match.specs.laws.Machine.{Match, start, match_after}
+use Rattle.chess_match.specs.Events.{Opened}
 use Rattle.chess_match.specs.Rules.{Rules, rules_of}
-use Rattle.chess_match.specs.Sent.{answers_to, block, bytes_of}
+use Rattle.chess_match.specs.Lines.{answers_to, bytes_of}
+use Rattle.chess_match.specs.laws.Blocks.{block}
 use Rattle.chess_match.specs.ties.Represents.{Represents, items_to, nothing_said}
 use Rattle.cecp_engine.specs.Items.{Item}
-use Rattle.chess_match.specs.Transcript.{match_of, reads, opens}
+use Rattle.chess_match.specs.laws.Transcript.{match_of, reads, opens}
 use Rattle.chess_match.specs.declared.phase.Phase.{Phase}
 use Rattle.chess_match.proofs.Delivers.{both_sides}
 use Rattle.chess_match.proofs.Finished.{ran, told_outcome}
