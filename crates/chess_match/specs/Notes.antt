@@ -5,7 +5,7 @@ use Rattle.chess_match.specs.Events.{Event}
 
 -- what a witness (such as the log) is given: an event, or the bytes that an engine is sent
 pub data Note : Type 0 where
-  -- an event of the transcript
+  -- an event
   Happened : (event : Event) → Note
   -- the bytes of a block that a side's engine is sent
   Gives : (side : Colour) → (text : List ℕ) → Note
