@@ -88,7 +88,7 @@ fn add_opening(block: &mut Block, core: &MatchState, side: Colour)
 }
 
 // Appends the line `variant fischerandom`, if the variant is Chess960.
-#[tactic(auto, unfolding(crate::specs::Sent::bytes_of))]
+#[tactic(auto, unfolding(crate::specs::Lines::bytes_of))]
 fn add_variant(block: &mut Block, variant: Variant)
     requires { array_vec_len block.old + 30 ≤ BLOCK_LEN }
     ensures text { block.new.items ≡ block.old.items ++ bytes_of (variant_command variant) }
@@ -193,7 +193,7 @@ fn add_entry<G: MatchGame>(block: &mut Block, core: &MatchState, game: &G, side:
 }
 
 // Appends the line `draw`, if `given` says that this side is sent an offer of a draw.
-#[tactic(auto, unfolding(crate::specs::Sent::bytes_of))]
+#[tactic(auto, unfolding(crate::specs::Lines::bytes_of))]
 pub(crate) fn add_offer(block: &mut Block, given: Actions, side: Colour)
     requires { array_vec_len block.old + 10 ≤ BLOCK_LEN }
     ensures text { block.new.items ≡ block.old.items
