@@ -45,8 +45,8 @@ WrittenAs sent [] old new = Flushed old new (bytes_of sent)
 WrittenAs sent (block ∷ more) old new =
     (start : List ℕ) × Begins start (bytes_of block) × FlushedThenFailed old new (bytes_of sent) start
 
--- these acts were done: they are a match by the rules `r`, which ended as `final`, and each device did its part. `w` is
--- the world before, `w'` after
+-- these acts were done, as each device, seen apart, shows: they are a match by the rules `r`, which ended as `final`. `w`
+-- is the world before, `w'` after
 pub record Passed (r : Rules) (H : List Act) (final : Match) (w w' : World) : Type 0 where
   pub is_match : IsMatch r H final
   pub read : (S : Colour) → (given : List ℕ) × ReadAs S H (w.ports.reader S) (w'.ports.reader S) given

@@ -1,6 +1,6 @@
 -- The position that a FEN denotes (PGN standard of 1994, section 16.1.3), field by field, with whole lists: no loop
--- carries a value along, and no square is used to mark a fault. The law `fens_are_read_alike` says that each text is
--- read so.
+-- carries a value along, and no square is used to mark a fault. The law `fens_are_read_as_denoted` says that each
+-- text is read so.
 use Rattle.std.specs.Prelude.{ℕ, max, codes, ◌-◌, ◌==◌, Bool, not, ◌&&◌, ◌||◌, List, [], ◌∷◌, length, map, find, Option, Some, None, is_some, Result, Ok, Err, nat_lt, nat_le, if◌then◌else◌, option_and_then}
 use Rattle.std.specs.List.{slice_split, list_all, flat_map, filter}
 use Rattle.std.specs.Option.{ok_or, option_map}
