@@ -2,8 +2,8 @@
 //!
 //! ```
 //! let arguments = ["verify", "--quiet"];
-//! if let Plan::Verify(plan) = read_words(alloc, &arguments)? {
-//!     assert!(plan.quiet && !plan.keep_going);
+//! if let Ok(Plan::Verify(plan)) = read_words(alloc, &arguments) {
+//!     println!(rt; "quiet: {}, keep going: {}", plan.quiet, plan.keep_going)?;
 //! }
 //! ```
 #![tactic(auto)]

@@ -117,9 +117,6 @@ pub(crate) fn planned<'a>(request: Request<'a>) -> Result<Plan<'a>, WordsFault>
         Request::Session => Ok(Plan::Session),
         Request::Verify(plan) => Ok(Plan::Verify(plan)),
         Request::Stub(arguments) => Ok(Plan::Stub(arguments)),
-        Request::Match(request) => match validate(&request) {
-            Ok(plan) => Ok(Plan::Match(plan)),
-            Err(fault) => Err(fault),
-        },
+        Request::Match(request) => Ok(Plan::Match(validate(&request)?)),
     }
 }

@@ -27,7 +27,7 @@ use Rattle.pgn_verifier.specs.declared.tally.Verified.TheVariants.{EachGame}
 use Rattle.pgn_verifier.specs.Collection.{VerifiesCollection}
 use Rattle.pgn_verifier.specs.Verify.{Verifies}
 use Rattle.match_runner.specs.Games.{RanGames}
-use Rattle.match_runner.specs.declared.games.GamesFault.{GamesFault}
+use Rattle.match_runner.specs.declared.fault.GamesFault.{GamesFault}
 use Rattle.match_runner.specs.declared.plan.GamesPlan.{GamesPlan}
 use Rattle.match_runner.specs.Log.{LogSeen}
 use Rattle.stub_engine.specs.Stub.{stub_response, waiting}

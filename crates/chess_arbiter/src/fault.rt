@@ -2,8 +2,12 @@
 
 ghost use Rattle.std.specs.Prelude.{◌≡◌};
 ghost use Rattle.chess_arbiter.specs.Program.{fault_status};
+ghost use Rattle.chess_arbiter.specs.declared.fault.ProgramFault.TheVariants.{NoMemory, WriteFailed};
+ghost use Rattle.chess_arbiter.specs.Faults.{fault_of};
 
-use byte_devices::{Output, put};
+use byte_devices::{Output, WriteFault, put};
+use chess_cecp::Fault;
+use std::alloc::AllocError;
 use std::fmt;
 use std::fmt::{Display, Write};
 use thiserror::Error;
@@ -37,6 +41,34 @@ impl ProgramFault {
     }
 }
 
+impl From<Fault> for ProgramFault {
+    ghost from_gives = { λ cause fault. fault ≡ fault_of cause };
+
+    // The fault of the same device.
+    fn from(fault: Fault) -> ProgramFault {
+        match fault {
+            Fault::Read => ProgramFault::ReadFailed,
+            Fault::Write => ProgramFault::WriteFailed,
+        }
+    }
+}
+
+impl From<WriteFault> for ProgramFault {
+    ghost from_gives = { λ _ fault. fault ≡ WriteFailed };
+
+    fn from(_fault: WriteFault) -> ProgramFault {
+        ProgramFault::WriteFailed
+    }
+}
+
+impl From<AllocError> for ProgramFault {
+    ghost from_gives = { λ _ fault. fault ≡ NoMemory };
+
+    fn from(_error: AllocError) -> ProgramFault {
+        ProgramFault::NoMemory
+    }
+}
+
 // An output, to which formatted text can be written.
 #[derive(Drop)]
 struct TextOn<'a, W> {
@@ -64,14 +96,6 @@ pub(crate) fn report<E: Output, D: Display>(errors: &mut E, fault: &D) {
     if writeln!(output, "arbiter: {fault}").is_ok() {
         let _ = errors.flush();
     }
-}
-
-// Writes a fault of the program to the error output as the line `arbiter: FAULT`, and returns it.
-pub(crate) fn reported_fault<E: Output>(errors: &mut E, fault: ProgramFault) -> ProgramFault
-    ensures { result ≡ fault }
-{
-    report(errors, &fault);
-    fault
 }
 
 // Writes a fault to the error output as the line `arbiter: FAULT`, and returns `status`.

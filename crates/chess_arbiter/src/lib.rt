@@ -4,7 +4,7 @@
 //! let mut input = Counted::reading(b"1. e4 *".as_slice());
 //! let mut output = Counted::writing(Vec::<u8>::new(alloc));
 //! let mut errors = Log::new(Counted::writing(Vec::<u8>::new(alloc)));
-//! let status = run_program(&rt, alloc, &["verify"], &mut input, &mut output, &mut errors);
+//! let status = run_program(rt, alloc, &["verify"], &mut input, &mut output, &mut errors);
 //! ```
 #![tactic(auto)]
 

@@ -7,14 +7,13 @@ ghost use Rattle.match_runner.specs.Log.{log_seen};
 ghost use Rattle.byte_devices.specs.Transfers.{Ran};
 ghost use Rattle.chess_arbiter.specs.Program.{PlaysMatch, RanProgram, ReportsArguments, RunsSession, Serves, VerifiesAs, VerifiesInput, WritesHelp, options_of, status_of, verify_status};
 ghost use Rattle.stub_engine.specs.Stub.{stub_response, waiting};
-ghost use Rattle.chess_arbiter.specs.ties.Faults.{fault_of, helped, served};
 ghost use Rattle.chess_game.specs.declared.game.TheConstants.{MOST_MOVES};
 
-use crate::fault::{ProgramFault, report_text, reported, reported_fault};
+use crate::fault::{ProgramFault, report_text, reported};
 use arbiter_cli::{MatchPlan, Plan, VerifyPlan, WordsFault, read_words};
-use byte_devices::{Input, Output, WriteFault, send};
+use byte_devices::{Input, Output, send};
 use chess_bits::{AttackTables, Bits};
-use chess_cecp::{End, Fault, Session, run_session, serve_lines};
+use chess_cecp::{Session, run_session, serve_lines};
 use chess_game::MOST_MOVES;
 use chess_pgn::Tags;
 use match_runner::{GamesPlan, Log, play_games};
@@ -37,72 +36,45 @@ fn open_session<'t>(
     Session::open(alloc, board, scratch, Tags::default(), MOST_MOVES)
 }
 
-// The exit status after this outcome: 0, or 1 if it is a fault.
-fn status_of(outcome: Result<(), ProgramFault>) -> u8
+// The exit status of a command that ended with this outcome: 0, or 1 after a fault, which is written to the error
+// output.
+fn status_of<E: Output>(outcome: Result<(), ProgramFault>, errors: &mut E) -> u8
     ensures { result ≡ status_of outcome }
 {
     match outcome {
         Ok(()) => 0,
-        Err(_) => 1,
+        Err(fault) => reported(errors, &fault, 1),
     }
 }
 
-// The fault of the program that is reported when a read or a write failed while lines were answered.
-fn fault_of(fault: Fault) -> ProgramFault
-    ensures { result ≡ fault_of fault }
-{
-    match fault {
-        Fault::Read => ProgramFault::ReadFailed,
-        Fault::Write => ProgramFault::WriteFailed,
-    }
-}
-
-// Writes the fault with which answering lines ended to the error output, if there is one, and returns it as the
-// program's.
-fn report_served<E: Output>(outcome: Result<End, Fault>, errors: &mut E) -> Result<(), ProgramFault>
-    ensures { result ≡ served outcome }
-{
-    match outcome {
-        Ok(_) => Ok(()),
-        Err(fault) => Err(reported_fault(errors, fault_of(fault))),
-    }
-}
-
-// Runs a session on the input and the output, and returns the exit status: 0, or 1 if input, output or memory failed.
-fn session<R: Input, W: Output, E: Output>(
+// Runs a session on the input and the output; a fault if input, output or memory failed.
+fn session<R: Input, W: Output>(
     alloc: Global,
     input: &mut R,
     output: &mut W,
-    errors: &mut E,
-) -> u8
+) -> Result<(), ProgramFault>
     ensures { RunsSession (record { input = R.seen input.old; output = W.seen output.old })
-        (record { input = R.seen input.new; output = W.seen output.new }) result }
+        (record { input = R.seen input.new; output = W.seen output.new }) (status_of result) }
 {
-    let Ok(tables) = AttackTables::open(alloc) else {
-        return reported(errors, &ProgramFault::NoMemory, 1);
-    };
-    let Ok(mut session) = open_session(alloc, &tables) else {
-        return reported(errors, &ProgramFault::NoMemory, 1);
-    };
-    let outcome = run_session(input, output, &mut session);
-    status_of(report_served(outcome, errors))
+    let tables = AttackTables::open(alloc)?;
+    let mut session = open_session(alloc, &tables)?;
+    run_session(input, output, &mut session)?;
+    Ok(())
 }
 
-// Runs a stub, an engine that plays these arguments, on the input and the output, and returns the exit status: 0,
-// or 1 if input or output failed.
-fn stub<R: Input, W: Output, E: Output>(
+// Runs a stub, an engine that plays these arguments, on the input and the output; a fault if input or output failed.
+fn stub<R: Input, W: Output>(
     arguments: &[&str],
     input: &mut R,
     output: &mut W,
-    errors: &mut E,
-) -> u8
+) -> Result<(), ProgramFault>
     ensures { Serves stub_response (waiting arguments.now)
         (record { input = R.seen input.old; output = W.seen output.old })
-        (record { input = R.seen input.new; output = W.seen output.new }) result }
+        (record { input = R.seen input.new; output = W.seen output.new }) (status_of result) }
 {
     let mut stub = Stub::new(arguments);
-    let outcome = serve_lines(input, output, &mut stub);
-    status_of(report_served(outcome, errors))
+    serve_lines(input, output, &mut stub)?;
+    Ok(())
 }
 
 // The exit status after games were verified: 0 if none has a fault, else 1.
@@ -164,34 +136,29 @@ fn verified<R: Input, W: Output, E: Output>(
     }
 }
 
-// If a text of help could not be written, writes that fault to the error output, and returns it.
-fn report_help<E: Output>(
-    outcome: Result<(), WriteFault>,
-    errors: &mut E,
-) -> Result<(), ProgramFault>
-    ensures { result ≡ helped outcome }
-{
-    match outcome {
-        Ok(()) => Ok(()),
-        Err(_) => Err(reported_fault(errors, ProgramFault::WriteFailed)),
-    }
-}
-
-// Writes the text `help` to the output, and returns the exit status: 0, or 1 if the output or memory failed.
-fn help<W: Output, E: Output, D: Display>(
+// Writes the text `help` to the output; a fault if the output or memory failed.
+fn write_help<W: Output, D: Display>(
     alloc: Global,
     help: &D,
+    output: &mut W,
+) -> Result<(), ProgramFault>
+    ensures { WritesHelp (W.seen output.old) (W.seen output.new) (status_of result) }
+{
+    let text = format!(in alloc; "{help}")?;
+    send(output, text.as_bytes())?;
+    Ok(())
+}
+
+// Writes the text `text` to the output, and returns the exit status: 0, or 1 if the output or memory failed.
+fn help<W: Output, E: Output, D: Display>(
+    alloc: Global,
+    text: &D,
     output: &mut W,
     errors: &mut E,
 ) -> u8
     ensures { WritesHelp (W.seen output.old) (W.seen output.new) result }
 {
-    let text = match format!(in alloc; "{help}") {
-        Ok(text) => text,
-        Err(_) => return reported(errors, &ProgramFault::NoMemory, 1),
-    };
-    let outcome = send(output, text.as_bytes());
-    status_of(report_help(outcome, errors))
+    status_of(write_help(alloc, text, output), errors)
 }
 
 // Reports why the arguments ask for nothing, and returns the exit status: help and the version go to the output, all
@@ -292,9 +259,12 @@ pub fn run_program<'a, P: Processes + Clock, R: Input, W: Output, E: Output>(
         Err(fault) => return report_arguments(alloc, &fault, output, &mut errors.output),
     };
     match plan {
-        Plan::Session => session(alloc, input, output, &mut errors.output),
+        Plan::Session => status_of(session(alloc, input, output), &mut errors.output),
         Plan::Verify(plan) => verified(alloc, plan, input, output, &mut errors.output),
-        Plan::Stub(arguments) => stub(arguments.as_slice(), input, output, &mut errors.output),
+        Plan::Stub(arguments) => status_of(
+            stub(arguments.as_slice(), input, output),
+            &mut errors.output,
+        ),
         Plan::Match(plan) => matched(rt, alloc, &plan, output, errors),
     }
 }

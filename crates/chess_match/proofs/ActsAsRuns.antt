@@ -86,7 +86,8 @@ played_are_runs H reason setup end w w' (final, p, reported, left) =
           ending = phase;
           read = λ S. let q = p.read S in (
             q.0,
-            read_from S T H (w.ports.reader S) (w'.ports.reader S) q.0 (ap (lines_read S) acts ∙ lines_are_read r failed T S)
+            read_from S T H (w.ports.reader S) (w'.ports.reader S) q.0
+                (ap (lines_read S) acts ∙ lines_are_read r failed T S)
                 (ap (has_ended S) acts ∙ (ends_are_read r failed T S).0)
                 (ap (has_failed_read S) acts ∙ (ends_are_read r failed T S).1) q.1,
           );
@@ -99,7 +100,8 @@ played_are_runs H reason setup end w w' (final, p, reported, left) =
         },
         record {
           report = reported.report;
-          name = λ S. reported.name S ∙ ap (λ (m : effects.Match). cut_tag (last_value (codes "myname") (m.seat S).items)) same;
+          name = λ S. reported.name S ∙ ap (λ (m : effects.Match). cut_tag
+              (last_value (codes "myname") (m.seat S).items)) same;
           fault = reported.fault;
         },
         left ∙ ap (λ (m : effects.Match). game.with_state w.game (record {

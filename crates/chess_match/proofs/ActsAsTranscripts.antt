@@ -183,7 +183,8 @@ end_one r m n b due H over h = at (one_due r m n b due H h)
 
 ended : (r : Rules) (m n : Match) (first : Colour) (x y : List SentLine) (H : List Act) → is_over m.phase ≡ true
     → IsMatchFrom r m (block_of first x ++ block_of (other first) y) H n
-    → (failed : Colour → Bool) × (H ≡ map (λ b. send_act failed b) (block_of first x ++ block_of (other first) y)) × (n ≡ m)
+    → (failed : Colour → Bool) × (H ≡ map (λ b. send_act failed b) (block_of first x ++ block_of (other first) y))
+    × (n ≡ m)
 ended r m n first [] [] H over h = let e = end_empty r m n H over h in (λ c. false, e.0, e.1)
 ended r m n first (l ∷ x) [] H over h =
     let a = end_one r m n (record { to = first; lines = l ∷ x }) [] H over h in (
@@ -437,7 +438,8 @@ module _ (r : Rules) (n : Match) (first : Colour) (due : Colour → List SentLin
         λ d. same_colour c d || z.0 d,
         both_so (fits_next due m x) true fit refl,
         refl,
-        e ∙ ap (λ (z : List Act). up_to c (blocks_from first t.to) ++ z) (z.1 ∙ same_end c z.0 u.to (none_unwritten r t c)),
+        e ∙ ap (λ (z : List Act). up_to c (blocks_from first t.to) ++ z)
+            (z.1 ∙ same_end c z.0 u.to (none_unwritten r t c)),
         z.2 ∙ (at_next r due m t x a fit).after,
         λ d h. either_so (same_colour c d) (z.0 d) h,
       )

@@ -4,8 +4,7 @@
 //! The engines are any two inputs and outputs:
 //!
 //! ```
-//! let level = Level::read(b"40 5 0").ok_or("a level")?;
-//! let setup = Setup { start: Position::initial(), level };
+//! let setup = Setup { start: Position::initial(), level: "40 5 0".parse()? };
 //! let mut white = Ends { reader: white_output, writer: white_input };
 //! let mut black = Ends { reader: black_output, writer: black_input };
 //! let end = run_match(&mut white, &mut black, &mut moments, &setup, &mut game);
@@ -33,8 +32,8 @@ mod witness;
 
 pub use laws::{
     acts_are_in_order, clocks_do_not_underflow, each_is_sent_the_others, lines_are_few,
-    matches_have_transcripts, moves_are_read, moves_are_sent_once, moves_sent_are_known,
-    notes_have_all, runs_are_played, times_are_clocks, transcript_is_the_only_one,
+    match_is_the_only_one, matches_have_transcripts, moves_are_read, moves_are_sent_once,
+    moves_sent_are_known, notes_have_all, runs_are_played, times_are_clocks,
     used_times_are_differences,
 };
 pub use moments::Moments;

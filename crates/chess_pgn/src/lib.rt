@@ -1,10 +1,10 @@
 //! Games' texts, read and written (PGN standard of 1994).
 //!
-//! All games of a text, and the last one written anew:
+//! The first game of a text, written anew; the next one is read from `offset` on:
 //!
 //! ```
 //! let mut offset = 0;
-//! while let Some(end) = read_pgn(text, offset, &mut game)? {
+//! if let Some(end) = read_pgn(text, 0, &mut game)? {
 //!     offset = end.offset;
 //! }
 //! write_pgn(&game, &mut scratch, &Tags::default(), b"", &mut output)?;

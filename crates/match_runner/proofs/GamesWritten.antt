@@ -1,5 +1,5 @@
 -- The games of a match, one after another.
-use Rattle.std.proofs.Common.{◌≡◌, ◌∙◌, ◌<◌, ◌≤◌, ◌+◌, ℕ, Bool, true, false, List, [], ◌∷◌, ◌++◌, length, is_err, Bor, Option, Some, None, Result, Ok, Err, refl, sym, ap, subst, append-nil, length-append, arith, inr}
+use Rattle.std.proofs.Common.{◌≡◌, ◌∙◌, ◌<◌, ◌≤◌, ◌+◌, ℕ, Bool, true, false, List, [], ◌∷◌, ◌++◌, length, Bor, Option, Some, None, Ok, Err, refl, sym, ap, subst, append-nil, length-append, arith, inr}
 use Rattle.std.specs.Prelude.{cond, count_by, flat_map, if◌then◌else◌}
 use Rattle.std.specs.List.{enumerate_from}
 use Rattle.std.proofs.lemmas.List.Concat.{flat_map-append}
@@ -8,7 +8,7 @@ use Rattle.std.proofs.lemmas.List.Sums.{count_by-le-length, sum_by_push}
 use Rattle.match_runner.specs.declared.plan.GamesPlan.{GamesPlan}
 use Rattle.chess_base.specs.Men.{other}
 use Rattle.chess_base.specs.declared.man.Colour.{Colour}
-use Rattle.byte_devices.specs.Devices.{OutputState, Begins, BreaksOff, Sends, Sent}
+use Rattle.byte_devices.specs.Devices.{OutputState, Begins, BreaksOff, Sent}
 use Rattle.byte_devices.proofs.shared.Devices.{appends_more}
 use Rattle.chess_game.specs.Game.{Seen}
 use Rattle.chess_game.specs.Results.{same_outcome}
@@ -28,8 +28,8 @@ use Rattle.match_runner.specs.Games.{EndsGames, GameRecord, IsOfPlan, LogsGames,
 use Rattle.match_runner.specs.ties.Playing.{HasPlayed, LogsGame, PlayedGame, RanAndLogged, logged_side, no_score, plus, score_after}
 use Rattle.match_runner.specs.Log.{LogSeen, Logged, RanNoted, log_text}
 use Rattle.match_runner.proofs.Logged.{logged_more, logs_none}
-use Rattle.match_runner.specs.declared.games.GamesFault.{GamesFault}
-use Rattle.match_runner.specs.declared.games.GamesFault.TheVariants.{WriteFailed, NoMemory, CanNotStart, Game}
+use Rattle.match_runner.specs.declared.fault.GamesFault.{GamesFault}
+use Rattle.match_runner.specs.declared.fault.GamesFault.TheVariants.{WriteFailed, NoMemory, CanNotStart, Game}
 use Rattle.match_runner.specs.declared.games.GamesPlayed.{GamesPlayed}
 use Rattle.match_runner.specs.declared.score.Score.{Score}
 
@@ -270,17 +270,6 @@ all_played plan w w' l l' number score games s past =
     (games, (s.games_sound, omega (arith, n, few, past)), s.counted, s.written, s.logged)
 
 -- ---- the end of a match
-
--- what a call that sends something did, by whether it failed
-pub is_sent : {A E : Type 0} (w w' : OutputState) (r : Result A E) (text : List ℕ) → Sends w w' r text
-    → is_err r ≡ false → Sent w w' text
-is_sent w w' (Ok v) text h k = h
-is_sent w w' (Err e) text h k = cc
-
-pub is_broken : {A E : Type 0} (w w' : OutputState) (r : Result A E) (text : List ℕ) → Sends w w' r text
-    → is_err r ≡ true → BreaksOff w w' text
-is_broken w w' (Ok v) text h k = cc
-is_broken w w' (Err e) text h k = h
 
 module _ (plan : GamesPlan) (w w' w'' : OutputState) (l l' : LogSeen) (played : GamesPlayed)
     (h : HasPlayed plan w w' l l' (Ok played)) where

@@ -19,8 +19,8 @@ use Rattle.chess_match.specs.declared.reason.Reason.TheVariants.{Faulted}
 use Rattle.chess_match.specs.declared.run.MatchEnd.{MatchEnd}
 use Rattle.chess_pgn.specs.GameText.{pgn}
 use Rattle.match_runner.specs.Log.{LogSeen, Logged, RanNoted, log_text}
-use Rattle.match_runner.specs.declared.games.GamesFault.{GamesFault}
-use Rattle.match_runner.specs.declared.games.GamesFault.TheVariants.{WriteFailed, NoMemory, CanNotStart, Game}
+use Rattle.match_runner.specs.declared.fault.GamesFault.{GamesFault}
+use Rattle.match_runner.specs.declared.fault.GamesFault.TheVariants.{WriteFailed, NoMemory, CanNotStart, Game}
 use Rattle.chess_pgn.specs.declared.tags.Tags.{Tags}
 use Rattle.match_runner.specs.declared.score.Score.{Score}
 use Rattle.chess_game.specs.declared.game.TheConstants.{MOST_MOVES}

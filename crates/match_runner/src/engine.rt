@@ -1,20 +1,19 @@
 //! Engines as processes.
 
+ghost use Rattle.std.specs.Prelude.{◌≡◌, ◌≢◌, IfErr};
+ghost use Rattle.std.specs.IoError.{error_kind};
+ghost use Rattle.match_runner.specs.ties.Playing.{FailsToStart};
+
+use crate::fault::GamesFault;
 use byte_devices::Counted;
 use chess_base::ByColour;
 use chess_match::Ends;
 use std::alloc::Global;
+use std::io::{self, ErrorKind};
 use std::process::{Child, Command, OpenProcess, Processes, Stdio};
 use std::rt::Clock;
+use std::thread;
 use std::time::Duration;
-use std::{io, thread};
-
-/// Why an engine could not be started.
-#[derive(Clone, Copy, Debug, PartialEq, Eq)]
-pub(crate) enum StartFault {
-    NoMemory,
-    CanNotStart,
-}
 
 /// A running engine, with this process's ends of its pipes.
 #[derive(Drop)]
@@ -62,40 +61,49 @@ pub(crate) struct Host<'r, R> {
     pub alloc: Global,
 }
 
-// Why an engine could not be started, by the system's error: no memory, or anything else.
-fn start_fault(error: &io::Error) -> StartFault {
-    if error.kind() == io::ErrorKind::OutOfMemory {
-        StartFault::NoMemory
-    } else {
-        StartFault::CanNotStart
+// Why the engine with this command could not be started, by the system's error: out of memory, or anything else.
+fn start_fault<'a>(error: &io::Error, text: &'a str) -> GamesFault<'a>
+    ensures fails { FailsToStart text.entry.now result }
+    ensures memory { error_kind error.now ≡ ErrorKind.OutOfMemory → result ≡ GamesFault.NoMemory }
+    ensures others { error_kind error.now ≢ ErrorKind.OutOfMemory → result ≢ GamesFault.NoMemory }
+{
+    match error.kind() {
+        ErrorKind::OutOfMemory => GamesFault::NoMemory,
+        _ => GamesFault::CanNotStart(text),
     }
 }
 
 // The command of an engine to start: its text is split at spaces and tabs into the program and its arguments.
-fn command_of(alloc: Global, text: &str) -> Result<Command, StartFault> {
+fn command_of<'a>(alloc: Global, text: &'a str) -> Result<Command, GamesFault<'a>>
+    ensures { IfErr result (FailsToStart text.entry.now) }
+{
     let mut parts = text.split([' ', '\t']).filter(|part| !part.is_empty());
     let Some(program) = parts.next() else {
-        return Err(StartFault::CanNotStart);
+        return Err(GamesFault::CanNotStart(text));
     };
-    let Ok(mut command) = Command::new(alloc, program) else {
-        return Err(StartFault::NoMemory);
-    };
+    let mut command = Command::new(alloc, program)?;
     for part in parts {
         if command.arg(part).is_err() {
-            return Err(StartFault::NoMemory);
+            return Err(GamesFault::NoMemory);
         }
     }
     Ok(command)
 }
 
 // Starts a program by its command, with pipes at its input and output.
-fn spawn<R: Processes>(rt: &R, alloc: Global, text: &str) -> Result<Child<R::Started>, StartFault> {
+fn spawn<'a, R: Processes>(
+    rt: &R,
+    alloc: Global,
+    text: &'a str,
+) -> Result<Child<R::Started>, GamesFault<'a>>
+    ensures { IfErr result (FailsToStart text.entry.now) }
+{
     let mut command = command_of(alloc, text)?;
     command.stdin(Stdio::piped());
     command.stdout(Stdio::piped());
     match command.spawn(rt) {
         Ok(child) => Ok(child),
-        Err(error) => Err(start_fault(&error)),
+        Err(error) => Err(start_fault(&error, text)),
     }
 }
 
@@ -104,11 +112,13 @@ fn spawn<R: Processes>(rt: &R, alloc: Global, text: &str) -> Result<Child<R::Sta
 ///
 /// # Errors
 /// If the command is empty, the system can't start the program, or memory runs out.
-pub(crate) fn start<R: Processes>(
+pub(crate) fn start<'a, R: Processes>(
     rt: &R,
     alloc: Global,
-    text: &str,
-) -> Result<Engine<R::Started>, StartFault> {
+    text: &'a str,
+) -> Result<Engine<R::Started>, GamesFault<'a>>
+    ensures { IfErr result (FailsToStart text.entry.now) }
+{
     let mut child = spawn(rt, alloc, text)?;
     match (child.stdin.take(), child.stdout.take()) {
         (Some(input), Some(output)) => Ok(Engine {
@@ -122,7 +132,7 @@ pub(crate) fn start<R: Processes>(
             drop(input);
             drop(output);
             let _ = child.wait();
-            Err(StartFault::CanNotStart)
+            Err(GamesFault::CanNotStart(text))
         }
     }
 }

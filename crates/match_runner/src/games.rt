@@ -7,11 +7,12 @@ ghost use Rattle.chess_match.specs.Run.{ports_of};
 ghost use Rattle.chess_match.specs.declared.reason.Reason.TheVariants.{Faulted};
 ghost use Rattle.chess_pgn.specs.GameText.{pgn};
 ghost use Rattle.match_runner.specs.Games.{RanGames, engine_command, first_side, player_name, score_line, tags_of};
-ghost use Rattle.match_runner.specs.ties.Playing.{FailsToStart, HasPlayed, IsMatchEndOf, PlayedGame, RanAndLogged, ReportsStart, logged_side};
+ghost use Rattle.match_runner.specs.ties.Playing.{FailsToStart, HasPlayed, IsMatchEndOf, PlayedGame, RanAndLogged, logged_side};
 ghost use Rattle.match_runner.specs.Log.{log_seen};
 ghost use Rattle.chess_game.specs.declared.game.TheConstants.{MOST_MOVES};
 
-use crate::engine::{Engines, Host, StartFault, finish, finish_both, start};
+use crate::engine::{Engines, Host, finish, finish_both, start};
+use crate::fault::GamesFault;
 use crate::log::{Log, run_match_logged};
 use crate::moments::SinceStart;
 use crate::plan::GamesPlan;
@@ -26,24 +27,6 @@ use itoa::Buffer;
 use std::alloc::Global;
 use std::process::Processes;
 use std::rt::Clock;
-use thiserror::Error;
-
-/// Why a match was not played to its end.
-#[derive(Clone, Copy, Debug, Error)]
-pub enum GamesFault<'a> {
-    /// A write or a flush of the output failed.
-    #[error("write failed")]
-    WriteFailed,
-    /// There was no memory.
-    #[error("no memory")]
-    NoMemory,
-    /// An engine of that command could not be started.
-    #[error("can not start {0}")]
-    CanNotStart(&'a str),
-    /// An engine failed in that game.
-    #[error("game {0}: {1}")]
-    Game(u32, &'static str),
-}
 
 // How a fault of the engine of this side is reported, such as `White has no ping`.
 fn fault_text(side: Colour, fault: MatchFault) -> &'static str
@@ -172,17 +155,6 @@ fn write_score<W: Output>(score: Score, output: &mut W) -> Result<(), WriteFault
     send(output, score.line().as_slice())
 }
 
-// How the fault of starting the engine with this command is reported: out of memory as such, all else by the command.
-fn start_fault<'a>(fault: StartFault, command: &'a str) -> GamesFault<'a>
-    ensures fails { FailsToStart command.entry.now result }
-    ensures reported { ReportsStart fault command.entry.now result }
-{
-    match fault {
-        StartFault::NoMemory => GamesFault::NoMemory,
-        StartFault::CanNotStart => GamesFault::CanNotStart(command),
-    }
-}
-
 // Starts both engines of a game; `white` and `black` are their commands. If Black's can't be started, White's is
 // ended.
 fn start_both<'a, P: Processes + Clock>(
@@ -192,15 +164,12 @@ fn start_both<'a, P: Processes + Clock>(
 ) -> Result<Engines<P::Started>, GamesFault<'a>>
     ensures { IfErr result (λ f. FailsToStart white.entry.now f ⊎ FailsToStart black.entry.now f) }
 {
-    let white_engine = match start(host.rt, host.alloc, white) {
-        Ok(engine) => engine,
-        Err(fault) => return Err(start_fault(fault, white)),
-    };
+    let white_engine = start(host.rt, host.alloc, white)?;
     match start(host.rt, host.alloc, black) {
         Ok(black_engine) => Ok(Engines::of(white_engine, black_engine)),
         Err(fault) => {
             finish(host.rt, white_engine);
-            Err(start_fault(fault, black))
+            Err(fault)
         }
     }
 }
@@ -232,11 +201,8 @@ fn play_game<'a, 't, R: Input, D: Output, M: Moments, W: Output, E: Output>(
     let first = logged_side(plan, number);
     let end = relay(ends, table, &setup, first, log);
     let tags = tags_of(plan, number, &end);
-    let written = write_game(&table.game, &mut table.scratch, &tags, output);
-    match written {
-        Ok(()) => Ok(end),
-        Err(_) => Err(GamesFault::WriteFailed),
-    }
+    write_game(&table.game, &mut table.scratch, &tags, output)?;
+    Ok(end)
 }
 
 // Plays the game of this number between the plan's two engines, which are started for it and then ended, logs it if the
@@ -255,14 +221,11 @@ fn start_and_play<'a, 't, P: Processes + Clock, M: Moments, W: Output, E: Output
         (log_seen (E.seen log.old.output) log.old.pending) (log_seen (E.seen log.new.output) log.new.pending)
         result }
 {
-    let mut engines = match start_both(
+    let mut engines = start_both(
         host,
         command_of(plan, number, Colour::White),
         command_of(plan, number, Colour::Black),
-    ) {
-        Ok(engines) => engines,
-        Err(fault) => return Err(fault),
-    };
+    )?;
     let played = play_game(&mut engines.ends, plan, number, table, output, log);
     finish_both(host.rt, engines);
     played
@@ -302,10 +265,7 @@ fn play_each<'a, 't, P: Processes + Clock, M: Moments, W: Output, E: Output>(
     let mut number: u32 = 0;
     while number < game_count(plan) {
         number += 1;
-        let end = match start_and_play(host, plan, number, table, output, log) {
-            Ok(end) => end,
-            Err(fault) => return Err(fault),
-        };
+        let end = start_and_play(host, plan, number, table, output, log)?;
         score = score.after(first_side(number), end.outcome);
         if let Some((side, fault)) = end.fault {
             return Ok(GamesPlayed {
@@ -334,25 +294,16 @@ pub fn play_games<'a, P: Processes + Clock, W: Output, E: Output>(
         (log_seen (E.seen log.old.output) log.old.pending) (log_seen (E.seen log.new.output) log.new.pending)
         result }
 {
-    let Ok(tables) = AttackTables::open(alloc) else {
-        return Err(GamesFault::NoMemory);
-    };
-    let Ok(game) = Game::open(alloc, Bits::new(&tables), MOST_MOVES) else {
-        return Err(GamesFault::NoMemory);
-    };
+    let tables = AttackTables::open(alloc)?;
+    let game = Game::open(alloc, Bits::new(&tables), MOST_MOVES)?;
     let mut table = Table {
         moments: SinceStart::new(rt),
         game,
         scratch: Bits::new(&tables),
     };
     let host = Host { rt, alloc };
-    let played = match play_each(&host, plan, &mut table, output, log) {
-        Ok(played) => played,
-        Err(fault) => return Err(fault),
-    };
-    if write_score(played.score, output).is_err() {
-        return Err(GamesFault::WriteFailed);
-    }
+    let played = play_each(&host, plan, &mut table, output, log)?;
+    write_score(played.score, output)?;
     match played.fault {
         None => Ok(()),
         Some((number, side, fault)) => Err(GamesFault::Game(number, fault_text(side, fault))),

@@ -5,7 +5,7 @@
 //! let plan = GamesPlan {
 //!     white: "sjeng",
 //!     black: "phalanx",
-//!     level: Level::read(b"40 5 0").ok_or("a level")?,
+//!     level: "40 5 0".parse()?,
 //!     start: Position::initial(),
 //!     games: 2,
 //!     date: "????.??.??",
@@ -13,18 +13,20 @@
 //! };
 //! let mut output = Counted::writing(Vec::<u8>::new(alloc));
 //! let mut log = Log::new(Counted::writing(Vec::<u8>::new(alloc)));
-//! play_games(&rt, alloc, &plan, &mut output, &mut log)?;
+//! play_games(rt, alloc, &plan, &mut output, &mut log)?;
 //! ```
 #![tactic(auto)]
 
 mod engine;
+mod fault;
 mod games;
 mod log;
 mod moments;
 mod plan;
 mod score;
 
-pub use games::{GamesFault, play_games};
+pub use fault::GamesFault;
+pub use games::play_games;
 pub use log::{Log, run_match_logged};
 pub use moments::SinceStart;
 pub use plan::GamesPlan;

@@ -3,7 +3,10 @@
 //!
 //! ```
 //! let mut pieces = PgnPieces::open(alloc)?;
-//! while pieces.next(&mut input)? {
+//! for _ in 0..u64::MAX {
+//!     if !pieces.next(&mut input)? {
+//!         break;
+//!     }
 //!     match pieces.text() {
 //!         Some(text) => println!(rt; "{} bytes from byte {} on", text.len(), pieces.offset())?,
 //!         None => println!(rt; "too long, from byte {} on", pieces.offset())?,

@@ -3,6 +3,7 @@
 ghost use Rattle.std.specs.Prelude.{◌≡◌, ℕ, ◌≤◌, ◌<◌, ◌+◌, ◌^◌, ◌++◌, List, [], length, nat_lt, IfOk, false, true, Ok};
 ghost use Rattle.std.specs.Option.{option_map};
 ghost use Rattle.byte_devices.specs.Devices.{InputState};
+ghost use Rattle.pgn_pieces.specs.declared.pieces.PieceFault.TheVariants.{NoMemory, ReadFailed};
 ghost use Rattle.pgn_pieces.specs.declared.pieces.TheConstants.{PIECE_LEN};
 ghost use Rattle.pgn_pieces.specs.Stream.{State, unread, past_piece, current, IsStateOf, Next};
 ghost use Rattle.pgn_pieces.specs.ties.Held.{passed, FindsEnd, LetGo, Adds};
@@ -10,7 +11,7 @@ ghost use Rattle.pgn_pieces.specs.ties.Held.{passed, FindsEnd, LetGo, Adds};
 use crate::gone::{BEGINNING_LEN, Gone};
 use crate::line_kinds::line_ends;
 use crate::piece_end::Seen;
-use byte_devices::Input;
+use byte_devices::{Input, ReadFault};
 use std::alloc::{AllocError, Global};
 use std::marker::Model;
 
@@ -35,6 +36,22 @@ pub enum PieceFault {
     /// The input has nearly 2^63 bytes or more.
     #[error("the input is too long")]
     InputTooLong,
+}
+
+impl From<ReadFault> for PieceFault {
+    ghost from_gives = { λ _ fault. fault ≡ ReadFailed };
+
+    fn from(_fault: ReadFault) -> PieceFault {
+        PieceFault::ReadFailed
+    }
+}
+
+impl From<AllocError> for PieceFault {
+    ghost from_gives = { λ _ fault. fault ≡ NoMemory };
+
+    fn from(_error: AllocError) -> PieceFault {
+        PieceFault::NoMemory
+    }
 }
 
 /// The pieces of an input, one after another. What is held of it is a piece of at most `PIECE_LEN` bytes, which are
@@ -194,12 +211,8 @@ impl PgnPieces {
         if self.offset + self.gone.len() + (self.held.len() - self.at) > MOST_READ {
             return Err(PieceFault::InputTooLong);
         }
-        if self.held.reserve(CHUNK_LEN).is_err() {
-            return Err(PieceFault::NoMemory);
-        }
-        let Ok(count) = input.read(&mut self.chunk) else {
-            return Err(PieceFault::ReadFailed);
-        };
+        self.held.reserve(CHUNK_LEN)?;
+        let count = input.read(&mut self.chunk)?;
         if self.held.extend_from_slice(&self.chunk[..count]).is_err() {
             unreachable!();
         }
@@ -229,10 +242,7 @@ impl PgnPieces {
             }
             self.let_go();
             self.compact();
-            match self.read_more(input) {
-                Ok(()) => {}
-                Err(fault) => return Err(fault),
-            }
+            self.read_more(input)?;
         }
     }
 }

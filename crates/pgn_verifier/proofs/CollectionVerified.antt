@@ -20,7 +20,7 @@ use Rattle.pgn_verifier.specs.declared.fault.VerifyFault.TheVariants.{WriteFaile
 use Rattle.pgn_verifier.specs.Reports.{reports_in, report_lines, counts_line, counts_of}
 use Rattle.pgn_verifier.specs.Collection.{collection_reports, collection_lines, VerifiesCollection}
 use Rattle.pgn_verifier.specs.ties.OnTheWay.{WritesCollection, Writes, PieceStandsIf, GrowsBy, reports_of, counted}
-use Rattle.pgn_verifier.specs.ties.Faults.{piece_fault}
+use Rattle.pgn_verifier.specs.Faults.{of_piece}
 use Rattle.pgn_verifier.proofs.Placed.{piece_there}
 use Rattle.pgn_verifier.proofs.Verifying.{collection_broke_off, reading_stopped}
 use Rattle.pgn_verifier.proofs.LinesWritten.{took_after, broke_after, lines_after, wrote_none, counted_after}
@@ -200,7 +200,7 @@ module _ (options : VerifyOptions) (r r' r'' : InputState) (w w' : OutputState) 
       )
 
   pub stopped : (law : PiecesAreCut) (fault : PieceFault) → Next s s' r r'' so.text (Err fault)
-      → Ran (VerifiesCollection options (Err (piece_fault fault))) (record { input = r; output = w })
+      → Ran (VerifiesCollection options (Err (of_piece fault))) (record { input = r; output = w })
       (record { input = r''; output = w' })
   stopped law fault next =
       let more = next.0 in

@@ -14,7 +14,7 @@ use Rattle.pgn_verifier.specs.declared.tally.Verified.{Verified}
 use Rattle.pgn_verifier.specs.Reports.{counts_of, verified}
 use Rattle.pgn_verifier.specs.Verify.{Verifies, text_lines}
 use Rattle.pgn_verifier.specs.Collection.{VerifiesCollection, collection_reports, collection_lines, collection_text}
-use Rattle.pgn_verifier.specs.ties.Faults.{piece_fault}
+use Rattle.pgn_verifier.specs.Faults.{of_piece}
 use Rattle.pgn_verifier.specs.ties.OnTheWay.{IsAll, IsNotAll, WritesText}
 
 gave : (r r' : InputState) (text : List ℕ) (ended : Bool) → HasRead ended r r' text
@@ -108,7 +108,7 @@ collection_broke_off options r r' w w' ended text read (start, begins, failed) =
 -- the lines of the pieces whose end was read were written before reading stopped
 pub reading_stopped : (options : VerifyOptions) (r r' : InputState) (w w' : OutputState) (text : List ℕ)
     (fault : PieceFault) → IsCause r r' text fault → Took w w' (collection_lines options false text)
-    → Ran (VerifiesCollection options (Err (piece_fault fault))) (record { input = r; output = w })
+    → Ran (VerifiesCollection options (Err (of_piece fault))) (record { input = r; output = w })
     (record { input = r'; output = w' })
 reading_stopped options r r' w w' text piece.ReadFailed broke_off took = (
   came r' text false true,

@@ -3,5 +3,6 @@ pub mod Explanations
 pub mod Collection
 pub mod GameFaults
 pub mod Reports
+pub mod Faults
 pub mod Verify
 pub mod ties

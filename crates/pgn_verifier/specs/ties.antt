@@ -1,3 +1,2 @@
 -- What only joins code to the definitions: no claim rests on it.
-pub mod Faults
 pub mod OnTheWay

@@ -29,18 +29,14 @@ fn read_all<R: Input>(alloc: Global, input: &mut R) -> Result<Vec<u8>, VerifyFau
     let mut text = Vec::new(alloc);
     let mut piece = [0; READ_LEN];
     loop {
-        let Ok(count) = input.read(&mut piece) else {
-            return Err(VerifyFault::ReadFailed);
-        };
+        let count = input.read(&mut piece)?;
         if count == 0 {
             return Ok(text);
         }
         if count > PIECE_LEN - text.len() {
             return Err(VerifyFault::InputTooLong);
         }
-        if text.extend_from_slice(&piece[..count]).is_err() {
-            return Err(VerifyFault::NoMemory);
-        }
+        text.extend_from_slice(&piece[..count])?;
     }
 }
 
@@ -57,14 +53,9 @@ fn finish<W: Output>(
     ensures { WritesText options text.now (W.seen output.old) (W.seen output.new) result }
 {
     let start = TextStart { offset: 0, line: 1 };
-    let tally = match verify_text(options, start, text, game, output, Tally::none()) {
-        Ok(tally) => tally,
-        Err(fault) => return Err(fault),
-    };
-    match output.flush() {
-        Ok(()) => Ok(tally.verified()),
-        Err(fault) => Err(fault),
-    }
+    let tally = verify_text(options, start, text, game, output, Tally::none())?;
+    output.flush()?;
+    Ok(tally.verified())
 }
 
 /// Reads all games of the input and writes a line for each: `game 1: 4 half-moves, 0-1`, and after that
@@ -86,14 +77,8 @@ pub fn verify<R: Input, W: Output>(
         (record { input = R.seen input.new; output = W.seen output.new }) }
 {
     let text = read_all(alloc, input)?;
-    let Ok(tables) = AttackTables::open(alloc) else {
-        return Err(VerifyFault::NoMemory);
-    };
-    let Ok(mut game) = open_game(alloc, &tables) else {
-        return Err(VerifyFault::NoMemory);
-    };
-    match finish(options, text.as_slice(), &mut game, output) {
-        Ok(verified) => Ok(verified),
-        Err(_) => Err(VerifyFault::WriteFailed),
-    }
+    let tables = AttackTables::open(alloc)?;
+    let mut game = open_game(alloc, &tables)?;
+    let verified = finish(options, text.as_slice(), &mut game, output)?;
+    Ok(verified)
 }

@@ -7,7 +7,6 @@ ghost use Rattle.pgn_pieces.specs.Stream.{unread, current};
 ghost use Rattle.pgn_verifier.specs.Reports.{reports_in, counts_line};
 ghost use Rattle.pgn_verifier.specs.Collection.{VerifiesCollection};
 ghost use Rattle.pgn_verifier.specs.ties.OnTheWay.{WritesCollection, PieceStandsIf, Writes, GrowsBy};
-ghost use Rattle.pgn_verifier.specs.ties.Faults.{piece_fault};
 ghost use Rattle.chess_game.specs.declared.game.TheConstants.{MOST_MOVES};
 
 use crate::explanation::too_long_lines;
@@ -20,20 +19,8 @@ use crate::tally::{Tally, Verified};
 use byte_devices::{Input, Output, WriteFault, put};
 use chess_bits::{AttackTables, Bits};
 use chess_game::Game;
-use pgn_pieces::{PgnPieces, PieceFault, pieces_are_cut, pieces_are_in_place};
+use pgn_pieces::{PgnPieces, pieces_are_cut, pieces_are_in_place};
 use std::alloc::Global;
-
-// The fault of verifying a collection if cutting the input into pieces failed with this fault: the one of the same
-// name.
-fn piece_fault(fault: PieceFault) -> VerifyFault
-    ensures { result ≡ piece_fault fault }
-{
-    match fault {
-        PieceFault::ReadFailed => VerifyFault::ReadFailed,
-        PieceFault::NoMemory => VerifyFault::NoMemory,
-        PieceFault::InputTooLong => VerifyFault::InputTooLong,
-    }
-}
 
 // Reads the games of the current piece and writes their lines; returns the counts, `before` with these reports added. A
 // piece that is too long is one fault. The piece begins on the line `line`; `game` is only room for the games that are
@@ -65,10 +52,8 @@ fn verify_piece<W: Output>(
         None => {
             let number = before.next_number();
             let lines = too_long_lines(options.explain, number, start, pieces.beginning());
-            match put(output, lines.as_slice()) {
-                Ok(()) => Ok(before.with_fault()),
-                Err(fault) => Err(fault),
-            }
+            put(output, lines.as_slice())?;
+            Ok(before.with_fault())
         }
     }
 }
@@ -106,16 +91,12 @@ fn verify_pieces<R: Input, W: Output>(
     let mut tally = Tally::none();
     let mut line = 1;
     loop {
-        match pieces.next(input) {
-            Ok(true) => {}
-            Ok(false) => return Ok(tally),
-            Err(fault) => return Err(piece_fault(fault)),
+        if !pieces.next(input)? {
+            return Ok(tally);
         }
+        // The prover wants a bound of the offset.
         let _offset = pieces.offset();
-        match verify_piece(options, line, pieces, game, output, tally) {
-            Ok(after) => tally = after,
-            Err(_) => return Err(VerifyFault::WriteFailed),
-        }
+        tally = verify_piece(options, line, pieces, game, output, tally)?;
         line = line_after(options.explain, line, pieces);
     }
 }
@@ -142,14 +123,9 @@ fn verify_all<R: Input, W: Output>(
     ensures { Ran (VerifiesCollection options result) (record { input = R.seen input.old; output = W.seen output.old })
         (record { input = R.seen input.new; output = W.seen output.new }) }
 {
-    let tally = match verify_pieces(options, pieces, game, input, output) {
-        Ok(tally) => tally,
-        Err(fault) => return Err(fault),
-    };
-    match finish(output, tally) {
-        Ok(()) => Ok(tally.verified()),
-        Err(_) => Err(VerifyFault::WriteFailed),
-    }
+    let tally = verify_pieces(options, pieces, game, input, output)?;
+    finish(output, tally)?;
+    Ok(tally.verified())
 }
 
 /// Reads the games of an input of any length and writes a line for each, as `verify` does. The input is cut into
@@ -174,14 +150,8 @@ pub fn verify_collection<R: Input, W: Output>(
     ensures { Ran (VerifiesCollection options result) (record { input = R.seen input.old; output = W.seen output.old })
         (record { input = R.seen input.new; output = W.seen output.new }) }
 {
-    let Ok(tables) = AttackTables::open(alloc) else {
-        return Err(VerifyFault::NoMemory);
-    };
-    let Ok(mut game) = open_game(alloc, &tables) else {
-        return Err(VerifyFault::NoMemory);
-    };
-    let Ok(mut pieces) = PgnPieces::open(alloc) else {
-        return Err(VerifyFault::NoMemory);
-    };
+    let tables = AttackTables::open(alloc)?;
+    let mut game = open_game(alloc, &tables)?;
+    let mut pieces = PgnPieces::open(alloc)?;
     verify_all(options, &mut pieces, &mut game, input, output)
 }

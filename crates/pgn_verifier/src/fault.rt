@@ -1,5 +1,12 @@
 //! Why games are not verified.
 
+ghost use Rattle.std.specs.Prelude.{◌≡◌};
+ghost use Rattle.pgn_verifier.specs.declared.fault.VerifyFault.TheVariants.{NoMemory, ReadFailed, WriteFailed};
+ghost use Rattle.pgn_verifier.specs.Faults.{of_piece};
+
+use byte_devices::{ReadFault, WriteFault};
+use pgn_pieces::PieceFault;
+use std::alloc::AllocError;
 use thiserror::Error;
 
 /// Why games were not verified to the end, or their lines were not written.
@@ -17,4 +24,41 @@ pub enum VerifyFault {
     /// The text of games is longer than 16,777,216 bytes, or a collection of nearly 2^63.
     #[error("input too long")]
     InputTooLong,
+}
+
+impl From<ReadFault> for VerifyFault {
+    ghost from_gives = { λ _ fault. fault ≡ ReadFailed };
+
+    fn from(_fault: ReadFault) -> VerifyFault {
+        VerifyFault::ReadFailed
+    }
+}
+
+impl From<WriteFault> for VerifyFault {
+    ghost from_gives = { λ _ fault. fault ≡ WriteFailed };
+
+    fn from(_fault: WriteFault) -> VerifyFault {
+        VerifyFault::WriteFailed
+    }
+}
+
+impl From<AllocError> for VerifyFault {
+    ghost from_gives = { λ _ fault. fault ≡ NoMemory };
+
+    fn from(_error: AllocError) -> VerifyFault {
+        VerifyFault::NoMemory
+    }
+}
+
+impl From<PieceFault> for VerifyFault {
+    ghost from_gives = { λ piece fault. fault ≡ of_piece piece };
+
+    // The fault of the same name.
+    fn from(fault: PieceFault) -> VerifyFault {
+        match fault {
+            PieceFault::ReadFailed => VerifyFault::ReadFailed,
+            PieceFault::NoMemory => VerifyFault::NoMemory,
+            PieceFault::InputTooLong => VerifyFault::InputTooLong,
+        }
+    }
 }

@@ -90,19 +90,14 @@ pub(crate) fn verify_text<W: Output>(
             Ok(None) => return Ok(tally),
             Ok(Some(end)) => {
                 let plies = game.ply();
-                match write_game(options.quiet, output, number, plies, end) {
-                    Ok(()) => {}
-                    Err(fault) => return Err(fault),
-                }
+                write_game(options.quiet, output, number, plies, end)?;
                 tally = tally.with_game(plies);
                 at = end.offset;
             }
             Err(fault) => {
                 let lines = fault_lines(options.explain, number, start, text, fault, game);
-                return match put(output, lines.as_slice()) {
-                    Ok(()) => Ok(tally.with_fault()),
-                    Err(fault) => Err(fault),
-                };
+                put(output, lines.as_slice())?;
+                return Ok(tally.with_fault());
             }
         }
     }

@@ -2,8 +2,12 @@
 //!
 //! ```
 //! let mut lines: Lines<1024> = Lines::new();
-//! while let Some(line) = lines.next(&mut input)? {
+//! for _ in 0..u64::MAX {
+//!     let Some(line) = lines.next(&mut input)? else {
+//!         break;
+//!     };
 //!     let (word, argument) = split_word(line.text());
+//!     println!(rt; "{} and {} bytes", word.len(), argument.len())?;
 //! }
 //! ```
 //!

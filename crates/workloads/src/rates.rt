@@ -9,7 +9,7 @@ use chess_base::Position;
 use chess_bits::{AttackTables, Bits};
 use chess_game::{Game, MOST_MOVES};
 use chess_moves::Board;
-use std::io;
+use std::io::{self, ErrorKind};
 use std::process::ExitCode;
 use std::time::{Duration, Instant};
 
@@ -75,7 +75,8 @@ fn time_matches(
     game: &mut Game<Bits<'_>>,
 ) -> io::Result<ExitCode> {
     let begun = Instant::now(rt)?;
-    let half_moves = relay(rt.alloc(), times, script, game)?;
+    let half_moves = relay(rt.alloc(), times, script, game)
+        .map_err(|_| io::Error::from(ErrorKind::InvalidInput))?;
     let rate = a_second(half_moves, begun.elapsed(rt)?);
     println!(rt; "relay {times} half-moves {half_moves}")?;
     eprintln!(rt; "{rate} half-moves a second")?;

@@ -3,7 +3,7 @@
 use crate::matches::{Script, Talk, Ticking, ends, write_script};
 use crate::random::Random;
 use crate::walk::{Style, walk_on};
-use cecp_engine::Level;
+use cecp_engine::{Level, ParseLevelError};
 use chess_base::Position;
 use chess_bits::Bits;
 use chess_game::Game;
@@ -43,16 +43,14 @@ fn play(alloc: Global, script: &Script, level: Level, game: &mut Game<Bits<'_>>)
 /// Plays the match of a script so many times, and returns how many half-moves these matches have in all.
 ///
 /// # Errors
-/// If a level of time is none.
+/// If `0 60 0` denoted no level, which it does.
 pub fn relay(
     alloc: Global,
     times: u32,
     script: &Script,
     game: &mut Game<Bits<'_>>,
-) -> Result<u64, AllocError> {
-    let Some(level) = Level::read(b"0 60 0") else {
-        return Err(AllocError);
-    };
+) -> Result<u64, ParseLevelError> {
+    let level: Level = "0 60 0".parse()?;
     let mut half_moves: u64 = 0;
     for _ in 0..times {
         let played = play(alloc, script, level, game);

@@ -1,8 +1,18 @@
 -- Laws of the acts of a match.
-use Rattle.std.specs.Prelude.{◌≡◌, ℕ, Bool, true, false, List, [], ◌∷◌, Option}
+use Rattle.std.specs.Prelude.{◌≡◌, ◌<◌, ◌≤◌, ◌+◌, ◌-◌, ◌*◌, ◌&&◌, ℕ, Bool, true, false, if◌then◌else◌, List, [], ◌∷◌, ◌++◌, length, drop, sum, codes, slice_get, Option, None, Some, is_some, unwrap_or}
+use Rattle.std.specs.List.{flat_map}
 use Rattle.chess_base.specs.declared.man.Colour.{Colour}
+use Rattle.chess_base.specs.declared.man.Colour.TheVariants.{White, Black}
+use Rattle.chess_base.specs.declared.man.Move.{Move}
+use Rattle.chess_base.specs.Men.{other, same_colour}
+use Rattle.cecp_engine.specs.EngineLines.{line_kind}
+use Rattle.cecp_engine.specs.Items.{takes}
+use Rattle.cecp_engine.specs.Levels.{allotted}
+use Rattle.chess_match.specs.ByDevice.{lines_read, has_ended, has_failed_read, moments_shown, lines_sent, broken_blocks, is_broken}
+use Rattle.chess_match.specs.Sent.{SentLine}
+use Rattle.chess_match.specs.laws.Laws.{Streams, AreRead, is_move, moves_of, items_said, moves_sent, texts_from, time_sent, otim_sent, centiseconds}
 use Rattle.chess_match.specs.Acts.{Act, Block, Reads, ReadsEnd, ReadFails, ReadsClock, IsMatch, IsMatchFrom}
-use Rattle.chess_match.specs.Effects.{Match}
+use Rattle.chess_match.specs.Effects.{Match, clock}
 use Rattle.chess_match.specs.Match.{Event}
 use Rattle.chess_match.specs.Notes.{notes_of}
 use Rattle.chess_match.specs.Played.{World, PlayedBy, PlayedNoting}
@@ -48,3 +58,112 @@ abbrev pub PlayedAreRuns : Type 0
 PlayedAreRuns = (H : List Act) (reason : Reason) (setup : Setup) (end : MatchEnd) (w w' : World)
     → PlayedBy H reason setup end w w'
     → (T : List Event) × RanBy T setup.start setup.level w.game w'.game end w.ports w'.ports w.coming w'.coming
+
+-- ---- what two engines and a clock give fixes the match
+
+-- the acts `H` come from these engines and this clock (`s`): the lines read are the first of each engine's lines, or
+-- all of them if its output ended or a read failed; the moments shown are the first of the clock's; each block was sent
+pub record AreOf (s : Streams) (H : List Act) : Type 0 where
+  pub lines : (S : Colour) → (rest : List (Option (List ℕ))) × (s.lines S ≡ lines_read S H ++ rest)
+  pub ends : (S : Colour) → has_ended S H ≡ true → (s.lines S ≡ lines_read S H) × (s.fails S ≡ false)
+  pub failures : (S : Colour) → has_failed_read S H ≡ true → (s.lines S ≡ lines_read S H) × (s.fails S ≡ true)
+  pub moments : (n : ℕ) → n < length (moments_shown H) → slice_get (moments_shown H) n ≡ Some (s.moments n)
+  pub sent : (S : Colour) → is_broken H S ≡ false
+
+-- two matches by the same rules, from the same engines and clock (`s`), are the same, act by act
+abbrev pub OnlyOneMatch : Type 0
+OnlyOneMatch = (r : Rules) (s : Streams) (H K : List Act) (final final' : Match) → IsMatch r H final
+    → IsMatch r K final' → AreOf s H → AreOf s K → H ≡ K
+
+-- ---- moves
+
+-- all lines that the side `S` was sent, with those of a block that could not be sent
+abbrev pub lines_given : Colour → List Act → List SentLine
+lines_given S H = lines_sent S H ++ flat_map (λ lines. lines) (broken_blocks S H)
+
+-- in every match: the moves played are what the two engines' `move` lines denote in turn, beginning with the side that
+-- moves first; at most one `move` line is left over, which ended the match
+abbrev pub MovesAreReadInMatches : Type 0
+MovesAreReadInMatches = (r : Rules) (H : List Act) (final : Match) → IsMatch r H final
+    → AreRead r [] final.played (moves_of (lines_read r.first H)) (moves_of (lines_read (other r.first) H))
+
+-- in every match: the items known of the engine of the side `S` are those of its `feature` lines, up to and with the
+-- line that has `done=1`
+abbrev pub ItemsAreSaidInMatches : Type 0
+ItemsAreSaidInMatches = (r : Rules) (H : List Act) (final : Match) (S : Colour) → IsMatch r H final
+    → (final.seat S).items ≡ items_said (lines_read S H)
+
+-- the engines' lines fix the moves that each engine is sent: in every match there are moves `ms`, which the two
+-- engines' `move` lines denote in turn. Each side `O` is sent those of the other side, each once, in order, in the
+-- notation that its handshake asked for. `rest` is what `O` was not sent: at most the last of them, and nothing if each
+-- block for `O` was sent
+abbrev pub EachIsSentOthersMovesInMatches : Type 0
+EachIsSentOthersMovesInMatches = (r : Rules) (H : List Act) (final : Match) → IsMatch r H final
+    → (ms : List Move) × AreRead r [] ms (moves_of (lines_read r.first H)) (moves_of (lines_read (other r.first) H))
+    × ((O : Colour) → (rest : List (List ℕ)) × (length rest ≤ 1) × (is_broken H O ≡ false → rest ≡ [])
+    × (moves_sent (lines_given O H) ++ rest
+    ≡ texts_from r (takes (codes "san") (items_said (lines_read O H))) (other O) r.first [] ms))
+
+-- in every match: if each block for the side `O` was sent, `O` was sent all moves of the other side, each once and in
+-- order
+abbrev pub AllMovesAreSentInMatches : Type 0
+AllMovesAreSentInMatches = (r : Rules) (H : List Act) (final : Match) (O : Colour) → IsMatch r H final
+    → is_broken H O ≡ false → moves_sent (lines_sent O H)
+    ≡ texts_from r (takes (codes "san") (final.seat O).items) (other O) r.first [] final.played
+
+-- ---- clocks
+
+-- in every match: the `time` lines that the side `S` is sent show its own clock before its first move and after each of
+-- its moves, in order (none, if its engine has `time=0`). `rest` is what is missing: at most the last one
+abbrev pub TimesAreClocksInMatches : Type 0
+TimesAreClocksInMatches = (r : Rules) (H : List Act) (final : Match) (S : Colour) → IsMatch r H final
+    → (rest : List ℕ) × (length rest ≤ 1)
+    × (flat_map time_sent (lines_given S H) ++ rest
+    ≡ (if takes (codes "time") (final.seat S).items
+    then centiseconds r.level 0 0 (final.seat S).used
+    else []))
+
+-- in every match: the `otim` lines that the side `S` is sent show the other's clock after each of the other's moves, in
+-- order, and before the first of them if `S` moves first (none, if its engine has `time=0`). `rest` is what is missing:
+-- at most the last one
+abbrev pub OtherTimesAreClocksInMatches : Type 0
+OtherTimesAreClocksInMatches = (r : Rules) (H : List Act) (final : Match) (S : Colour) → IsMatch r H final
+    → (rest : List ℕ) × (length rest ≤ 1)
+    × (flat_map otim_sent (lines_given S H) ++ rest
+    ≡ (if takes (codes "time") (final.seat S).items
+    then (if same_colour S r.first
+    then centiseconds r.level 0 0 (final.seat (other S)).used
+    else drop 1 (centiseconds r.level 0 0 (final.seat (other S)).used))
+    else []))
+
+-- the milliseconds from when each turn of the side `S` was opened to its first `move` line after that (0 if the clock
+-- went back). `opened` is when the present turn of `S` was opened; `None` if no move of `S` is awaited
+abbrev pub move_times : Colour → Option ℕ → List Act → List ℕ
+move_times S opened [] = []
+move_times S opened (Reads side text ∷ ReadsClock c moment ∷ H) =
+    if is_some opened && (same_colour side S && is_move (line_kind text))
+    then (moment - unwrap_or opened 0) ∷ move_times S None H
+    else move_times S opened H
+move_times S opened (ReadsClock side moment ∷ H) =
+    move_times S (if same_colour side S then Some moment else None) H
+move_times S opened (_ ∷ H) = move_times S opened H
+
+-- in every match: the times charged to the side `S` are those from when each of its turns was opened to its `move`
+-- line. `rest` is what was not charged: at most the last, of a line that ended the match
+abbrev pub UsedTimesAreDifferencesInMatches : Type 0
+UsedTimesAreDifferencesInMatches = (r : Rules) (H : List Act) (final : Match) (S : Colour) → IsMatch r H final
+    → (rest : List ℕ) × (length rest ≤ 1) × (move_times S None H ≡ (final.seat S).used ++ rest)
+
+-- in every match: the time that the side `S` has left and the sum of what its moves took are together what it was given
+-- so far, so that its clock never goes below 0
+abbrev pub ClocksDoNotUnderflowInMatches : Type 0
+ClocksDoNotUnderflowInMatches = (r : Rules) (H : List Act) (final : Match) (S : Colour) → IsMatch r H final
+    → clock r final S + sum (final.seat S).used ≡ allotted r.level (length (final.seat S).used)
+
+-- ---- few lines
+
+-- no match has more than 22,000 + 10,002 * (limit + 1) lines of both engines, where `limit` is the most half-moves: two
+-- handshakes, two setups, and in each turn the ignored lines, an offer, the move and the pong
+abbrev pub LinesAreFewInMatches : Type 0
+LinesAreFewInMatches = (r : Rules) (H : List Act) (final : Match) → IsMatch r H final
+    → length (lines_read White H) + length (lines_read Black H) ≤ 22000 + 10002 * (r.limit + 1)

@@ -1,6 +1,5 @@
 -- What code does for one game of a match, and for all of them.
 use Rattle.std.specs.Prelude.{◌≡◌, ⊤, ℕ, ◌+◌, min, Bool, true, false, if◌then◌else◌, List, Option, None, Some, Result, Ok, Err}
-use Rattle.std.specs.Borrow.{Bor}
 use Rattle.match_runner.specs.declared.plan.GamesPlan.{GamesPlan}
 use Rattle.chess_base.specs.Men.{other}
 use Rattle.chess_base.specs.declared.man.Colour.{Colour}
@@ -16,10 +15,8 @@ use Rattle.chess_match.specs.Reasons.{win_of}
 use Rattle.chess_match.specs.Run.{Ports, Flushed}
 use Rattle.chess_match.specs.declared.run.MatchEnd.{MatchEnd}
 use Rattle.match_runner.specs.Log.{LogSeen, Logged, RanNoted, log_text}
-use Rattle.match_runner.specs.declared.engine.StartFault.{StartFault}
-use Rattle.match_runner.specs.declared.engine.StartFault.TheVariants as start
-use Rattle.match_runner.specs.declared.games.GamesFault.{GamesFault}
-use Rattle.match_runner.specs.declared.games.GamesFault.TheVariants.{WriteFailed, NoMemory, CanNotStart}
+use Rattle.match_runner.specs.declared.fault.GamesFault.{GamesFault}
+use Rattle.match_runner.specs.declared.fault.GamesFault.TheVariants.{WriteFailed, NoMemory, CanNotStart}
 use Rattle.match_runner.specs.declared.games.GamesPlayed.{GamesPlayed}
 use Rattle.match_runner.specs.declared.score.Score.{Score}
 use Rattle.match_runner.specs.Games.{first_side, GameRecord, IsOfPlan, game_text, IsStartFault, game_texts, LogsGames, score_of, EndsGames, GamesBrokeOff}
@@ -79,12 +76,6 @@ abbrev pub FailsToStart : List ℕ → GamesFault → Type 0
 FailsToStart command NoMemory = ⊤
 FailsToStart command (CanNotStart c) = c.now ≡ command
 FailsToStart command _ = ⊥
-
--- the fault of starting the engine of this command is reported as `fault`: out of memory as such, all else by the
--- command
-abbrev pub ReportsStart : StartFault → List ℕ → GamesFault → Type 0
-ReportsStart start.NoMemory command fault = fault ≡ NoMemory
-ReportsStart start.CanNotStart command fault = (c : Bor (List ℕ)) × (fault ≡ CanNotStart c) × (c.now ≡ command)
 
 -- what playing the game of this number does, by its result: its PGN was written and flushed, and the game logged; or
 -- only a beginning of the PGN was written; or its engines could not be started. `w` and `l` are output and log before,

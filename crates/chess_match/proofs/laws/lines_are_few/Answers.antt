@@ -1,5 +1,9 @@
+use Rattle.chess_match.proofs.LawsOfActs.{lines_few}
 use Rattle.chess_match.proofs.LineLaw.{lines_are_few}
 use Rattle.chess_match.proofs.laws.lines_are_few.Goals as goal
 
-pub returns : goal.returns
-returns c = lines_are_few
+pub returns-clause-whole : goal.returns-clause-whole
+returns-clause-whole c = lines_few
+
+pub returns-clause-so_far : goal.returns-clause-so_far
+returns-clause-so_far c = lines_are_few

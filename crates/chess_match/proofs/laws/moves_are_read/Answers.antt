@@ -1,5 +1,9 @@
+use Rattle.chess_match.proofs.LawsOfActs.{moves_read}
 use Rattle.chess_match.proofs.ReadLaw.{moves_are_read}
 use Rattle.chess_match.proofs.laws.moves_are_read.Goals as goal
 
-pub returns : goal.returns
-returns c = moves_are_read
+pub returns-clause-whole : goal.returns-clause-whole
+returns-clause-whole c = moves_read
+
+pub returns-clause-so_far : goal.returns-clause-so_far
+returns-clause-so_far c = moves_are_read

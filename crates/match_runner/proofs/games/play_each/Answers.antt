@@ -1,11 +1,12 @@
--- The games so far were played without a fault, written and logged, and the score counts them (GamesTold.SoFar): a game
--- more keeps that (GamesWritten.one_more), and one with a fault is the last (GamesWritten.with_fault).
+-- The games so far were played without a fault, written and logged, and the score counts them (GamesWritten.SoFar): a
+-- game more keeps that (GamesWritten.one_more), and one with a fault is the last (GamesWritten.with_fault).
 use Rattle.std.proofs.Common.{◌≡◌, ◌∙◌, ◌≤◌, ◌<◌, ◌+◌, ◌++◌, ◌∷◌, [], Ok, None, Some, subst, sym, ap, arith, rules}
 use Rattle.match_runner.specs.Games.{GameRecord, first_side}
 use Rattle.match_runner.specs.ties.Playing.{HasPlayed, score_after}
 use Rattle.match_runner.specs.Log.{log_seen}
 use Rattle.match_runner.specs.declared.score.Score.{Score}
 use Rattle.match_runner.proofs.GamesWritten.{SoFar, start, one_more, with_fault, broke, all_played}
+use Rattle.std.proofs.lemmas.Result.{err_from_is_err_and}
 use Rattle.match_runner.proofs.games.play_each.Goals as goal
 
 pub loop-number-init : goal.loop-number-init
@@ -18,8 +19,8 @@ loop-number-init g c =
           (start c.args.plan.now w l),
     )
 
-pub returns-in-Err : goal.returns-in-Err
-returns-in-Err g c =
+pub returns-in_err-end : goal.returns-in_err-end
+returns-in_err-end g c =
     let w = g.W.Output.seen c.args.output.now in
     let w' = g.W.Output.seen c.loop-number.output in
     let w'' = g.W.Output.seen c.start_and_play.new.output in
@@ -28,8 +29,9 @@ returns-in-Err g c =
     let l'' = log_seen (g.E.Output.seen c.start_and_play.new.log.output) c.start_and_play.new.log.pending in
     let le : c.loop-number.number + 1 ≤ c.args.plan.now.games =
     (let t = c.loop-number-test.true in let e = c.game_count.ensures.value in omega (arith, t, e)) in
-    broke c.args.plan.now w w' w'' l l' l'' (c.loop-number.number + 1) c.loop-number.score c.loop-number.invariant.1
-    c.loop-number.invariant.2 c.in-Err.fault le c.in-Err.ensures.played
+    let p = err_from_is_err_and c.from_residual.result c.from_residual.ensures.1 in
+    rw (p.1, p.2) (broke c.args.plan.now w w' w'' l l' l'' (c.loop-number.number + 1) c.loop-number.score
+    c.loop-number.invariant.1 c.loop-number.invariant.2 c.in_err-end.field-0.0 le c.in_err-end.ensures.played)
 
 pub returns-in-Some : goal.returns-in-Some
 returns-in-Some g c =
@@ -45,11 +47,12 @@ returns-in-Some g c =
     omega (arith, t, e)) in
     let small : number ≤ 65535 =
     (let t = c.loop-number-test.true in let few = c.game_count.ensures.few in omega (arith, t, few)) in
-    let one = c.in-Ok.ensures.played in
-    let recorded : GameRecord = record { game = one.0; end = c.in-Ok.end; notes = one.1 } in
-    let is : c.in-Ok.end.fault ≡ Some (c.in-Some.side, c.in-Some.fault) = search rules in
-    let counted : c.after-score.result ≡ score_after (first_side number) c.in-Ok.end.outcome c.loop-number.score =
-    c.after-score.ensures ∙ ap (λ side. score_after side c.in-Ok.end.outcome c.loop-number.score) c.first_side.ensures
+    let one = c.in_ok-end.ensures.played in
+    let recorded : GameRecord = record { game = one.0; end = c.in_ok-end.end; notes = one.1 } in
+    let is : c.in_ok-end.end.fault ≡ Some (c.in-Some.side, c.in-Some.fault) = search rules in
+    let counted : c.after-score.result ≡ score_after (first_side number) c.in_ok-end.end.outcome c.loop-number.score =
+    c.after-score.ensures
+    ∙ ap (λ side. score_after side c.in_ok-end.end.outcome c.loop-number.score) c.first_side.ensures
     in
     subst (λ (v : Score).
     HasPlayed plan w w'' l l'' (Ok (record { score = v; fault = Some (number, c.in-Some.side, c.in-Some.fault) })))
@@ -72,11 +75,12 @@ loop-number-preserved g c =
     omega (arith, t, e)) in
     let small : number ≤ 65535 =
     (let t = c.loop-number-test.true in let few = c.game_count.ensures.few in omega (arith, t, few)) in
-    let one = c.in-Ok.ensures.played in
-    let recorded : GameRecord = record { game = one.0; end = c.in-Ok.end; notes = one.1 } in
-    let is : c.in-Ok.end.fault ≡ None = search rules in
-    let counted : c.after-score.result ≡ score_after (first_side number) c.in-Ok.end.outcome c.loop-number.score =
-    c.after-score.ensures ∙ ap (λ side. score_after side c.in-Ok.end.outcome c.loop-number.score) c.first_side.ensures
+    let one = c.in_ok-end.ensures.played in
+    let recorded : GameRecord = record { game = one.0; end = c.in_ok-end.end; notes = one.1 } in
+    let is : c.in_ok-end.end.fault ≡ None = search rules in
+    let counted : c.after-score.result ≡ score_after (first_side number) c.in_ok-end.end.outcome c.loop-number.score =
+    c.after-score.ensures
+    ∙ ap (λ side. score_after side c.in_ok-end.end.outcome c.loop-number.score) c.first_side.ensures
     in
     let games = c.loop-number.invariant.1 ++ recorded ∷ [] in (
       c.start_and_play.ensures.limit,

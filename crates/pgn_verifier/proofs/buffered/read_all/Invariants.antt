@@ -4,11 +4,11 @@ use Rattle.pgn_pieces.specs.declared.pieces.TheConstants.{PIECE_LEN}
 use Rattle.pgn_verifier.proofs.buffered.read_all.Given as goal
 
 -- the text is what was read so far
-abbrev pub invariant-loop-count : goal.invariant-loop-count
-invariant-loop-count g l = record {
+abbrev pub invariant-loop-text : goal.invariant-loop-text
+invariant-loop-text g l = record {
   front : HasRead false (g.R.Input.seen l.fn.input) (g.R.Input.seen l.input) l.text.items;
   few : length l.text.items ≤ PIECE_LEN;
 }
 
-abbrev pub decreases-loop-count : goal.decreases-loop-count
-decreases-loop-count g l = (g.R.Input.seen l.input).pieces_left
+abbrev pub decreases-loop-text : goal.decreases-loop-text
+decreases-loop-text g l = (g.R.Input.seen l.input).pieces_left

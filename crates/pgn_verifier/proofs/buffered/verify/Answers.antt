@@ -1,6 +1,7 @@
 -- Each way out gives what passed at the devices (Verifying.not_all_exit and those after it).
 use Rattle.std.proofs.Common.{rules, Ok}
 use Rattle.std.specs.Prelude.{IfErr}
+use Rattle.std.proofs.lemmas.Result.{err_from_is_err_and}
 use Rattle.byte_devices.specs.Devices.{BreaksOff}
 use Rattle.byte_devices.specs.declared.traits.WriteFault.{WriteFault}
 use Rattle.pgn_verifier.specs.Verify.{text_lines}
@@ -16,29 +17,32 @@ returns-in_err-text g c =
     not_all_exit c.args.options r r' (g.W.Output.seen c.args.output.now) c.from_residual.result
     c.from_residual.ensures.0 why
 
-pub returns-in_default : goal.returns-in_default
-returns-in_default g c =
-    no_memory c.args.options (g.R.Input.seen c.args.input.now) (g.R.Input.seen c.read_all.new.input)
-    (g.W.Output.seen c.args.output.now) c.in_ok-text.text.items c.in_ok-text.ensures.all
+pub returns-in_err-tables : goal.returns-in_err-tables
+returns-in_err-tables g c =
+    let p = err_from_is_err_and c.from_residual-in_err-tables.result c.from_residual-in_err-tables.ensures.1 in
+    rw (p.1, p.2) (no_memory c.args.options (g.R.Input.seen c.args.input.now) (g.R.Input.seen c.read_all.new.input)
+    (g.W.Output.seen c.args.output.now) c.in_ok-text.text.items c.in_ok-text.ensures.all)
 
-pub returns-in_default-open_game : goal.returns-in_default-open_game
-returns-in_default-open_game g c =
-    no_memory c.args.options (g.R.Input.seen c.args.input.now) (g.R.Input.seen c.read_all.new.input)
-    (g.W.Output.seen c.args.output.now) c.in_ok-text.text.items c.in_ok-text.ensures.all
+pub returns-in_err-game : goal.returns-in_err-game
+returns-in_err-game g c =
+    let p = err_from_is_err_and c.from_residual-in_err-game.result c.from_residual-in_err-game.ensures.1 in
+    rw (p.1, p.2) (no_memory c.args.options (g.R.Input.seen c.args.input.now) (g.R.Input.seen c.read_all.new.input)
+    (g.W.Output.seen c.args.output.now) c.in_ok-text.text.items c.in_ok-text.ensures.all)
 
-pub returns-in-Ok-finish : goal.returns-in-Ok-finish
-returns-in-Ok-finish g c =
+pub returns-in_err-verified : goal.returns-in_err-verified
+returns-in_err-verified g c =
     let w = g.W.Output.seen c.args.output.now in
     let w' = g.W.Output.seen c.finish.new.output in
-    let written : WritesText {E = WriteFault} c.args.options c.in_ok-text.text.items w w' (Ok c.in-Ok-finish.verified)
-    = search rules in
-    text_verified WriteFault c.args.options (g.R.Input.seen c.args.input.now) (g.R.Input.seen c.read_all.new.input) w w'
-    c.in_ok-text.text.items c.in-Ok-finish.verified c.in_ok-text.ensures.all written
+    let written : BreaksOff w w' (text_lines c.args.options c.in_ok-text.text.items) = search rules in
+    let p = err_from_is_err_and c.from_residual-in_err-verified.result c.from_residual-in_err-verified.ensures.1 in
+    rw (p.1, p.2) (text_broke_off c.args.options (g.R.Input.seen c.args.input.now) (g.R.Input.seen c.read_all.new.input)
+    w w' c.in_ok-text.text.items c.in_ok-text.ensures.all written)
 
 pub returns : goal.returns
 returns g c =
     let w = g.W.Output.seen c.args.output.now in
     let w' = g.W.Output.seen c.finish.new.output in
-    let written : BreaksOff w w' (text_lines c.args.options c.in_ok-text.text.items) = search rules in
-    text_broke_off c.args.options (g.R.Input.seen c.args.input.now) (g.R.Input.seen c.read_all.new.input) w w'
-    c.in_ok-text.text.items c.in_ok-text.ensures.all written
+    let written : WritesText {E = WriteFault} c.args.options c.in_ok-text.text.items w w' (Ok c.in_ok-verified.verified)
+    = search rules in
+    text_verified WriteFault c.args.options (g.R.Input.seen c.args.input.now) (g.R.Input.seen c.read_all.new.input) w w'
+    c.in_ok-text.text.items c.in_ok-verified.verified c.in_ok-text.ensures.all written

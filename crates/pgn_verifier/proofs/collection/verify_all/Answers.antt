@@ -1,16 +1,18 @@
 -- After the lines of all pieces the counts were written, and all was flushed (Finished.finished).
 use Rattle.pgn_verifier.proofs.Finished.{finished, not_finished}
+use Rattle.std.proofs.lemmas.Result.{err_from_is_err_and}
 use Rattle.pgn_verifier.proofs.collection.verify_all.Goals as goal
 
-pub returns-in-Ok-finish : goal.returns-in-Ok-finish
-returns-in-Ok-finish g c =
+pub returns : goal.returns
+returns g c =
     finished c.args.options (g.R.Input.seen c.args.input.now) (g.R.Input.seen c.verify_pieces.new.input)
     (g.W.Output.seen c.args.output.now) (g.W.Output.seen c.verify_pieces.new.output)
-    (g.W.Output.seen c.finish.new.output) c.in-Ok.tally c.verified.result c.in-Ok.ensures c.in-Ok-finish.ensures
+    (g.W.Output.seen c.finish.new.output) c.in_ok-tally.tally c.verified.result c.in_ok-tally.ensures c.in_ok-finish.ensures
     c.verified.ensures
 
-pub returns-in-Err-finish : goal.returns-in-Err-finish
-returns-in-Err-finish g c =
-    not_finished c.args.options (g.R.Input.seen c.args.input.now) (g.R.Input.seen c.verify_pieces.new.input)
+pub returns-in_err-finish : goal.returns-in_err-finish
+returns-in_err-finish g c =
+    let p = err_from_is_err_and c.from_residual-in_err-finish.result c.from_residual-in_err-finish.ensures.1 in
+    rw (p.1, p.2) (not_finished c.args.options (g.R.Input.seen c.args.input.now) (g.R.Input.seen c.verify_pieces.new.input)
     (g.W.Output.seen c.args.output.now) (g.W.Output.seen c.verify_pieces.new.output)
-    (g.W.Output.seen c.finish.new.output) c.in-Ok.tally c.in-Ok.ensures c.in-Err-finish.ensures
+    (g.W.Output.seen c.finish.new.output) c.in_ok-tally.tally c.in_ok-tally.ensures c.in_err-finish.ensures)

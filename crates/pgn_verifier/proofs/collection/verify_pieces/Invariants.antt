@@ -4,10 +4,10 @@ use Rattle.pgn_verifier.proofs.collection.verify_pieces.Given as goal
 use Rattle.chess_game.specs.declared.game.TheConstants.{MOST_MOVES}
 
 -- the pieces up to here were reported
-abbrev pub invariant-loop-fault : goal.invariant-loop-fault
-invariant-loop-fault g l = (l.game.limit ≡ MOST_MOVES)
+abbrev pub invariant-loop-tally : goal.invariant-loop-tally
+invariant-loop-tally g l = (l.game.limit ≡ MOST_MOVES)
     × SoFar l.options (g.R.Input.seen l.fn.input) (g.R.Input.seen l.input) (g.W.Output.seen l.fn.output)
     (g.W.Output.seen l.output) l.pieces l.tally l.line
 
-abbrev pub decreases-loop-fault : goal.decreases-loop-fault
-decreases-loop-fault g l = 2 ^ 63 - (l.pieces.offset + length l.pieces.part)
+abbrev pub decreases-loop-tally : goal.decreases-loop-tally
+decreases-loop-tally g l = 2 ^ 63 - (l.pieces.offset + length l.pieces.part)

@@ -9,6 +9,7 @@ use Rattle.pgn_verifier.specs.Explanations.{explained, explanation_line}
 use Rattle.pgn_verifier.specs.Reports.{Game, game_line, fault_line, reports_on}
 use Rattle.pgn_verifier.specs.ties.OnTheWay.{Writes, moved}
 use Rattle.pgn_verifier.proofs.TextVerified.{SoFar, begun, all_written, game_written, game_broke, fault_written, fault_broke}
+use Rattle.std.proofs.lemmas.Result.{err_from_is_err_and}
 use Rattle.pgn_verifier.proofs.games.verify_text.Goals as goal
 
 pub loop-end-init : goal.loop-end-init
@@ -24,24 +25,25 @@ returns-in-Ok-None-clause-written g c input stands =
     (g.W.Output.seen c.loop-end.output) (g.W.Output.seen c.loop-end.output) c.loop-end.at c.loop-end.tally
     c.loop-end.invariant.1.0 c.loop-end.invariant.1.1 WriteFault input judged
 
-pub returns-in-Err-write_game-clause-written : goal.returns-in-Err-write_game-clause-written
-returns-in-Err-write_game-clause-written g c input stands =
+pub returns-in_err-write_game-in-Ok-Some-clause-written : goal.returns-in_err-write_game-in-Ok-Some-clause-written
+returns-in_err-write_game-in-Ok-Some-clause-written g c input stands =
     let end = c.in-Ok-Some.end in
     let s = c.judge_game.new.game.state in
     let w' = g.W.Output.seen c.loop-end.output in
     let w'' = g.W.Output.seen c.write_game.new.output in
     let judged = sym (rw c.in-Ok-Some.field-0-is at c.in-Ok-Some.ensures.judged) in
-    game_broke c.args.options c.args.start.offset c.args.text.now c.args.before (g.W.Output.seen c.args.output.now) w'
+    let p = err_from_is_err_and c.from_residual.result c.from_residual.ensures.1 in
+    rw p.1 (game_broke c.args.options c.args.start.offset c.args.text.now c.args.before (g.W.Output.seen c.args.output.now) w'
     w''
     c.loop-end.at c.loop-end.tally c.loop-end.invariant.1.0 c.loop-end.invariant.1.1
-    c.in-Err-write_game.fault input end s
+    c.in_err-write_game-in-Ok-Some.field-0.0 input end s
     judged c.in-Ok-Some.ensures.game
     (subst (λ n. BreaksOff w' w'' (if c.args.options.quiet then [] else game_line n (length s.moves) end.outcome
     end.termination))
     c.next_number-number.ensures
     (subst (λ k. BreaksOff w' w'' (if c.args.options.quiet then [] else
     game_line c.next_number-number.result k end.outcome end.termination)) c.ply-plies.ensures
-    c.in-Err-write_game.ensures))
+    c.in_err-write_game-in-Ok-Some.ensures)))
 
 pub loop-end-preserved : goal.loop-end-preserved
 loop-end-preserved g c =
@@ -79,12 +81,12 @@ loop-end-preserved g c =
             (if c.args.options.quiet then [] else game_line n (length s.moves) end.outcome end.termination))
             c.next_number-number.ensures
             (subst (λ k. Took w' w'' (if c.args.options.quiet then [] else
-            game_line c.next_number-number.result k end.outcome end.termination)) plies c.in-Ok.ensures))),
+            game_line c.next_number-number.result k end.outcome end.termination)) plies c.in_ok-write_game-in-Ok-Some.ensures))),
       ),
     )
 
-pub returns-in-Ok-put-clause-written : goal.returns-in-Ok-put-clause-written
-returns-in-Ok-put-clause-written g c input stands =
+pub returns-in-Err-clause-written : goal.returns-in-Err-clause-written
+returns-in-Err-clause-written g c input stands =
     let w = g.W.Output.seen c.args.output.now in
     let w' = g.W.Output.seen c.loop-end.output in
     let w'' = g.W.Output.seen c.put.new.writer in
@@ -100,10 +102,10 @@ returns-in-Ok-put-clause-written g c input stands =
     (reports_on c.args.options.strict start text)) (sym c.with_fault.ensures)
     (fault_written c.args.options start text c.args.before w w' w'' c.loop-end.at c.loop-end.tally
     c.loop-end.invariant.1.0 c.loop-end.invariant.1.1 WriteFault input fault s (sym c.in-Err.ensures.judged)
-    c.in-Err.ensures.game (subst (Took w' w'') lines c.in-Ok-put.ensures))
+    c.in-Err.ensures.game (subst (Took w' w'') lines c.in_ok-put-in-Err.ensures))
 
-pub returns-in-Err-put-clause-written : goal.returns-in-Err-put-clause-written
-returns-in-Err-put-clause-written g c input stands =
+pub returns-in_err-put-in-Err-clause-written : goal.returns-in_err-put-in-Err-clause-written
+returns-in_err-put-in-Err-clause-written g c input stands =
     let w = g.W.Output.seen c.args.output.now in
     let w' = g.W.Output.seen c.loop-end.output in
     let w'' = g.W.Output.seen c.put.new.writer in
@@ -115,6 +117,7 @@ returns-in-Err-put-clause-written g c input stands =
     (explained s (drop fault.offset text) fault.kind) else [] in
     let lines = c.as_slice.ensures.value ∙ c.fault_lines-lines.ensures input stands
     ∙ ap (λ n. fault_line n (moved start fault) ++ more) c.next_number-number.ensures in
-    fault_broke c.args.options start text c.args.before w w' w'' c.loop-end.at c.loop-end.tally
-    c.loop-end.invariant.1.0 c.loop-end.invariant.1.1 c.in-Err-put.fault input fault s (sym c.in-Err.ensures.judged)
-    c.in-Err.ensures.game (subst (BreaksOff w' w'') lines c.in-Err-put.ensures)
+    let p = err_from_is_err_and c.from_residual-in_err-put-in-Err.result c.from_residual-in_err-put-in-Err.ensures.1 in
+    rw p.1 (fault_broke c.args.options start text c.args.before w w' w'' c.loop-end.at c.loop-end.tally
+    c.loop-end.invariant.1.0 c.loop-end.invariant.1.1 c.in_err-put-in-Err.field-0.0 input fault s (sym c.in-Err.ensures.judged)
+    c.in-Err.ensures.game (subst (BreaksOff w' w'') lines c.in_err-put-in-Err.ensures))

@@ -4,6 +4,7 @@ use Rattle.std.proofs.Common.{◌≡◌, false, true, sym, ap, subst, ◌∙◌}
 use Rattle.pgn_pieces.specs.Stream.{State}
 use Rattle.pgn_pieces.specs.ties.Held.{with_more}
 use Rattle.pgn_pieces.proofs.Steps.{Looked, looked_on, next_found, next_last, next_stopped, found_some, kept_on}
+use Rattle.std.proofs.lemmas.Result.{err_from_is_err_and}
 use Rattle.pgn_pieces.proofs.pieces.PgnPieces.next.Goals as goal
 
 pub loop-seen-preserved : goal.loop-seen-preserved
@@ -12,19 +13,19 @@ loop-seen-preserved g c =
     let s1 = c.loop-seen.self in
     let s2 = c.find_end.new.self in
     let s3 = c.let_go.new.self in
-    let gave = c.in-Ok.ensures.0 in
+    let gave = c.in_ok-read_more.ensures.0 in
     let looked = c.loop-seen.invariant.looked in
     let r2 = g.R.Input.seen c.loop-seen.input in
     let going : s2.ended ≡ false = ap (λ (s : State). s.ended) (sym c.self.view_is) ∙ c.if-self.false in
     let is : c.read_more.new.self ≡ with_more gave s3 =
-    c.in-Ok.ensures.2 ∙ ap (λ (t : State). with_more gave t) c.compact.ensures in
+    c.in_ok-read_more.ensures.2 ∙ ap (λ (t : State). with_more gave t) c.compact.ensures in
     let kept = kept_on s s1 s2 c.loop-seen.seen c.find_end.new.seen (g.R.Input.seen c.args.input.now) r2 looked false
     c.if-find_end.ensures in record {
       looked = subst (λ (t : State). Looked s t c.find_end.new.seen (g.R.Input.seen c.args.input.now)
           (g.R.Input.seen c.read_more.new.input)) (sym is)
           (looked_on s s1 s2 c.loop-seen.seen c.find_end.new.seen (g.R.Input.seen c.args.input.now) r2 looked s3
           (g.R.Input.seen c.read_more.new.input) gave (sym kept.1 ∙ going) c.if-find_end.ensures c.let_go.ensures
-          c.in-Ok.ensures.1);
+          c.in_ok-read_more.ensures.1);
     }
 
 pub returns-then-find_end-clause-next : goal.returns-then-find_end-clause-next
@@ -60,8 +61,8 @@ returns-then-self-clause-offset g c =
     (g.R.Input.seen c.args.input.now) (g.R.Input.seen c.loop-seen.input) c.loop-seen.invariant.looked false
     c.if-find_end.ensures).0
 
-pub returns-in-Err-clause-next : goal.returns-in-Err-clause-next
-returns-in-Err-clause-next g c =
+pub returns-in_err-read_more-clause-next : goal.returns-in_err-read_more-clause-next
+returns-in_err-read_more-clause-next g c =
     let s = c.args.self.now in
     let s1 = c.loop-seen.self in
     let s2 = c.find_end.new.self in
@@ -69,7 +70,8 @@ returns-in-Err-clause-next g c =
     let going : s2.ended ≡ false = ap (λ (s : State). s.ended) (sym c.self.view_is) ∙ c.if-self.false in
     let kept = kept_on s s1 s2 c.loop-seen.seen c.find_end.new.seen (g.R.Input.seen c.args.input.now)
     (g.R.Input.seen c.loop-seen.input) looked false c.if-find_end.ensures in
-    next_stopped s s1 s2 c.loop-seen.seen c.find_end.new.seen (g.R.Input.seen c.args.input.now)
+    let p = err_from_is_err_and c.from_residual.result c.from_residual.ensures.1 in
+    rw (p.1, p.2) (next_stopped s s1 s2 c.loop-seen.seen c.find_end.new.seen (g.R.Input.seen c.args.input.now)
     (g.R.Input.seen c.loop-seen.input) looked c.let_go.new.self c.compact.new.self c.read_more.new.self
-    (g.R.Input.seen c.read_more.new.input) c.in-Err.fault (sym kept.1 ∙ going) c.if-find_end.ensures c.let_go.ensures
-    c.compact.ensures c.in-Err.ensures
+    (g.R.Input.seen c.read_more.new.input) c.in_err-read_more.field-0.0 (sym kept.1 ∙ going) c.if-find_end.ensures c.let_go.ensures
+    c.compact.ensures c.in_err-read_more.ensures)

@@ -5,7 +5,7 @@ use Rattle.pgn_verifier.specs.declared.fault.VerifyFault.{VerifyFault}
 use Rattle.pgn_verifier.specs.declared.fault.VerifyFault.TheVariants.{ReadFailed, NoMemory, InputTooLong}
 
 -- the fault of verifying a collection if cutting the input into pieces failed with this fault: the one of the same name
-abbrev pub piece_fault : PieceFault → VerifyFault
-piece_fault pieces.ReadFailed = ReadFailed
-piece_fault pieces.NoMemory = NoMemory
-piece_fault pieces.InputTooLong = InputTooLong
+abbrev pub of_piece : PieceFault → VerifyFault
+of_piece pieces.ReadFailed = ReadFailed
+of_piece pieces.NoMemory = NoMemory
+of_piece pieces.InputTooLong = InputTooLong

@@ -1,0 +1,19 @@
+-- Without memory nothing was written; else the text was sent, all of it or a beginning.
+use Rattle.std.proofs.Common.{Ok, Err, inl, inr, refl}
+use Rattle.chess_arbiter.proofs.Serving.{failed_status}
+use Rattle.chess_arbiter.proofs.program.write_help.Goals as goal
+
+pub returns-in_err-text : goal.returns-in_err-text
+returns-in_err-text g c = inr (refl, failed_status c.from_residual.result c.from_residual.ensures.0)
+
+pub returns-in_err-send : goal.returns-in_err-send
+returns-in_err-send g c =
+    inl (
+      Err c.in_err-send.field-0.0,
+      _,
+      c.in_err-send.ensures,
+      failed_status c.from_residual-in_err-send.result c.from_residual-in_err-send.ensures.0,
+    )
+
+pub returns : goal.returns
+returns g c = inl (Ok c.in_ok-send.field-0, _, c.in_ok-send.ensures, refl)

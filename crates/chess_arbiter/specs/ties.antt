@@ -1,2 +1,0 @@
--- What only joins code to the definitions: no claim rests on it.
-pub mod Faults

@@ -1,0 +1,41 @@
+//! Why a match is not played to its end.
+
+ghost use Rattle.std.specs.Prelude.{◌≡◌};
+ghost use Rattle.match_runner.specs.declared.fault.GamesFault.TheVariants.{NoMemory, WriteFailed};
+
+use byte_devices::WriteFault;
+use std::alloc::AllocError;
+use thiserror::Error;
+
+/// Why a match was not played to its end.
+#[derive(Clone, Copy, Debug, Error)]
+pub enum GamesFault<'a> {
+    /// A write or a flush of the output failed.
+    #[error("write failed")]
+    WriteFailed,
+    /// There was no memory.
+    #[error("no memory")]
+    NoMemory,
+    /// An engine of that command could not be started.
+    #[error("can not start {0}")]
+    CanNotStart(&'a str),
+    /// An engine failed in that game.
+    #[error("game {0}: {1}")]
+    Game(u32, &'static str),
+}
+
+impl<'a> From<WriteFault> for GamesFault<'a> {
+    ghost from_gives = { λ _ fault. fault ≡ WriteFailed };
+
+    fn from(_fault: WriteFault) -> GamesFault<'a> {
+        GamesFault::WriteFailed
+    }
+}
+
+impl<'a> From<AllocError> for GamesFault<'a> {
+    ghost from_gives = { λ _ fault. fault ≡ NoMemory };
+
+    fn from(_error: AllocError) -> GamesFault<'a> {
+        GamesFault::NoMemory
+    }
+}
