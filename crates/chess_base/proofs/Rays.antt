@@ -13,7 +13,8 @@ use Rattle.chess_base.specs.declared.man.Man.{Man}
 use Rattle.chess_base.specs.Squares.{file, rank, gap, lies_inside, share_rank_or_file, share_diagonal, is_between, is_between_on_file, is_between_on_rank, is_between_on_diagonal, some_square}
 use Rattle.chess_base.specs.Men.{Men, man_at, is_of, is_man, same_colour, same_kind}
 use Rattle.chess_base.specs.Attacks.{is_clear, is_rank_ahead, could_capture, attacks, is_attacked}
-use Rattle.chess_base.specs.ties.Lines.{same_line, step_of, is_above, is_below, attacked_from, attacked_along_from_above, attacked_along_from_below, attacked_along, attacked_by_knight, attacked_by_knight_from_below, attacked_by_knight_from_above, attacked_from_below, attacked_from_above}
+use Rattle.chess_base.specs.shared.Lines.{same_line}
+use Rattle.chess_base.specs.ties.Lines.{step_of, is_above, is_below, attacked_from, attacked_along_from_above, attacked_along_from_below, attacked_along, attacked_by_knight, attacked_by_knight_from_below, attacked_by_knight_from_above, attacked_from_below, attacked_from_above}
 use Rattle.chess_base.proofs.shared.Squares.{each_square-fails, some_square-at, some_square-none, some_square_same, some_square-or}
 use Rattle.chess_base.proofs.Geometry.{between_on_line}
 use Rattle.chess_base.proofs.Knights.{attacked_by_knight_is}

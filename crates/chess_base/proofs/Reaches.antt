@@ -11,7 +11,8 @@ use Rattle.chess_base.specs.declared.man.Man.{Man}
 use Rattle.chess_base.specs.Squares.{file, rank, gap, share_rank_or_file, share_diagonal}
 use Rattle.chess_base.specs.Men.{Men, man_at, is_of, same_colour}
 use Rattle.chess_base.specs.Attacks.{is_clear, could_capture, attacks}
-use Rattle.chess_base.specs.ties.Lines.{same_line, step_of, is_straight, reaches, attacked_from}
+use Rattle.chess_base.specs.shared.Lines.{same_line}
+use Rattle.chess_base.specs.ties.Lines.{step_of, is_straight, reaches, attacked_from}
 
 -- over files f and g and ranks r and q of two squares: the squares of one line
 

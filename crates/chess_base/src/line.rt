@@ -3,7 +3,8 @@
 ghost use Rattle.std.specs.Prelude.{◌≡◌, ℕ, true, ◌<◌, ◌≤◌, ◌||◌, IsTrue};
 ghost use Rattle.chess_base.specs.Squares.{share_rank_or_file, share_diagonal};
 ghost use Rattle.chess_base.specs.Attacks.{is_clear};
-ghost use Rattle.chess_base.specs.ties.Lines.{same_line, step_of};
+ghost use Rattle.chess_base.specs.shared.Lines.{same_line};
+ghost use Rattle.chess_base.specs.ties.Lines.{step_of};
 
 use crate::man::Man;
 use crate::square::Square;
