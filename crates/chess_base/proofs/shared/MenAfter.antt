@@ -87,8 +87,8 @@ unfolding mover_end castling_rook_to second_square_emptied
 castled p m s k e from king =
     let none : is_en_passant p m ≡ false =
         no_en_passant p m (is_man-kind p.side p.side King Pawn (man_at p.men m.from) refl king) in
-    rw (e, none, from)
-    (turned_round k.king_to k.rook_to k.rook_from m.from s (arriving_man (man_at p.men m.from) m.promotion)
+    rw (e, none, ← from)
+    (turned_round k.king_to k.rook_to k.rook_from k.king_from s (arriving_man (man_at p.men k.king_from) m.promotion)
     (Some (record { colour = p.side; kind = Rook })) (man_at p.men s))
 
 -- what a castling says of the move
