@@ -109,14 +109,14 @@ hidden men c Bishop a b x h e piece =
 hidden men c Knight a b x h e piece = no_knight_between a b x e
 hidden men c Pawn a b x h e piece = no_pawn_between c a b x e
 
-none_attacks : (men : Men) (c : Colour) (b k : ℕ) → (o : Option Man) → man_at men k ≡ o → is_none o ≡ true
+none_from : (men : Men) (c : Colour) (b k : ℕ) → (o : Option Man) → man_at men k ≡ o → is_none o ≡ true
     → attacked_from men c b k ≡ false
 unfolding is_of
-none_attacks men c b k None at e = rw at refl
-none_attacks men c b k (Some x) at e = absurd cc
+none_from men c b k None at e = rw at refl
+none_from men c b k (Some x) at e = absurd cc
 
-empty_attacks : (men : Men) (c : Colour) (b k : ℕ) → is_none (man_at men k) ≡ true → attacked_from men c b k ≡ false
-empty_attacks men c b k e = none_attacks men c b k (man_at men k) refl e
+empty_from : (men : Men) (c : Colour) (b k : ℕ) → is_none (man_at men k) ≡ true → attacked_from men c b k ≡ false
+empty_from men c b k e = none_from men c b k (man_at men k) refl e
 
 hidden_attacks : (men : Men) (b k x : ℕ) → x < 64 → is_between k b x ≡ true → is_none (man_at men x) ≡ false
     → (o : Option Man) → man_at men k ≡ o → attacks men k b ≡ false
@@ -124,9 +124,9 @@ unfolding attacks
 hidden_attacks men b k x h e piece None at = rw at refl
 hidden_attacks men b k x h e piece (Some y) at = rw at (hidden men y.colour y.kind k b x h e piece)
 
-hidden_attacks : (men : Men) (c : Colour) (b k x : ℕ) → x < 64 → is_between k b x ≡ true
+hidden_from : (men : Men) (c : Colour) (b k x : ℕ) → x < 64 → is_between k b x ≡ true
     → is_none (man_at men x) ≡ false → attacked_from men c b k ≡ false
-hidden_attacks men c b k x h e piece =
+hidden_from men c b k x h e piece =
     and_right (is_of c (man_at men k)) (attacks men k b) (hidden_attacks men b k x h e piece (man_at men k) refl)
 
 -- ---- of the squares that pass a test, only the first piece counts
@@ -137,9 +137,9 @@ IsHidden men b x k = (is_none (man_at men k) ≡ true) ⊎ ((k ≡ x) ⊎ (is_be
 
 all_hidden : (p : ℕ → Bool) (men : Men) (c : Colour) (b x k : ℕ) → x < 64 → is_none (man_at men x) ≡ false
     → attacked_from men c b x ≡ false → IsHidden men b x k → attacked_from men c b k ≡ false
-all_hidden p men c b x k h piece fails (inl empty) = empty_attacks men c b k empty
+all_hidden p men c b x k h piece fails (inl empty) = empty_from men c b k empty
 all_hidden p men c b x k h piece fails (inr (inl same)) = rw same fails
-all_hidden p men c b x k h piece fails (inr (inr between)) = hidden_attacks men c b k x h between piece
+all_hidden p men c b x k h piece fails (inr (inr between)) = hidden_from men c b k x h between piece
 
 guarded : (p q : Bool) → (p ≡ true → q ≡ false) → (p && q) ≡ false
 guarded true q h = h refl
@@ -164,7 +164,7 @@ pub none_decides : (p : ℕ → Bool) (men : Men) (c : Colour) (b : ℕ)
     → false ≡ some_square (λ a. p a && attacked_from men c b a)
 none_decides p men c b empty =
     sym (some_square-none (λ a. p a && attacked_from men c b a)
-    (λ k low. guarded (p k) (attacked_from men c b k) (λ e. empty_attacks men c b k (empty k low e))))
+    (λ k low. guarded (p k) (attacked_from men c b k) (λ e. empty_from men c b k (empty k low e))))
 
 -- ---- up a line
 
@@ -442,8 +442,8 @@ unfolding attacks
 no_attack_itself men b None at = rw at refl
 no_attack_itself men b (Some y) at = rw at (attacks_itself men y.colour y.kind b)
 
-attacks_itself : (men : Men) (c : Colour) (b : ℕ) → attacked_from men c b b ≡ false
-attacks_itself men c b =
+itself_from : (men : Men) (c : Colour) (b : ℕ) → attacked_from men c b b ≡ false
+itself_from men c b =
     and_right (is_of c (man_at men b)) (attacks men b b) (no_attack_itself men b (man_at men b) refl)
 
 above_or_below : (e : Bool) (b k : ℕ) (s : Bool) → (b ≡ k → s ≡ false)
@@ -462,7 +462,7 @@ unfolding attacked_along attacked_along_from_above attacked_along_from_below
 along_is men l c b =
     some_square_same (λ a. same_line l b a && attacked_from men c b a)
     (λ a. (is_above l b a && attacked_from men c b a) || (is_below l b a && attacked_from men c b a))
-    (λ k low. above_or_below (same_line l b k) b k (attacked_from men c b k) (λ e. ap (λ t. attacked_from men c b t) (sym e) ∙ attacks_itself men c b))
+    (λ k low. above_or_below (same_line l b k) b k (attacked_from men c b k) (λ e. ap (λ t. attacked_from men c b t) (sym e) ∙ itself_from men c b))
     ∙ some_square-or (λ a. is_above l b a && attacked_from men c b a) (λ a. is_below l b a && attacked_from men c b a)
 
 -- ---- all ways
