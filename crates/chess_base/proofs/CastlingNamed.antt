@@ -42,7 +42,8 @@ here : (v : Variant) (c : Colour) (men : Men) (m : Move) (w : CastlingSide) (r k
     → k ≡ m.from
     → is_castling_by v m (castle_from c w k r) ≡ (is_man c King (man_at men m.from) && names_castling_with v c m w r)
 here Normal c men m w r k l one at placed same =
-    let parts = and_parts ((r == home_square c (rook_file w)) && is_man c King (man_at men (home_square c king_home_file)))
+    let parts = and_parts
+        ((r == home_square c (rook_file w)) && is_man c King (man_at men (home_square c king_home_file)))
         (is_man c Rook (man_at men r)) placed in
     let home = (and_parts (r == home_square c (rook_file w)) (is_man c King (man_at men (home_square c king_home_file)))
         parts.0).1 in

@@ -462,7 +462,8 @@ unfolding attacked_along attacked_along_from_above attacked_along_from_below
 along_is men l c b =
     some_square_same (λ a. same_line l b a && attacked_from men c b a)
     (λ a. (is_above l b a && attacked_from men c b a) || (is_below l b a && attacked_from men c b a))
-    (λ k low. above_or_below (same_line l b k) b k (attacked_from men c b k) (λ e. ap (λ t. attacked_from men c b t) (sym e) ∙ itself_from men c b))
+    (λ k low. above_or_below (same_line l b k) b k (attacked_from men c b k)
+    (λ e. ap (λ t. attacked_from men c b t) (sym e) ∙ itself_from men c b))
     ∙ some_square-or (λ a. is_above l b a && attacked_from men c b a) (λ a. is_below l b a && attacked_from men c b a)
 
 -- ---- all ways
@@ -562,8 +563,8 @@ ways f r d t true false h g = let no = g refl in cc
 ways f r d t false false h g = rw (and-false f, and-false r, and-false d, and-false t) refl
 
 lines_attack : (men : Men) (b : ℕ) (c : Colour)
-    → is_attacked men b c ≡ (attacked_along men File c b || attacked_along men Rank c b || attacked_along men Diagonal c b
-    || attacked_along men Antidiagonal c b || attacked_by_knight men c b)
+    → is_attacked men b c ≡ (attacked_along men File c b || attacked_along men Rank c b
+    || attacked_along men Diagonal c b || attacked_along men Antidiagonal c b || attacked_by_knight men c b)
 unfolding is_attacked attacked_along attacked_by_knight
 lines_attack men b c =
     let f : ℕ → Bool = λ a. same_line File b a && attacked_from men c b a in

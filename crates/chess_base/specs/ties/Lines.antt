@@ -83,11 +83,13 @@ attacked_by_knight_from_above men c b =
 -- a piece of colour c attacks b from a square whose number is smaller than b's
 abbrev pub attacked_from_below : Men → ℕ → Colour → Bool
 attacked_from_below men b c =
-    attacked_by_knight_from_below men c b || attacked_along_from_below men Diagonal c b || attacked_along_from_below men File c b
-    || attacked_along_from_below men Antidiagonal c b || attacked_along_from_below men Rank c b
+    attacked_by_knight_from_below men c b || attacked_along_from_below men Diagonal c b
+    || attacked_along_from_below men File c b || attacked_along_from_below men Antidiagonal c b
+    || attacked_along_from_below men Rank c b
 
 -- a piece of colour c attacks b from a square whose number is greater than b's
 abbrev pub attacked_from_above : Men → ℕ → Colour → Bool
 attacked_from_above men b c =
-    attacked_by_knight_from_above men c b || attacked_along_from_above men Rank c b || attacked_along_from_above men Antidiagonal c b
-    || attacked_along_from_above men File c b || attacked_along_from_above men Diagonal c b
+    attacked_by_knight_from_above men c b || attacked_along_from_above men Rank c b
+    || attacked_along_from_above men Antidiagonal c b || attacked_along_from_above men File c b
+    || attacked_along_from_above men Diagonal c b
