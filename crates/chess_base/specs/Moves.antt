@@ -90,7 +90,8 @@ captured_square p m =
     else None
 
 -- what is on square s after castling k, which move m is: the king and the rook on their new squares, nothing on their
--- old ones, and elsewhere what was there. In Chess960 a new square may be an old one, of the other or its own
+-- old ones, and elsewhere what was there. In Chess960 a new square may be an old one. A legal castling names no
+-- promotion, so what arrives on k.king_to is the king
 abbrev pub after_castling : Setup → Move → Castle → ℕ → Option Man
 after_castling p m k s =
     if s == k.king_to then arriving_man (man_at p.men m.from) m.promotion
