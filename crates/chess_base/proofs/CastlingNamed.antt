@@ -19,13 +19,8 @@ use Rattle.chess_base.specs.Castling.{right_of, king_square, castle_from, castle
 use Rattle.chess_base.specs.shared.Splits.{right_is_sound_at, names_castling}
 use Rattle.chess_base.specs.laws.Castles.{castling_on, is_castling_by, castling_named}
 use Rattle.chess_base.proofs.shared.Castling.{right_is_sound_of, says_from_castling, castling_says}
+use Rattle.chess_base.proofs.shared.MenAfter.{flip}
 use Rattle.chess_base.proofs.shared.Kings.{one_king, one_king_of, king_square-at, king_square-king}
-
-flip : (a b : ℕ) → (a == b) ≡ (b == a)
-flip a b = elim (cases_eq a b) [
-    | inl e ↦ eq-eqb a b e ∙ sym (eq-eqb b a (sym e))
-    | inr n ↦ ne_eqb a b n ∙ sym (ne_eqb b a (λ e. n (sym e)))
-  ]
 
 -- a move that doesn't start on the king's square names nothing
 away : (v : Variant) (c : Colour) (men : Men) (m : Move) (w : CastlingSide) (r k : ℕ) → length men ≡ 64
@@ -33,7 +28,7 @@ away : (v : Variant) (c : Colour) (men : Men) (m : Move) (w : CastlingSide) (r k
     → is_castling_by v m (castle_from c w k r) ≡ (is_man c King (man_at men m.from) && names_castling_with v c m w r)
 away v c men m w r k l one at apart =
     let no : is_man c King (man_at men m.from) ≡ false = false_from_ne_true _
-        (λ e. apart (one_king men c k m.from l one (king_square-king men c k at) e)) in
+    (λ e. apart (one_king men c k m.from l one (king_square-king men c k at) e)) in
     and_left (k == m.from) _ (ne_eqb k m.from apart) ∙ sym (and_left (is_man c King (man_at men m.from)) _ no)
 
 -- from the king's square, where the right is sound, both tests ask for the end square
@@ -43,16 +38,16 @@ here : (v : Variant) (c : Colour) (men : Men) (m : Move) (w : CastlingSide) (r k
     → is_castling_by v m (castle_from c w k r) ≡ (is_man c King (man_at men m.from) && names_castling_with v c m w r)
 here Normal c men m w r k l one at placed same =
     let parts = and_parts
-        ((r == home_square c (rook_file w)) && is_man c King (man_at men (home_square c king_home_file)))
-        (is_man c Rook (man_at men r)) placed in
+    ((r == home_square c (rook_file w)) && is_man c King (man_at men (home_square c king_home_file)))
+    (is_man c Rook (man_at men r)) placed in
     let home = (and_parts (r == home_square c (rook_file w)) (is_man c King (man_at men (home_square c king_home_file)))
-        parts.0).1 in
+    parts.0).1 in
     let k_home : k ≡ home_square c king_home_file =
-        one_king men c k (home_square c king_home_file) l one (king_square-king men c k at) home in
+    one_king men c k (home_square c king_home_file) l one (king_square-king men c k at) home in
     let king : is_man c King (man_at men m.from) ≡ true = rw (← same) (king_square-king men c k at) in
     let t1 : (k == m.from) ≡ true = eq-eqb k m.from same in
     let t2 : (m.from == home_square c king_home_file) ≡ true =
-        eq-eqb m.from (home_square c king_home_file) (sym same ∙ k_home) in
+    eq-eqb m.from (home_square c king_home_file) (sym same ∙ k_home) in
     rw (t1, king, t2) (flip (home_square c (castled_king_file w)) m.to)
 here Fischerandom c men m w r k l one at placed same =
     let parts = and_parts (is_beside c w (king_square men c) r) (is_man c Rook (man_at men r)) placed in
@@ -60,7 +55,7 @@ here Fischerandom c men m w r k l one at placed same =
     let ranks = and_parts ((rank k == first_rank c) && (rank r == first_rank c)) (is_to_side w k r) beside in
     let both = and_parts (rank k == first_rank c) (rank r == first_rank c) ranks.0 in
     let same_rank : rank m.from ≡ rank r =
-        ap rank (sym same) ∙ eqb-true (rank k) (first_rank c) both.0 ∙ sym (eqb-true (rank r) (first_rank c) both.1) in
+    ap rank (sym same) ∙ eqb-true (rank k) (first_rank c) both.0 ∙ sym (eqb-true (rank r) (first_rank c) both.1) in
     let king : is_man c King (man_at men m.from) ≡ true = rw (← same) (king_square-king men c k at) in
     let t1 : (k == m.from) ≡ true = eq-eqb k m.from same in
     let t2 : (rank m.from == rank r) ≡ true = eq-eqb (rank m.from) (rank r) same_rank in
@@ -70,9 +65,9 @@ same_test : (v : Variant) (c : Colour) (men : Men) (m : Move) (w : CastlingSide)
     → has_one_king men c ≡ true → king_square men c ≡ Some k → are_placed_for_castling v men c w r ≡ true
     → is_castling_by v m (castle_from c w k r) ≡ (is_man c King (man_at men m.from) && names_castling_with v c m w r)
 same_test v c men m w r k l one at placed = elim (cases_eq k m.from) [
-    | inl same ↦ here v c men m w r k l one at placed same
-    | inr apart ↦ away v c men m w r k l one at apart
-  ]
+  | inl same ↦ here v c men m w r k l one at placed same
+  | inr apart ↦ away v c men m w r k l one at apart
+]
 
 -- ---- both sides
 
@@ -92,7 +87,7 @@ side_same : (v : Variant) (c : Colour) (men : Men) (m : Move) (w : CastlingSide)
 side_same v c men m w king None l one at sound = and_false (is_man c King (man_at men m.from))
 side_same v c men m w None (Some r) l one at sound =
     let no : is_man c King (man_at men m.from) ≡ false = false_from_ne_true _
-        (λ e. let s = king_square-at men c m.from l one e in let t : Some m.from ≡ None = sym s ∙ at in cc) in
+    (λ e. let s = king_square-at men c m.from l one e in let t : Some m.from ≡ None = sym s ∙ at in cc) in
     rw no refl
 side_same v c men m w (Some k) (Some r) l one at sound = same_test v c men m w r k l one at sound
 
@@ -117,7 +112,7 @@ by_side p m None h e = refl
 by_side p m (Some w) h e =
     let king = (castling_says p m w (says_from_castling p m w e)).0 in
     let at : king_square p.men p.side ≡ Some m.from =
-        king_square-at p.men p.side m.from h.board (one_king_of p h p.side) king in
+    king_square-at p.men p.side m.from h.board (one_king_of p h p.side) king in
     rw at (mapped (right_of p.rights p.side w))
   where
     mapped : (o : Option ℕ) → option_map (castle_from p.side w m.from) o

@@ -34,11 +34,11 @@ man_at-men_stepped men t s h = get_or-from_below 64 (man_stepped men t) s None h
 
 -- ---- the two cases of a move are its steps
 
-flip : (a b : ℕ) → (a == b) ≡ (b == a)
+pub flip : (a b : ℕ) → (a == b) ≡ (b == a)
 flip a b = elim (cases_eq a b) [
-    | inl e ↦ eq-eqb a b e ∙ sym (eq-eqb b a (sym e))
-    | inr n ↦ ne_eqb a b n ∙ sym (ne_eqb b a (λ e. n (sym e)))
-  ]
+  | inl e ↦ eq-eqb a b e ∙ sym (eq-eqb b a (sym e))
+  | inr n ↦ ne_eqb a b n ∙ sym (ne_eqb b a (λ e. n (sym e)))
+]
 
 or_flip : (a b : Bool) → (a || b) ≡ (b || a)
 or_flip true true = refl
@@ -86,7 +86,7 @@ castled : (p : Setup) (m : Move) (s : ℕ) (k : Castle) → castle_of p m ≡ So
 unfolding mover_end castling_rook_to second_square_emptied
 castled p m s k e from king =
     let none : is_en_passant p m ≡ false =
-        no_en_passant p m (is_man-kind p.side p.side King Pawn (man_at p.men m.from) refl king) in
+    no_en_passant p m (is_man-kind p.side p.side King Pawn (man_at p.men m.from) refl king) in
     rw (e, none, ← from)
     (turned_round k.king_to k.rook_to k.rook_from k.king_from s (arriving_man (man_at p.men k.king_from) m.promotion)
     (Some (record { colour = p.side; kind = Rook })) (man_at p.men s))
