@@ -1,10 +1,9 @@
 -- On positions of normal chess the rules of both variants are those of normal chess.
 use Rattle.std.proofs.Common.{◌≡◌, ℕ, Bool, true, false, ◌&&◌, cond, ◌==◌, nat_lt, Option, Some, None, is_some, refl, ap, ◌∙◌}
-use Rattle.chess_base.specs.declared.castling.Castle.{Castle}
 use Rattle.chess_base.specs.declared.man.Colour.{Colour}
 use Rattle.chess_base.specs.declared.man.CastlingSide.{CastlingSide}
 use Rattle.chess_base.specs.declared.man.CastlingSide.TheVariants.{KingSide, QueenSide}
-use Rattle.chess_base.specs.declared.man.Kind.TheVariants.{King, Rook, Pawn}
+use Rattle.chess_base.specs.declared.man.Kind.TheVariants.{King, Pawn}
 use Rattle.chess_base.specs.declared.man.Man.{Man}
 use Rattle.chess_base.specs.declared.man.Move.{Move}
 use Rattle.chess_base.specs.declared.man.Variant.TheVariants.{Normal}

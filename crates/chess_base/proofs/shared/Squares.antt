@@ -1,5 +1,5 @@
 -- For proofs that go over squares: tests of all 64, square by square, and lists that are made of numbers.
-use Rattle.std.proofs.Common.{◌≡◌, ℕ, ◌<◌, ◌⊎◌, inl, inr, Bool, true, false, ◌||◌, refl, arith, zero, suc, List, ◌∷◌, length, get_or, ap, ◌∙◌}
+use Rattle.std.proofs.Common.{◌≡◌, ℕ, ◌<◌, ◌⊎◌, inl, inr, Bool, true, false, ◌||◌, refl, arith, zero, suc, ◌∷◌, length, get_or, ap, ◌∙◌}
 use Rattle.std.proofs.lemmas.Bool.{and_parts, and_from, and_left, and_right, or_from, or_left, or_right}
 use Rattle.chess_base.specs.Squares.{some_below, each_below, some_square, each_square, from_below}
 

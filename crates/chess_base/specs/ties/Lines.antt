@@ -8,7 +8,7 @@ use Rattle.chess_base.specs.declared.man.Kind.TheVariants.{King, Queen, Rook, Bi
 use Rattle.chess_base.specs.Squares.{file, rank, gap, some_square}
 use Rattle.chess_base.specs.Men.{Men, man_at, is_of, is_man}
 use Rattle.chess_base.specs.Attacks.{is_rank_ahead, attacks, could_capture}
-use Rattle.chess_base.specs.shared.Lines.{line_number, same_line}
+use Rattle.chess_base.specs.shared.Lines.{same_line}
 
 -- how much the number rises from a square of such a line to the next one
 abbrev pub step_of : Line → ℕ
