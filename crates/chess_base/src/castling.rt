@@ -207,7 +207,8 @@ fn is_castling_to(setup: &Setup, m: &Move, castling_side: CastlingSide) -> bool
         )
 }
 
-/// The side to which the move castles; none if it is not castling (Laws of Chess 2023, article 3.8.2).
+/// The side to which the move castles, by its squares and the right: it is not asked whether anything prevents it. None
+/// if it is not castling (Laws of Chess 2023, article 3.8.2).
 #[tactic(auto, unfolding(crate::specs::Castling::castling))]
 pub fn castling(setup: &Setup, m: &Move) -> Option<CastlingSide>
     ensures { result ≡ castling setup.now m.now }

@@ -3,7 +3,7 @@
 ghost use Rattle.std.specs.Prelude.{◌≡◌, ◌≤◌, length};
 ghost use Rattle.chess_base.specs.Faults.{fen_fault_name};
 
-/// Why a text is no FEN of a position, or a `Setup` is no `Position`: the first fault in the order number of fields,
+/// Why a text is no FEN of a position, or a `Setup` is no `Position`: the first fault in this order: number of fields,
 /// placement, side, form of the castling rights, form of the en passant target, counters, kings, pawns, number of
 /// pieces, king and rook of each right, pieces around the target, check.
 #[derive(Clone, Copy, Debug, PartialEq, Eq, thiserror::Error)]

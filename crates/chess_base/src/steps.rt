@@ -18,11 +18,11 @@ pub struct Steps {
     pub second_from: Option<Square>,
     /// The square where a second piece arrives, if one does.
     pub second_to: Option<Square>,
-    /// The second piece that arrives.
+    /// The second piece that arrives; it means nothing where `second_to` is `None`.
     pub second: Option<Man>,
     /// The square where the mover arrives.
     pub to: Square,
-    /// The mover, as it arrives.
+    /// The mover, as it arrives; `None` only if the square that it leaves was empty.
     pub mover: Option<Man>,
 }
 
