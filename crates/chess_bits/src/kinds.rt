@@ -10,7 +10,6 @@ ghost use Rattle.chess_bits.specs.ties.Rays.{is_open};
 ghost use Rattle.chess_bits.specs.ties.Occupancy.{IsOccupied, IsLater};
 ghost use Rattle.chess_bits.specs.ties.KindSets.{AreKindsAt, IsKinds};
 
-use crate::between::squares_between;
 use crate::line::Line;
 use crate::table::Shape;
 use crate::tables::AttackTables;
@@ -127,7 +126,7 @@ fn is_open(tables: &AttackTables, a: Square, b: Square, occupied: SquareSet) -> 
     // The prover wants these facts: the numbers of both squares are below 64.
     let _a = a.number();
     let _b = b.number();
-    let between = squares_between(tables, a, b);
+    let between = tables.between(a, b);
     between.intersection(occupied).is_empty()
 }
 

@@ -3,7 +3,7 @@
 ghost use Rattle.std.specs.Prelude.{◌≡◌, ℕ, ◌<◌, ◌==◌, ◌&&◌, ◌||◌, not, true, false, None, MatchOption};
 ghost use Rattle.chess_base.specs.Men.{first_rank, man_at, is_man, other, same_kind};
 ghost use Rattle.chess_base.specs.MoveList.{move_of};
-ghost use Rattle.chess_base.specs.Moves.{is_pseudo_legal, is_legal, pawn_advances, pawn_captures};
+ghost use Rattle.chess_base.specs.Moves.{is_pseudo_legal, is_legal};
 ghost use Rattle.chess_base.specs.Squares.{is_square, rank};
 ghost use Rattle.chess_base.specs.declared.man.Kind.TheVariants.{King, Pawn};
 ghost use Rattle.chess_bits.specs.ties.Changes.{StepsPlainly};
@@ -229,17 +229,6 @@ impl Bits<'_> {
         self.pawn_starts_among(own.intersection(self.origins(Kind::Pawn, to)), to)
     }
 
-    // The squares from which a pawn of the side on move goes to `to`, straight ahead or by a capture, whatever becomes
-    // of its king: as far as there are pawns on them.
-    #[inline(always)]
-    fn pawn_starts_to(&self, to: Square) -> SquareSet
-        ensures { (k : ℕ) → k < 64 → is_man (self.now).side Pawn (man_at (self.now).men k) ≡ true
-            → contains result k ≡ (pawn_advances self.now (move_of k to None) || pawn_captures self.now (move_of k to None)) }
-    {
-        let straight = self.advance_starts(to);
-        straight.union(self.capture_starts(to))
-    }
-
     // The squares from which pawns of the side on move may legally go to `to`, which is neither the en passant target
     // nor on their last rank.
     #[inline(always)]
@@ -250,7 +239,7 @@ impl Bits<'_> {
         // The prover wants this fact: the number of the end is below 64.
         let _end = to.number();
         let own = self.men_of(self.setup.side, Kind::Pawn);
-        let men = own.intersection(self.pawn_starts_to(to));
+        let men = own.intersection(self.pawn_starts(to));
         self.safe_starts(men, to)
     }
 

@@ -1,10 +1,10 @@
 //! What the pawns of a set do together: on which of their squares they may go ahead, or capture to one side.
 
-ghost use Rattle.std.specs.Prelude.{◌≡◌, ◌+◌, ◌-◌, ◌≤◌, ◌<◌, ◌==◌, ◌&&◌, not, ℕ, true, false, None, length};
+ghost use Rattle.std.specs.Prelude.{◌≡◌, ◌+◌, ◌-◌, ◌≤◌, ◌<◌, ◌==◌, ◌&&◌, ◌||◌, not, ℕ, true, false, None, length};
 ghost use Rattle.std.specs.List.{flat_map};
 ghost use Rattle.chess_base.specs.Men.{forward, is_man, man_at};
 ghost use Rattle.chess_base.specs.MoveList.{move_of};
-ghost use Rattle.chess_base.specs.Moves.{pawn_advances};
+ghost use Rattle.chess_base.specs.Moves.{pawn_advances, pawn_captures};
 ghost use Rattle.chess_base.specs.Squares.{file};
 ghost use Rattle.chess_base.specs.declared.man.Kind.TheVariants.{Pawn};
 ghost use Rattle.chess_bits.specs.ties.Goes.{AreFree, goes_unusually};
@@ -69,6 +69,18 @@ impl Bits<'_> {
         let twice = behind(side, crossed);
         let home = SquareSet::of_rank(pawn_rank(side));
         once.union(twice.intersection(home))
+    }
+
+    // The squares from which a pawn of the side on move goes to `to`, straight ahead or by a capture, whatever becomes
+    // of its king: as far as there are pawns on them.
+    #[inline(always)]
+    pub(crate) fn pawn_starts(&self, to: Square) -> SquareSet
+        ensures { (k : ℕ) → k < 64 → is_man (self.now).side Pawn (man_at (self.now).men k) ≡ true
+            → contains result k
+            ≡ (pawn_advances self.now (move_of k to None) || pawn_captures self.now (move_of k to None)) }
+    {
+        let straight = self.advance_starts(to);
+        straight.union(self.capture_starts(to))
     }
 
     // The squares from which a pawn of the side on move may promote or take en passant: those of the rank before its

@@ -9,7 +9,6 @@ ghost use Rattle.chess_bits.specs.ties.Bounds.{aims_from, KeepsClosed, IsShield,
 ghost use Rattle.chess_bits.specs.ties.Goes.{goes, IsFree};
 ghost use Rattle.chess_moves.specs.Sets.{contains};
 
-use crate::between::squares_between;
 use crate::bits::Bits;
 use crate::king::set_of;
 use crate::table::Shape;
@@ -38,7 +37,7 @@ impl Bits<'_> {
         // The prover wants these facts: the numbers of both squares are below 64.
         let _king = king.number();
         let _from = from.number();
-        let between = squares_between(self.tables, king, from);
+        let between = self.tables.between(king, from);
         let hiding = between.intersection(self.sets.occupied());
         if hiding.is_empty() {
             return None;
@@ -62,7 +61,7 @@ impl Bits<'_> {
         // The prover wants these facts: the numbers of both squares are below 64.
         let _king = king.number();
         let _from = from.number();
-        let between = squares_between(self.tables, king, from);
+        let between = self.tables.between(king, from);
         let ends = between.union(SquareSet::single(from));
         ends.union(set_of(self.setup.target))
     }

@@ -196,23 +196,6 @@ impl Bits<'_> {
         reached.intersection(aims)
     }
 
-    // A set of squares that has at least those from which pawns may go straight ahead to `to`: all others of its file
-    // if `to` is empty, else none.
-    #[inline(always)]
-    #[tactic(auto, unfolding(crate::specs::ties::Shapes::in_shape))]
-    fn straight_starts(&self, to: Square) -> SquareSet
-        ensures { (k : ℕ) → k < 64
-            → contains result k ≡ (not (is_some (man_at (self.now).men to))
-            && (is_on_ray File true to k || is_on_ray File false to k)) }
-    {
-        if self.setup.men[to.index()].is_some() {
-            return SquareSet::empty();
-        }
-        let above = self.tables.at(Shape::Ray(Line::File, true), to);
-        let below = self.tables.at(Shape::Ray(Line::File, false), to);
-        above.union(below)
-    }
-
     // The squares from which pawns of the side on move attack `to`, if it holds an enemy piece or is the en passant
     // target; else none.
     #[inline(always)]
@@ -229,19 +212,6 @@ impl Bits<'_> {
             return SquareSet::empty();
         }
         self.tables.at(Shape::Pawn(theirs), to)
-    }
-
-    // A set of squares that has at least those from which pawns of the side on move may go to `to`, straight ahead or
-    // by a capture.
-    pub(crate) fn pawn_starts(&self, to: Square) -> SquareSet
-        ensures { (k : ℕ) → k < 64
-            → contains result k ≡ ((not (is_some (man_at (self.now).men to))
-            && (is_on_ray File true to k || is_on_ray File false to k))
-            || ((is_of (other (self.now).side) (man_at (self.now).men to) || is_square (self.now).target to)
-            && in_shape (PawnAttack (other (self.now).side)) to k)) }
-    {
-        let straight = self.straight_starts(to);
-        straight.union(self.capture_starts(to))
     }
 
     // The end squares of the pseudo-legal moves of the pawn on `from`, which is of the side on move, with a promotion

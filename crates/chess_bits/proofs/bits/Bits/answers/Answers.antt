@@ -25,9 +25,9 @@ returns c = λ k low h.
           ∙ elim (or_cases (is_between c.args.king c.args.from k) (k == c.args.from) near) [
             | inl inside ↦
                 let line = line_between c.args.king c.args.from k king from low inside in
-                or_left (contains c.squares_between-between.result k) (contains c.single.result k)
-                (c.squares_between-between.ensures line.0 line.1 k low ∙ inside)
-            | inr there ↦ or_right (contains c.squares_between-between.result k) (contains c.single.result k)
+                or_left (contains c.between-between.result k) (contains c.single.result k)
+                (c.between-between.ensures line.0 line.1 k low ∙ inside)
+            | inr there ↦ or_right (contains c.between-between.result k) (contains c.single.result k)
                 (c.single.ensures.value k ∙ there)
           ])
     ]

@@ -22,9 +22,9 @@ returns-then-is_empty c =
     ≡ (is_between c.args.king c.args.from x && contains c.occupied.result x) =
     λ x l. c.intersection-hiding.ensures x
     ∙ ap (λ t. t && contains c.occupied.result x)
-    (by_line c.args.king c.args.from c.squares_between-between.result x king from
+    (by_line c.args.king c.args.from c.between-between.result x king from
     (aims_on_line c.args.self.now c.args.from c.args.king c.requires)
-    (λ line same. c.squares_between-between.ensures line same x l)) in
+    (λ line same. c.between-between.ensures line same x l)) in
     let none : (x : ℕ) → x < 64 → contains c.intersection-hiding.result x ≡ false =
     λ x l. none_there c.intersection-hiding.result x (sym c.is_empty.ensures.zero ∙ c.if-is_empty.true) in
     rw (← c.self.view_is)
@@ -43,9 +43,9 @@ returns-then-is_empty-2 c =
     ≡ (is_between c.args.king c.args.from x && contains c.occupied.result x) =
     λ x l. c.intersection-hiding.ensures x
     ∙ ap (λ t. t && contains c.occupied.result x)
-    (by_line c.args.king c.args.from c.squares_between-between.result x king from
+    (by_line c.args.king c.args.from c.between-between.result x king from
     (aims_on_line c.args.self.now c.args.from c.args.king c.requires)
-    (λ line same. c.squares_between-between.ensures line same x l)) in
+    (λ line same. c.between-between.ensures line same x l)) in
     let others : (x : ℕ) → x < 64 → contains c.without-others.result x
     ≡ (contains c.intersection-hiding.result x && not (x == c.first-shield.result)) =
     λ x l. c.without-others.ensures x l
@@ -68,9 +68,9 @@ returns-else-is_empty-2 c =
     ≡ (is_between c.args.king c.args.from x && contains c.occupied.result x) =
     λ x l. c.intersection-hiding.ensures x
     ∙ ap (λ t. t && contains c.occupied.result x)
-    (by_line c.args.king c.args.from c.squares_between-between.result x king from
+    (by_line c.args.king c.args.from c.between-between.result x king from
     (aims_on_line c.args.self.now c.args.from c.args.king c.requires)
-    (λ line same. c.squares_between-between.ensures line same x l)) in
+    (λ line same. c.between-between.ensures line same x l)) in
     let others : (x : ℕ) → x < 64 → contains c.without-others.result x
     ≡ (contains c.intersection-hiding.result x && not (x == c.first-shield.result)) =
     λ x l. c.without-others.ensures x l

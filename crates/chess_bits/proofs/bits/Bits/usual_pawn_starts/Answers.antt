@@ -13,9 +13,9 @@ safe_starts-requires c =
     let usual = rw (← c.self.view_is) at c.requires in
     let own : (k : ℕ) → k < 64 → contains c.men_of-own.result k ≡ is_man p.side Pawn (man_at p.men k) =
     λ k l. (rw (← c.self.view_is) at (c.men_of-own.ensures k l)) in
-    let starts = rw (← c.self.view_is) at c.pawn_starts_to.ensures in
+    let starts = rw (← c.self.view_is) at c.pawn_starts.ensures in
     rw (← c.self.view_is)
-    (usual_plain p c.args.to c.men_of-own.result c.pawn_starts_to.result c.intersection-men.result high usual
+    (usual_plain p c.args.to c.men_of-own.result c.pawn_starts.result c.intersection-men.result high usual
     c.intersection-men.ensures own starts)
 
 pub returns : goal.returns
@@ -25,8 +25,8 @@ returns c = λ k low.
     let usual = rw (← c.self.view_is) at c.requires in
     let own : (j : ℕ) → j < 64 → contains c.men_of-own.result j ≡ is_man p.side Pawn (man_at p.men j) =
     λ j l. (rw (← c.self.view_is) at (c.men_of-own.ensures j l)) in
-    let starts = rw (← c.self.view_is) at c.pawn_starts_to.ensures in
+    let starts = rw (← c.self.view_is) at c.pawn_starts.ensures in
     let made = rw (← c.self.view_is) at (c.safe_starts.ensures k low) in
     rw (← c.self.view_is)
-    (usual_starts p c.args.to c.men_of-own.result c.pawn_starts_to.result c.intersection-men.result k
+    (usual_starts p c.args.to c.men_of-own.result c.pawn_starts.result c.intersection-men.result k
     (contains c.safe_starts.result k) high usual c.intersection-men.ensures own starts low made)

@@ -1,7 +1,7 @@
 -- A pawn goes straight ahead, or captures (captures_are of PawnStarts).
 use Rattle.std.proofs.Common.{refl, ◌∙◌}
 use Rattle.chess_bits.proofs.PawnStarts.{captures_are}
-use Rattle.chess_bits.proofs.bits.Bits.pawn_starts_to.Goals as goal
+use Rattle.chess_bits.proofs.bits.Bits.pawn_starts.Goals as goal
 
 pub returns : goal.returns
 returns c = λ k low pawn.
