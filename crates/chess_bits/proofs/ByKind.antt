@@ -57,7 +57,7 @@ unfolding is_legal
 no_pattern p m h = and_left (is_pseudo_legal p m) (not (is_in_check (after p m).men p.side)) h
 
 pub officer_plain : (p : Setup) (kind : Kind) (a b : ℕ) → IsOfficer p.side kind (man_at p.men a)
-    → is_pseudo_legal p (move_of a b None) ≡ true → StepsPlainly p a b
+    → is_pseudo_legal p (move_of a b None) ≡ true → StepsPlainly p (move_of a b None)
 officer_plain p kind a b h goes_so =
     let parts = or_parts (same_kind King kind) (same_kind Pawn kind) h.usual in
     record {
@@ -110,7 +110,7 @@ pub starts_plain : (p : Setup) (kind : Kind) (to u w : ℕ) → (same_kind King 
     → is_of p.side (man_at p.men to) ≡ false → to < 64
     → ((k : ℕ) → k < 64 → contains w k ≡ (could_capture p.men p.side kind to k && contains u k))
     → ((k : ℕ) → k < 64 → contains u k ≡ is_man p.side kind (man_at p.men k))
-    → (k : ℕ) → k < 64 → contains w k ≡ true → StepsPlainly p k to
+    → (k : ℕ) → k < 64 → contains w k ≡ true → StepsPlainly p (move_of k to None)
 starts_plain p kind to u w usual free high reached men k low on =
     let parts = and_parts (could_capture p.men p.side kind to k) (contains u k) (sym (reached k low) ∙ on) in
     let kinds = or_parts (same_kind King kind) (same_kind Pawn kind) usual in
@@ -171,7 +171,7 @@ pawn_pattern p a b pawn low high =
     unpromoted false = refl
 
 pub pawn_plain : (p : Setup) (a b : ℕ) → is_man p.side Pawn (man_at p.men a) ≡ true
-    → is_pseudo_legal p (move_of a b None) ≡ true → is_square p.target b ≡ false → StepsPlainly p a b
+    → is_pseudo_legal p (move_of a b None) ≡ true → is_square p.target b ≡ false → StepsPlainly p (move_of a b None)
 pawn_plain p a b pawn goes_so off = record {
   pattern = goes_so;
   no_king = is_man-kind p.side p.side Pawn King (man_at p.men a) refl pawn;

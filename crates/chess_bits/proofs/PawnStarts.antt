@@ -114,7 +114,7 @@ pub usual_plain : (p : Setup) (to u v w : ℕ) → to < 64
     → ((k : ℕ) → k < 64 → contains u k ≡ is_man p.side Pawn (man_at p.men k))
     → ((k : ℕ) → k < 64 → is_man p.side Pawn (man_at p.men k) ≡ true
     → contains v k ≡ (pawn_advances p (move_of k to None) || pawn_captures p (move_of k to None)))
-    → (k : ℕ) → k < 64 → contains w k ≡ true → StepsPlainly p k to
+    → (k : ℕ) → k < 64 → contains w k ≡ true → StepsPlainly p (move_of k to None)
 usual_plain p to u v w high usual both men starts k low on =
     let off = or_parts (is_square p.target to) (rank to == first_rank (other p.side)) usual in
     let parts = and_parts (contains u k) (contains v k) (sym (both k) ∙ on) in

@@ -1,6 +1,6 @@
 //! The king's safety after a move, by the sets after it: no move is made.
 
-ghost use Rattle.std.specs.Prelude.{◌≡◌, ◌==◌, ◌||◌, ◌<◌, ℕ, true, None, Some, IsTrue};
+ghost use Rattle.std.specs.Prelude.{◌≡◌, ◌==◌, ◌||◌, ◌<◌, ℕ, true, Option, None, Some, IsTrue};
 ghost use Rattle.chess_base.specs.Men.{man_at, is_man};
 ghost use Rattle.chess_base.specs.MoveList.{move_of};
 ghost use Rattle.chess_base.specs.Moves.{is_pseudo_legal, is_legal, man_moves, men_after, promotion_fits, steps_of};
@@ -118,33 +118,38 @@ impl Bits<'_> {
         self.is_safe_at(king, filled, changed)
     }
 
-    // Whether the pseudo-legal move from `from` to `to` without a promotion is legal. It is not the king's and not en
-    // passant, so only its two squares change.
+    // Whether a pseudo-legal move from `from` to `to` is legal. It is not the king's and not en passant, so only its two
+    // squares change, and it does not matter what the piece becomes.
     #[inline(always)]
-    pub(crate) fn is_safe_usual(&self, from: Square, to: Square) -> bool
-        requires { StepsPlainly self.now from to }
-        ensures { result ≡ is_legal self.now (move_of from to None) }
+    fn is_safe_by_squares(&self, from: Square, to: Square) -> bool
+        ensures { (promotion : Option ManKind) → StepsPlainly self.now (move_of from to promotion)
+            → result ≡ is_legal self.now (move_of from to promotion) }
     {
-        // The prover wants this fact: the start's number is below 64.
-        let _start = from.number();
         let filled = SquareSet::single(to);
         let changed = filled.union(SquareSet::single(from));
         let king = self.king(self.setup.side);
         self.is_safe_at(king, filled, changed)
     }
 
-    // Whether the pawn on `from` may legally promote on `to`, to a kind of piece to which pawns do. It does not matter to
-    // its king which one it becomes.
+    // Whether the pseudo-legal move from `from` to `to` without a promotion is legal. It is not the king's and not en
+    // passant, so only its two squares change.
+    #[inline(always)]
+    pub(crate) fn is_safe_usual(&self, from: Square, to: Square) -> bool
+        requires { StepsPlainly self.now (move_of from to None) }
+        ensures { result ≡ is_legal self.now (move_of from to None) }
+    {
+        self.is_safe_by_squares(from, to)
+    }
+
+    // Whether the pawn on `from` may legally promote on `to`: to all four kinds to which pawns do, or to none of them.
     pub(crate) fn promotes_legally(&self, from: Square, to: Square) -> bool
         requires goes { goes self.now from to ≡ true }
         requires promotes { would_promote self.now from to ≡ true }
         ensures { (kind : ManKind) → promotion_fits true (Some kind) ≡ true
             → result ≡ is_legal self.now (move_of from to (Some kind)) }
     {
-        // The prover wants this fact: the start's number is below 64.
-        let _start = from.number();
-        let filled = SquareSet::single(to);
-        let changed = filled.union(SquareSet::single(from));
-        self.is_safe_at(self.king(self.setup.side), filled, changed)
+        // The prover wants this fact: the position is sound.
+        let _sound = &self.setup;
+        self.is_safe_by_squares(from, to)
     }
 }

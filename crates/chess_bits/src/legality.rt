@@ -153,7 +153,7 @@ impl Bits<'_> {
     // pseudo-legal, not the king's, no promotion and not en passant.
     #[inline(always)]
     fn safe_starts(&self, men: SquareSet, to: Square) -> SquareSet
-        requires { (k : ℕ) → k < 64 → contains men k ≡ true → StepsPlainly self.now k to }
+        requires { (k : ℕ) → k < 64 → contains men k ≡ true → StepsPlainly self.now (move_of k to None) }
         ensures { (k : ℕ) → k < 64 → contains result k ≡ (contains men k && is_legal self.now (move_of k to None)) }
     {
         let mut starts = SquareSet::empty();

@@ -1,16 +1,14 @@
 //! The list of legal moves: piece by piece, and end square by end square.
 
-ghost use Rattle.std.specs.Prelude.{◌≡◌, ◌+◌, ◌≤◌, ◌<◌, ◌&&◌, ◌++◌, ℕ, length, get_or, true, false, Option, None, [], ◌∷◌};
+ghost use Rattle.std.specs.Prelude.{◌≡◌, ◌+◌, ◌≤◌, ◌<◌, ◌&&◌, ◌++◌, ℕ, length, map, true, false, None, [], ◌∷◌};
 ghost use Rattle.arrayvec.specs.ArrayVec.{array_vec_len};
 ghost use Rattle.chess_base.specs.Men.{man_at, is_man};
 ghost use Rattle.chess_base.specs.MoveList.{moves, move_of, promotions};
-ghost use Rattle.chess_base.specs.Moves.{is_legal, promotion_fits};
-ghost use Rattle.chess_base.specs.declared.man.Kind.{Kind as ManKind};
+ghost use Rattle.chess_base.specs.Moves.{is_legal};
 ghost use Rattle.chess_base.specs.declared.man.Kind.TheVariants.{King, Pawn};
 ghost use Rattle.chess_bits.specs.ties.Bounds.{AreEnds, EndsOn};
 ghost use Rattle.chess_bits.specs.ties.Goes.{goes, goes_unusually, IsFree};
-ghost use Rattle.chess_moves.specs.shared.MovesBySquares.{moves_with, moves_between, moves_from};
-ghost use Rattle.chess_moves.specs.Promoting.{would_promote};
+ghost use Rattle.chess_moves.specs.shared.MovesBySquares.{moves_between, moves_from};
 ghost use Rattle.chess_moves.specs.Sets.{contains};
 
 use crate::bits::Bits;
@@ -31,44 +29,41 @@ fn each_promotion() -> [Option<Kind>; 4]
     ]
 }
 
-impl Bits<'_> {
-    // Appends to `list` the legal moves from `from` to `to` that name one of `promotions` (`None` for a move that
-    // promotes nothing). They fit the move, so that it is pseudo-legal with each.
-    fn add_moves_with(
-        &self,
-        from: Square,
-        to: Square,
-        promotions: &[Option<Kind>],
-        list: &mut MoveList,
-    )
-        requires goes { goes self.now from to ≡ true }
-        requires fits { (i : ℕ) → i < length promotions.now → (d : Option ManKind)
-            → promotion_fits (would_promote self.now from to) (get_or promotions.now i d) ≡ true }
-        requires room { array_vec_len list.old + length (moves_with self.now from to promotions.now) ≤ 896 }
-        ensures { list.new.items ≡ list.old.items ++ moves_with self.now from to promotions.now }
-    {
-        for promotion in promotions {
-            let m = Move {
-                from,
-                to,
-                promotion: *promotion,
-            };
-            if self.is_safe_after(&m) {
-                list.push(m);
-            }
-        }
+// Appends to `list` the moves from `from` to `to` with each of `promotions`.
+fn add_promotions(from: Square, to: Square, promotions: &[Option<Kind>], list: &mut MoveList)
+    requires { array_vec_len list.old + length promotions.now ≤ 896 }
+    ensures { list.new.items ≡ list.old.items ++ map (move_of from to) promotions.now }
+{
+    for promotion in promotions {
+        list.push(Move {
+            from,
+            to,
+            promotion: *promotion,
+        });
     }
+}
 
-    // Appends to `list` the legal moves from `from` to `to`, with a promotion or without.
+impl Bits<'_> {
+    // Appends to `list` the legal moves from `from` to `to`, with a promotion or without. Four promotions are legal or
+    // none, so one test is enough.
     fn add_moves_between(&self, from: Square, to: Square, list: &mut MoveList)
         requires goes { goes self.now from to ≡ true }
         requires room { array_vec_len list.old + length (moves_between self.now from to) ≤ 896 }
         ensures { list.new.items ≡ list.old.items ++ moves_between self.now from to }
     {
         if would_promote(&self.setup, from, to) {
-            self.add_moves_with(from, to, &each_promotion(), list);
+            if self.promotes_legally(from, to) {
+                add_promotions(from, to, &each_promotion(), list);
+            }
         } else {
-            self.add_moves_with(from, to, &[None], list);
+            let m = Move {
+                from,
+                to,
+                promotion: None,
+            };
+            if self.is_safe_after(&m) {
+                list.push(m);
+            }
         }
     }
 

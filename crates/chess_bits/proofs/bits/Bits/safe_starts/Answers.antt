@@ -14,5 +14,5 @@ loop-from-init c = record {
       ap (λ t. t || passes (λ a. is_legal c.args.self.now (move_of a c.args.to None)) k (members c.args.men))
       (c.empty-starts.ensures k)
       ∙ passes_is c.args.men (λ a. is_legal c.args.self.now (move_of a c.args.to None)) k low;
-  plain = each_member c.args.men (λ a. StepsPlainly c.args.self.now a c.args.to) c.requires;
+  plain = each_member c.args.men (λ a. StepsPlainly c.args.self.now (move_of a c.args.to None)) c.requires;
 }

@@ -13,7 +13,7 @@ invariant-loop-from l = record {
   starts : (k : ℕ) → k < 64
       → (contains l.starts k || passes (λ a. is_legal l.self (move_of a l.to None)) k (members l.rest))
       ≡ (contains l.fn.men k && is_legal l.self (move_of k l.to None));
-  plain : Each (λ a. StepsPlainly l.self a l.to) (members l.rest);
+  plain : Each (λ a. StepsPlainly l.self (move_of a l.to None)) (members l.rest);
 }
 
 abbrev pub decreases-loop-from : goal.decreases-loop-from
