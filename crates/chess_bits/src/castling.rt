@@ -100,6 +100,6 @@ impl Bits<'_> {
                 kind: Kind::King,
             }),
         };
-        self.is_safe_by(m, &steps)
+        self.is_safe_by(&steps)
     }
 }

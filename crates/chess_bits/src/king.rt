@@ -48,12 +48,11 @@ fn emptied_by(steps: &Steps) -> SquareSet
 }
 
 impl Bits<'_> {
-    // The square of the king of the side on move after the pseudo-legal move `m`, which makes these steps: where the
-    // mover arrives if it is the king, else where the king is now.
-    fn king_after(&self, m: &Move, steps: &Steps) -> Square
-        requires pattern { IsTrue (is_pseudo_legal self.now m.now) }
-        requires steps { steps.now ≡ steps_of self.now m.now }
-        ensures there { is_man (self.now).side King (man_at (men_after self.now m.now) result) ≡ true }
+    // The square of the king of the side on move after a pseudo-legal move, which makes these steps: where the mover
+    // arrives if it is the king, else where the king is now.
+    fn king_after(&self, steps: &Steps) -> Square
+        ensures there { (m : Move) → is_pseudo_legal self.now m ≡ true → steps.now ≡ steps_of self.now m
+            → is_man (self.now).side King (man_at (men_after self.now m) result) ≡ true }
         ensures in_range { result < 64 }
     {
         // The prover wants this fact: the number of the square where the mover arrives is below 64.
@@ -103,16 +102,15 @@ impl Bits<'_> {
         ensures { result ≡ is_legal self.now m.now }
     {
         let steps = fast_steps_of(&self.setup, m);
-        self.is_safe_by(m, &steps)
+        self.is_safe_by(&steps)
     }
 
-    // Whether the pseudo-legal move `m`, which makes these steps, is legal: the mover's king is not attacked after it.
-    pub(crate) fn is_safe_by(&self, m: &Move, steps: &Steps) -> bool
-        requires pattern { IsTrue (is_pseudo_legal self.now m.now) }
-        requires steps { steps.now ≡ steps_of self.now m.now }
-        ensures { result ≡ is_legal self.now m.now }
+    // Whether a pseudo-legal move, which makes these steps, is legal: the mover's king is not attacked after it.
+    pub(crate) fn is_safe_by(&self, steps: &Steps) -> bool
+        ensures { (m : Move) → is_pseudo_legal self.now m ≡ true → steps.now ≡ steps_of self.now m
+            → result ≡ is_legal self.now m }
     {
-        let king = self.king_after(m, steps);
+        let king = self.king_after(steps);
         let filled = filled_by(steps);
         let changed = filled.union(emptied_by(steps));
         self.is_safe_at(king, filled, changed)
