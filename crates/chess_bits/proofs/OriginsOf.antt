@@ -91,17 +91,15 @@ pawn_comes p m pawn legal =
     (ends_below p m legal))
     ∙ (legal_goes p m legal).0
 
-pub pawn_origins : (p : Setup) (kind : Kind) (to w u v : ℕ) → same_kind Pawn kind ≡ true
-    → ((k : ℕ) → contains w k ≡ (contains u k && contains v k))
-    → ((k : ℕ) → k < 64 → contains u k ≡ is_man p.side kind (man_at p.men k))
-    → ((k : ℕ) → k < 64 → is_man p.side Pawn (man_at p.men k) ≡ true
-    → contains v k ≡ (pawn_advances p (move_of k to None) || pawn_captures p (move_of k to None)))
+pub pawn_origins : (p : Setup) (kind : Kind) (to w : ℕ) → same_kind Pawn kind ≡ true
+    → ((k : ℕ) → k < 64 → contains w k ≡ (is_man p.side Pawn (man_at p.men k)
+    && (pawn_advances p (move_of k to None) || pawn_captures p (move_of k to None))))
     → HasOrigins p kind to w
-pawn_origins p kind to w u v is all men starts = λ m legal man there.
-    let low = begins_below p m legal in
+pawn_origins p kind to w is starts = λ m legal man there.
     let pawn : is_man p.side Pawn (man_at p.men m.from) ≡ true = ap (λ k. is_man p.side k (man_at p.men m.from))
     (sym (pawn_from_same kind is)) ∙ man in
-    all m.from ∙ and_from (contains u m.from) (contains v m.from) (men m.from low ∙ man)
-    (starts m.from low pawn
-    ∙ ap (λ t. pawn_advances p (move_of m.from t None) || pawn_captures p (move_of m.from t None)) (sym there)
+    starts m.from (begins_below p m legal)
+    ∙ and_from (is_man p.side Pawn (man_at p.men m.from))
+    (pawn_advances p (move_of m.from to None) || pawn_captures p (move_of m.from to None)) pawn
+    (ap (λ t. pawn_advances p (move_of m.from t None) || pawn_captures p (move_of m.from t None)) (sym there)
     ∙ pawn_comes p m pawn legal)

@@ -136,7 +136,7 @@ impl Board for Bits<'_> {
             return own;
         }
         if is_pawn(kind) {
-            return own.intersection(self.pawn_starts(to));
+            return self.pawns_to(to);
         }
         reached_among(self.tables, self.sets.occupied(), side, kind, to, own)
     }

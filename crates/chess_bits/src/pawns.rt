@@ -71,16 +71,16 @@ impl Bits<'_> {
         once.union(twice.intersection(home))
     }
 
-    // The squares from which a pawn of the side on move goes to `to`, straight ahead or by a capture, whatever becomes
-    // of its king: as far as there are pawns on them.
+    // The squares of the pawns of the side on move that go to `to`, straight ahead or by a capture, whatever becomes of
+    // their king.
     #[inline(always)]
-    pub(crate) fn pawn_starts(&self, to: Square) -> SquareSet
-        ensures { (k : ℕ) → k < 64 → is_man (self.now).side Pawn (man_at (self.now).men k) ≡ true
-            → contains result k
-            ≡ (pawn_advances self.now (move_of k to None) || pawn_captures self.now (move_of k to None)) }
+    pub(crate) fn pawns_to(&self, to: Square) -> SquareSet
+        ensures { (k : ℕ) → k < 64 → contains result k ≡ (is_man (self.now).side Pawn (man_at (self.now).men k)
+            && (pawn_advances self.now (move_of k to None) || pawn_captures self.now (move_of k to None))) }
     {
-        let straight = self.advance_starts(to);
-        straight.union(self.capture_starts(to))
+        let own = self.men_of(self.setup.side, Kind::Pawn);
+        let starts = self.advance_starts(to).union(self.capture_starts(to));
+        own.intersection(starts)
     }
 
     // The squares from which a pawn of the side on move may promote or take en passant: those of the rank before its

@@ -15,13 +15,9 @@ returns-then-is_king c =
 
 pub returns-then-is_pawn : goal.returns-then-is_pawn
 returns-then-is_pawn c =
-    let p = c.self.inside.setup in
-    let kinds = c.of-men.ensures p.men c.self.invariant.1 in
     rw (← c.self.view_is)
-    (pawn_origins p c.args.kind c.args.to c.intersection.result c.of-own.result c.pawn_starts.result
-    (sym c.is_pawn.ensures ∙ c.if-is_pawn.true) c.intersection.ensures
-    (λ k low. ap (λ w. contains w k) c.of-own.ensures ∙ kinds.of_kind c.args.kind k low)
-    (rw (← c.self.view_is) at c.pawn_starts.ensures))
+    (pawn_origins c.self.inside.setup c.args.kind c.args.to c.pawns_to.result
+    (sym c.is_pawn.ensures ∙ c.if-is_pawn.true) (rw (← c.self.view_is) at c.pawns_to.ensures))
 
 pub returns : goal.returns
 returns c =
