@@ -1,35 +1,29 @@
 -- From where pawns go to a square, and officers: from where pieces like them would be attacked from that square.
-use Rattle.std.proofs.Common.{◌≡◌, ℕ, ◌<◌, ◌≤◌, ◌⊎◌, inl, inr, Bool, true, false, not, ◌&&◌, ◌||◌, ◌==◌, nat_lt, Option, Some, None, is_none, refl, sym, ap, ◌∙◌, arith}
-use Rattle.std.specs.Option.{is_some}
-use Rattle.std.proofs.lemmas.Bool.{and_parts, and_from, or_left, or_right, or_cases, eq-eqb, lt-ltb, not-true}
+use Rattle.std.proofs.Common.{◌≡◌, ℕ, ◌<◌, ◌≤◌, Bool, true, false, not, ◌&&◌, ◌||◌, ◌==◌, None, refl, sym, ap, ◌∙◌, arith}
+use Rattle.std.proofs.lemmas.Bool.{and_parts, and_from, not-true}
 use Rattle.std.proofs.lemmas.Bool.Decides.{nat_tests}
 use Rattle.chess_base.specs.declared.man.Colour.{Colour}
 use Rattle.chess_base.specs.declared.man.Colour.TheVariants.{White, Black}
 use Rattle.chess_base.specs.declared.man.Kind.{Kind}
 use Rattle.chess_base.specs.declared.man.Kind.TheVariants.{King, Queen, Rook, Bishop, Knight, Pawn}
-use Rattle.chess_base.specs.declared.man.Man.{Man}
 use Rattle.chess_base.specs.declared.man.Move.{Move}
 use Rattle.chess_base.specs.declared.setup.Setup.{Setup}
 use Rattle.chess_base.specs.Attacks.{is_clear, could_capture}
-use Rattle.chess_base.specs.Men.{Men, man_at, other, is_of, is_man, same_kind, forward, pawn_rank}
+use Rattle.chess_base.specs.Men.{Men, man_at, is_of, is_man, same_kind}
 use Rattle.chess_base.specs.MoveList.{move_of}
 use Rattle.chess_base.specs.Moves.{is_legal, pawn_advances, pawn_captures}
-use Rattle.chess_base.specs.Sound.{IsSound, no_pawn_on_end_ranks, pawn_is_allowed}
-use Rattle.chess_base.specs.Squares.{file, rank, is_square}
-use Rattle.chess_base.proofs.shared.Changes.{advance_goes, pawn_from_same}
+use Rattle.chess_base.specs.Sound.{pawn_is_allowed}
+use Rattle.chess_base.specs.Squares.{file, rank}
+use Rattle.chess_base.proofs.shared.Changes.{pawn_from_same}
 use Rattle.chess_base.proofs.shared.Men.{is_of-from_is_man}
-use Rattle.chess_base.proofs.shared.Squares.{each_square-at}
 use Rattle.chess_moves.specs.Sets.{contains, HasOrigins}
 use Rattle.chess_moves.proofs.shared.Origins.{begins_below}
-use Rattle.chess_bits.specs.declared.line.Line.TheVariants.{File}
 use Rattle.chess_bits.specs.declared.table.Shape.TheVariants as shape
 use Rattle.chess_bits.specs.ties.Goes.{man_goes}
-use Rattle.chess_bits.specs.ties.Rays.{is_on_ray}
-use Rattle.chess_bits.specs.ties.Shapes.{in_shape}
-use Rattle.chess_bits.proofs.Attackers.{each_square_same, between_back, eq_back, gap_back, diagonal_back, pawn_back}
+use Rattle.chess_bits.proofs.Attackers.{each_square_same, between_back, eq_back, gap_back, diagonal_back}
 use Rattle.chess_bits.proofs.Patterns.{man_complete, pawn_goes, legal_goes}
 use Rattle.chess_bits.proofs.Reached.{line_back}
-use Rattle.chess_bits.proofs.TargetsOf.{man_told, officer_is, ends_below, captures_is}
+use Rattle.chess_bits.proofs.TargetsOf.{man_told, officer_is, ends_below}
 
 clear_back : (men : Men) (a b : ℕ) → is_clear men a b ≡ is_clear men b a
 unfolding is_clear

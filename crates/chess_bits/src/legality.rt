@@ -16,7 +16,7 @@ use crate::reaching::reached_among;
 use crate::targets::{is_king, is_pawn};
 use chess_base::rules::{first_rank, is_of, promotion_fits};
 use chess_base::{Colour, Kind, Man, Move, Square};
-use chess_moves::{Board, SquareSet, would_promote};
+use chess_moves::{SquareSet, would_promote};
 
 // Whether the kind is queen, rook, bishop or knight.
 #[inline(always)]
@@ -101,7 +101,8 @@ impl Bits<'_> {
     }
 
     // Those of the squares `men` from which the piece there may legally go to `to`. For all of them this move is
-    // pseudo-legal and no promotion. It may take en passant.
+    // pseudo-legal and no promotion. It may take en passant, which is rare, so it is kept out of the common way.
+    #[inline(never)]
     fn tried_starts(&self, men: SquareSet, to: Square) -> SquareSet
         requires { (k : ℕ) → k < 64 → contains men k ≡ true → is_pseudo_legal self.now (move_of k to None) ≡ true }
         ensures { (k : ℕ) → k < 64 → contains result k ≡ (contains men k && is_legal self.now (move_of k to None)) }

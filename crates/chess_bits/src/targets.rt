@@ -1,7 +1,6 @@
 //! Where pieces go: sets of end squares, whatever becomes of the king. Castling is among them only where it is legal.
 
 ghost use Rattle.std.specs.Prelude.{◌≡◌, ◌+◌, ◌≤◌, ◌<◌, ℕ, ◌&&◌, ◌||◌, not, true, false, Some, None, MatchOption};
-ghost use Rattle.std.specs.Option.{is_some};
 ghost use Rattle.chess_base.specs.Attacks.{could_capture};
 ghost use Rattle.chess_base.specs.Squares.{is_square};
 ghost use Rattle.chess_base.specs.Men.{man_at, other, is_of, is_man, same_kind, forward, pawn_rank};
@@ -10,15 +9,12 @@ ghost use Rattle.chess_base.specs.Moves.{is_legal, pawn_advances, pawn_captures}
 ghost use Rattle.chess_base.specs.declared.man.Kind.TheVariants.{King, Pawn};
 ghost use Rattle.chess_base.specs.Castling.{right_of, castled_rook_file, castle_of};
 ghost use Rattle.chess_bits.specs.ties.Goes.{goes, castling_end, legal_or, castling_or, man_goes};
-ghost use Rattle.chess_bits.specs.declared.line.Line.TheVariants.{File};
 ghost use Rattle.chess_bits.specs.declared.table.Shape.TheVariants.{Pawn as PawnAttack};
-ghost use Rattle.chess_bits.specs.ties.Rays.{is_on_ray};
 ghost use Rattle.chess_bits.specs.ties.Shapes.{in_shape};
 ghost use Rattle.chess_moves.specs.Sets.{contains};
 
 use crate::bits::Bits;
 use crate::king::set_of;
-use crate::line::Line;
 use crate::reaching::reached_from;
 use crate::table::Shape;
 use chess_base::rules::{
