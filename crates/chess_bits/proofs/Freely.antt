@@ -1,6 +1,6 @@
 -- Pieces without which their king is not attacked: where they go, they go legally.
-use Rattle.std.proofs.Common.{◌≡◌, ℕ, ◌+◌, ◌<◌, ◌≤◌, ◌⊎◌, inl, inr, Bool, true, false, not, ◌&&◌, ◌||◌, ◌==◌, Option, Some, None, cond, List, [], ◌∷◌, ◌++◌, length, refl, sym, ap, ◌∙◌, length-append, subst, arith}
-use Rattle.std.specs.List.{flat_map}
+use Rattle.std.proofs.Common.{◌≡◌, ℕ, ◌+◌, ◌<◌, ◌≤◌, ◌⊎◌, inl, inr, Bool, true, false, not, ◌&&◌, ◌||◌, ◌==◌, Option, Some, None, cond, [], ◌∷◌, length, map, refl, sym, ap, ◌∙◌, subst, arith}
+use Rattle.std.proofs.lemmas.List.{length-map}
 use Rattle.std.proofs.lemmas.Bool.{and_parts, and_from, false_from_ne_true, and_right, or_cases, or_parts, eqb-true, eq-eqb, ne_eqb, both_ways, cases_Bool, and_left}
 use Rattle.chess_base.specs.declared.man.Colour.{Colour}
 use Rattle.chess_base.specs.declared.man.Colour.TheVariants.{White, Black}
@@ -28,10 +28,8 @@ use Rattle.chess_bits.specs.declared.table.Shape.TheVariants as shape
 use Rattle.chess_bits.specs.ties.Shapes.{in_shape}
 use Rattle.chess_bits.specs.ties.Goes.{goes, aims_at, OpensNoLine, OpensNoDiagonal, IsFree, lifted}
 use Rattle.chess_bits.proofs.AfterSets.{check_is}
-use Rattle.chess_bits.proofs.Counted.{one_counted}
 use Rattle.chess_bits.proofs.KingAfter.{mover_some, mover_own, king_stays, check_after, legal_is}
-use Rattle.chess_moves.proofs.shared.MovesBySquares.{none_promotes}
-use Rattle.chess_bits.proofs.Listed.{Each, each_member, room_for, from_targets, pattern_of}
+use Rattle.chess_bits.proofs.Listed.{all_ones, each_member, from_targets, one_between, pattern_of}
 use Rattle.chess_bits.proofs.OriginsOf.{off_lowest}
 use Rattle.chess_bits.proofs.Patterns.{pawn_goes}
 use Rattle.chess_bits.proofs.Quiet.{IsPlain, lands_same, stays_safe}
@@ -145,14 +143,25 @@ usual_from p a sound low h = by (is_man p.side Pawn (man_at p.men a)) refl h
 
 -- ---- so each square is the end of one legal move
 
-pub all_once : {A : Type 0} (g : ℕ → List A) (ms : List ℕ) → Each (λ b. length (g b) ≡ 1) ms
-    → length (flat_map g ms) ≡ length ms
-all_once g [] h = refl
-all_once g (x ∷ xs) h =
-    let rest = all_once g xs h.1 in
-    let once : length (g x) ≡ 1 = h.0 in
-    let parts = length-append (g x) (flat_map g xs) in
-    omega (arith, rest, once, parts)
+pub free_between : (p : Setup) (a b king : ℕ) → IsSound p → IsFree p a → IsUsual p a → a < 64 → b < 64 → king < 64
+    → ((k : ℕ) → k < 64 → is_man p.side King (man_at p.men k) ≡ (k == king)) → goes p a b ≡ true
+    → moves_between p a b ≡ move_of a b None ∷ []
+free_between p a b king sound free usual low high there one go =
+    let stays = usual.stays b high go in
+    one_between p a b stays
+    ∙ ap (λ t. cond t (move_of a b None ∷ []) [])
+    (free_is_legal p a b king sound free low there one go stays (usual.passes b))
+
+pub free_listed : (p : Setup) (a king w : ℕ) → IsSound p → IsFree p a → IsUsual p a → a < 64 → king < 64
+    → ((k : ℕ) → k < 64 → is_man p.side King (man_at p.men k) ≡ (k == king))
+    → ((k : ℕ) → k < 64 → contains w k ≡ true → goes p a k ≡ true)
+    → ((m : Move) → is_legal p m ≡ true → m.from ≡ a → contains w m.to ≡ true)
+    → moves_from p a ≡ map (λ b. move_of a b None) (members w)
+free_listed p a king w sound free usual low there one sets all =
+    sym (from_targets p a w all)
+    ∙ all_ones (λ b. moves_between p a b) (λ b. move_of a b None) (members w)
+    (each_member w (λ b. moves_between p a b ≡ move_of a b None ∷ [])
+    (λ b high h. free_between p a b king sound free usual low high there one (sets b high h)))
 
 pub free_counted : (p : Setup) (a king w : ℕ) → IsSound p → IsFree p a → IsUsual p a → a < 64 → king < 64
     → ((k : ℕ) → k < 64 → is_man p.side King (man_at p.men k) ≡ (k == king))
@@ -160,14 +169,8 @@ pub free_counted : (p : Setup) (a king w : ℕ) → IsSound p → IsFree p a →
     → ((m : Move) → is_legal p m ≡ true → m.from ≡ a → contains w m.to ≡ true)
     → length (members w) ≡ length (moves_from p a)
 free_counted p a king w sound free usual low there one sets all =
-    sym (all_once (λ b. moves_between p a b) (members w) (each_member w (λ b. length (moves_between p a b) ≡ 1) once))
-    ∙ ap length (from_targets p a w all)
-  where
-    once : (b : ℕ) → b < 64 → contains w b ≡ true → length (moves_between p a b) ≡ 1
-    once b high h =
-        let go = sets b high h in
-        let legal = free_is_legal p a b king sound free low there one go (usual.stays b high go) (usual.passes b) in
-        sym (rw legal at (one_counted p a b (usual.stays b high go)))
+    sym (ap length (free_listed p a king w sound free usual low there one sets all)
+    ∙ length-map (members w) (λ b. move_of a b None))
 
 -- ---- the set of the free pieces
 
@@ -256,26 +259,3 @@ freed p a king sound low there calm one out lines diagonals = record {
 pub from_not : (b : Bool) → not b ≡ false → b ≡ true
 from_not true h = refl
 from_not false h = cc
-
-pub and_true_left : (a b : Bool) → a ≡ true → (a && b) ≡ false → b ≡ false
-and_true_left true b e h = h
-and_true_left false b e h = cc
-
--- and that is the move that is listed
-pub free_listed : (p : Setup) (a king w : ℕ) → IsSound p → IsFree p a → IsUsual p a → a < 64 → king < 64
-    → ((k : ℕ) → k < 64 → is_man p.side King (man_at p.men k) ≡ (k == king))
-    → ((k : ℕ) → k < 64 → contains w k ≡ true → goes p a k ≡ true) → (b : ℕ) → b < 64 → contains w b ≡ true
-    → moves_between p a b ≡ move_of a b None ∷ []
-free_listed p a king w sound free usual low there one sets b high h =
-    let go = sets b high h in
-    let stays = usual.stays b high go in
-    let legal = free_is_legal p a b king sound free low there one go stays (usual.passes b) in
-    none_promotes p a b stays ∙ rw legal refl
-
--- there is room for it in the list
-pub one_fits : {A : Type 0} (g : ℕ → List A) (x : A) (now whole : List A) (ms : List ℕ) (s : ℕ) (ns : List ℕ) (n : ℕ)
-    → ms ≡ s ∷ ns → now ++ flat_map g ms ≡ whole → length whole ≤ n → g s ≡ x ∷ [] → length now < n
-one_fits g x now whole ms s ns n e h fits one =
-    let room = room_for g now whole ms s ns n e h fits in
-    let single : length (g s) ≡ 1 = ap length one in
-    omega (arith, room, single)

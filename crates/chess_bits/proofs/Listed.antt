@@ -59,6 +59,23 @@ pub all_gathered : {A : Type 0} (g : ℕ → List A) (now whole : List A) (ms : 
     → now ++ flat_map g ms ≡ whole → now ≡ whole
 all_gathered g now whole ms e h = sym (append-nil now) ∙ (rw e at h)
 
+-- where each gives one, these are all
+pub all_ones : {A : Type 0} (g : ℕ → List A) (f : ℕ → A) (ms : List ℕ) → Each (λ b. g b ≡ f b ∷ []) ms
+    → flat_map g ms ≡ map f ms
+all_ones g f [] h = refl
+all_ones g f (x ∷ xs) h =
+    let one : g x ≡ f x ∷ [] = h.0 in
+    rw (one, all_ones g f xs h.1) refl
+
+-- there is room for the next of them
+pub room_onto : {A : Type 0} (f : ℕ → A) (now whole : List A) (ms : List ℕ) (s : ℕ) (ns : List ℕ) (n : ℕ)
+    → ms ≡ s ∷ ns → now ++ map f ms ≡ whole → length whole ≤ n → length now < n
+room_onto f now whole ms s ns n e h fits =
+    let all : now ++ map f (s ∷ ns) ≡ whole = rw e at h in
+    let long : length now + length (map f (s ∷ ns)) ≡ length whole = sym (length-append now (map f (s ∷ ns)))
+    ∙ ap length all in
+    omega (arith, long, fits)
+
 more_than : {A B : Type 0} (f : A → B) (xs : List A) (i : ℕ) → i < length xs
     → length (map f (take i xs)) < length xs
 more_than f [] i h = absurd (omega (arith, h))

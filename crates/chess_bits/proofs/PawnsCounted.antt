@@ -22,8 +22,7 @@ use Rattle.chess_bits.specs.declared.table.Shape.TheVariants as shape
 use Rattle.chess_bits.specs.ties.Goes.{goes, aims_at, goes_unusually, IsFree, AreFree}
 use Rattle.chess_bits.specs.ties.Shapes.{in_shape}
 use Rattle.chess_bits.proofs.Attackers.{pawn_back}
-use Rattle.chess_bits.proofs.Counted.{one_counted}
-use Rattle.chess_bits.proofs.Freely.{IsUsual, pawn_usual, free_is_legal}
+use Rattle.chess_bits.proofs.Freely.{IsUsual, pawn_usual}
 use Rattle.chess_bits.proofs.Listed.{none_there}
 use Rattle.chess_bits.proofs.OriginsOf.{off_lowest}
 use Rattle.chess_bits.proofs.Patterns.{pawn_goes, legal_goes}
@@ -344,9 +343,7 @@ between_counted p a b king sound free pawn usual low high there one =
     (pawn_goes p a b _ (man_told p.side Pawn (man_at p.men a) pawn) refl refl low high)
   where
     by : (t : Bool) → goes p a b ≡ t → length (moves_between p a b) ≡ once t
-    by true go =
-        let legal = free_is_legal p a b king sound free low there one go (usual.stays b high go) (usual.passes b) in
-        sym (rw legal at (one_counted p a b (usual.stays b high go)))
+    by true go = ap length (free_between p a b king sound free usual low high there one go)
     by false off = ap length (none_there p a b (λ k. false_from_ne_true (is_legal p (move_of a b k))
         (λ e. both_ways (goes p a b) off (legal_goes p (move_of a b k) e).0)))
 

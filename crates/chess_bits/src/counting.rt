@@ -3,8 +3,8 @@
 ghost use Rattle.std.specs.Prelude.{◌≡◌, ◌+◌, ◌≤◌, ◌<◌, ◌||◌, ℕ, length, nat_lt, cond, true, false, IsTrue, Some, None};
 ghost use Rattle.std.specs.List.{flat_map};
 ghost use Rattle.chess_base.specs.Men.{man_at, is_man, same_kind};
-ghost use Rattle.chess_base.specs.MoveList.{moves, move_of};
-ghost use Rattle.chess_base.specs.Moves.{is_pseudo_legal, is_legal, man_moves, promotion_fits};
+ghost use Rattle.chess_base.specs.MoveList.{moves};
+ghost use Rattle.chess_base.specs.Moves.{is_pseudo_legal, is_legal};
 ghost use Rattle.chess_base.specs.declared.man.Kind.TheVariants.{King, Knight, Pawn};
 ghost use Rattle.chess_bits.specs.ties.Bounds.{AreEnds, EndsOn};
 ghost use Rattle.chess_bits.specs.ties.Goes.{goes, IsFree, AreFree};
@@ -72,30 +72,12 @@ impl Bits<'_> {
         self.count_to(from, self.targets(from))
     }
 
-    // 1 if the king's ordinary move (not castling) from `king` to `to` is legal, else 0.
-    fn times_stepped(&self, king: Square, to: Square) -> usize
-        requires king { is_man (self.now).side King (man_at (self.now).men king) ≡ true }
-        requires step { man_moves self.now (move_of king to None) ≡ true }
-        ensures { result ≡ length (moves_between self.now king to) }
-    {
-        if self.is_safe_step(king, to) { 1 } else { 0 }
-    }
-
-    // How many legal moves the king on the square `king` has: ordinary ones, and castling.
+    // How many legal moves the king on the square `king` has: one to each square where it may go.
     fn count_king(&self, king: Square) -> usize
-        requires king { is_man (self.now).side King (man_at (self.now).men king) ≡ true }
-        requires few { length (moves_from self.now king) ≤ 896 }
+        requires { is_man (self.now).side King (man_at (self.now).men king) ≡ true }
         ensures { result ≡ length (moves_from self.now king) }
     {
-        // The prover wants these facts: the number of the king's square is below 64, and the position is sound.
-        let _start = king.number();
-        let _sound = self.setup();
-        let mut count = self.castling_ends(king).len();
-        let mut steps = self.steps(Kind::King, king);
-        while let Some(to) = steps.take_first() {
-            count += self.times_stepped(king, to);
-        }
-        count
+        self.king_ends(king).len()
     }
 
     // How many legal moves these pawns have, which are all free: their king is safe wherever they go. Those that may

@@ -96,6 +96,23 @@ impl Bits<'_> {
         !self.sets.of(by).attacks(self.tables, by, to, left)
     }
 
+    // The end squares of the legal moves of the king on `king`, by a step or by castling.
+    pub(crate) fn king_ends(&self, king: Square) -> SquareSet
+        requires { is_man (self.now).side King (man_at (self.now).men king) ≡ true }
+        ensures { (k : ℕ) → k < 64 → contains result k ≡ is_legal self.now (move_of king k None) }
+    {
+        // The prover wants this fact: the number of the king's square is below 64.
+        let _start = king.number();
+        let mut ends = self.castling_ends(king);
+        let mut steps = self.steps(Kind::King, king);
+        while let Some(to) = steps.take_first() {
+            if self.is_safe_step(king, to) {
+                ends = ends.union(SquareSet::single(to));
+            }
+        }
+        ends
+    }
+
     // Whether a pseudo-legal move is legal: the mover's king is not attacked after it.
     pub(crate) fn is_safe_after(&self, m: &Move) -> bool
         requires { IsTrue (is_pseudo_legal self.now m.now) }

@@ -4,12 +4,11 @@ ghost use Rattle.std.specs.Prelude.{◌≡◌, ◌+◌, ◌≤◌, ◌<◌, ◌&
 ghost use Rattle.arrayvec.specs.ArrayVec.{array_vec_len};
 ghost use Rattle.chess_base.specs.Men.{man_at, is_man};
 ghost use Rattle.chess_base.specs.MoveList.{moves, move_of, promotions};
-ghost use Rattle.chess_base.specs.Moves.{is_legal};
 ghost use Rattle.chess_base.specs.declared.man.Kind.TheVariants.{King, Pawn};
 ghost use Rattle.chess_bits.specs.ties.Bounds.{AreEnds, EndsOn};
 ghost use Rattle.chess_bits.specs.ties.Goes.{goes, goes_unusually, IsFree};
 ghost use Rattle.chess_moves.specs.shared.MovesBySquares.{moves_between, moves_from};
-ghost use Rattle.chess_moves.specs.Sets.{contains};
+ghost use Rattle.chess_moves.specs.Sets.{contains, members};
 
 use crate::bits::Bits;
 use crate::shielding::Bounds;
@@ -39,6 +38,21 @@ fn add_promotions(from: Square, to: Square, promotions: &[Option<Kind>], list: &
             from,
             to,
             promotion: *promotion,
+        });
+    }
+}
+
+// Appends to `list` a move without a promotion from `from` to each square of the set `ends`.
+fn add_moves_onto(from: Square, ends: SquareSet, list: &mut MoveList)
+    requires { array_vec_len list.old + length (members ends) ≤ 896 }
+    ensures { list.new.items ≡ list.old.items ++ map (λ b. move_of from b None) (members ends) }
+{
+    let mut rest = ends;
+    while let Some(to) = rest.take_first() {
+        list.push(Move {
+            from,
+            to,
+            promotion: None,
         });
     }
 }
@@ -100,14 +114,7 @@ impl Bits<'_> {
         // The prover wants these facts: the start's number is below 64, and the king is on one square alone.
         let _start = from.number();
         let _king = self.king(self.setup.side);
-        let mut targets = self.targets(from);
-        while let Some(to) = targets.take_first() {
-            list.push(Move {
-                from,
-                to,
-                promotion: None,
-            });
-        }
+        add_moves_onto(from, self.targets(from), list);
     }
 
     // Appends to `list` the legal moves of the piece on `from`, which is free: its king is safe wherever it goes.
@@ -123,37 +130,13 @@ impl Bits<'_> {
         }
     }
 
-    // The end squares of the legal moves of the king on `king`, by a step or by castling.
-    fn king_ends(&self, king: Square) -> SquareSet
-        requires { is_man (self.now).side King (man_at (self.now).men king) ≡ true }
-        ensures { (k : ℕ) → k < 64 → contains result k ≡ is_legal self.now (move_of king k None) }
-    {
-        // The prover wants this fact: the number of the king's square is below 64.
-        let _start = king.number();
-        let mut ends = self.castling_ends(king);
-        let mut steps = self.steps(Kind::King, king);
-        while let Some(to) = steps.take_first() {
-            if self.is_safe_step(king, to) {
-                ends = ends.union(SquareSet::single(to));
-            }
-        }
-        ends
-    }
-
     // Appends to `list` the legal moves of the king on `king`.
     fn add_king_moves(&self, king: Square, list: &mut MoveList)
         requires king { is_man (self.now).side King (man_at (self.now).men king) ≡ true }
         requires room { array_vec_len list.old + length (moves_from self.now king) ≤ 896 }
         ensures { list.new.items ≡ list.old.items ++ moves_from self.now king }
     {
-        let mut ends = self.king_ends(king);
-        while let Some(to) = ends.take_first() {
-            list.push(Move {
-                from: king,
-                to,
-                promotion: None,
-            });
-        }
+        add_moves_onto(king, self.king_ends(king), list);
     }
 
     // Appends to `list` the legal moves of the piece on `from`, the king or another, given where the pieces may go.
