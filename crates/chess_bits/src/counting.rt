@@ -249,7 +249,6 @@ impl Bits<'_> {
     fn has_king_move(&self, men: SquareSet) -> bool
         requires kings { (k : ℕ) → k < 64 → contains men k ≡ true
             → is_man (self.now).side King (man_at (self.now).men k) ≡ true }
-        requires few { length (flat_map (λ a. moves_from self.now a) (members men)) ≤ 896 }
         ensures { result ≡ nat_lt 0 (length (flat_map (λ a. moves_from self.now a) (members men))) }
     {
         let mut rest = men;
@@ -283,7 +282,6 @@ impl Bits<'_> {
     pub(crate) fn has_move(&self) -> bool
         ensures { result ≡ nat_lt 0 (length (moves self.now)) }
     {
-        let _sound = self.setup();
         if self.has_usual_move() {
             return true;
         }
