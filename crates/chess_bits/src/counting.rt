@@ -13,7 +13,7 @@ ghost use Rattle.chess_moves.specs.Promoting.{would_promote};
 ghost use Rattle.chess_moves.specs.Sets.{contains, members};
 
 use crate::bits::Bits;
-use crate::shielding::Bounds;
+use crate::pinning::Bounds;
 use crate::targets::is_pawn;
 use chess_base::rules::is_man;
 use chess_base::{Kind, Move, Square};

@@ -11,7 +11,7 @@ ghost use Rattle.chess_moves.specs.shared.MovesBySquares.{moves_between, moves_f
 ghost use Rattle.chess_moves.specs.Sets.{contains, members};
 
 use crate::bits::Bits;
-use crate::shielding::Bounds;
+use crate::pinning::Bounds;
 use chess_base::rules::is_man;
 use chess_base::{Kind, Move, Square};
 use chess_moves::{MoveList, SquareSet, would_promote};
