@@ -6,14 +6,14 @@ ghost use Rattle.chess_base.specs.Men.{man_at, is_man, same_kind};
 ghost use Rattle.chess_base.specs.MoveList.{moves};
 ghost use Rattle.chess_base.specs.Moves.{is_pseudo_legal, is_legal};
 ghost use Rattle.chess_base.specs.declared.man.Kind.TheVariants.{King, Knight, Pawn};
-ghost use Rattle.chess_bits.specs.ties.Bounds.{AreEnds, EndsOn};
+ghost use Rattle.chess_bits.specs.ties.Pins.{AreEnds, EndsOn};
 ghost use Rattle.chess_bits.specs.ties.Goes.{goes, IsFree, AreFree};
 ghost use Rattle.chess_moves.specs.shared.MovesBySquares.{moves_between, moves_from};
 ghost use Rattle.chess_moves.specs.Promoting.{would_promote};
 ghost use Rattle.chess_moves.specs.Sets.{contains, members};
 
 use crate::bits::Bits;
-use crate::pinning::Bounds;
+use crate::pinning::Pins;
 use crate::targets::is_pawn;
 use chess_base::rules::is_man;
 use chess_base::{Kind, Move, Square};
@@ -161,27 +161,27 @@ impl Bits<'_> {
     }
 
     // How many legal moves the piece on `from` has, given where the pieces may go.
-    fn count_of(&self, from: Square, bounds: &Bounds) -> usize
-        requires ends { AreEnds self.now bounds.now.free bounds.now.ends }
+    fn count_of(&self, from: Square, pins: &Pins) -> usize
+        requires ends { AreEnds self.now pins.now.free pins.now.ends }
         requires few { length (moves_from self.now from) ≤ 896 }
         ensures { result ≡ length (moves_from self.now from) }
     {
         if is_man(self.setup.side, Kind::King, self.setup.men[from.index()]) {
             return self.count_king(from);
         }
-        self.count_to(from, self.ends_of(from, bounds))
+        self.count_to(from, self.ends_of(from, pins))
     }
 
     // How many legal moves the pieces on these squares have, each looked at alone, given where the pieces may go.
-    fn count_bound(&self, men: SquareSet, bounds: &Bounds) -> usize
-        requires ends { AreEnds self.now bounds.now.free bounds.now.ends }
+    fn count_bound(&self, men: SquareSet, pins: &Pins) -> usize
+        requires ends { AreEnds self.now pins.now.free pins.now.ends }
         requires few { length (flat_map (λ a. moves_from self.now a) (members men)) ≤ 896 }
         ensures { result ≡ length (flat_map (λ a. moves_from self.now a) (members men)) }
     {
         let mut count = 0;
         let mut rest = men;
         while let Some(from) = rest.take_first() {
-            count += self.count_of(from, bounds);
+            count += self.count_of(from, pins);
         }
         count
     }
@@ -193,15 +193,15 @@ impl Bits<'_> {
     {
         // The prover wants this fact: the position is sound, so its legal moves fit into a list.
         let _sound = self.setup();
-        let bounds = self.bounds();
-        let free = bounds.free;
+        let pins = self.pins();
+        let free = pins.free;
         let mut men = self.sets.all(self.setup.side);
         let pawns = self.count_kind(Kind::Pawn, free, &mut men);
         let knights = self.count_kind(Kind::Knight, free, &mut men);
         let bishops = self.count_kind(Kind::Bishop, free, &mut men);
         let rooks = self.count_kind(Kind::Rook, free, &mut men);
         let queens = self.count_kind(Kind::Queen, free, &mut men);
-        let others = self.count_bound(men, &bounds);
+        let others = self.count_bound(men, &pins);
         pawns + knights + bishops + rooks + queens + others
     }
 

@@ -5,13 +5,13 @@ ghost use Rattle.arrayvec.specs.ArrayVec.{array_vec_len};
 ghost use Rattle.chess_base.specs.Men.{man_at, is_man};
 ghost use Rattle.chess_base.specs.MoveList.{moves, move_of, promotions};
 ghost use Rattle.chess_base.specs.declared.man.Kind.TheVariants.{King, Pawn};
-ghost use Rattle.chess_bits.specs.ties.Bounds.{AreEnds, EndsOn};
+ghost use Rattle.chess_bits.specs.ties.Pins.{AreEnds, EndsOn};
 ghost use Rattle.chess_bits.specs.ties.Goes.{goes, goes_unusually, IsFree};
 ghost use Rattle.chess_moves.specs.shared.MovesBySquares.{moves_between, moves_from};
 ghost use Rattle.chess_moves.specs.Sets.{contains, members};
 
 use crate::bits::Bits;
-use crate::pinning::Bounds;
+use crate::pinning::Pins;
 use chess_base::rules::is_man;
 use chess_base::{Kind, Move, Square};
 use chess_moves::{MoveList, SquareSet, would_promote};
@@ -140,31 +140,31 @@ impl Bits<'_> {
     }
 
     // Appends to `list` the legal moves of the piece on `from`, the king or another, given where the pieces may go.
-    fn add_bound_moves(&self, from: Square, bounds: &Bounds, list: &mut MoveList)
-        requires ends { AreEnds self.now bounds.now.free bounds.now.ends }
+    fn add_bound_moves(&self, from: Square, pins: &Pins, list: &mut MoveList)
+        requires ends { AreEnds self.now pins.now.free pins.now.ends }
         requires room { array_vec_len list.old + length (moves_from self.now from) ≤ 896 }
         ensures { list.new.items ≡ list.old.items ++ moves_from self.now from }
     {
         if is_man(self.setup.side, Kind::King, self.setup.men[from.index()]) {
             self.add_king_moves(from, list);
         } else {
-            self.add_moves_to(from, self.ends_of(from, bounds), list);
+            self.add_moves_to(from, self.ends_of(from, pins), list);
         }
     }
 
     // Appends to `list` the legal moves of the piece on `from`, given where the pieces may go.
-    fn add_moves_of(&self, from: Square, bounds: &Bounds, list: &mut MoveList)
-        requires free { (k : ℕ) → k < 64 → contains bounds.now.free k ≡ true → IsFree self.now k }
-        requires ends { AreEnds self.now bounds.now.free bounds.now.ends }
+    fn add_moves_of(&self, from: Square, pins: &Pins, list: &mut MoveList)
+        requires free { (k : ℕ) → k < 64 → contains pins.now.free k ≡ true → IsFree self.now k }
+        requires ends { AreEnds self.now pins.now.free pins.now.ends }
         requires room { array_vec_len list.old + length (moves_from self.now from) ≤ 896 }
         ensures { list.new.items ≡ list.old.items ++ moves_from self.now from }
     {
         // The prover wants this fact: the start's number is below 64.
         let _start = from.number();
-        if bounds.free.contains(from) {
+        if pins.free.contains(from) {
             self.add_free_moves(from, list);
         } else {
-            self.add_bound_moves(from, bounds, list);
+            self.add_bound_moves(from, pins, list);
         }
     }
 
@@ -174,10 +174,10 @@ impl Bits<'_> {
         requires { list.old.items ≡ [] }
         ensures { list.new.items ≡ moves self.now }
     {
-        let bounds = self.bounds();
+        let pins = self.pins();
         let mut men = self.sets.all(self.setup.side);
         while let Some(from) = men.take_first() {
-            self.add_moves_of(from, &bounds, list);
+            self.add_moves_of(from, &pins, list);
         }
     }
 }

@@ -5,7 +5,7 @@ ghost use Rattle.chess_base.specs.Attacks.{is_in_check};
 ghost use Rattle.chess_base.specs.Men.{man_at, is_man};
 ghost use Rattle.chess_base.specs.Squares.{is_between, is_square};
 ghost use Rattle.chess_base.specs.declared.man.Kind.TheVariants.{King};
-ghost use Rattle.chess_bits.specs.ties.Bounds.{aims_from, KeepsClosed, IsShield, EndsOn, AreEnds};
+ghost use Rattle.chess_bits.specs.ties.Pins.{aims_from, KeepsClosed, IsShield, EndsOn, AreEnds};
 ghost use Rattle.chess_bits.specs.ties.Goes.{goes, IsFree};
 ghost use Rattle.chess_moves.specs.Sets.{contains};
 
@@ -17,7 +17,7 @@ use chess_moves::{Board, SquareSet};
 
 // Where the pieces of the side on move, but its king, may go without leaving the king attacked.
 #[derive(Clone, Copy)]
-pub(crate) struct Bounds {
+pub(crate) struct Pins {
     // Pieces whose king is safe wherever they go: it is not in check, and they are not pinned.
     pub(crate) free: SquareSet,
     // Squares on one of which each legal move of another piece ends: that of a piece that pins or gives check, those
@@ -69,20 +69,20 @@ impl Bits<'_> {
     // Takes the piece that shields the king on `king` from an enemy piece on `from`, if it alone does, out of the free
     // pieces, and adds the squares to which it may go.
     #[inline(always)]
-    fn pin(&self, king: Square, from: Square, bounds: &mut Bounds)
+    fn add_pin(&self, king: Square, from: Square, pins: &mut Pins)
         requires king { is_man (self.now).side King (man_at (self.now).men king) ≡ true }
         requires aims { aims_from self.now from king ≡ true }
-        ensures free { (a : ℕ) → a < 64 → contains bounds.new.free a ≡ true
-            → (contains bounds.old.free a ≡ true) × KeepsClosed self.now a from king }
-        ensures ends { AreEnds self.now bounds.old.free bounds.old.ends → AreEnds self.now bounds.new.free bounds.new.ends }
+        ensures free { (a : ℕ) → a < 64 → contains pins.new.free a ≡ true
+            → (contains pins.old.free a ≡ true) × KeepsClosed self.now a from king }
+        ensures ends { AreEnds self.now pins.old.free pins.old.ends → AreEnds self.now pins.new.free pins.new.ends }
     {
         // The prover wants these facts: the position is sound, and the numbers of both squares are below 64.
         let _sound = &self.setup;
         let _king = king.number();
         let _from = from.number();
         if let Some(shield) = self.shield(king, from) {
-            bounds.free = bounds.free.without(SquareSet::single(shield));
-            bounds.ends = bounds.ends.union(self.answers(king, from));
+            pins.free = pins.free.without(SquareSet::single(shield));
+            pins.ends = pins.ends.union(self.answers(king, from));
         }
     }
 
@@ -101,9 +101,9 @@ impl Bits<'_> {
         on_lines.union(aslant.intersection(self.tables.at(Shape::Diagonals, king)))
     }
 
-    // The bounds of the pieces if the king, on `king`, is not in check.
+    // The pins of the pieces if the king, on `king`, is not in check.
     #[inline(always)]
-    fn pins(&self, king: Square) -> Bounds
+    fn pins_without_check(&self, king: Square) -> Pins
         requires king { is_man (self.now).side King (man_at (self.now).men king) ≡ true }
         requires calm { is_in_check (self.now).men (self.now).side ≡ false }
         ensures free { (k : ℕ) → k < 64 → contains result.free k ≡ true → IsFree self.now k }
@@ -112,20 +112,20 @@ impl Bits<'_> {
         // The prover wants this fact: the number of the king's square is below 64.
         let _king = king.number();
         let side = self.setup.side;
-        let mut bounds = Bounds {
+        let mut pins = Pins {
             free: self.sets.all(side).without(SquareSet::single(king)),
             ends: SquareSet::empty(),
         };
         let mut rest = self.aimed_at(king);
         while let Some(from) = rest.take_first() {
-            self.pin(king, from, &mut bounds);
+            self.add_pin(king, from, &mut pins);
         }
-        bounds
+        pins
     }
 
     // Where the pieces may go, but the king.
     #[inline(always)]
-    pub(crate) fn bounds(&self) -> Bounds
+    pub(crate) fn pins(&self) -> Pins
         ensures free { (k : ℕ) → k < 64 → contains result.free k ≡ true → IsFree self.now k }
         ensures ends { AreEnds self.now result.free result.ends }
     {
@@ -135,9 +135,9 @@ impl Bits<'_> {
         let men = self.sets.of(by);
         let checkers = men.attackers(self.tables, by, king, self.sets.occupied());
         if checkers.is_empty() {
-            return self.pins(king);
+            return self.pins_without_check(king);
         }
-        Bounds {
+        Pins {
             free: SquareSet::empty(),
             ends: self.answers(king, checkers.first()),
         }
@@ -146,23 +146,23 @@ impl Bits<'_> {
     // The squares of a set that has the ends of the legal moves of the piece on `from`, which is no king, given where the
     // pieces may go. For each of them some move of the piece there is pseudo-legal.
     #[inline(always)]
-    pub(crate) fn ends_of(&self, from: Square, bounds: &Bounds) -> SquareSet
+    pub(crate) fn ends_of(&self, from: Square, pins: &Pins) -> SquareSet
         requires no_king { is_man (self.now).side King (man_at (self.now).men from) ≡ false }
-        requires ends { AreEnds self.now bounds.now.free bounds.now.ends }
+        requires ends { AreEnds self.now pins.now.free pins.now.ends }
         ensures sound { (k : ℕ) → k < 64 → contains result k ≡ true → goes self.now from k ≡ true }
         ensures complete { EndsOn self.now from result }
     {
         // The prover wants this fact: the start's number is below 64.
         let _start = from.number();
         let targets = self.targets(from);
-        if bounds.free.contains(from) {
+        if pins.free.contains(from) {
             return targets;
         }
-        targets.intersection(bounds.ends)
+        targets.intersection(pins.ends)
     }
 
     // The pieces of the side on move that are on no rank, file or diagonal of their king, so that it is safe wherever
-    // they go; none if it is in check. They are found sooner than all that `bounds` gives.
+    // they go; none if it is in check. They are found sooner than all that `pins` gives.
     #[tactic(auto, unfolding(crate::specs::ties::Shapes::in_shape))]
     pub(crate) fn men_off_lines(&self) -> SquareSet
         ensures { (k : ℕ) → k < 64 → contains result k ≡ true → IsFree self.now k }

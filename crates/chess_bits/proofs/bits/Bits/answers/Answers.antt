@@ -1,9 +1,9 @@
--- The squares between the king and a piece are on one line with both (line_between of Bounds), so they are in the set.
+-- The squares between the king and a piece are on one line with both (line_between of Pins), so they are in the set.
 use Rattle.std.proofs.Common.{◌≡◌, ◌==◌, ◌||◌, ◌<◌, inl, inr, subst, ◌∙◌}
 use Rattle.std.proofs.lemmas.Bool.{or_cases, or_left, or_right}
 use Rattle.chess_base.specs.Squares.{is_between, is_square}
 use Rattle.chess_moves.specs.Sets.{contains}
-use Rattle.chess_bits.proofs.Bounds.{line_between}
+use Rattle.chess_bits.proofs.Pins.{line_between}
 use Rattle.chess_bits.proofs.bits.Bits.answers.Goals as goal
 
 pub returns : goal.returns

@@ -1,5 +1,5 @@
 -- A promotion has the pattern of a move with each kind that fits (pattern_of of Listed), and is neither the king's nor en
--- passant, since the target is not on the last rank (no_target_there of Bounds).
+-- passant, since the target is not on the last rank (no_target_there of Pins).
 use Rattle.std.proofs.Common.{◌≡◌, ◌==◌, true, Some, sym, subst}
 use Rattle.std.proofs.lemmas.Bool.{and_parts, and_right, eqb-true}
 use Rattle.chess_base.specs.declared.man.Kind.TheVariants.{Pawn}
@@ -8,7 +8,7 @@ use Rattle.chess_base.specs.Moves.{promotion_fits}
 use Rattle.chess_base.specs.Squares.{is_square, rank}
 use Rattle.chess_moves.specs.Promoting.{would_promote}
 use Rattle.chess_bits.specs.ties.Goes.{goes}
-use Rattle.chess_bits.proofs.Bounds.{no_target_there, pawn_no_king}
+use Rattle.chess_bits.proofs.Pins.{no_target_there, pawn_no_king}
 use Rattle.chess_bits.proofs.Listed.{pattern_of}
 use Rattle.chess_bits.proofs.bits.Bits.promotes_legally.Goals as goal
 

@@ -1,5 +1,5 @@
 -- Each piece on a square between them is in the set, and the king and the piece aimed at it are on one line (by_line of
--- BetweenSquares). With none in the set the way is clear (none_hides of Bounds), with one this is the shield
+-- BetweenSquares). With none in the set the way is clear (none_hides of Pins), with one this is the shield
 -- (one_hides), and with more no piece taken off clears the way (many_hide).
 use Rattle.std.proofs.Common.{◌≡◌, ◌<◌, ◌==◌, ◌&&◌, ℕ, not, false, sym, ap, subst, ◌∙◌}
 use Rattle.std.proofs.lemmas.Bool.{both_ways}
@@ -8,7 +8,7 @@ use Rattle.chess_base.proofs.shared.Squares.{some_square-none}
 use Rattle.chess_moves.specs.Sets.{contains}
 use Rattle.chess_bits.proofs.Attackers.{none_there}
 use Rattle.chess_bits.proofs.BetweenSquares.{by_line}
-use Rattle.chess_bits.proofs.Bounds.{aims_on_line, none_hides, one_hides, many_hide}
+use Rattle.chess_bits.proofs.Pins.{aims_on_line, none_hides, one_hides, many_hide}
 use Rattle.chess_bits.proofs.bits.Bits.shield.Goals as goal
 
 pub returns-then-is_empty : goal.returns-then-is_empty

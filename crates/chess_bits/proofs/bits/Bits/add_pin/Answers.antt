@@ -1,16 +1,16 @@
--- The shield goes nowhere but where it still shields, or to the piece that it shields from (answered of Bounds); the
+-- The shield goes nowhere but where it still shields, or to the piece that it shields from (answered of Pins); the
 -- others go where they went.
 use Rattle.std.proofs.Common.{◌≡◌, ◌<◌, inl, inr, true, sym, subst, ap, ◌∙◌}
 use Rattle.std.proofs.lemmas.Bool.{eqb-true, or_left, or_right}
 use Rattle.chess_base.specs.Attacks.{is_clear}
 use Rattle.chess_base.specs.declared.man.Kind.TheVariants.{King}
 use Rattle.chess_base.specs.Men.{man_at, is_man}
-use Rattle.chess_bits.specs.ties.Bounds.{aims_from}
+use Rattle.chess_bits.specs.ties.Pins.{aims_from}
 use Rattle.chess_bits.specs.ties.Goes.{lifted}
 use Rattle.chess_moves.specs.Sets.{contains}
-use Rattle.chess_bits.proofs.Bounds.{aims_hit, answered, taken_out, to_in}
+use Rattle.chess_bits.proofs.Pins.{aims_hit, answered, taken_out, to_in}
 use Rattle.chess_bits.proofs.OneKing.{alone, has_king}
-use Rattle.chess_bits.proofs.bits.Bits.pin.Goals as goal
+use Rattle.chess_bits.proofs.bits.Bits.add_pin.Goals as goal
 
 pub returns-in-Some-clause-ends : goal.returns-in-Some-clause-ends
 returns-in-Some-clause-ends c =
@@ -26,11 +26,11 @@ returns-in-Some-clause-ends c =
     let one = alone p.men p.side c.args.king c.self.invariant.0.board (has_king p p.side c.self.invariant.0) here in
     rw (← c.self.view_is)
     (λ before a low no_king outside m legal at.
-    elim (taken_out (contains c.args.bounds.now.free a) (contains c.without-bounds.result a) (contains c.single.result a)
-    (c.without-bounds.ensures a low) outside) [
+    elim (taken_out (contains c.args.pins.now.free a) (contains c.without-pins.result a) (contains c.single.result a)
+    (c.without-pins.ensures a low) outside) [
       | inl off ↦
-          c.union-bounds.ensures m.to
-          ∙ or_left (contains c.args.bounds.now.ends m.to) (contains c.answers.result m.to)
+          c.union-pins.ensures m.to
+          ∙ or_left (contains c.args.pins.now.ends m.to) (contains c.answers.result m.to)
           (before a low no_king off m legal at)
       | inr taken ↦
           let same : m.from ≡ c.in-Some.shield =
@@ -38,8 +38,8 @@ returns-in-Some-clause-ends c =
           let opens : is_clear (lifted p.men m.from) c.args.from c.args.king ≡ true =
           rw same shields.opens in
           let hits = aims_hit p (lifted p.men m.from) c.args.from c.args.king aims opens in
-          c.union-bounds.ensures m.to
-          ∙ or_right (contains c.args.bounds.now.ends m.to) (contains c.answers.result m.to)
+          c.union-pins.ensures m.to
+          ∙ or_right (contains c.args.pins.now.ends m.to) (contains c.answers.result m.to)
           (ends m.to (to_in p m legal)
           (answered p m c.args.king c.args.from c.self.invariant.0 legal king one
           (ap (λ k. is_man p.side King (man_at p.men k)) at ∙ no_king) from hits.0 hits.1))

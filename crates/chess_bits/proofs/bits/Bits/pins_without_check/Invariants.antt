@@ -2,18 +2,18 @@
 -- them the king, keep the ways closed that are looked at already.
 use Rattle.std.proofs.Common.{◌≡◌, ◌<◌, ℕ, not, ◌&&◌, ◌==◌, length, true, false}
 use Rattle.chess_base.specs.Men.{man_at, is_of}
-use Rattle.chess_bits.specs.ties.Bounds.{aims_from, KeepsClosed, AreEnds}
+use Rattle.chess_bits.specs.ties.Pins.{aims_from, KeepsClosed, AreEnds}
 use Rattle.chess_moves.specs.Sets.{contains, members}
-use Rattle.chess_bits.proofs.bits.Bits.pins.Given as goal
+use Rattle.chess_bits.proofs.bits.Bits.pins_without_check.Given as goal
 
 abbrev pub invariant-loop-from : goal.invariant-loop-from
 invariant-loop-from l = record {
-  own : (a : ℕ) → a < 64 → contains l.bounds.free a ≡ true
+  own : (a : ℕ) → a < 64 → contains l.pins.free a ≡ true
       → (is_of l.self.side (man_at l.self.men a) && not (a == l.king)) ≡ true;
   aims : (b : ℕ) → b < 64 → contains l.rest b ≡ true → aims_from l.self b l.king ≡ true;
-  closed : (a b : ℕ) → a < 64 → b < 64 → contains l.bounds.free a ≡ true → aims_from l.self b l.king ≡ true
+  closed : (a b : ℕ) → a < 64 → b < 64 → contains l.pins.free a ≡ true → aims_from l.self b l.king ≡ true
       → contains l.rest b ≡ false → KeepsClosed l.self a b l.king;
-  ends : AreEnds l.self l.bounds.free l.bounds.ends;
+  ends : AreEnds l.self l.pins.free l.pins.ends;
 }
 
 abbrev pub decreases-loop-from : goal.decreases-loop-from

@@ -22,7 +22,7 @@ use Rattle.chess_base.proofs.shared.Men.{is_none-None}
 use Rattle.chess_base.proofs.shared.MoveKinds.{Moves, MoveKind, ManMoves, Castles, PawnMoves, moves_from_pattern, castles_unpromoted}
 use Rattle.chess_base.proofs.shared.Squares.{each_square-all, each_square-at, some_square-at}
 use Rattle.chess_moves.specs.Sets.{contains}
-use Rattle.chess_bits.specs.ties.Bounds.{aims_from, IsShield}
+use Rattle.chess_bits.specs.ties.Pins.{aims_from, IsShield}
 use Rattle.chess_bits.specs.ties.Goes.{lifted}
 use Rattle.chess_bits.specs.declared.line.Line.{Line}
 use Rattle.chess_bits.specs.declared.line.Line.TheVariants.{Rank, File, Diagonal, Antidiagonal}
