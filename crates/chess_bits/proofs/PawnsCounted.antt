@@ -22,7 +22,7 @@ use Rattle.chess_bits.specs.declared.table.Shape.TheVariants as shape
 use Rattle.chess_bits.specs.ties.Goes.{goes, aims_at, goes_unusually, IsFree, AreFree}
 use Rattle.chess_bits.specs.ties.Shapes.{in_shape}
 use Rattle.chess_bits.proofs.Attackers.{pawn_back}
-use Rattle.chess_bits.proofs.Freely.{IsUsual, pawn_usual}
+use Rattle.chess_bits.proofs.Freely.{IsUsual, pawn_usual, free_between}
 use Rattle.chess_bits.proofs.Listed.{none_there}
 use Rattle.chess_bits.proofs.OriginsOf.{off_lowest}
 use Rattle.chess_bits.proofs.Patterns.{pawn_goes, legal_goes}
