@@ -6,7 +6,7 @@ ghost use Rattle.chess_base.specs.Men.{man_at, is_man, same_kind};
 ghost use Rattle.chess_base.specs.MoveList.{moves};
 ghost use Rattle.chess_base.specs.Moves.{is_pseudo_legal, is_legal};
 ghost use Rattle.chess_base.specs.declared.man.Kind.TheVariants.{King, Knight, Pawn};
-ghost use Rattle.chess_bits.specs.ties.Pins.{AreEnds, EndsOn};
+ghost use Rattle.chess_bits.specs.ties.Pins.{AreEvasions, EndsOn};
 ghost use Rattle.chess_bits.specs.ties.Goes.{goes, IsFree, AreFree};
 ghost use Rattle.chess_moves.specs.shared.MovesBySquares.{moves_between, moves_from};
 ghost use Rattle.chess_moves.specs.Promoting.{would_promote};
@@ -162,7 +162,7 @@ impl Bits<'_> {
 
     // How many legal moves the piece on `from` has, given where the pieces may go.
     fn count_of(&self, from: Square, pins: &Pins) -> usize
-        requires ends { AreEnds self.now pins.now.free pins.now.ends }
+        requires evasions { AreEvasions self.now pins.now.free pins.now.evasions }
         requires few { length (moves_from self.now from) ≤ 896 }
         ensures { result ≡ length (moves_from self.now from) }
     {
@@ -174,7 +174,7 @@ impl Bits<'_> {
 
     // How many legal moves the pieces on these squares have, each looked at alone, given where the pieces may go.
     fn count_bound(&self, men: SquareSet, pins: &Pins) -> usize
-        requires ends { AreEnds self.now pins.now.free pins.now.ends }
+        requires evasions { AreEvasions self.now pins.now.free pins.now.evasions }
         requires few { length (flat_map (λ a. moves_from self.now a) (members men)) ≤ 896 }
         ensures { result ≡ length (flat_map (λ a. moves_from self.now a) (members men)) }
     {

@@ -5,7 +5,7 @@ ghost use Rattle.arrayvec.specs.ArrayVec.{array_vec_len};
 ghost use Rattle.chess_base.specs.Men.{man_at, is_man};
 ghost use Rattle.chess_base.specs.MoveList.{moves, move_of, promotions};
 ghost use Rattle.chess_base.specs.declared.man.Kind.TheVariants.{King, Pawn};
-ghost use Rattle.chess_bits.specs.ties.Pins.{AreEnds, EndsOn};
+ghost use Rattle.chess_bits.specs.ties.Pins.{AreEvasions, EndsOn};
 ghost use Rattle.chess_bits.specs.ties.Goes.{goes, goes_unusually, IsFree};
 ghost use Rattle.chess_moves.specs.shared.MovesBySquares.{moves_between, moves_from};
 ghost use Rattle.chess_moves.specs.Sets.{contains, members};
@@ -141,7 +141,7 @@ impl Bits<'_> {
 
     // Appends to `list` the legal moves of the piece on `from`, the king or another, given where the pieces may go.
     fn add_bound_moves(&self, from: Square, pins: &Pins, list: &mut MoveList)
-        requires ends { AreEnds self.now pins.now.free pins.now.ends }
+        requires evasions { AreEvasions self.now pins.now.free pins.now.evasions }
         requires room { array_vec_len list.old + length (moves_from self.now from) ≤ 896 }
         ensures { list.new.items ≡ list.old.items ++ moves_from self.now from }
     {
@@ -155,7 +155,7 @@ impl Bits<'_> {
     // Appends to `list` the legal moves of the piece on `from`, given where the pieces may go.
     fn add_moves_of(&self, from: Square, pins: &Pins, list: &mut MoveList)
         requires free { (k : ℕ) → k < 64 → contains pins.now.free k ≡ true → IsFree self.now k }
-        requires ends { AreEnds self.now pins.now.free pins.now.ends }
+        requires evasions { AreEvasions self.now pins.now.free pins.now.evasions }
         requires room { array_vec_len list.old + length (moves_from self.now from) ≤ 896 }
         ensures { list.new.items ≡ list.old.items ++ moves_from self.now from }
     {

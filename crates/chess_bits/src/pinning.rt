@@ -5,7 +5,7 @@ ghost use Rattle.chess_base.specs.Attacks.{is_in_check};
 ghost use Rattle.chess_base.specs.Men.{man_at, is_man};
 ghost use Rattle.chess_base.specs.Squares.{is_between, is_square};
 ghost use Rattle.chess_base.specs.declared.man.Kind.TheVariants.{King};
-ghost use Rattle.chess_bits.specs.ties.Pins.{aims_from, KeepsClosed, IsShield, EndsOn, AreEnds};
+ghost use Rattle.chess_bits.specs.ties.Pins.{aims_from, KeepsClosed, IsShield, EndsOn, AreEvasions};
 ghost use Rattle.chess_bits.specs.ties.Goes.{goes, IsFree};
 ghost use Rattle.chess_moves.specs.Sets.{contains};
 
@@ -22,7 +22,7 @@ pub(crate) struct Pins {
     pub(crate) free: SquareSet,
     // Squares on one of which each legal move of another piece ends: that of a piece that pins or gives check, those
     // between it and the king, and the en passant target.
-    pub(crate) ends: SquareSet,
+    pub(crate) evasions: SquareSet,
 }
 
 impl Bits<'_> {
@@ -54,7 +54,7 @@ impl Bits<'_> {
     // The squares on which a move of another piece ends that meets an attack from `from` on the king on `king`: by
     // capturing the piece there, also en passant, or by coming between them.
     #[inline(always)]
-    fn answers(&self, king: Square, from: Square) -> SquareSet
+    fn evasions(&self, king: Square, from: Square) -> SquareSet
         ensures { (k : ℕ) → k < 64 → ((is_between king from k || (k == from)) || is_square (self.now).target k) ≡ true
             → contains result k ≡ true }
     {
@@ -62,8 +62,8 @@ impl Bits<'_> {
         let _king = king.number();
         let _from = from.number();
         let between = self.tables.between(king, from);
-        let ends = between.union(SquareSet::single(from));
-        ends.union(set_of(self.setup.target))
+        let met = between.union(SquareSet::single(from));
+        met.union(set_of(self.setup.target))
     }
 
     // Takes the piece that shields the king on `king` from an enemy piece on `from`, if it alone does, out of the free
@@ -74,7 +74,7 @@ impl Bits<'_> {
         requires aims { aims_from self.now from king ≡ true }
         ensures free { (a : ℕ) → a < 64 → contains pins.new.free a ≡ true
             → (contains pins.old.free a ≡ true) × KeepsClosed self.now a from king }
-        ensures ends { AreEnds self.now pins.old.free pins.old.ends → AreEnds self.now pins.new.free pins.new.ends }
+        ensures evasions { AreEvasions self.now pins.old.free pins.old.evasions → AreEvasions self.now pins.new.free pins.new.evasions }
     {
         // The prover wants these facts: the position is sound, and the numbers of both squares are below 64.
         let _sound = &self.setup;
@@ -82,7 +82,7 @@ impl Bits<'_> {
         let _from = from.number();
         if let Some(shield) = self.shield(king, from) {
             pins.free = pins.free.without(SquareSet::single(shield));
-            pins.ends = pins.ends.union(self.answers(king, from));
+            pins.evasions = pins.evasions.union(self.evasions(king, from));
         }
     }
 
@@ -107,14 +107,14 @@ impl Bits<'_> {
         requires king { is_man (self.now).side King (man_at (self.now).men king) ≡ true }
         requires calm { is_in_check (self.now).men (self.now).side ≡ false }
         ensures free { (k : ℕ) → k < 64 → contains result.free k ≡ true → IsFree self.now k }
-        ensures ends { AreEnds self.now result.free result.ends }
+        ensures evasions { AreEvasions self.now result.free result.evasions }
     {
         // The prover wants this fact: the number of the king's square is below 64.
         let _king = king.number();
         let side = self.setup.side;
         let mut pins = Pins {
             free: self.sets.all(side).without(SquareSet::single(king)),
-            ends: SquareSet::empty(),
+            evasions: SquareSet::empty(),
         };
         let mut rest = self.aimed_at(king);
         while let Some(from) = rest.take_first() {
@@ -127,7 +127,7 @@ impl Bits<'_> {
     #[inline(always)]
     pub(crate) fn pins(&self) -> Pins
         ensures free { (k : ℕ) → k < 64 → contains result.free k ≡ true → IsFree self.now k }
-        ensures ends { AreEnds self.now result.free result.ends }
+        ensures evasions { AreEvasions self.now result.free result.evasions }
     {
         let side = self.setup.side;
         let king = self.king(side);
@@ -139,7 +139,7 @@ impl Bits<'_> {
         }
         Pins {
             free: SquareSet::empty(),
-            ends: self.answers(king, checkers.first()),
+            evasions: self.evasions(king, checkers.first()),
         }
     }
 
@@ -148,7 +148,7 @@ impl Bits<'_> {
     #[inline(always)]
     pub(crate) fn ends_of(&self, from: Square, pins: &Pins) -> SquareSet
         requires no_king { is_man (self.now).side King (man_at (self.now).men from) ≡ false }
-        requires ends { AreEnds self.now pins.now.free pins.now.ends }
+        requires evasions { AreEvasions self.now pins.now.free pins.now.evasions }
         ensures sound { (k : ℕ) → k < 64 → contains result k ≡ true → goes self.now from k ≡ true }
         ensures complete { EndsOn self.now from result }
     {
@@ -158,7 +158,7 @@ impl Bits<'_> {
         if pins.free.contains(from) {
             return targets;
         }
-        targets.intersection(pins.ends)
+        targets.intersection(pins.evasions)
     }
 
     // The pieces of the side on move that are on no rank, file or diagonal of their king, so that it is safe wherever

@@ -33,6 +33,6 @@ abbrev pub EndsOn : Setup → ℕ → ℕ → Type 0
 EndsOn p a w = (m : Move) → is_legal p m ≡ true → m.from ≡ a → contains w m.to ≡ true
 
 -- each piece outside the set `free`, but the king, goes only to squares of the set w
-abbrev pub AreEnds : Setup → ℕ → ℕ → Type 0
-AreEnds p free w =
+abbrev pub AreEvasions : Setup → ℕ → ℕ → Type 0
+AreEvasions p free w =
     (a : ℕ) → a < 64 → is_man p.side King (man_at p.men a) ≡ false → contains free a ≡ false → EndsOn p a w

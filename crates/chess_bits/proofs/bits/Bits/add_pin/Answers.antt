@@ -12,8 +12,8 @@ use Rattle.chess_bits.proofs.Pins.{aims_hit, answered, taken_out, to_in}
 use Rattle.chess_bits.proofs.OneKing.{alone, has_king}
 use Rattle.chess_bits.proofs.bits.Bits.add_pin.Goals as goal
 
-pub returns-in-Some-clause-ends : goal.returns-in-Some-clause-ends
-returns-in-Some-clause-ends c =
+pub returns-in-Some-clause-evasions : goal.returns-in-Some-clause-evasions
+returns-in-Some-clause-evasions c =
     let p = c.self.inside.setup in
     let king : c.args.king < 64 =
     subst (λ n. n < 64) c.number-king.ensures.value c.number-king.ensures.in_range in
@@ -22,7 +22,7 @@ returns-in-Some-clause-ends c =
     let here : is_man p.side King (man_at p.men c.args.king) ≡ true = rw c.self.view_is c.requires.king in
     let aims : aims_from p c.args.from c.args.king ≡ true = rw c.self.view_is c.requires.aims in
     let shields = rw (← c.self.view_is) at c.in-Some.ensures in
-    let ends = rw (← c.self.view_is) at c.answers.ensures in
+    let evasions = rw (← c.self.view_is) at c.evasions.ensures in
     let one = alone p.men p.side c.args.king c.self.invariant.0.board (has_king p p.side c.self.invariant.0) here in
     rw (← c.self.view_is)
     (λ before a low no_king outside m legal at.
@@ -30,7 +30,7 @@ returns-in-Some-clause-ends c =
     (c.without-pins.ensures a low) outside) [
       | inl off ↦
           c.union-pins.ensures m.to
-          ∙ or_left (contains c.args.pins.now.ends m.to) (contains c.answers.result m.to)
+          ∙ or_left (contains c.args.pins.now.evasions m.to) (contains c.evasions.result m.to)
           (before a low no_king off m legal at)
       | inr taken ↦
           let same : m.from ≡ c.in-Some.shield =
@@ -39,8 +39,8 @@ returns-in-Some-clause-ends c =
           rw same shields.opens in
           let hits = aims_hit p (lifted p.men m.from) c.args.from c.args.king aims opens in
           c.union-pins.ensures m.to
-          ∙ or_right (contains c.args.pins.now.ends m.to) (contains c.answers.result m.to)
-          (ends m.to (to_in p m legal)
+          ∙ or_right (contains c.args.pins.now.evasions m.to) (contains c.evasions.result m.to)
+          (evasions m.to (to_in p m legal)
           (answered p m c.args.king c.args.from c.self.invariant.0 legal king one
           (ap (λ k. is_man p.side King (man_at p.men k)) at ∙ no_king) from hits.0 hits.1))
     ])

@@ -26,8 +26,8 @@ pins_without_check-requires-clause-calm c =
     ∙ sym (attacked_is c.attackers-checkers.result p.men king (other p.side) gives)
     ∙ ap not (sym c.is_empty.ensures.none ∙ c.if-is_empty.true))
 
-pub returns-clause-ends : goal.returns-clause-ends
-returns-clause-ends c =
+pub returns-clause-evasions : goal.returns-clause-evasions
+returns-clause-evasions c =
     let p = c.self.inside.setup in
     let king = c.king-king.result in
     let one = rw (← c.self.view_is) at c.king-king.ensures.alone in
@@ -37,10 +37,10 @@ returns-clause-ends c =
     rw (← c.other-by.ensures)
     (λ k low. c.attackers-checkers.ensures p.men (c.occupied.ensures p.men c.self.invariant.1) k low
     (λ kind. kinds.of_kind kind k low)) in
-    let ends = rw (← c.self.view_is) at c.answers.ensures in
+    let evasions = rw (← c.self.view_is) at c.evasions.ensures in
     rw (← c.self.view_is)
     (λ a low no_king outside m legal at.
-    ends m.to (to_in p m legal)
+    evasions m.to (to_in p m legal)
     (check_met p m king c.first.result c.self.invariant.0 legal c.king-king.ensures.in_range one
     (ap (λ k. is_man p.side King (man_at p.men k)) at ∙ no_king) c.first.ensures.in_range
     (sym (gives c.first.result c.first.ensures.in_range) ∙ c.first.ensures.nearest.here)))

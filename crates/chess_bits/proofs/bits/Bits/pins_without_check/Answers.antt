@@ -31,7 +31,7 @@ loop-from-init c =
       own = λ a low h. sym (own a low) ∙ h;
       aims = λ b low h. sym (aims b low) ∙ h;
       closed = λ a b la lb h aimed off. absurd (both_ways (contains c.aimed_at-rest.result b) off (aims b lb ∙ aimed));
-      ends = λ a low no_king outside m legal at.
+      evasions = λ a low no_king outside m legal at.
           absurd
           (both_ways (contains c.without.result a) outside
           (own a low
@@ -62,7 +62,7 @@ loop-from-preserved c =
             | inl same ↦ subst (λ s. KeepsClosed p a s king) (eqb-true from b same) (c.add_pin.ensures.free a la h).1
             | inr apart ↦ before.closed a b la lb (c.add_pin.ensures.free a la h).0 aimed (rest b lb ∙ rw (apart, off) refl)
           ];
-      ends = c.add_pin.ensures.ends before.ends;
+      evasions = c.add_pin.ensures.evasions before.evasions;
     }
 
 pub returns-clause-free : goal.returns-clause-free

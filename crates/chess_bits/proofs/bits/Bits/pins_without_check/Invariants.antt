@@ -2,7 +2,7 @@
 -- them the king, keep the ways closed that are looked at already.
 use Rattle.std.proofs.Common.{◌≡◌, ◌<◌, ℕ, not, ◌&&◌, ◌==◌, length, true, false}
 use Rattle.chess_base.specs.Men.{man_at, is_of}
-use Rattle.chess_bits.specs.ties.Pins.{aims_from, KeepsClosed, AreEnds}
+use Rattle.chess_bits.specs.ties.Pins.{aims_from, KeepsClosed, AreEvasions}
 use Rattle.chess_moves.specs.Sets.{contains, members}
 use Rattle.chess_bits.proofs.bits.Bits.pins_without_check.Given as goal
 
@@ -13,7 +13,7 @@ invariant-loop-from l = record {
   aims : (b : ℕ) → b < 64 → contains l.rest b ≡ true → aims_from l.self b l.king ≡ true;
   closed : (a b : ℕ) → a < 64 → b < 64 → contains l.pins.free a ≡ true → aims_from l.self b l.king ≡ true
       → contains l.rest b ≡ false → KeepsClosed l.self a b l.king;
-  ends : AreEnds l.self l.pins.free l.pins.ends;
+  evasions : AreEvasions l.self l.pins.free l.pins.evasions;
 }
 
 abbrev pub decreases-loop-from : goal.decreases-loop-from

@@ -4,7 +4,7 @@ use Rattle.std.proofs.lemmas.Bool.{or_cases, or_left, or_right}
 use Rattle.chess_base.specs.Squares.{is_between, is_square}
 use Rattle.chess_moves.specs.Sets.{contains}
 use Rattle.chess_bits.proofs.Pins.{line_between}
-use Rattle.chess_bits.proofs.bits.Bits.answers.Goals as goal
+use Rattle.chess_bits.proofs.bits.Bits.evasions.Goals as goal
 
 pub returns : goal.returns
 returns c = λ k low h.
@@ -17,11 +17,11 @@ returns c = λ k low h.
     c.union.ensures k
     ∙ elim
     (or_cases (is_between c.args.king c.args.from k || (k == c.args.from)) (is_square c.args.self.now.target k) h) [
-      | inr passing ↦ or_right (contains c.union-ends.result k) (contains c.set_of.result k)
+      | inr passing ↦ or_right (contains c.union-met.result k) (contains c.set_of.result k)
           (target ∙ passing)
       | inl near ↦
-          or_left (contains c.union-ends.result k) (contains c.set_of.result k)
-          (c.union-ends.ensures k
+          or_left (contains c.union-met.result k) (contains c.set_of.result k)
+          (c.union-met.ensures k
           ∙ elim (or_cases (is_between c.args.king c.args.from k) (k == c.args.from) near) [
             | inl inside ↦
                 let line = line_between c.args.king c.args.from k king from low inside in
