@@ -89,7 +89,7 @@ impl Bits<'_> {
     // Enemy queens, rooks and bishops that would attack the king on `king` if nothing were between them.
     #[inline(always)]
     #[tactic(auto, unfolding(crate::specs::ties::Shapes::in_shape))]
-    fn aimed_at(&self, king: Square) -> SquareSet
+    fn pinners(&self, king: Square) -> SquareSet
         ensures { (b : ℕ) → b < 64 → contains result b ≡ aims_from self.now b king }
     {
         let _king = king.number();
@@ -116,7 +116,7 @@ impl Bits<'_> {
             free: self.sets.all(side).without(SquareSet::single(king)),
             evasions: SquareSet::empty(),
         };
-        let mut rest = self.aimed_at(king);
+        let mut rest = self.pinners(king);
         while let Some(from) = rest.take_first() {
             self.add_pin(king, from, &mut pins);
         }
