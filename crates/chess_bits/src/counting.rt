@@ -169,7 +169,7 @@ impl Bits<'_> {
         if is_man(self.setup.side, Kind::King, self.setup.men[from.index()]) {
             return self.count_king(from);
         }
-        self.count_to(from, self.ends_of(from, pins))
+        self.count_to(from, self.allowed_targets(from, pins))
     }
 
     // How many legal moves the pieces on these squares have, each looked at alone, given where the pieces may go.

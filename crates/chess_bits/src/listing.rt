@@ -148,7 +148,7 @@ impl Bits<'_> {
         if is_man(self.setup.side, Kind::King, self.setup.men[from.index()]) {
             self.add_king_moves(from, list);
         } else {
-            self.add_moves_to(from, self.ends_of(from, pins), list);
+            self.add_moves_to(from, self.allowed_targets(from, pins), list);
         }
     }
 

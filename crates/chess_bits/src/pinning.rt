@@ -146,7 +146,7 @@ impl Bits<'_> {
     // The squares of a set that has the ends of the legal moves of the piece on `from`, which is no king, given where the
     // pieces may go. For each of them some move of the piece there is pseudo-legal.
     #[inline(always)]
-    pub(crate) fn ends_of(&self, from: Square, pins: &Pins) -> SquareSet
+    pub(crate) fn allowed_targets(&self, from: Square, pins: &Pins) -> SquareSet
         requires no_king { is_man (self.now).side King (man_at (self.now).men from) ≡ false }
         requires evasions { AreEvasions self.now pins.now.free pins.now.evasions }
         ensures sound { (k : ℕ) → k < 64 → contains result k ≡ true → goes self.now from k ≡ true }
