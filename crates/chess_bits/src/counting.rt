@@ -268,7 +268,7 @@ impl Bits<'_> {
         // The prover wants this fact: the position is sound, so its legal moves fit into a list.
         let _sound = self.setup();
         let men = self.sets.of(self.setup.side);
-        let free = self.men_off_lines();
+        let free = self.surely_unpinned();
         let knights = men.of(Kind::Knight);
         let pawns = men.of(Kind::Pawn);
         if self.has_knight_move(knights.intersection(free)) {

@@ -164,7 +164,7 @@ impl Bits<'_> {
     // The pieces of the side on move that are on no rank, file or diagonal of their king, so that it is safe wherever
     // they go; none if it is in check. They are found sooner than all that `pins` gives.
     #[tactic(auto, unfolding(crate::specs::ties::Shapes::in_shape))]
-    pub(crate) fn men_off_lines(&self) -> SquareSet
+    pub(crate) fn surely_unpinned(&self) -> SquareSet
         ensures { (k : ℕ) → k < 64 → contains result k ≡ true → IsFree self.now k }
     {
         if self.in_check() {

@@ -8,7 +8,7 @@ use Rattle.chess_moves.specs.Sets.{contains}
 use Rattle.chess_bits.specs.ties.Shapes.{in_shape}
 use Rattle.chess_bits.proofs.Freely.{freed}
 use Rattle.chess_bits.proofs.Shields.{off_line, off_diagonal, off_shape}
-use Rattle.chess_bits.proofs.bits.Bits.men_off_lines.Goals as goal
+use Rattle.chess_bits.proofs.bits.Bits.surely_unpinned.Goals as goal
 
 pub returns-then-in_check : goal.returns-then-in_check
 returns-then-in_check c = λ k low h. absurd (both_ways (contains c.empty.result k) (c.empty.ensures k) h)
