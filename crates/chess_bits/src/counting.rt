@@ -173,7 +173,7 @@ impl Bits<'_> {
     }
 
     // How many legal moves the pieces on these squares have, each looked at alone, given where the pieces may go.
-    fn count_bound(&self, men: SquareSet, pins: &Pins) -> usize
+    fn count_pinned(&self, men: SquareSet, pins: &Pins) -> usize
         requires evasions { AreEvasions self.now pins.now.free pins.now.evasions }
         requires few { length (flat_map (λ a. moves_from self.now a) (members men)) ≤ 896 }
         ensures { result ≡ length (flat_map (λ a. moves_from self.now a) (members men)) }
@@ -201,7 +201,7 @@ impl Bits<'_> {
         let bishops = self.count_kind(Kind::Bishop, free, &mut men);
         let rooks = self.count_kind(Kind::Rook, free, &mut men);
         let queens = self.count_kind(Kind::Queen, free, &mut men);
-        let others = self.count_bound(men, &pins);
+        let others = self.count_pinned(men, &pins);
         pawns + knights + bishops + rooks + queens + others
     }
 

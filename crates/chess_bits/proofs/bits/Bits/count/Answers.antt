@@ -95,8 +95,8 @@ count_kind-queens-requires-clause-few c =
     c.count_kind-rooks.ensures in
     omega (arith, fits, all, pawns, knights, bishops, rooks)
 
-pub count_bound-others-requires-clause-few : goal.count_bound-others-requires-clause-few
-count_bound-others-requires-clause-few c =
+pub count_pinned-others-requires-clause-few : goal.count_pinned-others-requires-clause-few
+count_pinned-others-requires-clause-few c =
     let own : (k : ℕ) → k < 64 → contains c.all-men.result k ≡ is_of c.args.self.now.side (man_at c.args.self.now.men k) =
     rw (← c.self.view_is) (c.all-men.ensures c.self.inside.setup.men c.self.invariant.1) in
     let all : length (flat_map (λ a. moves_from c.args.self.now a) (members c.all-men.result))
@@ -151,9 +151,9 @@ overflow_add-result c =
     (flat_map (λ a. moves_from c.args.self.now a) (members c.count_kind-queens.new.men))
     ≡ length (flat_map (λ a. moves_from c.args.self.now a) (members c.count_kind-rooks.new.men)) =
     c.count_kind-queens.ensures in
-    let others : c.count_bound-others.result
+    let others : c.count_pinned-others.result
     ≡ length (flat_map (λ a. moves_from c.args.self.now a) (members c.count_kind-queens.new.men)) =
-    c.count_bound-others.ensures in
+    c.count_pinned-others.ensures in
     omega (arith, fits, all, pawns, knights, bishops, rooks, queens, others)
 
 pub overflow_add-result-2 : goal.overflow_add-result-2
@@ -183,9 +183,9 @@ overflow_add-result-2 c =
     (flat_map (λ a. moves_from c.args.self.now a) (members c.count_kind-queens.new.men))
     ≡ length (flat_map (λ a. moves_from c.args.self.now a) (members c.count_kind-rooks.new.men)) =
     c.count_kind-queens.ensures in
-    let others : c.count_bound-others.result
+    let others : c.count_pinned-others.result
     ≡ length (flat_map (λ a. moves_from c.args.self.now a) (members c.count_kind-queens.new.men)) =
-    c.count_bound-others.ensures in
+    c.count_pinned-others.ensures in
     omega (arith, fits, all, pawns, knights, bishops, rooks, queens, others)
 
 pub overflow_add-result-3 : goal.overflow_add-result-3
@@ -215,9 +215,9 @@ overflow_add-result-3 c =
     (flat_map (λ a. moves_from c.args.self.now a) (members c.count_kind-queens.new.men))
     ≡ length (flat_map (λ a. moves_from c.args.self.now a) (members c.count_kind-rooks.new.men)) =
     c.count_kind-queens.ensures in
-    let others : c.count_bound-others.result
+    let others : c.count_pinned-others.result
     ≡ length (flat_map (λ a. moves_from c.args.self.now a) (members c.count_kind-queens.new.men)) =
-    c.count_bound-others.ensures in
+    c.count_pinned-others.ensures in
     omega (arith, fits, all, pawns, knights, bishops, rooks, queens, others)
 
 pub overflow_add-result-4 : goal.overflow_add-result-4
@@ -247,9 +247,9 @@ overflow_add-result-4 c =
     (flat_map (λ a. moves_from c.args.self.now a) (members c.count_kind-queens.new.men))
     ≡ length (flat_map (λ a. moves_from c.args.self.now a) (members c.count_kind-rooks.new.men)) =
     c.count_kind-queens.ensures in
-    let others : c.count_bound-others.result
+    let others : c.count_pinned-others.result
     ≡ length (flat_map (λ a. moves_from c.args.self.now a) (members c.count_kind-queens.new.men)) =
-    c.count_bound-others.ensures in
+    c.count_pinned-others.ensures in
     omega (arith, fits, all, pawns, knights, bishops, rooks, queens, others)
 
 pub overflow_add-result-5 : goal.overflow_add-result-5
@@ -279,9 +279,9 @@ overflow_add-result-5 c =
     (flat_map (λ a. moves_from c.args.self.now a) (members c.count_kind-queens.new.men))
     ≡ length (flat_map (λ a. moves_from c.args.self.now a) (members c.count_kind-rooks.new.men)) =
     c.count_kind-queens.ensures in
-    let others : c.count_bound-others.result
+    let others : c.count_pinned-others.result
     ≡ length (flat_map (λ a. moves_from c.args.self.now a) (members c.count_kind-queens.new.men)) =
-    c.count_bound-others.ensures in
+    c.count_pinned-others.ensures in
     omega (arith, fits, all, pawns, knights, bishops, rooks, queens, others)
 
 pub returns : goal.returns
@@ -311,7 +311,7 @@ returns c =
     (flat_map (λ a. moves_from c.args.self.now a) (members c.count_kind-queens.new.men))
     ≡ length (flat_map (λ a. moves_from c.args.self.now a) (members c.count_kind-rooks.new.men)) =
     c.count_kind-queens.ensures in
-    let others : c.count_bound-others.result
+    let others : c.count_pinned-others.result
     ≡ length (flat_map (λ a. moves_from c.args.self.now a) (members c.count_kind-queens.new.men)) =
-    c.count_bound-others.ensures in
+    c.count_pinned-others.ensures in
     omega (arith, fits, all, pawns, knights, bishops, rooks, queens, others)
