@@ -149,7 +149,7 @@ impl Bits<'_> {
     // Whether the pseudo-legal move from `from` to `to` without a promotion is legal. It is not the king's and not en
     // passant, so only its two squares change.
     #[inline(always)]
-    pub(crate) fn is_safe_usual(&self, from: Square, to: Square) -> bool
+    pub(crate) fn is_safe_plain(&self, from: Square, to: Square) -> bool
         requires { StepsPlainly self.now (move_of from to None) }
         ensures { result ≡ is_legal self.now (move_of from to None) }
     {

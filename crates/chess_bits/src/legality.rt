@@ -57,7 +57,7 @@ impl Bits<'_> {
         if !self.steps(kind, from).contains(to) {
             return false;
         }
-        self.is_safe_usual(from, to)
+        self.is_safe_plain(from, to)
     }
 
     // Whether the move `m` is legal; the piece on its start square is a queen, rook, bishop or knight of this kind.
@@ -132,7 +132,7 @@ impl Bits<'_> {
         let mut starts = SquareSet::empty();
         let mut rest = men;
         while let Some(from) = rest.take_first() {
-            if self.is_safe_usual(from, to) {
+            if self.is_safe_plain(from, to) {
                 starts = starts.union(SquareSet::single(from));
             }
         }
