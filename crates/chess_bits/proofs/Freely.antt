@@ -65,13 +65,13 @@ free_is_legal p a b king sound free low there one go stays no_passing =
 -- ---- what is no pawn, and pawns that neither promote nor take en passant
 
 -- no move of the piece on a promotes or takes en passant
-pub record IsUsual (p : Setup) (a : ℕ) : Type 0 where
+pub record IsOrdinary (p : Setup) (a : ℕ) : Type 0 where
   pub stays : (b : ℕ) → b < 64 → goes p a b ≡ true → would_promote p a b ≡ false
   pub passes : (b : ℕ) → is_en_passant p (move_of a b None) ≡ false
 
-pub no_pawn_usual : (p : Setup) (a : ℕ) → is_man p.side Pawn (man_at p.men a) ≡ false → IsUsual p a
+pub no_pawn_ordinary : (p : Setup) (a : ℕ) → is_man p.side Pawn (man_at p.men a) ≡ false → IsOrdinary p a
 unfolding would_promote is_en_passant
-no_pawn_usual p a no_pawn = record { stays = λ b low go. rw no_pawn refl; passes = λ b. rw no_pawn refl }
+no_pawn_ordinary p a no_pawn = record { stays = λ b low go. rw no_pawn refl; passes = λ b. rw no_pawn refl }
 
 advance_stays : (c : Colour) (a b : ℕ) → 8 ≤ a → a < 64 → (rank a ≡ pawn_rank (other c) → ⊥)
     → (b ≡ forward c a) ⊎ ((rank a ≡ pawn_rank c) × (b ≡ forward c (forward c a)))
@@ -105,10 +105,10 @@ not_taken p a b (Some t) pawn off =
       | inr apart ↦ and_right (is_man p.side Pawn (man_at p.men a) && attacks p.men a b) (t == b) apart
     ]
 
-pub pawn_usual : (p : Setup) (a : ℕ) → IsSound p → a < 64 → is_man p.side Pawn (man_at p.men a) ≡ true
-    → aims_at p.target p.side a ≡ false → (rank a ≡ pawn_rank (other p.side) → ⊥) → IsUsual p a
+pub pawn_ordinary : (p : Setup) (a : ℕ) → IsSound p → a < 64 → is_man p.side Pawn (man_at p.men a) ≡ true
+    → aims_at p.target p.side a ≡ false → (rank a ≡ pawn_rank (other p.side) → ⊥) → IsOrdinary p a
 unfolding would_promote is_en_passant no_pawn_on_end_ranks pawn_captures
-pawn_usual p a sound low pawn no_target off = record {
+pawn_ordinary p a sound low pawn no_target off = record {
   stays = λ b high go. and_right (is_man p.side Pawn (man_at p.men a)) (rank b == first_rank (other p.side))
       (ne_eqb (rank b) (first_rank (other p.side)) (last b high go));
   passes = λ b. not_taken p a b p.target pawn no_target;
@@ -128,48 +128,48 @@ pawn_usual p a sound low pawn no_target off = record {
         ]
 
 -- as the code computes it
-pub usual_from : (p : Setup) (a : ℕ) → IsSound p → a < 64
+pub ordinary_from : (p : Setup) (a : ℕ) → IsSound p → a < 64
     → (is_man p.side Pawn (man_at p.men a) && (aims_at p.target p.side a || (rank a == pawn_rank (other p.side))))
-    ≡ false → IsUsual p a
-usual_from p a sound low h = by (is_man p.side Pawn (man_at p.men a)) refl h
+    ≡ false → IsOrdinary p a
+ordinary_from p a sound low h = by (is_man p.side Pawn (man_at p.men a)) refl h
   where
     by : (b : Bool) → is_man p.side Pawn (man_at p.men a) ≡ b
-        → (b && (aims_at p.target p.side a || (rank a == pawn_rank (other p.side)))) ≡ false → IsUsual p a
-    by false e g = no_pawn_usual p a e
+        → (b && (aims_at p.target p.side a || (rank a == pawn_rank (other p.side)))) ≡ false → IsOrdinary p a
+    by false e g = no_pawn_ordinary p a e
     by true e g =
         let neither = or_parts (aims_at p.target p.side a) (rank a == pawn_rank (other p.side)) g in
-        pawn_usual p a sound low e neither.0 (λ same. both_ways (rank a == pawn_rank (other p.side)) neither.1
+        pawn_ordinary p a sound low e neither.0 (λ same. both_ways (rank a == pawn_rank (other p.side)) neither.1
         (eq-eqb (rank a) (pawn_rank (other p.side)) same))
 
 -- ---- so each square is the end of one legal move
 
-pub free_between : (p : Setup) (a b king : ℕ) → IsSound p → IsFree p a → IsUsual p a → a < 64 → b < 64 → king < 64
+pub free_between : (p : Setup) (a b king : ℕ) → IsSound p → IsFree p a → IsOrdinary p a → a < 64 → b < 64 → king < 64
     → ((k : ℕ) → k < 64 → is_man p.side King (man_at p.men k) ≡ (k == king)) → goes p a b ≡ true
     → moves_between p a b ≡ move_of a b None ∷ []
-free_between p a b king sound free usual low high there one go =
-    let stays = usual.stays b high go in
+free_between p a b king sound free ordinary low high there one go =
+    let stays = ordinary.stays b high go in
     one_between p a b stays
     ∙ ap (λ t. cond t (move_of a b None ∷ []) [])
-    (free_is_legal p a b king sound free low there one go stays (usual.passes b))
+    (free_is_legal p a b king sound free low there one go stays (ordinary.passes b))
 
-pub free_listed : (p : Setup) (a king w : ℕ) → IsSound p → IsFree p a → IsUsual p a → a < 64 → king < 64
+pub free_listed : (p : Setup) (a king w : ℕ) → IsSound p → IsFree p a → IsOrdinary p a → a < 64 → king < 64
     → ((k : ℕ) → k < 64 → is_man p.side King (man_at p.men k) ≡ (k == king))
     → ((k : ℕ) → k < 64 → contains w k ≡ true → goes p a k ≡ true)
     → ((m : Move) → is_legal p m ≡ true → m.from ≡ a → contains w m.to ≡ true)
     → moves_from p a ≡ map (λ b. move_of a b None) (members w)
-free_listed p a king w sound free usual low there one sets all =
+free_listed p a king w sound free ordinary low there one sets all =
     sym (from_targets p a w all)
     ∙ all_ones (λ b. moves_between p a b) (λ b. move_of a b None) (members w)
     (each_member w (λ b. moves_between p a b ≡ move_of a b None ∷ [])
-    (λ b high h. free_between p a b king sound free usual low high there one (sets b high h)))
+    (λ b high h. free_between p a b king sound free ordinary low high there one (sets b high h)))
 
-pub free_counted : (p : Setup) (a king w : ℕ) → IsSound p → IsFree p a → IsUsual p a → a < 64 → king < 64
+pub free_counted : (p : Setup) (a king w : ℕ) → IsSound p → IsFree p a → IsOrdinary p a → a < 64 → king < 64
     → ((k : ℕ) → k < 64 → is_man p.side King (man_at p.men k) ≡ (k == king))
     → ((k : ℕ) → k < 64 → contains w k ≡ true → goes p a k ≡ true)
     → ((m : Move) → is_legal p m ≡ true → m.from ≡ a → contains w m.to ≡ true)
     → length (members w) ≡ length (moves_from p a)
-free_counted p a king w sound free usual low there one sets all =
-    sym (ap length (free_listed p a king w sound free usual low there one sets all)
+free_counted p a king w sound free ordinary low there one sets all =
+    sym (ap length (free_listed p a king w sound free ordinary low there one sets all)
     ∙ length-map (members w) (λ b. move_of a b None))
 
 -- ---- the set of the free pieces

@@ -87,10 +87,10 @@ impl Bits<'_> {
         requires few { length (flat_map (λ a. moves_from self.now a) (members men)) ≤ 896 }
         ensures { result ≡ length (flat_map (λ a. moves_from self.now a) (members men)) }
     {
-        let squares = self.unusual_squares();
-        let unusual = men.intersection(squares);
-        let usual = men.without(squares);
-        self.count_usual_pawns(usual) + self.count_each(unusual)
+        let squares = self.special_squares();
+        let special = men.intersection(squares);
+        let ordinary = men.without(squares);
+        self.count_ordinary_pawns(ordinary) + self.count_each(special)
     }
 
     // How many legal moves the piece on `from`, a queen, rook, bishop or knight of this kind, has. It is free: its king
@@ -262,7 +262,7 @@ impl Bits<'_> {
 
     // A quick test for a legal move: true only if the king is not in check, and a knight or pawn on no rank, file or
     // diagonal of the king has a legal move. If it is false, there may be a legal move all the same.
-    fn has_usual_move(&self) -> bool
+    fn has_easy_move(&self) -> bool
         ensures { result ≡ true → nat_lt 0 (length (moves self.now)) ≡ true }
     {
         // The prover wants this fact: the position is sound, so its legal moves fit into a list.
@@ -282,7 +282,7 @@ impl Bits<'_> {
     pub(crate) fn has_move(&self) -> bool
         ensures { result ≡ nat_lt 0 (length (moves self.now)) }
     {
-        if self.has_usual_move() {
+        if self.has_easy_move() {
             return true;
         }
         let side = self.setup.side;

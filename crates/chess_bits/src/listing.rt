@@ -6,7 +6,7 @@ ghost use Rattle.chess_base.specs.Men.{man_at, is_man};
 ghost use Rattle.chess_base.specs.MoveList.{moves, move_of, promotions};
 ghost use Rattle.chess_base.specs.declared.man.Kind.TheVariants.{King, Pawn};
 ghost use Rattle.chess_bits.specs.ties.Pins.{AreEvasions, EndsOn};
-ghost use Rattle.chess_bits.specs.ties.Goes.{goes, goes_unusually, IsFree};
+ghost use Rattle.chess_bits.specs.ties.Goes.{goes, goes_specially, IsFree};
 ghost use Rattle.chess_moves.specs.shared.MovesBySquares.{moves_between, moves_from};
 ghost use Rattle.chess_moves.specs.Sets.{contains, members};
 
@@ -104,9 +104,9 @@ impl Bits<'_> {
 
     // Appends to `list` the legal moves of the piece on `from`. It is free (its king is safe wherever it goes), and no
     // pawn that may promote or take en passant, so each of its end squares gives one move.
-    fn add_usual_moves(&self, from: Square, list: &mut MoveList)
+    fn add_ordinary_moves(&self, from: Square, list: &mut MoveList)
         requires free { IsFree self.now from }
-        requires usual { (is_man (self.now).side Pawn (man_at (self.now).men from) && goes_unusually self.now from)
+        requires ordinary { (is_man (self.now).side Pawn (man_at (self.now).men from) && goes_specially self.now from)
             ≡ false }
         requires room { array_vec_len list.old + length (moves_from self.now from) ≤ 896 }
         ensures { list.new.items ≡ list.old.items ++ moves_from self.now from }
@@ -123,10 +123,10 @@ impl Bits<'_> {
         requires room { array_vec_len list.old + length (moves_from self.now from) ≤ 896 }
         ensures { list.new.items ≡ list.old.items ++ moves_from self.now from }
     {
-        if self.is_unusual(from) {
+        if self.is_special(from) {
             self.add_moves_from(from, list);
         } else {
-            self.add_usual_moves(from, list);
+            self.add_ordinary_moves(from, list);
         }
     }
 

@@ -7,7 +7,7 @@ ghost use Rattle.chess_base.specs.MoveList.{move_of};
 ghost use Rattle.chess_base.specs.Moves.{pawn_advances, pawn_captures};
 ghost use Rattle.chess_base.specs.Squares.{file};
 ghost use Rattle.chess_base.specs.declared.man.Kind.TheVariants.{Pawn};
-ghost use Rattle.chess_bits.specs.ties.Goes.{AreFree, goes_unusually};
+ghost use Rattle.chess_bits.specs.ties.Goes.{AreFree, goes_specially};
 ghost use Rattle.chess_moves.specs.shared.MovesBySquares.{moves_from};
 ghost use Rattle.chess_moves.specs.Sets.{contains, members};
 
@@ -86,8 +86,8 @@ impl Bits<'_> {
     // The squares from which a pawn of the side on move may promote or take en passant: those of the rank before its
     // last one, and those from which it attacks the en passant target.
     #[tactic(auto, using(crate::proofs::PawnsCounted::aims_back))]
-    pub(crate) fn unusual_squares(&self) -> SquareSet
-        ensures { (k : ℕ) → k < 64 → contains result k ≡ goes_unusually self.now k }
+    pub(crate) fn special_squares(&self) -> SquareSet
+        ensures { (k : ℕ) → k < 64 → contains result k ≡ goes_specially self.now k }
     {
         let theirs = self.setup.side.other();
         let last = SquareSet::of_rank(pawn_rank(theirs));
@@ -98,21 +98,21 @@ impl Bits<'_> {
     }
 
     // Whether on `from` is a pawn of the side on move that may promote or take en passant.
-    pub(crate) fn is_unusual(&self, from: Square) -> bool
-        ensures { result ≡ (is_man (self.now).side Pawn (man_at (self.now).men from) && goes_unusually self.now from) }
+    pub(crate) fn is_special(&self, from: Square) -> bool
+        ensures { result ≡ (is_man (self.now).side Pawn (man_at (self.now).men from) && goes_specially self.now from) }
     {
         // The prover wants this fact: the start's number is below 64.
         let _start = from.number();
         is_man(self.setup.side, Kind::Pawn, self.setup.men[from.index()])
-            && self.unusual_squares().contains(from)
+            && self.special_squares().contains(from)
     }
 
     // How many legal moves these pawns have. They are free (their king is safe wherever they go), and none may promote
     // or take en passant. Each has a move for each way open to it: one or two squares ahead, a capture to the left or
     // right.
-    pub(crate) fn count_usual_pawns(&self, pawns: SquareSet) -> usize
+    pub(crate) fn count_ordinary_pawns(&self, pawns: SquareSet) -> usize
         requires free { AreFree self.now Pawn pawns }
-        requires usual { (k : ℕ) → k < 64 → contains pawns k ≡ true → goes_unusually self.now k ≡ false }
+        requires ordinary { (k : ℕ) → k < 64 → contains pawns k ≡ true → goes_specially self.now k ≡ false }
         ensures { result ≡ length (flat_map (λ a. moves_from self.now a) (members pawns)) }
     {
         // The prover wants these facts: the position is sound, and the king is on one square alone.

@@ -7,8 +7,8 @@ use Rattle.chess_bits.proofs.Counted.{some_of}
 use Rattle.chess_bits.proofs.Listed.{from_men}
 use Rattle.chess_bits.proofs.bits.Bits.has_move.Goals as goal
 
-pub returns-then-has_usual_move : goal.returns-then-has_usual_move
-returns-then-has_usual_move c = sym (c.has_usual_move.ensures c.if-has_usual_move.true)
+pub returns-then-has_easy_move : goal.returns-then-has_easy_move
+returns-then-has_easy_move c = sym (c.has_easy_move.ensures c.if-has_easy_move.true)
 
 pub returns-then-has_king_move : goal.returns-then-has_king_move
 returns-then-has_king_move c = some_of c.args.self.now c.of-kings.result

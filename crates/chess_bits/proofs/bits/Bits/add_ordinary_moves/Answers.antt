@@ -3,17 +3,17 @@
 use Rattle.std.proofs.Common.{◌<◌, ◌++◌, List, sym, ap, subst, ◌∙◌, arith}
 use Rattle.chess_base.specs.declared.man.Move.{Move}
 use Rattle.chess_base.specs.Sound.{IsSound}
-use Rattle.chess_bits.proofs.Freely.{usual_from, free_counted, free_listed}
-use Rattle.chess_bits.proofs.bits.Bits.add_usual_moves.Goals as goal
+use Rattle.chess_bits.proofs.Freely.{ordinary_from, free_counted, free_listed}
+use Rattle.chess_bits.proofs.bits.Bits.add_ordinary_moves.Goals as goal
 
 pub add_moves_onto-requires : goal.add_moves_onto-requires
 add_moves_onto-requires c =
     let p = c.args.self.now in
     let low : c.args.from < 64 = subst (λ n. n < 64) c.number-start.ensures.value c.number-start.ensures.in_range in
     let sound : IsSound p = rw (← c.self.view_is) c.self.invariant.0 in
-    let usual = usual_from p c.args.from sound low c.requires.usual in
+    let ordinary = ordinary_from p c.args.from sound low c.requires.ordinary in
     let alone = rw c.self.view_is at c.king-king.ensures.alone in
-    let counted = free_counted p c.args.from c.king-king.result c.targets.result sound c.requires.free usual low
+    let counted = free_counted p c.args.from c.king-king.result c.targets.result sound c.requires.free ordinary low
     c.king-king.ensures.in_range alone c.targets.ensures.sound c.targets.ensures.complete in
     omega (arith, counted, c.requires.room)
 
@@ -22,9 +22,9 @@ returns c =
     let p = c.args.self.now in
     let low : c.args.from < 64 = subst (λ n. n < 64) c.number-start.ensures.value c.number-start.ensures.in_range in
     let sound : IsSound p = rw (← c.self.view_is) c.self.invariant.0 in
-    let usual = usual_from p c.args.from sound low c.requires.usual in
+    let ordinary = ordinary_from p c.args.from sound low c.requires.ordinary in
     let alone = rw c.self.view_is at c.king-king.ensures.alone in
     c.add_moves_onto.ensures
     ∙ ap (λ (ms : List Move). c.args.list.now.items ++ ms)
-    (sym (free_listed p c.args.from c.king-king.result c.targets.result sound c.requires.free usual low
+    (sym (free_listed p c.args.from c.king-king.result c.targets.result sound c.requires.free ordinary low
     c.king-king.ensures.in_range alone c.targets.ensures.sound c.targets.ensures.complete))

@@ -1,7 +1,7 @@
 -- The legal moves of some pieces are among all legal moves (some_of of Counted), and so fit into a list (some_fit).
 use Rattle.std.proofs.Common.{nat_lt, sym, ap, ◌∙◌}
 use Rattle.chess_bits.proofs.Counted.{some_fit, some_of}
-use Rattle.chess_bits.proofs.bits.Bits.has_usual_move.Goals as goal
+use Rattle.chess_bits.proofs.bits.Bits.has_easy_move.Goals as goal
 
 pub returns-then-has_knight_move : goal.returns-then-has_knight_move
 returns-then-has_knight_move c = λ _.

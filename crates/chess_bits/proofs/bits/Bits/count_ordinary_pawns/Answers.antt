@@ -5,16 +5,16 @@ use Rattle.chess_base.specs.declared.man.Kind.TheVariants.{Pawn}
 use Rattle.chess_base.specs.Men.{man_at, is_of}
 use Rattle.chess_base.specs.Squares.{rank}
 use Rattle.chess_moves.specs.Sets.{contains, members}
-use Rattle.chess_bits.specs.ties.Goes.{goes_unusually, AreFree}
+use Rattle.chess_bits.specs.ties.Goes.{goes_specially, AreFree}
 use Rattle.chess_bits.proofs.PawnsCounted.{AreSets, members_fit, summed, ways_are, pawns_counted}
-use Rattle.chess_bits.proofs.bits.Bits.count_usual_pawns.Goals as goal
+use Rattle.chess_bits.proofs.bits.Bits.count_ordinary_pawns.Goals as goal
 
 pub returns : goal.returns
 returns c =
     let p = c.self.inside.setup in
     let free : AreFree p Pawn c.args.pawns = rw c.self.view_is c.requires.free in
-    let usual : (k : ℕ) → k < 64 → contains c.args.pawns k ≡ true → goes_unusually p k ≡ false =
-    rw c.self.view_is c.requires.usual in
+    let ordinary : (k : ℕ) → k < 64 → contains c.args.pawns k ≡ true → goes_specially p k ≡ false =
+    rw c.self.view_is c.requires.ordinary in
     let sets : AreSets p c.args.pawns c.occupied.result c.behind-blocked.result c.behind.result c.of_rank-home.result
     c.all-theirs.result c.attacking_left.result c.attacking_right.result c.without-once.result c.intersection.result
     c.without-twice.result c.intersection-left.result c.intersection-right.result = record {
@@ -33,12 +33,12 @@ returns c =
       right = c.intersection-right.ensures;
     } in
     let alone = rw (← c.self.view_is) at c.king-king.ensures.alone in
-    let ways = ways_are p c.args.pawns _ _ _ _ _ _ _ _ _ _ _ _ c.self.invariant.0 free usual sets in
+    let ways = ways_are p c.args.pawns _ _ _ _ _ _ _ _ _ _ _ _ c.self.invariant.0 free ordinary sets in
     rw (← c.self.view_is)
     (summed c.len.ensures c.len-2.ensures c.len-3.ensures c.len-4.ensures
     ∙ pawns_counted p c.king-king.result c.args.pawns c.without-once.result c.without-twice.result
     c.intersection-left.result c.intersection-right.result c.self.invariant.0 c.king-king.ensures.in_range
-    alone free usual ways)
+    alone free ordinary ways)
 
 pub overflow_add-result : goal.overflow_add-result
 overflow_add-result c =
