@@ -23,6 +23,7 @@ mod pinning;
 mod placing;
 mod reaching;
 mod sets;
+mod sliding;
 mod table;
 mod tables;
 mod targets;

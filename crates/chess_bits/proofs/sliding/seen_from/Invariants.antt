@@ -4,7 +4,7 @@ use Rattle.chess_bits.proofs.BetweenSquares.{are_on_line}
 use Rattle.chess_bits.proofs.Listed.{Each}
 use Rattle.chess_bits.proofs.Starts.{passes}
 use Rattle.chess_moves.specs.Sets.{contains, members}
-use Rattle.chess_bits.proofs.kinds.seen_from.Given as goal
+use Rattle.chess_bits.proofs.sliding.seen_from.Given as goal
 
 -- what was gathered, with those that are left and are seen, is all that is seen; each that is left is on a line
 abbrev pub invariant-loop-man : goal.invariant-loop-man

@@ -6,7 +6,7 @@ use Rattle.chess_bits.proofs.BetweenSquares.{are_on_line}
 use Rattle.chess_bits.proofs.Listed.{each_member}
 use Rattle.chess_bits.proofs.Starts.{passes, passes_is}
 use Rattle.chess_moves.specs.Sets.{members}
-use Rattle.chess_bits.proofs.kinds.seen_from.Goals as goal
+use Rattle.chess_bits.proofs.sliding.seen_from.Goals as goal
 
 pub loop-man-init : goal.loop-man-init
 loop-man-init c = record {

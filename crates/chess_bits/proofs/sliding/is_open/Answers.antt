@@ -1,7 +1,7 @@
 -- The set of what is occupied between is empty (open_between of BetweenSquares).
 use Rattle.std.proofs.Common.{◌<◌, subst}
 use Rattle.chess_bits.proofs.BetweenSquares.{open_between}
-use Rattle.chess_bits.proofs.kinds.is_open.Goals as goal
+use Rattle.chess_bits.proofs.sliding.is_open.Goals as goal
 
 pub returns : goal.returns
 returns c =
