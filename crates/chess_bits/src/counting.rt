@@ -83,10 +83,11 @@ impl Bits<'_> {
     // How many legal moves these pawns have, which are all free: their king is safe wherever they go. Those that may
     // promote or take en passant are looked at one by one.
     fn count_pawns(&self, men: SquareSet) -> usize
-        requires free { AreFree self.now Pawn men }
-        requires few { length (flat_map (λ a. moves_from self.now a) (members men)) ≤ 896 }
+        requires { AreFree self.now Pawn men }
         ensures { result ≡ length (flat_map (λ a. moves_from self.now a) (members men)) }
     {
+        // The prover wants this fact: the position is sound, so its legal moves fit into a list.
+        let _sound = self.setup();
         let squares = self.special_squares();
         let special = men.intersection(squares);
         let ordinary = men.without(squares);
@@ -131,10 +132,11 @@ impl Bits<'_> {
     fn count_kind(&self, kind: Kind, free: SquareSet, men: &mut SquareSet) -> usize
         requires kind { same_kind King kind ≡ false }
         requires free { (k : ℕ) → k < 64 → contains free k ≡ true → IsFree self.now k }
-        requires few { length (flat_map (λ a. moves_from self.now a) (members men.old)) ≤ 896 }
         ensures { result + length (flat_map (λ a. moves_from self.now a) (members men.new))
             ≡ length (flat_map (λ a. moves_from self.now a) (members men.old)) }
     {
+        // The prover wants this fact: the position is sound, so its legal moves fit into a list.
+        let _sound = self.setup();
         let all = *men;
         let own = self.sets.of(self.setup.side);
         let chosen = own.of(kind).intersection(free);
@@ -265,8 +267,6 @@ impl Bits<'_> {
     fn has_easy_move(&self) -> bool
         ensures { result ≡ true → nat_lt 0 (length (moves self.now)) ≡ true }
     {
-        // The prover wants this fact: the position is sound, so its legal moves fit into a list.
-        let _sound = self.setup();
         let men = self.sets.of(self.setup.side);
         let free = self.surely_unpinned();
         let knights = men.of(Kind::Knight);

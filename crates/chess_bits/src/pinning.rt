@@ -1,4 +1,4 @@
-//! The own pieces that shield their king, and where they may go.
+//! Pins and checks: which own pieces are free to go anywhere, and where the others may go.
 
 ghost use Rattle.std.specs.Prelude.{◌≡◌, ◌<◌, ◌==◌, ◌||◌, ℕ, true, false, MatchOption};
 ghost use Rattle.chess_base.specs.Attacks.{is_in_check};
@@ -15,7 +15,8 @@ use crate::table::Shape;
 use chess_base::{Kind, Square};
 use chess_moves::{Board, SquareSet};
 
-// Where the pieces of the side on move, but its king, may go without leaving the king attacked.
+// Which pieces of the side on move may go anywhere, and where the others, but the king, may go without leaving it
+// attacked.
 #[derive(Clone, Copy)]
 pub(crate) struct Pins {
     // Pieces whose king is safe wherever they go: it is not in check, and they are not pinned.
@@ -86,7 +87,8 @@ impl Bits<'_> {
         }
     }
 
-    // Enemy queens, rooks and bishops that would attack the king on `king` if nothing were between them.
+    // Enemy queens, rooks and bishops that would attack the king on `king` if nothing were between them: they pin what
+    // alone is there.
     #[inline(always)]
     #[tactic(auto, unfolding(crate::specs::ties::Shapes::in_shape))]
     fn pinners(&self, king: Square) -> SquareSet
@@ -101,7 +103,7 @@ impl Bits<'_> {
         on_lines.union(aslant.intersection(self.tables.at(Shape::Diagonals, king)))
     }
 
-    // The pins of the pieces if the king, on `king`, is not in check.
+    // The pins if the king, on `king`, is not in check.
     #[inline(always)]
     fn pins_without_check(&self, king: Square) -> Pins
         requires king { is_man (self.now).side King (man_at (self.now).men king) ≡ true }
@@ -123,7 +125,8 @@ impl Bits<'_> {
         pins
     }
 
-    // Where the pieces may go, but the king.
+    // The pins of the side on move; in check no piece is free, and those that do not move the king meet the first
+    // checker.
     #[inline(always)]
     pub(crate) fn pins(&self) -> Pins
         ensures free { (k : ℕ) → k < 64 → contains result.free k ≡ true → IsFree self.now k }
@@ -161,8 +164,8 @@ impl Bits<'_> {
         targets.intersection(pins.evasions)
     }
 
-    // The pieces of the side on move that are on no rank, file or diagonal of their king, so that it is safe wherever
-    // they go; none if it is in check. They are found sooner than all that `pins` gives.
+    // The pieces of the side on move that can't be pinned, since they are on no rank, file or diagonal of their king;
+    // none if it is in check. No pinner needs to be looked for, as `pins` does.
     #[tactic(auto, unfolding(crate::specs::ties::Shapes::in_shape))]
     pub(crate) fn surely_unpinned(&self) -> SquareSet
         ensures { (k : ℕ) → k < 64 → contains result k ≡ true → IsFree self.now k }

@@ -1,14 +1,11 @@
--- The legal moves of some pieces are among all legal moves (some_of of Counted), and so fit into a list (some_fit).
+-- The legal moves of some pieces are among all legal moves (some_of of Counted).
 use Rattle.std.proofs.Common.{nat_lt, sym, ap, ◌∙◌}
-use Rattle.chess_bits.proofs.Counted.{some_fit, some_of}
+use Rattle.chess_bits.proofs.Counted.{some_of}
 use Rattle.chess_bits.proofs.bits.Bits.has_easy_move.Goals as goal
 
 pub returns-then-has_knight_move : goal.returns-then-has_knight_move
 returns-then-has_knight_move c = λ _.
     sym (some_of c.args.self.now c.intersection.result (sym c.has_knight_move.ensures ∙ c.if-has_knight_move.true))
-
-pub count_pawns-requires-clause-few : goal.count_pawns-requires-clause-few
-count_pawns-requires-clause-few c = some_fit c.args.self.now c.intersection-2.result c.setup-sound.ensures.sound
 
 pub returns : goal.returns
 returns c = λ some.
