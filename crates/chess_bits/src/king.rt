@@ -1,6 +1,6 @@
 //! The king's safety after a move, by the sets after it: no move is made.
 
-ghost use Rattle.std.specs.Prelude.{◌≡◌, ◌==◌, ◌||◌, ◌<◌, ℕ, true, Option, None, Some, IsTrue};
+ghost use Rattle.std.specs.Prelude.{◌≡◌, ◌==◌, ◌||◌, ◌<◌, ℕ, true, Option, None, Some};
 ghost use Rattle.chess_base.specs.Men.{man_at, is_man};
 ghost use Rattle.chess_base.specs.MoveList.{move_of};
 ghost use Rattle.chess_base.specs.Moves.{is_pseudo_legal, is_legal, man_moves, men_after, promotion_fits, steps_of};
@@ -13,6 +13,7 @@ ghost use Rattle.chess_moves.specs.Promoting.{would_promote};
 ghost use Rattle.chess_moves.specs.Sets.{contains};
 
 use crate::bits::Bits;
+use crate::filter::filter;
 use crate::placing::fast_steps_of;
 use chess_base::rules::{Steps, is_man};
 use chess_base::{Kind, Move, Square};
@@ -84,9 +85,8 @@ impl Bits<'_> {
     // Whether an ordinary move of the king, from `king` to `to`, is legal: nothing attacks `to` once the king has left
     // its square.
     pub(crate) fn is_safe_step(&self, king: Square, to: Square) -> bool
-        requires king { is_man (self.now).side King (man_at (self.now).men king) ≡ true }
-        requires step { man_moves self.now (move_of king to None) ≡ true }
-        ensures { result ≡ is_legal self.now (move_of king to None) }
+        ensures { is_man (self.now).side King (man_at (self.now).men king) ≡ true
+            → man_moves self.now (move_of king to None) ≡ true → result ≡ is_legal self.now (move_of king to None) }
     {
         // The prover wants these facts: the numbers of both squares are below 64.
         let _start = king.number();
@@ -103,20 +103,14 @@ impl Bits<'_> {
     {
         // The prover wants this fact: the number of the king's square is below 64.
         let _start = king.number();
-        let mut ends = self.castling_ends(king);
-        let mut steps = self.steps(Kind::King, king);
-        while let Some(to) = steps.take_first() {
-            if self.is_safe_step(king, to) {
-                ends = ends.union(SquareSet::single(to));
-            }
-        }
-        ends
+        let steps = self.steps(Kind::King, king);
+        let safe = filter(steps, |to| self.is_safe_step(king, to));
+        self.castling_ends(king).union(safe)
     }
 
     // Whether a pseudo-legal move is legal: the mover's king is not attacked after it.
     pub(crate) fn is_safe_after(&self, m: &Move) -> bool
-        requires { IsTrue (is_pseudo_legal self.now m.now) }
-        ensures { result ≡ is_legal self.now m.now }
+        ensures { is_pseudo_legal self.now m.now ≡ true → result ≡ is_legal self.now m.now }
     {
         let steps = fast_steps_of(&self.setup, m);
         self.is_safe_by(&steps)
@@ -136,7 +130,7 @@ impl Bits<'_> {
     // Whether a pseudo-legal move from `from` to `to` is legal. It is not the king's and not en passant, so only its two
     // squares change, and it does not matter what the piece becomes.
     #[inline(always)]
-    fn is_safe_by_squares(&self, from: Square, to: Square) -> bool
+    pub(crate) fn is_safe_plain(&self, from: Square, to: Square) -> bool
         ensures { (promotion : Option ManKind) → StepsPlainly self.now (move_of from to promotion)
             → result ≡ is_legal self.now (move_of from to promotion) }
     {
@@ -144,16 +138,6 @@ impl Bits<'_> {
         let changed = filled.union(SquareSet::single(from));
         let king = self.king(self.setup.side);
         self.is_safe_at(king, filled, changed)
-    }
-
-    // Whether the pseudo-legal move from `from` to `to` without a promotion is legal. It is not the king's and not en
-    // passant, so only its two squares change.
-    #[inline(always)]
-    pub(crate) fn is_safe_plain(&self, from: Square, to: Square) -> bool
-        requires { StepsPlainly self.now (move_of from to None) }
-        ensures { result ≡ is_legal self.now (move_of from to None) }
-    {
-        self.is_safe_by_squares(from, to)
     }
 
     // Whether the pawn on `from` may legally promote on `to`: to all four kinds to which pawns do, or to none of them.
@@ -165,6 +149,6 @@ impl Bits<'_> {
     {
         // The prover wants this fact: the position is sound.
         let _sound = &self.setup;
-        self.is_safe_by_squares(from, to)
+        self.is_safe_plain(from, to)
     }
 }

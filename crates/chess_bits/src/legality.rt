@@ -11,6 +11,7 @@ ghost use Rattle.chess_bits.specs.ties.Goes.{IsOfficer};
 ghost use Rattle.chess_moves.specs.Sets.{contains, HasLegalStarts};
 
 use crate::bits::Bits;
+use crate::filter::filter;
 use crate::placing::is_target;
 use crate::reaching::reached_among;
 use crate::targets::{is_king, is_pawn};
@@ -107,19 +108,13 @@ impl Bits<'_> {
         requires { (k : ℕ) → k < 64 → contains men k ≡ true → is_pseudo_legal self.now (move_of k to None) ≡ true }
         ensures { (k : ℕ) → k < 64 → contains result k ≡ (contains men k && is_legal self.now (move_of k to None)) }
     {
-        let mut starts = SquareSet::empty();
-        let mut rest = men;
-        while let Some(from) = rest.take_first() {
-            let m = Move {
+        filter(men, |from| {
+            self.is_safe_after(&Move {
                 from,
                 to,
                 promotion: None,
-            };
-            if self.is_safe_after(&m) {
-                starts = starts.union(SquareSet::single(from));
-            }
-        }
-        starts
+            })
+        })
     }
 
     // Those of the squares `men` from which the piece there may legally go to `to`. For all of them this move is
@@ -129,14 +124,7 @@ impl Bits<'_> {
         requires { (k : ℕ) → k < 64 → contains men k ≡ true → StepsPlainly self.now (move_of k to None) }
         ensures { (k : ℕ) → k < 64 → contains result k ≡ (contains men k && is_legal self.now (move_of k to None)) }
     {
-        let mut starts = SquareSet::empty();
-        let mut rest = men;
-        while let Some(from) = rest.take_first() {
-            if self.is_safe_plain(from, to) {
-                starts = starts.union(SquareSet::single(from));
-            }
-        }
-        starts
+        filter(men, |from| self.is_safe_plain(from, to))
     }
 
     // The squares from which pieces of this kind (queen, rook, bishop or knight) of the side on move may legally go to

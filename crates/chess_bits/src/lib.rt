@@ -12,6 +12,7 @@ mod between;
 mod bits;
 mod castling;
 mod counting;
+mod filter;
 mod keys;
 mod kinds;
 mod king;

@@ -5,6 +5,7 @@ ghost use Rattle.chess_base.specs.Squares.{share_rank_or_file, share_diagonal};
 ghost use Rattle.chess_moves.specs.Sets.{contains};
 ghost use Rattle.chess_bits.specs.ties.Rays.{is_open};
 
+use crate::filter::filter;
 use crate::line::Line;
 use crate::table::Shape;
 use crate::tables::AttackTables;
@@ -67,14 +68,7 @@ fn seen_from(
     requires { (k : ℕ) → k < 64 → contains men k ≡ true → (share_rank_or_file k square || share_diagonal k square) ≡ true }
     ensures { (k : ℕ) → k < 64 → contains result k ≡ (contains men k && is_open occupied square k) }
 {
-    let mut seen = SquareSet::empty();
-    let mut rest = men;
-    while let Some(man) = rest.take_first() {
-        if is_open(tables, square, man, occupied) {
-            seen = seen.union(SquareSet::single(man));
-        }
-    }
-    seen
+    filter(men, |man| is_open(tables, square, man, occupied))
 }
 
 // The squares of the set `men` from which a rook would attack `square`: those on its rank or file with no occupied

@@ -46,17 +46,12 @@ returns-else-promotes_legally c =
     c.promotes_legally.ensures) in
     sym (append-nil c.args.list.now.items) ∙ ap (λ (ms : List Move). c.args.list.now.items ++ ms) (sym none)
 
-pub is_safe_after-requires : goal.is_safe_after-requires
-is_safe_after-requires c =
-    let stays : would_promote c.args.self.now c.args.from c.args.to ≡ false =
-    rw (← c.self.view_is) (sym c.would_promote.ensures ∙ c.if-would_promote.false) in
-    unpromoted c.args.self.now c.args.from c.args.to c.requires.goes stays
-
 pub push-requires : goal.push-requires
 push-requires c =
     let stays : would_promote c.args.self.now c.args.from c.args.to ≡ false =
     rw (← c.self.view_is) (sym c.would_promote.ensures ∙ c.if-would_promote.false) in
-    let one = rw (sym c.is_safe_after.ensures ∙ c.if-is_safe_after.true) at
+    let pattern = unpromoted c.args.self.now c.args.from c.args.to c.requires.goes stays in
+    let one = rw (sym (c.is_safe_after.ensures pattern) ∙ c.if-is_safe_after.true) at
     (one_between c.args.self.now c.args.from c.args.to stays) in
     let length_one : length (moves_between c.args.self.now c.args.from c.args.to) ≡ 1 = ap length one in
     (lit< tt, omega (arith, length_one, c.requires.room))
@@ -65,7 +60,8 @@ pub returns-then-is_safe_after : goal.returns-then-is_safe_after
 returns-then-is_safe_after c =
     let stays : would_promote c.args.self.now c.args.from c.args.to ≡ false =
     rw (← c.self.view_is) (sym c.would_promote.ensures ∙ c.if-would_promote.false) in
-    let one = rw (sym c.is_safe_after.ensures ∙ c.if-is_safe_after.true) at
+    let pattern = unpromoted c.args.self.now c.args.from c.args.to c.requires.goes stays in
+    let one = rw (sym (c.is_safe_after.ensures pattern) ∙ c.if-is_safe_after.true) at
     (one_between c.args.self.now c.args.from c.args.to stays) in
     c.push.ensures.items ∙ ap (λ (ms : List Move). c.args.list.now.items ++ ms) (sym one)
 
@@ -73,7 +69,8 @@ pub returns-else-is_safe_after : goal.returns-else-is_safe_after
 returns-else-is_safe_after c =
     let stays : would_promote c.args.self.now c.args.from c.args.to ≡ false =
     rw (← c.self.view_is) (sym c.would_promote.ensures ∙ c.if-would_promote.false) in
+    let pattern = unpromoted c.args.self.now c.args.from c.args.to c.requires.goes stays in
     let none : moves_between c.args.self.now c.args.from c.args.to ≡ [] =
-    rw (sym c.is_safe_after.ensures ∙ c.if-is_safe_after.false) at
+    rw (sym (c.is_safe_after.ensures pattern) ∙ c.if-is_safe_after.false) at
     (one_between c.args.self.now c.args.from c.args.to stays) in
     sym (append-nil c.args.list.now.items) ∙ ap (λ (ms : List Move). c.args.list.now.items ++ ms) (sym none)

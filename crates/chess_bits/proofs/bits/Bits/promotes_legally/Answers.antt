@@ -22,7 +22,7 @@ returns c =
     let last : would_promote p a b ≡ true = rw c.self.view_is c.requires.promotes in
     let both = and_parts (is_man p.side Pawn (man_at p.men a)) (rank b == first_rank (other p.side)) last in
     let off = no_target_there p b c.self.invariant.0 (eqb-true (rank b) (first_rank (other p.side)) both.1) in
-    let safe = rw (← c.self.view_is) at c.is_safe_by_squares.ensures in
+    let safe = rw (← c.self.view_is) at c.is_safe_plain.ensures in
     rw (← c.self.view_is)
     (λ kind fits.
     safe (Some kind) (record {

@@ -8,7 +8,7 @@ use Rattle.chess_bits.specs.ties.Changes.{is_changed, is_filled}
 use Rattle.chess_bits.proofs.Pins.{no_king_arrives}
 use Rattle.chess_bits.proofs.KingAfter.{king_stays}
 use Rattle.chess_bits.proofs.Quiet.{fills_end, changes_both}
-use Rattle.chess_bits.proofs.bits.Bits.is_safe_by_squares.Goals as goal
+use Rattle.chess_bits.proofs.bits.Bits.is_safe_plain.Goals as goal
 
 pub returns : goal.returns
 returns c =
