@@ -18,7 +18,6 @@ use Rattle.chess_base.proofs.shared.Changes.{pawn_from_same}
 use Rattle.chess_base.proofs.shared.Men.{is_of-from_is_man}
 use Rattle.chess_moves.specs.Sets.{contains, HasOrigins}
 use Rattle.chess_moves.proofs.shared.Origins.{begins_below}
-use Rattle.chess_bits.specs.declared.table.Shape.TheVariants as shape
 use Rattle.chess_bits.specs.ties.Goes.{man_goes}
 use Rattle.chess_bits.proofs.Attackers.{each_square_same, between_back, eq_back, gap_back, diagonal_back}
 use Rattle.chess_bits.proofs.Patterns.{man_complete, pawn_goes, legal_goes}

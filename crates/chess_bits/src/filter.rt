@@ -6,9 +6,9 @@ ghost use Rattle.chess_moves.specs.Sets.{contains};
 use chess_base::Square;
 use chess_moves::SquareSet;
 
-// The set of this square alone if it passed, else the empty set.
+/// The set of this square alone if it passed, else the empty set.
 #[inline(always)]
-fn single_if(passed: bool, square: Square) -> SquareSet
+pub(crate) fn single_if(passed: bool, square: Square) -> SquareSet
     ensures { (k : ℕ) → contains result k ≡ (passed && (k == square)) }
 {
     if passed {

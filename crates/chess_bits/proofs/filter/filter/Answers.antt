@@ -1,8 +1,8 @@
 -- The first square that is left is of the set, and what the test says of it is whether it is chosen; nothing changes for
 -- the others.
 use Rattle.std.proofs.Common.{◌≡◌, ℕ, ◌<◌, ◌==◌, ◌&&◌, ◌||◌, Bool, inl, inr, true, false, refl, sym, ap, subst, ◌∙◌}
-use Rattle.std.proofs.lemmas.Bool.{and_right, both_ways, cases_Bool, eq-eqb, eqb-true, false_from_ne_true, or_right}
-use Rattle.chess_moves.specs.Sets.{contains, members}
+use Rattle.std.proofs.lemmas.Bool.{both_ways, cases_Bool, eq-eqb, eqb-true, false_from_ne_true, or_right}
+use Rattle.chess_moves.specs.Sets.{contains}
 use Rattle.chess_bits.proofs.Attackers.{eq_back}
 use Rattle.chess_bits.proofs.Listed.{each_first, each_member}
 use Rattle.chess_bits.proofs.Starts.{first_gone, none_left, taken_first}

@@ -1,4 +1,4 @@
-use Rattle.std.proofs.Common.{◌+◌, ◌++◌, ◌≤◌, None, length, map, lit<, length-append, arith}
+use Rattle.std.proofs.Common.{◌++◌, ◌≤◌, None, length, map, lit<, length-append, arith}
 use Rattle.std.proofs.lemmas.List.{length-map}
 use Rattle.chess_base.specs.MoveList.{move_of}
 use Rattle.chess_moves.specs.Sets.{members}

@@ -1,6 +1,6 @@
 -- A pawn that promotes has the four promotions there and no other move, and all or none are legal (promotions_between of
 -- Listed); elsewhere a piece has one move at most (one_between).
-use Rattle.std.proofs.Common.{◌≡◌, ◌<◌, ◌++◌, [], List, Option, length, map, drop, true, false, lit<, sym, ap, ◌∙◌, append-nil, arith}
+use Rattle.std.proofs.Common.{◌≡◌, ◌++◌, [], List, Option, length, map, drop, true, false, lit<, sym, ap, ◌∙◌, append-nil, arith}
 use Rattle.chess_base.specs.declared.man.Kind.{Kind}
 use Rattle.chess_base.specs.declared.man.Move.{Move}
 use Rattle.chess_base.specs.MoveList.{move_of}

@@ -1,5 +1,5 @@
 -- The pieces fall into those taken and those left, and their legal moves fall so too (split of KindsCounted).
-use Rattle.std.proofs.Common.{◌+◌, length, ap, ◌∙◌, arith}
+use Rattle.std.proofs.Common.{◌+◌, length, ap, ◌∙◌}
 use Rattle.std.specs.List.{flat_map}
 use Rattle.chess_moves.specs.shared.MovesBySquares.{moves_from}
 use Rattle.chess_moves.specs.Sets.{members}
