@@ -43,7 +43,7 @@ pub officer_pattern : (p : Setup) (kind : Kind) (a b : ℕ) → IsOfficer p.side
     → (could_capture p.men p.side kind a b && not (is_of p.side (man_at p.men b))) ≡ is_pseudo_legal p (move_of a b None)
 officer_pattern p kind a b h low high =
     let at = man_told p.side kind (man_at p.men a) h.man in
-    let parts = or_parts (same_kind King kind) (same_kind Pawn kind) h.usual in
+    let parts = or_parts (same_kind King kind) (same_kind Pawn kind) h.officer in
     let off : is_man p.side King (man_at p.men a) ≡ false =
     is_man-kind p.side p.side kind King (man_at p.men a) parts.0 h.man in
     let none : castle_of p (move_of a b None) ≡ None = none_castles p (move_of a b None)
@@ -57,9 +57,9 @@ unfolding is_legal
 no_pattern p m h = and_left (is_pseudo_legal p m) (not (is_in_check (after p m).men p.side)) h
 
 pub officer_plain : (p : Setup) (kind : Kind) (a b : ℕ) → IsOfficer p.side kind (man_at p.men a)
-    → is_pseudo_legal p (move_of a b None) ≡ true → StepsPlainly p a b
+    → is_pseudo_legal p (move_of a b None) ≡ true → StepsPlainly p (move_of a b None)
 officer_plain p kind a b h goes_so =
-    let parts = or_parts (same_kind King kind) (same_kind Pawn kind) h.usual in
+    let parts = or_parts (same_kind King kind) (same_kind Pawn kind) h.officer in
     record {
       pattern = goes_so;
       no_king = is_man-kind p.side p.side kind King (man_at p.men a) parts.0 h.man;
@@ -71,7 +71,7 @@ officer_plain p kind a b h goes_so =
 pub promotes_not : (p : Setup) (m : Move) (kind : Kind) → IsOfficer p.side kind (man_at p.men m.from)
     → is_some m.promotion ≡ true → false ≡ is_legal p m
 promotes_not p m kind h some =
-    let parts = or_parts (same_kind King kind) (same_kind Pawn kind) h.usual in
+    let parts = or_parts (same_kind King kind) (same_kind Pawn kind) h.officer in
     not_fitting p m
     (ap (λ w. promotion_fits w m.promotion)
     (not_promoting p m.from m.to _ (man_told p.side kind (man_at p.men m.from) h.man) parts.1)
@@ -95,12 +95,12 @@ as_triple p m none = ap (λ k. is_legal p (move_of m.from m.to k)) (sym (nothing
 pub own_on_end : (p : Setup) (kind : Kind) (to k : ℕ) → (same_kind King kind || same_kind Pawn kind) ≡ false
     → is_of p.side (man_at p.men to) ≡ true → to < 64 → k < 64
     → false ≡ (is_man p.side kind (man_at p.men k) && is_legal p (move_of k to None))
-own_on_end p kind to k usual own high low =
+own_on_end p kind to k neither own high low =
     elim (cases_Bool (is_man p.side kind (man_at p.men k))) [
       | inl man ↦
           sym (and_right (is_man p.side kind (man_at p.men k)) (is_legal p (move_of k to None))
           (no_pattern p (move_of k to None)
-          (sym (officer_pattern p kind k to (record { man = man; usual = usual }) low high)
+          (sym (officer_pattern p kind k to (record { man = man; officer = neither }) low high)
           ∙ and_right (could_capture p.men p.side kind k to) (not (is_of p.side (man_at p.men to))) (ap not own))))
       | inr off ↦ sym (and_left (is_man p.side kind (man_at p.men k)) (is_legal p (move_of k to None)) off)
     ]
@@ -110,11 +110,11 @@ pub starts_plain : (p : Setup) (kind : Kind) (to u w : ℕ) → (same_kind King 
     → is_of p.side (man_at p.men to) ≡ false → to < 64
     → ((k : ℕ) → k < 64 → contains w k ≡ (could_capture p.men p.side kind to k && contains u k))
     → ((k : ℕ) → k < 64 → contains u k ≡ is_man p.side kind (man_at p.men k))
-    → (k : ℕ) → k < 64 → contains w k ≡ true → StepsPlainly p k to
-starts_plain p kind to u w usual free high reached men k low on =
+    → (k : ℕ) → k < 64 → contains w k ≡ true → StepsPlainly p (move_of k to None)
+starts_plain p kind to u w neither free high reached men k low on =
     let parts = and_parts (could_capture p.men p.side kind to k) (contains u k) (sym (reached k low) ∙ on) in
-    let kinds = or_parts (same_kind King kind) (same_kind Pawn kind) usual in
-    let officer : IsOfficer p.side kind (man_at p.men k) = record { man = sym (men k low) ∙ parts.1; usual = usual } in
+    let kinds = or_parts (same_kind King kind) (same_kind Pawn kind) neither in
+    let officer : IsOfficer p.side kind (man_at p.men k) = record { man = sym (men k low) ∙ parts.1; officer = neither } in
     officer_plain p kind k to officer
     (sym (officer_pattern p kind k to officer low high)
     ∙ and_from (could_capture p.men p.side kind k to) (not (is_of p.side (man_at p.men to)))
@@ -127,8 +127,8 @@ pub officer_starts_are : (p : Setup) (kind : Kind) (to u w k : ℕ) (s : Bool)
     → ((j : ℕ) → j < 64 → contains u j ≡ is_man p.side kind (man_at p.men j))
     → k < 64 → s ≡ (contains w k && is_legal p (move_of k to None))
     → s ≡ (is_man p.side kind (man_at p.men k) && is_legal p (move_of k to None))
-officer_starts_are p kind to u w k s usual reached men low made =
-    let kinds = or_parts (same_kind King kind) (same_kind Pawn kind) usual in
+officer_starts_are p kind to u w k s neither reached men low made =
+    let kinds = or_parts (same_kind King kind) (same_kind Pawn kind) neither in
     made
     ∙ ap (λ t. t && is_legal p (move_of k to None))
     (reached k low ∙ ap (λ t. could_capture p.men p.side kind to k && t) (men k low))
@@ -146,12 +146,12 @@ officer_starts_are p kind to u w k s usual reached men low made =
 pub officer_told : (c : Colour) (x : Man) (o : Option Man) → o ≡ Some x → is_of c o ≡ true
     → not (same_kind King x.kind || same_kind Pawn x.kind) ≡ true → IsOfficer c x.kind o
 unfolding is_of is_man
-officer_told c x o at own usual =
+officer_told c x o at own neither =
     let same : same_colour c x.colour ≡ true = rw at at own in
     record {
       man = rw at (and_from (same_colour c x.colour) (same_kind x.kind x.kind) same
           (eq-eqb (kind_number x.kind) (kind_number x.kind) refl));
-      usual = not-true (same_kind King x.kind || same_kind Pawn x.kind) usual;
+      officer = not-true (same_kind King x.kind || same_kind Pawn x.kind) neither;
     }
 
 -- ---- pawns
@@ -171,7 +171,7 @@ pawn_pattern p a b pawn low high =
     unpromoted false = refl
 
 pub pawn_plain : (p : Setup) (a b : ℕ) → is_man p.side Pawn (man_at p.men a) ≡ true
-    → is_pseudo_legal p (move_of a b None) ≡ true → is_square p.target b ≡ false → StepsPlainly p a b
+    → is_pseudo_legal p (move_of a b None) ≡ true → is_square p.target b ≡ false → StepsPlainly p (move_of a b None)
 pawn_plain p a b pawn goes_so off = record {
   pattern = goes_so;
   no_king = is_man-kind p.side p.side Pawn King (man_at p.men a) refl pawn;

@@ -1,8 +1,7 @@
 -- Castling by sets: its squares are on one rank, and its ways are sets.
 use mathlib.Core.Bool.{and-true}
-use Rattle.std.proofs.Common.{◌≡◌, ℕ, zero, suc, ◌<◌, ◌≤◌, Bool, true, false, not, ◌&&◌, ◌||◌, ◌==◌, nat_lt, Option, Some, None, is_none, refl, sym, ap, subst, ◌∙◌, arith}
-use Rattle.std.proofs.lemmas.Bool.Decides.{nat_tests}
-use Rattle.std.proofs.lemmas.Bool.{and_parts, eqb-true, eq-eqb}
+use Rattle.std.proofs.Common.{◌≡◌, ℕ, zero, suc, ◌<◌, Bool, true, false, not, ◌&&◌, ◌||◌, ◌==◌, Option, Some, None, is_none, refl, sym, ap, subst, ◌∙◌, arith}
+use Rattle.std.proofs.lemmas.Bool.{and_parts, eqb-true}
 use Rattle.chess_base.specs.declared.castling.Castle.{Castle}
 use Rattle.chess_base.specs.declared.man.CastlingSide.{CastlingSide}
 use Rattle.chess_base.specs.declared.man.CastlingSide.TheVariants.{KingSide, QueenSide}
@@ -20,15 +19,12 @@ use Rattle.chess_base.specs.MoveList.{move_of}
 use Rattle.chess_base.specs.Moves.{is_pseudo_legal, is_legal, promotion_fits, arriving_man, second_square_emptied, steps_of}
 use Rattle.chess_base.specs.shared.Splits.{castles_or_moves}
 use Rattle.chess_base.specs.Sound.{IsSound}
-use Rattle.chess_base.specs.Squares.{rank, is_between, each_below, some_below, each_square, some_square}
+use Rattle.chess_base.specs.Squares.{rank, each_below, some_below, each_square, some_square}
 use Rattle.chess_base.proofs.shared.Castling.{right_is_sound_of, placed_for_right, says_from_castling, castling_says, castle_there, no_castle}
 use Rattle.chess_base.proofs.shared.Changes.{no_en_passant}
 use Rattle.chess_base.proofs.shared.Men.{in_board, is_man-kind}
 use Rattle.chess_moves.specs.Promoting.{would_promote}
-use Rattle.chess_bits.specs.declared.line.Line.TheVariants.{Rank}
 use Rattle.chess_bits.specs.ties.Goes.{goes}
-use Rattle.chess_bits.specs.ties.Rays.{is_on_ray}
-use Rattle.chess_bits.proofs.Geometry.{between_on_line}
 use Rattle.chess_bits.proofs.Patterns.{pattern_by, officer_goes, not_promoting}
 use Rattle.chess_bits.proofs.TargetsOf.{man_told}
 use Rattle.chess_bits.proofs.Attackers.{each_below_same}
@@ -102,36 +98,6 @@ on_rank_by p m k sound e (Some w) says =
 
 pub on_rank : (p : Setup) (m : Move) (k : Castle) → IsSound p → castle_of p m ≡ Some k → OnRank k
 on_rank p m k sound e = on_rank_by p m k sound e (castling p m) refl
-
--- ---- ways
-
-inside_up : (a b k : ℕ) → a < b → ((nat_lt a k && nat_lt k b) || (nat_lt b k && nat_lt k a))
-    ≡ (nat_lt a k && nat_lt k b)
-inside_up a b k h = grind (arith, nat_tests, h)
-
-inside_down : (a b k : ℕ) → b ≤ a → ((nat_lt a k && nat_lt k b) || (nat_lt b k && nat_lt k a))
-    ≡ (nat_lt b k && nat_lt k a)
-inside_down a b k h = grind (arith, nat_tests, h)
-
-four : (x u v : Bool) → ((x && u) && (x && v)) ≡ (x && (u && v))
-four true u v = refl
-four false u v = refl
-
-pub between_up : (a b k : ℕ) → rank a ≡ rank b → a < b
-    → (is_on_ray Rank true a k && is_on_ray Rank false b k) ≡ is_between a b k
-between_up a b k same h =
-    sym (between_on_line Rank a b k (eq-eqb (rank a) (rank b) same)
-    ∙ ap (λ t. (rank a == rank k) && t) (inside_up a b k h)
-    ∙ sym (four (rank a == rank k) (nat_lt a k) (nat_lt k b))
-    ∙ ap (λ r. ((rank a == rank k) && nat_lt a k) && ((r == rank k) && nat_lt k b)) same)
-
-pub between_down : (a b k : ℕ) → rank a ≡ rank b → b ≤ a
-    → (is_on_ray Rank true b k && is_on_ray Rank false a k) ≡ is_between a b k
-between_down a b k same h =
-    sym (between_on_line Rank a b k (eq-eqb (rank a) (rank b) same)
-    ∙ ap (λ t. (rank a == rank k) && t) (inside_down a b k h)
-    ∙ sym (four (rank a == rank k) (nat_lt b k) (nat_lt k a))
-    ∙ ap (λ r. ((r == rank k) && nat_lt b k) && ((rank a == rank k) && nat_lt k a)) same)
 
 -- ---- each square
 

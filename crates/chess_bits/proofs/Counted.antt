@@ -1,9 +1,8 @@
 -- Legal moves counted.
-use Rattle.std.proofs.Common.{◌≡◌, ℕ, ◌+◌, ◌≤◌, inl, inr, Bool, true, false, cond, Some, None, List, [], ◌∷◌, length, refl, sym, ap, ◌∙◌, length-append, nat_lt, ◌<◌, arith}
+use Rattle.std.proofs.Common.{◌≡◌, ℕ, ◌+◌, ◌≤◌, inl, inr, Bool, true, false, cond, Some, None, List, [], ◌∷◌, length, map, refl, sym, ap, ◌∙◌, length-append, nat_lt, ◌<◌, arith}
 use Rattle.std.proofs.lemmas.Bool.{cases_Bool, lt-ltb, ltb-true}
 use Rattle.std.specs.List.{filter, flat_map}
 use Rattle.chess_base.specs.declared.man.Kind.{Kind}
-use Rattle.chess_base.specs.declared.man.Kind.TheVariants.{Queen, Rook, Bishop, Knight}
 use Rattle.chess_base.specs.declared.setup.Setup.{Setup}
 use Rattle.chess_base.specs.MoveList.{move_of, squares, moves}
 use Rattle.chess_base.specs.Moves.{is_legal, promotion_fits}
@@ -11,46 +10,28 @@ use Rattle.chess_base.specs.Sound.{IsSound}
 use Rattle.chess_moves.specs.shared.MovesBySquares.{moves_between, moves_from}
 use Rattle.chess_moves.specs.Promoting.{would_promote}
 use Rattle.chess_moves.specs.Sets.{contains, members}
-use Rattle.chess_moves.proofs.shared.MovesBySquares.{moves-by_start, all_promote, none_promotes}
+use Rattle.chess_moves.proofs.shared.MovesBySquares.{moves-by_start, promoting}
 use Rattle.chess_moves.proofs.shared.LegalMoves.{moves_fit}
-
-counted : {A : Type 0} (q : A → Bool) (x : A) (xs : List A)
-    → length (filter q (x ∷ xs)) ≡ cond (q x) 1 0 + length (filter q xs)
-counted q x xs = elim (cases_Bool (q x)) [ inl kept ↦ rw kept (omega arith) | inr left ↦ rw left (omega arith) ]
-
-four_counted : {A : Type 0} (q : A → Bool) (w x y z : A) → cond (q w) 1 0 + cond (q x) 1 0 + cond (q y) 1 0 + cond (q z)
-    1 0 ≡ length (filter q (w ∷ x ∷ y ∷ z ∷ []))
-four_counted q w x y z =
-    let first = counted q w (x ∷ y ∷ z ∷ []) in
-    let second = counted q x (y ∷ z ∷ []) in
-    let third = counted q y (z ∷ []) in
-    let last : length (filter q (z ∷ [])) ≡ cond (q z) 1 0 + 0 = counted q z [] in
-    omega (arith, first, second, third, last)
-
-by_four : (t q r b n : Bool) → t ≡ q → t ≡ r → t ≡ b → t ≡ n
-    → cond t 4 0 ≡ cond q 1 0 + cond r 1 0 + cond b 1 0 + cond n 1 0
-by_four true q r b n e f g h = rw (← e, ← f, ← g, ← h) refl
-by_four false q r b n e f g h = rw (← e, ← f, ← g, ← h) refl
+use Rattle.chess_bits.proofs.Listed.{promotions_between, one_between}
 
 -- the promotions to each kind are all moves of a pawn that promotes: four if they are legal, and none if they are not
 pub promotions_counted : (p : Setup) (a b : ℕ) (t : Bool) → would_promote p a b ≡ true
     → ((k : Kind) → promotion_fits true (Some k) ≡ true → t ≡ is_legal p (move_of a b (Some k)))
     → cond t 4 0 ≡ length (moves_between p a b)
-promotions_counted p a b t e h =
-    by_four t (is_legal p (move_of a b (Some Queen))) (is_legal p (move_of a b (Some Rook)))
-    (is_legal p (move_of a b (Some Bishop))) (is_legal p (move_of a b (Some Knight)))
-    (h Queen refl) (h Rook refl) (h Bishop refl) (h Knight refl)
-    ∙ four_counted (λ m. is_legal p m) (move_of a b (Some Queen)) (move_of a b (Some Rook)) (move_of a b (Some Bishop))
-    (move_of a b (Some Knight)) ∙ ap length (sym (all_promote p a b e))
+promotions_counted p a b t e h = sym (ap length (promotions_between p a b t e h) ∙ by t)
+  where
+    by : (t : Bool) → length (cond t (map (move_of a b) promoting) []) ≡ cond t 4 0
+    by true = refl
+    by false = refl
 
 -- and elsewhere there is one move at most
 pub one_counted : (p : Setup) (a b : ℕ) → would_promote p a b ≡ false → cond (is_legal p (move_of a b None)) 1 0
     ≡ length (moves_between p a b)
-one_counted p a b e =
-    let one : length (filter (λ m. is_legal p m) (move_of a b None ∷ [])) ≡ cond (is_legal p (move_of a b None)) 1 0 + 0 =
-    counted (λ m. is_legal p m) (move_of a b None) [] in
-    let all = ap length (none_promotes p a b e) in
-    omega (arith, one, all)
+one_counted p a b e = sym (ap length (one_between p a b e) ∙ by (is_legal p (move_of a b None)))
+  where
+    by : (t : Bool) → length (cond t (move_of a b None ∷ []) []) ≡ cond t 1 0
+    by true = refl
+    by false = refl
 
 -- the moves of the next piece are counted with those before
 pub count_fits : (p : Setup) (n : ℕ) (ms : List ℕ) (s : ℕ) (ns : List ℕ) → IsSound p → ms ≡ s ∷ ns

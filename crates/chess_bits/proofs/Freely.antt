@@ -1,6 +1,6 @@
 -- Pieces without which their king is not attacked: where they go, they go legally.
-use Rattle.std.proofs.Common.{◌≡◌, ℕ, ◌+◌, ◌<◌, ◌≤◌, ◌⊎◌, inl, inr, Bool, true, false, not, ◌&&◌, ◌||◌, ◌==◌, Option, Some, None, cond, List, [], ◌∷◌, ◌++◌, length, refl, sym, ap, ◌∙◌, length-append, subst, arith}
-use Rattle.std.specs.List.{flat_map}
+use Rattle.std.proofs.Common.{◌≡◌, ℕ, ◌+◌, ◌<◌, ◌≤◌, ◌⊎◌, inl, inr, Bool, true, false, not, ◌&&◌, ◌||◌, ◌==◌, Option, Some, None, cond, [], ◌∷◌, length, map, refl, sym, ap, ◌∙◌, subst, arith}
+use Rattle.std.proofs.lemmas.List.{length-map}
 use Rattle.std.proofs.lemmas.Bool.{and_parts, and_from, false_from_ne_true, and_right, or_cases, or_parts, eqb-true, eq-eqb, ne_eqb, both_ways, cases_Bool, and_left}
 use Rattle.chess_base.specs.declared.man.Colour.{Colour}
 use Rattle.chess_base.specs.declared.man.Colour.TheVariants.{White, Black}
@@ -28,10 +28,8 @@ use Rattle.chess_bits.specs.declared.table.Shape.TheVariants as shape
 use Rattle.chess_bits.specs.ties.Shapes.{in_shape}
 use Rattle.chess_bits.specs.ties.Goes.{goes, aims_at, OpensNoLine, OpensNoDiagonal, IsFree, lifted}
 use Rattle.chess_bits.proofs.AfterSets.{check_is}
-use Rattle.chess_bits.proofs.Counted.{one_counted}
 use Rattle.chess_bits.proofs.KingAfter.{mover_some, mover_own, king_stays, check_after, legal_is}
-use Rattle.chess_moves.proofs.shared.MovesBySquares.{none_promotes}
-use Rattle.chess_bits.proofs.Listed.{Each, each_member, room_for, from_targets, pattern_of}
+use Rattle.chess_bits.proofs.Listed.{all_ones, each_member, from_targets, one_between, pattern_of}
 use Rattle.chess_bits.proofs.OriginsOf.{off_lowest}
 use Rattle.chess_bits.proofs.Patterns.{pawn_goes}
 use Rattle.chess_bits.proofs.Quiet.{IsPlain, lands_same, stays_safe}
@@ -67,13 +65,13 @@ free_is_legal p a b king sound free low there one go stays no_passing =
 -- ---- what is no pawn, and pawns that neither promote nor take en passant
 
 -- no move of the piece on a promotes or takes en passant
-pub record IsUsual (p : Setup) (a : ℕ) : Type 0 where
+pub record IsOrdinary (p : Setup) (a : ℕ) : Type 0 where
   pub stays : (b : ℕ) → b < 64 → goes p a b ≡ true → would_promote p a b ≡ false
   pub passes : (b : ℕ) → is_en_passant p (move_of a b None) ≡ false
 
-pub no_pawn_usual : (p : Setup) (a : ℕ) → is_man p.side Pawn (man_at p.men a) ≡ false → IsUsual p a
+pub no_pawn_ordinary : (p : Setup) (a : ℕ) → is_man p.side Pawn (man_at p.men a) ≡ false → IsOrdinary p a
 unfolding would_promote is_en_passant
-no_pawn_usual p a no_pawn = record { stays = λ b low go. rw no_pawn refl; passes = λ b. rw no_pawn refl }
+no_pawn_ordinary p a no_pawn = record { stays = λ b low go. rw no_pawn refl; passes = λ b. rw no_pawn refl }
 
 advance_stays : (c : Colour) (a b : ℕ) → 8 ≤ a → a < 64 → (rank a ≡ pawn_rank (other c) → ⊥)
     → (b ≡ forward c a) ⊎ ((rank a ≡ pawn_rank c) × (b ≡ forward c (forward c a)))
@@ -107,10 +105,10 @@ not_taken p a b (Some t) pawn off =
       | inr apart ↦ and_right (is_man p.side Pawn (man_at p.men a) && attacks p.men a b) (t == b) apart
     ]
 
-pub pawn_usual : (p : Setup) (a : ℕ) → IsSound p → a < 64 → is_man p.side Pawn (man_at p.men a) ≡ true
-    → aims_at p.target p.side a ≡ false → (rank a ≡ pawn_rank (other p.side) → ⊥) → IsUsual p a
+pub pawn_ordinary : (p : Setup) (a : ℕ) → IsSound p → a < 64 → is_man p.side Pawn (man_at p.men a) ≡ true
+    → aims_at p.target p.side a ≡ false → (rank a ≡ pawn_rank (other p.side) → ⊥) → IsOrdinary p a
 unfolding would_promote is_en_passant no_pawn_on_end_ranks pawn_captures
-pawn_usual p a sound low pawn no_target off = record {
+pawn_ordinary p a sound low pawn no_target off = record {
   stays = λ b high go. and_right (is_man p.side Pawn (man_at p.men a)) (rank b == first_rank (other p.side))
       (ne_eqb (rank b) (first_rank (other p.side)) (last b high go));
   passes = λ b. not_taken p a b p.target pawn no_target;
@@ -130,44 +128,49 @@ pawn_usual p a sound low pawn no_target off = record {
         ]
 
 -- as the code computes it
-pub usual_from : (p : Setup) (a : ℕ) → IsSound p → a < 64
+pub ordinary_from : (p : Setup) (a : ℕ) → IsSound p → a < 64
     → (is_man p.side Pawn (man_at p.men a) && (aims_at p.target p.side a || (rank a == pawn_rank (other p.side))))
-    ≡ false → IsUsual p a
-usual_from p a sound low h = by (is_man p.side Pawn (man_at p.men a)) refl h
+    ≡ false → IsOrdinary p a
+ordinary_from p a sound low h = by (is_man p.side Pawn (man_at p.men a)) refl h
   where
     by : (b : Bool) → is_man p.side Pawn (man_at p.men a) ≡ b
-        → (b && (aims_at p.target p.side a || (rank a == pawn_rank (other p.side)))) ≡ false → IsUsual p a
-    by false e g = no_pawn_usual p a e
+        → (b && (aims_at p.target p.side a || (rank a == pawn_rank (other p.side)))) ≡ false → IsOrdinary p a
+    by false e g = no_pawn_ordinary p a e
     by true e g =
         let neither = or_parts (aims_at p.target p.side a) (rank a == pawn_rank (other p.side)) g in
-        pawn_usual p a sound low e neither.0 (λ same. both_ways (rank a == pawn_rank (other p.side)) neither.1
+        pawn_ordinary p a sound low e neither.0 (λ same. both_ways (rank a == pawn_rank (other p.side)) neither.1
         (eq-eqb (rank a) (pawn_rank (other p.side)) same))
 
 -- ---- so each square is the end of one legal move
 
-pub all_once : {A : Type 0} (g : ℕ → List A) (ms : List ℕ) → Each (λ b. length (g b) ≡ 1) ms
-    → length (flat_map g ms) ≡ length ms
-all_once g [] h = refl
-all_once g (x ∷ xs) h =
-    let rest = all_once g xs h.1 in
-    let once : length (g x) ≡ 1 = h.0 in
-    let parts = length-append (g x) (flat_map g xs) in
-    omega (arith, rest, once, parts)
+pub free_between : (p : Setup) (a b king : ℕ) → IsSound p → IsFree p a → IsOrdinary p a → a < 64 → b < 64 → king < 64
+    → ((k : ℕ) → k < 64 → is_man p.side King (man_at p.men k) ≡ (k == king)) → goes p a b ≡ true
+    → moves_between p a b ≡ move_of a b None ∷ []
+free_between p a b king sound free ordinary low high there one go =
+    let stays = ordinary.stays b high go in
+    one_between p a b stays
+    ∙ ap (λ t. cond t (move_of a b None ∷ []) [])
+    (free_is_legal p a b king sound free low there one go stays (ordinary.passes b))
 
-pub free_counted : (p : Setup) (a king w : ℕ) → IsSound p → IsFree p a → IsUsual p a → a < 64 → king < 64
+pub free_listed : (p : Setup) (a king w : ℕ) → IsSound p → IsFree p a → IsOrdinary p a → a < 64 → king < 64
+    → ((k : ℕ) → k < 64 → is_man p.side King (man_at p.men k) ≡ (k == king))
+    → ((k : ℕ) → k < 64 → contains w k ≡ true → goes p a k ≡ true)
+    → ((m : Move) → is_legal p m ≡ true → m.from ≡ a → contains w m.to ≡ true)
+    → moves_from p a ≡ map (λ b. move_of a b None) (members w)
+free_listed p a king w sound free ordinary low there one sets all =
+    sym (from_targets p a w all)
+    ∙ all_ones (λ b. moves_between p a b) (λ b. move_of a b None) (members w)
+    (each_member w (λ b. moves_between p a b ≡ move_of a b None ∷ [])
+    (λ b high h. free_between p a b king sound free ordinary low high there one (sets b high h)))
+
+pub free_counted : (p : Setup) (a king w : ℕ) → IsSound p → IsFree p a → IsOrdinary p a → a < 64 → king < 64
     → ((k : ℕ) → k < 64 → is_man p.side King (man_at p.men k) ≡ (k == king))
     → ((k : ℕ) → k < 64 → contains w k ≡ true → goes p a k ≡ true)
     → ((m : Move) → is_legal p m ≡ true → m.from ≡ a → contains w m.to ≡ true)
     → length (members w) ≡ length (moves_from p a)
-free_counted p a king w sound free usual low there one sets all =
-    sym (all_once (λ b. moves_between p a b) (members w) (each_member w (λ b. length (moves_between p a b) ≡ 1) once))
-    ∙ ap length (from_targets p a w all)
-  where
-    once : (b : ℕ) → b < 64 → contains w b ≡ true → length (moves_between p a b) ≡ 1
-    once b high h =
-        let go = sets b high h in
-        let legal = free_is_legal p a b king sound free low there one go (usual.stays b high go) (usual.passes b) in
-        sym (rw legal at (one_counted p a b (usual.stays b high go)))
+free_counted p a king w sound free ordinary low there one sets all =
+    sym (ap length (free_listed p a king w sound free ordinary low there one sets all)
+    ∙ length-map (members w) (λ b. move_of a b None))
 
 -- ---- the set of the free pieces
 
@@ -256,26 +259,3 @@ freed p a king sound low there calm one out lines diagonals = record {
 pub from_not : (b : Bool) → not b ≡ false → b ≡ true
 from_not true h = refl
 from_not false h = cc
-
-pub and_true_left : (a b : Bool) → a ≡ true → (a && b) ≡ false → b ≡ false
-and_true_left true b e h = h
-and_true_left false b e h = cc
-
--- and that is the move that is listed
-pub free_listed : (p : Setup) (a king w : ℕ) → IsSound p → IsFree p a → IsUsual p a → a < 64 → king < 64
-    → ((k : ℕ) → k < 64 → is_man p.side King (man_at p.men k) ≡ (k == king))
-    → ((k : ℕ) → k < 64 → contains w k ≡ true → goes p a k ≡ true) → (b : ℕ) → b < 64 → contains w b ≡ true
-    → moves_between p a b ≡ move_of a b None ∷ []
-free_listed p a king w sound free usual low there one sets b high h =
-    let go = sets b high h in
-    let stays = usual.stays b high go in
-    let legal = free_is_legal p a b king sound free low there one go stays (usual.passes b) in
-    none_promotes p a b stays ∙ rw legal refl
-
--- there is room for it in the list
-pub one_fits : {A : Type 0} (g : ℕ → List A) (x : A) (now whole : List A) (ms : List ℕ) (s : ℕ) (ns : List ℕ) (n : ℕ)
-    → ms ≡ s ∷ ns → now ++ flat_map g ms ≡ whole → length whole ≤ n → g s ≡ x ∷ [] → length now < n
-one_fits g x now whole ms s ns n e h fits one =
-    let room = room_for g now whole ms s ns n e h fits in
-    let single : length (g s) ≡ 1 = ap length one in
-    omega (arith, room, single)

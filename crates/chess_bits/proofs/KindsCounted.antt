@@ -13,7 +13,7 @@ use Rattle.chess_base.proofs.shared.Men.{is_of-from_is_man}
 use Rattle.chess_moves.specs.shared.MovesBySquares.{moves_from}
 use Rattle.chess_moves.specs.Sets.{contains, members}
 use Rattle.chess_bits.specs.ties.Goes.{man_goes, IsFree, AreFree}
-use Rattle.chess_bits.proofs.Freely.{no_pawn_usual, free_counted}
+use Rattle.chess_bits.proofs.Freely.{no_pawn_ordinary, free_counted}
 use Rattle.chess_bits.proofs.TargetsOf.{man_told, officer_is, man_set_sound, man_set_complete}
 
 -- ---- a set in two
@@ -100,5 +100,5 @@ officer_counted p a king w kind sound free man kinds low there one set =
     let own = is_of-from_is_man p.side kind (man_at p.men a) man in
     let no_pawn = other_kind p a kind Pawn at neither.1 in
     let goes_so : (k : ℕ) → k < 64 → contains w k ≡ man_goes p a k = λ k l. set k l ∙ officer_is p a k _ at own neither.0 in
-    free_counted p a king w sound free (no_pawn_usual p a no_pawn) low there one
+    free_counted p a king w sound free (no_pawn_ordinary p a no_pawn) low there one
     (man_set_sound p a w own no_pawn low goes_so) (man_set_complete p a w own no_pawn low goes_so)

@@ -1,7 +1,7 @@
 -- The king's legal moves, listed.
 use mathlib.Core.Bool.{or-false}
-use Rattle.std.proofs.Common.{◌≡◌, ℕ, ◌<◌, inl, inr, Bool, true, false, ◌&&◌, ◌||◌, Option, Some, None, [], ◌∷◌, refl, sym, ◌∙◌}
-use Rattle.std.specs.List.{flat_map}
+use Rattle.std.proofs.Common.{◌≡◌, ℕ, ◌<◌, inl, inr, Bool, true, false, ◌&&◌, ◌||◌, Option, Some, None, cond, [], ◌∷◌, length, map, refl, sym, ap, ◌∙◌}
+use Rattle.std.proofs.lemmas.List.{length-map}
 use Rattle.std.proofs.lemmas.Bool.{cases_Bool}
 use Rattle.chess_base.specs.declared.castling.Castle.{Castle}
 use Rattle.chess_base.specs.declared.man.Kind.TheVariants.{King}
@@ -14,9 +14,9 @@ use Rattle.chess_moves.specs.shared.MovesBySquares.{moves_between, moves_from}
 use Rattle.chess_moves.specs.Promoting.{would_promote}
 use Rattle.chess_moves.specs.Sets.{contains, members}
 use Rattle.chess_moves.proofs.shared.Members.{flat_map_members}
-use Rattle.chess_moves.proofs.shared.MovesBySquares.{none_promotes}
 use Rattle.chess_bits.specs.ties.Goes.{legal_or}
 use Rattle.chess_bits.proofs.ByKind.{king_otherwise}
+use Rattle.chess_bits.proofs.Listed.{all_ones, each_member, one_between}
 use Rattle.chess_bits.proofs.Patterns.{not_promoting}
 use Rattle.chess_bits.proofs.TargetsOf.{man_told}
 
@@ -41,22 +41,24 @@ steps_or_castles p a b end step king low high ends steps =
         same true = refl
         same false = refl
 
-pub king_stays_king : (p : Setup) (a b : ℕ) → is_man p.side King (man_at p.men a) ≡ true → would_promote p a b ≡ false
+king_stays_king : (p : Setup) (a b : ℕ) → is_man p.side King (man_at p.men a) ≡ true → would_promote p a b ≡ false
 king_stays_king p a b king = not_promoting p a b _ (man_told p.side King (man_at p.men a) king) refl
 
 -- it promotes nothing, so there is one to each square where a legal one ends
-pub one_there : (p : Setup) (a b : ℕ) → is_man p.side King (man_at p.men a) ≡ true
-    → is_legal p (move_of a b None) ≡ true → moves_between p a b ≡ move_of a b None ∷ []
-one_there p a b king legal = none_promotes p a b (king_stays_king p a b king) ∙ rw legal refl
-
-none_there : (p : Setup) (a b : ℕ) → is_man p.side King (man_at p.men a) ≡ true
-    → is_legal p (move_of a b None) ≡ false → moves_between p a b ≡ []
-none_there p a b king stays = none_promotes p a b (king_stays_king p a b king) ∙ rw stays refl
-
-pub from_ends : (p : Setup) (a w : ℕ) → is_man p.side King (man_at p.men a) ≡ true
+pub king_listed : (p : Setup) (a w : ℕ) → is_man p.side King (man_at p.men a) ≡ true
     → ((k : ℕ) → k < 64 → contains w k ≡ is_legal p (move_of a k None))
-    → flat_map (λ b. moves_between p a b) (members w) ≡ moves_from p a
+    → moves_from p a ≡ map (λ b. move_of a b None) (members w)
 unfolding moves_from
-from_ends p a w king ends =
-    flat_map_members (λ b. moves_between p a b) w
-    (λ b low out. none_there p a b king (sym (ends b low) ∙ out))
+king_listed p a w king ends =
+    sym (flat_map_members (λ b. moves_between p a b) w
+    (λ b low out. one_between p a b (king_stays_king p a b king)
+    ∙ ap (λ t. cond t (move_of a b None ∷ []) []) (sym (ends b low) ∙ out)))
+    ∙ all_ones (λ b. moves_between p a b) (λ b. move_of a b None) (members w)
+    (each_member w (λ b. moves_between p a b ≡ move_of a b None ∷ [])
+    (λ b low on. one_between p a b (king_stays_king p a b king)
+    ∙ ap (λ t. cond t (move_of a b None ∷ []) []) (sym (ends b low) ∙ on)))
+
+pub king_counted : (p : Setup) (a w : ℕ) → is_man p.side King (man_at p.men a) ≡ true
+    → ((k : ℕ) → k < 64 → contains w k ≡ is_legal p (move_of a k None)) → length (members w) ≡ length (moves_from p a)
+king_counted p a w king ends = sym (ap length (king_listed p a w king ends)
+    ∙ length-map (members w) (λ b. move_of a b None))

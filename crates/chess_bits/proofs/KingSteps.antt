@@ -1,9 +1,7 @@
 -- Where a king steps, and when it is safe there.
-use Rattle.std.proofs.Common.{◌≡◌, ℕ, zero, suc, ◌<◌, ◌≤◌, ◌+◌, inl, inr, Bool, true, false, not, ◌&&◌, ◌==◌, cond, Option, Some, None, List, [], length, length-append, refl, sym, ap, ◌∙◌, arith}
-use Rattle.std.specs.List.{filter, flat_map, range_with_len}
+use Rattle.std.proofs.Common.{◌≡◌, ℕ, ◌<◌, inl, inr, Bool, true, false, not, ◌&&◌, ◌==◌, Option, Some, None, refl, sym, ap, ◌∙◌, arith}
 use Rattle.std.proofs.lemmas.Bool.{and_parts, and_right, both_ways, cases_Bool, eqb-true, eq-eqb, false_from_ne_true}
 use Rattle.std.proofs.lemmas.Bool.Decides.{nat_tests}
-use Rattle.chess_base.specs.declared.castling.Castle.{Castle}
 use Rattle.chess_base.specs.declared.man.CastlingSide.{CastlingSide}
 use Rattle.chess_base.specs.declared.man.CastlingSide.TheVariants.{KingSide, QueenSide}
 use Rattle.chess_base.specs.declared.man.Colour.{Colour}
@@ -11,7 +9,6 @@ use Rattle.chess_base.specs.declared.man.Colour.TheVariants.{White, Black}
 use Rattle.chess_base.specs.declared.man.Kind.{Kind}
 use Rattle.chess_base.specs.declared.man.Kind.TheVariants.{King, Queen, Rook, Bishop, Knight, Pawn}
 use Rattle.chess_base.specs.declared.man.Man.{Man}
-use Rattle.chess_base.specs.declared.man.Move.{Move}
 use Rattle.chess_base.specs.declared.man.Variant.{Variant}
 use Rattle.chess_base.specs.declared.man.Variant.TheVariants.{Normal, Fischerandom}
 use Rattle.chess_base.specs.declared.setup.Setup.{Setup}
@@ -20,23 +17,19 @@ use Rattle.chess_base.specs.shared.Splits.{could_capture_as, names_castling}
 use Rattle.chess_base.specs.Castling.{home_square, king_home_file, castled_king_file, right_of, is_castling_to, castle_of, mover_end, castling_rook_to}
 use Rattle.chess_base.specs.Before.{mover_to}
 use Rattle.chess_base.specs.Men.{Men, man_at, other, is_of, is_man}
-use Rattle.chess_base.specs.MoveList.{move_of, squares}
+use Rattle.chess_base.specs.MoveList.{move_of}
 use Rattle.chess_base.specs.Moves.{is_pseudo_legal, is_legal, is_en_passant, man_moves, men_after, second_square_emptied}
 use Rattle.chess_base.specs.Sound.{IsSound}
 use Rattle.chess_base.specs.Squares.{file, rank, gap, is_between, is_between_on_file, is_between_on_rank, is_between_on_diagonal}
 use Rattle.chess_base.proofs.shared.Castling.{right_is_sound_of, castling_rook_is_there}
 use Rattle.chess_base.proofs.shared.Men.{is_of-from_is_man}
-use Rattle.chess_moves.specs.shared.MovesBySquares.{moves_between, moves_from}
 use Rattle.chess_moves.specs.Promoting.{would_promote}
-use Rattle.chess_moves.specs.Sets.{contains, members}
 use Rattle.chess_bits.specs.ties.Goes.{goes, legal_or, lifted}
 use Rattle.chess_bits.proofs.Attackers.{each_square_same, some_square_same, eq_back}
-use Rattle.chess_bits.proofs.Counted.{one_counted}
-use Rattle.chess_bits.proofs.Freely.{all_once}
 use Rattle.chess_bits.proofs.KingAfter.{mover_some, mover_own, king_lands, check_after, legal_is}
 use Rattle.chess_bits.proofs.Lifted.{lifted_at}
-use Rattle.chess_bits.proofs.Listed.{each_member, none_there, pattern_of}
-use Rattle.chess_bits.proofs.Patterns.{man_sound, man_complete, not_promoting}
+use Rattle.chess_bits.proofs.Listed.{pattern_of}
+use Rattle.chess_bits.proofs.Patterns.{man_sound, not_promoting}
 use Rattle.chess_bits.proofs.Quiet.{IsPlain, lands_same, plain_after, not_passing}
 use Rattle.chess_bits.proofs.TargetsOf.{man_told, none_castles, steps_of_man}
 
@@ -200,87 +193,7 @@ step_is p a b sound king moves low high =
     ap not (attacked_same (lifted p.men a) (men_after p m) b (other p.side) same
     ∙ sym (check_after p m b sound pattern high there)) ∙ legal_is p m pattern
 
--- ---- its steps and castling are all its moves
-
--- what two sets that are apart give is all, where other squares give nothing
-two_range : {A : Type 0} (g : ℕ → List A) (s e : ℕ → Bool) (n a : ℕ) → a + n ≤ 64
-    → ((k : ℕ) → k < 64 → s k ≡ false → e k ≡ false → g k ≡ [])
-    → ((k : ℕ) → k < 64 → s k ≡ true → e k ≡ false)
-    → length (flat_map g (filter e (range_with_len a n)))
-    + length (flat_map g (filter s (range_with_len a n))) ≡ length (flat_map g (range_with_len a n))
-two_range g s e zero a fits out apart = refl
-two_range g s e (suc n) a fits out apart =
-    let rest = two_range g s e n (a + 1) (omega arith) out apart in
-    let all = length-append (g a) (flat_map g (range_with_len (a + 1) n)) in
-    let ons = length-append (g a) (flat_map g (filter s (range_with_len (a + 1) n))) in
-    let one = length-append (g a) (flat_map g (filter e (range_with_len (a + 1) n))) in
-    elim (cases_Bool (s a)) [
-      | inl here ↦ rw (here, apart a (omega arith) here) (omega (arith, rest, all, ons))
-      | inr away ↦
-          elim (cases_Bool (e a)) [
-            | inl here ↦ rw (away, here) (omega (arith, rest, all, one))
-            | inr gone ↦
-                let empty : length (g a) ≡ 0 = ap length (out a (omega arith) away gone) in
-                rw (away, gone) (omega (arith, rest, all, empty))
-          ]
-    ]
-
-pub two_sets : {A : Type 0} (g : ℕ → List A) (s e : ℕ)
-    → ((k : ℕ) → k < 64 → contains s k ≡ false → contains e k ≡ false → g k ≡ [])
-    → ((k : ℕ) → k < 64 → contains s k ≡ true → contains e k ≡ false)
-    → length (flat_map g (members e)) + length (flat_map g (members s)) ≡ length (flat_map g squares)
-unfolding members squares
-two_sets g s e out apart = two_range g (λ k. contains s k) (λ k. contains e k) 64 0 (omega arith) out apart
-
-king_goes : (p : Setup) (a b : ℕ) (s e : Bool) (k : Option Kind) → is_man p.side King (man_at p.men a) ≡ true → a < 64
-    → b < 64
-    → s ≡ man_moves p (move_of a b None) → e ≡ legal_or p (move_of a b None) (castle_of p (move_of a b None)) false
-    → s ≡ false → e ≡ false → is_legal p (move_of a b k) ≡ false
-king_goes p a b s e k king low high steps ends off out =
-    let at = man_told p.side King (man_at p.men a) king in
-    false_from_ne_true (is_legal p (move_of a b k))
-    (λ legal. by (castle_of p (move_of a b None)) refl (man_complete p (move_of a b k) _ at refl refl low high legal))
-  where
-    by : (o : Option Castle) → castle_of p (move_of a b None) ≡ o
-        → legal_or p (move_of a b None) o (man_moves p (move_of a b None)) ≡ true → ⊥
-    by None none h = both_ways (man_moves p (move_of a b None)) (sym steps ∙ off) h
-    by (Some castle) some h =
-        both_ways (is_legal p (move_of a b None))
-        (sym (ends ∙ ap (λ o. legal_or p (move_of a b None) o false) some) ∙ out) h
-
-pub king_counted : (p : Setup) (a s e : ℕ) → IsSound p → is_man p.side King (man_at p.men a) ≡ true → a < 64
-    → ((k : ℕ) → k < 64 → contains s k ≡ man_moves p (move_of a k None))
-    → ((k : ℕ) → k < 64 → contains e k ≡ legal_or p (move_of a k None) (castle_of p (move_of a k None)) false)
-    → length (members e) + length (flat_map (λ b. moves_between p a b) (members s)) ≡ length (moves_from p a)
-unfolding moves_from
-king_counted p a s e sound king low steps ends =
-    let at = man_told p.side King (man_at p.men a) king in
-    let ones : length (flat_map (λ b. moves_between p a b) (members e)) ≡ length (members e) =
-    all_once (λ b. moves_between p a b) (members e) (each_member e (λ b. length (moves_between p a b) ≡ 1) once) in
-    sym (ap (λ n. n + length (flat_map (λ b. moves_between p a b) (members s))) ones)
-    ∙ two_sets (λ b. moves_between p a b) s e
-    (λ b high off out. none_there p a b (λ k. king_goes p a b (contains s b) (contains e b) k king low high (steps b high)
-    (ends b high) off out))
-    (λ b high on.
-    ends b high ∙ ap (λ o. legal_or p (move_of a b None) o false)
-    (step_no_castling p a b sound king (sym (steps b high) ∙ on)))
-  where
-    castled : (m : Move) (o : Option Castle) → legal_or p m o false ≡ true → is_legal p m ≡ true
-    castled m None h = cc
-    castled m (Some castle) h = h
-
-    once : (b : ℕ) → b < 64 → contains e b ≡ true → length (moves_between p a b) ≡ 1
-    once b high h =
-        let legal = castled (move_of a b None) (castle_of p (move_of a b None)) (sym (ends b high) ∙ h) in
-        let stays : would_promote p a b ≡ false =
-        not_promoting p a b _ (man_told p.side King (man_at p.men a) king) refl in
-        sym (rw legal at (one_counted p a b stays))
-
 -- as the code computes them
 pub steps_are : (p : Setup) (a b : ℕ) → is_man p.side King (man_at p.men a) ≡ true
     → (could_capture p.men p.side King a b && not (is_of p.side (man_at p.men b))) ≡ man_moves p (move_of a b None)
 steps_are p a b king = sym (steps_of_man p a b _ (man_told p.side King (man_at p.men a) king) refl)
-
-pub step_counted : (p : Setup) (a b : ℕ) → is_man p.side King (man_at p.men a) ≡ true
-    → cond (is_legal p (move_of a b None)) 1 0 ≡ length (moves_between p a b)
-step_counted p a b king = one_counted p a b (not_promoting p a b _ (man_told p.side King (man_at p.men a) king) refl)

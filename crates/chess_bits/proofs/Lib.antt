@@ -31,4 +31,4 @@ mod CastlingAtHome
 mod CastlingSafely
 mod PawnStarts
 mod PawnsCounted
-mod Bounds
+mod Pins

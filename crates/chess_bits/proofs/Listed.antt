@@ -1,5 +1,5 @@
 -- The list of legal moves, over the members of sets.
-use Rattle.std.proofs.Common.{◌≡◌, ℕ, zero, suc, ◌+◌, ◌<◌, ◌≤◌, inl, inr, Bool, true, false, Option, Some, None, List, [], ◌∷◌, ◌++◌, length, get_or, refl, sym, ap, subst, ◌∙◌, arith, append_assoc, append-nil, length-append, nat_lt}
+use Rattle.std.proofs.Common.{◌≡◌, ℕ, zero, suc, ◌+◌, ◌<◌, ◌≤◌, inl, inr, Bool, true, false, Option, Some, None, List, [], ◌∷◌, ◌++◌, length, map, take, cond, refl, sym, ap, subst, ◌∙◌, arith, append_assoc, append-nil, length-append, nat_lt}
 use Rattle.std.specs.List.{filter, flat_map, range_with_len}
 use Rattle.std.proofs.lemmas.Bool.{cases_Bool, and_from, false_from_ne_true, both_ways}
 use Rattle.std.proofs.lemmas.Bool.Decides.{nat_tests}
@@ -16,7 +16,7 @@ use Rattle.chess_moves.specs.shared.MovesBySquares.{moves_between, moves_from}
 use Rattle.chess_moves.specs.Promoting.{would_promote}
 use Rattle.chess_moves.specs.Sets.{contains, members}
 use Rattle.chess_moves.proofs.shared.Members.{flat_map_members}
-use Rattle.chess_moves.proofs.shared.MovesBySquares.{moves-by_start, none_from}
+use Rattle.chess_moves.proofs.shared.MovesBySquares.{moves-by_start, none_from, promoting, all_promote, none_promotes}
 use Rattle.chess_moves.proofs.shared.LegalMoves.{moves_fit}
 use Rattle.chess_bits.specs.ties.Goes.{goes}
 use Rattle.chess_bits.proofs.Patterns.{pattern_is}
@@ -59,6 +59,37 @@ pub all_gathered : {A : Type 0} (g : ℕ → List A) (now whole : List A) (ms : 
     → now ++ flat_map g ms ≡ whole → now ≡ whole
 all_gathered g now whole ms e h = sym (append-nil now) ∙ (rw e at h)
 
+-- where each gives one, these are all
+pub all_ones : {A : Type 0} (g : ℕ → List A) (f : ℕ → A) (ms : List ℕ) → Each (λ b. g b ≡ f b ∷ []) ms
+    → flat_map g ms ≡ map f ms
+all_ones g f [] h = refl
+all_ones g f (x ∷ xs) h =
+    let one : g x ≡ f x ∷ [] = h.0 in
+    rw (one, all_ones g f xs h.1) refl
+
+-- there is room for the next of them
+pub room_onto : {A : Type 0} (f : ℕ → A) (now whole : List A) (ms : List ℕ) (s : ℕ) (ns : List ℕ) (n : ℕ)
+    → ms ≡ s ∷ ns → now ++ map f ms ≡ whole → length whole ≤ n → length now < n
+room_onto f now whole ms s ns n e h fits =
+    let all : now ++ map f (s ∷ ns) ≡ whole = rw e at h in
+    let long : length now + length (map f (s ∷ ns)) ≡ length whole = sym (length-append now (map f (s ∷ ns)))
+    ∙ ap length all in
+    omega (arith, long, fits)
+
+more_than : {A B : Type 0} (f : A → B) (xs : List A) (i : ℕ) → i < length xs
+    → length (map f (take i xs)) < length xs
+more_than f [] i h = absurd (omega (arith, h))
+more_than f (x ∷ xs) zero h = omega arith
+more_than f (x ∷ xs) (suc i) h = let rest = more_than f xs i (omega (arith, h)) in omega (arith, rest)
+
+-- where all of a list fit, there is room for the next of them
+pub room_for_each : {A B : Type 0} (f : A → B) (xs : List A) (i : ℕ) (start now : List B) (room : ℕ) → i < length xs
+    → now ≡ start ++ map f (take i xs) → length start + length xs ≤ room → length now < room
+room_for_each f xs i start now room h e fits =
+    let more = more_than f xs i h in
+    let all : length now ≡ length start + length (map f (take i xs)) = rw e (length-append start (map f (take i xs))) in
+    omega (arith, more, all, fits)
+
 -- there is room for the next
 pub room_for : {A : Type 0} (g : ℕ → List A) (now whole : List A) (ms : List ℕ) (s : ℕ) (ns : List ℕ) (n : ℕ)
     → ms ≡ s ∷ ns → now ++ flat_map g ms ≡ whole → length whole ≤ n → length now + length (g s) ≤ n
@@ -76,18 +107,30 @@ pub pattern_of : (p : Setup) (a b : ℕ) (k : Option Kind) → goes p a b ≡ tr
 pattern_of p a b k g f = pattern_is p (move_of a b k) ∙ and_from (goes p a b) (promotion_fits (would_promote p a b) k) g
     f
 
-pub four_fit : (w : Bool) → w ≡ true → (i : ℕ) → i < 4 → (d : Option Kind)
-    → promotion_fits w (get_or (Some Queen ∷ Some Rook ∷ Some Bishop ∷ Some Knight ∷ []) i d) ≡ true
-four_fit w e zero h d = e
-four_fit w e (suc zero) h d = e
-four_fit w e (suc (suc zero)) h d = e
-four_fit w e (suc (suc (suc zero))) h d = e
-four_fit w e (suc (suc (suc (suc i)))) h d = absurd (omega (arith, h))
+-- a move without a promotion has the pattern where no pawn would promote
+pub unpromoted : (p : Setup) (a b : ℕ) → goes p a b ≡ true → would_promote p a b ≡ false
+    → is_pseudo_legal p (move_of a b None) ≡ true
+unpromoted p a b g e = pattern_of p a b None g (rw e refl)
 
-pub none_fit : (w : Bool) → w ≡ false → (i : ℕ) → i < 1 → (d : Option Kind) → promotion_fits w (get_or (None ∷ []) i d)
-    ≡ true
-none_fit w e zero h d = rw e refl
-none_fit w e (suc i) h d = absurd (omega (arith, h))
+all_or_none : {A : Type 0} (q : A → Bool) (w x y z : A) (t : Bool) → t ≡ q w → t ≡ q x → t ≡ q y → t ≡ q z
+    → filter q (w ∷ x ∷ y ∷ z ∷ []) ≡ cond t (w ∷ x ∷ y ∷ z ∷ []) []
+all_or_none q w x y z true e f g h = rw (← e, ← f, ← g, ← h) refl
+all_or_none q w x y z false e f g h = rw (← e, ← f, ← g, ← h) refl
+
+-- the promotions to each kind are all moves of a pawn that promotes, or none is legal
+pub promotions_between : (p : Setup) (a b : ℕ) (t : Bool) → would_promote p a b ≡ true
+    → ((k : Kind) → promotion_fits true (Some k) ≡ true → t ≡ is_legal p (move_of a b (Some k)))
+    → moves_between p a b ≡ cond t (map (move_of a b) promoting) []
+promotions_between p a b t e h =
+    all_promote p a b e
+    ∙ all_or_none (λ m. is_legal p m) (move_of a b (Some Queen)) (move_of a b (Some Rook)) (move_of a b (Some Bishop))
+    (move_of a b (Some Knight)) t (h Queen refl) (h Rook refl) (h Bishop refl) (h Knight refl)
+
+-- and elsewhere there is one move at most
+pub one_between : (p : Setup) (a b : ℕ) → would_promote p a b ≡ false
+    → moves_between p a b ≡ cond (is_legal p (move_of a b None)) (move_of a b None ∷ []) []
+one_between p a b e = none_promotes p a b e
+    ∙ elim (cases_Bool (is_legal p (move_of a b None))) [ inl legal ↦ rw legal refl | inr not_legal ↦ rw not_legal refl ]
 
 -- where none is legal there are none
 pub none_there : (p : Setup) (a b : ℕ) → ((k : Option Kind) → is_legal p (move_of a b k) ≡ false)

@@ -19,7 +19,7 @@ use Rattle.chess_base.specs.Squares.{rank}
 use Rattle.chess_base.proofs.shared.Men.{same_colour-self}
 use Rattle.chess_moves.specs.Promoting.{would_promote}
 use Rattle.chess_moves.specs.Sets.{contains}
-use Rattle.chess_bits.specs.ties.Goes.{usual_promotion, goes, legal_or, man_goes}
+use Rattle.chess_bits.specs.ties.Goes.{tried_promotion, goes, legal_or, man_goes}
 
 pub fits_low : (kind : Kind) → promotion_fits false (Some kind) ≡ false
 fits_low King = refl
@@ -73,7 +73,7 @@ by_kind p a b k true false = officers p a b k
 
 by_man : (p : Setup) (a b : ℕ) (k : Option Kind) (o : Option Man) → man_at p.men a ≡ o
     → moves_as p (move_of a b k) o
-    ≡ (moves_as p (move_of a b (usual_promotion p a b)) o && promotion_fits (would_promote p a b) k)
+    ≡ (moves_as p (move_of a b (tried_promotion p a b)) o && promotion_fits (would_promote p a b) k)
 unfolding would_promote is_man
 by_man p a b k None at = refl
 by_man p a b k (Some x) at = rw at (by_kind p a b k (same_colour p.side x.colour) (same_kind Pawn x.kind))
@@ -87,7 +87,7 @@ pub pattern_by : (p : Setup) (a b : ℕ) (k : Option Kind)
 unfolding is_pseudo_legal goes
 pattern_by p a b k =
     ap (λ v. (nat_lt a 64 && nat_lt b 64) && v) (by_man p a b k (man_at p.men a) refl)
-    ∙ and_joined (nat_lt a 64 && nat_lt b 64) (moves_as p (move_of a b (usual_promotion p a b)) (man_at p.men a))
+    ∙ and_joined (nat_lt a 64 && nat_lt b 64) (moves_as p (move_of a b (tried_promotion p a b)) (man_at p.men a))
     (promotion_fits (would_promote p a b) k)
 
 -- a move has a pattern where its piece goes so and its promotion fits
@@ -98,7 +98,7 @@ pattern_is p m = pattern_by p m.from m.to m.promotion
 -- ---- by the piece
 
 goes_as : (p : Setup) (a b : ℕ) (o : Option Man) → man_at p.men a ≡ o → a < 64 → b < 64
-    → goes p a b ≡ moves_as p (move_of a b (usual_promotion p a b)) o
+    → goes p a b ≡ moves_as p (move_of a b (tried_promotion p a b)) o
 unfolding goes is_pseudo_legal
 goes_as p a b o at low high = rw (lt-ltb a 64 low, lt-ltb b 64 high, at) refl
 
@@ -108,7 +108,7 @@ unfolding goes is_pseudo_legal is_of
 no_man_goes p a b h =
     ap (λ v. (nat_lt a 64 && nat_lt b 64) && v) (by (man_at p.men a) h) ∙ and-false (nat_lt a 64 && nat_lt b 64)
   where
-    by : (o : Option Man) → is_of p.side o ≡ false → moves_as p (move_of a b (usual_promotion p a b)) o ≡ false
+    by : (o : Option Man) → is_of p.side o ≡ false → moves_as p (move_of a b (tried_promotion p a b)) o ≡ false
     by None e = refl
     by (Some x) e = rw e refl
 
@@ -117,15 +117,15 @@ moves_pawn : (p : Setup) (m : Move) (x : Man) → x.colour ≡ p.side → same_k
 moves_pawn p m x own pawn = let own' : same_colour p.side x.colour ≡ true = rw own (same_colour-self p.side) in
     rw (own', pawn) refl
 
-usual_fits : (last x : Bool) → (promotion_fits last (if last then Some Queen else None) && x) ≡ x
-usual_fits true x = refl
-usual_fits false x = refl
+tried_fits : (last x : Bool) → (promotion_fits last (if last then Some Queen else None) && x) ≡ x
+tried_fits true x = refl
+tried_fits false x = refl
 
-usual_pawn : (p : Setup) (a b : ℕ)
+tried_pawn : (p : Setup) (a b : ℕ)
     → pawn_moves p (move_of a b (if rank b == first_rank (other p.side) then Some Queen else None))
     ≡ (pawn_advances p (move_of a b None) || pawn_captures p (move_of a b None))
 unfolding pawn_moves pawn_advances pawn_captures is_double_advance
-usual_pawn p a b = usual_fits (rank b == first_rank (other p.side))
+tried_pawn p a b = tried_fits (rank b == first_rank (other p.side))
     (pawn_advances p (move_of a b None) || pawn_captures p (move_of a b None))
 
 promotes_is : (p : Setup) (a b : ℕ) (x : Man) → man_at p.men a ≡ Some x → x.colour ≡ p.side
@@ -140,9 +140,9 @@ pub pawn_goes : (p : Setup) (a b : ℕ) (x : Man) → man_at p.men a ≡ Some x 
     → goes p a b ≡ (pawn_advances p (move_of a b None) || pawn_captures p (move_of a b None))
 pawn_goes p a b x at own pawn low high =
     goes_as p a b (Some x) at low high
-    ∙ moves_pawn p (move_of a b (usual_promotion p a b)) x own pawn
+    ∙ moves_pawn p (move_of a b (tried_promotion p a b)) x own pawn
     ∙ ap (λ w. pawn_moves p (move_of a b (if w then Some Queen else None))) (promotes_is p a b x at own pawn)
-    ∙ usual_pawn p a b
+    ∙ tried_pawn p a b
 
 pub not_promoting : (p : Setup) (a b : ℕ) (x : Man) → man_at p.men a ≡ Some x → same_kind Pawn x.kind ≡ false
     → would_promote p a b ≡ false
@@ -165,7 +165,7 @@ pub officer_goes : (p : Setup) (a b : ℕ) (x : Man) → man_at p.men a ≡ Some
     → goes p a b ≡ castles_or_moves p (move_of a b None) (castle_of p (move_of a b None))
 officer_goes p a b x at own no_pawn low high =
     goes_as p a b (Some x) at low high
-    ∙ moves_officer p (move_of a b (usual_promotion p a b)) x own no_pawn
+    ∙ moves_officer p (move_of a b (tried_promotion p a b)) x own no_pawn
     ∙ ap (λ w. castles_or_moves p (move_of a b (if w then Some Queen else None))
     (castle_of p (move_of a b (if w then Some Queen else None)))) (not_promoting p a b x at no_pawn)
 

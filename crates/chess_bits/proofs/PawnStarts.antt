@@ -1,14 +1,14 @@
 -- From where pawns go to a square, by sets.
 use mathlib.Core.Bool.{not-not}
 use Rattle.std.proofs.Common.{◌≡◌, ℕ, ◌<◌, ◌≤◌, inl, inr, Bool, true, false, not, ◌&&◌, ◌||◌, ◌==◌, None, is_none, refl, sym, ap, ◌∙◌, arith}
-use Rattle.std.proofs.lemmas.Bool.{and_left, and_parts, and_right, cases_Bool, eqb-true, or_parts}
+use Rattle.std.proofs.lemmas.Bool.{and_from, and_left, and_parts, and_right, cases_Bool, eqb-true}
 use Rattle.chess_base.specs.declared.man.Colour.{Colour}
 use Rattle.chess_base.specs.declared.man.Colour.TheVariants.{White, Black}
 use Rattle.chess_base.specs.declared.man.Kind.TheVariants.{Pawn}
 use Rattle.chess_base.specs.declared.setup.Setup.{Setup}
 use Rattle.chess_base.specs.Men.{man_at, is_man, is_of, other, first_rank, forward, pawn_rank}
 use Rattle.chess_base.specs.MoveList.{move_of}
-use Rattle.chess_base.specs.Moves.{is_pseudo_legal, is_legal, pawn_advances, pawn_captures, is_double_advance}
+use Rattle.chess_base.specs.Moves.{is_pseudo_legal, is_legal, pawn_advances, pawn_captures, is_double_advance, promotion_fits}
 use Rattle.chess_base.specs.Squares.{rank, is_square}
 use Rattle.chess_moves.specs.Promoting.{would_promote}
 use Rattle.chess_moves.specs.Sets.{contains}
@@ -18,6 +18,7 @@ use Rattle.chess_bits.specs.ties.Shapes.{in_shape}
 use Rattle.chess_bits.proofs.Attackers.{eq_back, pawn_back}
 use Rattle.chess_bits.proofs.TargetsOf.{captures_is}
 use Rattle.chess_bits.proofs.ByKind.{pawn_pattern, pawn_plain, no_pattern}
+use Rattle.chess_bits.proofs.Patterns.{not_fitting}
 
 -- ---- straight ahead
 
@@ -89,6 +90,11 @@ captures_are p k to pawn =
     ∙ ap (λ t. t && (is_of (other p.side) (man_at p.men to) || is_square p.target to)) (pawn_back p.men p.side k to)
     ∙ captures_is p k to pawn
 
+-- what comes after a test that holds
+pub held : (x y z : Bool) → (x ≡ true → y ≡ z) → (x && y) ≡ (x && z)
+held true y z h = h refl
+held false y z h = refl
+
 -- ---- the starts
 
 no_promotion : (p : Setup) (k to : ℕ) → (rank to == first_rank (other p.side)) ≡ false → would_promote p k to ≡ false
@@ -108,33 +114,37 @@ goes_so p k to off high low pawn =
     kept false false e = refl
     kept x true e = cc
 
-pub usual_plain : (p : Setup) (to u v w : ℕ) → to < 64
-    → (is_square p.target to || (rank to == first_rank (other p.side))) ≡ false
-    → ((k : ℕ) → contains w k ≡ (contains u k && contains v k))
-    → ((k : ℕ) → k < 64 → contains u k ≡ is_man p.side Pawn (man_at p.men k))
-    → ((k : ℕ) → k < 64 → is_man p.side Pawn (man_at p.men k) ≡ true
-    → contains v k ≡ (pawn_advances p (move_of k to None) || pawn_captures p (move_of k to None)))
-    → (k : ℕ) → k < 64 → contains w k ≡ true → StepsPlainly p k to
-usual_plain p to u v w high usual both men starts k low on =
-    let off = or_parts (is_square p.target to) (rank to == first_rank (other p.side)) usual in
-    let parts = and_parts (contains u k) (contains v k) (sym (both k) ∙ on) in
-    let pawn : is_man p.side Pawn (man_at p.men k) ≡ true = sym (men k low) ∙ parts.0 in
-    pawn_plain p k to pawn (sym (goes_so p k to off.1 high low pawn) ∙ sym (starts k low pawn) ∙ parts.1) off.0
+-- a pawn that goes to a square off its last rank has the pattern of a move
+pub pawn_patterns : (p : Setup) (to w : ℕ) → to < 64 → (rank to == first_rank (other p.side)) ≡ false
+    → ((k : ℕ) → k < 64 → contains w k ≡ (is_man p.side Pawn (man_at p.men k)
+    && (pawn_advances p (move_of k to None) || pawn_captures p (move_of k to None))))
+    → (k : ℕ) → k < 64 → contains w k ≡ true
+    → (is_man p.side Pawn (man_at p.men k) ≡ true) × (is_pseudo_legal p (move_of k to None) ≡ true)
+pawn_patterns p to w high off starts k low on =
+    let parts = and_parts (is_man p.side Pawn (man_at p.men k))
+    (pawn_advances p (move_of k to None) || pawn_captures p (move_of k to None)) (sym (starts k low) ∙ on) in
+    (parts.0, sym (goes_so p k to off high low parts.0) ∙ parts.1)
 
-pub usual_starts : (p : Setup) (to u v w k : ℕ) (s : Bool) → to < 64
-    → (is_square p.target to || (rank to == first_rank (other p.side))) ≡ false
-    → ((j : ℕ) → contains w j ≡ (contains u j && contains v j))
-    → ((j : ℕ) → j < 64 → contains u j ≡ is_man p.side Pawn (man_at p.men j))
-    → ((j : ℕ) → j < 64 → is_man p.side Pawn (man_at p.men j) ≡ true
-    → contains v j ≡ (pawn_advances p (move_of j to None) || pawn_captures p (move_of j to None)))
+pub pawns_plain : (p : Setup) (to w : ℕ) → to < 64 → (rank to == first_rank (other p.side)) ≡ false
+    → is_square p.target to ≡ false
+    → ((k : ℕ) → k < 64 → contains w k ≡ (is_man p.side Pawn (man_at p.men k)
+    && (pawn_advances p (move_of k to None) || pawn_captures p (move_of k to None))))
+    → (k : ℕ) → k < 64 → contains w k ≡ true → StepsPlainly p (move_of k to None)
+pawns_plain p to w high off free starts k low on =
+    let pawn = pawn_patterns p to w high off starts k low on in
+    pawn_plain p k to pawn.0 pawn.1 free
+
+-- so these are the starts
+pub pawn_starts_are : (p : Setup) (to w k : ℕ) (s : Bool) → to < 64 → (rank to == first_rank (other p.side)) ≡ false
+    → ((j : ℕ) → j < 64 → contains w j ≡ (is_man p.side Pawn (man_at p.men j)
+    && (pawn_advances p (move_of j to None) || pawn_captures p (move_of j to None))))
     → k < 64 → s ≡ (contains w k && is_legal p (move_of k to None))
     → s ≡ (is_man p.side Pawn (man_at p.men k) && is_legal p (move_of k to None))
-usual_starts p to u v w k s high usual both men starts low made =
-    let off = or_parts (is_square p.target to) (rank to == first_rank (other p.side)) usual in
-    made ∙ rw (both k, men k low)
+pawn_starts_are p to w k s high off starts low made =
+    made ∙ rw (starts k low)
     (elim (cases_Bool (is_man p.side Pawn (man_at p.men k))) [
       | inl pawn ↦
-          rw (pawn, starts k low pawn, goes_so p k to off.1 high low pawn)
+          rw (pawn, goes_so p k to off high low pawn)
           (within (is_pseudo_legal p (move_of k to None)) (is_legal p (move_of k to None))
           (no_pattern p (move_of k to None)))
       | inr away ↦ rw away refl
@@ -143,3 +153,17 @@ usual_starts p to u v w k s high usual both men starts low made =
     within : (x y : Bool) → (x ≡ false → y ≡ false) → ((true && x) && y) ≡ (true && y)
     within true y h = refl
     within false y h = sym (h refl)
+
+-- and none is on the last rank, where a pawn promotes
+pub none_on_last : (p : Setup) (k to : ℕ) → (rank to == first_rank (other p.side)) ≡ true
+    → false ≡ (is_man p.side Pawn (man_at p.men k) && is_legal p (move_of k to None))
+unfolding would_promote
+none_on_last p k to last =
+    elim (cases_Bool (is_man p.side Pawn (man_at p.men k))) [
+      | inl pawn ↦
+          let promotes : would_promote p k to ≡ true =
+          and_from (is_man p.side Pawn (man_at p.men k)) (rank to == first_rank (other p.side)) pawn last in
+          sym (and_right (is_man p.side Pawn (man_at p.men k)) (is_legal p (move_of k to None))
+          (sym (not_fitting p (move_of k to None) (ap (λ w. promotion_fits w None) promotes))))
+      | inr away ↦ sym (and_left (is_man p.side Pawn (man_at p.men k)) (is_legal p (move_of k to None)) away)
+    ]

@@ -19,11 +19,10 @@ use Rattle.chess_moves.specs.shared.MovesBySquares.{moves_between, moves_from}
 use Rattle.chess_moves.specs.Sets.{contains, members}
 use Rattle.chess_moves.proofs.shared.Members.{filter_none, filter_first, by_range}
 use Rattle.chess_bits.specs.declared.table.Shape.TheVariants as shape
-use Rattle.chess_bits.specs.ties.Goes.{goes, aims_at, goes_unusually, IsFree, AreFree}
+use Rattle.chess_bits.specs.ties.Goes.{goes, aims_at, goes_specially, IsFree, AreFree}
 use Rattle.chess_bits.specs.ties.Shapes.{in_shape}
 use Rattle.chess_bits.proofs.Attackers.{pawn_back}
-use Rattle.chess_bits.proofs.Counted.{one_counted}
-use Rattle.chess_bits.proofs.Freely.{IsUsual, pawn_usual, free_is_legal}
+use Rattle.chess_bits.proofs.Freely.{IsOrdinary, pawn_ordinary, free_between}
 use Rattle.chess_bits.proofs.Listed.{none_there}
 use Rattle.chess_bits.proofs.OriginsOf.{off_lowest}
 use Rattle.chess_bits.proofs.Patterns.{pawn_goes, legal_goes}
@@ -99,7 +98,7 @@ pub members_fit : (w : ℕ) → length (members w) ≤ 64
 unfolding members squares
 members_fit w = few_kept (λ k. contains w k) 64 0
 
--- ---- the squares to which a usual pawn may go
+-- ---- the squares to which an ordinary pawn may go
 
 -- off the ranks on which a pawn of that colour may not stand, or promotes
 abbrev Inside : Colour → ℕ → Type 0
@@ -336,17 +335,15 @@ four_alone q r s t n m l k are =
 
 -- how many legal moves there are from one square to another
 between_counted : (p : Setup) (a b king : ℕ) → IsSound p → IsFree p a → is_man p.side Pawn (man_at p.men a) ≡ true
-    → IsUsual p a → a < 64 → b < 64 → king < 64
+    → IsOrdinary p a → a < 64 → b < 64 → king < 64
     → ((k : ℕ) → k < 64 → is_man p.side King (man_at p.men k) ≡ (k == king))
     → length (moves_between p a b) ≡ once (pawn_advances p (move_of a b None) || pawn_captures p (move_of a b None))
-between_counted p a b king sound free pawn usual low high there one =
+between_counted p a b king sound free pawn ordinary low high there one =
     by (pawn_advances p (move_of a b None) || pawn_captures p (move_of a b None))
     (pawn_goes p a b _ (man_told p.side Pawn (man_at p.men a) pawn) refl refl low high)
   where
     by : (t : Bool) → goes p a b ≡ t → length (moves_between p a b) ≡ once t
-    by true go =
-        let legal = free_is_legal p a b king sound free low there one go (usual.stays b high go) (usual.passes b) in
-        sym (rw legal at (one_counted p a b (usual.stays b high go)))
+    by true go = ap length (free_between p a b king sound free ordinary low high there one go)
     by false off = ap length (none_there p a b (λ k. false_from_ne_true (is_legal p (move_of a b k))
         (λ e. both_ways (goes p a b) off (legal_goes p (move_of a b k) e).0)))
 
@@ -364,31 +361,31 @@ abbrev pub takes_right : Setup → ℕ → Bool
 takes_right p a = not (file a == 7) && is_of (other p.side) (man_at p.men (forward p.side a + 1))
 
 pub stands_inside : (p : Setup) (a : ℕ) → IsSound p → is_man p.side Pawn (man_at p.men a) ≡ true → a < 64
-    → goes_unusually p a ≡ false → Inside p.side a
+    → goes_specially p a ≡ false → Inside p.side a
 unfolding no_pawn_on_end_ranks
-stands_inside p a sound pawn low usual =
+stands_inside p a sound pawn low ordinary =
     inside p.men p.side a pawn (each_square-at _ sound.pawns a low) low
     (λ e. both_ways (rank a == pawn_rank (other p.side))
-    (or_parts (aims_at p.target p.side a) (rank a == pawn_rank (other p.side)) usual).1
+    (or_parts (aims_at p.target p.side a) (rank a == pawn_rank (other p.side)) ordinary).1
     (eq-eqb (rank a) (pawn_rank (other p.side)) e))
 
 pub pawn_counted : (p : Setup) (a king : ℕ) → IsSound p → IsFree p a → is_man p.side Pawn (man_at p.men a) ≡ true
     → a < 64 → king < 64 → ((k : ℕ) → k < 64 → is_man p.side King (man_at p.men k) ≡ (k == king))
-    → goes_unusually p a ≡ false
+    → goes_specially p a ≡ false
     → length (moves_from p a)
     ≡ once (one_ahead p a) + once (two_ahead p a) + once (takes_left p a) + once (takes_right p a)
 unfolding moves_from
-pawn_counted p a king sound free pawn low there one usual =
-    let neither = or_parts (aims_at p.target p.side a) (rank a == pawn_rank (other p.side)) usual in
-    let is_usual = pawn_usual p a sound low pawn neither.0
+pawn_counted p a king sound free pawn low there one ordinary =
+    let neither = or_parts (aims_at p.target p.side a) (rank a == pawn_rank (other p.side)) ordinary in
+    let is_ordinary = pawn_ordinary p a sound low pawn neither.0
     (λ e. both_ways (rank a == pawn_rank (other p.side)) neither.1 (eq-eqb (rank a) (pawn_rank (other p.side)) e)) in
-    let i = stands_inside p a sound pawn low usual in
+    let i = stands_inside p a sound pawn low ordinary in
     let are = apart p.side a i in
     let n = forward p.side a in
     let each : (b : ℕ) → b < 64 → true ≡ true → length (moves_between p a b)
     ≡ once (one_ahead p a && (b == n)) + once (two_ahead p a && (b == forward p.side n))
     + once (takes_left p a && (b == n - 1)) + once (takes_right p a && (b == n + 1)) = λ b high e.
-    between_counted p a b king sound free pawn is_usual low high there one
+    between_counted p a b king sound free pawn is_ordinary low high there one
     ∙ ap once (rw (advances_so p a b pawn, captures_so p a b pawn neither.0 i) refl)
     ∙ four_ways (one_ahead p a) (two_ahead p a) (takes_left p a) (takes_right p a) b n (forward p.side n) (n - 1) (n + 1)
     are in
@@ -412,18 +409,18 @@ pub record AreWays (p : Setup) (w q r s t : ℕ) : Type 0 where
 
 pub pawns_counted : (p : Setup) (king w q r s t : ℕ) → IsSound p → king < 64
     → ((k : ℕ) → k < 64 → is_man p.side King (man_at p.men k) ≡ (k == king))
-    → AreFree p Pawn w → ((k : ℕ) → k < 64 → contains w k ≡ true → goes_unusually p k ≡ false) → AreWays p w q r s t
+    → AreFree p Pawn w → ((k : ℕ) → k < 64 → contains w k ≡ true → goes_specially p k ≡ false) → AreWays p w q r s t
     → length (members q) + length (members r) + length (members s) + length (members t)
     ≡ length (flat_map (λ a. moves_from p a) (members w))
 unfolding members squares
-pawns_counted p king w q r s t sound there one free usual ways = sym (by_tests (λ a. moves_from p a) (λ k. contains w k)
+pawns_counted p king w q r s t sound there one free ordinary ways = sym (by_tests (λ a. moves_from p a) (λ k. contains w k)
     (λ k. contains q k) (λ k. contains r k) (λ k. contains s k) (λ k. contains t k) 64 0 (omega arith) each ways.none)
   where
     each : (k : ℕ) → k < 64 → contains w k ≡ true
         → length (moves_from p k) ≡ once (contains q k) + once (contains r k) + once (contains s k) + once (contains t k)
     each k low on =
         let man = free k low on in
-        pawn_counted p k king sound man.1 man.0 low there one (usual k low on)
+        pawn_counted p k king sound man.1 man.0 low there one (ordinary k low on)
         ∙ rw (ways.ahead k low on, ways.double k low on, ways.left k low on, ways.right k low on) refl
 
 at_least : (c : Colour) (a : ℕ) → Inside c a → (8 ≤ a) × (8 ≤ forward c a)
@@ -448,9 +445,9 @@ pub record AreSets (p : Setup) (w full blockers farther homes enemies lefts righ
   pub right : (k : ℕ) → contains t k ≡ (contains w k && contains rights k)
 
 pub ways_are : (p : Setup) (w full blockers farther homes enemies lefts rights q again r s t : ℕ) → IsSound p
-    → AreFree p Pawn w → ((k : ℕ) → k < 64 → contains w k ≡ true → goes_unusually p k ≡ false)
+    → AreFree p Pawn w → ((k : ℕ) → k < 64 → contains w k ≡ true → goes_specially p k ≡ false)
     → AreSets p w full blockers farther homes enemies lefts rights q again r s t → AreWays p w q r s t
-ways_are p w full blockers farther homes enemies lefts rights q again r s t sound free usual are = record {
+ways_are p w full blockers farther homes enemies lefts rights q again r s t sound free ordinary are = record {
   ahead = ahead;
   double = λ k low on.
       let i = stands k low on in
@@ -495,7 +492,7 @@ ways_are p w full blockers farther homes enemies lefts rights q again r s t soun
 }
   where
     stands : (k : ℕ) → k < 64 → contains w k ≡ true → Inside p.side k
-    stands k low on = stands_inside p k sound (free k low on).0 low (usual k low on)
+    stands k low on = stands_inside p k sound (free k low on).0 low (ordinary k low on)
 
     ahead : (k : ℕ) → k < 64 → contains w k ≡ true → contains q k ≡ one_ahead p k
     ahead k low on =

@@ -18,8 +18,7 @@ use Rattle.chess_base.specs.Castling.{castle_of, mover_end, castling_rook_to}
 use Rattle.chess_base.proofs.shared.MenAfter.{man_after, man_at-men_after}
 use Rattle.chess_base.proofs.shared.Squares.{some_square-at, some_square-none, each_square-all, each_square-at}
 use Rattle.chess_base.specs.declared.steps.Steps.{Steps}
-use Rattle.chess_base.specs.MoveList.{move_of}
-use Rattle.chess_bits.specs.ties.Changes.{StepsPlainly, is_changed, is_filled}
+use Rattle.chess_bits.specs.ties.Changes.{is_changed, is_filled}
 use Rattle.chess_bits.specs.ties.Goes.{lifted}
 use Rattle.chess_bits.proofs.Attackers.{eq_back}
 use Rattle.chess_bits.proofs.Lifted.{lifted_at}
@@ -172,10 +171,3 @@ changes_both p m k no_king no_passing =
     ∙ ap (λ e. is_filled p m k || e)
     (eq_back k m.from
     ∙ ap (λ (t : Steps). is_square t.second_from k || (t.from == k)) (plain_steps p m no_king no_passing))
-
-pub plain_filled : (p : Setup) (a b k : ℕ) → StepsPlainly p a b → (k == b) ≡ is_filled p (move_of a b None) k
-plain_filled p a b k h = fills_end p (move_of a b None) k h.no_king h.no_passing
-
-pub plain_changed : (p : Setup) (a b k : ℕ) → StepsPlainly p a b
-    → ((k == b) || (k == a)) ≡ is_changed p (move_of a b None) k
-plain_changed p a b k h = changes_both p (move_of a b None) k h.no_king h.no_passing

@@ -1,13 +1,9 @@
 -- The members of a set that pass a test, gathered one after another.
-use Rattle.std.proofs.Common.{◌≡◌, ◌⊎◌, ℕ, zero, suc, ◌<◌, ◌≤◌, ◌+◌, inl, inr, Bool, true, false, ◌&&◌, ◌||◌, ◌==◌, List, [], ◌∷◌, None, refl, sym, ap, ◌∙◌, arith}
+use Rattle.std.proofs.Common.{◌≡◌, ◌⊎◌, ℕ, zero, suc, ◌<◌, ◌≤◌, ◌+◌, inl, inr, Bool, true, false, ◌&&◌, ◌||◌, ◌==◌, List, [], ◌∷◌, refl, sym, ap, ◌∙◌, arith}
 use Rattle.std.specs.List.{filter, range_with_len}
 use Rattle.std.proofs.lemmas.Bool.{cases_Bool, cases_lt, eq-eqb, ne_eqb, eqb-true}
-use Rattle.chess_base.specs.declared.man.Kind.{Kind}
-use Rattle.chess_base.specs.declared.setup.Setup.{Setup}
-use Rattle.chess_base.specs.Men.{man_at, is_man}
-use Rattle.chess_base.specs.MoveList.{squares, move_of}
-use Rattle.chess_base.specs.Moves.{is_legal}
-use Rattle.chess_moves.specs.Sets.{contains, members, HasOrigins}
+use Rattle.chess_base.specs.MoveList.{squares}
+use Rattle.chess_moves.specs.Sets.{contains, members}
 use Rattle.chess_bits.proofs.AnyMember.{any_of}
 
 -- k is in the list and passes
@@ -128,17 +124,3 @@ passed_over q k ms s ns now t e off h =
     out true true g = cc
     out true false g = refl
     out false y g = refl
-
--- squares outside a set of origins have no legal move to the square
-pub starts_are : (p : Setup) (kind : Kind) (to k u : ℕ) → HasOrigins p kind to u
-    → ((is_man p.side kind (man_at p.men k) && contains u k) && is_legal p (move_of k to None))
-    ≡ (is_man p.side kind (man_at p.men k) && is_legal p (move_of k to None))
-starts_are p kind to k u all =
-    both (is_man p.side kind (man_at p.men k)) (contains u k) (is_legal p (move_of k to None))
-    (λ man legal. all (move_of k to None) legal man refl)
-  where
-    both : (x y z : Bool) → (x ≡ true → z ≡ true → y ≡ true) → ((x && y) && z) ≡ (x && z)
-    both true y true h = rw (h refl refl) refl
-    both true true false h = refl
-    both true false false h = refl
-    both false y z h = refl

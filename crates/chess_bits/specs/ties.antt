@@ -7,4 +7,4 @@ pub mod KindSets
 pub mod BoardSets
 pub mod Changes
 pub mod Goes
-pub mod Bounds
+pub mod Pins

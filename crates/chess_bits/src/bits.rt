@@ -8,7 +8,7 @@ ghost use Rattle.chess_base.specs.declared.man.Kind.TheVariants.{King};
 ghost use Rattle.chess_bits.specs.ties.Occupancy.{IsOccupied};
 
 use crate::placing::{make_move, move_back};
-use crate::reaching::reached_from;
+use crate::reaching::reached_among;
 use crate::sets::Sets;
 use crate::tables::AttackTables;
 use crate::targets::{is_king, is_pawn};
@@ -127,8 +127,7 @@ impl Board for Bits<'_> {
     }
 
     // A set of squares that has at least the starts of the legal moves of this kind of piece to `to`: for a king its
-    // own square, for pawns those on `to`'s file and those that attack `to`, for any other kind the pieces that attack
-    // `to`.
+    // own square, for any other kind those from which a piece goes to `to`, whatever becomes of its king.
     fn origins(&self, kind: Kind, to: Square) -> SquareSet {
         let side = self.setup.side;
         let men = self.sets.of(side);
@@ -137,10 +136,9 @@ impl Board for Bits<'_> {
             return own;
         }
         if is_pawn(kind) {
-            return own.intersection(self.pawn_starts(to));
+            return self.pawns_to(to);
         }
-        let reached = reached_from(self.tables, self.sets.occupied(), side, kind, to);
-        own.intersection(reached)
+        reached_among(self.tables, self.sets.occupied(), side, kind, to, own)
     }
 
     // The squares of this colour's pieces of this kind.

@@ -1,51 +1,26 @@
 //! Castling by sets.
 
-ghost use Rattle.std.specs.Prelude.{◌≡◌, ◌<◌, ℕ, ◌&&◌, ◌||◌, not, true, false, None, Some, IsTrue};
+ghost use Rattle.std.specs.Prelude.{◌≡◌, ◌<◌, ℕ, ◌&&◌, ◌||◌, not, None, Some, IsTrue};
 ghost use Rattle.chess_base.specs.Attacks.{is_attacked};
 ghost use Rattle.chess_base.specs.Castling.{castle_of, is_on_way, castling_way_is_empty, castling_way_is_safe};
 ghost use Rattle.chess_base.specs.Men.{other};
 ghost use Rattle.chess_base.specs.Moves.{is_pseudo_legal, is_legal};
-ghost use Rattle.chess_base.specs.Squares.{rank, is_between, each_square};
-ghost use Rattle.chess_bits.specs.ties.Rays.{is_on_ray};
-ghost use Rattle.chess_bits.specs.declared.line.Line.TheVariants.{Rank};
+ghost use Rattle.chess_base.specs.Squares.{rank, each_square};
 ghost use Rattle.chess_moves.specs.Sets.{contains};
 
 use crate::bits::Bits;
-use crate::line::Line;
-use crate::table::Shape;
 use chess_base::rules::{Castle, Steps};
 use chess_base::{Kind, Man, Move, Square, Variant};
 use chess_moves::{Board, SquareSet};
 
 impl Bits<'_> {
-    // The squares strictly between two squares of one rank, where `low` is the one nearer to the a-file.
-    #[tactic(auto, unfolding(crate::specs::ties::Shapes::in_shape))]
-    fn above_and_below(&self, low: Square, high: Square) -> SquareSet
-        ensures { (k : ℕ) → k < 64 → contains result k ≡ (is_on_ray Rank true low k && is_on_ray Rank false high k) }
-    {
-        let above = self.tables.at(Shape::Ray(Line::Rank, true), low);
-        above.intersection(self.tables.at(Shape::Ray(Line::Rank, false), high))
-    }
-
-    // The squares strictly between two squares of one rank, in either order.
-    #[tactic(auto, using(crate::proofs::CastlingBySets::between_up, crate::proofs::CastlingBySets::between_down))]
-    fn between(&self, a: Square, b: Square) -> SquareSet
-        requires { rank a ≡ rank b }
-        ensures { (k : ℕ) → k < 64 → contains result k ≡ is_between a b k }
-    {
-        if a.number() < b.number() {
-            return self.above_and_below(a, b);
-        }
-        self.above_and_below(b, a)
-    }
-
     // The squares of a rank from one square to another, both included.
     fn way(&self, a: Square, b: Square) -> SquareSet
         requires { rank a ≡ rank b }
         ensures { (k : ℕ) → k < 64 → contains result k ≡ is_on_way a b k }
     {
         let ends = SquareSet::single(a).union(SquareSet::single(b));
-        ends.union(self.between(a, b))
+        ends.union(self.tables.between(a, b))
     }
 
     // Whether the side that is not on move attacks no square of the set `way`.
@@ -125,6 +100,6 @@ impl Bits<'_> {
                 kind: Kind::King,
             }),
         };
-        self.is_safe_by(m, &steps)
+        self.is_safe_by(&steps)
     }
 }

@@ -3,17 +3,17 @@
 ghost use Rattle.std.specs.Prelude.{◌≡◌, ◌+◌, ◌≤◌, ◌<◌, ◌||◌, ℕ, length, nat_lt, cond, true, false, IsTrue, Some, None};
 ghost use Rattle.std.specs.List.{flat_map};
 ghost use Rattle.chess_base.specs.Men.{man_at, is_man, same_kind};
-ghost use Rattle.chess_base.specs.MoveList.{moves, move_of};
-ghost use Rattle.chess_base.specs.Moves.{is_pseudo_legal, is_legal, man_moves, promotion_fits};
+ghost use Rattle.chess_base.specs.MoveList.{moves};
+ghost use Rattle.chess_base.specs.Moves.{is_pseudo_legal, is_legal};
 ghost use Rattle.chess_base.specs.declared.man.Kind.TheVariants.{King, Knight, Pawn};
-ghost use Rattle.chess_bits.specs.ties.Bounds.{AreEnds, EndsOn};
+ghost use Rattle.chess_bits.specs.ties.Pins.{AreEvasions, EndsOn};
 ghost use Rattle.chess_bits.specs.ties.Goes.{goes, IsFree, AreFree};
 ghost use Rattle.chess_moves.specs.shared.MovesBySquares.{moves_between, moves_from};
 ghost use Rattle.chess_moves.specs.Promoting.{would_promote};
 ghost use Rattle.chess_moves.specs.Sets.{contains, members};
 
 use crate::bits::Bits;
-use crate::shielding::Bounds;
+use crate::pinning::Pins;
 use crate::targets::is_pawn;
 use chess_base::rules::is_man;
 use chess_base::{Kind, Move, Square};
@@ -72,43 +72,26 @@ impl Bits<'_> {
         self.count_to(from, self.targets(from))
     }
 
-    // 1 if the king's ordinary move (not castling) from `king` to `to` is legal, else 0.
-    fn times_stepped(&self, king: Square, to: Square) -> usize
-        requires king { is_man (self.now).side King (man_at (self.now).men king) ≡ true }
-        requires step { man_moves self.now (move_of king to None) ≡ true }
-        ensures { result ≡ length (moves_between self.now king to) }
-    {
-        if self.is_safe_step(king, to) { 1 } else { 0 }
-    }
-
-    // How many legal moves the king on the square `king` has: ordinary ones, and castling.
+    // How many legal moves the king on the square `king` has: one to each square where it may go.
     fn count_king(&self, king: Square) -> usize
-        requires king { is_man (self.now).side King (man_at (self.now).men king) ≡ true }
-        requires few { length (moves_from self.now king) ≤ 896 }
+        requires { is_man (self.now).side King (man_at (self.now).men king) ≡ true }
         ensures { result ≡ length (moves_from self.now king) }
     {
-        // The prover wants these facts: the number of the king's square is below 64, and the position is sound.
-        let _start = king.number();
-        let _sound = self.setup();
-        let mut count = self.castling_ends(king).len();
-        let mut steps = self.steps(Kind::King, king);
-        while let Some(to) = steps.take_first() {
-            count += self.times_stepped(king, to);
-        }
-        count
+        self.king_ends(king).len()
     }
 
     // How many legal moves these pawns have, which are all free: their king is safe wherever they go. Those that may
     // promote or take en passant are looked at one by one.
     fn count_pawns(&self, men: SquareSet) -> usize
-        requires free { AreFree self.now Pawn men }
-        requires few { length (flat_map (λ a. moves_from self.now a) (members men)) ≤ 896 }
+        requires { AreFree self.now Pawn men }
         ensures { result ≡ length (flat_map (λ a. moves_from self.now a) (members men)) }
     {
-        let squares = self.unusual_squares();
-        let unusual = men.intersection(squares);
-        let usual = men.without(squares);
-        self.count_usual_pawns(usual) + self.count_each(unusual)
+        // The prover wants this fact: the position is sound, so its legal moves fit into a list.
+        let _sound = self.setup();
+        let squares = self.special_squares();
+        let special = men.intersection(squares);
+        let ordinary = men.without(squares);
+        self.count_ordinary_pawns(ordinary) + self.count_each(special)
     }
 
     // How many legal moves the piece on `from`, a queen, rook, bishop or knight of this kind, has. It is free: its king
@@ -149,10 +132,11 @@ impl Bits<'_> {
     fn count_kind(&self, kind: Kind, free: SquareSet, men: &mut SquareSet) -> usize
         requires kind { same_kind King kind ≡ false }
         requires free { (k : ℕ) → k < 64 → contains free k ≡ true → IsFree self.now k }
-        requires few { length (flat_map (λ a. moves_from self.now a) (members men.old)) ≤ 896 }
         ensures { result + length (flat_map (λ a. moves_from self.now a) (members men.new))
             ≡ length (flat_map (λ a. moves_from self.now a) (members men.old)) }
     {
+        // The prover wants this fact: the position is sound, so its legal moves fit into a list.
+        let _sound = self.setup();
         let all = *men;
         let own = self.sets.of(self.setup.side);
         let chosen = own.of(kind).intersection(free);
@@ -179,27 +163,27 @@ impl Bits<'_> {
     }
 
     // How many legal moves the piece on `from` has, given where the pieces may go.
-    fn count_of(&self, from: Square, bounds: &Bounds) -> usize
-        requires ends { AreEnds self.now bounds.now.free bounds.now.ends }
+    fn count_of(&self, from: Square, pins: &Pins) -> usize
+        requires evasions { AreEvasions self.now pins.now.free pins.now.evasions }
         requires few { length (moves_from self.now from) ≤ 896 }
         ensures { result ≡ length (moves_from self.now from) }
     {
         if is_man(self.setup.side, Kind::King, self.setup.men[from.index()]) {
             return self.count_king(from);
         }
-        self.count_to(from, self.ends_of(from, bounds))
+        self.count_to(from, self.allowed_targets(from, pins))
     }
 
     // How many legal moves the pieces on these squares have, each looked at alone, given where the pieces may go.
-    fn count_bound(&self, men: SquareSet, bounds: &Bounds) -> usize
-        requires ends { AreEnds self.now bounds.now.free bounds.now.ends }
+    fn count_pinned(&self, men: SquareSet, pins: &Pins) -> usize
+        requires evasions { AreEvasions self.now pins.now.free pins.now.evasions }
         requires few { length (flat_map (λ a. moves_from self.now a) (members men)) ≤ 896 }
         ensures { result ≡ length (flat_map (λ a. moves_from self.now a) (members men)) }
     {
         let mut count = 0;
         let mut rest = men;
         while let Some(from) = rest.take_first() {
-            count += self.count_of(from, bounds);
+            count += self.count_of(from, pins);
         }
         count
     }
@@ -211,15 +195,15 @@ impl Bits<'_> {
     {
         // The prover wants this fact: the position is sound, so its legal moves fit into a list.
         let _sound = self.setup();
-        let bounds = self.bounds();
-        let free = bounds.free;
+        let pins = self.pins();
+        let free = pins.free;
         let mut men = self.sets.all(self.setup.side);
         let pawns = self.count_kind(Kind::Pawn, free, &mut men);
         let knights = self.count_kind(Kind::Knight, free, &mut men);
         let bishops = self.count_kind(Kind::Bishop, free, &mut men);
         let rooks = self.count_kind(Kind::Rook, free, &mut men);
         let queens = self.count_kind(Kind::Queen, free, &mut men);
-        let others = self.count_bound(men, &bounds);
+        let others = self.count_pinned(men, &pins);
         pawns + knights + bishops + rooks + queens + others
     }
 
@@ -267,7 +251,6 @@ impl Bits<'_> {
     fn has_king_move(&self, men: SquareSet) -> bool
         requires kings { (k : ℕ) → k < 64 → contains men k ≡ true
             → is_man (self.now).side King (man_at (self.now).men k) ≡ true }
-        requires few { length (flat_map (λ a. moves_from self.now a) (members men)) ≤ 896 }
         ensures { result ≡ nat_lt 0 (length (flat_map (λ a. moves_from self.now a) (members men))) }
     {
         let mut rest = men;
@@ -281,13 +264,11 @@ impl Bits<'_> {
 
     // A quick test for a legal move: true only if the king is not in check, and a knight or pawn on no rank, file or
     // diagonal of the king has a legal move. If it is false, there may be a legal move all the same.
-    fn has_usual_move(&self) -> bool
+    fn has_easy_move(&self) -> bool
         ensures { result ≡ true → nat_lt 0 (length (moves self.now)) ≡ true }
     {
-        // The prover wants this fact: the position is sound, so its legal moves fit into a list.
-        let _sound = self.setup();
         let men = self.sets.of(self.setup.side);
-        let free = self.men_off_lines();
+        let free = self.surely_unpinned();
         let knights = men.of(Kind::Knight);
         let pawns = men.of(Kind::Pawn);
         if self.has_knight_move(knights.intersection(free)) {
@@ -301,8 +282,7 @@ impl Bits<'_> {
     pub(crate) fn has_move(&self) -> bool
         ensures { result ≡ nat_lt 0 (length (moves self.now)) }
     {
-        let _sound = self.setup();
-        if self.has_usual_move() {
+        if self.has_easy_move() {
             return true;
         }
         let side = self.setup.side;

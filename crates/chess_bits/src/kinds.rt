@@ -1,17 +1,14 @@
 //! The pieces of one colour as sets of squares, and what they attack.
 
-ghost use Rattle.std.specs.Prelude.{◌≡◌, ℕ, ◌<◌, ◌&&◌, ◌||◌, not, true, ◌==◌, Some, None, length, slice_set, slice_index};
+ghost use Rattle.std.specs.Prelude.{◌≡◌, ℕ, ◌<◌, ◌&&◌, Some, None, length, slice_set, slice_index};
 ghost use Rattle.chess_base.specs.declared.man.Colour.{Colour as Side};
-ghost use Rattle.chess_base.specs.Squares.{share_rank_or_file, share_diagonal};
 ghost use Rattle.chess_base.specs.Men.{Men, man_at, is_of, other, kind_number};
 ghost use Rattle.chess_base.specs.Attacks.{attacks, is_attacked};
 ghost use Rattle.chess_moves.specs.Sets.{contains};
-ghost use Rattle.chess_bits.specs.ties.Rays.{is_open};
 ghost use Rattle.chess_bits.specs.ties.Occupancy.{IsOccupied, IsLater};
 ghost use Rattle.chess_bits.specs.ties.KindSets.{AreKindsAt, IsKinds};
 
-use crate::between::squares_between;
-use crate::line::Line;
+use crate::sliding::{met_on_diagonals, met_on_lines};
 use crate::table::Shape;
 use crate::tables::AttackTables;
 use chess_base::{Colour, Kind, Square};
@@ -84,103 +81,6 @@ impl Kinds {
         let rest = self.sets[at].without(left);
         self.sets[at] = rest.union(entered);
     }
-}
-
-// The squares that a rook on `square` attacks: in each of its four directions up to the first occupied square, that one
-// included.
-#[tactic(auto, using(crate::proofs::Attackers::on_lines))]
-pub(crate) fn along_lines(tables: &AttackTables, square: Square, occupied: SquareSet) -> SquareSet
-    ensures { (k : ℕ) → k < 64
-        → contains result k ≡ (not (k == square) && share_rank_or_file k square && is_open occupied square k) }
-{
-    let up = tables.sweep(Line::Rank, true, square, occupied);
-    let down = tables.sweep(Line::Rank, false, square, occupied);
-    let left = tables.sweep(Line::File, true, square, occupied);
-    let right = tables.sweep(Line::File, false, square, occupied);
-    up.union(down).union(left.union(right))
-}
-
-// The squares that a bishop on `square` attacks: in each of its four directions up to the first occupied square, that
-// one included.
-#[tactic(auto, using(crate::proofs::Attackers::on_diagonals))]
-pub(crate) fn along_diagonals(
-    tables: &AttackTables,
-    square: Square,
-    occupied: SquareSet,
-) -> SquareSet
-    ensures { (k : ℕ) → k < 64
-        → contains result k ≡ (not (k == square) && share_diagonal k square && is_open occupied square k) }
-{
-    let up = tables.sweep(Line::Diagonal, true, square, occupied);
-    let down = tables.sweep(Line::Diagonal, false, square, occupied);
-    let left = tables.sweep(Line::Antidiagonal, true, square, occupied);
-    let right = tables.sweep(Line::Antidiagonal, false, square, occupied);
-    up.union(down).union(left.union(right))
-}
-
-// Whether nothing occupied lies between two squares of one line.
-#[inline(always)]
-fn is_open(tables: &AttackTables, a: Square, b: Square, occupied: SquareSet) -> bool
-    requires { (share_rank_or_file b a || share_diagonal b a) ≡ true }
-    ensures { result ≡ is_open occupied a b }
-{
-    // The prover wants these facts: the numbers of both squares are below 64.
-    let _a = a.number();
-    let _b = b.number();
-    let between = squares_between(tables, a, b);
-    between.intersection(occupied).is_empty()
-}
-
-// Those of the squares `men`, all on lines of `square`, between which and `square` nothing is occupied.
-#[inline(always)]
-fn seen_from(
-    tables: &AttackTables,
-    square: Square,
-    occupied: SquareSet,
-    men: SquareSet,
-) -> SquareSet
-    requires { (k : ℕ) → k < 64 → contains men k ≡ true → (share_rank_or_file k square || share_diagonal k square) ≡ true }
-    ensures { (k : ℕ) → k < 64 → contains result k ≡ (contains men k && is_open occupied square k) }
-{
-    let mut seen = SquareSet::empty();
-    let mut rest = men;
-    while let Some(man) = rest.take_first() {
-        if is_open(tables, square, man, occupied) {
-            seen = seen.union(SquareSet::single(man));
-        }
-    }
-    seen
-}
-
-// The squares of the set `men` from which a rook would attack `square`: those on its rank or file with no occupied
-// square between. Each on its rank or file is looked at alone: in most positions there are few, and never more than 14.
-pub(crate) fn met_on_lines(
-    tables: &AttackTables,
-    square: Square,
-    occupied: SquareSet,
-    men: SquareSet,
-) -> SquareSet
-    ensures { (k : ℕ) → k < 64
-        → contains result k ≡ ((not (k == square) && share_rank_or_file k square && is_open occupied square k)
-        && contains men k) }
-{
-    let near = tables.at(Shape::Lines, square).intersection(men);
-    seen_from(tables, square, occupied, near)
-}
-
-// The squares of the set `men` from which a bishop would attack `square`: those on its diagonals with no occupied
-// square between. Each on its diagonals is looked at alone: in most positions there are few, and never more than 13.
-pub(crate) fn met_on_diagonals(
-    tables: &AttackTables,
-    square: Square,
-    occupied: SquareSet,
-    men: SquareSet,
-) -> SquareSet
-    ensures { (k : ℕ) → k < 64
-        → contains result k ≡ ((not (k == square) && share_diagonal k square && is_open occupied square k) && contains men k) }
-{
-    let near = tables.at(Shape::Diagonals, square).intersection(men);
-    seen_from(tables, square, occupied, near)
 }
 
 impl Kinds {

@@ -3,20 +3,21 @@
 ghost use Rattle.std.specs.Prelude.{◌≡◌, ℕ, ◌<◌, ◌==◌, ◌&&◌, ◌||◌, not, true, false, None, MatchOption};
 ghost use Rattle.chess_base.specs.Men.{first_rank, man_at, is_man, other, same_kind};
 ghost use Rattle.chess_base.specs.MoveList.{move_of};
-ghost use Rattle.chess_base.specs.Moves.{is_pseudo_legal, is_legal, pawn_advances, pawn_captures};
-ghost use Rattle.chess_base.specs.Squares.{is_square, rank};
+ghost use Rattle.chess_base.specs.Moves.{is_pseudo_legal, is_legal};
+ghost use Rattle.chess_base.specs.Squares.{rank};
 ghost use Rattle.chess_base.specs.declared.man.Kind.TheVariants.{King, Pawn};
 ghost use Rattle.chess_bits.specs.ties.Changes.{StepsPlainly};
 ghost use Rattle.chess_bits.specs.ties.Goes.{IsOfficer};
 ghost use Rattle.chess_moves.specs.Sets.{contains, HasLegalStarts};
 
 use crate::bits::Bits;
+use crate::filter::filter;
 use crate::placing::is_target;
 use crate::reaching::reached_among;
 use crate::targets::{is_king, is_pawn};
 use chess_base::rules::{first_rank, is_of, promotion_fits};
 use chess_base::{Colour, Kind, Man, Move, Square};
-use chess_moves::{Board, SquareSet, would_promote};
+use chess_moves::{SquareSet, would_promote};
 
 // Whether the kind is queen, rook, bishop or knight.
 #[inline(always)]
@@ -57,7 +58,7 @@ impl Bits<'_> {
         if !self.steps(kind, from).contains(to) {
             return false;
         }
-        self.is_safe_usual(from, to)
+        self.is_safe_plain(from, to)
     }
 
     // Whether the move `m` is legal; the piece on its start square is a queen, rook, bishop or knight of this kind.
@@ -100,70 +101,30 @@ impl Bits<'_> {
         }
     }
 
-    // Whether the move of the pawn on `from` to `to` without a promotion is pseudo-legal.
-    #[inline(always)]
-    fn pawn_steps(&self, from: Square, to: Square) -> bool
-        requires { is_man (self.now).side Pawn (man_at (self.now).men from) ≡ true }
-        ensures { result ≡ is_pseudo_legal self.now (move_of from to None) }
+    // Those of the squares `men` from which the piece there may legally go to `to`. For all of them this move is
+    // pseudo-legal and no promotion. It may take en passant, which is rare, so it is kept out of the common way.
+    #[inline(never)]
+    fn tried_starts(&self, men: SquareSet, to: Square) -> SquareSet
+        requires { (k : ℕ) → k < 64 → contains men k ≡ true → is_pseudo_legal self.now (move_of k to None) ≡ true }
+        ensures { (k : ℕ) → k < 64 → contains result k ≡ (contains men k && is_legal self.now (move_of k to None)) }
     {
-        // The prover wants these facts: the numbers of both squares are below 64.
-        let _start = from.number();
-        let _end = to.number();
-        self.pawn_targets(from).contains(to) && !would_promote(&self.setup, from, to)
-    }
-
-    // Whether the pawn on `from` may legally go to `to` without a promotion.
-    #[inline(always)]
-    fn pawn_goes_legally(&self, from: Square, to: Square) -> bool
-        requires { is_man (self.now).side Pawn (man_at (self.now).men from) ≡ true }
-        ensures { result ≡ is_legal self.now (move_of from to None) }
-    {
-        if !self.pawn_steps(from, to) {
-            return false;
-        }
-        if is_target(&self.setup, to) {
-            let m = Move {
+        filter(men, |from| {
+            self.is_safe_after(&Move {
                 from,
                 to,
                 promotion: None,
-            };
-            return self.is_safe_after(&m);
-        }
-        self.is_safe_usual(from, to)
-    }
-
-    // Those of the squares `men`, which all hold pawns of the side on move, from which the pawn may legally go to `to`
-    // without a promotion.
-    #[inline(always)]
-    fn pawn_starts_among(&self, men: SquareSet, to: Square) -> SquareSet
-        requires { (k : ℕ) → k < 64 → contains men k ≡ true → is_man (self.now).side Pawn (man_at (self.now).men k) ≡ true }
-        ensures { (k : ℕ) → k < 64 → contains result k ≡ (contains men k && is_legal self.now (move_of k to None)) }
-    {
-        let mut starts = SquareSet::empty();
-        let mut rest = men;
-        while let Some(from) = rest.take_first() {
-            if self.pawn_goes_legally(from, to) {
-                starts = starts.union(SquareSet::single(from));
-            }
-        }
-        starts
+            })
+        })
     }
 
     // Those of the squares `men` from which the piece there may legally go to `to`. For all of them this move is
     // pseudo-legal, not the king's, no promotion and not en passant.
     #[inline(always)]
     fn safe_starts(&self, men: SquareSet, to: Square) -> SquareSet
-        requires { (k : ℕ) → k < 64 → contains men k ≡ true → StepsPlainly self.now k to }
+        requires { (k : ℕ) → k < 64 → contains men k ≡ true → StepsPlainly self.now (move_of k to None) }
         ensures { (k : ℕ) → k < 64 → contains result k ≡ (contains men k && is_legal self.now (move_of k to None)) }
     {
-        let mut starts = SquareSet::empty();
-        let mut rest = men;
-        while let Some(from) = rest.take_first() {
-            if self.is_safe_usual(from, to) {
-                starts = starts.union(SquareSet::single(from));
-            }
-        }
-        starts
+        filter(men, |from| self.is_safe_plain(from, to))
     }
 
     // The squares from which pieces of this kind (queen, rook, bishop or knight) of the side on move may legally go to
@@ -210,58 +171,28 @@ impl Bits<'_> {
         }
     }
 
-    // Whether `to` is the en passant target or on the last rank of the side on move, where a pawn's move wants more than
-    // a look at its squares.
+    // Whether `to` is on the last rank of the side on move, where its pawns promote.
     #[inline(always)]
-    fn ends_unusually(&self, to: Square) -> bool
-        ensures { result ≡ (is_square (self.now).target to || (rank to == first_rank (other (self.now).side))) }
+    fn is_on_last_rank(&self, to: Square) -> bool
+        ensures { result ≡ (rank to == first_rank (other (self.now).side)) }
     {
-        is_target(&self.setup, to) || to.rank() == first_rank(self.setup.side.other())
-    }
-
-    // The squares from which pawns of the side on move may legally go to `to` without a promotion: each pawn that may
-    // come there is tried.
-    #[inline(never)]
-    fn tried_pawn_starts(&self, to: Square) -> SquareSet
-        ensures { HasLegalStarts self.now Pawn to result }
-    {
-        let own = self.men_of(self.setup.side, Kind::Pawn);
-        self.pawn_starts_among(own.intersection(self.origins(Kind::Pawn, to)), to)
-    }
-
-    // The squares from which a pawn of the side on move goes to `to`, straight ahead or by a capture, whatever becomes
-    // of its king: as far as there are pawns on them.
-    #[inline(always)]
-    fn pawn_starts_to(&self, to: Square) -> SquareSet
-        ensures { (k : ℕ) → k < 64 → is_man (self.now).side Pawn (man_at (self.now).men k) ≡ true
-            → contains result k ≡ (pawn_advances self.now (move_of k to None) || pawn_captures self.now (move_of k to None)) }
-    {
-        let straight = self.advance_starts(to);
-        straight.union(self.capture_starts(to))
-    }
-
-    // The squares from which pawns of the side on move may legally go to `to`, which is neither the en passant target
-    // nor on their last rank.
-    #[inline(always)]
-    fn usual_pawn_starts(&self, to: Square) -> SquareSet
-        requires { (is_square (self.now).target to || (rank to == first_rank (other (self.now).side))) ≡ false }
-        ensures { HasLegalStarts self.now Pawn to result }
-    {
-        // The prover wants this fact: the number of the end is below 64.
-        let _end = to.number();
-        let own = self.men_of(self.setup.side, Kind::Pawn);
-        let men = own.intersection(self.pawn_starts_to(to));
-        self.safe_starts(men, to)
+        to.rank() == first_rank(self.setup.side.other())
     }
 
     // The squares from which pawns of the side on move may legally go to `to` without a promotion.
     fn legal_pawn_starts(&self, to: Square) -> SquareSet
         ensures { HasLegalStarts self.now Pawn to result }
     {
-        if self.ends_unusually(to) {
-            return self.tried_pawn_starts(to);
+        // The prover wants this fact: the number of the end is below 64.
+        let _end = to.number();
+        if self.is_on_last_rank(to) {
+            return SquareSet::empty();
         }
-        self.usual_pawn_starts(to)
+        let men = self.pawns_to(to);
+        if is_target(&self.setup, to) {
+            return self.tried_starts(men, to);
+        }
+        self.safe_starts(men, to)
     }
 
     // The squares from which pieces of this kind, of the side on move, may legally go to `to` without a promotion.

@@ -1,20 +1,17 @@
 //! The list of legal moves: piece by piece, and end square by end square.
 
-ghost use Rattle.std.specs.Prelude.{◌≡◌, ◌+◌, ◌≤◌, ◌<◌, ◌&&◌, ◌++◌, ℕ, length, get_or, true, false, Option, None, [], ◌∷◌};
+ghost use Rattle.std.specs.Prelude.{◌≡◌, ◌+◌, ◌≤◌, ◌<◌, ◌&&◌, ◌++◌, ℕ, length, map, true, false, None, [], ◌∷◌};
 ghost use Rattle.arrayvec.specs.ArrayVec.{array_vec_len};
 ghost use Rattle.chess_base.specs.Men.{man_at, is_man};
 ghost use Rattle.chess_base.specs.MoveList.{moves, move_of, promotions};
-ghost use Rattle.chess_base.specs.Moves.{is_legal, promotion_fits};
-ghost use Rattle.chess_base.specs.declared.man.Kind.{Kind as ManKind};
 ghost use Rattle.chess_base.specs.declared.man.Kind.TheVariants.{King, Pawn};
-ghost use Rattle.chess_bits.specs.ties.Bounds.{AreEnds, EndsOn};
-ghost use Rattle.chess_bits.specs.ties.Goes.{goes, goes_unusually, IsFree};
-ghost use Rattle.chess_moves.specs.shared.MovesBySquares.{moves_with, moves_between, moves_from};
-ghost use Rattle.chess_moves.specs.Promoting.{would_promote};
-ghost use Rattle.chess_moves.specs.Sets.{contains};
+ghost use Rattle.chess_bits.specs.ties.Pins.{AreEvasions, EndsOn};
+ghost use Rattle.chess_bits.specs.ties.Goes.{goes, goes_specially, IsFree};
+ghost use Rattle.chess_moves.specs.shared.MovesBySquares.{moves_between, moves_from};
+ghost use Rattle.chess_moves.specs.Sets.{contains, members};
 
 use crate::bits::Bits;
-use crate::shielding::Bounds;
+use crate::pinning::Pins;
 use chess_base::rules::is_man;
 use chess_base::{Kind, Move, Square};
 use chess_moves::{MoveList, SquareSet, would_promote};
@@ -31,44 +28,56 @@ fn each_promotion() -> [Option<Kind>; 4]
     ]
 }
 
-impl Bits<'_> {
-    // Appends to `list` the legal moves from `from` to `to` that name one of `promotions` (`None` for a move that
-    // promotes nothing). They fit the move, so that it is pseudo-legal with each.
-    fn add_moves_with(
-        &self,
-        from: Square,
-        to: Square,
-        promotions: &[Option<Kind>],
-        list: &mut MoveList,
-    )
-        requires goes { goes self.now from to ≡ true }
-        requires fits { (i : ℕ) → i < length promotions.now → (d : Option ManKind)
-            → promotion_fits (would_promote self.now from to) (get_or promotions.now i d) ≡ true }
-        requires room { array_vec_len list.old + length (moves_with self.now from to promotions.now) ≤ 896 }
-        ensures { list.new.items ≡ list.old.items ++ moves_with self.now from to promotions.now }
-    {
-        for promotion in promotions {
-            let m = Move {
-                from,
-                to,
-                promotion: *promotion,
-            };
-            if self.is_safe_after(&m) {
-                list.push(m);
-            }
-        }
+// Appends to `list` the moves from `from` to `to` with each of `promotions`.
+fn add_promotions(from: Square, to: Square, promotions: &[Option<Kind>], list: &mut MoveList)
+    requires { array_vec_len list.old + length promotions.now ≤ 896 }
+    ensures { list.new.items ≡ list.old.items ++ map (move_of from to) promotions.now }
+{
+    for promotion in promotions {
+        list.push(Move {
+            from,
+            to,
+            promotion: *promotion,
+        });
     }
+}
 
-    // Appends to `list` the legal moves from `from` to `to`, with a promotion or without.
+// Appends to `list` a move without a promotion from `from` to each square of the set `ends`.
+fn add_moves_onto(from: Square, ends: SquareSet, list: &mut MoveList)
+    requires { array_vec_len list.old + length (members ends) ≤ 896 }
+    ensures { list.new.items ≡ list.old.items ++ map (λ b. move_of from b None) (members ends) }
+{
+    let mut rest = ends;
+    while let Some(to) = rest.take_first() {
+        list.push(Move {
+            from,
+            to,
+            promotion: None,
+        });
+    }
+}
+
+impl Bits<'_> {
+    // Appends to `list` the legal moves from `from` to `to`, with a promotion or without. Four promotions are legal or
+    // none, so one test is enough.
     fn add_moves_between(&self, from: Square, to: Square, list: &mut MoveList)
         requires goes { goes self.now from to ≡ true }
         requires room { array_vec_len list.old + length (moves_between self.now from to) ≤ 896 }
         ensures { list.new.items ≡ list.old.items ++ moves_between self.now from to }
     {
         if would_promote(&self.setup, from, to) {
-            self.add_moves_with(from, to, &each_promotion(), list);
+            if self.promotes_legally(from, to) {
+                add_promotions(from, to, &each_promotion(), list);
+            }
         } else {
-            self.add_moves_with(from, to, &[None], list);
+            let m = Move {
+                from,
+                to,
+                promotion: None,
+            };
+            if self.is_safe_after(&m) {
+                list.push(m);
+            }
         }
     }
 
@@ -95,9 +104,9 @@ impl Bits<'_> {
 
     // Appends to `list` the legal moves of the piece on `from`. It is free (its king is safe wherever it goes), and no
     // pawn that may promote or take en passant, so each of its end squares gives one move.
-    fn add_usual_moves(&self, from: Square, list: &mut MoveList)
+    fn add_ordinary_moves(&self, from: Square, list: &mut MoveList)
         requires free { IsFree self.now from }
-        requires usual { (is_man (self.now).side Pawn (man_at (self.now).men from) && goes_unusually self.now from)
+        requires ordinary { (is_man (self.now).side Pawn (man_at (self.now).men from) && goes_specially self.now from)
             ≡ false }
         requires room { array_vec_len list.old + length (moves_from self.now from) ≤ 896 }
         ensures { list.new.items ≡ list.old.items ++ moves_from self.now from }
@@ -105,14 +114,7 @@ impl Bits<'_> {
         // The prover wants these facts: the start's number is below 64, and the king is on one square alone.
         let _start = from.number();
         let _king = self.king(self.setup.side);
-        let mut targets = self.targets(from);
-        while let Some(to) = targets.take_first() {
-            list.push(Move {
-                from,
-                to,
-                promotion: None,
-            });
-        }
+        add_moves_onto(from, self.targets(from), list);
     }
 
     // Appends to `list` the legal moves of the piece on `from`, which is free: its king is safe wherever it goes.
@@ -121,28 +123,11 @@ impl Bits<'_> {
         requires room { array_vec_len list.old + length (moves_from self.now from) ≤ 896 }
         ensures { list.new.items ≡ list.old.items ++ moves_from self.now from }
     {
-        if self.is_unusual(from) {
+        if self.is_special(from) {
             self.add_moves_from(from, list);
         } else {
-            self.add_usual_moves(from, list);
+            self.add_ordinary_moves(from, list);
         }
-    }
-
-    // The end squares of the legal moves of the king on `king`, by a step or by castling.
-    fn king_ends(&self, king: Square) -> SquareSet
-        requires { is_man (self.now).side King (man_at (self.now).men king) ≡ true }
-        ensures { (k : ℕ) → k < 64 → contains result k ≡ is_legal self.now (move_of king k None) }
-    {
-        // The prover wants this fact: the number of the king's square is below 64.
-        let _start = king.number();
-        let mut ends = self.castling_ends(king);
-        let mut steps = self.steps(Kind::King, king);
-        while let Some(to) = steps.take_first() {
-            if self.is_safe_step(king, to) {
-                ends = ends.union(SquareSet::single(to));
-            }
-        }
-        ends
     }
 
     // Appends to `list` the legal moves of the king on `king`.
@@ -151,55 +136,49 @@ impl Bits<'_> {
         requires room { array_vec_len list.old + length (moves_from self.now king) ≤ 896 }
         ensures { list.new.items ≡ list.old.items ++ moves_from self.now king }
     {
-        let mut ends = self.king_ends(king);
-        while let Some(to) = ends.take_first() {
-            list.push(Move {
-                from: king,
-                to,
-                promotion: None,
-            });
-        }
+        add_moves_onto(king, self.king_ends(king), list);
     }
 
     // Appends to `list` the legal moves of the piece on `from`, the king or another, given where the pieces may go.
-    fn add_bound_moves(&self, from: Square, bounds: &Bounds, list: &mut MoveList)
-        requires ends { AreEnds self.now bounds.now.free bounds.now.ends }
+    fn add_pinned_moves(&self, from: Square, pins: &Pins, list: &mut MoveList)
+        requires evasions { AreEvasions self.now pins.now.free pins.now.evasions }
         requires room { array_vec_len list.old + length (moves_from self.now from) ≤ 896 }
         ensures { list.new.items ≡ list.old.items ++ moves_from self.now from }
     {
         if is_man(self.setup.side, Kind::King, self.setup.men[from.index()]) {
             self.add_king_moves(from, list);
         } else {
-            self.add_moves_to(from, self.ends_of(from, bounds), list);
+            self.add_moves_to(from, self.allowed_targets(from, pins), list);
         }
     }
 
     // Appends to `list` the legal moves of the piece on `from`, given where the pieces may go.
-    fn add_moves_of(&self, from: Square, bounds: &Bounds, list: &mut MoveList)
-        requires free { (k : ℕ) → k < 64 → contains bounds.now.free k ≡ true → IsFree self.now k }
-        requires ends { AreEnds self.now bounds.now.free bounds.now.ends }
+    fn add_moves_of(&self, from: Square, pins: &Pins, list: &mut MoveList)
+        requires free { (k : ℕ) → k < 64 → contains pins.now.free k ≡ true → IsFree self.now k }
+        requires evasions { AreEvasions self.now pins.now.free pins.now.evasions }
         requires room { array_vec_len list.old + length (moves_from self.now from) ≤ 896 }
         ensures { list.new.items ≡ list.old.items ++ moves_from self.now from }
     {
         // The prover wants this fact: the start's number is below 64.
         let _start = from.number();
-        if bounds.free.contains(from) {
+        if pins.free.contains(from) {
             self.add_free_moves(from, list);
         } else {
-            self.add_bound_moves(from, bounds, list);
+            self.add_pinned_moves(from, pins, list);
         }
     }
 
-    // Appends to `list`, which is empty, all legal moves, rising by start square, end square and promotion.
+    // Appends to `list`, which is empty, all legal moves, rising by start square, end square and promotion. It fills the
+    // caller's list, since a list of its own (3,592 bytes) would be copied on its way out.
     #[inline(always)]
     pub(crate) fn add_moves(&self, list: &mut MoveList)
         requires { list.old.items ≡ [] }
         ensures { list.new.items ≡ moves self.now }
     {
-        let bounds = self.bounds();
+        let pins = self.pins();
         let mut men = self.sets.all(self.setup.side);
         while let Some(from) = men.take_first() {
-            self.add_moves_of(from, &bounds, list);
+            self.add_moves_of(from, &pins, list);
         }
     }
 }

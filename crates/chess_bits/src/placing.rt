@@ -14,6 +14,7 @@ ghost use Rattle.chess_bits.specs.ties.Occupancy.{IsOccupied};
 ghost use Rattle.chess_moves.specs.Made.{IsMade};
 ghost use Rattle.chess_moves.specs.Sets.{contains};
 
+use crate::filter::single_if;
 use crate::keys::KeyTable;
 use crate::sets::Sets;
 use crate::targets::is_pawn;
@@ -44,26 +45,15 @@ fn place(
     }
 }
 
-// The set of the square a1 alone if `is_there`, else the empty set.
-#[inline(always)]
-fn a1_if(is_there: bool) -> SquareSet
-    ensures { (k : ℕ) → contains result k ≡ (is_there && (k == 0)) }
-{
-    if is_there {
-        SquareSet::single(Square::new(0))
-    } else {
-        SquareSet::empty()
-    }
-}
-
-// The squares that are not empty. From h8 down to a1 each one pushes up those before it, so that no branch is needed.
+// The squares that are not empty. From h8 down to a1 each one pushes up those before it, so that no branch is needed:
+// with a test of each square, setting boards made the workload puzzles 6 % slower.
 fn occupied_by(men: &[Option<Man>; 64]) -> SquareSet
     ensures { IsOccupied result men.now }
 {
     let mut occupied = SquareSet::empty();
     for number in 0..64 {
         let square = Square::new(63 - number);
-        let here = a1_if(men[square.index()].is_some());
+        let here = single_if(men[square.index()].is_some(), Square::new(0));
         occupied = occupied.raised(1).union(here);
     }
     occupied

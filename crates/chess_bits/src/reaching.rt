@@ -6,7 +6,7 @@ ghost use Rattle.chess_base.specs.Men.{Men};
 ghost use Rattle.chess_bits.specs.ties.Occupancy.{IsOccupied};
 ghost use Rattle.chess_moves.specs.Sets.{contains};
 
-use crate::kinds::{along_diagonals, along_lines, met_on_diagonals, met_on_lines};
+use crate::sliding::{along_diagonals, along_lines, met_on_diagonals, met_on_lines};
 use crate::table::Shape;
 use crate::tables::AttackTables;
 use chess_base::{Colour, Kind, Square};

@@ -3,10 +3,12 @@
 ghost use Rattle.std.specs.Prelude.{◌≡◌, ℕ, ◌<◌, ◌&&◌, ◌||◌, true, false};
 ghost use Rattle.chess_moves.specs.Sets.{contains, is_beyond};
 ghost use Rattle.chess_bits.specs.ties.Shapes.{in_shape};
-ghost use Rattle.chess_bits.specs.ties.Rays.{is_on_ray, is_open};
+ghost use Rattle.chess_bits.specs.ties.Rays.{is_on_ray, is_open, same_line};
+ghost use Rattle.chess_bits.specs.declared.line.Line.{Line as LineKind};
 ghost use Rattle.chess_bits.specs.declared.table.Shape.TheVariants.{King, Knight, Pawn, Lines, Diagonals, Ray};
 ghost use Rattle.chess_bits.specs.declared.line.Line.TheVariants.{Rank, File, Diagonal, Antidiagonal};
 ghost use Rattle.chess_base.specs.declared.man.Colour.TheVariants.{White, Black};
+ghost use Rattle.chess_base.specs.Squares.{is_between};
 
 use crate::between::BetweenTable;
 use crate::keys::KeyTable;
@@ -139,10 +141,12 @@ impl AttackTables {
         &self.tables.keys
     }
 
-    // The squares between each two squares of one line.
+    // The squares strictly between two squares of one line.
     #[inline(always)]
-    pub(crate) fn between(&self) -> &BetweenTable {
-        &self.between
+    pub(crate) fn between(&self, a: Square, b: Square) -> SquareSet
+        ensures { (l : LineKind) → same_line l a b ≡ true → (k : ℕ) → k < 64 → contains result k ≡ is_between a b k }
+    {
+        self.between.at(a, b)
     }
 
     // The squares that belong to this shape from `square`, looked up: for `Knight`, those that a knight there attacks.

@@ -1,7 +1,6 @@
 //! Where pieces go: sets of end squares, whatever becomes of the king. Castling is among them only where it is legal.
 
 ghost use Rattle.std.specs.Prelude.{◌≡◌, ◌+◌, ◌≤◌, ◌<◌, ℕ, ◌&&◌, ◌||◌, not, true, false, Some, None, MatchOption};
-ghost use Rattle.std.specs.Option.{is_some};
 ghost use Rattle.chess_base.specs.Attacks.{could_capture};
 ghost use Rattle.chess_base.specs.Squares.{is_square};
 ghost use Rattle.chess_base.specs.Men.{man_at, other, is_of, is_man, same_kind, forward, pawn_rank};
@@ -10,15 +9,12 @@ ghost use Rattle.chess_base.specs.Moves.{is_legal, pawn_advances, pawn_captures}
 ghost use Rattle.chess_base.specs.declared.man.Kind.TheVariants.{King, Pawn};
 ghost use Rattle.chess_base.specs.Castling.{right_of, castled_rook_file, castle_of};
 ghost use Rattle.chess_bits.specs.ties.Goes.{goes, castling_end, legal_or, castling_or, man_goes};
-ghost use Rattle.chess_bits.specs.declared.line.Line.TheVariants.{File};
 ghost use Rattle.chess_bits.specs.declared.table.Shape.TheVariants.{Pawn as PawnAttack};
-ghost use Rattle.chess_bits.specs.ties.Rays.{is_on_ray};
 ghost use Rattle.chess_bits.specs.ties.Shapes.{in_shape};
 ghost use Rattle.chess_moves.specs.Sets.{contains};
 
 use crate::bits::Bits;
 use crate::king::set_of;
-use crate::line::Line;
 use crate::reaching::reached_from;
 use crate::table::Shape;
 use chess_base::rules::{
@@ -196,23 +192,6 @@ impl Bits<'_> {
         reached.intersection(aims)
     }
 
-    // A set of squares that has at least those from which pawns may go straight ahead to `to`: all others of its file
-    // if `to` is empty, else none.
-    #[inline(always)]
-    #[tactic(auto, unfolding(crate::specs::ties::Shapes::in_shape))]
-    fn straight_starts(&self, to: Square) -> SquareSet
-        ensures { (k : ℕ) → k < 64
-            → contains result k ≡ (not (is_some (man_at (self.now).men to))
-            && (is_on_ray File true to k || is_on_ray File false to k)) }
-    {
-        if self.setup.men[to.index()].is_some() {
-            return SquareSet::empty();
-        }
-        let above = self.tables.at(Shape::Ray(Line::File, true), to);
-        let below = self.tables.at(Shape::Ray(Line::File, false), to);
-        above.union(below)
-    }
-
     // The squares from which pawns of the side on move attack `to`, if it holds an enemy piece or is the en passant
     // target; else none.
     #[inline(always)]
@@ -229,19 +208,6 @@ impl Bits<'_> {
             return SquareSet::empty();
         }
         self.tables.at(Shape::Pawn(theirs), to)
-    }
-
-    // A set of squares that has at least those from which pawns of the side on move may go to `to`, straight ahead or
-    // by a capture.
-    pub(crate) fn pawn_starts(&self, to: Square) -> SquareSet
-        ensures { (k : ℕ) → k < 64
-            → contains result k ≡ ((not (is_some (man_at (self.now).men to))
-            && (is_on_ray File true to k || is_on_ray File false to k))
-            || ((is_of (other (self.now).side) (man_at (self.now).men to) || is_square (self.now).target to)
-            && in_shape (PawnAttack (other (self.now).side)) to k)) }
-    {
-        let straight = self.straight_starts(to);
-        straight.union(self.capture_starts(to))
     }
 
     // The end squares of the pseudo-legal moves of the pawn on `from`, which is of the side on move, with a promotion

@@ -10,7 +10,6 @@ use Rattle.chess_base.specs.declared.setup.Setup.{Setup}
 use Rattle.chess_base.specs.declared.setup.TheConstants.{COUNTER_LIMIT}
 use Rattle.chess_base.specs.Castling.{castle_of, mover_end, castling_rook_to}
 use Rattle.chess_base.specs.Men.{man_at, is_man, same_kind}
-use Rattle.chess_base.specs.MoveList.{move_of}
 use Rattle.chess_base.specs.Moves.{is_pseudo_legal, is_en_passant, second_square_emptied}
 use Rattle.chess_base.specs.Squares.{is_square}
 
@@ -23,12 +22,11 @@ is_changed p m k = (mover_end p m == k) || is_square (castling_rook_to p m) k
 abbrev pub is_filled : Setup → Move → ℕ → Bool
 is_filled p m k = (mover_end p m == k) || is_square (castling_rook_to p m) k
 
--- the move from square a to square b without a promotion is pseudo-legal, not the king's and not en passant; so only
--- what is on a and b changes
-pub record StepsPlainly (p : Setup) (a b : ℕ) : Type 0 where
-  pub pattern : is_pseudo_legal p (move_of a b None) ≡ true
-  pub no_king : is_man p.side King (man_at p.men a) ≡ false
-  pub no_passing : (is_man p.side Pawn (man_at p.men a) && is_square p.target b) ≡ false
+-- move m is pseudo-legal, not the king's and not en passant; so only what is on its two squares changes
+pub record StepsPlainly (p : Setup) (m : Move) : Type 0 where
+  pub pattern : is_pseudo_legal p m ≡ true
+  pub no_king : is_man p.side King (man_at p.men m.from) ≡ false
+  pub no_passing : (is_man p.side Pawn (man_at p.men m.from) && is_square p.target m.to) ≡ false
 
 -- neither colour has a castling right
 abbrev pub has_no_right : Rights → Bool

@@ -24,12 +24,12 @@ use Rattle.chess_moves.specs.Sets.{contains}
 
 -- the promotion with which a move from a to b is tried: to a queen, as one of the four kinds, if a pawn of the side on
 -- move would reach its last rank; else none
-abbrev pub usual_promotion : Setup → ℕ → ℕ → Option Kind
-usual_promotion p a b = if would_promote p a b then Some Queen else None
+abbrev pub tried_promotion : Setup → ℕ → ℕ → Option Kind
+tried_promotion p a b = if would_promote p a b then Some Queen else None
 
 -- some move from square a to square b is pseudo-legal
 unfoldable pub goes : Setup → ℕ → ℕ → Bool
-goes p a b = is_pseudo_legal p (move_of a b (usual_promotion p a b))
+goes p a b = is_pseudo_legal p (move_of a b (tried_promotion p a b))
 
 -- b is the end square of colour c's castling on side w, whose right is given as its rook's square: in normal chess the
 -- king's end square, in Chess960 the rook's square. False if there is no right
@@ -95,7 +95,7 @@ AreFree p kind w = (k : ℕ) → k < 64 → contains w k ≡ true → (is_man p.
 -- o, a square's content, is a piece of colour c and this kind: a queen, rook, bishop or knight
 pub record IsOfficer (c : Colour) (kind : Kind) (o : Option Man) : Type 0 where
   pub man : is_man c kind o ≡ true
-  pub usual : (same_kind King kind || same_kind Pawn kind) ≡ false
+  pub officer : (same_kind King kind || same_kind Pawn kind) ≡ false
 
 -- a pawn of colour c on square a would attack the given square, if there is one
 abbrev pub aims_at : Option ℕ → Colour → ℕ → Bool
@@ -103,5 +103,5 @@ aims_at None c a = false
 aims_at (Some t) c a = in_shape (shape.Pawn c) a t
 
 -- a pawn of the side on move on square a would promote by its next move, or attacks the en passant target
-abbrev pub goes_unusually : Setup → ℕ → Bool
-goes_unusually p a = aims_at p.target p.side a || (rank a == pawn_rank (other p.side))
+abbrev pub goes_specially : Setup → ℕ → Bool
+goes_specially p a = aims_at p.target p.side a || (rank a == pawn_rank (other p.side))

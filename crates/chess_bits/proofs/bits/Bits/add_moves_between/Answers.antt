@@ -1,61 +1,76 @@
--- A pawn that reaches its last rank must promote, and nothing else may (Parts of chess_moves): the promotions left out
--- give no legal move, and those tried fit (four_fit, none_fit).
-use Rattle.std.proofs.Common.{◌≡◌, ℕ, ◌+◌, ◌<◌, ◌≤◌, ◌++◌, List, Option, length, get_or, drop, true, false, sym, ap, subst, ◌∙◌}
-use Rattle.arrayvec.specs.ArrayVec.{array_vec_len}
+-- A pawn that promotes has the four promotions there and no other move, and all or none are legal (promotions_between of
+-- Listed); elsewhere a piece has one move at most (one_between).
+use Rattle.std.proofs.Common.{◌≡◌, ◌++◌, [], List, Option, length, map, drop, true, false, lit<, sym, ap, ◌∙◌, append-nil, arith}
 use Rattle.chess_base.specs.declared.man.Kind.{Kind}
 use Rattle.chess_base.specs.declared.man.Move.{Move}
-use Rattle.chess_base.specs.Moves.{promotion_fits}
-use Rattle.chess_moves.specs.shared.MovesBySquares.{moves_between, moves_with}
+use Rattle.chess_base.specs.MoveList.{move_of}
+use Rattle.chess_moves.specs.shared.MovesBySquares.{moves_between}
 use Rattle.chess_moves.specs.Promoting.{would_promote}
-use Rattle.chess_moves.proofs.shared.MovesBySquares.{all_promote, none_promotes}
-use Rattle.chess_bits.proofs.Listed.{four_fit, none_fit}
+use Rattle.chess_bits.proofs.Listed.{promotions_between, one_between, unpromoted}
 use Rattle.chess_bits.proofs.bits.Bits.add_moves_between.Goals as goal
 
-pub add_moves_with-requires-clause-fits : goal.add_moves_with-requires-clause-fits
-add_moves_with-requires-clause-fits c =
+pub promotes_legally-requires-clause-promotes : goal.promotes_legally-requires-clause-promotes
+promotes_legally-requires-clause-promotes c = rw (← c.self.view_is)
+    (sym c.would_promote.ensures ∙ c.if-would_promote.true)
+
+pub add_promotions-requires : goal.add_promotions-requires
+add_promotions-requires c =
     let promotes : would_promote c.args.self.now c.args.from c.args.to ≡ true =
     rw (← c.self.view_is) (sym c.would_promote.ensures ∙ c.if-would_promote.true) in
-    subst (λ (ks : List (Option Kind)). (i : ℕ) → i < length ks → (d : Option Kind)
-    → promotion_fits (would_promote c.args.self.now c.args.from c.args.to) (get_or ks i d) ≡ true)
-    (sym (ap (λ (ks : List (Option Kind)). drop 1 ks) c.each_promotion.ensures))
-    (four_fit (would_promote c.args.self.now c.args.from c.args.to) promotes)
+    let all = rw c.if-promotes_legally.true at
+    (promotions_between c.args.self.now c.args.from c.args.to c.promotes_legally.result promotes
+    c.promotes_legally.ensures) in
+    let four : length (moves_between c.args.self.now c.args.from c.args.to) ≡ 4 = ap length all in
+    let each : length c.each_promotion.result ≡ 4 = ap (λ (ks : List (Option Kind)). length (drop 1 ks))
+    c.each_promotion.ensures in
+    omega (arith, four, each, c.requires.room)
 
-pub add_moves_with-requires-clause-room : goal.add_moves_with-requires-clause-room
-add_moves_with-requires-clause-room c =
+pub returns-then-promotes_legally : goal.returns-then-promotes_legally
+returns-then-promotes_legally c =
     let promotes : would_promote c.args.self.now c.args.from c.args.to ≡ true =
     rw (← c.self.view_is) (sym c.would_promote.ensures ∙ c.if-would_promote.true) in
-    let e : moves_between c.args.self.now c.args.from c.args.to ≡ moves_with c.args.self.now c.args.from c.args.to
-    c.each_promotion.result = all_promote c.args.self.now c.args.from c.args.to promotes
-    ∙ ap (λ (ks : List (Option Kind)). moves_with c.args.self.now c.args.from c.args.to ks)
-    (sym (ap (λ (ks : List (Option Kind)). drop 1 ks) c.each_promotion.ensures)) in
-    subst (λ (ms : List Move). array_vec_len c.args.list.now + length ms ≤ 896) e c.requires.room
+    let all = rw c.if-promotes_legally.true at
+    (promotions_between c.args.self.now c.args.from c.args.to c.promotes_legally.result promotes
+    c.promotes_legally.ensures) in
+    c.add_promotions.ensures
+    ∙ ap (λ (ks : List (Option Kind)). c.args.list.now.items ++ map (move_of c.args.from c.args.to) (drop 1 ks))
+    c.each_promotion.ensures
+    ∙ ap (λ (ms : List Move). c.args.list.now.items ++ ms) (sym all)
 
-pub returns-then-would_promote : goal.returns-then-would_promote
-returns-then-would_promote c =
+pub returns-else-promotes_legally : goal.returns-else-promotes_legally
+returns-else-promotes_legally c =
     let promotes : would_promote c.args.self.now c.args.from c.args.to ≡ true =
     rw (← c.self.view_is) (sym c.would_promote.ensures ∙ c.if-would_promote.true) in
-    let e : moves_between c.args.self.now c.args.from c.args.to ≡ moves_with c.args.self.now c.args.from c.args.to
-    c.each_promotion.result = all_promote c.args.self.now c.args.from c.args.to promotes
-    ∙ ap (λ (ks : List (Option Kind)). moves_with c.args.self.now c.args.from c.args.to ks)
-    (sym (ap (λ (ks : List (Option Kind)). drop 1 ks) c.each_promotion.ensures)) in
-    c.add_moves_with.ensures ∙ ap (λ (ms : List Move). c.args.list.now.items ++ ms) (sym e)
+    let none : moves_between c.args.self.now c.args.from c.args.to ≡ [] = rw c.if-promotes_legally.false at
+    (promotions_between c.args.self.now c.args.from c.args.to c.promotes_legally.result promotes
+    c.promotes_legally.ensures) in
+    sym (append-nil c.args.list.now.items) ∙ ap (λ (ms : List Move). c.args.list.now.items ++ ms) (sym none)
 
-pub add_moves_with-requires-else-would_promote-clause-fits : goal.add_moves_with-requires-else-would_promote-clause-fits
-add_moves_with-requires-else-would_promote-clause-fits c =
+pub push-requires : goal.push-requires
+push-requires c =
     let stays : would_promote c.args.self.now c.args.from c.args.to ≡ false =
     rw (← c.self.view_is) (sym c.would_promote.ensures ∙ c.if-would_promote.false) in
-    λ i low d. none_fit (would_promote c.args.self.now c.args.from c.args.to) stays i low d
+    let pattern = unpromoted c.args.self.now c.args.from c.args.to c.requires.goes stays in
+    let one = rw (sym (c.is_safe_after.ensures pattern) ∙ c.if-is_safe_after.true) at
+    (one_between c.args.self.now c.args.from c.args.to stays) in
+    let length_one : length (moves_between c.args.self.now c.args.from c.args.to) ≡ 1 = ap length one in
+    (lit< tt, omega (arith, length_one, c.requires.room))
 
-pub add_moves_with-requires-else-would_promote-clause-room : goal.add_moves_with-requires-else-would_promote-clause-room
-add_moves_with-requires-else-would_promote-clause-room c =
+pub returns-then-is_safe_after : goal.returns-then-is_safe_after
+returns-then-is_safe_after c =
     let stays : would_promote c.args.self.now c.args.from c.args.to ≡ false =
     rw (← c.self.view_is) (sym c.would_promote.ensures ∙ c.if-would_promote.false) in
-    let e = none_promotes c.args.self.now c.args.from c.args.to stays in
-    subst (λ (ms : List Move). array_vec_len c.args.list.now + length ms ≤ 896) e c.requires.room
+    let pattern = unpromoted c.args.self.now c.args.from c.args.to c.requires.goes stays in
+    let one = rw (sym (c.is_safe_after.ensures pattern) ∙ c.if-is_safe_after.true) at
+    (one_between c.args.self.now c.args.from c.args.to stays) in
+    c.push.ensures.items ∙ ap (λ (ms : List Move). c.args.list.now.items ++ ms) (sym one)
 
-pub returns-else-would_promote : goal.returns-else-would_promote
-returns-else-would_promote c =
+pub returns-else-is_safe_after : goal.returns-else-is_safe_after
+returns-else-is_safe_after c =
     let stays : would_promote c.args.self.now c.args.from c.args.to ≡ false =
     rw (← c.self.view_is) (sym c.would_promote.ensures ∙ c.if-would_promote.false) in
-    let e = none_promotes c.args.self.now c.args.from c.args.to stays in
-    c.add_moves_with-else-would_promote.ensures ∙ ap (λ (ms : List Move). c.args.list.now.items ++ ms) (sym e)
+    let pattern = unpromoted c.args.self.now c.args.from c.args.to c.requires.goes stays in
+    let none : moves_between c.args.self.now c.args.from c.args.to ≡ [] =
+    rw (sym (c.is_safe_after.ensures pattern) ∙ c.if-is_safe_after.false) at
+    (one_between c.args.self.now c.args.from c.args.to stays) in
+    sym (append-nil c.args.list.now.items) ∙ ap (λ (ms : List Move). c.args.list.now.items ++ ms) (sym none)

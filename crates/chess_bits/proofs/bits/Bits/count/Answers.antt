@@ -1,317 +1,75 @@
 -- Each call counts the moves of the pieces that it takes out of the set, and leaves the others to the next. So the sum
--- is that of all own pieces, which have all legal moves (from_men of Listed), 896 at most (Room of chess_moves).
-use Rattle.std.proofs.Common.{◌≡◌, ◌+◌, ◌<◌, ℕ, length, ap, arith}
-use Rattle.std.specs.List.{flat_map}
+-- is that of all own pieces, which have all legal moves (from_men of Listed), 896 at most (some_fit of Counted).
+use Rattle.std.proofs.Common.{◌≡◌, ◌+◌, ◌<◌, ◌≤◌, ℕ, length, ap, ◌∙◌, arith}
 use Rattle.chess_base.specs.Men.{man_at, is_of}
-use Rattle.chess_base.specs.MoveList.{moves}
-use Rattle.chess_moves.specs.shared.MovesBySquares.{moves_from}
-use Rattle.chess_moves.specs.Sets.{contains, members}
-use Rattle.chess_moves.proofs.shared.LegalMoves.{moves_fit}
+use Rattle.chess_moves.specs.Sets.{contains}
+use Rattle.chess_bits.proofs.Counted.{some_fit}
 use Rattle.chess_bits.proofs.Listed.{from_men}
 use Rattle.chess_bits.proofs.bits.Bits.count.Goals as goal
 
-pub count_kind-pawns-requires-clause-few : goal.count_kind-pawns-requires-clause-few
-count_kind-pawns-requires-clause-few c =
-    let own : (k : ℕ) → k < 64 → contains c.all-men.result k ≡ is_of c.args.self.now.side (man_at c.args.self.now.men k) =
-    rw (← c.self.view_is) (c.all-men.ensures c.self.inside.setup.men c.self.invariant.1) in
-    let all : length (flat_map (λ a. moves_from c.args.self.now a) (members c.all-men.result))
-    ≡ length (moves c.args.self.now) = ap length (from_men c.args.self.now c.all-men.result own) in
-    let fits = moves_fit c.args.self.now c.setup-sound.ensures.sound in
-    omega (arith, fits, all)
+-- the sum of what six calls count, each of what the one before leaves
+sums : (a r b s c t d u e v f o : ℕ) → r + b ≡ a → s + c ≡ b → t + d ≡ c → u + e ≡ d → v + f ≡ e → o ≡ f → a ≤ 896
+    → (r + s ≤ 896) × (r + s + t ≤ 896) × (r + s + t + u ≤ 896) × (r + s + t + u + v ≤ 896)
+    × (r + s + t + u + v + o ≤ 896) × (r + s + t + u + v + o ≡ a)
+sums a r b s c t d u e v f o one two three four five six few = (
+  omega (arith, one, two, few),
+  omega (arith, one, two, three, few),
+  omega (arith, one, two, three, four, few),
+  omega (arith, one, two, three, four, five, few),
+  omega (arith, one, two, three, four, five, six, few),
+  omega (arith, one, two, three, four, five, six),
+)
 
-pub count_kind-knights-requires-clause-few : goal.count_kind-knights-requires-clause-few
-count_kind-knights-requires-clause-few c =
-    let own : (k : ℕ) → k < 64 → contains c.all-men.result k ≡ is_of c.args.self.now.side (man_at c.args.self.now.men k) =
-    rw (← c.self.view_is) (c.all-men.ensures c.self.inside.setup.men c.self.invariant.1) in
-    let all : length (flat_map (λ a. moves_from c.args.self.now a) (members c.all-men.result))
-    ≡ length (moves c.args.self.now) = ap length (from_men c.args.self.now c.all-men.result own) in
-    let fits = moves_fit c.args.self.now c.setup-sound.ensures.sound in
-    let pawns : c.count_kind-pawns.result + length
-    (flat_map (λ a. moves_from c.args.self.now a) (members c.count_kind-pawns.new.men))
-    ≡ length (flat_map (λ a. moves_from c.args.self.now a) (members c.all-men.result)) =
-    c.count_kind-pawns.ensures in
-    omega (arith, fits, all, pawns)
-
-pub count_kind-bishops-requires-clause-few : goal.count_kind-bishops-requires-clause-few
-count_kind-bishops-requires-clause-few c =
-    let own : (k : ℕ) → k < 64 → contains c.all-men.result k ≡ is_of c.args.self.now.side (man_at c.args.self.now.men k) =
-    rw (← c.self.view_is) (c.all-men.ensures c.self.inside.setup.men c.self.invariant.1) in
-    let all : length (flat_map (λ a. moves_from c.args.self.now a) (members c.all-men.result))
-    ≡ length (moves c.args.self.now) = ap length (from_men c.args.self.now c.all-men.result own) in
-    let fits = moves_fit c.args.self.now c.setup-sound.ensures.sound in
-    let pawns : c.count_kind-pawns.result + length
-    (flat_map (λ a. moves_from c.args.self.now a) (members c.count_kind-pawns.new.men))
-    ≡ length (flat_map (λ a. moves_from c.args.self.now a) (members c.all-men.result)) =
-    c.count_kind-pawns.ensures in
-    let knights : c.count_kind-knights.result + length
-    (flat_map (λ a. moves_from c.args.self.now a) (members c.count_kind-knights.new.men))
-    ≡ length (flat_map (λ a. moves_from c.args.self.now a) (members c.count_kind-pawns.new.men)) =
-    c.count_kind-knights.ensures in
-    omega (arith, fits, all, pawns, knights)
-
-pub count_kind-rooks-requires-clause-few : goal.count_kind-rooks-requires-clause-few
-count_kind-rooks-requires-clause-few c =
-    let own : (k : ℕ) → k < 64 → contains c.all-men.result k ≡ is_of c.args.self.now.side (man_at c.args.self.now.men k) =
-    rw (← c.self.view_is) (c.all-men.ensures c.self.inside.setup.men c.self.invariant.1) in
-    let all : length (flat_map (λ a. moves_from c.args.self.now a) (members c.all-men.result))
-    ≡ length (moves c.args.self.now) = ap length (from_men c.args.self.now c.all-men.result own) in
-    let fits = moves_fit c.args.self.now c.setup-sound.ensures.sound in
-    let pawns : c.count_kind-pawns.result + length
-    (flat_map (λ a. moves_from c.args.self.now a) (members c.count_kind-pawns.new.men))
-    ≡ length (flat_map (λ a. moves_from c.args.self.now a) (members c.all-men.result)) =
-    c.count_kind-pawns.ensures in
-    let knights : c.count_kind-knights.result + length
-    (flat_map (λ a. moves_from c.args.self.now a) (members c.count_kind-knights.new.men))
-    ≡ length (flat_map (λ a. moves_from c.args.self.now a) (members c.count_kind-pawns.new.men)) =
-    c.count_kind-knights.ensures in
-    let bishops : c.count_kind-bishops.result + length
-    (flat_map (λ a. moves_from c.args.self.now a) (members c.count_kind-bishops.new.men))
-    ≡ length (flat_map (λ a. moves_from c.args.self.now a) (members c.count_kind-knights.new.men)) =
-    c.count_kind-bishops.ensures in
-    omega (arith, fits, all, pawns, knights, bishops)
-
-pub count_kind-queens-requires-clause-few : goal.count_kind-queens-requires-clause-few
-count_kind-queens-requires-clause-few c =
-    let own : (k : ℕ) → k < 64 → contains c.all-men.result k ≡ is_of c.args.self.now.side (man_at c.args.self.now.men k) =
-    rw (← c.self.view_is) (c.all-men.ensures c.self.inside.setup.men c.self.invariant.1) in
-    let all : length (flat_map (λ a. moves_from c.args.self.now a) (members c.all-men.result))
-    ≡ length (moves c.args.self.now) = ap length (from_men c.args.self.now c.all-men.result own) in
-    let fits = moves_fit c.args.self.now c.setup-sound.ensures.sound in
-    let pawns : c.count_kind-pawns.result + length
-    (flat_map (λ a. moves_from c.args.self.now a) (members c.count_kind-pawns.new.men))
-    ≡ length (flat_map (λ a. moves_from c.args.self.now a) (members c.all-men.result)) =
-    c.count_kind-pawns.ensures in
-    let knights : c.count_kind-knights.result + length
-    (flat_map (λ a. moves_from c.args.self.now a) (members c.count_kind-knights.new.men))
-    ≡ length (flat_map (λ a. moves_from c.args.self.now a) (members c.count_kind-pawns.new.men)) =
-    c.count_kind-knights.ensures in
-    let bishops : c.count_kind-bishops.result + length
-    (flat_map (λ a. moves_from c.args.self.now a) (members c.count_kind-bishops.new.men))
-    ≡ length (flat_map (λ a. moves_from c.args.self.now a) (members c.count_kind-knights.new.men)) =
-    c.count_kind-bishops.ensures in
-    let rooks : c.count_kind-rooks.result + length
-    (flat_map (λ a. moves_from c.args.self.now a) (members c.count_kind-rooks.new.men))
-    ≡ length (flat_map (λ a. moves_from c.args.self.now a) (members c.count_kind-bishops.new.men)) =
-    c.count_kind-rooks.ensures in
-    omega (arith, fits, all, pawns, knights, bishops, rooks)
-
-pub count_bound-others-requires-clause-few : goal.count_bound-others-requires-clause-few
-count_bound-others-requires-clause-few c =
-    let own : (k : ℕ) → k < 64 → contains c.all-men.result k ≡ is_of c.args.self.now.side (man_at c.args.self.now.men k) =
-    rw (← c.self.view_is) (c.all-men.ensures c.self.inside.setup.men c.self.invariant.1) in
-    let all : length (flat_map (λ a. moves_from c.args.self.now a) (members c.all-men.result))
-    ≡ length (moves c.args.self.now) = ap length (from_men c.args.self.now c.all-men.result own) in
-    let fits = moves_fit c.args.self.now c.setup-sound.ensures.sound in
-    let pawns : c.count_kind-pawns.result + length
-    (flat_map (λ a. moves_from c.args.self.now a) (members c.count_kind-pawns.new.men))
-    ≡ length (flat_map (λ a. moves_from c.args.self.now a) (members c.all-men.result)) =
-    c.count_kind-pawns.ensures in
-    let knights : c.count_kind-knights.result + length
-    (flat_map (λ a. moves_from c.args.self.now a) (members c.count_kind-knights.new.men))
-    ≡ length (flat_map (λ a. moves_from c.args.self.now a) (members c.count_kind-pawns.new.men)) =
-    c.count_kind-knights.ensures in
-    let bishops : c.count_kind-bishops.result + length
-    (flat_map (λ a. moves_from c.args.self.now a) (members c.count_kind-bishops.new.men))
-    ≡ length (flat_map (λ a. moves_from c.args.self.now a) (members c.count_kind-knights.new.men)) =
-    c.count_kind-bishops.ensures in
-    let rooks : c.count_kind-rooks.result + length
-    (flat_map (λ a. moves_from c.args.self.now a) (members c.count_kind-rooks.new.men))
-    ≡ length (flat_map (λ a. moves_from c.args.self.now a) (members c.count_kind-bishops.new.men)) =
-    c.count_kind-rooks.ensures in
-    let queens : c.count_kind-queens.result + length
-    (flat_map (λ a. moves_from c.args.self.now a) (members c.count_kind-queens.new.men))
-    ≡ length (flat_map (λ a. moves_from c.args.self.now a) (members c.count_kind-rooks.new.men)) =
-    c.count_kind-queens.ensures in
-    omega (arith, fits, all, pawns, knights, bishops, rooks, queens)
+pub count_pinned-others-requires-clause-few : goal.count_pinned-others-requires-clause-few
+count_pinned-others-requires-clause-few c = some_fit c.args.self.now c.count_kind-queens.new.men
+    c.setup-sound.ensures.sound
 
 pub overflow_add-result : goal.overflow_add-result
 overflow_add-result c =
-    let own : (k : ℕ) → k < 64 → contains c.all-men.result k ≡ is_of c.args.self.now.side (man_at c.args.self.now.men k) =
-    rw (← c.self.view_is) (c.all-men.ensures c.self.inside.setup.men c.self.invariant.1) in
-    let all : length (flat_map (λ a. moves_from c.args.self.now a) (members c.all-men.result))
-    ≡ length (moves c.args.self.now) = ap length (from_men c.args.self.now c.all-men.result own) in
-    let fits = moves_fit c.args.self.now c.setup-sound.ensures.sound in
-    let pawns : c.count_kind-pawns.result + length
-    (flat_map (λ a. moves_from c.args.self.now a) (members c.count_kind-pawns.new.men))
-    ≡ length (flat_map (λ a. moves_from c.args.self.now a) (members c.all-men.result)) =
-    c.count_kind-pawns.ensures in
-    let knights : c.count_kind-knights.result + length
-    (flat_map (λ a. moves_from c.args.self.now a) (members c.count_kind-knights.new.men))
-    ≡ length (flat_map (λ a. moves_from c.args.self.now a) (members c.count_kind-pawns.new.men)) =
-    c.count_kind-knights.ensures in
-    let bishops : c.count_kind-bishops.result + length
-    (flat_map (λ a. moves_from c.args.self.now a) (members c.count_kind-bishops.new.men))
-    ≡ length (flat_map (λ a. moves_from c.args.self.now a) (members c.count_kind-knights.new.men)) =
-    c.count_kind-bishops.ensures in
-    let rooks : c.count_kind-rooks.result + length
-    (flat_map (λ a. moves_from c.args.self.now a) (members c.count_kind-rooks.new.men))
-    ≡ length (flat_map (λ a. moves_from c.args.self.now a) (members c.count_kind-bishops.new.men)) =
-    c.count_kind-rooks.ensures in
-    let queens : c.count_kind-queens.result + length
-    (flat_map (λ a. moves_from c.args.self.now a) (members c.count_kind-queens.new.men))
-    ≡ length (flat_map (λ a. moves_from c.args.self.now a) (members c.count_kind-rooks.new.men)) =
-    c.count_kind-queens.ensures in
-    let others : c.count_bound-others.result
-    ≡ length (flat_map (λ a. moves_from c.args.self.now a) (members c.count_kind-queens.new.men)) =
-    c.count_bound-others.ensures in
-    omega (arith, fits, all, pawns, knights, bishops, rooks, queens, others)
+    let few = some_fit c.args.self.now c.all-men.result c.setup-sound.ensures.sound in
+    let all = sums _ _ _ _ _ _ _ _ _ _ _ _ c.count_kind-pawns.ensures c.count_kind-knights.ensures
+    c.count_kind-bishops.ensures c.count_kind-rooks.ensures c.count_kind-queens.ensures c.count_pinned-others.ensures few
+    in
+    omega (arith, all.0)
 
 pub overflow_add-result-2 : goal.overflow_add-result-2
 overflow_add-result-2 c =
-    let own : (k : ℕ) → k < 64 → contains c.all-men.result k ≡ is_of c.args.self.now.side (man_at c.args.self.now.men k) =
-    rw (← c.self.view_is) (c.all-men.ensures c.self.inside.setup.men c.self.invariant.1) in
-    let all : length (flat_map (λ a. moves_from c.args.self.now a) (members c.all-men.result))
-    ≡ length (moves c.args.self.now) = ap length (from_men c.args.self.now c.all-men.result own) in
-    let fits = moves_fit c.args.self.now c.setup-sound.ensures.sound in
-    let pawns : c.count_kind-pawns.result + length
-    (flat_map (λ a. moves_from c.args.self.now a) (members c.count_kind-pawns.new.men))
-    ≡ length (flat_map (λ a. moves_from c.args.self.now a) (members c.all-men.result)) =
-    c.count_kind-pawns.ensures in
-    let knights : c.count_kind-knights.result + length
-    (flat_map (λ a. moves_from c.args.self.now a) (members c.count_kind-knights.new.men))
-    ≡ length (flat_map (λ a. moves_from c.args.self.now a) (members c.count_kind-pawns.new.men)) =
-    c.count_kind-knights.ensures in
-    let bishops : c.count_kind-bishops.result + length
-    (flat_map (λ a. moves_from c.args.self.now a) (members c.count_kind-bishops.new.men))
-    ≡ length (flat_map (λ a. moves_from c.args.self.now a) (members c.count_kind-knights.new.men)) =
-    c.count_kind-bishops.ensures in
-    let rooks : c.count_kind-rooks.result + length
-    (flat_map (λ a. moves_from c.args.self.now a) (members c.count_kind-rooks.new.men))
-    ≡ length (flat_map (λ a. moves_from c.args.self.now a) (members c.count_kind-bishops.new.men)) =
-    c.count_kind-rooks.ensures in
-    let queens : c.count_kind-queens.result + length
-    (flat_map (λ a. moves_from c.args.self.now a) (members c.count_kind-queens.new.men))
-    ≡ length (flat_map (λ a. moves_from c.args.self.now a) (members c.count_kind-rooks.new.men)) =
-    c.count_kind-queens.ensures in
-    let others : c.count_bound-others.result
-    ≡ length (flat_map (λ a. moves_from c.args.self.now a) (members c.count_kind-queens.new.men)) =
-    c.count_bound-others.ensures in
-    omega (arith, fits, all, pawns, knights, bishops, rooks, queens, others)
+    let few = some_fit c.args.self.now c.all-men.result c.setup-sound.ensures.sound in
+    let all = sums _ _ _ _ _ _ _ _ _ _ _ _ c.count_kind-pawns.ensures c.count_kind-knights.ensures
+    c.count_kind-bishops.ensures c.count_kind-rooks.ensures c.count_kind-queens.ensures c.count_pinned-others.ensures few
+    in
+    omega (arith, all.1)
 
 pub overflow_add-result-3 : goal.overflow_add-result-3
 overflow_add-result-3 c =
-    let own : (k : ℕ) → k < 64 → contains c.all-men.result k ≡ is_of c.args.self.now.side (man_at c.args.self.now.men k) =
-    rw (← c.self.view_is) (c.all-men.ensures c.self.inside.setup.men c.self.invariant.1) in
-    let all : length (flat_map (λ a. moves_from c.args.self.now a) (members c.all-men.result))
-    ≡ length (moves c.args.self.now) = ap length (from_men c.args.self.now c.all-men.result own) in
-    let fits = moves_fit c.args.self.now c.setup-sound.ensures.sound in
-    let pawns : c.count_kind-pawns.result + length
-    (flat_map (λ a. moves_from c.args.self.now a) (members c.count_kind-pawns.new.men))
-    ≡ length (flat_map (λ a. moves_from c.args.self.now a) (members c.all-men.result)) =
-    c.count_kind-pawns.ensures in
-    let knights : c.count_kind-knights.result + length
-    (flat_map (λ a. moves_from c.args.self.now a) (members c.count_kind-knights.new.men))
-    ≡ length (flat_map (λ a. moves_from c.args.self.now a) (members c.count_kind-pawns.new.men)) =
-    c.count_kind-knights.ensures in
-    let bishops : c.count_kind-bishops.result + length
-    (flat_map (λ a. moves_from c.args.self.now a) (members c.count_kind-bishops.new.men))
-    ≡ length (flat_map (λ a. moves_from c.args.self.now a) (members c.count_kind-knights.new.men)) =
-    c.count_kind-bishops.ensures in
-    let rooks : c.count_kind-rooks.result + length
-    (flat_map (λ a. moves_from c.args.self.now a) (members c.count_kind-rooks.new.men))
-    ≡ length (flat_map (λ a. moves_from c.args.self.now a) (members c.count_kind-bishops.new.men)) =
-    c.count_kind-rooks.ensures in
-    let queens : c.count_kind-queens.result + length
-    (flat_map (λ a. moves_from c.args.self.now a) (members c.count_kind-queens.new.men))
-    ≡ length (flat_map (λ a. moves_from c.args.self.now a) (members c.count_kind-rooks.new.men)) =
-    c.count_kind-queens.ensures in
-    let others : c.count_bound-others.result
-    ≡ length (flat_map (λ a. moves_from c.args.self.now a) (members c.count_kind-queens.new.men)) =
-    c.count_bound-others.ensures in
-    omega (arith, fits, all, pawns, knights, bishops, rooks, queens, others)
+    let few = some_fit c.args.self.now c.all-men.result c.setup-sound.ensures.sound in
+    let all = sums _ _ _ _ _ _ _ _ _ _ _ _ c.count_kind-pawns.ensures c.count_kind-knights.ensures
+    c.count_kind-bishops.ensures c.count_kind-rooks.ensures c.count_kind-queens.ensures c.count_pinned-others.ensures few
+    in
+    omega (arith, all.2)
 
 pub overflow_add-result-4 : goal.overflow_add-result-4
 overflow_add-result-4 c =
-    let own : (k : ℕ) → k < 64 → contains c.all-men.result k ≡ is_of c.args.self.now.side (man_at c.args.self.now.men k) =
-    rw (← c.self.view_is) (c.all-men.ensures c.self.inside.setup.men c.self.invariant.1) in
-    let all : length (flat_map (λ a. moves_from c.args.self.now a) (members c.all-men.result))
-    ≡ length (moves c.args.self.now) = ap length (from_men c.args.self.now c.all-men.result own) in
-    let fits = moves_fit c.args.self.now c.setup-sound.ensures.sound in
-    let pawns : c.count_kind-pawns.result + length
-    (flat_map (λ a. moves_from c.args.self.now a) (members c.count_kind-pawns.new.men))
-    ≡ length (flat_map (λ a. moves_from c.args.self.now a) (members c.all-men.result)) =
-    c.count_kind-pawns.ensures in
-    let knights : c.count_kind-knights.result + length
-    (flat_map (λ a. moves_from c.args.self.now a) (members c.count_kind-knights.new.men))
-    ≡ length (flat_map (λ a. moves_from c.args.self.now a) (members c.count_kind-pawns.new.men)) =
-    c.count_kind-knights.ensures in
-    let bishops : c.count_kind-bishops.result + length
-    (flat_map (λ a. moves_from c.args.self.now a) (members c.count_kind-bishops.new.men))
-    ≡ length (flat_map (λ a. moves_from c.args.self.now a) (members c.count_kind-knights.new.men)) =
-    c.count_kind-bishops.ensures in
-    let rooks : c.count_kind-rooks.result + length
-    (flat_map (λ a. moves_from c.args.self.now a) (members c.count_kind-rooks.new.men))
-    ≡ length (flat_map (λ a. moves_from c.args.self.now a) (members c.count_kind-bishops.new.men)) =
-    c.count_kind-rooks.ensures in
-    let queens : c.count_kind-queens.result + length
-    (flat_map (λ a. moves_from c.args.self.now a) (members c.count_kind-queens.new.men))
-    ≡ length (flat_map (λ a. moves_from c.args.self.now a) (members c.count_kind-rooks.new.men)) =
-    c.count_kind-queens.ensures in
-    let others : c.count_bound-others.result
-    ≡ length (flat_map (λ a. moves_from c.args.self.now a) (members c.count_kind-queens.new.men)) =
-    c.count_bound-others.ensures in
-    omega (arith, fits, all, pawns, knights, bishops, rooks, queens, others)
+    let few = some_fit c.args.self.now c.all-men.result c.setup-sound.ensures.sound in
+    let all = sums _ _ _ _ _ _ _ _ _ _ _ _ c.count_kind-pawns.ensures c.count_kind-knights.ensures
+    c.count_kind-bishops.ensures c.count_kind-rooks.ensures c.count_kind-queens.ensures c.count_pinned-others.ensures few
+    in
+    omega (arith, all.3)
 
 pub overflow_add-result-5 : goal.overflow_add-result-5
 overflow_add-result-5 c =
-    let own : (k : ℕ) → k < 64 → contains c.all-men.result k ≡ is_of c.args.self.now.side (man_at c.args.self.now.men k) =
-    rw (← c.self.view_is) (c.all-men.ensures c.self.inside.setup.men c.self.invariant.1) in
-    let all : length (flat_map (λ a. moves_from c.args.self.now a) (members c.all-men.result))
-    ≡ length (moves c.args.self.now) = ap length (from_men c.args.self.now c.all-men.result own) in
-    let fits = moves_fit c.args.self.now c.setup-sound.ensures.sound in
-    let pawns : c.count_kind-pawns.result + length
-    (flat_map (λ a. moves_from c.args.self.now a) (members c.count_kind-pawns.new.men))
-    ≡ length (flat_map (λ a. moves_from c.args.self.now a) (members c.all-men.result)) =
-    c.count_kind-pawns.ensures in
-    let knights : c.count_kind-knights.result + length
-    (flat_map (λ a. moves_from c.args.self.now a) (members c.count_kind-knights.new.men))
-    ≡ length (flat_map (λ a. moves_from c.args.self.now a) (members c.count_kind-pawns.new.men)) =
-    c.count_kind-knights.ensures in
-    let bishops : c.count_kind-bishops.result + length
-    (flat_map (λ a. moves_from c.args.self.now a) (members c.count_kind-bishops.new.men))
-    ≡ length (flat_map (λ a. moves_from c.args.self.now a) (members c.count_kind-knights.new.men)) =
-    c.count_kind-bishops.ensures in
-    let rooks : c.count_kind-rooks.result + length
-    (flat_map (λ a. moves_from c.args.self.now a) (members c.count_kind-rooks.new.men))
-    ≡ length (flat_map (λ a. moves_from c.args.self.now a) (members c.count_kind-bishops.new.men)) =
-    c.count_kind-rooks.ensures in
-    let queens : c.count_kind-queens.result + length
-    (flat_map (λ a. moves_from c.args.self.now a) (members c.count_kind-queens.new.men))
-    ≡ length (flat_map (λ a. moves_from c.args.self.now a) (members c.count_kind-rooks.new.men)) =
-    c.count_kind-queens.ensures in
-    let others : c.count_bound-others.result
-    ≡ length (flat_map (λ a. moves_from c.args.self.now a) (members c.count_kind-queens.new.men)) =
-    c.count_bound-others.ensures in
-    omega (arith, fits, all, pawns, knights, bishops, rooks, queens, others)
+    let few = some_fit c.args.self.now c.all-men.result c.setup-sound.ensures.sound in
+    let all = sums _ _ _ _ _ _ _ _ _ _ _ _ c.count_kind-pawns.ensures c.count_kind-knights.ensures
+    c.count_kind-bishops.ensures c.count_kind-rooks.ensures c.count_kind-queens.ensures c.count_pinned-others.ensures few
+    in
+    omega (arith, all.4)
 
 pub returns : goal.returns
 returns c =
+    let few = some_fit c.args.self.now c.all-men.result c.setup-sound.ensures.sound in
     let own : (k : ℕ) → k < 64 → contains c.all-men.result k ≡ is_of c.args.self.now.side (man_at c.args.self.now.men k) =
     rw (← c.self.view_is) (c.all-men.ensures c.self.inside.setup.men c.self.invariant.1) in
-    let all : length (flat_map (λ a. moves_from c.args.self.now a) (members c.all-men.result))
-    ≡ length (moves c.args.self.now) = ap length (from_men c.args.self.now c.all-men.result own) in
-    let fits = moves_fit c.args.self.now c.setup-sound.ensures.sound in
-    let pawns : c.count_kind-pawns.result + length
-    (flat_map (λ a. moves_from c.args.self.now a) (members c.count_kind-pawns.new.men))
-    ≡ length (flat_map (λ a. moves_from c.args.self.now a) (members c.all-men.result)) =
-    c.count_kind-pawns.ensures in
-    let knights : c.count_kind-knights.result + length
-    (flat_map (λ a. moves_from c.args.self.now a) (members c.count_kind-knights.new.men))
-    ≡ length (flat_map (λ a. moves_from c.args.self.now a) (members c.count_kind-pawns.new.men)) =
-    c.count_kind-knights.ensures in
-    let bishops : c.count_kind-bishops.result + length
-    (flat_map (λ a. moves_from c.args.self.now a) (members c.count_kind-bishops.new.men))
-    ≡ length (flat_map (λ a. moves_from c.args.self.now a) (members c.count_kind-knights.new.men)) =
-    c.count_kind-bishops.ensures in
-    let rooks : c.count_kind-rooks.result + length
-    (flat_map (λ a. moves_from c.args.self.now a) (members c.count_kind-rooks.new.men))
-    ≡ length (flat_map (λ a. moves_from c.args.self.now a) (members c.count_kind-bishops.new.men)) =
-    c.count_kind-rooks.ensures in
-    let queens : c.count_kind-queens.result + length
-    (flat_map (λ a. moves_from c.args.self.now a) (members c.count_kind-queens.new.men))
-    ≡ length (flat_map (λ a. moves_from c.args.self.now a) (members c.count_kind-rooks.new.men)) =
-    c.count_kind-queens.ensures in
-    let others : c.count_bound-others.result
-    ≡ length (flat_map (λ a. moves_from c.args.self.now a) (members c.count_kind-queens.new.men)) =
-    c.count_bound-others.ensures in
-    omega (arith, fits, all, pawns, knights, bishops, rooks, queens, others)
+    let all = sums _ _ _ _ _ _ _ _ _ _ _ _ c.count_kind-pawns.ensures c.count_kind-knights.ensures
+    c.count_kind-bishops.ensures c.count_kind-rooks.ensures c.count_kind-queens.ensures c.count_pinned-others.ensures few
+    in
+    all.5 ∙ ap length (from_men c.args.self.now c.all-men.result own)

@@ -1,9 +1,9 @@
 -- A pawn that promotes has the four promotions there and no other move, and all or none are legal (promotions_counted);
 -- elsewhere a piece has one move at most (one_counted of Counted).
-use Rattle.std.proofs.Common.{◌≡◌, true, false, None, lit<, sym, ◌∙◌}
+use Rattle.std.proofs.Common.{◌≡◌, true, false, sym, ◌∙◌}
 use Rattle.chess_moves.specs.Promoting.{would_promote}
 use Rattle.chess_bits.proofs.Counted.{promotions_counted, one_counted}
-use Rattle.chess_bits.proofs.Listed.{none_fit, pattern_of}
+use Rattle.chess_bits.proofs.Listed.{unpromoted}
 use Rattle.chess_bits.proofs.bits.Bits.count_between.Goals as goal
 
 pub promotes_legally-requires-clause-promotes : goal.promotes_legally-requires-clause-promotes
@@ -30,8 +30,7 @@ pub times_legal-requires : goal.times_legal-requires
 times_legal-requires c =
     let stays : would_promote c.args.self.now c.args.from c.args.to ≡ false =
     rw (← c.self.view_is) (sym c.would_promote.ensures ∙ c.if-would_promote.false) in
-    pattern_of c.args.self.now c.args.from c.args.to None c.requires
-    (none_fit (would_promote c.args.self.now c.args.from c.args.to) stays 0 (lit< tt) None)
+    unpromoted c.args.self.now c.args.from c.args.to c.requires stays
 
 pub returns-else-would_promote : goal.returns-else-would_promote
 returns-else-would_promote c =

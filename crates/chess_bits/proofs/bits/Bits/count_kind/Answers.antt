@@ -1,24 +1,14 @@
 -- The pieces fall into those taken and those left, and their legal moves fall so too (split of KindsCounted).
-use Rattle.std.proofs.Common.{◌+◌, length, ap, ◌∙◌, arith}
+use Rattle.std.proofs.Common.{◌+◌, length, ap, ◌∙◌}
 use Rattle.std.specs.List.{flat_map}
 use Rattle.chess_moves.specs.shared.MovesBySquares.{moves_from}
 use Rattle.chess_moves.specs.Sets.{members}
+use Rattle.chess_bits.proofs.Counted.{some_fit}
 use Rattle.chess_bits.proofs.KindsCounted.{split}
 use Rattle.chess_bits.proofs.bits.Bits.count_kind.Goals as goal
 
-pub count_pawns-requires-clause-few : goal.count_pawns-requires-clause-few
-count_pawns-requires-clause-few c =
-    let few = c.requires.few in
-    let parts = split (λ a. moves_from c.args.self.now a) c.args.men.now c.intersection-chosen.result
-    c.intersection-taken.result c.without.result c.intersection-taken.ensures c.without.ensures in
-    omega (arith, few, parts)
-
 pub count_officers-requires-clause-few : goal.count_officers-requires-clause-few
-count_officers-requires-clause-few c =
-    let few = c.requires.few in
-    let parts = split (λ a. moves_from c.args.self.now a) c.args.men.now c.intersection-chosen.result
-    c.intersection-taken.result c.without.result c.intersection-taken.ensures c.without.ensures in
-    omega (arith, few, parts)
+count_officers-requires-clause-few c = some_fit c.args.self.now c.intersection-taken.result c.setup-sound.ensures.sound
 
 pub returns-then-is_pawn : goal.returns-then-is_pawn
 returns-then-is_pawn c =

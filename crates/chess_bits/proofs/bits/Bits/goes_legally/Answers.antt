@@ -16,11 +16,12 @@ returns-then-not-contains c =
     ∙ sym (c.steps.ensures c.args.to high) ∙ sym c.contains.ensures ∙ c.if-not-contains.true in
     sym (no_pattern p (move_of c.args.from c.args.to None) out)
 
-pub is_safe_usual-requires : goal.is_safe_usual-requires
-is_safe_usual-requires c =
+pub returns : goal.returns
+returns c =
     let p = c.args.self.now in
     let low : c.args.from < 64 = subst (λ n. n < 64) c.number-start.ensures.value c.number-start.ensures.in_range in
     let high : c.args.to < 64 = subst (λ n. n < 64) c.number-end.ensures.value c.number-end.ensures.in_range in
-    officer_plain p c.args.kind c.args.from c.args.to c.requires
+    c.is_safe_plain.ensures None
+    (officer_plain p c.args.kind c.args.from c.args.to c.requires
     (sym (officer_pattern p c.args.kind c.args.from c.args.to c.requires low high)
-    ∙ sym (c.steps.ensures c.args.to high) ∙ sym c.contains.ensures ∙ c.if-not-contains.false)
+    ∙ sym (c.steps.ensures c.args.to high) ∙ sym c.contains.ensures ∙ c.if-not-contains.false))

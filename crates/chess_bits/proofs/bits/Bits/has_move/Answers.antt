@@ -3,15 +3,12 @@
 use Rattle.std.proofs.Common.{◌≡◌, ◌<◌, ℕ, nat_lt, length, sym, ap, ◌∙◌}
 use Rattle.chess_base.specs.Men.{man_at, is_of}
 use Rattle.chess_moves.specs.Sets.{contains}
-use Rattle.chess_bits.proofs.Counted.{some_fit, some_of}
+use Rattle.chess_bits.proofs.Counted.{some_of}
 use Rattle.chess_bits.proofs.Listed.{from_men}
 use Rattle.chess_bits.proofs.bits.Bits.has_move.Goals as goal
 
-pub returns-then-has_usual_move : goal.returns-then-has_usual_move
-returns-then-has_usual_move c = sym (c.has_usual_move.ensures c.if-has_usual_move.true)
-
-pub has_king_move-requires-clause-few : goal.has_king_move-requires-clause-few
-has_king_move-requires-clause-few c = some_fit c.args.self.now c.of-kings.result c.setup-sound.ensures.sound
+pub returns-then-has_easy_move : goal.returns-then-has_easy_move
+returns-then-has_easy_move c = sym (c.has_easy_move.ensures c.if-has_easy_move.true)
 
 pub returns-then-has_king_move : goal.returns-then-has_king_move
 returns-then-has_king_move c = some_of c.args.self.now c.of-kings.result

@@ -18,11 +18,12 @@ returns-then-not-promotion_fits c =
     rw (← c.self.view_is, ← c.would_promote.ensures) (sym c.promotion_fits.ensures ∙ c.if-not-promotion_fits.true) in
     not_fitting c.args.self.now c.args.m.now off
 
-pub is_safe_after-requires : goal.is_safe_after-requires
-is_safe_after-requires c =
+pub returns : goal.returns
+returns c =
     let low : c.args.m.now.to < 64 = subst (λ n. n < 64) c.number-end.ensures.value c.number-end.ensures.in_range in
     let fits : promotion_fits (would_promote c.args.self.now c.args.m.now.from c.args.m.now.to) c.args.m.now.promotion
     ≡ true =
     rw (← c.self.view_is, ← c.would_promote.ensures) (sym c.promotion_fits.ensures ∙ c.if-not-promotion_fits.false) in
-    pattern_from c.args.self.now c.args.m.now
-    (c.targets.ensures.sound c.args.m.now.to low (sym c.contains.ensures ∙ c.if-not-contains.false)) fits
+    c.is_safe_after.ensures
+    (pattern_from c.args.self.now c.args.m.now
+    (c.targets.ensures.sound c.args.m.now.to low (sym c.contains.ensures ∙ c.if-not-contains.false)) fits)

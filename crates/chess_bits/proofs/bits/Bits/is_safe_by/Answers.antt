@@ -7,16 +7,15 @@ use Rattle.chess_bits.specs.ties.Changes.{is_changed, is_filled}
 use Rattle.chess_bits.proofs.bits.Bits.is_safe_by.Goals as goal
 
 pub returns : goal.returns
-returns c =
+returns c = λ m pattern steps.
     let p = c.args.self.now in
-    let m = c.args.m.now in
     let filled : (k : ℕ) → k < 64 → contains c.filled_by-filled.result k ≡ is_filled p m k =
     λ k low. c.filled_by-filled.ensures k
-    ∙ ap (λ (t : Steps). (t.to == k) || is_square t.second_to k) c.requires.steps in
+    ∙ ap (λ (t : Steps). (t.to == k) || is_square t.second_to k) steps in
     let emptied : (k : ℕ) → contains c.emptied_by.result k ≡ _ =
     λ k. c.emptied_by.ensures k
-    ∙ ap (λ (t : Steps). is_square t.second_from k || (t.from == k)) c.requires.steps in
+    ∙ ap (λ (t : Steps). is_square t.second_from k || (t.from == k)) steps in
     let changed : (k : ℕ) → k < 64 → contains c.union-changed.result k ≡ is_changed p m k =
     λ k low. c.union-changed.ensures k ∙ rw (filled k low, emptied k) refl in
-    c.is_safe_at.ensures m c.requires.pattern c.king_after-king.ensures.in_range c.king_after-king.ensures.there filled
-    changed
+    c.is_safe_at.ensures m pattern c.king_after-king.ensures.in_range (c.king_after-king.ensures.there m pattern steps)
+    filled changed

@@ -1,9 +1,9 @@
 -- A step is legal where nothing attacks its end once the king is off the board (step_is of KingSteps); with the king
 -- off it, the enemy's sets are the same and only its square is empty (Lifted).
-use Rattle.std.proofs.Common.{◌≡◌, ◌<◌, true, false, not, ◌&&◌, subst, ap, ◌∙◌}
+use Rattle.std.proofs.Common.{◌≡◌, ◌<◌, false, not, ◌&&◌, subst, ap, ◌∙◌}
 use Rattle.chess_base.specs.declared.man.Kind.TheVariants.{King}
 use Rattle.chess_base.specs.Attacks.{is_attacked}
-use Rattle.chess_base.specs.Men.{man_at, is_of, is_man}
+use Rattle.chess_base.specs.Men.{man_at, is_of}
 use Rattle.chess_base.proofs.shared.Men.{no_other}
 use Rattle.chess_moves.specs.Sets.{contains}
 use Rattle.chess_bits.specs.ties.Goes.{lifted}
@@ -17,8 +17,8 @@ returns c =
     let a = c.args.king in
     let low : a < 64 = subst (λ n. n < 64) c.number-start.ensures.value c.number-start.ensures.in_range in
     let high : c.args.to < 64 = subst (λ n. n < 64) c.number-end.ensures.value c.number-end.ensures.in_range in
-    let king : is_man p.side King (man_at p.men a) ≡ true = rw c.self.view_is c.requires.king in
-    let step = rw (← c.self.view_is) at c.requires.step in
+    rw (← c.self.view_is)
+    (λ king step.
     let theirs : is_of c.other-by.result (man_at p.men a) ≡ false =
     rw c.other-by.ensures (no_other p.side King (man_at p.men a) king) in
     let kinds = lifted_kinds _ p.men c.other-by.result a c.self.invariant.0.board low theirs
@@ -27,6 +27,5 @@ returns c =
     (c.occupied.ensures p.men c.self.invariant.1)
     (λ k l. c.without-left.ensures k l ∙ ap (λ t. contains c.occupied.result k && not t) (c.single.ensures.value k)) in
     let hit = c.attacks.ensures (lifted p.men a) kinds occupied in
-    rw (← c.self.view_is)
-    (ap not (hit ∙ ap (is_attacked (lifted p.men a) c.args.to) c.other-by.ensures)
+    ap not (hit ∙ ap (is_attacked (lifted p.men a) c.args.to) c.other-by.ensures)
     ∙ step_is p a c.args.to c.self.invariant.0 king step low high)

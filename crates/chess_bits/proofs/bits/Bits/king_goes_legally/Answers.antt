@@ -7,14 +7,14 @@ use Rattle.chess_bits.proofs.ByKind.{king_otherwise}
 use Rattle.chess_bits.proofs.KingSteps.{steps_are}
 use Rattle.chess_bits.proofs.bits.Bits.king_goes_legally.Goals as goal
 
-pub is_safe_step-requires : goal.is_safe_step-requires
-is_safe_step-requires c =
+pub returns-then-contains : goal.returns-then-contains
+returns-then-contains c =
     let p = c.args.self.now in
     let high : c.args.to < 64 = subst (λ n. n < 64) c.number-end.ensures.value c.number-end.ensures.in_range in
     let step : man_moves p (move_of c.args.king c.args.to None) ≡ true =
     sym (steps_are p c.args.king c.args.to c.requires) ∙ sym (c.steps.ensures c.args.to high)
     ∙ sym c.contains.ensures ∙ c.if-contains.true in
-    record { king = c.requires; step = step }
+    c.is_safe_step.ensures c.requires step
 
 pub returns : goal.returns
 returns c =

@@ -1,91 +1,46 @@
--- All own pieces but the king are free at first, and no way is looked at. Each step takes a shield out of them, if there
--- is one (pin). With all ways looked at, the pieces that are left open none to the king, so they are free (freed of
--- Freely).
-use Rattle.std.proofs.Common.{◌≡◌, ◌<◌, ◌==◌, ◌&&◌, ◌||◌, ℕ, inl, inr, not, false, true, sym, ap, refl, subst, ◌∙◌}
-use Rattle.std.proofs.lemmas.Bool.{and_parts, and_from, or_left, or_right, cases_Bool, both_ways, eqb-true, not-true}
-use Rattle.chess_base.specs.Attacks.{is_in_check}
-use Rattle.chess_base.specs.declared.man.Kind.TheVariants.{King, Queen, Rook, Bishop}
-use Rattle.chess_base.specs.Men.{man_at, is_man, is_of, other}
-use Rattle.chess_base.specs.Squares.{share_rank_or_file, share_diagonal}
-use Rattle.chess_bits.specs.ties.Bounds.{aims_from, KeepsClosed}
+-- Where nothing attacks the king it is not in check (attacked_is of Attackers); else each move of another piece meets the
+-- first attack (check_met of Pins).
+use Rattle.std.proofs.Common.{◌≡◌, ◌<◌, ◌&&◌, ℕ, not, sym, ap, ◌∙◌}
+use Rattle.chess_base.specs.Attacks.{attacks}
+use Rattle.chess_base.specs.Men.{man_at, is_of, is_man, other}
+use Rattle.chess_base.specs.declared.man.Kind.TheVariants.{King}
 use Rattle.chess_moves.specs.Sets.{contains}
-use Rattle.chess_bits.proofs.Bounds.{mover_told}
-use Rattle.chess_bits.proofs.Freely.{freed}
-use Rattle.chess_bits.proofs.Listed.{each_member, each_first}
-use Rattle.chess_bits.proofs.OneKing.{alone, has_king}
-use Rattle.chess_bits.proofs.Starts.{taken_first, none_left}
+use Rattle.chess_bits.proofs.AfterSets.{check_is}
+use Rattle.chess_bits.proofs.Attackers.{attacked_is}
+use Rattle.chess_bits.proofs.Pins.{check_met, to_in}
 use Rattle.chess_bits.proofs.bits.Bits.pins.Goals as goal
 
-pub loop-from-init : goal.loop-from-init
-loop-from-init c =
+pub pins_without_check-requires-clause-calm : goal.pins_without_check-requires-clause-calm
+pins_without_check-requires-clause-calm c =
     let p = c.self.inside.setup in
-    let king = c.args.king in
-    let here : is_man p.side King (man_at p.men king) ≡ true = rw c.self.view_is c.requires.king in
-    let one = alone p.men p.side king c.self.invariant.0.board (has_king p p.side c.self.invariant.0) here in
-    let own : (a : ℕ) → a < 64 → contains c.without.result a ≡ (is_of p.side (man_at p.men a) && not (a == king)) =
-    λ a low. c.without.ensures a low ∙ rw (c.all.ensures p.men c.self.invariant.1 a low, c.single.ensures.value a) refl
-    in
-    let aims = rw (← c.self.view_is) at c.aimed_at-rest.ensures in
+    let king = c.king-king.result in
+    let one = rw (← c.self.view_is) at c.king-king.ensures.alone in
+    let kinds = c.of-men.ensures p.men c.self.invariant.1 in
+    let gives : (k : ℕ) → k < 64
+    → contains c.attackers-checkers.result k ≡ (is_of (other p.side) (man_at p.men k) && attacks p.men k king) =
+    rw (← c.other-by.ensures)
+    (λ k low. c.attackers-checkers.ensures p.men (c.occupied.ensures p.men c.self.invariant.1) k low
+    (λ kind. kinds.of_kind kind k low)) in
     rw (← c.self.view_is)
-    (record {
-      own = λ a low h. sym (own a low) ∙ h;
-      aims = λ b low h. sym (aims b low) ∙ h;
-      closed = λ a b la lb h aimed off. absurd (both_ways (contains c.aimed_at-rest.result b) off (aims b lb ∙ aimed));
-      ends = λ a low no_king outside m legal at.
-          absurd
-          (both_ways (contains c.without.result a) outside
-          (own a low
-          ∙ and_from (is_of p.side (man_at p.men a)) (not (a == king))
-          (ap (λ k. is_of p.side (man_at p.men k)) (sym at) ∙ mover_told p m legal)
-          (ap not (sym (one a low) ∙ no_king))));
-    })
+    (check_is p.men p.side king c.king-king.ensures.in_range one
+    ∙ sym (attacked_is c.attackers-checkers.result p.men king (other p.side) gives)
+    ∙ ap not (sym c.is_empty.ensures.none ∙ c.if-is_empty.true))
 
-pub pin-requires-clause-aims : goal.pin-requires-clause-aims
-pin-requires-clause-aims c =
-    each_first (λ b. aims_from c.args.self.now b c.args.king ≡ true) _ c.in-Some.from _ c.in-Some.ensures
-    (each_member c.loop-from.rest (λ b. aims_from c.args.self.now b c.args.king ≡ true) c.loop-from.invariant.aims)
-
-pub loop-from-preserved : goal.loop-from-preserved
-loop-from-preserved c =
-    let p = c.args.self.now in
-    let king = c.args.king in
-    let from = c.in-Some.from in
-    let before = c.loop-from.invariant in
-    let rest : (b : ℕ) → b < 64
-    → contains c.loop-from.rest b ≡ ((from == b) || contains c.take_first.new.self b) =
-    λ b low. taken_first c.loop-from.rest c.take_first.new.self from b low c.in-Some.ensures in
-    record {
-      own = λ a low h. before.own a low (c.pin.ensures.free a low h).0;
-      aims = λ b low h. before.aims b low (rest b low ∙ or_right (from == b) (contains c.take_first.new.self b) h);
-      closed = λ a b la lb h aimed off.
-          elim (cases_Bool (from == b)) [
-            | inl same ↦ subst (λ s. KeepsClosed p a s king) (eqb-true from b same) (c.pin.ensures.free a la h).1
-            | inr apart ↦ before.closed a b la lb (c.pin.ensures.free a la h).0 aimed (rest b lb ∙ rw (apart, off) refl)
-          ];
-      ends = c.pin.ensures.ends before.ends;
-    }
-
-pub returns-clause-free : goal.returns-clause-free
-returns-clause-free c =
+pub returns-clause-evasions : goal.returns-clause-evasions
+returns-clause-evasions c =
     let p = c.self.inside.setup in
-    let king = c.args.king in
-    let there : king < 64 = subst (λ n. n < 64) c.number-king.ensures.value c.number-king.ensures.in_range in
-    let here : is_man p.side King (man_at p.men king) ≡ true = rw c.self.view_is c.requires.king in
-    let calm : is_in_check p.men p.side ≡ false = rw c.self.view_is c.requires.calm in
-    let one = alone p.men p.side king c.self.invariant.0.board (has_king p p.side c.self.invariant.0) here in
-    let own = rw (← c.self.view_is) at c.loop-from.invariant.own in
-    let closed = rw (← c.self.view_is) at c.loop-from.invariant.closed in
+    let king = c.king-king.result in
+    let one = rw (← c.self.view_is) at c.king-king.ensures.alone in
+    let kinds = c.of-men.ensures p.men c.self.invariant.1 in
+    let gives : (k : ℕ) → k < 64
+    → contains c.attackers-checkers.result k ≡ (is_of (other p.side) (man_at p.men k) && attacks p.men k king) =
+    rw (← c.other-by.ensures)
+    (λ k low. c.attackers-checkers.ensures p.men (c.occupied.ensures p.men c.self.invariant.1) k low
+    (λ kind. kinds.of_kind kind k low)) in
+    let evasions = rw (← c.self.view_is) at c.evasions.ensures in
     rw (← c.self.view_is)
-    (λ k low h.
-    let mine = and_parts (is_of p.side (man_at p.men k)) (not (k == king)) (own k low h) in
-    freed p k king c.self.invariant.0 low there calm one (not-true _ mine.1)
-    (λ b high theirs on clear.
-    closed k b low high h
-    (or_left _ ((is_man (other p.side) Bishop (man_at p.men b) || is_man (other p.side) Queen (man_at p.men b))
-    && (not (b == king) && share_diagonal b king)) (and_from _ _ theirs on))
-    (none_left c.loop-from.rest b high c.in_default.ensures.0) clear)
-    (λ b high theirs on clear.
-    closed k b low high h
-    (or_right ((is_man (other p.side) Rook (man_at p.men b) || is_man (other p.side) Queen (man_at p.men b))
-    && (not (b == king) && share_rank_or_file b king)) _ (and_from _ _ theirs on))
-    (none_left c.loop-from.rest b high c.in_default.ensures.0) clear))
+    (λ a low no_king outside m legal at.
+    evasions m.to (to_in p m legal)
+    (check_met p m king c.first.result c.self.invariant.0 legal c.king-king.ensures.in_range one
+    (ap (λ k. is_man p.side King (man_at p.men k)) at ∙ no_king) c.first.ensures.in_range
+    (sym (gives c.first.result c.first.ensures.in_range) ∙ c.first.ensures.nearest.here)))

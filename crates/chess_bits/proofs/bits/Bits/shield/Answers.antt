@@ -1,5 +1,5 @@
 -- Each piece on a square between them is in the set, and the king and the piece aimed at it are on one line (by_line of
--- BetweenSquares). With none in the set the way is clear (none_hides of Bounds), with one this is the shield
+-- BetweenSquares). With none in the set the way is clear (none_hides of Pins), with one this is the shield
 -- (one_hides), and with more no piece taken off clears the way (many_hide).
 use Rattle.std.proofs.Common.{◌≡◌, ◌<◌, ◌==◌, ◌&&◌, ℕ, not, false, sym, ap, subst, ◌∙◌}
 use Rattle.std.proofs.lemmas.Bool.{both_ways}
@@ -8,7 +8,7 @@ use Rattle.chess_base.proofs.shared.Squares.{some_square-none}
 use Rattle.chess_moves.specs.Sets.{contains}
 use Rattle.chess_bits.proofs.Attackers.{none_there}
 use Rattle.chess_bits.proofs.BetweenSquares.{by_line}
-use Rattle.chess_bits.proofs.Bounds.{aims_on_line, none_hides, one_hides, many_hide}
+use Rattle.chess_bits.proofs.Pins.{aims_on_line, none_hides, one_hides, many_hide}
 use Rattle.chess_bits.proofs.bits.Bits.shield.Goals as goal
 
 pub returns-then-is_empty : goal.returns-then-is_empty
@@ -22,9 +22,9 @@ returns-then-is_empty c =
     ≡ (is_between c.args.king c.args.from x && contains c.occupied.result x) =
     λ x l. c.intersection-hiding.ensures x
     ∙ ap (λ t. t && contains c.occupied.result x)
-    (by_line c.args.king c.args.from c.squares_between-between.result x king from
+    (by_line c.args.king c.args.from c.between-between.result x king from
     (aims_on_line c.args.self.now c.args.from c.args.king c.requires)
-    (λ line same. c.squares_between-between.ensures line same x l)) in
+    (λ line same. c.between-between.ensures line same x l)) in
     let none : (x : ℕ) → x < 64 → contains c.intersection-hiding.result x ≡ false =
     λ x l. none_there c.intersection-hiding.result x (sym c.is_empty.ensures.zero ∙ c.if-is_empty.true) in
     rw (← c.self.view_is)
@@ -43,9 +43,9 @@ returns-then-is_empty-2 c =
     ≡ (is_between c.args.king c.args.from x && contains c.occupied.result x) =
     λ x l. c.intersection-hiding.ensures x
     ∙ ap (λ t. t && contains c.occupied.result x)
-    (by_line c.args.king c.args.from c.squares_between-between.result x king from
+    (by_line c.args.king c.args.from c.between-between.result x king from
     (aims_on_line c.args.self.now c.args.from c.args.king c.requires)
-    (λ line same. c.squares_between-between.ensures line same x l)) in
+    (λ line same. c.between-between.ensures line same x l)) in
     let others : (x : ℕ) → x < 64 → contains c.without-others.result x
     ≡ (contains c.intersection-hiding.result x && not (x == c.first-shield.result)) =
     λ x l. c.without-others.ensures x l
@@ -68,9 +68,9 @@ returns-else-is_empty-2 c =
     ≡ (is_between c.args.king c.args.from x && contains c.occupied.result x) =
     λ x l. c.intersection-hiding.ensures x
     ∙ ap (λ t. t && contains c.occupied.result x)
-    (by_line c.args.king c.args.from c.squares_between-between.result x king from
+    (by_line c.args.king c.args.from c.between-between.result x king from
     (aims_on_line c.args.self.now c.args.from c.args.king c.requires)
-    (λ line same. c.squares_between-between.ensures line same x l)) in
+    (λ line same. c.between-between.ensures line same x l)) in
     let others : (x : ℕ) → x < 64 → contains c.without-others.result x
     ≡ (contains c.intersection-hiding.result x && not (x == c.first-shield.result)) =
     λ x l. c.without-others.ensures x l

@@ -1,5 +1,5 @@
--- A pawn goes along its file or where it attacks (pawn_origins of OriginsOf); an officer goes where it attacks, and is
--- attacked back from there (officer_origins). All pieces of a kind are always enough (all_men of chess_moves).
+-- A pawn advances or captures (pawn_origins of OriginsOf); an officer goes where it attacks, and is attacked back from
+-- there (officer_origins). All pieces of a kind are always enough (all_men of chess_moves).
 use Rattle.std.proofs.Common.{sym, ap, ◌∙◌}
 use Rattle.chess_moves.specs.Sets.{contains}
 use Rattle.chess_moves.proofs.shared.Origins.{all_men}
@@ -15,20 +15,16 @@ returns-then-is_king c =
 
 pub returns-then-is_pawn : goal.returns-then-is_pawn
 returns-then-is_pawn c =
-    let p = c.self.inside.setup in
-    let kinds = c.of-men.ensures p.men c.self.invariant.1 in
     rw (← c.self.view_is)
-    (pawn_origins p c.args.kind c.args.to c.intersection.result c.of-own.result c.pawn_starts.result c.self.invariant.0
-    (sym c.is_pawn.ensures ∙ c.if-is_pawn.true) c.intersection.ensures
-    (λ k low. ap (λ w. contains w k) c.of-own.ensures ∙ kinds.of_kind c.args.kind k low)
-    (rw (← c.self.view_is) at c.pawn_starts.ensures))
+    (pawn_origins c.self.inside.setup c.args.kind c.args.to c.pawns_to.result
+    (sym c.is_pawn.ensures ∙ c.if-is_pawn.true) (rw (← c.self.view_is) at c.pawns_to.ensures))
 
 pub returns : goal.returns
 returns c =
     let p = c.self.inside.setup in
     let kinds = c.of-men.ensures p.men c.self.invariant.1 in
     rw (← c.self.view_is)
-    (officer_origins p c.args.kind c.args.to c.intersection-2.result c.of-own.result c.reached_from-reached.result
-    (sym c.is_pawn.ensures ∙ c.if-is_pawn.false) (sym c.is_king.ensures ∙ c.if-is_king.false) c.intersection-2.ensures
-    (λ k low. ap (λ w. contains w k) c.of-own.ensures ∙ kinds.of_kind c.args.kind k low)
-    (c.reached_from-reached.ensures p.men (c.occupied.ensures p.men c.self.invariant.1)))
+    (officer_origins p c.args.kind c.args.to c.reached_among.result c.of-own.result
+    (sym c.is_pawn.ensures ∙ c.if-is_pawn.false) (sym c.is_king.ensures ∙ c.if-is_king.false)
+    (c.reached_among.ensures p.men (c.occupied.ensures p.men c.self.invariant.1))
+    (λ k low. ap (λ w. contains w k) c.of-own.ensures ∙ kinds.of_kind c.args.kind k low))

@@ -1,0 +1,490 @@
+-- Where pieces may go that shield their king, or whose king is in check: on the way between the king and the piece that
+-- would attack it, or to that piece.
+use Rattle.std.proofs.Common.{◌≡◌, ℕ, ◌<◌, ◌⊎◌, inl, inr, Bool, true, false, not, ◌&&◌, ◌||◌, ◌==◌, cond, Option, Some, None, is_none, length, refl, sym, ap, ◌∙◌, arith}
+use Rattle.std.proofs.lemmas.Bool.Decides.{nat_tests}
+use Rattle.std.proofs.lemmas.Bool.{and_parts, and_from, and_right, or_parts, or_cases, or_left, or_right, both_ways, cases_Bool, eqb-true, eq-eqb, false_from_ne_true, not-true, not-false}
+use Rattle.chess_base.specs.declared.man.CastlingSide.TheVariants.{KingSide, QueenSide}
+use Rattle.chess_base.specs.declared.man.Colour.{Colour}
+use Rattle.chess_base.specs.declared.man.Colour.TheVariants.{White, Black}
+use Rattle.chess_base.specs.declared.man.Kind.{Kind}
+use Rattle.chess_base.specs.declared.man.Kind.TheVariants.{King, Queen, Rook, Bishop, Knight, Pawn}
+use Rattle.chess_base.specs.declared.man.Man.{Man}
+use Rattle.chess_base.specs.declared.man.Move.{Move}
+use Rattle.chess_base.specs.declared.setup.Setup.{Setup}
+use Rattle.chess_base.specs.Attacks.{is_clear, could_capture, attacks, is_attacked, is_in_check}
+use Rattle.chess_base.specs.Castling.{castle_of, castle_from, mover_end, castling_rook_to}
+use Rattle.chess_base.specs.Men.{Men, man_at, other, is_man, is_of, same_kind, same_colour, first_rank, crossed_rank, forward}
+use Rattle.chess_base.specs.Moves.{is_pseudo_legal, is_legal, after, arriving_man, man_moves, men_after, second_square_emptied, promotion_fits}
+use Rattle.chess_base.specs.Sound.{IsSound, target_is_sound, target_is_sound_at}
+use Rattle.chess_base.specs.Squares.{file, rank, is_between, is_between_on_file, is_between_on_rank, is_between_on_diagonal, lies_inside, is_square, share_rank_or_file, share_diagonal}
+use Rattle.chess_base.specs.shared.Splits.{could_capture_as}
+use Rattle.chess_base.proofs.shared.Men.{is_none-None}
+use Rattle.chess_base.proofs.shared.MoveKinds.{Moves, MoveKind, ManMoves, Castles, PawnMoves, moves_from_pattern, castles_unpromoted}
+use Rattle.chess_base.proofs.shared.Squares.{each_square-all, each_square-at, some_square-at}
+use Rattle.chess_moves.specs.Sets.{contains}
+use Rattle.chess_bits.specs.ties.Pins.{aims_from, IsShield}
+use Rattle.chess_bits.specs.ties.Goes.{lifted}
+use Rattle.chess_bits.specs.declared.line.Line.{Line}
+use Rattle.chess_bits.specs.declared.line.Line.TheVariants.{Rank, File, Diagonal, Antidiagonal}
+use Rattle.chess_bits.specs.ties.Occupancy.{IsOccupied}
+use Rattle.chess_bits.specs.ties.Rays.{line_number, same_line}
+use Rattle.chess_bits.proofs.Attackers.{between_back, eq_back}
+use Rattle.chess_bits.proofs.BetweenSquares.{are_on_line}
+use Rattle.chess_bits.proofs.BoardSets.{own_of, theirs_of}
+use Rattle.chess_bits.proofs.Freely.{from_not}
+use Rattle.chess_bits.proofs.Geometry.{share_diagonal_is}
+use Rattle.chess_bits.proofs.KingAfter.{mover_some, mover_own, king_stays, check_after, legal_is}
+use Rattle.chess_bits.proofs.Lifted.{lifted_at}
+use Rattle.chess_bits.proofs.Quiet.{IsPlain, lands_over, lands_same, not_passing, could_capture_as_clear}
+use Rattle.chess_bits.proofs.TargetsOf.{no_king_says, none_castles}
+
+-- ---- no king arrives but one that leaves
+
+promoted : (o : Option Man) (c : Colour) (k : Option Kind) (last : Bool) → is_man c King o ≡ false
+    → promotion_fits last k ≡ true → is_man c King (arriving_man o k) ≡ false
+unfolding is_man
+promoted o c None last h fits = ap (is_man c King) (lands_same o) ∙ h
+promoted None c (Some k) last h fits = h
+promoted (Some x) c (Some King) last h fits = cc
+promoted (Some x) c (Some Queen) last h fits = and_right (same_colour c x.colour) false refl
+promoted (Some x) c (Some Rook) last h fits = and_right (same_colour c x.colour) false refl
+promoted (Some x) c (Some Bishop) last h fits = and_right (same_colour c x.colour) false refl
+promoted (Some x) c (Some Knight) last h fits = and_right (same_colour c x.colour) false refl
+promoted (Some x) c (Some Pawn) last h fits = cc
+
+unpromoted : (o : Option Man) (c : Colour) (k : Option Kind) → is_man c King o ≡ false → k ≡ None
+    → is_man c King (arriving_man o k) ≡ false
+unpromoted o c k h e = ap (λ n. is_man c King (arriving_man o n)) e ∙ ap (is_man c King) (lands_same o) ∙ h
+
+pub no_king_arrives : (p : Setup) (m : Move) → is_man p.side King (man_at p.men m.from) ≡ false → MoveKind p m
+    → is_man p.side King (arriving_man (man_at p.men m.from) m.promotion) ≡ false
+unfolding man_moves
+no_king_arrives p m h (ManMoves n e moves) =
+    let parts = and_parts (is_none m.promotion && attacks p.men m.from m.to) (not (is_of p.side (man_at p.men m.to)))
+    moves in
+    let none = and_parts (is_none m.promotion) (attacks p.men m.from m.to) parts.0 in
+    unpromoted (man_at p.men m.from) p.side m.promotion h (is_none-None m.promotion none.0)
+no_king_arrives p m h (Castles w r e right way) =
+    unpromoted (man_at p.men m.from) p.side m.promotion h (castles_unpromoted p m (castle_from p.side w m.from r) way)
+no_king_arrives p m h (PawnMoves pawn fits kind) =
+    promoted (man_at p.men m.from) p.side m.promotion (rank m.to == first_rank (other p.side)) h fits
+
+-- a pawn is no king
+pub pawn_no_king : (c : Colour) (o : Option Man) → is_man c Pawn o ≡ true → is_man c King o ≡ false
+unfolding is_man
+pawn_no_king c None h = refl
+pawn_no_king c (Some x) h = by (same_colour c x.colour) x.kind h
+  where
+    by : (s : Bool) (k : Kind) → (s && same_kind Pawn k) ≡ true → (s && same_kind King k) ≡ false
+    by false k e = refl
+    by true King e = cc
+    by true Queen e = refl
+    by true Rook e = refl
+    by true Bishop e = refl
+    by true Knight e = refl
+    by true Pawn e = refl
+
+-- the en passant target is not on the last rank
+apart : (c : Colour) (s : ℕ) → rank s ≡ crossed_rank (other c) → rank s ≡ first_rank (other c) → ⊥
+apart White s e f = omega (arith, e, f)
+apart Black s e f = omega (arith, e, f)
+
+target_apart : (men : Men) (c : Colour) (o : Option ℕ) (b : ℕ) → target_is_sound_at men c o ≡ true
+    → rank b ≡ first_rank (other c) → is_square o b ≡ false
+target_apart men c None b sound last = refl
+target_apart men c (Some t) b sound last =
+    let three = and_parts ((rank t == crossed_rank (other c)) && is_none (man_at men t)
+    && is_man (other c) Pawn (man_at men (forward (other c) t))) (is_none (man_at men (forward c t))) sound in
+    let two = and_parts ((rank t == crossed_rank (other c)) && is_none (man_at men t))
+    (is_man (other c) Pawn (man_at men (forward (other c) t))) three.0 in
+    let one = and_parts (rank t == crossed_rank (other c)) (is_none (man_at men t)) two.0 in
+    false_from_ne_true (t == b)
+    (λ same.
+    apart c b (sym (ap (λ s. rank s) (eqb-true t b same)) ∙ eqb-true (rank t) (crossed_rank (other c)) one.0) last)
+
+pub no_target_there : (p : Setup) (b : ℕ) → IsSound p → rank b ≡ first_rank (other p.side)
+    → is_square p.target b ≡ false
+unfolding target_is_sound
+no_target_there p b sound last = target_apart p.men p.side p.target b sound.target last
+
+-- ---- a piece taken off
+
+-- what stands on another square is in the way still
+closed_by : (men : Men) (a b k x : ℕ) → length men ≡ 64 → a < 64 → x < 64 → is_between b k x ≡ true
+    → is_none (man_at men x) ≡ false → (x == a) ≡ false → is_clear (lifted men a) b k ≡ true → ⊥
+unfolding is_clear
+closed_by men a b k x all low high inside stands apart clear =
+    let now = rw inside at (each_square-at _ clear x high) in
+    let same : man_at (lifted men a) x ≡ man_at men x = lifted_at men a x all low
+    ∙ ap (λ t. cond t None (man_at men x)) apart in
+    both_ways (is_none (man_at men x)) stands (ap is_none (sym same) ∙ now)
+
+-- so it is the only one there
+only_there : (men : Men) (a b k x : ℕ) → length men ≡ 64 → a < 64 → x < 64 → is_between b k x ≡ true
+    → is_none (man_at men x) ≡ false → is_clear (lifted men a) b k ≡ true → x ≡ a
+only_there men a b k x all low high inside stands clear =
+    elim (cases_Bool (x == a)) [
+      | inl same ↦ eqb-true x a same
+      | inr apart ↦ absurd (closed_by men a b k x all low high inside stands apart clear)
+    ]
+
+clear_lifted : (men : Men) (a b k : ℕ) → length men ≡ 64 → a < 64 → is_clear men b k ≡ true
+    → is_clear (lifted men a) b k ≡ true
+unfolding is_clear
+clear_lifted men a b k all low clear =
+    each_square-all _
+    (λ x l.
+    ap (λ o. not (is_between b k x) || is_none o) (lifted_at men a x all low)
+    ∙ either (x == a) (is_between b k x) (man_at men x) (each_square-at _ clear x l))
+  where
+    either : (t i : Bool) (o : Option Man) → (not i || is_none o) ≡ true → (not i || is_none (cond t None o)) ≡ true
+    either true i o h = or_right (not i) true refl
+    either false i o h = h
+
+-- ---- the way to the king
+
+pub to_in : (p : Setup) (m : Move) → is_legal p m ≡ true → m.to < 64
+unfolding is_legal
+to_in p m legal =
+    let moves = moves_from_pattern p m (and_parts (is_pseudo_legal p m) (not (is_in_check (after p m).men p.side)) legal).0
+    in
+    moves.to_in
+
+from_in : (p : Setup) (m : Move) → is_legal p m ≡ true → m.from < 64
+unfolding is_legal
+from_in p m legal =
+    let moves = moves_from_pattern p m (and_parts (is_pseudo_legal p m) (not (is_in_check (after p m).men p.side)) legal).0
+    in
+    moves.from_in
+
+pub mover_told : (p : Setup) (m : Move) → is_legal p m ≡ true → is_of p.side (man_at p.men m.from) ≡ true
+unfolding is_legal
+mover_told p m legal =
+    let moves = moves_from_pattern p m (and_parts (is_pseudo_legal p m) (not (is_in_check (after p m).men p.side)) legal).0
+    in
+    ap (is_of p.side) moves.at_from ∙ own_of p.side moves.mover moves.own
+
+-- an enemy that attacks the king once the mover is off the board is captured, or the mover comes between them
+pub must_end : (p : Setup) (m : Move) (king b : ℕ) → IsSound p → is_legal p m ≡ true → king < 64
+    → ((k : ℕ) → k < 64 → is_man p.side King (man_at p.men k) ≡ (k == king))
+    → is_man p.side King (man_at p.men m.from) ≡ false → b < 64 → is_of (other p.side) (man_at p.men b) ≡ true
+    → could_capture_as (lifted p.men m.from) (man_at p.men b) b king ≡ true → is_square p.target m.to ≡ false
+    → (is_between king b m.to || (m.to == b)) ≡ true
+unfolding is_legal second_square_emptied castling_rook_to mover_end is_attacked attacks is_clear
+must_end p m king b sound legal there one no_king low theirs hits no_target =
+    elim (cases_Bool (is_between king b m.to || (m.to == b))) [
+      | inl met ↦ met
+      | inr missed ↦ absurd (both_ways (is_attacked (men_after p m) king (other p.side)) safe (struck missed))
+    ]
+  where
+    pattern : is_pseudo_legal p m ≡ true
+    pattern = (and_parts (is_pseudo_legal p m) (not (is_in_check (after p m).men p.side)) legal).0
+
+    no_castle : castle_of p m ≡ None
+    no_castle = none_castles p m (no_king_says p m KingSide no_king) (no_king_says p m QueenSide no_king)
+
+    plain : IsPlain p m
+    plain =
+        let no_passing = not_passing p m (and_right (is_man p.side Pawn (man_at p.men m.from)) (is_square p.target m.to)
+        no_target) in
+        record {
+          also = rw (no_passing, no_castle) refl;
+          rook = rw no_castle refl;
+          mover = mover_some p m pattern;
+          own = mover_own p m pattern;
+        }
+
+    moves : Moves p m
+    moves = moves_from_pattern p m pattern
+
+    ends : mover_end p m ≡ m.to
+    ends = rw no_castle refl
+
+    safe : is_attacked (men_after p m) king (other p.side) ≡ false
+    safe =
+        let king_there : is_man p.side King (man_at (men_after p m) king) ≡ true =
+        king_stays p m king sound pattern one (no_king_arrives p m no_king moves.kind) in
+        let calm = not-true _ (legal_is p m pattern ∙ legal) in
+        sym (check_after p m king sound pattern there king_there) ∙ calm
+
+    open_still : is_between king b m.to ≡ false → is_clear (lifted p.men m.from) b king ≡ true
+        → is_clear (men_after p m) b king ≡ true
+    open_still off clear =
+        each_square-all _
+        (λ x l.
+        elim (cases_Bool (is_between b king x)) [
+          | inr out ↦ rw out refl
+          | inl inside ↦
+              let now = rw inside at (each_square-at _ clear x l) in
+              let apart : (mover_end p m == x) ≡ false =
+              false_from_ne_true (mover_end p m == x)
+              (λ same.
+              both_ways (is_between king b m.to) off
+              (ap (is_between king b) (sym ends ∙ eqb-true (mover_end p m) x same)
+              ∙ between_back king b x ∙ inside)) in
+              let left : man_at (men_after p m) x ≡ man_at (lifted p.men m.from) x =
+              lands_over p m x sound.board moves.from_in plain l
+              ∙ ap (λ t. cond t (arriving_man (man_at p.men m.from) m.promotion) (man_at (lifted p.men m.from) x)) apart
+              in
+              rw inside (ap is_none left ∙ now)
+        ])
+
+    struck : (is_between king b m.to || (m.to == b)) ≡ false
+        → is_attacked (men_after p m) king (other p.side) ≡ true
+    struck missed =
+        let neither = or_parts (is_between king b m.to) (m.to == b) missed in
+        let apart : (mover_end p m == b) ≡ false = ap (λ e. e == b) ends ∙ neither.1 in
+        let away : (b == m.from) ≡ false =
+        false_from_ne_true (b == m.from)
+        (λ same.
+        both_ways (is_of (other p.side) (man_at p.men b))
+        (ap (λ k. is_of (other p.side) (man_at p.men k)) (eqb-true b m.from same)
+        ∙ ap (is_of (other p.side)) moves.at_from ∙ theirs_of p.side moves.mover moves.own)
+        theirs) in
+        let stood : man_at (men_after p m) b ≡ man_at p.men b =
+        lands_over p m b sound.board moves.from_in plain low
+        ∙ ap (λ t. cond t (arriving_man (man_at p.men m.from) m.promotion) (man_at (lifted p.men m.from) b)) apart
+        ∙ lifted_at p.men m.from b sound.board moves.from_in
+        ∙ ap (λ t. cond t None (man_at p.men b)) away in
+        let hit : could_capture_as (men_after p m) (man_at p.men b) b king ≡ true =
+        could_capture_as_clear (men_after p m) (lifted p.men m.from) (man_at p.men b) b king (open_still neither.0) hits
+        in
+        some_square-at _ b low
+        (and_from _ _ (ap (is_of (other p.side)) stood ∙ theirs)
+        (ap (λ o. could_capture_as (men_after p m) o b king) stood ∙ hit))
+
+-- or it takes en passant
+pub answered : (p : Setup) (m : Move) (king b : ℕ) → IsSound p → is_legal p m ≡ true → king < 64
+    → ((k : ℕ) → k < 64 → is_man p.side King (man_at p.men k) ≡ (k == king))
+    → is_man p.side King (man_at p.men m.from) ≡ false → b < 64 → is_of (other p.side) (man_at p.men b) ≡ true
+    → could_capture_as (lifted p.men m.from) (man_at p.men b) b king ≡ true
+    → ((is_between king b m.to || (m.to == b)) || is_square p.target m.to) ≡ true
+answered p m king b sound legal there one no_king low theirs hits =
+    elim (cases_Bool (is_square p.target m.to)) [
+      | inl passing ↦ or_right (is_between king b m.to || (m.to == b)) (is_square p.target m.to) passing
+      | inr plain ↦
+          or_left (is_between king b m.to || (m.to == b)) (is_square p.target m.to)
+          (must_end p m king b sound legal there one no_king low theirs hits plain)
+    ]
+
+-- ---- pieces that aim at a square
+
+aims_by : (s : Bool) (c : Colour) (k : Kind) (men : Men) (a b : ℕ)
+    → ((((s && same_kind Rook k) || (s && same_kind Queen k)) && (not (a == b) && share_rank_or_file a b))
+    || (((s && same_kind Bishop k) || (s && same_kind Queen k)) && (not (a == b) && share_diagonal a b)))
+    ≡ true → is_clear men a b ≡ true → (s ≡ true) × (could_capture men c k a b ≡ true)
+unfolding could_capture
+aims_by false c k men a b h clear = cc
+aims_by true c King men a b h clear = cc
+aims_by true c Knight men a b h clear = cc
+aims_by true c Pawn men a b h clear = cc
+aims_by true c Queen men a b h clear =
+    (refl, rw clear (queen (not (a == b)) (share_rank_or_file a b) (share_diagonal a b) h))
+  where
+    queen : (n r d : Bool) → ((n && r) || (n && d)) ≡ true → (n && (r || d) && true) ≡ true
+    queen true true d e = refl
+    queen true false true e = refl
+    queen true false false e = cc
+    queen false r d e = cc
+aims_by true c Rook men a b h clear = (refl, rw clear (rook (not (a == b)) (share_rank_or_file a b) h))
+  where
+    rook : (n r : Bool) → ((n && r) || false) ≡ true → (n && r && true) ≡ true
+    rook true true e = refl
+    rook true false e = cc
+    rook false r e = cc
+aims_by true c Bishop men a b h clear = (refl, rw clear (bishop (not (a == b)) (share_diagonal a b) h))
+  where
+    bishop : (n d : Bool) → (n && d) ≡ true → (n && d && true) ≡ true
+    bishop true true e = refl
+    bishop true false e = cc
+    bishop false d e = cc
+
+aims_as : (c : Colour) (o : Option Man) (men : Men) (a b : ℕ)
+    → (((is_man c Rook o || is_man c Queen o) && (not (a == b) && share_rank_or_file a b))
+    || ((is_man c Bishop o || is_man c Queen o) && (not (a == b) && share_diagonal a b)))
+    ≡ true → is_clear men a b ≡ true → (is_of c o ≡ true) × (could_capture_as men o a b ≡ true)
+unfolding is_man is_of
+aims_as c None men a b h clear = cc
+aims_as c (Some x) men a b h clear = aims_by (same_colour c x.colour) x.colour x.kind men a b h clear
+
+-- they would attack it, if the way were clear
+pub aims_hit : (p : Setup) (men : Men) (b k : ℕ) → aims_from p b k ≡ true → is_clear men b k ≡ true
+    → (is_of (other p.side) (man_at p.men b) ≡ true) × (could_capture_as men (man_at p.men b) b k ≡ true)
+aims_hit p men b k h clear = aims_as (other p.side) (man_at p.men b) men b k h clear
+
+-- and are on a line with it
+pub aims_on_line : (p : Setup) (b k : ℕ) → aims_from p b k ≡ true → are_on_line b k ≡ true
+aims_on_line p b k h =
+    on (is_man (other p.side) Rook (man_at p.men b) || is_man (other p.side) Queen (man_at p.men b))
+    (is_man (other p.side) Bishop (man_at p.men b) || is_man (other p.side) Queen (man_at p.men b)) (not (b == k))
+    (share_rank_or_file b k) (share_diagonal b k) h
+  where
+    on : (x y n r d : Bool) → ((x && (n && r)) || (y && (n && d))) ≡ true → (r || d) ≡ true
+    on x y n true d e = refl
+    on x y n false true e = refl
+    on true true true false false e = cc
+    on true true false false false e = cc
+    on true false true false false e = cc
+    on true false false false false e = cc
+    on false true true false false e = cc
+    on false true false false false e = cc
+    on false false true false false e = cc
+    on false false false false false e = cc
+
+-- ---- what hides it
+
+-- nothing
+pub none_hides : (men : Men) (w h b k : ℕ) → IsOccupied w men
+    → ((x : ℕ) → x < 64 → contains h x ≡ (is_between k b x && contains w x)) → ((x : ℕ) → x < 64 → contains h x ≡ false)
+    → is_clear men b k ≡ true
+unfolding is_clear
+none_hides men w h b k stood hides none =
+    each_square-all _
+    (λ x l.
+    elim (cases_Bool (is_between b k x)) [
+      | inr out ↦ rw out refl
+      | inl inside ↦
+          let off : contains w x ≡ false =
+          sym (ap (λ t. t && contains w x) (between_back k b x ∙ inside)) ∙ sym (hides x l) ∙ none x l in
+          rw inside (from_not _ (sym (stood.of_men x l) ∙ off))
+    ])
+
+-- one piece
+pub one_hides : (p : Setup) (w h r s b k : ℕ) → length p.men ≡ 64 → s < 64 → IsOccupied w p.men
+    → ((x : ℕ) → x < 64 → contains h x ≡ (is_between k b x && contains w x)) → contains h s ≡ true
+    → ((x : ℕ) → x < 64 → contains r x ≡ (contains h x && not (x == s))) → ((x : ℕ) → x < 64 → contains r x ≡ false)
+    → IsShield p s b k
+unfolding is_clear
+one_hides p w h r s b k all low stood hides here others none = record {
+  low = low;
+  opens = each_square-all _
+      (λ x l.
+      elim (cases_Bool (is_between b k x)) [
+        | inr out ↦ rw out refl
+        | inl inside ↦ rw inside (ap is_none (lifted_at p.men s x all low) ∙ empty x l inside (x == s) refl)
+      ]);
+  alone = λ a high apart clear.
+      let both = and_parts (is_between k b s) (contains w s) (sym (hides s low) ∙ here) in
+      absurd (closed_by p.men a b k s all high low (between_back b k s ∙ both.0)
+      (not-true _ (sym (stood.of_men s low) ∙ both.1)) (eq_back s a ∙ apart) clear);
+}
+  where
+    from_without : (c t : Bool) → t ≡ false → (c && not t) ≡ false → c ≡ false
+    from_without true t e f = absurd (both_ways t e (not-false t f))
+    from_without false t e f = refl
+
+    empty : (x : ℕ) → x < 64 → is_between b k x ≡ true → (t : Bool) → (x == s) ≡ t
+        → is_none (cond t None (man_at p.men x)) ≡ true
+    empty x l inside true e = refl
+    empty x l inside false e =
+        let away : contains h x ≡ false = from_without (contains h x) (x == s) e (sym (others x l) ∙ none x l) in
+        let off : contains w x ≡ false =
+        sym (ap (λ t. t && contains w x) (between_back k b x ∙ inside)) ∙ sym (hides x l) ∙ away in
+        from_not _ (sym (stood.of_men x l) ∙ off)
+
+-- more than one
+pub many_hide : (p : Setup) (w h r s a b k : ℕ) → length p.men ≡ 64 → s < 64 → a < 64 → IsOccupied w p.men
+    → ((x : ℕ) → x < 64 → contains h x ≡ (is_between k b x && contains w x)) → contains h s ≡ true
+    → ((x : ℕ) → x < 64 → contains r x ≡ (contains h x && not (x == s)))
+    → is_clear (lifted p.men a) b k ≡ true → (x : ℕ) → x < 64 → contains r x ≡ false
+many_hide p w h r s a b k all low high stood hides here others clear x l =
+    others x l
+    ∙ elim (cases_Bool (contains h x)) [
+      | inr away ↦ rw away refl
+      | inl there ↦
+          let same : x ≡ s = only x l there ∙ sym (only s low here) in
+          rw (eq-eqb x s same) (and_right (contains h x) false refl)
+    ]
+  where
+    only : (y : ℕ) → y < 64 → contains h y ≡ true → y ≡ a
+    only y m g =
+        let both = and_parts (is_between k b y) (contains w y) (sym (hides y m) ∙ g) in
+        only_there p.men a b k y all high m (between_back b k y ∙ both.0)
+        (not-true _ (sym (stood.of_men y m) ∙ both.1)) clear
+
+-- ---- what has squares between it is on one line
+
+pub line_between : (a b x : ℕ) → a < 64 → b < 64 → x < 64 → is_between a b x ≡ true
+    → (l : Line) × (same_line l a b ≡ true)
+unfolding is_between is_between_on_file is_between_on_rank is_between_on_diagonal
+line_between a b x la lb lx h =
+    elim (or_cases (is_between_on_file a b x || is_between_on_rank a b x) (is_between_on_diagonal a b x) h) [
+      | inl straight ↦
+          elim (or_cases (is_between_on_file a b x) (is_between_on_rank a b x) straight) [
+            | inl f ↦
+                let one = and_parts ((file x == file a) && (file x == file b)) (lies_inside (rank a) (rank b) (rank x))
+                f in
+                let two = and_parts (file x == file a) (file x == file b) one.0 in (
+                  File,
+                  eq-eqb (file a) (file b)
+                      (sym (eqb-true (file x) (file a) two.0) ∙ eqb-true (file x) (file b) two.1),
+                )
+            | inr r ↦
+                let one = and_parts ((rank x == rank a) && (rank x == rank b)) (lies_inside (file a) (file b) (file x))
+                r in
+                let two = and_parts (rank x == rank a) (rank x == rank b) one.0 in (
+                  Rank,
+                  eq-eqb (rank a) (rank b)
+                      (sym (eqb-true (rank x) (rank a) two.0) ∙ eqb-true (rank x) (rank b) two.1),
+                )
+          ]
+      | inr d ↦
+          let one = and_parts
+          ((share_diagonal a x && share_diagonal x b) && lies_inside (rank a) (rank b) (rank x))
+          (lies_inside (file a) (file b) (file x)) d in
+          let two = and_parts (share_diagonal a x && share_diagonal x b) (lies_inside (rank a) (rank b) (rank x)) one.0
+          in
+          let both = and_parts (share_diagonal a x) (share_diagonal x b) two.0 in
+          aslant (or_cases (same_line Diagonal a x) (same_line Antidiagonal a x)
+          (sym (share_diagonal_is a x la lx) ∙ both.0))
+          (or_cases (same_line Diagonal x b) (same_line Antidiagonal x b)
+          (sym (share_diagonal_is x b lx lb) ∙ both.1)) two.1 one.1
+    ]
+  where
+    bent : same_line Diagonal a x ≡ true → same_line Antidiagonal x b ≡ true
+        → lies_inside (rank a) (rank b) (rank x) ≡ true → lies_inside (file a) (file b) (file x) ≡ true → ⊥
+    bent e f r s = grind (arith, nat_tests, e, f, r, s)
+
+    bent_back : same_line Antidiagonal a x ≡ true → same_line Diagonal x b ≡ true
+        → lies_inside (rank a) (rank b) (rank x) ≡ true → lies_inside (file a) (file b) (file x) ≡ true → ⊥
+    bent_back e f r s = grind (arith, nat_tests, e, f, r, s)
+
+    aslant : ((same_line Diagonal a x ≡ true) ⊎ (same_line Antidiagonal a x ≡ true))
+        → ((same_line Diagonal x b ≡ true) ⊎ (same_line Antidiagonal x b ≡ true))
+        → lies_inside (rank a) (rank b) (rank x) ≡ true → lies_inside (file a) (file b) (file x) ≡ true
+        → (l : Line) × (same_line l a b ≡ true)
+    aslant (inl e) (inl f) r s = (
+      Diagonal,
+      eq-eqb (line_number Diagonal a) (line_number Diagonal b)
+          (eqb-true (line_number Diagonal a) (line_number Diagonal x) e
+          ∙ eqb-true (line_number Diagonal x) (line_number Diagonal b) f),
+    )
+    aslant (inr e) (inr f) r s = (
+      Antidiagonal,
+      eq-eqb (line_number Antidiagonal a) (line_number Antidiagonal b)
+          (eqb-true (line_number Antidiagonal a) (line_number Antidiagonal x) e
+          ∙ eqb-true (line_number Antidiagonal x) (line_number Antidiagonal b) f),
+    )
+    aslant (inl e) (inr f) r s = absurd (bent e f r s)
+    aslant (inr e) (inl f) r s = absurd (bent_back e f r s)
+
+-- a square that is no longer in a set was taken out of it, or was not in it
+pub taken_out : (before now one : Bool) → now ≡ (before && not one) → now ≡ false
+    → (before ≡ false) ⊎ (one ≡ true)
+taken_out true now true e h = inr refl
+taken_out true now false e h = absurd (both_ways now h e)
+taken_out false now one e h = inl refl
+
+-- an enemy that gives check
+pub check_met : (p : Setup) (m : Move) (king b : ℕ) → IsSound p → is_legal p m ≡ true → king < 64
+    → ((k : ℕ) → k < 64 → is_man p.side King (man_at p.men k) ≡ (k == king))
+    → is_man p.side King (man_at p.men m.from) ≡ false → b < 64
+    → (is_of (other p.side) (man_at p.men b) && attacks p.men b king) ≡ true
+    → ((is_between king b m.to || (m.to == b)) || is_square p.target m.to) ≡ true
+unfolding attacks
+check_met p m king b sound legal there one no_king low gives =
+    let both = and_parts (is_of (other p.side) (man_at p.men b)) (attacks p.men b king) gives in
+    let start = from_in p m legal in
+    answered p m king b sound legal there one no_king low both.0
+    (could_capture_as_clear (lifted p.men m.from) p.men (man_at p.men b) b king
+    (clear_lifted p.men m.from b king sound.board start) both.1)

@@ -1,0 +1,71 @@
+-- Each pawn has as many legal moves as ways are open to it (pawns_counted of PawnsCounted), and the sets computed are
+-- those of the pawns to which each way is open (ways_are).
+use Rattle.std.proofs.Common.{◌≡◌, ◌<◌, ◌==◌, ℕ, true, false, length, ap, ◌∙◌, arith}
+use Rattle.chess_base.specs.declared.man.Kind.TheVariants.{Pawn}
+use Rattle.chess_base.specs.Men.{man_at, is_of}
+use Rattle.chess_base.specs.Squares.{rank}
+use Rattle.chess_moves.specs.Sets.{contains, members}
+use Rattle.chess_bits.specs.ties.Goes.{goes_specially, AreFree}
+use Rattle.chess_bits.proofs.PawnsCounted.{AreSets, members_fit, summed, ways_are, pawns_counted}
+use Rattle.chess_bits.proofs.bits.Bits.count_ordinary_pawns.Goals as goal
+
+pub returns : goal.returns
+returns c =
+    let p = c.self.inside.setup in
+    let free : AreFree p Pawn c.args.pawns = rw c.self.view_is c.requires.free in
+    let ordinary : (k : ℕ) → k < 64 → contains c.args.pawns k ≡ true → goes_specially p k ≡ false =
+    rw c.self.view_is c.requires.ordinary in
+    let sets : AreSets p c.args.pawns c.occupied.result c.behind-blocked.result c.behind.result c.of_rank-home.result
+    c.all-theirs.result c.attacking_left.result c.attacking_right.result c.without-once.result c.intersection.result
+    c.without-twice.result c.intersection-left.result c.intersection-right.result = record {
+      all = (c.occupied.ensures p.men c.self.invariant.1).of_men;
+      blocked = c.behind-blocked.ensures;
+      further = c.behind.ensures;
+      home = λ k low. c.of_rank-home.ensures k low ∙ ap (λ n. rank k == n) c.pawn_rank.ensures;
+      theirs = λ k low.
+          c.all-theirs.ensures p.men c.self.invariant.1 k low ∙ ap (λ o. is_of o (man_at p.men k)) c.other.ensures;
+      from_left = c.attacking_left.ensures;
+      from_right = c.attacking_right.ensures;
+      once = c.without-once.ensures;
+      both = c.intersection.ensures;
+      twice = c.without-twice.ensures;
+      left = c.intersection-left.ensures;
+      right = c.intersection-right.ensures;
+    } in
+    let alone = rw (← c.self.view_is) at c.king-king.ensures.alone in
+    let ways = ways_are p c.args.pawns _ _ _ _ _ _ _ _ _ _ _ _ c.self.invariant.0 free ordinary sets in
+    rw (← c.self.view_is)
+    (summed c.len.ensures c.len-2.ensures c.len-3.ensures c.len-4.ensures
+    ∙ pawns_counted p c.king-king.result c.args.pawns c.without-once.result c.without-twice.result
+    c.intersection-left.result c.intersection-right.result c.self.invariant.0 c.king-king.ensures.in_range
+    alone free ordinary ways)
+
+pub overflow_add-result : goal.overflow_add-result
+overflow_add-result c =
+    let q : c.len.result ≡ length (members c.without-once.result) = c.len.ensures in
+    let r : c.len-2.result ≡ length (members c.without-twice.result) = c.len-2.ensures in
+    let q-fits = members_fit c.without-once.result in
+    let r-fits = members_fit c.without-twice.result in
+    omega (arith, q, r, q-fits, r-fits)
+
+pub overflow_add-result-2 : goal.overflow_add-result-2
+overflow_add-result-2 c =
+    let q : c.len.result ≡ length (members c.without-once.result) = c.len.ensures in
+    let r : c.len-2.result ≡ length (members c.without-twice.result) = c.len-2.ensures in
+    let s : c.len-3.result ≡ length (members c.intersection-left.result) = c.len-3.ensures in
+    let q-fits = members_fit c.without-once.result in
+    let r-fits = members_fit c.without-twice.result in
+    let s-fits = members_fit c.intersection-left.result in
+    omega (arith, q, r, s, q-fits, r-fits, s-fits)
+
+pub overflow_add-result-3 : goal.overflow_add-result-3
+overflow_add-result-3 c =
+    let q : c.len.result ≡ length (members c.without-once.result) = c.len.ensures in
+    let r : c.len-2.result ≡ length (members c.without-twice.result) = c.len-2.ensures in
+    let s : c.len-3.result ≡ length (members c.intersection-left.result) = c.len-3.ensures in
+    let t : c.len-4.result ≡ length (members c.intersection-right.result) = c.len-4.ensures in
+    let q-fits = members_fit c.without-once.result in
+    let r-fits = members_fit c.without-twice.result in
+    let s-fits = members_fit c.intersection-left.result in
+    let t-fits = members_fit c.intersection-right.result in
+    omega (arith, q, r, s, t, q-fits, r-fits, s-fits, t-fits)

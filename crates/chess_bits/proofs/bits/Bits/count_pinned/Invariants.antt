@@ -1,0 +1,13 @@
+use Rattle.std.proofs.Common.{◌≡◌, ◌+◌, length}
+use Rattle.std.specs.List.{flat_map}
+use Rattle.chess_moves.specs.shared.MovesBySquares.{moves_from}
+use Rattle.chess_moves.specs.Sets.{members}
+use Rattle.chess_bits.proofs.bits.Bits.count_pinned.Given as goal
+
+-- the moves counted and those of the pieces that are left are all
+abbrev pub invariant-loop-from : goal.invariant-loop-from
+invariant-loop-from l = l.count + length (flat_map (λ a. moves_from l.self a) (members l.rest))
+    ≡ length (flat_map (λ a. moves_from l.self a) (members l.fn.men))
+
+abbrev pub decreases-loop-from : goal.decreases-loop-from
+decreases-loop-from l = length (members l.rest)

@@ -1,0 +1,20 @@
+-- What was taken out of the free pieces shields the king, and goes only to the ends so far; the free pieces, none of
+-- them the king, keep the ways closed that are looked at already.
+use Rattle.std.proofs.Common.{◌≡◌, ◌<◌, ℕ, not, ◌&&◌, ◌==◌, length, true, false}
+use Rattle.chess_base.specs.Men.{man_at, is_of}
+use Rattle.chess_bits.specs.ties.Pins.{aims_from, KeepsClosed, AreEvasions}
+use Rattle.chess_moves.specs.Sets.{contains, members}
+use Rattle.chess_bits.proofs.bits.Bits.pins_without_check.Given as goal
+
+abbrev pub invariant-loop-from : goal.invariant-loop-from
+invariant-loop-from l = record {
+  own : (a : ℕ) → a < 64 → contains l.pins.free a ≡ true
+      → (is_of l.self.side (man_at l.self.men a) && not (a == l.king)) ≡ true;
+  aims : (b : ℕ) → b < 64 → contains l.rest b ≡ true → aims_from l.self b l.king ≡ true;
+  closed : (a b : ℕ) → a < 64 → b < 64 → contains l.pins.free a ≡ true → aims_from l.self b l.king ≡ true
+      → contains l.rest b ≡ false → KeepsClosed l.self a b l.king;
+  evasions : AreEvasions l.self l.pins.free l.pins.evasions;
+}
+
+abbrev pub decreases-loop-from : goal.decreases-loop-from
+decreases-loop-from l = length (members l.rest)

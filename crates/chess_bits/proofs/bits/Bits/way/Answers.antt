@@ -1,0 +1,16 @@
+-- Two squares of one rank are on one line.
+use Rattle.std.proofs.Common.{refl, ◌∙◌}
+use Rattle.std.proofs.lemmas.Bool.{eq-eqb}
+use Rattle.chess_base.specs.Squares.{rank}
+use Rattle.chess_bits.specs.declared.line.Line.TheVariants.{Rank}
+use Rattle.chess_bits.proofs.bits.Bits.way.Goals as goal
+
+pub returns : goal.returns
+returns c = λ k low.
+    c.union.ensures k
+    ∙ rw (
+      c.union-ends.ensures k,
+      c.single.ensures.value k,
+      c.single-2.ensures.value k,
+      c.between.ensures Rank (eq-eqb (rank c.args.a) (rank c.args.b) c.requires) k low,
+    ) refl

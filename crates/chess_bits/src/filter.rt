@@ -1,0 +1,35 @@
+//! The squares of a set that pass a test.
+
+ghost use Rattle.std.specs.Prelude.{◌≡◌, ℕ, ◌<◌, ◌==◌, ◌&&◌, true, false};
+ghost use Rattle.chess_moves.specs.Sets.{contains};
+
+use chess_base::Square;
+use chess_moves::SquareSet;
+
+/// The set of this square alone if it passed, else the empty set.
+#[inline(always)]
+pub(crate) fn single_if(passed: bool, square: Square) -> SquareSet
+    ensures { (k : ℕ) → contains result k ≡ (passed && (k == square)) }
+{
+    if passed {
+        SquareSet::single(square)
+    } else {
+        SquareSet::empty()
+    }
+}
+
+/// The squares of the set that pass the test.
+#[inline(always)]
+pub(crate) fn filter<F: Fn(Square) -> bool>(set: SquareSet, test: F) -> SquareSet
+    requires { (k : ℕ) → k < 64 → contains set k ≡ true → F.pre test k }
+    ensures inside { (k : ℕ) → k < 64 → contains set k ≡ true → F.post test k (contains result k) }
+    ensures outside { (k : ℕ) → k < 64 → contains set k ≡ false → contains result k ≡ false }
+{
+    let mut chosen = SquareSet::empty();
+    let mut rest = set;
+    while let Some(square) = rest.take_first() {
+        let passed = test(square);
+        chosen = chosen.union(single_if(passed, square));
+    }
+    chosen
+}

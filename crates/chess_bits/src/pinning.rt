@@ -1,0 +1,184 @@
+//! Pins and checks: which own pieces are free to go anywhere, and where the others may go.
+
+ghost use Rattle.std.specs.Prelude.{◌≡◌, ◌<◌, ◌==◌, ◌||◌, ℕ, true, false, MatchOption};
+ghost use Rattle.chess_base.specs.Attacks.{is_in_check};
+ghost use Rattle.chess_base.specs.Men.{man_at, is_man};
+ghost use Rattle.chess_base.specs.Squares.{is_between, is_square};
+ghost use Rattle.chess_base.specs.declared.man.Kind.TheVariants.{King};
+ghost use Rattle.chess_bits.specs.ties.Pins.{aims_from, KeepsClosed, IsShield, EndsOn, AreEvasions};
+ghost use Rattle.chess_bits.specs.ties.Goes.{goes, IsFree};
+ghost use Rattle.chess_moves.specs.Sets.{contains};
+
+use crate::bits::Bits;
+use crate::king::set_of;
+use crate::table::Shape;
+use chess_base::{Kind, Square};
+use chess_moves::{Board, SquareSet};
+
+// Which pieces of the side on move may go anywhere, and where the others, but the king, may go without leaving it
+// attacked.
+#[derive(Clone, Copy)]
+pub(crate) struct Pins {
+    // Pieces whose king is safe wherever they go: it is not in check, and they are not pinned.
+    pub(crate) free: SquareSet,
+    // Squares on one of which each legal move of another piece ends: that of a piece that pins or gives check, those
+    // between it and the king, and the en passant target.
+    pub(crate) evasions: SquareSet,
+}
+
+impl Bits<'_> {
+    // The square that alone is occupied between the enemy piece on `from` and the king on `king`, which are on one
+    // line; `None` if none is, or more than one.
+    #[inline(always)]
+    fn shield(&self, king: Square, from: Square) -> Option<Square>
+        requires { aims_from self.now from king ≡ true }
+        ensures { MatchOption result ((a : ℕ) → a < 64 → KeepsClosed self.now a from king)
+            (λ s. IsShield self.now s from king) }
+    {
+        // The prover wants these facts: the numbers of both squares are below 64.
+        let _king = king.number();
+        let _from = from.number();
+        let between = self.tables.between(king, from);
+        let hiding = between.intersection(self.sets.occupied());
+        if hiding.is_empty() {
+            return None;
+        }
+        let shield = hiding.first();
+        let others = hiding.without(SquareSet::single(shield));
+        if others.is_empty() {
+            Some(shield)
+        } else {
+            None
+        }
+    }
+
+    // The squares on which a move of another piece ends that meets an attack from `from` on the king on `king`: by
+    // capturing the piece there, also en passant, or by coming between them.
+    #[inline(always)]
+    fn evasions(&self, king: Square, from: Square) -> SquareSet
+        ensures { (k : ℕ) → k < 64 → ((is_between king from k || (k == from)) || is_square (self.now).target k) ≡ true
+            → contains result k ≡ true }
+    {
+        // The prover wants these facts: the numbers of both squares are below 64.
+        let _king = king.number();
+        let _from = from.number();
+        let between = self.tables.between(king, from);
+        let met = between.union(SquareSet::single(from));
+        met.union(set_of(self.setup.target))
+    }
+
+    // Takes the piece that shields the king on `king` from an enemy piece on `from`, if it alone does, out of the free
+    // pieces, and adds the squares to which it may go.
+    #[inline(always)]
+    fn add_pin(&self, king: Square, from: Square, pins: &mut Pins)
+        requires king { is_man (self.now).side King (man_at (self.now).men king) ≡ true }
+        requires aims { aims_from self.now from king ≡ true }
+        ensures free { (a : ℕ) → a < 64 → contains pins.new.free a ≡ true
+            → (contains pins.old.free a ≡ true) × KeepsClosed self.now a from king }
+        ensures evasions { AreEvasions self.now pins.old.free pins.old.evasions → AreEvasions self.now pins.new.free pins.new.evasions }
+    {
+        // The prover wants these facts: the position is sound, and the numbers of both squares are below 64.
+        let _sound = &self.setup;
+        let _king = king.number();
+        let _from = from.number();
+        if let Some(shield) = self.shield(king, from) {
+            pins.free = pins.free.without(SquareSet::single(shield));
+            pins.evasions = pins.evasions.union(self.evasions(king, from));
+        }
+    }
+
+    // Enemy queens, rooks and bishops that would attack the king on `king` if nothing were between them: they pin what
+    // alone is there.
+    #[inline(always)]
+    #[tactic(auto, unfolding(crate::specs::ties::Shapes::in_shape))]
+    fn pinners(&self, king: Square) -> SquareSet
+        ensures { (b : ℕ) → b < 64 → contains result b ≡ aims_from self.now b king }
+    {
+        let _king = king.number();
+        let men = self.sets.of(self.setup.side.other());
+        let queens = men.of(Kind::Queen);
+        let straight = men.of(Kind::Rook).union(queens);
+        let aslant = men.of(Kind::Bishop).union(queens);
+        let on_lines = straight.intersection(self.tables.at(Shape::Lines, king));
+        on_lines.union(aslant.intersection(self.tables.at(Shape::Diagonals, king)))
+    }
+
+    // The pins if the king, on `king`, is not in check.
+    #[inline(always)]
+    fn pins_without_check(&self, king: Square) -> Pins
+        requires king { is_man (self.now).side King (man_at (self.now).men king) ≡ true }
+        requires calm { is_in_check (self.now).men (self.now).side ≡ false }
+        ensures free { (k : ℕ) → k < 64 → contains result.free k ≡ true → IsFree self.now k }
+        ensures evasions { AreEvasions self.now result.free result.evasions }
+    {
+        // The prover wants this fact: the number of the king's square is below 64.
+        let _king = king.number();
+        let side = self.setup.side;
+        let mut pins = Pins {
+            free: self.sets.all(side).without(SquareSet::single(king)),
+            evasions: SquareSet::empty(),
+        };
+        let mut rest = self.pinners(king);
+        while let Some(from) = rest.take_first() {
+            self.add_pin(king, from, &mut pins);
+        }
+        pins
+    }
+
+    // The pins of the side on move. In check no piece is free, and each but the king has to meet the first checker. With
+    // each move in check, or with a pin, judged alone, the workload boards took 19 % longer.
+    #[inline(always)]
+    pub(crate) fn pins(&self) -> Pins
+        ensures free { (k : ℕ) → k < 64 → contains result.free k ≡ true → IsFree self.now k }
+        ensures evasions { AreEvasions self.now result.free result.evasions }
+    {
+        let side = self.setup.side;
+        let king = self.king(side);
+        let by = side.other();
+        let men = self.sets.of(by);
+        let checkers = men.attackers(self.tables, by, king, self.sets.occupied());
+        if checkers.is_empty() {
+            return self.pins_without_check(king);
+        }
+        Pins {
+            free: SquareSet::empty(),
+            evasions: self.evasions(king, checkers.first()),
+        }
+    }
+
+    // The squares of a set that has the ends of the legal moves of the piece on `from`, which is no king, given where the
+    // pieces may go. For each of them some move of the piece there is pseudo-legal.
+    #[inline(always)]
+    pub(crate) fn allowed_targets(&self, from: Square, pins: &Pins) -> SquareSet
+        requires no_king { is_man (self.now).side King (man_at (self.now).men from) ≡ false }
+        requires evasions { AreEvasions self.now pins.now.free pins.now.evasions }
+        ensures sound { (k : ℕ) → k < 64 → contains result k ≡ true → goes self.now from k ≡ true }
+        ensures complete { EndsOn self.now from result }
+    {
+        // The prover wants this fact: the start's number is below 64.
+        let _start = from.number();
+        let targets = self.targets(from);
+        if pins.free.contains(from) {
+            return targets;
+        }
+        targets.intersection(pins.evasions)
+    }
+
+    // The pieces of the side on move that can't be pinned, since they are on no rank, file or diagonal of their king;
+    // none if it is in check. No pinner needs to be looked for, as `pins` does.
+    #[tactic(auto, unfolding(crate::specs::ties::Shapes::in_shape))]
+    pub(crate) fn surely_unpinned(&self) -> SquareSet
+        ensures { (k : ℕ) → k < 64 → contains result k ≡ true → IsFree self.now k }
+    {
+        if self.in_check() {
+            return SquareSet::empty();
+        }
+        let side = self.setup.side;
+        let king = self.king(side);
+        let straight = self.tables.at(Shape::Lines, king);
+        let aslant = self.tables.at(Shape::Diagonals, king);
+        let lines = straight.union(aslant);
+        let men = self.sets.all(side).without(SquareSet::single(king));
+        men.without(lines)
+    }
+}

@@ -1,0 +1,104 @@
+//! How far a rook or a bishop sees along its lines.
+
+ghost use Rattle.std.specs.Prelude.{◌≡◌, ℕ, ◌<◌, ◌&&◌, ◌||◌, not, true, ◌==◌};
+ghost use Rattle.chess_base.specs.Squares.{share_rank_or_file, share_diagonal};
+ghost use Rattle.chess_moves.specs.Sets.{contains};
+ghost use Rattle.chess_bits.specs.ties.Rays.{is_open};
+
+use crate::filter::filter;
+use crate::line::Line;
+use crate::table::Shape;
+use crate::tables::AttackTables;
+use chess_base::Square;
+use chess_moves::SquareSet;
+
+// The squares that a rook on `square` attacks: in each of its four directions up to the first occupied square, that one
+// included.
+#[tactic(auto, using(crate::proofs::Attackers::on_lines))]
+pub(crate) fn along_lines(tables: &AttackTables, square: Square, occupied: SquareSet) -> SquareSet
+    ensures { (k : ℕ) → k < 64
+        → contains result k ≡ (not (k == square) && share_rank_or_file k square && is_open occupied square k) }
+{
+    let right = tables.sweep(Line::Rank, true, square, occupied);
+    let left = tables.sweep(Line::Rank, false, square, occupied);
+    let up = tables.sweep(Line::File, true, square, occupied);
+    let down = tables.sweep(Line::File, false, square, occupied);
+    right.union(left).union(up.union(down))
+}
+
+// The squares that a bishop on `square` attacks: in each of its four directions up to the first occupied square, that
+// one included.
+#[tactic(auto, using(crate::proofs::Attackers::on_diagonals))]
+pub(crate) fn along_diagonals(
+    tables: &AttackTables,
+    square: Square,
+    occupied: SquareSet,
+) -> SquareSet
+    ensures { (k : ℕ) → k < 64
+        → contains result k ≡ (not (k == square) && share_diagonal k square && is_open occupied square k) }
+{
+    let up_right = tables.sweep(Line::Diagonal, true, square, occupied);
+    let down_left = tables.sweep(Line::Diagonal, false, square, occupied);
+    let up_left = tables.sweep(Line::Antidiagonal, true, square, occupied);
+    let down_right = tables.sweep(Line::Antidiagonal, false, square, occupied);
+    up_right.union(down_left).union(up_left.union(down_right))
+}
+
+// Whether nothing occupied lies between two squares of one line.
+#[inline(always)]
+fn is_open(tables: &AttackTables, a: Square, b: Square, occupied: SquareSet) -> bool
+    requires { (share_rank_or_file b a || share_diagonal b a) ≡ true }
+    ensures { result ≡ is_open occupied a b }
+{
+    // The prover wants these facts: the numbers of both squares are below 64.
+    let _a = a.number();
+    let _b = b.number();
+    let between = tables.between(a, b);
+    between.intersection(occupied).is_empty()
+}
+
+// Those of the squares `men`, all on lines of `square`, between which and `square` nothing is occupied.
+#[inline(always)]
+fn seen_from(
+    tables: &AttackTables,
+    square: Square,
+    occupied: SquareSet,
+    men: SquareSet,
+) -> SquareSet
+    requires { (k : ℕ) → k < 64 → contains men k ≡ true → (share_rank_or_file k square || share_diagonal k square) ≡ true }
+    ensures { (k : ℕ) → k < 64 → contains result k ≡ (contains men k && is_open occupied square k) }
+{
+    filter(men, |man| is_open(tables, square, man, occupied))
+}
+
+// The squares of the set `men` from which a rook would attack `square`: those on its rank or file with no occupied
+// square between. Each on its rank or file is looked at alone: in most positions there are few, and never more than 14.
+// With four sweeps instead the workload boards took 7 % longer.
+pub(crate) fn met_on_lines(
+    tables: &AttackTables,
+    square: Square,
+    occupied: SquareSet,
+    men: SquareSet,
+) -> SquareSet
+    ensures { (k : ℕ) → k < 64
+        → contains result k ≡ ((not (k == square) && share_rank_or_file k square && is_open occupied square k)
+        && contains men k) }
+{
+    let near = tables.at(Shape::Lines, square).intersection(men);
+    seen_from(tables, square, occupied, near)
+}
+
+// The squares of the set `men` from which a bishop would attack `square`: those on its diagonals with no occupied
+// square between. Each on its diagonals is looked at alone: in most positions there are few, and never more than 13.
+pub(crate) fn met_on_diagonals(
+    tables: &AttackTables,
+    square: Square,
+    occupied: SquareSet,
+    men: SquareSet,
+) -> SquareSet
+    ensures { (k : ℕ) → k < 64
+        → contains result k ≡ ((not (k == square) && share_diagonal k square && is_open occupied square k) && contains men k) }
+{
+    let near = tables.at(Shape::Diagonals, square).intersection(men);
+    seen_from(tables, square, occupied, near)
+}
