@@ -1,23 +1,55 @@
-# Proves the crates and builds the program by `rt run`, which takes over what its earlier runs proved. The script
-# `arbiter` reads this file where the program is not built.
-log=$out/arbiter.log
+# Copies the crates that the program needs to build/out, where `rt all check` proves several at a time, and builds it
+# there by `rt run`. Both take over what their earlier runs proved. The script `arbiter` reads this file where the
+# program is not built.
+log=$out/log
 
 say() { echo "arbiter: $*" >&2; }
 fail() { say "$*: the program was not built"; exit 1; }
 
-# Writes the log from what rt prints, and shows which crate it proves and how many of its functions are checked: on a
-# terminal in one line, which is rewritten. Fails if the disk was full, which the log can't say then.
+# Copies the src, specs and proofs of a crate and of all below it, each once, with their lines of crates.txt. A name that
+# has no line there is a library of the toolchain.
+copy() {
+    local line it=crates/$1
+    [ ! -e "$out/$it/src" ] && line=$(grep "^$1[: ]" "$top/crates.txt") || return 0
+    mkdir -p "$out/$it" && cp -pR "$top/$it"/[sp]* "$out/$it" && echo "$line" >>"$out/crates.txt" || return
+    for it in ${line#*:}; do copy "$it" || return; done
+}
+
+# Makes all copies anew. What rt keeps beside a copy stays as long as the program needs the crate.
+copy_all() {
+    rm -rf "$out/crates.txt" "$out"/crates/*/[sp]* && cp -p "$top/HANDLES" "$out" || return
+    copy arbiter && [ -s "$out/crates.txt" ] || return
+    for it in "$out"/crates/*; do [ -e "$it/src" ] || rm -rf "$it"; done
+}
+
+# Proves as many crates at a time as there are processors, with 1.5 GB of memory for each, but at most eight: hardly ever
+# are more ready. At the end rt runs the program; what that prints goes to the log, too.
+prove() {
+    [[ $(</proc/meminfo) =~ MemAvailable:\ *([0-9]+) ]]
+    set -- "$(printf '%s\n' 8 "$(nproc)" $((BASH_REMATCH[1] / 1500000 + 1)) | sort -n | head -n 1)"
+    cd "$out" && rt all check --jobs "$1" && cd crates/arbiter && exec rt run -- --version
+}
+
+# Writes the log from what rt prints, and shows how many crates of all are proved, and the minutes so far: on a terminal
+# in one line, which is rewritten. Fails if the disk was full, which the log can't say then.
 follow() {
-    local line crate='' form='arbiter: %s\n' clear='' full=0
+    local line='' part status proved=0 step shown='' form='arbiter: %s\n' clear='' full=0
     [ ! -t 2 ] || form='\r\e[Karbiter: %s' clear='\r\e[K'
-    while IFS= read -r line || [ -n "$line" ]; do
+    while
+        step="$proved of $1 crates proved ($((SECONDS / 60)) min)"
+        [ "$step" = "$shown" ] || printf "$form" "$step" >&2
+        IFS= read -r -t 60 part
+        status=$? shown=$step line+=$part
+        [ $status -ne 1 ] || [ -n "$line" ]
+    do
+        [ $status -le 128 ] || continue # a minute has passed
         printf '%s\n' "$line" 2>/dev/null || full=1
         case $line in
-            'rt: chose '*' for '*) crate=${line##* } && printf "$form" "$crate ($((SECONDS / 60)) min)" >&2 ;;
-            'so far: '*) printf "$form" "$crate, ${line%;*} ($((SECONDS / 60)) min)" >&2 ;;
+            '== '*) : $((proved += 1)) ;;
             *'No space left'* | *'quota exceeded'*) full=1 ;;
             'rt: '*waiting*) printf "$clear%s\n" "$line" >&2 ;;
         esac
+        line=''
     done >"$log"
     printf "$clear" >&2
     return $full
@@ -27,18 +59,18 @@ follow() {
 # whether a disk was full.
 fail_by() {
     local free=$(($(df -k --output=avail "$out" | tail -n 1)))
-    grep -avE ': proved$|: modules loaded=' "$log" >&2
+    grep -avE ': proved$|: modules loaded=|^(so far: |by-macro: |logic |logic=proved )' "$log" >&2
     [ "$2" -eq 0 ] && [ "$free" -ge 10000 ] || fail "the disk is full ($free kB are left for $out)"
     case $1 in
         0) fail "rt left no program" ;;
         1) fail "a proof was refused, as the lines above say" ;;
+        copying) fail "the sources can't be copied to $out" ;;
         137 | 247) fail "rt was killed, most likely for lack of memory" ;; # 247 is -9: a check was killed
         *) fail "rt ended with status $1, as the lines above say" ;;
     esac
 }
 
-# Builds once nothing else does. The lock is on the folder of this file: rt waits for locks of its own on folders of
-# crates, and git replaces files.
+# Builds once nothing else does. The lock is on the folder of this file, since git replaces files.
 build() {
     local before
     trap '' PIPE TTOU
@@ -47,16 +79,16 @@ build() {
     exec 9<"$top/build"
     flock -n 9 || [ $? -ne 1 ] || { say "waiting for another build to end"; flock 9; }
     ! is_built || return 0
-    mkdir -p "$out" && rm -f "$out/arbiter.sources" && : >"$log" || fail "$out can't be written"
-    # A source that is edited during the build will differ from this list, so the next start builds again.
+    mkdir -p "$out" && rm -f "$out/sources" && : >"$log" || fail "$out can't be written"
+    # A source that is edited from here on will differ from this list, so the next start builds again.
     before=$(sources)
+    copy_all 2>"$log" || fail_by copying 0
     say "proving and building the program (README says how long the first build takes); the log is $log"
-    # At the end rt runs the program; what that prints goes to the log, too.
-    (cd "$top/crates/arbiter" && exec rt run -- --version) 2>&1 9<&- | follow
+    prove 2>&1 9<&- | follow "$(grep -c '' "$out/crates.txt")"
     set -- "${PIPESTATUS[@]}"
-    [ "$1" -eq 0 ] && [ -x "$out/arbiter" ] || fail_by "$@"
+    [ "$1" -eq 0 ] && [ -x "$program" ] || fail_by "$@"
     # A part of a list, from a full disk, differs from the sources, too.
-    printf '%s\n' "$before" >"$out/arbiter.sources" || fail_by 0 1
+    printf '%s\n' "$before" >"$out/sources" || fail_by 0 1
 }
 
 # Ends the build with all that it started, and then this script by the same signal.
