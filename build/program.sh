@@ -6,20 +6,26 @@ log=$out/log
 say() { echo "arbiter: $*" >&2; }
 fail() { say "$*: the program was not built"; exit 1; }
 
-# Copies the src, specs and proofs of a crate and of all below it, each once, with their lines of crates.txt. A name that
-# has no line there is a library of the toolchain.
-copy() {
-    local line it=crates/$1
-    [ ! -e "$out/$it/src" ] && line=$(grep "^$1[: ]" "$top/crates.txt") || return 0
-    mkdir -p "$out/$it" && cp -pR "$top/$it"/[sp]* "$out/$it" && echo "$line" >>"$out/crates.txt" || return
-    for it in ${line#*:}; do copy "$it" || return; done
+# Makes folders for a crate and all below it, each once, and copies their lines of crates.txt. A name that has no line
+# there is a library of the toolchain.
+choose() {
+    local line it
+    line=$(grep "^$1[: ]" "$top/crates.txt") && ! grep -q "^$1[: ]" "$out/crates.txt" || return 0
+    mkdir -p "$out/crates/$1" && echo "$line" >>"$out/crates.txt" || return
+    for it in ${line#*:}; do choose "$it" || return; done
 }
 
-# Makes all copies anew. What rt keeps beside a copy stays as long as the program needs the crate.
-copy_all() {
-    rm -rf "$out/crates.txt" "$out"/crates/*/[sp]* && cp -p "$top/HANDLES" "$out" || return
-    copy arbiter && [ -s "$out/crates.txt" ] || return
-    for it in "$out"/crates/*; do [ -e "$it/src" ] || rm -rf "$it"; done
+# Copies src, specs and proofs of the crates that the program needs anew, after listing them. What rt keeps beside a copy
+# stays as long as its crate is needed.
+copy() {
+    local it
+    : >"$out/crates.txt" && choose arbiter && [ -s "$out/crates.txt" ] && cp -p "$top/HANDLES" "$out" || return
+    for it in "$out"/crates/*; do grep -q "^${it##*/}[: ]" "$out/crates.txt" || rm -rf "$it"; done
+    # A source that is edited from here on will differ from this list, so the next start builds again.
+    before=$(sources)
+    for it in "$out"/crates/*; do
+        rm -rf "$it"/[sp]* && cp -pR "$top/crates/${it##*/}"/[sp]* "$it" || return
+    done
 }
 
 # Proves as many crates at a time as there are processors, with 1.5 GB of memory for each, but at most eight: hardly ever
@@ -80,9 +86,7 @@ build() {
     flock -n 9 || [ $? -ne 1 ] || { say "waiting for another build to end"; flock 9; }
     ! is_built || return 0
     mkdir -p "$out" && rm -f "$out/sources" && : >"$log" || fail "$out can't be written"
-    # A source that is edited from here on will differ from this list, so the next start builds again.
-    before=$(sources)
-    copy_all 2>"$log" || fail_by copying 0
+    copy 2>"$log" || fail_by copying 0
     say "proving and building the program (README says how long the first build takes); the log is $log"
     prove 2>&1 9<&- | follow "$(grep -c '' "$out/crates.txt")"
     set -- "${PIPESTATUS[@]}"
