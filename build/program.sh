@@ -51,6 +51,7 @@ follow() {
         [ $status -le 128 ] || continue # a minute has passed
         printf '%s\n' "$line" 2>/dev/null || full=1
         case $line in
+            '== summary') ;;
             '== '*) : $((proved += 1)) ;;
             *'No space left'* | *'quota exceeded'*) full=1 ;;
             'rt: '*waiting*) printf "$clear%s\n" "$line" >&2 ;;
@@ -65,8 +66,9 @@ follow() {
 # whether a disk was full.
 fail_by() {
     local free=$(($(df -k --output=avail "$out" | tail -n 1)))
-    grep -avE ': proved$|: modules loaded=|^(so far: |by-macro: |logic |logic=proved )' "$log" >&2
+    grep -avE ': (proved|ok)$|: modules loaded=|^(so far: |by-macro: |logic |logic=proved )' "$log" >&2
     [ "$2" -eq 0 ] && [ "$free" -ge 10000 ] || fail "the disk is full ($free kB are left for $out)"
+    [ "$kills" = "$(grep -s '^oom_kill ' /proc/vmstat)" ] || set -- 137 # the kernel killed a process, maybe one of rt's
     case $1 in
         0) fail "rt left no program" ;;
         1) fail "a proof was refused, as the lines above say" ;;
@@ -78,7 +80,7 @@ fail_by() {
 
 # Builds once nothing else does. The lock is on the folder of this file, since git replaces files.
 build() {
-    local before
+    local before kills
     trap '' PIPE TTOU
     for it in rt flock find sort grep; do command -v "$it" >/dev/null || fail "$it is not on the path"; done
     find "$top/crates.txt" -printf '' 2>/dev/null || fail "find is not GNU find"
@@ -86,6 +88,7 @@ build() {
     flock -n 9 || [ $? -ne 1 ] || { say "waiting for another build to end"; flock 9; }
     ! is_built || return 0
     mkdir -p "$out" && rm -f "$out/sources" && : >"$log" || fail "$out can't be written"
+    kills=$(grep -s '^oom_kill ' /proc/vmstat)
     copy 2>"$log" || fail_by copying 0
     say "proving and building the program (README says how long the first build takes); the log is $log"
     prove 2>&1 9<&- | follow "$(grep -c '' "$out/crates.txt")"
