@@ -1,7 +1,12 @@
-# Copies the crates that the program needs to build/out, where `rt all check` proves several at a time, and builds it
-# there by `rt run`. Both take over what their earlier runs proved. The script `arbiter` reads this file where the
-# program is not built.
-log=$out/log
+# Copies the crates that the program needs to a folder where `rt all check` proves several at a time, and builds it there
+# by `rt run`. Both take over what their earlier runs proved. The script `arbiter` reads this file where the program is
+# not built.
+
+# The copies are outside the checkout: there `rt ci` refuses sources that are not in crates/.
+copies=~/.cache
+[[ ${XDG_CACHE_HOME-} != /* ]] || copies=$XDG_CACHE_HOME
+copies+=/chess_arbiter/${top##*/}-$(sha256sum <<<"$top" | head -c 16)
+log=$copies/log
 
 say() { echo "arbiter: $*" >&2; }
 fail() { say "$*: the program was not built"; exit 1; }
@@ -10,8 +15,8 @@ fail() { say "$*: the program was not built"; exit 1; }
 # there is a library of the toolchain.
 choose() {
     local line it
-    line=$(grep "^$1[: ]" "$top/crates.txt") && ! grep -q "^$1[: ]" "$out/crates.txt" || return 0
-    mkdir -p "$out/crates/$1" && echo "$line" >>"$out/crates.txt" || return
+    line=$(grep "^$1[: ]" "$top/crates.txt") && ! grep -qx "$1" "$out/crates" || return 0
+    mkdir -p "$copies/crates/$1" && echo "$line" >>"$copies/crates.txt" && echo "$1" >>"$out/crates" || return
     for it in ${line#*:}; do choose "$it" || return; done
 }
 
@@ -19,11 +24,12 @@ choose() {
 # stays as long as its crate is needed.
 copy() {
     local it
-    : >"$out/crates.txt" && choose arbiter && [ -s "$out/crates.txt" ] && cp -p "$top/HANDLES" "$out" || return
-    for it in "$out"/crates/*; do grep -q "^${it##*/}[: ]" "$out/crates.txt" || rm -rf "$it"; done
+    : >"$copies/crates.txt" && : >"$out/crates" && choose arbiter && [ -s "$out/crates" ] || return
+    cp -p "$top/HANDLES" "$copies" || return
+    for it in "$copies"/crates/*; do grep -qx "${it##*/}" "$out/crates" || rm -rf "$it"; done
     # A source that is edited from here on will differ from this list, so the next start builds again.
     before=$(sources)
-    for it in "$out"/crates/*; do
+    for it in "$copies"/crates/*; do
         rm -rf "$it"/[sp]* && cp -pR "$top/crates/${it##*/}"/[sp]* "$it" || return
     done
 }
@@ -33,7 +39,7 @@ copy() {
 prove() {
     [[ $(</proc/meminfo) =~ MemAvailable:\ *([0-9]+) ]]
     set -- "$(printf '%s\n' 8 "$(nproc)" $((BASH_REMATCH[1] / 1500000 + 1)) | sort -n | head -n 1)"
-    cd "$out" && rt all check --jobs "$1" && cd crates/arbiter && exec rt run -- --version
+    cd "$copies" && rt all check --jobs "$1" && cd crates/arbiter && exec rt run -- --version
 }
 
 # Writes the log from what rt prints, and shows how many crates of all are proved, and the minutes so far: on a terminal
@@ -62,18 +68,18 @@ follow() {
     return $full
 }
 
-# Ends with what rt printed, without what was proved, and with the reason why it failed. Its status is given, and
-# whether a disk was full.
+# Ends with what rt printed, without what was proved, and with the reason why it failed. Its status is given, or another
+# reason, and whether a disk was full.
 fail_by() {
-    local free=$(($(df -k --output=avail "$out" | tail -n 1)))
+    local free=$(($(df -k --output=avail "$copies" | tail -n 1)))
     grep -avE ': (proved|ok)$|: modules loaded=|^(so far: |by-macro: |logic |logic=proved )' "$log" >&2
-    [ "$2" -eq 0 ] && [ "$free" -ge 10000 ] || fail "the disk is full ($free kB are left for $out)"
+    [ "$2" -eq 0 ] && [ "$free" -ge 10000 ] || fail "the disk is full ($free kB are left for $copies)"
     [ "$kills" = "$(grep -s '^oom_kill ' /proc/vmstat)" ] || set -- 137 # the kernel killed a process, maybe one of rt's
     case $1 in
         0) fail "rt left no program" ;;
         1) fail "a proof was refused, as the lines above say" ;;
-        copying) fail "the sources can't be copied to $out" ;;
         137 | 247) fail "rt was killed, most likely for lack of memory" ;; # 247 is -9: a check was killed
+        *[!0-9]*) fail "$1" ;;
         *) fail "rt ended with status $1, as the lines above say" ;;
     esac
 }
@@ -87,15 +93,16 @@ build() {
     exec 9<"$top/build"
     flock -n 9 || [ $? -ne 1 ] || { say "waiting for another build to end"; flock 9; }
     ! is_built || return 0
-    mkdir -p "$out" && rm -f "$out/sources" && : >"$log" || fail "$out can't be written"
+    mkdir -p "$out" && rm -f "$out/sources" || fail "$out can't be written"
+    mkdir -p "$copies" && : >"$log" || fail "$copies can't be written"
     kills=$(grep -s '^oom_kill ' /proc/vmstat)
-    copy 2>"$log" || fail_by copying 0
+    copy 2>"$log" || fail_by "the sources can't be copied to $copies" 0
     say "proving and building the program (README says how long the first build takes); the log is $log"
-    prove 2>&1 9<&- | follow "$(grep -c '' "$out/crates.txt")"
-    set -- "${PIPESTATUS[@]}"
-    [ "$1" -eq 0 ] && [ -x "$program" ] || fail_by "$@"
+    prove 2>&1 9<&- | follow "$(grep -c '' "$out/crates")"
+    set -- "${PIPESTATUS[@]}" "$copies/crates/arbiter/out/arbiter"
+    [ "$1" -eq 0 ] && [ -x "$3" ] || fail_by "$@"
     # A part of a list, from a full disk, differs from the sources, too.
-    printf '%s\n' "$before" >"$out/sources" || fail_by 0 1
+    cp --remove-destination "$3" "$out" && printf '%s\n' "$before" >"$out/sources" || fail "$out can't be written"
 }
 
 # Ends the build with all that it started, and then this script by the same signal.

@@ -8,7 +8,7 @@ TOP = Path(__file__).resolve().parents[2]
 def built(crate):
     """Returns the path of a crate's proved program: `rt run` and `rt ci` leave it in crates/, the launcher in build/out.
     It is the newer one if there are two."""
-    places = [TOP / folder / crate / "out" / crate for folder in ("crates", "build/out/crates")]
+    places = [TOP / folder / crate for folder in (f"crates/{crate}/out", "build/out")]
     return max(places, key=lambda it: it.stat().st_mtime if it.exists() else 0)
 
 
