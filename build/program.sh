@@ -1,6 +1,6 @@
-# Copies the crates that the program needs to a folder where `rt all check` proves several at a time, and builds it there
-# by `rt run`. Both take over what their earlier runs proved. The script `arbiter` reads this file where the program is
-# not built.
+# Copies the crates that the program needs to a folder where `rt all check` proves several at a time, and builds it by
+# `rt run` there. Both take over what their earlier runs proved. The script `arbiter` reads this file where the program
+# is not built.
 
 # The copies are outside the checkout: there `rt ci` refuses sources that are not in crates/.
 copies=~/.cache
@@ -15,18 +15,18 @@ fail() { say "$*: the program was not built"; exit 1; }
 # there is a library of the toolchain.
 choose() {
     local line it
-    line=$(grep "^$1[: ]" "$top/crates.txt") && ! grep -qx "$1" "$out/crates" || return 0
-    mkdir -p "$copies/crates/$1" && echo "$line" >>"$copies/crates.txt" && echo "$1" >>"$out/crates" || return
+    line=$(grep "^$1[: ]" "$top/crates.txt") && ! grep -q "^$1[: ]" "$copies/crates.txt" || return 0
+    mkdir -p "$copies/crates/$1" && echo "$line" >>"$copies/crates.txt" || return
     for it in ${line#*:}; do choose "$it" || return; done
 }
 
-# Copies src, specs and proofs of the crates that the program needs anew, after listing them. What rt keeps beside a copy
-# stays as long as its crate is needed.
+# Copies src, specs and proofs of the crates that the program needs anew, after listing them. What rt keeps beside the
+# copies stays as long as the crate is needed.
 copy() {
     local it
-    : >"$copies/crates.txt" && : >"$out/crates" && choose arbiter && [ -s "$out/crates" ] || return
-    cp -p "$top/HANDLES" "$copies" || return
-    for it in "$copies"/crates/*; do grep -qx "${it##*/}" "$out/crates" || rm -rf "$it"; done
+    : >"$copies/crates.txt" && choose arbiter && [ -s "$copies/crates.txt" ] && cp -p "$top/HANDLES" "$copies" || return
+    sed 's,[: ].*,,; s,.*,crates/&/src\ncrates/&/specs\ncrates/&/proofs,' "$copies/crates.txt" >"$out/folders" || return
+    for it in "$copies"/crates/*; do grep -q "^${it##*/}[: ]" "$copies/crates.txt" || rm -rf "$it"; done
     # A source that is edited from here on will differ from this list, so the next start builds again.
     before=$(sources)
     for it in "$copies"/crates/*; do
@@ -34,8 +34,8 @@ copy() {
     done
 }
 
-# Proves as many crates at a time as there are processors, with 1.5 GB of memory for each, but at most eight: hardly ever
-# are more ready. At the end rt runs the program; what that prints goes to the log, too.
+# Proves as many crates at a time as there are processors, with 1.5 GB of memory for each, but at most eight, since more
+# are hardly ever ready. At the end rt runs the program; what that prints goes to the log, too.
 prove() {
     [[ $(</proc/meminfo) =~ MemAvailable:\ *([0-9]+) ]]
     set -- "$(printf '%s\n' 8 "$(nproc)" $((BASH_REMATCH[1] / 1500000 + 1)) | sort -n | head -n 1)"
@@ -88,21 +88,21 @@ fail_by() {
 build() {
     local before kills
     trap '' PIPE TTOU
-    for it in rt flock find sort grep; do command -v "$it" >/dev/null || fail "$it is not on the path"; done
+    for it in rt flock find sort grep sed; do command -v "$it" >/dev/null || fail "$it is not on the path"; done
     find "$top/crates.txt" -printf '' 2>/dev/null || fail "find is not GNU find"
     exec 9<"$top/build"
     flock -n 9 || [ $? -ne 1 ] || { say "waiting for another build to end"; flock 9; }
     ! is_built || return 0
-    mkdir -p "$out" && rm -f "$out/sources" || fail "$out can't be written"
-    mkdir -p "$copies" && : >"$log" || fail "$copies can't be written"
+    mkdir -p "$out" "$copies" && : >"$log" || fail "$out or $copies can't be written"
     kills=$(grep -s '^oom_kill ' /proc/vmstat)
     copy 2>"$log" || fail_by "the sources can't be copied to $copies" 0
     say "proving and building the program (README says how long the first build takes); the log is $log"
-    prove 2>&1 9<&- | follow "$(grep -c '' "$out/crates")"
+    prove 2>&1 9<&- | follow "$(grep -c '' "$copies/crates.txt")"
     set -- "${PIPESTATUS[@]}" "$copies/crates/arbiter/out/arbiter"
     [ "$1" -eq 0 ] && [ -x "$3" ] || fail_by "$@"
-    # A part of a list, from a full disk, differs from the sources, too.
-    cp --remove-destination "$3" "$out" && printf '%s\n' "$before" >"$out/sources" || fail "$out can't be written"
+    # Until now the former program has the former list. A part of a list, from a full disk, differs from the sources.
+    rm -f "$out/sources" && cp --remove-destination "$3" "$out" && printf '%s\n' "$before" >"$out/sources" ||
+        fail "$out can't be written"
 }
 
 # Ends the build with all that it started, and then this script by the same signal.
