@@ -38,8 +38,8 @@ copy() {
 # are hardly ever ready. At the end rt runs the program; what that prints goes to the log, too.
 prove() {
     [[ $(</proc/meminfo) =~ MemAvailable:\ *([0-9]+) ]]
-    set -- "$(printf '%s\n' 8 "$(nproc)" $((BASH_REMATCH[1] / 1500000 + 1)) | sort -n | head -n 1)"
-    cd "$copies" && rt all check --jobs "$1" && cd crates/arbiter && exec rt run -- --version
+    set -- "$(printf '%s\n' 8 "$(nproc)" $((BASH_REMATCH[1] / 1500000)) | sort -n | head -n 1)"
+    cd "$copies" && rt all check --jobs $(($1 > 0 ? $1 : 1)) && cd crates/arbiter && exec rt run -- --version
 }
 
 # Writes the log from what rt prints, and shows how many crates of all are proved, and the minutes so far: on a terminal
