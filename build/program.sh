@@ -1,62 +1,108 @@
-# Proves the crates and builds the program by `rt run`, which takes over what its earlier runs proved. The script
-# `arbiter` reads this file where the program is not built.
-log=$out/arbiter.log
+# Copies the crates that the program needs to a folder where `rt all check` proves several at a time, and builds it by
+# `rt run` there. Both take over what their earlier runs proved. The script `arbiter` reads this file where the program
+# is not built.
+
+# The copies are outside the checkout: there `rt ci` refuses sources that are not in crates/.
+copies=~/.cache
+[[ ${XDG_CACHE_HOME-} != /* ]] || copies=$XDG_CACHE_HOME
+copies+=/chess_arbiter/${top##*/}-$(sha256sum <<<"$top" | head -c 16)
+log=$copies/log
 
 say() { echo "arbiter: $*" >&2; }
 fail() { say "$*: the program was not built"; exit 1; }
 
-# Writes the log from what rt prints, and shows which crate it proves and how many of its functions are checked: on a
-# terminal in one line, which is rewritten. Fails if the disk was full, which the log can't say then.
+# Makes folders for a crate and all below it, each once, and copies their lines of crates.txt. A name that has no line
+# there is a library of the toolchain.
+choose() {
+    local line it
+    line=$(grep "^$1[: ]" "$top/crates.txt") && ! grep -q "^$1[: ]" "$copies/crates.txt" || return 0
+    mkdir -p "$copies/crates/$1" && echo "$line" >>"$copies/crates.txt" || return
+    for it in ${line#*:}; do choose "$it" || return; done
+}
+
+# Copies src, specs and proofs of the crates that the program needs anew, after listing them. What rt keeps beside the
+# copies stays as long as the crate is needed.
+copy() {
+    local it
+    : >"$copies/crates.txt" && choose arbiter && [ -s "$copies/crates.txt" ] && cp -p "$top/HANDLES" "$copies" || return
+    sed 's,[: ].*,,; s,.*,crates/&/src\ncrates/&/specs\ncrates/&/proofs,' "$copies/crates.txt" >"$out/folders" || return
+    for it in "$copies"/crates/*; do grep -q "^${it##*/}[: ]" "$copies/crates.txt" || rm -rf "$it"; done
+    # A source that is edited from here on will differ from this list, so the next start builds again.
+    before=$(sources)
+    for it in "$copies"/crates/*; do
+        rm -rf "$it"/[sp]* && cp -pR "$top/crates/${it##*/}"/[sp]* "$it" || return
+    done
+}
+
+# Proves as many crates at a time as there are processors, with 1.5 GB of memory for each, but at most eight, since more
+# are hardly ever ready. At the end rt runs the program; what that prints goes to the log, too.
+prove() {
+    [[ $(</proc/meminfo) =~ MemAvailable:\ *([0-9]+) ]]
+    set -- "$(printf '%s\n' 8 "$(nproc)" $((BASH_REMATCH[1] / 1500000)) | sort -n | head -n 1)"
+    cd "$copies" && rt all check --jobs $(($1 > 0 ? $1 : 1)) && cd crates/arbiter && exec rt run -- --version
+}
+
+# Writes the log from what rt prints, and shows how many crates of all are proved, and the minutes so far: on a terminal
+# in one line, which is rewritten. Fails if the disk was full, which the log can't say then.
 follow() {
-    local line crate='' form='arbiter: %s\n' clear='' full=0
+    local line='' part status proved=0 step shown='' form='arbiter: %s\n' clear='' full=0
     [ ! -t 2 ] || form='\r\e[Karbiter: %s' clear='\r\e[K'
-    while IFS= read -r line || [ -n "$line" ]; do
+    while
+        step="$proved of $1 crates proved ($((SECONDS / 60)) min)"
+        [ "$step" = "$shown" ] || printf "$form" "$step" >&2
+        IFS= read -r -t 60 part
+        status=$? shown=$step line+=$part
+        [ $status -ne 1 ] || [ -n "$line" ]
+    do
+        [ $status -le 128 ] || continue # a minute has passed
         printf '%s\n' "$line" 2>/dev/null || full=1
         case $line in
-            'rt: chose '*' for '*) crate=${line##* } && printf "$form" "$crate ($((SECONDS / 60)) min)" >&2 ;;
-            'so far: '*) printf "$form" "$crate, ${line%;*} ($((SECONDS / 60)) min)" >&2 ;;
+            '== summary') ;;
+            '== '*) : $((proved += 1)) ;;
             *'No space left'* | *'quota exceeded'*) full=1 ;;
             'rt: '*waiting*) printf "$clear%s\n" "$line" >&2 ;;
         esac
+        line=''
     done >"$log"
     printf "$clear" >&2
     return $full
 }
 
-# Ends with what rt printed, without what was proved, and with the reason why it failed. Its status is given, and
-# whether a disk was full.
+# Ends with what rt printed, without what was proved, and with the reason why it failed. Its status is given, or another
+# reason, and whether a disk was full.
 fail_by() {
-    local free=$(($(df -k --output=avail "$out" | tail -n 1)))
-    grep -avE ': proved$|: modules loaded=' "$log" >&2
-    [ "$2" -eq 0 ] && [ "$free" -ge 10000 ] || fail "the disk is full ($free kB are left for $out)"
+    local free=$(($(df -k --output=avail "$copies" | tail -n 1)))
+    grep -avE ': (proved|ok)$|: modules loaded=|^(so far: |by-macro: |logic |logic=proved )' "$log" >&2
+    [ "$2" -eq 0 ] && [ "$free" -ge 10000 ] || fail "the disk is full ($free kB are left for $copies)"
+    [ "$kills" = "$(grep -s '^oom_kill ' /proc/vmstat)" ] || set -- 137 # the kernel killed a process, maybe one of rt's
     case $1 in
         0) fail "rt left no program" ;;
         1) fail "a proof was refused, as the lines above say" ;;
         137 | 247) fail "rt was killed, most likely for lack of memory" ;; # 247 is -9: a check was killed
+        *[!0-9]*) fail "$1" ;;
         *) fail "rt ended with status $1, as the lines above say" ;;
     esac
 }
 
-# Builds once nothing else does. The lock is on the folder of this file: rt waits for locks of its own on folders of
-# crates, and git replaces files.
+# Builds once nothing else does. The lock is on the folder of this file, since git replaces files.
 build() {
-    local before
+    local before kills
     trap '' PIPE TTOU
-    for it in rt flock find sort grep; do command -v "$it" >/dev/null || fail "$it is not on the path"; done
+    for it in rt flock find sort grep sed; do command -v "$it" >/dev/null || fail "$it is not on the path"; done
     find "$top/crates.txt" -printf '' 2>/dev/null || fail "find is not GNU find"
     exec 9<"$top/build"
     flock -n 9 || [ $? -ne 1 ] || { say "waiting for another build to end"; flock 9; }
     ! is_built || return 0
-    mkdir -p "$out" && rm -f "$out/arbiter.sources" && : >"$log" || fail "$out can't be written"
-    # A source that is edited during the build will differ from this list, so the next start builds again.
-    before=$(sources)
+    mkdir -p "$out" "$copies" && : >"$log" || fail "$out or $copies can't be written"
+    kills=$(grep -s '^oom_kill ' /proc/vmstat)
+    copy 2>"$log" || fail_by "the sources can't be copied to $copies" 0
     say "proving and building the program (README says how long the first build takes); the log is $log"
-    # At the end rt runs the program; what that prints goes to the log, too.
-    (cd "$top/crates/arbiter" && exec rt run -- --version) 2>&1 9<&- | follow
-    set -- "${PIPESTATUS[@]}"
-    [ "$1" -eq 0 ] && [ -x "$out/arbiter" ] || fail_by "$@"
-    # A part of a list, from a full disk, differs from the sources, too.
-    printf '%s\n' "$before" >"$out/arbiter.sources" || fail_by 0 1
+    prove 2>&1 9<&- | follow "$(grep -c '' "$copies/crates.txt")"
+    set -- "${PIPESTATUS[@]}" "$copies/crates/arbiter/out/arbiter"
+    [ "$1" -eq 0 ] && [ -x "$3" ] || fail_by "$@"
+    # Until now the former program has the former list. A part of a list, from a full disk, differs from the sources.
+    rm -f "$out/sources" && cp --remove-destination "$3" "$out" && printf '%s\n' "$before" >"$out/sources" ||
+        fail "$out can't be written"
 }
 
 # Ends the build with all that it started, and then this script by the same signal.

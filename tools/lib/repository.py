@@ -6,8 +6,10 @@ TOP = Path(__file__).resolve().parents[2]
 
 
 def built(crate):
-    """Returns the path at which `rt run` and `rt ci` leave the proved program of a crate."""
-    return TOP / "crates" / crate / "out" / crate
+    """Returns the path of a crate's proved program: `rt run` and `rt ci` leave it in crates/, the launcher in build/out.
+    It is the newer one if there are two."""
+    places = [TOP / folder / crate for folder in (f"crates/{crate}/out", "build/out")]
+    return max(places, key=lambda it: it.stat().st_mtime if it.exists() else 0)
 
 
 def add_arbiter(parser):
