@@ -1,4 +1,6 @@
-//! Texts of the usual shapes, such as `e4`, `Nf3`, `exd5`, `Nxd5` and `Nbd2`, whose parts are read at once.
+//! The texts of which games in PGN are full: `e4`, `Nf3`, `exd5`, `Nxd5` and `Nbd2`, perhaps with one mark. Their parts are
+//! read at once. `usual_parts` may return `None` for any text: `read_form` then reads it part by part, as texts of all
+//! other shapes. Where it returns parts, `read_form` would read the same (`usual_form` in proofs/UsualForms).
 
 ghost use Rattle.std.specs.Prelude.{◌≡◌};
 ghost use Rattle.chess_text.specs.Parts.{unmarked};
