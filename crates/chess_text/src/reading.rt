@@ -1,4 +1,5 @@
-//! Reading the text of a move.
+//! Reading the text of a move. What a usual text needs is inlined into `read_move`: as calls it cost `verify` a seventh
+//! more instructions for reading and making a move. What other texts need is not.
 
 ghost use Rattle.std.specs.Prelude.{◌≡◌, Some, IfSome};
 ghost use Rattle.std.specs.List.{filter, flat_map};
