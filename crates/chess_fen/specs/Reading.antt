@@ -34,8 +34,8 @@ side_of _ = None
 abbrev pub rights_of : Variant → Men → List ℕ → Option Rights
 rights_of v men text = if is_castling v text then Some (rights_by (right_by_letters v men text)) else None
 
--- the position with these pieces that the five fields of a FEN after the first denote, read from left to right, sound or
--- not; or the fault of the first of them that denotes nothing. A fullmove number of 0 is read as 1
+-- the position with these pieces that the five fields of a FEN after the first denote, read from left to right, sound
+-- or not; or the fault of the first of them that denotes nothing. A fullmove number of 0 is read as 1
 abbrev pub setup_with : Variant → Men → List ℕ → List ℕ → List ℕ → List ℕ → List ℕ → Result Setup FenFault
 setup_with v men side castling target halfmove fullmove = do
   colour ← ok_or (side_of side) faults.Side
