@@ -6,9 +6,8 @@ use Rattle.std.proofs.lemmas.List.{nil_from_length}
 use Rattle.chess_base.specs.declared.fen_fault.FenFault.TheVariants as faults
 use Rattle.chess_base.specs.declared.man.Man.{Man}
 use Rattle.chess_base.specs.declared.man.Variant.{Variant}
-use Rattle.chess_fen.specs.Reading.{setup_by}
+use Rattle.chess_fen.specs.Reading.{setup_with, setup_by}
 use Rattle.chess_fen.specs.Texts.{placement_of, fields_of}
-use Rattle.chess_fen.specs.ties.Fields.{setup_with}
 use Rattle.chess_fen.specs.ties.Runs.{PlacementIsRead, from_space}
 use Rattle.chess_fen.proofs.CutFields.{no_fields, next_fields}
 

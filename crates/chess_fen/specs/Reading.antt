@@ -34,11 +34,10 @@ side_of _ = None
 abbrev pub rights_of : Variant → Men → List ℕ → Option Rights
 rights_of v men text = if is_castling v text then Some (rights_by (right_by_letters v men text)) else None
 
--- the position that the six fields of a FEN denote, read from left to right, sound or not; or the fault of the first
--- field that denotes nothing. A fullmove number of 0 is read as 1
-abbrev pub setup_by : Variant → List ℕ → List ℕ → List ℕ → List ℕ → List ℕ → List ℕ → Result Setup FenFault
-setup_by v placement side castling target halfmove fullmove = do
-  men ← ok_or (placement_of placement) faults.Placement
+-- the position with these pieces that the five fields of a FEN after the first denote, read from left to right, sound
+-- or not; or the fault of the first of them that denotes nothing. A fullmove number of 0 is read as 1
+abbrev pub setup_with : Variant → Men → List ℕ → List ℕ → List ℕ → List ℕ → List ℕ → Result Setup FenFault
+setup_with v men side castling target halfmove fullmove = do
   colour ← ok_or (side_of side) faults.Side
   rights ← ok_or (rights_of v men castling) faults.Castling
   passed ← ok_or (target_of target) faults.EnPassant
@@ -53,6 +52,12 @@ setup_by v placement side castling target halfmove fullmove = do
     halfmove = clock;
     fullmove = max number 1;
   })
+
+-- the position that the six fields of a FEN denote, sound or not; or the fault of the first field that denotes nothing
+abbrev pub setup_by : Variant → List ℕ → List ℕ → List ℕ → List ℕ → List ℕ → List ℕ → Result Setup FenFault
+setup_by v placement side castling target halfmove fullmove = do
+  men ← ok_or (placement_of placement) faults.Placement
+  setup_with v men side castling target halfmove fullmove
 
 -- the position that a list of a FEN's fields denotes: six fields, or four, and then the counters are 0 and 1; any other
 -- number of fields is a fault

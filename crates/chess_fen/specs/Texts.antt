@@ -84,11 +84,14 @@ may_name_right Fischerandom letter = occurs letter (codes "KQkq") || names_file 
 abbrev pub names_once : Variant → List ℕ → ℕ → Bool
 names_once v text c = may_name_right v c && (times c text == 1)
 
--- the text has the form of a castling field: a dash, or one to four letters, each of which may name a right and occurs
--- once
+-- the text is one to four letters, each of which may name a right and occurs once
+abbrev pub are_right_letters : Variant → List ℕ → Bool
+are_right_letters v text =
+    nat_lt 0 (length text) && nat_le (length text) 4 && list_all (names_once v text) text
+
+-- the text has the form of a castling field: a dash, or letters that name rights
 abbrev pub is_castling : Variant → List ℕ → Bool
-is_castling v text = bytes_eq text (codes "-")
-    || (nat_lt 0 (length text) && nat_le (length text) 4 && list_all (names_once v text) text)
+is_castling v text = bytes_eq text (codes "-") || are_right_letters v text
 
 -- ---- target
 

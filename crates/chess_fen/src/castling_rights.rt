@@ -1,10 +1,11 @@
 //! The letters of castling rights.
 
 ghost use Rattle.std.specs.Prelude.{◌≡◌, ◌<◌, [], None, codes};
-ghost use Rattle.chess_fen.specs.Texts.{occurs, times, may_name_right, first_letter, names_file, is_castling};
+ghost use Rattle.std.specs.List.{list_all};
+ghost use Rattle.chess_fen.specs.Texts.{occurs, times, may_name_right, names_once, are_right_letters, first_letter, names_file};
 ghost use Rattle.chess_fen.specs.RightNames.{side_letter, right_letter, right_named, outer_rook, is_left_of, is_towards, named_square, one_or_nowhere, right_by_letters};
 ghost use Rattle.chess_fen.specs.ties.Loops.{edge_file, right_after_letters};
-ghost use Rattle.chess_base.specs.Castling.{home_square, king_square, rook_file, rights_by};
+ghost use Rattle.chess_base.specs.Castling.{home_square, rook_file, rights_by};
 ghost use Rattle.chess_base.specs.declared.man.CastlingSide.TheVariants.{KingSide, QueenSide};
 ghost use Rattle.chess_base.specs.declared.man.Variant.TheVariants.{Normal, Fischerandom};
 
@@ -47,22 +48,25 @@ fn may_name_right(variant: Variant, letter: u8) -> bool
     }
 }
 
-// Whether a text has the form of a castling field: `-`, or one to four letters that may name rights, none twice.
-pub(crate) fn is_castling(variant: Variant, text: &[u8]) -> bool
-    ensures { result ≡ is_castling variant text.now }
+// Whether a byte of a castling field's text may name a right, and occurs once in the text.
+fn names_once(variant: Variant, text: &[u8], byte: u8) -> bool
+    ensures { result ≡ names_once variant text.now byte }
 {
-    if text == b"-".as_slice() {
-        return true;
-    }
-    if text.is_empty() || text.len() > 4 {
-        return false;
-    }
-    for &byte in text {
-        if !may_name_right(variant, byte) || times(text, byte) != 1 {
-            return false;
-        }
-    }
-    true
+    may_name_right(variant, byte) && times(text, byte) == 1
+}
+
+// Whether each byte of a text may name a right and occurs once in it.
+fn each_names_once(variant: Variant, text: &[u8]) -> bool
+    ensures { result ≡ list_all (names_once variant text.now) text.now }
+{
+    text.iter().all(|byte| names_once(variant, text, *byte))
+}
+
+// Whether a text is one to four letters that may name rights, none twice.
+pub(crate) fn are_right_letters(variant: Variant, text: &[u8]) -> bool
+    ensures { result ≡ are_right_letters variant text.now }
+{
+    !text.is_empty() && text.len() <= 4 && each_names_once(variant, text)
 }
 
 // The letter for a colour's castling right on that side: `K`, `Q`, `k` or `q`.
@@ -174,15 +178,13 @@ fn is_towards(castling_side: CastlingSide, king: Option<Square>, s: Square) -> b
 
 // Chess960: the rook's square by which this letter names the colour's right on that side; `None` if it names another
 // right. `K`, `Q`, `k` and `q` name the outermost rook, a file's letter names that file, if it is on that side of the
-// king, whose square is `king`.
+// king.
 fn named_square(
     men: &[Option<Man>; 64],
-    king: &Option<Square>,
     colour: Colour,
     castling_side: CastlingSide,
     letter: u8,
 ) -> Option<Square>
-    requires { king.now ≡ king_square men.now colour }
     ensures { result ≡ named_square men.now colour castling_side letter }
 {
     if letter == side_letter(colour, castling_side) {
@@ -192,7 +194,7 @@ fn named_square(
         return None;
     }
     let square = home_square(colour, letter - first_letter(colour));
-    if is_towards(castling_side, *king, square) {
+    if is_towards(castling_side, king_square(men, colour), square) {
         Some(square)
     } else {
         None
@@ -212,24 +214,19 @@ fn one_or_nowhere(first: Option<Square>, second: Option<Square>) -> Option<Squar
     }
 }
 
-// Chess960: the castling right on that side of the colour, whose king is on the square `king`, that the letters of a
-// castling field name, as the square of its rook; `None` if they don't name it.
+// Chess960: the castling right of the colour on that side that the letters of a castling field name, as the square of
+// its rook; `None` if they don't name it.
 fn right_of_letters(
     men: &[Option<Man>; 64],
-    king: &Option<Square>,
     letters: &[u8],
     colour: Colour,
     castling_side: CastlingSide,
 ) -> Option<Square>
-    requires { king.now ≡ king_square men.now colour }
     ensures { result ≡ right_after_letters men.now colour castling_side None letters.now }
 {
     let mut found = None;
     for &letter in letters {
-        found = one_or_nowhere(
-            found,
-            named_square(men, king, colour, castling_side, letter),
-        );
+        found = one_or_nowhere(found, named_square(men, colour, castling_side, letter));
     }
     found
 }
@@ -250,10 +247,9 @@ fn chess960_rights(men: &[Option<Man>; 64], letters: &[u8], colour: Colour) -> C
     ensures king_side { result.king_side ≡ right_by_letters Fischerandom men.now letters.now colour KingSide }
     ensures queen_side { result.queen_side ≡ right_by_letters Fischerandom men.now letters.now colour QueenSide }
 {
-    let king = king_square(men, colour);
     ColourRights {
-        king_side: right_of_letters(men, &king, letters, colour, CastlingSide::KingSide),
-        queen_side: right_of_letters(men, &king, letters, colour, CastlingSide::QueenSide),
+        king_side: right_of_letters(men, letters, colour, CastlingSide::KingSide),
+        queen_side: right_of_letters(men, letters, colour, CastlingSide::QueenSide),
     }
 }
 

@@ -13,8 +13,8 @@ pub(crate) struct Run {
     pub squares: u8,
 }
 
-// So many empty squares.
-macro_rules! empty {
+// So many empty squares. These are macros, since a constant's value can't call a function.
+macro_rules! gap {
     ($squares:literal) => {
         Run {
             first: None,
@@ -37,73 +37,68 @@ macro_rules! piece {
 }
 
 // A byte that stands for no squares: for more of them than a rank has.
-const NO_RUN: Run = empty!(9);
+const NONE: Run = gap!(9);
 
-const EMPTY_1: Run = empty!(1);
+const GAP1: Run = gap!(1);
 
-const EMPTY_2: Run = empty!(2);
+const GAP2: Run = gap!(2);
 
-const EMPTY_3: Run = empty!(3);
+const GAP3: Run = gap!(3);
 
-const EMPTY_4: Run = empty!(4);
+const GAP4: Run = gap!(4);
 
-const EMPTY_5: Run = empty!(5);
+const GAP5: Run = gap!(5);
 
-const EMPTY_6: Run = empty!(6);
+const GAP6: Run = gap!(6);
 
-const EMPTY_7: Run = empty!(7);
+const GAP7: Run = gap!(7);
 
-const EMPTY_8: Run = empty!(8);
+const GAP8: Run = gap!(8);
 
-const W_PAWN: Run = piece!(White, Pawn);
+const WH_P: Run = piece!(White, Pawn);
 
-const W_KNIGHT: Run = piece!(White, Knight);
+const WH_N: Run = piece!(White, Knight);
 
-const W_BISHOP: Run = piece!(White, Bishop);
+const WH_B: Run = piece!(White, Bishop);
 
-const W_ROOK: Run = piece!(White, Rook);
+const WH_R: Run = piece!(White, Rook);
 
-const W_QUEEN: Run = piece!(White, Queen);
+const WH_Q: Run = piece!(White, Queen);
 
-const W_KING: Run = piece!(White, King);
+const WH_K: Run = piece!(White, King);
 
-const B_PAWN: Run = piece!(Black, Pawn);
+const BL_P: Run = piece!(Black, Pawn);
 
-const B_KNIGHT: Run = piece!(Black, Knight);
+const BL_N: Run = piece!(Black, Knight);
 
-const B_BISHOP: Run = piece!(Black, Bishop);
+const BL_B: Run = piece!(Black, Bishop);
 
-const B_ROOK: Run = piece!(Black, Rook);
+const BL_R: Run = piece!(Black, Rook);
 
-const B_QUEEN: Run = piece!(Black, Queen);
+const BL_Q: Run = piece!(Black, Queen);
 
-const B_KING: Run = piece!(Black, King);
+const BL_K: Run = piece!(Black, King);
 
-// What each of the 256 bytes stands for in a rank's text. It is a table of its own, and not made by `Man::from_letter`,
-// so that each byte of a FEN's longest field costs one look-up, for pieces and empty squares alike.
+// What each of the 256 bytes stands for in a rank's text, 16 in a line: `1` is the byte 0x31, `B` 0x42, `b` 0x62. A
+// `match` of the same, or `Man::from_letter`, took a sixth more instructions for a FEN: here each byte of its longest
+// field costs one look-up, for pieces and empty squares alike.
 static RUNS: [Run; 256] = [
-    NO_RUN, NO_RUN, NO_RUN, NO_RUN, NO_RUN, NO_RUN, NO_RUN, NO_RUN, NO_RUN, NO_RUN, NO_RUN, NO_RUN,
-    NO_RUN, NO_RUN, NO_RUN, NO_RUN, NO_RUN, NO_RUN, NO_RUN, NO_RUN, NO_RUN, NO_RUN, NO_RUN, NO_RUN,
-    NO_RUN, NO_RUN, NO_RUN, NO_RUN, NO_RUN, NO_RUN, NO_RUN, NO_RUN, NO_RUN, NO_RUN, NO_RUN, NO_RUN,
-    NO_RUN, NO_RUN, NO_RUN, NO_RUN, NO_RUN, NO_RUN, NO_RUN, NO_RUN, NO_RUN, NO_RUN, NO_RUN, NO_RUN,
-    NO_RUN, EMPTY_1, EMPTY_2, EMPTY_3, EMPTY_4, EMPTY_5, EMPTY_6, EMPTY_7, EMPTY_8, NO_RUN, NO_RUN,
-    NO_RUN, NO_RUN, NO_RUN, NO_RUN, NO_RUN, NO_RUN, NO_RUN, W_BISHOP, NO_RUN, NO_RUN, NO_RUN,
-    NO_RUN, NO_RUN, NO_RUN, NO_RUN, NO_RUN, W_KING, NO_RUN, NO_RUN, W_KNIGHT, NO_RUN, W_PAWN,
-    W_QUEEN, W_ROOK, NO_RUN, NO_RUN, NO_RUN, NO_RUN, NO_RUN, NO_RUN, NO_RUN, NO_RUN, NO_RUN,
-    NO_RUN, NO_RUN, NO_RUN, NO_RUN, NO_RUN, NO_RUN, B_BISHOP, NO_RUN, NO_RUN, NO_RUN, NO_RUN,
-    NO_RUN, NO_RUN, NO_RUN, NO_RUN, B_KING, NO_RUN, NO_RUN, B_KNIGHT, NO_RUN, B_PAWN, B_QUEEN,
-    B_ROOK, NO_RUN, NO_RUN, NO_RUN, NO_RUN, NO_RUN, NO_RUN, NO_RUN, NO_RUN, NO_RUN, NO_RUN, NO_RUN,
-    NO_RUN, NO_RUN, NO_RUN, NO_RUN, NO_RUN, NO_RUN, NO_RUN, NO_RUN, NO_RUN, NO_RUN, NO_RUN, NO_RUN,
-    NO_RUN, NO_RUN, NO_RUN, NO_RUN, NO_RUN, NO_RUN, NO_RUN, NO_RUN, NO_RUN, NO_RUN, NO_RUN, NO_RUN,
-    NO_RUN, NO_RUN, NO_RUN, NO_RUN, NO_RUN, NO_RUN, NO_RUN, NO_RUN, NO_RUN, NO_RUN, NO_RUN, NO_RUN,
-    NO_RUN, NO_RUN, NO_RUN, NO_RUN, NO_RUN, NO_RUN, NO_RUN, NO_RUN, NO_RUN, NO_RUN, NO_RUN, NO_RUN,
-    NO_RUN, NO_RUN, NO_RUN, NO_RUN, NO_RUN, NO_RUN, NO_RUN, NO_RUN, NO_RUN, NO_RUN, NO_RUN, NO_RUN,
-    NO_RUN, NO_RUN, NO_RUN, NO_RUN, NO_RUN, NO_RUN, NO_RUN, NO_RUN, NO_RUN, NO_RUN, NO_RUN, NO_RUN,
-    NO_RUN, NO_RUN, NO_RUN, NO_RUN, NO_RUN, NO_RUN, NO_RUN, NO_RUN, NO_RUN, NO_RUN, NO_RUN, NO_RUN,
-    NO_RUN, NO_RUN, NO_RUN, NO_RUN, NO_RUN, NO_RUN, NO_RUN, NO_RUN, NO_RUN, NO_RUN, NO_RUN, NO_RUN,
-    NO_RUN, NO_RUN, NO_RUN, NO_RUN, NO_RUN, NO_RUN, NO_RUN, NO_RUN, NO_RUN, NO_RUN, NO_RUN, NO_RUN,
-    NO_RUN, NO_RUN, NO_RUN, NO_RUN, NO_RUN, NO_RUN, NO_RUN, NO_RUN, NO_RUN, NO_RUN, NO_RUN, NO_RUN,
-    NO_RUN, NO_RUN, NO_RUN, NO_RUN, NO_RUN, NO_RUN, NO_RUN, NO_RUN, NO_RUN, NO_RUN,
+    NONE, NONE, NONE, NONE, NONE, NONE, NONE, NONE, NONE, NONE, NONE, NONE, NONE, NONE, NONE, NONE,
+    NONE, NONE, NONE, NONE, NONE, NONE, NONE, NONE, NONE, NONE, NONE, NONE, NONE, NONE, NONE, NONE,
+    NONE, NONE, NONE, NONE, NONE, NONE, NONE, NONE, NONE, NONE, NONE, NONE, NONE, NONE, NONE, NONE,
+    NONE, GAP1, GAP2, GAP3, GAP4, GAP5, GAP6, GAP7, GAP8, NONE, NONE, NONE, NONE, NONE, NONE, NONE,
+    NONE, NONE, WH_B, NONE, NONE, NONE, NONE, NONE, NONE, NONE, NONE, WH_K, NONE, NONE, WH_N, NONE,
+    WH_P, WH_Q, WH_R, NONE, NONE, NONE, NONE, NONE, NONE, NONE, NONE, NONE, NONE, NONE, NONE, NONE,
+    NONE, NONE, BL_B, NONE, NONE, NONE, NONE, NONE, NONE, NONE, NONE, BL_K, NONE, NONE, BL_N, NONE,
+    BL_P, BL_Q, BL_R, NONE, NONE, NONE, NONE, NONE, NONE, NONE, NONE, NONE, NONE, NONE, NONE, NONE,
+    NONE, NONE, NONE, NONE, NONE, NONE, NONE, NONE, NONE, NONE, NONE, NONE, NONE, NONE, NONE, NONE,
+    NONE, NONE, NONE, NONE, NONE, NONE, NONE, NONE, NONE, NONE, NONE, NONE, NONE, NONE, NONE, NONE,
+    NONE, NONE, NONE, NONE, NONE, NONE, NONE, NONE, NONE, NONE, NONE, NONE, NONE, NONE, NONE, NONE,
+    NONE, NONE, NONE, NONE, NONE, NONE, NONE, NONE, NONE, NONE, NONE, NONE, NONE, NONE, NONE, NONE,
+    NONE, NONE, NONE, NONE, NONE, NONE, NONE, NONE, NONE, NONE, NONE, NONE, NONE, NONE, NONE, NONE,
+    NONE, NONE, NONE, NONE, NONE, NONE, NONE, NONE, NONE, NONE, NONE, NONE, NONE, NONE, NONE, NONE,
+    NONE, NONE, NONE, NONE, NONE, NONE, NONE, NONE, NONE, NONE, NONE, NONE, NONE, NONE, NONE, NONE,
+    NONE, NONE, NONE, NONE, NONE, NONE, NONE, NONE, NONE, NONE, NONE, NONE, NONE, NONE, NONE, NONE,
 ];
 
 // What a byte of a rank's text stands for.

@@ -7,11 +7,10 @@ ghost use Rattle.chess_base.specs.Sound.{IsSound};
 ghost use Rattle.chess_base.specs.declared.fen_fault.FenFault.{FenFault};
 ghost use Rattle.chess_fen.specs.FenFaults.{IsFault, IsFaultAs};
 ghost use Rattle.chess_fen.specs.Texts.{placement_of, fields_of};
-ghost use Rattle.chess_fen.specs.Reading.{side_of, rights_of, setup_in, fen_reading, fen_reading_as};
+ghost use Rattle.chess_fen.specs.Reading.{side_of, rights_of, setup_with, setup_in, fen_reading, fen_reading_as};
 ghost use Rattle.chess_fen.specs.Denotation.{DenotesFen, DenotesFenAs};
-ghost use Rattle.chess_fen.specs.ties.Fields.{setup_with};
 
-use crate::castling_rights::{is_castling, rights_by_letters};
+use crate::castling_rights::{are_right_letters, rights_by_letters};
 use crate::fields::{Fields, next_field, read_fields, skip_spaces};
 use crate::number::read_number;
 use crate::placement::read_placement;
@@ -37,7 +36,7 @@ fn read_rights(variant: Variant, men: &[Option<Man>; 64], text: &[u8]) -> Option
     if let b"-" = text {
         return Some(Rights::none());
     }
-    if is_castling(variant, text) {
+    if are_right_letters(variant, text) {
         Some(rights_by_letters(variant, men, text))
     } else {
         None

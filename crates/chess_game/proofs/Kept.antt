@@ -37,14 +37,6 @@ at_place p (y ∷ ys) (suc k) d f h =
           ∙ ap (λ n. position_after p (take n (moves_of (y ∷ ys)))) (sym one_more);
     }
 
--- after some half-moves
-pub reached_by : (p : Setup) (xs : List PlayedMove) (ply : ℕ) (d : PlayedMove) → Follows p xs → 0 < ply
-    → ply ≤ length (moves_of xs) → (get_or xs (ply - 1) d).reached.position ≡ position_after p (take ply (moves_of xs))
-reached_by p xs ply d f some h =
-    let len = length-map xs (λ (x : PlayedMove). x.made) in
-    let again : ply - 1 + 1 ≡ ply = omega arith in
-    (at_place p xs (ply - 1) d f (omega (arith, len))).reached ∙ ap (λ n. position_after p (take n (moves_of xs))) again
-
 -- the last played move is at the end of the line
 pub record IsAtEnd (p : Setup) (xs : List PlayedMove) (x : PlayedMove) : Type 0 where
   pub known : IsKnown x.reached
@@ -118,6 +110,12 @@ pub made_at_end : (p : Setup) (xs ys : List PlayedMove) (m : Move) (s : Saved) (
 made_at_end p xs ys m s before after q list at made reached =
     subst (λ (zs : List PlayedMove). WasMade (position_after p (moves_of zs)) m s q) (sym list)
     (subst (λ v. WasMade v m s q) at (subst (WasMade before m s) (sym reached) made))
+
+-- the first moves
+pub follows_take : (p : Setup) (xs : List PlayedMove) (n : ℕ) → Follows p xs → Follows p (take n xs)
+follows_take p xs zero f = tt
+follows_take p [] (suc n) f = tt
+follows_take p (x ∷ xs) (suc n) f = (f.0, f.1, follows_take x.reached.position xs n f.2)
 
 -- one fewer
 follows_fewer : (p : Setup) (xs : List PlayedMove) (x : PlayedMove) → Follows p (xs ++ x ∷ []) → Follows p xs

@@ -94,7 +94,8 @@ impl<B: Board> Model for Game<B> {
         × IsIndexed g.index.heads.items g.start g.played_moves.items };
 }
 
-// The position that the played moves lead to from the start.
+// The position that the played moves lead to from the start. Inlined for `Game::position_at`.
+#[inline(always)]
 fn last_position<'g>(start: &'g Hashed, played_moves: &'g [PlayedMove]) -> &'g PackedPosition
     requires { Follows start.now.position played_moves.now }
     ensures { result.now ≡ position_after start.now.position (moves_of played_moves.now) }
@@ -359,20 +360,6 @@ impl<B: Board> Game<B> {
         self.board.position()
     }
 
-    // The packed position after the first `ply` half-moves; at 0 the start.
-    // Inlined for the same reason as `start`.
-    #[inline(always)]
-    fn packed_at(&self, ply: usize) -> &PackedPosition
-        requires { ply ≤ length self.now.state.moves }
-        ensures { result.now ≡ position_after self.now.state.start (take ply self.now.state.moves) }
-    {
-        if ply == 0 {
-            &self.start.position
-        } else {
-            &self.played_moves[ply - 1].reached.position
-        }
-    }
-
     /// The position after the first `ply` half-moves; at 0 the start.
     // Inlined for the same reason as `start`.
     #[inline(always)]
@@ -380,7 +367,8 @@ impl<B: Board> Game<B> {
         requires { ply ≤ length self.now.state.moves }
         ensures { result ≡ position_after self.now.state.start (take ply self.now.state.moves) }
     {
-        self.packed_at(ply).unpacked()
+        let (first, _) = self.played_moves.as_slice().split_at(ply);
+        last_position(&self.start, first).unpacked()
     }
 
     /// How many half-moves the game has.

@@ -9,7 +9,6 @@ use Rattle.chess_base.specs.declared.setup.Setup.{Setup}
 use Rattle.chess_base.specs.Coordinates.{optional, small_letter_text, coordinate}
 use Rattle.chess_base.specs.Men.{same_kind}
 use Rattle.chess_base.specs.Moves.{is_legal}
-use Rattle.chess_base.specs.Sound.{IsSound}
 use Rattle.chess_base.specs.Squares.{file, rank}
 use Rattle.chess_text.specs.declared.parts.Parts.{Parts}
 use Rattle.chess_text.specs.declared.reading.Reading.TheVariants as reads
@@ -135,8 +134,8 @@ fits_alone p m n k e =
           ]
     ]
 
-pub coordinate_alone : (p : Setup) (m : Move) → IsSound p → IsTrue (is_legal p m) → DenotesAlone p (coordinate m) m
-coordinate_alone p m sound legal =
+pub coordinate_alone : (p : Setup) (m : Move) → IsTrue (is_legal p m) → DenotesAlone p (coordinate m) m
+coordinate_alone p m legal =
     let h = legal_move p m legal in
     let at = bare m h.to_in in
     let are = are_parts p m h in (
@@ -155,12 +154,12 @@ form_of_squares : (m : Move) → is_form (squares_named m) ≡ true
 unfolding is_form
 form_of_squares m = refl
 
-pub coordinate_shape : (p : Setup) (m : Move) → IsSound p → IsTrue (is_legal p m) → IsTrue (shape (coordinate m))
-coordinate_shape p m sound legal =
+pub coordinate_shape : (p : Setup) (m : Move) → IsTrue (is_legal p m) → IsTrue (shape (coordinate m))
+coordinate_shape p m legal =
     let h = legal_move p m legal in
     shape_parts (coordinate m) (squares_named m) (bare m h.to_in) (are_parts p m h) (form_of_squares m)
 
-pub coordinate_read : (p : Setup) (m : Move) → IsSound p → IsTrue (is_legal p m)
+pub coordinate_read : (p : Setup) (m : Move) → IsTrue (is_legal p m)
     → reading p (coordinate m) ≡ reads.Move m
-coordinate_read p m sound legal = read_alone p (coordinate m) m legal (coordinate_shape p m sound legal)
-    (coordinate_alone p m sound legal)
+coordinate_read p m legal = read_alone p (coordinate m) m legal (coordinate_shape p m legal)
+    (coordinate_alone p m legal)

@@ -21,7 +21,6 @@ mod SanAscii
 mod TextLetters
 mod PromotionLetters
 mod UsualForms
-mod TwoSquares
 mod WrittenBytes
 mod SanLaw
 mod ShownLaw

@@ -20,14 +20,13 @@ use Rattle.chess_text.proofs.Legal.{legal_move}
 use Rattle.chess_text.proofs.SanLaw.{Law, castling_law}
 use Rattle.chess_text.proofs.Solid.{bare_castling}
 
-by_squares : (p : Setup) (m : Move) → IsSound p → IsTrue (is_legal p m) → Law p m (coordinate m)
-by_squares p m sound legal =
-    record { has_shape = coordinate_shape p m sound legal; alone = coordinate_alone p m sound legal }
+by_squares : (p : Setup) (m : Move) → IsTrue (is_legal p m) → Law p m (coordinate m)
+by_squares p m legal = record { has_shape = coordinate_shape p m legal; alone = coordinate_alone p m legal }
 
 law_by : (p : Setup) (m : Move) → IsSound p → IsTrue (is_legal p m) → (v : Variant) (o : Option CastlingSide)
     → castling p m ≡ o → Law p m (shown_as v o m)
-law_by p m sound legal Normal o e = by_squares p m sound legal
-law_by p m sound legal Fischerandom None e = by_squares p m sound legal
+law_by p m sound legal Normal o e = by_squares p m legal
+law_by p m sound legal Fischerandom None e = by_squares p m legal
 law_by p m sound legal Fischerandom (Some w) e = castling_law p m (castling_text w) w sound (legal_move p m legal) e
     (bare_castling w)
 

@@ -1,6 +1,6 @@
 -- A text of a usual shape is the text of the parts that are read at once, so it is read as these.
-use Rattle.std.proofs.Common.{◌≡◌, ℕ, suc, ◌+◌, ◌-◌, ◌*◌, ◌<◌, ◌≤◌, Bool, true, false, cond, eqb, ◌&&◌, List, [], ◌∷◌, ◌++◌, length, take, get_or, Option, Some, None, refl, sym, ap, subst, ◌∙◌, arith}
-use Rattle.std.specs.Prelude.{IfSome, option_and_then}
+use Rattle.std.proofs.Common.{◌≡◌, ℕ, suc, ◌+◌, ◌-◌, ◌*◌, ◌<◌, ◌≤◌, Bool, true, false, cond, eqb, List, [], ◌∷◌, ◌++◌, length, take, get_or, Option, Some, None, refl, sym, ap, subst, ◌∙◌, arith}
+use Rattle.std.specs.Prelude.{IfSome}
 use Rattle.std.proofs.Math.Seq.{take-suc, take-length}
 use Rattle.std.proofs.lemmas.Bool.Decides.{nat_tests}
 use Rattle.chess_base.specs.Coordinates.{optional}
@@ -15,9 +15,9 @@ use Rattle.chess_text.specs.laws.Laws.{HasLetter, AreParts}
 use Rattle.chess_text.specs.Parts.{is_mark, unmarked, when, kind_text, file_text}
 use Rattle.chess_text.specs.ties.Fitting.{parts_text, is_form}
 use Rattle.chess_text.specs.ties.Forms.{castling_named, form_of_parts, form_at, form_of, one_kind}
-use Rattle.chess_base.specs.Letters.{is_file_letter, is_rank_digit, square_with_letters}
-use Rattle.chess_text.specs.ties.Reader.{kind_from, lettered_kinds, end_at, parts_at}
-use Rattle.chess_text.specs.ties.Usual.{parts_to, lettered_to, four_at, usual_at, usual_kind}
+use Rattle.chess_text.specs.ties.Reader.{kind_from, lettered_kinds, parts_at}
+use Rattle.chess_base.specs.Letters.{is_file_letter}
+use Rattle.chess_text.specs.ties.Usual.{names_square, parts_to, lettered_to, four_at, usual_at, usual_kind}
 use Rattle.chess_text.proofs.OneMoveFits.{no_name}
 use Rattle.chess_text.proofs.Grammar.{found, lettered_is, denoted-end, parts-denoted}
 use Rattle.chess_text.proofs.Marks.{unmarked-marked}
@@ -44,56 +44,48 @@ record IsUsual (text : List ℕ) (q : Parts) : Type 0 where
   kind_is : one_kind q ≡ Some (usual_kind q.letter)
 
 -- without a start rank the letter alone says which kind of piece is meant
-kind_told : (letter : Option Kind) (file : Option ℕ) (takes : Bool) (to : ℕ) → IfSome letter HasLetter
-    → one_kind (parts_to letter file takes to) ≡ Some (usual_kind letter)
-kind_told None None takes to h = refl
-kind_told None (Some n) takes to h = refl
-kind_told (Some King) file takes to h = refl
-kind_told (Some Queen) file takes to h = refl
-kind_told (Some Rook) file takes to h = refl
-kind_told (Some Bishop) file takes to h = refl
-kind_told (Some Knight) file takes to h = refl
-kind_told (Some Pawn) file takes to h = absurd h
-
--- the name of a square is read as an end without a promotion
-ended : (f r to : ℕ) → square_with_letters f r ≡ Some to
-    → end_at (f ∷ r ∷ []) ≡ Some (record { to = to; promotion = None })
-ended f r to e =
-    let h = chosen (is_file_letter f && is_rank_digit r) (Some (8 * (r - 49) + (f - 97))) to e in
-    let is : 8 * (r - 49) + (f - 97) ≡ to = cc (h.1) in
-    rw (h.0, is) refl
+kind_told : (letter : Option Kind) (file : Option ℕ) (takes : Bool) (f r : ℕ) → IfSome letter HasLetter
+    → one_kind (parts_to letter file takes f r) ≡ Some (usual_kind letter)
+kind_told None None takes f r h = refl
+kind_told None (Some n) takes f r h = refl
+kind_told (Some King) file takes f r h = refl
+kind_told (Some Queen) file takes f r h = refl
+kind_told (Some Rook) file takes f r h = refl
+kind_told (Some Bishop) file takes f r h = refl
+kind_told (Some Knight) file takes f r h = refl
+kind_told (Some Pawn) file takes f r h = absurd h
 
 -- a square is named, after these parts
-to_square : (letter : Option Kind) (file : Option ℕ) (takes : Bool) (f r to : ℕ) → square_with_letters f r ≡ Some to
-    → IfSome letter HasLetter → IfSome file (λ n. n < 8) → is_form (parts_to letter file takes to) ≡ true
+to_square : (letter : Option Kind) (file : Option ℕ) (takes : Bool) (f r : ℕ) → names_square f r ≡ true
+    → IfSome letter HasLetter → IfSome file (λ n. n < 8) → is_form (parts_to letter file takes f r) ≡ true
     → IsUsual (optional kind_text letter ++ (optional file_text file ++ (when takes (120 ∷ []) ++ (f ∷ r ∷ []))))
-    (parts_to letter file takes to)
-to_square letter file takes f r to square lettered named form =
-    let end = denoted-end (f ∷ r ∷ []) (record { to = to; promotion = None }) (ended f r to square) in
+    (parts_to letter file takes f r)
+to_square letter file takes f r square lettered named form =
+    let end = denoted-end (f ∷ r ∷ []) (record { to = 8 * (r - 49) + (f - 97); promotion = None }) (rw square refl) in
     record {
       text_is = ap (λ xs. optional kind_text letter ++ (optional file_text file ++ (when takes (120 ∷ []) ++ xs))) end.0;
       are_parts = record { letter_is = lettered; file_is = named; rank_is = tt; to_is = end.1; promotion_is = tt };
       form_is = form;
-      kind_is = kind_told letter file takes to lettered;
+      kind_is = kind_told letter file takes f r lettered;
     }
 
 -- the same, after a piece's letter
-lettered_square : (c : ℕ) (file : Option ℕ) (takes : Bool) (f r to : ℕ) (q : Parts)
-    → square_with_letters f r ≡ Some to → lettered_to c file takes to ≡ Some q → IfSome file (λ n. n < 8)
+lettered_square : (c : ℕ) (file : Option ℕ) (takes : Bool) (f r : ℕ) (q : Parts) → names_square f r ≡ true
+    → lettered_to c file takes f r ≡ Some q → IfSome file (λ n. n < 8)
     → IsUsual (c ∷ (optional file_text file ++ (when takes (120 ∷ []) ++ (f ∷ r ∷ [])))) q
 unfolding is_form
-lettered_square c file takes f r to q square e named = by_kind (kind_from lettered_kinds c) refl e
+lettered_square c file takes f r q square e named = by_kind (kind_from lettered_kinds c) refl e
   where
     by_kind : (o : Option Kind) → kind_from lettered_kinds c ≡ o
-        → option_map (λ k. parts_to (Some k) file takes to) o ≡ Some q
+        → option_map (λ k. parts_to (Some k) file takes f r) o ≡ Some q
         → IsUsual (c ∷ (optional file_text file ++ (when takes (120 ∷ []) ++ (f ∷ r ∷ [])))) q
     by_kind None is h = absurd cc
     by_kind (Some k) is h =
         let letter = found lettered_kinds c k is in
-        let same : parts_to (Some k) file takes to ≡ q = cc in
+        let same : parts_to (Some k) file takes f r ≡ q = cc in
         subst (IsUsual (c ∷ (optional file_text file ++ (when takes (120 ∷ []) ++ (f ∷ r ∷ []))))) same
         (subst (λ d. IsUsual (d ∷ (optional file_text file ++ (when takes (120 ∷ []) ++ (f ∷ r ∷ []))))
-        (parts_to (Some k) file takes to)) letter (to_square (Some k) file takes f r to square
+        (parts_to (Some k) file takes f r)) letter (to_square (Some k) file takes f r square
         (lettered_is k (ap (kind_from lettered_kinds) letter ∙ is)) named refl))
 
 -- a file's letter
@@ -107,72 +99,52 @@ file_from c h =
     let high : c ≤ 104 = grind (arith, nat_tests, h) in
     record { named = omega arith; letter = omega arith }
 
-four : (c d f r to : ℕ) (q : Parts) → square_with_letters f r ≡ Some to → four_at c d to ≡ Some q
-    → IsUsual (c ∷ d ∷ f ∷ r ∷ []) q
+four : (c d f r : ℕ) (q : Parts) → names_square f r ≡ true → four_at c d f r ≡ Some q → IsUsual (c ∷ d ∷ f ∷ r ∷ []) q
 unfolding is_form
-four c d f r to q square = by_x (eqb d 120) refl
+four c d f r q square = by_x (eqb d 120) refl
   where
     by_pawn : (t : Bool) → is_file_letter c ≡ t
-        → cond t (Some (parts_to None (Some (c - 97)) true to)) (lettered_to c None true to) ≡ Some q
+        → cond t (Some (parts_to None (Some (c - 97)) true f r)) (lettered_to c None true f r) ≡ Some q
         → IsUsual (c ∷ 120 ∷ f ∷ r ∷ []) q
     by_pawn true is e =
         let file = file_from c is in
-        let same : parts_to None (Some (c - 97)) true to ≡ q = cc in
+        let same : parts_to None (Some (c - 97)) true f r ≡ q = cc in
         subst (IsUsual (c ∷ 120 ∷ f ∷ r ∷ [])) same
-        (subst (λ b. IsUsual (b ∷ 120 ∷ f ∷ r ∷ []) (parts_to None (Some (c - 97)) true to)) file.letter
-        (to_square None (Some (c - 97)) true f r to square tt file.named refl))
-    by_pawn false is e = lettered_square c None true f r to q square e tt
+        (subst (λ b. IsUsual (b ∷ 120 ∷ f ∷ r ∷ []) (parts_to None (Some (c - 97)) true f r)) file.letter
+        (to_square None (Some (c - 97)) true f r square tt file.named refl))
+    by_pawn false is e = lettered_square c None true f r q square e tt
 
     by_file : (t : Bool) → is_file_letter d ≡ t
-        → cond t (lettered_to c (Some (d - 97)) false to) None ≡ Some q → IsUsual (c ∷ d ∷ f ∷ r ∷ []) q
+        → cond t (lettered_to c (Some (d - 97)) false f r) None ≡ Some q → IsUsual (c ∷ d ∷ f ∷ r ∷ []) q
     by_file true is e =
         let file = file_from d is in
         subst (λ x. IsUsual (c ∷ x ∷ f ∷ r ∷ []) q) file.letter
-        (lettered_square c (Some (d - 97)) false f r to q square e file.named)
+        (lettered_square c (Some (d - 97)) false f r q square e file.named)
     by_file false is e = absurd cc
 
     by_x : (t : Bool) → eqb d 120 ≡ t
-        → cond t (cond (is_file_letter c) (Some (parts_to None (Some (c - 97)) true to)) (lettered_to c None true to))
-        (cond (is_file_letter d) (lettered_to c (Some (d - 97)) false to) None) ≡ Some q
+        → cond t (cond (is_file_letter c) (Some (parts_to None (Some (c - 97)) true f r)) (lettered_to c None true f r))
+        (cond (is_file_letter d) (lettered_to c (Some (d - 97)) false f r) None) ≡ Some q
         → IsUsual (c ∷ d ∷ f ∷ r ∷ []) q
     by_x true is e =
         let x : 120 ≡ d = grind (arith, nat_tests, is) in
         subst (λ b. IsUsual (c ∷ b ∷ f ∷ r ∷ []) q) x (by_pawn (is_file_letter c) refl e)
     by_x false is e = by_file (is_file_letter d) refl e
 
-usual_two : (f r : ℕ) (q : Parts) → usual_at (f ∷ r ∷ []) ≡ Some q → IsUsual (f ∷ r ∷ []) q
-unfolding is_form
-usual_two f r q e = by_square (square_with_letters f r) refl e
-  where
-    by_square : (o : Option ℕ) → square_with_letters f r ≡ o → option_map (parts_to None None false) o ≡ Some q
-        → IsUsual (f ∷ r ∷ []) q
-    by_square None is h = absurd cc
-    by_square (Some to) is h =
-        let same : parts_to None None false to ≡ q = cc in
-        subst (IsUsual (f ∷ r ∷ [])) same (to_square None None false f r to is tt tt refl)
-
-usual_three : (c f r : ℕ) (q : Parts) → usual_at (c ∷ f ∷ r ∷ []) ≡ Some q → IsUsual (c ∷ f ∷ r ∷ []) q
-usual_three c f r q e = by_square (square_with_letters f r) refl e
-  where
-    by_square : (o : Option ℕ) → square_with_letters f r ≡ o → option_and_then (lettered_to c None false) o ≡ Some q
-        → IsUsual (c ∷ f ∷ r ∷ []) q
-    by_square None is h = absurd cc
-    by_square (Some to) is h = lettered_square c None false f r to q is h tt
-
-usual_four : (c d f r : ℕ) (q : Parts) → usual_at (c ∷ d ∷ f ∷ r ∷ []) ≡ Some q → IsUsual (c ∷ d ∷ f ∷ r ∷ []) q
-usual_four c d f r q e = by_square (square_with_letters f r) refl e
-  where
-    by_square : (o : Option ℕ) → square_with_letters f r ≡ o → option_and_then (four_at c d) o ≡ Some q
-        → IsUsual (c ∷ d ∷ f ∷ r ∷ []) q
-    by_square None is h = absurd cc
-    by_square (Some to) is h = four c d f r to q is h
-
 usual : (text : List ℕ) (q : Parts) → usual_at text ≡ Some q → IsUsual text q
+unfolding is_form
 usual [] q e = absurd cc
 usual (f ∷ []) q e = absurd cc
-usual (f ∷ r ∷ []) q e = usual_two f r q e
-usual (c ∷ f ∷ r ∷ []) q e = usual_three c f r q e
-usual (c ∷ d ∷ f ∷ r ∷ []) q e = usual_four c d f r q e
+usual (f ∷ r ∷ []) q e =
+    let h = chosen (names_square f r) (Some (parts_to None None false f r)) q e in
+    let same : parts_to None None false f r ≡ q = cc (h.1) in
+    subst (IsUsual (f ∷ r ∷ [])) same (to_square None None false f r h.0 tt tt refl)
+usual (c ∷ f ∷ r ∷ []) q e =
+    let h = chosen (names_square f r) (lettered_to c None false f r) q e in
+    lettered_square c None false f r q h.0 h.1 tt
+usual (c ∷ d ∷ f ∷ r ∷ []) q e =
+    let h = chosen (names_square f r) (four_at c d f r) q e in
+    four c d f r q h.0 h.1
 usual (c ∷ d ∷ x ∷ f ∷ r ∷ rest) q e = absurd cc
 
 -- ---- what the text is read as

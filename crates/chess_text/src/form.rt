@@ -17,7 +17,6 @@ pub enum Form {
 
 // The side to which a text, already without marks, denotes castling, with the letter O or the digit 0; `None` if it
 // doesn't.
-#[inline(always)]
 fn castling_named(text: &[u8]) -> Option<CastlingSide>
     ensures { result ≡ castling_named text.now }
 {
@@ -31,7 +30,6 @@ fn castling_named(text: &[u8]) -> Option<CastlingSide>
 // What a text is read as before any position is looked at: castling, or its parts, such as letter and end square;
 // `None` if it hasn't the shape of a move.
 #[tactic(auto, unfolding(crate::specs::ties::Forms::form_of))]
-#[inline(always)]
 pub(crate) fn read_form(text: &[u8]) -> Option<Form>
     ensures { result ≡ form_of text.now }
 {

@@ -28,4 +28,4 @@ pub use laws::{
 };
 pub use reading::{Reading, has_move_shape, read_move};
 pub use san_text::San;
-pub use writing::{SanText, add_check_mark, san, unmarked_san};
+pub use writing::{SanText, add_check_mark, make_san, san, unmarked_san};

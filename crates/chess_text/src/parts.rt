@@ -41,7 +41,6 @@ pub(crate) fn is_mark(byte: u8) -> bool
 }
 
 // The text without the run of marks at its end: `Qh4` for `Qh4#`.
-#[inline(always)]
 #[tactic(auto, unfolding(crate::specs::Parts::unmarked))]
 pub(crate) fn unmarked(text: &[u8]) -> &[u8]
     ensures { result.now ≡ unmarked text.now }
@@ -55,7 +54,6 @@ pub(crate) fn unmarked(text: &[u8]) -> &[u8]
 
 // The kind of piece that a move's text names by this letter; `None` for a pawn's, which no text has, and for any other
 // byte.
-#[inline(always)]
 #[tactic(auto, using(crate::proofs::TextLetters::lettered))]
 pub(crate) fn lettered_kind(byte: u8) -> Option<Kind>
     ensures { result ≡ kind_from lettered_kinds byte }
@@ -93,7 +91,6 @@ fn promotion_by(equals: bool, letter: u8) -> Option<Promotion>
 
 // The promotion that the text after the end square denotes (`Q`, `q`, `=Q` or `=q`): `Some(None)` if that text is
 // empty, `None` if it is neither empty nor just a promotion.
-#[inline(always)]
 fn read_promotion(text: &[u8]) -> Option<Option<Promotion>>
     ensures { result ≡ promotion_at text.now }
 {
@@ -106,7 +103,6 @@ fn read_promotion(text: &[u8]) -> Option<Option<Promotion>>
 }
 
 // The end square and promotion that a text denotes, if it has just these, as `e4` or `e8=Q`; else `None`.
-#[inline(always)]
 fn read_end(text: &[u8]) -> Option<End>
     ensures { result ≡ end_at text.now }
 {
@@ -120,7 +116,6 @@ fn read_end(text: &[u8]) -> Option<End>
 
 // Whether a text of the form `[x]end`, as `xd5` or `e8=Q`, begins with `x`, and its end square and promotion; `None`
 // for any other text.
-#[inline(always)]
 fn read_takes(text: &[u8]) -> Option<(bool, End)>
     ensures { result ≡ takes_at text.now }
 {
@@ -132,7 +127,6 @@ fn read_takes(text: &[u8]) -> Option<(bool, End)>
 
 // The parts of a text of the form `[rank][x]end`, as `1xf3` or `f3`: the start rank if it is named, whether `x` is
 // there, and the end square with its promotion; `None` for any other text.
-#[inline(always)]
 fn read_rank(text: &[u8]) -> Option<(Option<u8>, bool, End)>
     ensures { result ≡ rank_at text.now }
 {
@@ -150,7 +144,6 @@ fn read_rank(text: &[u8]) -> Option<(Option<u8>, bool, End)>
 
 // The parts of the text after the piece's letter, which is given. Its first file letter belongs to the end square if
 // the text can be read so (`e4`), else it is the start file (`exd5`).
-#[inline(always)]
 fn read_file(letter: Option<Kind>, text: &[u8]) -> Option<Parts>
     ensures { result ≡ file_at letter text.now }
 {
@@ -180,7 +173,6 @@ fn read_file(letter: Option<Kind>, text: &[u8]) -> Option<Parts>
 
 // The parts (letter, start file, start rank, `x`, end square, promotion) of a move's text without marks; `None` if it
 // isn't made of such parts.
-#[inline(always)]
 pub(crate) fn read_parts(text: &[u8]) -> Option<Parts>
     ensures { result ≡ parts_at text.now }
 {

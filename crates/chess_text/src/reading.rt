@@ -1,11 +1,13 @@
-//! Reading the text of a move.
+//! Reading the text of a move. What a usual text needs is inlined into `read_move`: as calls it cost `verify` a seventh
+//! more instructions for reading and making a move. What other texts need is not.
 
-ghost use Rattle.std.specs.Prelude.{◌≡◌, Some};
+ghost use Rattle.std.specs.Prelude.{◌≡◌, Some, IfSome};
 ghost use Rattle.std.specs.List.{filter, flat_map};
 ghost use Rattle.chess_base.specs.MoveList.{promotions, moves};
 ghost use Rattle.chess_text.specs.Moves.{shape, one_of, reading, has_shape, IsLegalReading};
 ghost use Rattle.chess_text.specs.declared.form.Form.TheVariants.{Piece};
-ghost use Rattle.chess_text.specs.ties.Forms.{is_denoted, castling_end, end_square, denoted_with, with_move, with_moves, named_square, one_kind, squares_alone, is_denoted_by_letter, is_denoted_by_pawn, is_denoted_of, denoted_start, IsStart};
+ghost use Rattle.chess_text.specs.declared.reading.Reading.TheVariants as reads;
+ghost use Rattle.chess_text.specs.ties.Forms.{is_denoted, castling_end, end_square, denoted_with, with_move, with_moves, named_square, one_kind, is_denoted_by_letter, is_denoted_by_pawn, is_denoted_of, denoted_start, IsStart};
 ghost use Rattle.chess_text.specs.ties.Usual.{usual_kind};
 ghost use Rattle.chess_moves.specs.Sets.{members};
 
@@ -184,18 +186,6 @@ fn one_kind(parts: &Parts) -> Option<Kind>
     }
 }
 
-// The start square of the moves that these parts denote by two squares alone, as `e2e4`: without a letter, `x` and a
-// promotion; `None` for all other parts.
-#[inline(always)]
-fn squares_alone(parts: &Parts) -> Option<Square>
-    ensures { result ≡ squares_alone parts.now }
-{
-    if parts.letter.is_some() || parts.takes || parts.end.promotion.is_some() {
-        return None;
-    }
-    named_square(parts.file, parts.rank)
-}
-
 // Whether the parts, which have the letter of this kind, denote `m`, a legal move of such a piece to their end square:
 // it starts on the file and rank that they name, is a capture if they have `x`, and is not castling.
 #[inline(always)]
@@ -320,40 +310,16 @@ fn denoted_from_origins<B: Board>(board: &B, form: &Form) -> Reading
     found
 }
 
-// What a text of these parts, which denote moves by two squares alone, the first of them `from`, is read as in the
-// board's position: the move between the two if it is legal, else `NoSuch`.
-#[inline(always)]
-fn denoted_by_squares<B: Board>(board: &B, parts: &Parts, from: Square) -> Reading
-    requires { squares_alone parts.now ≡ Some from }
-    ensures { result ≡ one_of
-        (filter (λ m. is_denoted (Piece parts.now) (B.position board.now) m) (moves (B.position board.now))) }
-{
-    let m = Move {
-        from,
-        to: parts.end.to,
-        promotion: None,
-    };
-    if board.is_legal(&m) {
-        Reading::Move(m)
-    } else {
-        Reading::NoSuch
-    }
-}
-
 // What a text of this form is read as in the board's position: one legal move, several (`Ambiguous`) or none
 // (`NoSuch`).
-#[inline(always)]
 fn denoted<B: Board>(board: &B, form: &Form) -> Reading
     ensures { result ≡ one_of
         (filter (λ m. is_denoted form.now (B.position board.now) m) (moves (B.position board.now))) }
 {
-    if let Form::Piece(parts) = form {
-        if let Some(kind) = one_kind(parts) {
-            return denoted_by_kind(board, parts, kind);
-        }
-        if let Some(from) = squares_alone(parts) {
-            return denoted_by_squares(board, parts, from);
-        }
+    if let Form::Piece(parts) = form
+        && let Some(kind) = one_kind(parts)
+    {
+        return denoted_by_kind(board, parts, kind);
     }
     denoted_from_origins(board, form)
 }
@@ -373,11 +339,25 @@ fn denoted_usual<B: Board>(board: &B, parts: &Parts) -> Reading
     }
 }
 
+// The legal move whose coordinate text this is, as `e2e4` or `e7e8q`; `None` for any other text, also where it denotes
+// a move. In a session nearly each text is one, which need not be taken apart.
+fn read_coordinates<B: Board>(board: &B, text: &[u8]) -> Option<Move>
+    ensures { IfSome result (λ m. reading (B.position board.now) text.now ≡ reads.Move m) }
+{
+    let Ok(m) = Move::try_from(text) else {
+        return None;
+    };
+    if board.is_legal(&m) { Some(m) } else { None }
+}
+
 // Reads a text of any shape as a move of the board's position. Most texts are of a usual shape, so not inlined.
 #[inline(never)]
 fn read_any_move<B: Board>(board: &B, text: &[u8]) -> Reading
     ensures { result ≡ reading (B.position board.now) text.now }
 {
+    if let Some(m) = read_coordinates(board, text) {
+        return Reading::Move(m);
+    }
     let Some(form) = read_form(text) else {
         return Reading::NotAMove;
     };

@@ -1,10 +1,17 @@
-//! Texts of the usual shapes, such as `e4`, `Nf3`, `exd5`, `Nxd5` and `Nbd2`, whose parts are read at once.
+//! The texts of which games in PGN are full: `e4`, `Nf3`, `exd5`, `Nxd5` and `Nbd2`, perhaps with one mark after them.
+//! Their parts are read at once. For any text `usual_parts` may return `None`: then `read_form` reads it part by part,
+//! as it reads all other texts. Where `usual_parts` returns parts, `read_form` would read the same (`usual_form` in
+//! proofs/UsualForms).
+//!
+//! The patterns are written out, not asked of chess_base (`Square::from_letters`, `Kind::from_letter`): `verify` reads
+//! such a text each half-move, and took 4 % more instructions with these.
 
-ghost use Rattle.std.specs.Prelude.{◌≡◌};
+ghost use Rattle.std.specs.Prelude.{◌≡◌, true};
 ghost use Rattle.chess_text.specs.Parts.{unmarked};
-ghost use Rattle.chess_text.specs.ties.Usual.{parts_to, four_at, usual_at};
+ghost use Rattle.chess_text.specs.ties.Reader.{kind_from, lettered_kinds};
+ghost use Rattle.chess_text.specs.ties.Usual.{names_square, parts_to, four_at, usual_at};
 
-use crate::parts::{End, Parts, is_mark, lettered_kind};
+use crate::parts::{End, Parts, is_mark};
 use chess_base::{Kind, Square};
 
 // The text without the mark at its end, if there is one: one mark is enough for usual texts.
@@ -19,10 +26,26 @@ pub(crate) fn without_mark(text: &[u8]) -> &[u8]
     if is_mark(*last) { rest } else { text }
 }
 
-// The parts with this letter, start file and `x`, and this end square.
+// The kind of piece that a move's text names by this letter; `None` for any other byte.
 #[inline(always)]
-fn parts_to(letter: Option<Kind>, file: Option<u8>, takes: bool, to: Square) -> Parts
-    ensures { result ≡ parts_to letter file takes to }
+fn kind_of(letter: u8) -> Option<Kind>
+    ensures { result ≡ kind_from lettered_kinds letter }
+{
+    match letter {
+        b'K' => Some(Kind::King),
+        b'Q' => Some(Kind::Queen),
+        b'R' => Some(Kind::Rook),
+        b'B' => Some(Kind::Bishop),
+        b'N' => Some(Kind::Knight),
+        _ => None,
+    }
+}
+
+// The parts with this letter, start file and `x`, and the end square with this file's letter and this rank's digit.
+#[inline(always)]
+fn parts_to(letter: Option<Kind>, file: Option<u8>, takes: bool, to_file: u8, to_rank: u8) -> Parts
+    requires { names_square to_file to_rank ≡ true }
+    ensures { result ≡ parts_to letter file takes to_file to_rank }
 {
     Parts {
         letter,
@@ -30,30 +53,30 @@ fn parts_to(letter: Option<Kind>, file: Option<u8>, takes: bool, to: Square) -> 
         rank: None,
         takes,
         end: End {
-            to,
+            to: Square::new(8 * (to_rank - b'1') + (to_file - b'a')),
             promotion: None,
         },
     }
 }
 
-// The parts of a text of four bytes, as `exd5`, `Nxd5` or `Nbd2`, whose last two name the square `to`; `None` for any
-// other.
+// The parts of a text of four bytes, as `exd5`, `Nxd5` or `Nbd2`, whose last two name a square; `None` for any other.
 #[inline(always)]
-fn read_four(first: u8, second: u8, to: Square) -> Option<Parts>
-    ensures { result ≡ four_at first second to }
+fn read_four(first: u8, second: u8, to_file: u8, to_rank: u8) -> Option<Parts>
+    requires { names_square to_file to_rank ≡ true }
+    ensures { result ≡ four_at first second to_file to_rank }
 {
     if second == b'x' {
         if matches!(first, b'a'..=b'h') {
-            return Some(parts_to(None, Some(first - b'a'), true, to));
+            return Some(parts_to(None, Some(first - b'a'), true, to_file, to_rank));
         }
-        let kind = lettered_kind(first)?;
-        return Some(parts_to(Some(kind), None, true, to));
+        let kind = kind_of(first)?;
+        return Some(parts_to(Some(kind), None, true, to_file, to_rank));
     }
     if !matches!(second, b'a'..=b'h') {
         return None;
     }
-    let kind = lettered_kind(first)?;
-    Some(parts_to(Some(kind), Some(second - b'a'), false, to))
+    let kind = kind_of(first)?;
+    Some(parts_to(Some(kind), Some(second - b'a'), false, to_file, to_rank))
 }
 
 // The parts of a text of a usual shape, without marks; `None` for any other.
@@ -62,18 +85,13 @@ pub(crate) fn usual_parts(text: &[u8]) -> Option<Parts>
     ensures { result ≡ usual_at text.now }
 {
     match text {
-        [file, rank] => {
-            let to = Square::from_letters(*file, *rank)?;
-            Some(parts_to(None, None, false, to))
+        [file @ b'a'..=b'h', rank @ b'1'..=b'8'] => Some(parts_to(None, None, false, *file, *rank)),
+        [letter, file @ b'a'..=b'h', rank @ b'1'..=b'8'] => {
+            let kind = kind_of(*letter)?;
+            Some(parts_to(Some(kind), None, false, *file, *rank))
         }
-        [letter, file, rank] => {
-            let to = Square::from_letters(*file, *rank)?;
-            let kind = lettered_kind(*letter)?;
-            Some(parts_to(Some(kind), None, false, to))
-        }
-        [first, second, file, rank] => {
-            let to = Square::from_letters(*file, *rank)?;
-            read_four(*first, *second, to)
+        [first, second, file @ b'a'..=b'h', rank @ b'1'..=b'8'] => {
+            read_four(*first, *second, *file, *rank)
         }
         _ => None,
     }

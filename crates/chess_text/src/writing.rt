@@ -7,6 +7,7 @@ ghost use Rattle.chess_base.specs.declared.man.Kind.TheVariants.{Pawn};
 ghost use Rattle.chess_base.specs.Men.{same_kind};
 ghost use Rattle.chess_base.specs.MoveList.{moves};
 ghost use Rattle.chess_base.specs.Moves.{is_legal, after};
+ghost use Rattle.chess_moves.specs.Made.{WasMade};
 ghost use Rattle.chess_moves.specs.Sets.{members};
 ghost use Rattle.chess_text.specs.Parts.{when};
 ghost use Rattle.chess_text.specs.ties.Fitting.{parts_text};
@@ -16,7 +17,7 @@ ghost use Rattle.chess_text.specs.ties.SanParts.{some_on_file, some_on_rank, dis
 
 use crate::described::{Described, describe};
 use arrayvec::ArrayVec;
-use chess_base::{CastlingSide, Kind, Move, Square};
+use chess_base::{CastlingSide, Kind, Move, Saved, Square};
 use chess_moves::{Board, SquareSet};
 
 /// The SAN of a move: two to seven bytes.
@@ -203,6 +204,27 @@ pub fn add_check_mark<B: Board>(board: &B, text: &mut SanText)
     }
 }
 
+/// Makes a legal move on the board, and returns its SAN, as [`san`] writes it, and what `take_back` needs. The mark is
+/// found where the move leads, so whoever writes a game's moves one after another makes each only once.
+///
+/// ```
+/// let (text, saved) = make_san(&mut board, m);
+/// ```
+pub fn make_san<B: Board>(board: &mut B, m: Move) -> (SanText, Saved)
+    requires { IsTrue (is_legal (B.position board.old) m) }
+    ensures text { result.0.items ≡ san (B.position board.old) m }
+    ensures len { array_vec_len result.0 ≤ 7 }
+    ensures position { B.position board.new ≡ after (B.position board.old) m }
+    ensures made { WasMade (B.position board.old) m result.1 (B.position board.new) }
+{
+    // The prover wants two variables here: one move is lent, and one is given to the board.
+    let again = m;
+    let mut text = unmarked_san(board, &m);
+    let saved = board.make(again);
+    add_check_mark(board, &mut text);
+    (text, saved)
+}
+
 /// The SAN of a legal move, as `Nbxd2+`: castling as `O-O` or `O-O-O`; of a pawn for a capture its file and `x`, the
 /// end square, and for a promotion `=` and a letter; of another piece its letter, what distinguishes it from the other
 /// legal moves of such pieces to that square, `x` for a capture, and the end square; last `#` for mate, or `+` for
@@ -215,9 +237,7 @@ pub fn san<B: Board>(board: &mut B, m: Move) -> SanText
 {
     // The prover wants two variables here: each of the two calls that go forward and back is given a move.
     let again = m;
-    let mut text = unmarked_san(board, &m);
-    let saved = board.make(m);
-    add_check_mark(board, &mut text);
+    let (text, saved) = make_san(board, m);
     board.take_back(again, saved);
     text
 }

@@ -123,12 +123,6 @@ kind_by None None = Some Pawn
 abbrev pub one_kind : Parts → Option Kind
 one_kind q = if is_some q.end.promotion then None else kind_by q.letter (named_square q.file q.rank)
 
--- the start square of the moves that these parts denote by two squares alone, as e2e4: without a letter, `x` and a
--- promotion; none for all other parts
-abbrev pub squares_alone : Parts → Option ℕ
-squares_alone q =
-    if is_some q.letter || q.takes || is_some q.end.promotion then None else named_square q.file q.rank
-
 -- the parts q, which have the letter of kind k, denote m, a legal move of such a piece to their end square: it starts
 -- on the file and rank that they name, is a capture if they have `x`, and is not castling
 abbrev pub is_denoted_by_letter : Parts → Setup → Kind → Move → Bool

@@ -4,10 +4,10 @@ use Rattle.chess_text.proofs.CoordinateLaw.{coordinate_alone, coordinate_shape, 
 use Rattle.chess_text.proofs.laws.coordinate_denotes_its_move.Goals as goal
 
 pub returns-clause-denotes : goal.returns-clause-denotes
-returns-clause-denotes c = coordinate_alone
+returns-clause-denotes c = λ p m sound legal. coordinate_alone p m legal
 
 pub returns-clause-shape : goal.returns-clause-shape
-returns-clause-shape c = coordinate_shape
+returns-clause-shape c = λ p m sound legal. coordinate_shape p m legal
 
 pub returns-clause-read_back : goal.returns-clause-read_back
-returns-clause-read_back c = coordinate_read
+returns-clause-read_back c = λ p m sound legal. coordinate_read p m legal

@@ -4,9 +4,9 @@ use Rattle.std.proofs.Common.{sym, ◌∙◌}
 use Rattle.chess_text.proofs.FormFacts.{reading_denoted, reading_nothing}
 use Rattle.chess_text.proofs.reading.read_any_move.Goals as goal
 
-pub returns-in_default : goal.returns-in_default
-returns-in_default g c = reading_nothing _ c.args.text.now (sym c.in_default.ensures)
+pub returns-in_default-read_form : goal.returns-in_default-read_form
+returns-in_default-read_form g c = reading_nothing _ c.args.text.now (sym c.in_default-read_form.ensures)
 
 pub returns : goal.returns
 returns g c = c.denoted.ensures ∙ reading_denoted (g.B.Board.position c.args.board.now) c.args.text.now
-    c.in-Some.form (sym c.in-Some.ensures)
+    c.in-Some-read_form.form (sym c.in-Some-read_form.ensures)

@@ -1,7 +1,7 @@
 -- The mark is that of the position that the move gives.
 use Rattle.std.proofs.Common.{ap, ◌++◌, ◌∙◌}
 use Rattle.chess_text.specs.San.{check_mark}
-use Rattle.chess_text.proofs.writing.san.Goals as goal
+use Rattle.chess_text.proofs.writing.make_san.Goals as goal
 
 pub returns-clause-text : goal.returns-clause-text
 returns-clause-text g c =
