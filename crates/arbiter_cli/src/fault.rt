@@ -1,5 +1,7 @@
 //! Why arguments ask for nothing.
 
+ghost use Rattle.std.specs.Prelude.{◌≡◌};
+ghost use Rattle.arbiter_cli.specs.declared.fault.WordsFault.TheVariants.{BadFen};
 ghost use Rattle.arbiter_cli.specs.ties.Requests.{Refuses};
 
 use chess_base::FenFault;
@@ -24,6 +26,14 @@ pub enum WordsFault {
     /// The date of a match has more than 60 bytes, or one outside 32 to 126.
     #[error("bad date")]
     BadDate,
+}
+
+impl From<FenFault> for WordsFault {
+    ghost from_gives = { λ fen fault. fault ≡ BadFen fen };
+
+    fn from(fault: FenFault) -> WordsFault {
+        WordsFault::BadFen(fault)
+    }
 }
 
 // How an error of `clap` is reported: as out of memory if it is that, else as the error itself.

@@ -89,10 +89,7 @@ fn validate<'a>(request: &MatchRequest<'a>) -> Result<MatchPlan<'a>, WordsFault>
     let Some(level) = Level::read(request.level.as_bytes()) else {
         return Err(WordsFault::BadLevel);
     };
-    let start = match start_of(request.variant, request.fen) {
-        Ok(start) => start,
-        Err(fault) => return Err(WordsFault::BadFen(fault)),
-    };
+    let start = start_of(request.variant, request.fen)?;
     if !is_date(request.date) {
         return Err(WordsFault::BadDate);
     }

@@ -5,9 +5,10 @@ ghost use Rattle.byte_devices.specs.Devices.{Sends};
 ghost use Rattle.byte_devices.specs.Transfers.{Ran};
 ghost use Rattle.chess_cecp.specs.Served.{Served};
 ghost use Rattle.chess_cecp.specs.Session.{session_response};
+ghost use Rattle.chess_cecp.specs.declared.run.Fault.TheVariants.{Read, Write};
 
 use crate::session::{COMMAND_LEN, Go, Session};
-use byte_devices::{Input, Output, WriteFault};
+use byte_devices::{Input, Output, ReadFault, WriteFault};
 use chess_moves::Board;
 use text_lines::{Line, Lines};
 
@@ -27,6 +28,22 @@ pub enum Fault {
     Read,
     #[error("a write or a flush failed")]
     Write,
+}
+
+impl From<ReadFault> for Fault {
+    ghost from_gives = { λ _ fault. fault ≡ Read };
+
+    fn from(_fault: ReadFault) -> Fault {
+        Fault::Read
+    }
+}
+
+impl From<WriteFault> for Fault {
+    ghost from_gives = { λ _ fault. fault ≡ Write };
+
+    fn from(_fault: WriteFault) -> Fault {
+        Fault::Write
+    }
 }
 
 /// Answers lines one after another: a session, or the stub of stub_engine.
@@ -84,15 +101,12 @@ pub fn serve_lines<R: Input, W: Output, S: LineServer>(
     let mut lines: Lines<COMMAND_LEN> = Lines::new();
     let mut line = Line::new();
     loop {
-        match lines.read_line(reader, &mut line) {
-            Ok(true) => {}
-            Ok(false) => return Ok(End::InputEnded),
-            Err(_) => return Err(Fault::Read),
+        if !lines.read_line(reader, &mut line)? {
+            return Ok(End::InputEnded);
         }
-        match server.answer_line(&line, writer) {
-            Ok(Go::On) => {}
-            Ok(Go::Quit) => return Ok(End::Quit),
-            Err(_) => return Err(Fault::Write),
+        match server.answer_line(&line, writer)? {
+            Go::On => {}
+            Go::Quit => return Ok(End::Quit),
         }
         if !line.is_ended() {
             return Ok(End::InputEnded);

@@ -438,14 +438,14 @@ impl<B: Board> Session<B> {
                 send(writer, answer.as_slice())?;
                 Ok(go)
             }
-            Reply::Moves => match self.send_moves(writer) {
-                Ok(()) => Ok(Go::On),
-                Err(fault) => Err(fault),
-            },
-            Reply::Pgn => match self.send_pgn(writer) {
-                Ok(()) => Ok(Go::On),
-                Err(fault) => Err(fault),
-            },
+            Reply::Moves => {
+                self.send_moves(writer)?;
+                Ok(Go::On)
+            }
+            Reply::Pgn => {
+                self.send_pgn(writer)?;
+                Ok(Go::On)
+            }
         }
     }
 }

@@ -1,10 +1,10 @@
 -- What was read of an input, piece by piece.
-use Rattle.std.proofs.Common.{◌≡◌, ◌≤◌, ◌<◌, ◌-◌, ◌==◌, nat_eq, length-append, ◌∙◌, ℕ, List, [], ◌++◌, length, take, Result, Ok, Err, is_ok, is_err, false, if◌then◌else◌, refl, ap, subst, append-nil, arith}
+use Rattle.std.proofs.Common.{◌≡◌, ◌≤◌, ◌<◌, ◌-◌, ◌==◌, nat_eq, length-append, ◌∙◌, ℕ, List, [], ◌++◌, length, take, false, if◌then◌else◌, refl, ap, subst, append-nil, arith}
 use Rattle.std.proofs.lemmas.List.{length-take-le}
 use Rattle.std.specs.Io.KnownBytes.{Consumes}
-use Rattle.byte_devices.specs.Devices.{InputState, GavePiece, FailedToRead, risen}
-use Rattle.byte_devices.proofs.shared.Devices.{consumes_more, consumes_kept}
-use Rattle.pgn_verifier.specs.declared.fault.VerifyFault.TheVariants.{ReadFailed, NoMemory, InputTooLong}
+use Rattle.byte_devices.specs.Devices.{InputState, GavePiece, risen}
+use Rattle.byte_devices.proofs.shared.Devices.{consumes_more}
+use Rattle.pgn_verifier.specs.declared.fault.VerifyFault.TheVariants.{NoMemory, InputTooLong}
 use Rattle.pgn_pieces.specs.Pieces.{HasRead}
 use Rattle.pgn_verifier.specs.ties.OnTheWay.{IsAll, IsNotAll}
 
@@ -22,20 +22,6 @@ all_read r r' r'' text buf n front few gave is =
       },
       few,
     )
-
--- a read failed
-pub read_failed : (r r' r'' : InputState) (text : List ℕ) → HasRead false r r' text → FailedToRead r' r''
-    → IsNotAll r r'' ReadFailed
-read_failed r r' r'' text front failed = (
-  text,
-  record {
-    bytes = subst (Consumes r.known_bytes r''.known_bytes) (append-nil text)
-        (consumes_more r.known_bytes r'.known_bytes r''.known_bytes text [] front.bytes
-        (consumes_kept r'.known_bytes r''.known_bytes failed.bytes));
-    failures = failed.failures ∙ ap risen front.failures;
-    ends = failed.ends ∙ front.ends;
-  },
-)
 
 not_ended : (a b n : ℕ) (buf : List ℕ) → 0 < n → n ≤ length buf → a ≡ (if length (take n buf) == 0 then risen b else b)
     → a ≡ b
@@ -73,12 +59,6 @@ too_long r r' r'' text buf n len front gave is few past within =
       omega
           (arith, all, some, is, few, past),
     )
-
--- an extension that did not fail
-pub pushed : {A E : Type 0} (r : Result A E) (xs ys zs : List ℕ) → is_err r ≡ false → zs ≡ (if is_ok r then ys else xs)
-    → zs ≡ ys
-pushed (Ok v) xs ys zs h e = e
-pushed (Err v) xs ys zs h e = cc
 
 -- a piece that fits leaves no more bytes than may be read
 pub still_few : (text buf : List ℕ) (n len : ℕ) → len ≡ length text → length text ≤ 16777216 → n ≤ 16777216 - len

@@ -1,6 +1,6 @@
 mod CollectionVerified
+mod FaultsInText
 mod Finished
-mod GamesJudged
 mod InputRead
 mod LinesWritten
 mod Placed

@@ -109,25 +109,6 @@ fn finish<W: Output>(output: &mut W, tally: Tally) -> Result<(), WriteFault>
     output.flush()
 }
 
-// Reads the games of all pieces of the input, writes their lines and the line of counts, and flushes the output;
-// returns whether each game is without a fault. `game` is only room for the games that are read.
-fn verify_all<R: Input, W: Output>(
-    options: VerifyOptions,
-    pieces: &mut PgnPieces,
-    game: &mut Game<Bits<'_>>,
-    input: &mut R,
-    output: &mut W,
-) -> Result<Verified, VerifyFault>
-    requires opened { pieces.old ≡ unread }
-    requires limit { game.old.limit ≡ MOST_MOVES }
-    ensures { Ran (VerifiesCollection options result) (record { input = R.seen input.old; output = W.seen output.old })
-        (record { input = R.seen input.new; output = W.seen output.new }) }
-{
-    let tally = verify_pieces(options, pieces, game, input, output)?;
-    finish(output, tally)?;
-    Ok(tally.verified())
-}
-
 /// Reads the games of an input of any length and writes a line for each, as `verify` does. The input is cut into
 /// pieces, and each is read as a text of its own: a fault ends only its piece. A piece begins at the input's first
 /// byte, at each tag line after a line of moves, and at an Event tag line if the piece so far already has one. A piece
@@ -153,5 +134,7 @@ pub fn verify_collection<R: Input, W: Output>(
     let tables = AttackTables::open(alloc)?;
     let mut game = open_game(alloc, &tables)?;
     let mut pieces = PgnPieces::open(alloc)?;
-    verify_all(options, &mut pieces, &mut game, input, output)
+    let tally = verify_pieces(options, &mut pieces, &mut game, input, output)?;
+    finish(output, tally)?;
+    Ok(tally.verified())
 }

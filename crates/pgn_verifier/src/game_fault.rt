@@ -29,16 +29,6 @@ pub(crate) struct GameFault {
 }
 
 impl GameFault {
-    // A fault of reading the PGN text, as a fault of the game: the same byte, the same kind.
-    pub(crate) fn of_pgn(fault: PgnFault) -> Self
-        ensures { result ≡ record { kind = Pgn fault.kind; offset = fault.offset } }
-    {
-        GameFault {
-            kind: FaultKind::Pgn(fault.kind),
-            offset: fault.offset,
-        }
-    }
-
     // The same fault, with its offset counted from the input's first byte; the game's text begins at `start` there.
     pub(crate) fn moved(self, start: usize) -> Self
         requires { start + self.offset < 2 ^ 64 }
@@ -47,6 +37,18 @@ impl GameFault {
         GameFault {
             kind: self.kind,
             offset: start + self.offset,
+        }
+    }
+}
+
+impl From<PgnFault> for GameFault {
+    ghost from_gives = { λ pgn fault. fault ≡ record { kind = Pgn pgn.kind; offset = pgn.offset } };
+
+    // The same kind, at the same byte.
+    fn from(fault: PgnFault) -> GameFault {
+        GameFault {
+            kind: FaultKind::Pgn(fault.kind),
+            offset: fault.offset,
         }
     }
 }

@@ -51,13 +51,12 @@ fn judge_game(
     // The prover wants these laws: where faults are, and that a half-move has a byte.
     faults_have_offsets();
     half_moves_have_bytes();
-    match read_pgn(text, at, game) {
-        Ok(None) => Ok(None),
-        Ok(Some(end)) => match contradiction(strict, text, at, game, end) {
-            Some(fault) => Err(fault),
-            None => Ok(Some(end)),
-        },
-        Err(fault) => Err(GameFault::of_pgn(fault)),
+    let Some(end) = read_pgn(text, at, game)? else {
+        return Ok(None);
+    };
+    match contradiction(strict, text, at, game, end) {
+        Some(fault) => Err(fault),
+        None => Ok(Some(end)),
     }
 }
 

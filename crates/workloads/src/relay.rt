@@ -43,7 +43,7 @@ fn play(alloc: Global, script: &Script, level: Level, game: &mut Game<Bits<'_>>)
 /// Plays the match of a script so many times, and returns how many half-moves these matches have in all.
 ///
 /// # Errors
-/// If `0 60 0` denoted no level, which it does.
+/// None: `0 60 0` denotes a level.
 pub fn relay(
     alloc: Global,
     times: u32,

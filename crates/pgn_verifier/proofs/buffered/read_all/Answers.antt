@@ -1,6 +1,6 @@
 -- The text so far is what was read: a piece more, the end, or a piece too long. `pieces_left` falls with each.
-use Rattle.std.proofs.Common.{◌≡◌, ◌<◌, ◌∙◌, ◌++◌, length, take, false, is_err, sym, arith}
-use Rattle.pgn_verifier.proofs.InputRead.{all_read, more_read, no_room, too_long, pushed, still_few}
+use Rattle.std.proofs.Common.{◌≡◌, ◌<◌, ◌++◌, length, take, arith}
+use Rattle.pgn_verifier.proofs.InputRead.{all_read, more_read, no_room, too_long, still_few}
 use Rattle.std.proofs.lemmas.Result.{err_from_is_err_and}
 use Rattle.pgn_verifier.proofs.buffered.read_all.Goals as goal
 use Rattle.pgn_pieces.proofs.shared.Inputs.{nothing_read}

@@ -1,6 +1,6 @@
--- Both faults are in the text (GamesJudged.first_found).
+-- Both faults are in the text (FaultsInText.first_found).
 use Rattle.std.proofs.Common.{length}
-use Rattle.pgn_verifier.proofs.GamesJudged.{first_found}
+use Rattle.pgn_verifier.proofs.FaultsInText.{first_found}
 use Rattle.pgn_verifier.proofs.contradiction.contradiction.Goals as goal
 
 pub returns-clause-within : goal.returns-clause-within
