@@ -378,7 +378,7 @@ impl<B: Board> Game<B> {
         self.played_moves.len()
     }
 
-    /// The half-move number `ply`, counted from 0.
+    /// The half-move at index `ply`: 0 is the first.
     pub fn move_at(&self, ply: usize) -> Move
         requires { ply < length self.now.state.moves }
         ensures { slice_get self.now.state.moves ply ≡ Some result }
@@ -427,8 +427,8 @@ impl<B: Board> Game<B> {
         repetitions(self.played_moves.as_slice())
     }
 
-    /// By what the player on move may claim a draw: the position is there for the third time, or 50 moves of each side
-    /// without a pawn move or capture.
+    /// By what the player on move may claim a draw: the position is there for at least the third time, or each side
+    /// has made at least 50 moves without a pawn move or capture.
     pub fn claims(&self) -> Claims
         ensures { result ≡ claims self.now.state.start self.now.state.moves }
     {
@@ -446,8 +446,8 @@ impl<B: Board> Game<B> {
         verdict_on(&self.board, self.played_moves.as_slice())
     }
 
-    /// The verdict on the game, given that `m` is a legal move of the present position: so neither mate nor stalemate
-    /// has to be looked for.
+    /// The verdict on the game as it is. `m`, a legal move of the present position, is not played: it only shows that
+    /// neither mate nor stalemate has to be looked for.
     #[inline(always)]
     pub fn verdict_of_moving(&self, m: &Move) -> Option<Verdict>
         requires { IsTrue (is_legal (current self.now.state) m.now) }
@@ -507,8 +507,8 @@ impl<B: Board> Game<B> {
         self.refusal_by(self.is_over())
     }
 
-    /// Why no move at all is played, given that `m` is a legal move of the present position, so that neither mate nor
-    /// stalemate has to be looked for: the game is over, or it is full; `None` if a move may be played.
+    /// Why no move at all is played: the game is over, or it is full; `None` if a move may be played. `m`, a legal move
+    /// of the present position, is not played: it only shows that neither mate nor stalemate has to be looked for.
     #[inline(always)]
     pub fn refusal_of_moving(&self, m: &Move) -> Option<PlayRefusal>
         requires { IsTrue (is_legal (current self.now.state) m.now) }

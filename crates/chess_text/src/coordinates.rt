@@ -26,8 +26,8 @@ fn castling_name(castling_side: CastlingSide) -> CoordinateText
     text
 }
 
-/// The text of a move as lists of moves show it: its coordinate text, as `e2e4`, but `O-O` or `O-O-O` for castling in
-/// Chess960.
+/// The text of a move in CECP, in lists of legal moves and to an engine: its coordinate text, such as `e2e4`, but `O-O`
+/// or `O-O-O` for castling in Chess960.
 #[tactic(auto, unfolding(crate::specs::San::shown_move))]
 pub fn move_text(position: &Position, m: Move) -> CoordinateText
     ensures text { result.items ≡ shown_move position.now m }

@@ -36,17 +36,17 @@ pub fn coordinate_denotes_its_move()
     ensures read_back { CoordinateIsReadBack }
 {}
 
-/// A law: the contract says it, and the function does nothing. The text by which lists of moves show a legal move of a
-/// sound position, castling in Chess960 too, denotes that move and no other legal move, and is read as it.
+/// A law: the contract says it, and the function does nothing. The `move_text` of a legal move of a sound position,
+/// castling in Chess960 too, denotes that move and no other legal move, and is read as it.
 pub fn move_text_denotes_its_move()
     ensures denotes { ShownMoveDenotesItsMove }
     ensures shape { ShownMoveHasShape }
     ensures read_back { ShownMoveIsReadBack }
 {}
 
-/// A law: the contract says it, and the function does nothing. A text is read as exactly those parts
-/// (`[letter][file][rank][x]square[[=]promotion]`) from which it would be written. So the definitions, which look for a
-/// text's parts in a list of all parts, say no more and no less than that the text is written from such parts.
+/// A law: the contract says it, and the function does nothing. A text is read as some parts exactly if these parts,
+/// written out as `[letter][file][rank][x]square[[=]promotion]`, give the text. So the search through the list of all
+/// parts, by which reading is defined, misses none and adds none.
 pub fn texts_have_parts()
     ensures read { PartsAreTheTexts }
     ensures written { PartsAreRead }

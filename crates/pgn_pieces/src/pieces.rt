@@ -161,8 +161,9 @@ impl PgnPieces {
         self.len = 0;
     }
 
-    // Looks for the current piece's end in the bytes that were read after it, and adds the bytes up to there to the
-    // piece. Returns whether the end was found; if not, all but those of a line whose kind is not known yet are added.
+    // Looks for the current piece's end in the bytes that were read after it, adds those up to there to the piece, and
+    // returns whether it was found. If not, it adds all but a last line that is still too short to tell whether it
+    // begins the next piece. `seen` is what is known of the piece's lines so far.
     fn find_end(&mut self, seen: &mut Seen) -> bool
         ensures { FindsEnd self.old self.new seen.old seen.new result }
     {

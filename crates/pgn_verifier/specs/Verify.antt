@@ -13,9 +13,10 @@ use Rattle.pgn_verifier.specs.Reports.{reports_on, report_lines, counts_of, veri
 abbrev pub text_lines : VerifyOptions → List ℕ → List ℕ
 text_lines options text = report_lines options text 1 (reports_on options.strict 0 text)
 
--- what verifying a text reads and writes, by its result. The whole input was read, of at most 16,777,216 bytes, and its
--- lines were written and flushed; or a write or the flush failed, and a beginning of them was written. Or a read
--- failed, memory ran out or the input was longer, and nothing was written
+-- what verifying a text reads and writes, by its result. `Ok`: the whole input was read, of at most `PIECE_LEN`
+-- (16,777,216) bytes, its lines were written and flushed, and the verdict is that on its games. `WriteFailed`: the same
+-- was read, but a write or the flush failed after a beginning of the lines. In the other three cases (a read failed;
+-- memory ran out, before or at the input's end; the input is longer) nothing was written
 abbrev pub Verifies : VerifyOptions → Result Verified VerifyFault → FromInput → ToOutput → Type 0
 Verifies options (Ok verdict) i o = IsWhole i × (length i.text ≤ PIECE_LEN) × (o ≡ all_of (text_lines options i.text))
     × (verdict ≡ verified (counts_of (reports_on options.strict 0 i.text)))
