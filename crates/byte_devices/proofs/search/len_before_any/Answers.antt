@@ -8,7 +8,7 @@ pub loop-offset-preserved : goal.loop-offset-preserved
 loop-offset-preserved c =
     let l = c.loop-offset in
     let room = c.loop-offset-test.true in
-    let on = passed (is_any c.args.a c.args.b c.args.c) c.args.bytes.now l.offset 32
+    let on = passed (is_any c.args.a c.args.b c.args.c) c.args.bytes.now l.offset 16
     (omega (arith, l.invariant.within, room)) c.mask_of_block-mask.result c.mask_of_block-mask.ensures
     c.if-mask-ne0.false in
     record {
@@ -19,7 +19,7 @@ loop-offset-preserved c =
 pub returns-then-mask-ne0-clause-count : goal.returns-then-mask-ne0-clause-count
 returns-then-mask-ne0-clause-count c =
     let l = c.loop-offset in
-    let at = found (is_any c.args.a c.args.b c.args.c) c.args.bytes.now l.offset 32
+    let at = found (is_any c.args.a c.args.b c.args.c) c.args.bytes.now l.offset 16
     (omega (arith, l.invariant.within, c.loop-offset-test.true)) c.mask_of_block-mask.result
     c.mask_of_block-mask.ensures c.if-mask-ne0.true (omega arith) in
     omega (arith, at, l.invariant.none)
