@@ -1,3 +1,4 @@
 pub mod shared
+mod Blocks
 mod Decimals
 mod Unflushed

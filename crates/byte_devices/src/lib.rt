@@ -1,5 +1,5 @@
 //! What gives bytes and what takes them: readers and writers whose contracts fix their bytes and count their failures;
-//! and buffers, in which a text is put together before it is written.
+//! buffers, in which a text is put together before it is written; and a search for bytes.
 //!
 //! A reader that gives pieces of three bytes, and a writer into memory:
 //!
@@ -16,10 +16,12 @@ mod buffers;
 mod counted;
 mod gated;
 mod memory;
+mod search;
 mod traits;
 
 pub use buffers::{append, append_number};
 pub use counted::Counted;
 pub use gated::{GatedReader, GatedWriter};
 pub use memory::{PieceReader, PieceWriter};
+pub use search::{len_before, len_before_any};
 pub use traits::{Input, Output, ReadFault, WriteFault, put, put_parts, send};

@@ -2,7 +2,7 @@ ghost use Rattle.std.specs.Prelude.{◌≤◌, IfOk};
 
 use byte_devices::{
     Counted, GatedReader, GatedWriter, Input, Output, PieceReader, PieceWriter, ReadFault,
-    WriteFault, put, put_parts,
+    WriteFault, len_before, len_before_any, put, put_parts,
 };
 use std::cell::Cell;
 use std::fmt::Debug;
@@ -223,6 +223,23 @@ fn flushes(rt: &impl Abort, answer: Option<usize>, wanted: Result<(), WriteFault
 fn a_flush_is_one_flush_of_the_device(rt: HostRuntime) {
     flushes(&rt, Some(1), Ok(()));
     flushes(&rt, None, Err(WriteFault));
+}
+
+// So many bytes come before the first brace, and before the first of three bytes.
+fn is_found(rt: &impl Abort, bytes: &[u8], len: usize) {
+    is_equal(rt, &len_before(bytes, b'}'), &len);
+    is_equal(rt, &len_before_any(bytes, b'"', b'}', b'\n'), &len);
+}
+
+// A byte is found at each place of two blocks and after them; where it isn't, all bytes are counted.
+#[test]
+fn a_byte_is_found_at_each_place(rt: HostRuntime) {
+    for len in 0..80 {
+        let mut bytes = [b'x'; 80];
+        is_found(&rt, &bytes[..len], len);
+        bytes[len] = b'}';
+        is_found(&rt, &bytes, len);
+    }
 }
 
 // A call at the gate, and what becomes of it.

@@ -1,13 +1,10 @@
 -- Lines and comments that are skipped.
-use Rattle.std.proofs.Common.{◌≡◌, ◌≢◌, ℕ, zero, suc, ◌+◌, ◌-◌, ◌≤◌, Bool, true, false, not, cond, eqb, List, [], ◌∷◌, length, map, get_or, take, drop, Option, refl, sym, ap, ◌∙◌, arith}
+use Rattle.std.proofs.Common.{◌≡◌, ℕ, suc, ◌+◌, ◌-◌, ◌<◌, ◌≤◌, Bool, true, false, not, cond, eqb, List, [], ◌∷◌, length, get_or, take, drop, add-one, Option, Some, None, refl, sym, ap, ◌∙◌, arith}
 use Rattle.std.specs.Prelude.{◌==◌}
 use Rattle.std.specs.List.{position_or_len}
+use Rattle.std.proofs.Math.Seq.{drop-cons}
 use Rattle.std.proofs.lemmas.Bool.Decides.{nat_tests}
-use Rattle.std.proofs.lemmas.List.{take_rest}
-use Rattle.std.proofs.lemmas.List.Sums.{prefix_len-le-length}
-use Rattle.std.proofs.lemmas.Simd.{leading_from_mask_l, trailing_mask_l}
-use lib.Count.{count_trailing_zeros}
-use lib.Lanes.{mask_l}
+use Rattle.std.proofs.lemmas.List.{drop_all, take_rest}
 use Rattle.chess_pgn.specs.Tokens.{line_end, is_white_space, after_brace, after_gap}
 
 -- the end of a line whose first byte is not 10
@@ -54,43 +51,41 @@ gap_blank_more begins (c ∷ rest) next h e is =
     gap_blank true c rest line blank = rw (line, blank) refl
     gap_blank false c rest line blank = rw blank refl
 
--- from the first closing brace of the first n bytes on, or after all n
-pub skip_before_brace : (n : ℕ) (text : List ℕ)
-    → after_brace (drop (position_or_len (λ c. c == 125) (take n text)) text) ≡ after_brace text
-skip_before_brace zero text = refl
-skip_before_brace (suc n) [] = refl
-skip_before_brace (suc n) (c ∷ rest) = by_test (eqb c 125) refl (skip_before_brace n rest)
+-- ---- comments
+
+-- how many bytes come before the first closing brace; all, if there is none
+abbrev brace_len : List ℕ → ℕ
+brace_len text = position_or_len (λ c. c == 125) text
+
+abbrev without_first : List ℕ → Option (List ℕ)
+without_first [] = None
+without_first (c ∷ rest) = Some rest
+
+from_brace : (text : List ℕ) → after_brace text ≡ without_first (drop (brace_len text) text)
+from_brace [] = refl
+from_brace (c ∷ rest) = by_test (eqb c 125) refl (from_brace rest)
   where
-    before : List ℕ → ℕ
-    before xs = position_or_len (λ b. b == 125) xs
+    past : ℕ → Option (List ℕ)
+    past k = without_first (drop k (c ∷ rest))
 
-    by_test : (t : Bool) → eqb c 125 ≡ t → after_brace (drop (before (take n rest)) rest) ≡ after_brace rest
-        → after_brace (drop (before (take (suc n) (c ∷ rest))) (c ∷ rest)) ≡ after_brace (c ∷ rest)
-    by_test true e on = ap (λ t. after_brace (drop (cond (not t) (1 + before (take n rest)) 0) (c ∷ rest))) e
+    by_test : (t : Bool) → eqb c 125 ≡ t → after_brace rest ≡ without_first (drop (brace_len rest) rest)
+        → after_brace (c ∷ rest) ≡ past (brace_len (c ∷ rest))
+    by_test true e on =
+        ap (λ t. cond t (Some rest) (after_brace rest)) e
+        ∙ sym (ap (λ t. past (cond (not t) (1 + brace_len rest) 0)) e)
     by_test false e on =
-        let front : before (take (suc n) (c ∷ rest)) ≡ 1 + before (take n rest) =
-        ap (λ t. cond (not t) (1 + before (take n rest)) 0) e in
-        let up : 1 + before (take n rest) ≡ suc (before (take n rest)) = omega arith in
-        ap (λ k. after_brace (drop k (c ∷ rest))) (front ∙ up) ∙ on ∙ sym (rw e refl)
+        let up : 1 + brace_len rest ≡ suc (brace_len rest) = omega arith in
+        ap (λ t. cond t (Some rest) (after_brace rest)) e ∙ on
+        ∙ sym (ap (λ t. past (cond (not t) (1 + brace_len rest) 0)) e ∙ ap past up)
 
--- the rest of a text from there on
-pub from_brace : (xs rest : List ℕ) (r : ℕ) → r ≡ position_or_len (λ c. c == 125) (take 32 xs) → rest ≡ drop r xs
-    → (after : Option (List ℕ)) → after_brace xs ≡ after → after_brace rest ≡ after
-from_brace xs rest r is cut after so = ap after_brace (cut ∙ ap (λ k. drop k xs) is) ∙ skip_before_brace 32 xs ∙ so
+pub no_brace : (text : List ℕ) (len : ℕ) → len ≡ brace_len text → len ≡ length text → None ≡ after_brace text
+no_brace text len is all =
+    sym (from_brace text ∙ ap without_first (drop_all (brace_len text) text (omega (arith, is, all))))
 
-pub few_before : (xs : List ℕ) (r : ℕ) → r ≡ position_or_len (λ c. c == 125) xs → length xs ≡ 32 → r ≤ 32
-few_before xs r is long =
-    let few = prefix_len-le-length (λ x. not (eqb x 125)) xs in omega (arith, few, is, long)
-
--- the same by a mask, in which a bit is set for each closing brace of 32 bytes: none is set
-pub no_brace : (xs : List ℕ) (mask : ℕ) → mask ≡ mask_l (map (λ x. eqb x 125) xs) → length xs ≡ 32 → mask ≡ 0
-    → 32 ≡ position_or_len (λ c. c == 125) xs
-no_brace xs mask is long none =
-    sym (leading_from_mask_l (λ x. eqb x 125) xs (sym is ∙ none) ∙ long)
-
--- one is set: the lowest is that of the first
-pub some_brace : (xs : List ℕ) (mask : ℕ) → mask ≡ mask_l (map (λ x. eqb x 125) xs) → length xs ≡ 32 → mask ≢ 0
-    → count_trailing_zeros 64 mask ≡ position_or_len (λ c. c == 125) xs
-some_brace xs mask is long some =
-    ap (λ m. count_trailing_zeros 64 m) is ∙ trailing_mask_l (λ x. eqb x 125) 64 xs (omega (arith, long))
-    (omega (arith, is, some))
+-- the text after the brace, as code meets it
+pub brace_found : (text : List ℕ) (len : ℕ) → len ≡ brace_len text → len < length text
+    → Some (take (length text - (len + 1)) (drop (len + 1) text)) ≡ after_brace text
+brace_found text len is within =
+    ap (λ (xs : List ℕ). Some xs) (take_rest text (len + 1) ∙ ap (λ k. drop k text) (add-one len))
+    ∙ sym (from_brace text ∙ ap (λ k. without_first (drop k text)) (sym is)
+    ∙ ap without_first (drop-cons text len 0 within))

@@ -1,16 +1,16 @@
 //! Reading a tag.
 
-ghost use Rattle.std.specs.Prelude.{◌≡◌, ◌+◌, ◌≤◌, drop, false, length, take, take_while, Option};
-ghost use Rattle.std.specs.List.{position_or_len, prefix_len};
+ghost use Rattle.std.specs.Prelude.{◌≡◌, drop, false, take_while, Option};
+ghost use Rattle.std.specs.List.{prefix_len};
 ghost use Rattle.std.specs.Option.{option_map};
 ghost use Rattle.text_lines.specs.Words.{is_name_byte};
-ghost use Rattle.chess_pgn.specs.Tokens.{is_white_space, after_next, onto, string_at};
-ghost use Rattle.chess_pgn.specs.ties.TagParts.{ends_plain, tag_by_parts};
+ghost use Rattle.chess_pgn.specs.Tokens.{is_white_space, after_next, string_at};
+ghost use Rattle.chess_pgn.specs.ties.TagParts.{tag_by_parts};
 ghost use Rattle.chess_pgn.specs.ties.Seen.{tag_seen};
 
 use crate::bytes::is_name_byte;
 use crate::skips::after_gap;
-use std::simd::prelude::*;
+use byte_devices::len_before_any;
 
 /// A tag: of `[Event "a"]` the name `Event`, the text `a` (with its backslashes), and the number of bytes from that
 /// `a` to the text's end, by which its offset is known.
@@ -50,54 +50,14 @@ fn after_next(byte: u8, text: &[u8]) -> Option<&[u8]>
     }
 }
 
-// How many bytes of a string are searched for its end at a time.
-const BLOCK_LEN: usize = 16;
-
-// How many of the 16 bytes from `offset` on come before the first quote, backslash or line end among them; 16, if none
-// is among them.
-#[inline(always)]
-fn plain_in_block(text: &[u8], offset: usize) -> usize
-    requires { offset + 16 ≤ length text.now }
-    ensures count { result ≡ position_or_len ends_plain (take 16 (drop offset text.now)) }
-    ensures few { result ≤ 16 }
-{
-    let block = u8x16::from_slice(&text[offset..]);
-    let stops = block.simd_eq(u8x16::splat(b'"'))
-        | block.simd_eq(u8x16::splat(b'\\'))
-        | block.simd_eq(u8x16::splat(b'\n'));
-    let mask = stops.to_bitmask();
-    if mask == 0 {
-        BLOCK_LEN
-    } else {
-        mask.trailing_zeros() as usize
-    }
-}
-
-// The offset of the first quote, backslash or line end in the blocks of 16 bytes with which a text begins; if none has
-// one, that after them.
-#[inline(always)]
-fn plain_blocks(text: &[u8]) -> usize
-    ensures within { result ≤ length text.now }
-    ensures string { onto (take result text.now) (string_at (drop result text.now)) ≡ string_at text.now }
-{
-    let mut offset = 0;
-    while text.len() - offset >= BLOCK_LEN {
-        let len = plain_in_block(text, offset);
-        offset += len;
-        if len < BLOCK_LEN {
-            return offset;
-        }
-    }
-    offset
-}
-
 // Splits a text after a string's opening quote: the string's bytes, and the text after its closing quote; `None` if
 // the line or the text ends first. A backslash keeps the next byte from ending the string.
 pub(crate) fn split_string(text: &[u8]) -> Option<(&[u8], &[u8])>
     ensures { option_map (λ r. (r.0.now, r.1.now)) result ≡ string_at text.now }
 {
     let mut is_kept = false;
-    let mut offset = plain_blocks(text);
+    // Mostly there is no backslash: then these are all of the string's bytes.
+    let mut offset = len_before_any(text, b'"', b'\\', b'\n');
     while offset < text.len() {
         let byte = text[offset];
         if byte == b'\n' {

@@ -962,8 +962,8 @@ fn comment_is_skipped<B: Board>(
     Ok(())
 }
 
-// A comment's end is looked for by 32 bytes at a time, and byte by byte where fewer are left: it is found at each place
-// in a block, and among the last bytes.
+// A comment's end is looked for by blocks of bytes, and byte by byte where fewer are left: it is found at each place in
+// a block, and among the last bytes.
 #[test]
 fn comments_of_up_to_99_bytes_are_skipped(rt: HostRuntime) -> Result<(), Fail> {
     let mut game = Game::open(rt.alloc(), Plain::new(), 100)?;
@@ -1035,7 +1035,7 @@ fn strings_are_read<B: Board>(
     Ok(())
 }
 
-// The bytes of a tag's string that are neither quotes, backslashes nor line ends are skipped by 16: what ends the
+// The bytes of a tag's string that are neither quotes, backslashes nor line ends are skipped by blocks: what ends the
 // string is found at each place in them.
 #[test]
 fn strings_of_any_length_are_read(rt: HostRuntime) -> Result<(), Fail> {

@@ -1,18 +1,13 @@
 //! Which kind of line a line of a collection is.
 
-ghost use Rattle.std.specs.Prelude.{◌≡◌, ◌≤◌, ◌+◌, ◌==◌, true, false, length, take, drop, codes};
+ghost use Rattle.std.specs.Prelude.{◌≡◌, ◌≤◌, ◌==◌, true, false, length, take, drop, codes};
 ghost use Rattle.std.specs.Str.{bytes_eq};
-ghost use Rattle.std.specs.List.{prefix_len, position_or_len, list_all};
+ghost use Rattle.std.specs.List.{prefix_len, list_all};
 ghost use Rattle.pgn_pieces.specs.Pieces.{without_mark, front_of, after_name, is_name_byte, is_blank, is_white, tag_name, begins_tag, is_nothing, is_tag_line, is_event_line, is_moves_line};
 ghost use Rattle.pgn_pieces.specs.Places.{line_ends};
 
-use std::simd::prelude::*;
-
 // The most bytes of a line that decide its kind.
 pub(crate) const FRONT_LEN: usize = 256;
-
-// How many bytes are searched for `\n` at a time.
-const BLOCK_LEN: usize = 64;
 
 // What kind of line a line is. One of moves is neither a tag line nor empty.
 #[derive(Clone, Copy)]
@@ -188,46 +183,4 @@ pub(crate) fn line_ends(bytes: &[u8]) -> usize
     ensures within { result ≤ length bytes.now }
 {
     bytes.iter().filter(|byte| **byte == b'\n').count()
-}
-
-// How many of the 64 bytes from `offset` on come before the first `\n` among them; 64, if it isn't among them.
-#[inline(always)]
-fn plain_in_block(text: &[u8], offset: usize) -> usize
-    requires { offset + 64 ≤ length text.now }
-    ensures count { result ≡ position_or_len (λ c. c == 10) (take 64 (drop offset text.now)) }
-    ensures few { result ≤ 64 }
-{
-    let block = u8x64::from_slice(&text[offset..]);
-    let ends = block.simd_eq(u8x64::splat(b'\n')).to_bitmask();
-    ends.trailing_zeros() as usize
-}
-
-// The offset of the first `\n` in the blocks of 64 bytes with which a text begins; if none has it, that after them.
-#[inline(always)]
-fn plain_blocks(text: &[u8]) -> usize
-    ensures within { result ≤ length text.now }
-    ensures plain { result + position_or_len (λ c. c == 10) (drop result text.now) ≡ position_or_len (λ c. c == 10) text.now }
-{
-    let mut offset = 0;
-    while text.len() - offset >= BLOCK_LEN {
-        let len = plain_in_block(text, offset);
-        if len < BLOCK_LEN {
-            return offset + len;
-        }
-        offset += BLOCK_LEN;
-    }
-    offset
-}
-
-// How many bytes a text has before its first `\n`; all, if it has none.
-#[inline(always)]
-pub(crate) fn plain_len(text: &[u8]) -> usize
-    ensures count { result ≡ position_or_len (λ c. c == 10) text.now }
-    ensures within { result ≤ length text.now }
-{
-    let mut offset = plain_blocks(text);
-    while offset < text.len() && text[offset] != b'\n' {
-        offset += 1;
-    }
-    offset
 }

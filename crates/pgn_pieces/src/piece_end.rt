@@ -3,7 +3,8 @@
 ghost use Rattle.std.specs.Prelude.{◌≡◌, ◌<◌, ◌++◌, ◌∷◌, ◌&&◌, ◌||◌, List, ℕ, [], length, take, drop, true, false};
 ghost use Rattle.pgn_pieces.specs.ties.Held.{HasSeen, Steps, SeesWhole, Looks, has_line_end};
 
-use crate::line_kinds::{FRONT_LEN, Kind, kind_of, plain_len};
+use crate::line_kinds::{FRONT_LEN, Kind, kind_of};
+use byte_devices::len_before;
 
 // What is known of the lines that a piece has so far.
 #[derive(Clone, Copy)]
@@ -102,7 +103,7 @@ impl Seen {
         requires { 0 < length text.now }
         ensures { Steps self.old self.new text.now result }
     {
-        let len = plain_len(text);
+        let len = len_before(text, b'\n');
         if len == text.len() {
             return self.see_open(text);
         }

@@ -149,7 +149,7 @@ fn check_line(rt: &impl Abort, host: &HostRuntime, len: usize, behind: usize) ->
     Ok(())
 }
 
-// A line's end is looked for by 64 bytes at a time: it is found at each place in them, and near the text's last byte.
+// A line's end is looked for by blocks of bytes: it is found at each place in them, and near the text's last byte.
 #[test]
 fn lines_end_at_any_offset(rt: HostRuntime) -> Result<(), Fail> {
     for len in 2..132 {

@@ -1,18 +1,17 @@
 -- Where a line ends in a text, and what that says of the lines.
-use Rattle.std.proofs.Common.{◌≡◌, ◌≢◌, ◌≤◌, ◌<◌, ℕ, zero, suc, ◌+◌, ◌-◌, eqb, Bool, true, false, List, [], ◌∷◌, ◌++◌, length, map, take, drop, Some, None, add-one, refl, sym, ap, ◌∙◌, arith, append_assoc, append-nil, length-drop}
-use Rattle.std.specs.Prelude.{cond, not, slice_range}
+use Rattle.std.proofs.Common.{◌≡◌, ◌≢◌, ◌≤◌, ◌<◌, ℕ, zero, suc, ◌+◌, ◌-◌, eqb, Bool, true, false, List, [], ◌∷◌, ◌++◌, length, take, drop, Some, None, add-one, refl, sym, ap, ◌∙◌, arith, append_assoc, append-nil, length-drop}
+use Rattle.std.specs.Prelude.{cond, not, slice_range, ◌==◌}
+use Rattle.std.specs.List.{position_or_len}
 use Rattle.std.proofs.lemmas.Bool.{eqb-true}
 use Rattle.std.proofs.lemmas.List.{drop-drop, drop-take, drop_all, take_all, length-take}
 use Rattle.std.proofs.Math.Nat.{min-le_left}
-use Rattle.std.proofs.lemmas.List.Sums.{prefix_len-le-length}
-use Rattle.std.proofs.lemmas.Simd.{leading_from_mask_l, trailing_mask_l}
-use lib.Count.{count_trailing_zeros}
-use lib.Lanes.{mask_l}
 use Rattle.text_lines.specs.Lines.{LineSeen, Held, line_of, lines_from, lines_held}
-use Rattle.text_lines.specs.ties.Kept.{line_len, SameLines, HeldLine}
+use Rattle.text_lines.specs.ties.Kept.{SameLines, HeldLine}
 use Rattle.text_lines.proofs.LineParts.{byte_step, ten_step, none_from, line_ended}
 
--- ---- by blocks
+-- how many bytes a text has before its first byte 10; all, if it has none
+abbrev pub line_len : List ℕ → ℕ
+line_len text = position_or_len (λ c. c == 10) text
 
 -- of a text that begins with byte 10, and of one that begins with another byte
 at_once : (x : ℕ) (xs : List ℕ) → eqb x 10 ≡ true → line_len (x ∷ xs) ≡ 0
@@ -20,49 +19,6 @@ at_once x xs e = ap (λ b. cond (not b) (1 + line_len xs) 0) e
 
 one_more : (x : ℕ) (xs : List ℕ) → eqb x 10 ≡ false → line_len (x ∷ xs) ≡ 1 + line_len xs
 one_more x xs e = ap (λ b. cond (not b) (1 + line_len xs) 0) e
-
--- past the bytes before the first byte 10 of a text's first n bytes, or past all n
-skip : (n : ℕ) (xs : List ℕ) → line_len (take n xs) + line_len (drop (line_len (take n xs)) xs) ≡ line_len xs
-skip zero xs = omega arith
-skip (suc n) [] = refl
-skip (suc n) (x ∷ xs) = by_test (eqb x 10) refl (skip n xs)
-  where
-    past : ℕ → List ℕ → ℕ
-    past k ys = k + line_len (drop k ys)
-
-    by_test : (b : Bool) → eqb x 10 ≡ b → past (line_len (take n xs)) xs ≡ line_len xs
-        → past (line_len (take (suc n) (x ∷ xs))) (x ∷ xs) ≡ line_len (x ∷ xs)
-    by_test true e on = ap (λ k. past k (x ∷ xs)) (at_once x (take n xs) e) ∙ omega arith
-    by_test false e on =
-        let here : line_len (x ∷ xs) ≡ 1 + line_len xs = one_more x xs e in
-        let up : 1 + line_len (take n xs) ≡ suc (line_len (take n xs)) = omega arith in
-        let further : line_len (drop (1 + line_len (take n xs)) (x ∷ xs)) ≡ line_len (drop (line_len (take n xs)) xs) =
-        ap (λ k. line_len (drop k (x ∷ xs))) up in
-        ap (λ k. past k (x ∷ xs)) (one_more x (take n xs) e) ∙ omega (arith, further, on, here)
-
-pub skipped : (n k r : ℕ) (text : List ℕ) → r ≡ line_len (take n (drop k text))
-    → k + line_len (drop k text) ≡ line_len text → k + r + line_len (drop (k + r) text) ≡ line_len text
-skipped n k r text h so =
-    let on = skip n (drop k text) in
-    let there = ap line_len (drop-drop r k text) in
-    let back = ap (λ m. m + line_len (drop m (drop k text))) h in
-    omega (arith, on, there, so, back)
-
--- by a mask, in which a bit is set for each byte 10 of 16 bytes: none is set
-pub none_set : (xs : List ℕ) (mask : ℕ) → mask ≡ mask_l (map (λ x. eqb x 10) xs) → length xs ≡ 16 → mask ≡ 0
-    → 16 ≡ line_len xs
-none_set xs mask is long none = sym (leading_from_mask_l (λ x. eqb x 10) xs (sym is ∙ none) ∙ long)
-
--- one is set: the lowest is that of the first
-pub some_set : (xs : List ℕ) (mask : ℕ) → mask ≡ mask_l (map (λ x. eqb x 10) xs) → length xs ≡ 16 → mask ≢ 0
-    → count_trailing_zeros 64 mask ≡ line_len xs
-some_set xs mask is long some =
-    ap (λ m. count_trailing_zeros 64 m) is
-    ∙ trailing_mask_l (λ x. eqb x 10) 64 xs (omega (arith, long)) (omega (arith, is, some))
-
-pub few_before : (xs : List ℕ) (r : ℕ) → r ≡ line_len xs → length xs ≡ 16 → r ≤ 16
-few_before xs r is long =
-    let few = prefix_len-le-length (λ x. not (eqb x 10)) xs in omega (arith, few, is, long)
 
 -- ---- the lines
 

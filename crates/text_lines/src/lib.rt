@@ -15,7 +15,6 @@
 #![tactic(auto)]
 
 mod laws;
-mod line_end;
 mod lines;
 mod number;
 mod trim;

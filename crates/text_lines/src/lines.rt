@@ -6,10 +6,9 @@ ghost use Rattle.text_lines.specs.Lines.{empty_line, line_of, nothing_held, trim
 ghost use Rattle.text_lines.specs.Next.{NextLine, line_if, line_read};
 ghost use Rattle.text_lines.specs.ties.Kept.{SameLines, HeldLine, Filled};
 
-use crate::line_end::line_len;
 use crate::trim::trim;
 use arrayvec::ArrayVec;
-use byte_devices::{Input, ReadFault, append};
+use byte_devices::{Input, ReadFault, append, len_before};
 use std::marker::Model;
 
 /// A line of a stream, of at most N bytes: its text, or of one that is too long its first 64 bytes (N, if N is less).
@@ -283,7 +282,7 @@ impl<const N: usize> Lines<N> {
         ensures kept { result ≡ false → line.new ≡ line.old }
     {
         let coming = self.window.bytes();
-        let len = line_len(coming);
+        let len = len_before(coming, b'\n');
         if len == coming.len() {
             self.part.add(coming);
             self.window.remove(len);

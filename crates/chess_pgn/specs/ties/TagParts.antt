@@ -1,13 +1,9 @@
 -- A tag by its parts, each with what is left after it.
-use Rattle.std.specs.Prelude.{ℕ, Bool, false, ◌||◌, ◌==◌, List, [], ◌∷◌, length, drop, Option, Some, None}
+use Rattle.std.specs.Prelude.{ℕ, false, List, [], ◌∷◌, length, drop, Option, Some, None}
 use Rattle.std.specs.List.{prefix_len, take_while}
-use Rattle.chess_base.specs.Letters.{byte, new_line}
+use Rattle.chess_base.specs.Letters.{byte}
 use Rattle.chess_pgn.specs.Tokens.{Token, Tag, Bad_tag, after_gap, after_next, string_at}
 use Rattle.text_lines.specs.Words.{is_name_byte}
-
--- whether a byte of a tag's string is no plain one: a quote, a backslash or `\n`
-abbrev pub ends_plain : ℕ → Bool
-ends_plain c = c == byte "\"" || (c == byte "\\" || c == new_line)
 
 -- the tag with this name and text, and the text after its `]`, which is given; `Bad_tag` if it is `None`, as there is
 -- no `]`. `to_end` counts the bytes from the tag's string on

@@ -1,14 +1,8 @@
--- What is kept of a line that comes, and where it ends.
-use Rattle.std.specs.Prelude.{ℕ, Bool, true, false, List, [], ◌∷◌, ◌++◌, ◌≡◌, ◌<◌, ◌≤◌, ◌==◌, length, Option, None, Some, Result, Ok, Err}
-use Rattle.std.specs.List.{position_or_len}
-use Rattle.chess_base.specs.Letters.{new_line}
+-- What is kept of a line that comes.
+use Rattle.std.specs.Prelude.{ℕ, Bool, true, false, List, [], ◌∷◌, ◌++◌, ◌≡◌, ◌<◌, ◌≤◌, length, Option, None, Some, Result, Ok, Err}
 use Rattle.byte_devices.specs.Devices.{InputState, GavePiece, FailedToRead}
 use Rattle.text_lines.specs.Lines.{LineSeen, Held, lines_from, lines_held}
 use Rattle.text_lines.specs.declared.lines.TheConstants.{PIECE_LEN}
-
--- how many bytes a text has before its first `\n`; all, if it has none
-abbrev pub line_len : List ℕ → ℕ
-line_len text = position_or_len (λ c. c == new_line) text
 
 -- the bytes that have come of a line, for the definitions: those that the code kept, and one more (0) for all that it
 -- dropped, if the flag says that they were too many

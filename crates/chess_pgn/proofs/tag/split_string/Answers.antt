@@ -1,9 +1,17 @@
 -- The bytes so far, put before the string that the rest holds, are the string of the text. Each byte goes over from the
--- rest to them, up to the closing quote or the end of the line (Strings).
-use Rattle.std.proofs.Common.{sym, ◌∙◌}
+-- rest to them, up to the closing quote or the end of the line (Strings). The first, plain ones go over at once
+-- (PlainBytes.plain_first).
+use Rattle.std.proofs.Common.{take, drop, sym, ap, ◌∙◌}
+use Rattle.chess_pgn.specs.Tokens.{onto, string_at}
+use Rattle.chess_pgn.proofs.PlainBytes.{plain_first}
 use Rattle.chess_pgn.proofs.Strings.{place_line, place_quote, place_kept, place_other}
 use Rattle.chess_pgn.proofs.tag.split_string.Goals as goal
 use Rattle.chess_pgn.proofs.tag.split_string.Goals.{then-is_kept, else-is_kept+else-byte-eq34}
+
+pub loop-offset-init : goal.loop-offset-init
+loop-offset-init c =
+    let text = c.args.text.now in
+    ap (λ n. onto (take n text) (string_at (drop n text))) c.len_before_any-offset.ensures.count ∙ plain_first text
 
 pub returns-then-byte-eq10 : goal.returns-then-byte-eq10
 returns-then-byte-eq10 c =

@@ -1,4 +1,4 @@
--- The line with which a text begins (Runs.line_of), or all of it (Runs.none_in).
+-- The line with which a text begins (PlainLengths.line_of), or all of it (PlainLengths.none_in).
 use Rattle.std.proofs.Common.{◌+◌, drop, sym, subst, ◌∙◌, arith}
 use Rattle.std.proofs.lemmas.List.{length-take-le, take-append-drop}
 use Rattle.pgn_pieces.specs.ties.Held.{Ends}
@@ -7,27 +7,27 @@ use Rattle.pgn_pieces.proofs.piece_end.Seen.step.Goals as goal
 
 pub see_open-requires : goal.see_open-requires
 see_open-requires c =
-    record { plain = (c.requires, none_in c.args.text.now (sym c.plain_len-len.ensures.count ∙ c.if-len-text.true)) }
+    record { plain = (c.requires, none_in c.args.text.now (sym c.len_before-len.ensures.count ∙ c.if-len-text.true)) }
 
 pub slice_bounds-see_whole-end : goal.slice_bounds-see_whole-end
 slice_bounds-see_whole-end c =
-    let few = c.plain_len-len.ensures.within in
+    let few = c.len_before-len.ensures.within in
     let not_all = c.if-len-text.false in
-    sym (length-take-le (c.plain_len-len.result + 1) c.args.text.now (omega (arith, few, not_all)))
+    sym (length-take-le (c.len_before-len.result + 1) c.args.text.now (omega (arith, few, not_all)))
 
 pub see_whole-requires : goal.see_whole-requires
 see_whole-requires c =
-    let few = c.plain_len-len.ensures.within in
+    let few = c.len_before-len.ensures.within in
     let not_all = c.if-len-text.false in record {
-      whole = line_of c.plain_len-len.result c.args.text.now c.plain_len-len.ensures.count (omega (arith, few, not_all));
+      whole = line_of c.len_before-len.result c.args.text.now c.len_before-len.ensures.count (omega (arith, few, not_all));
     }
 
 pub returns-then-see_whole : goal.returns-then-see_whole
 returns-then-see_whole c piece h =
-    subst (λ xs. Ends piece xs) (take-append-drop (c.plain_len-len.result + 1) c.args.text.now)
-    (c.if-see_whole.ensures piece (drop (c.plain_len-len.result + 1) c.args.text.now) h)
+    subst (λ xs. Ends piece xs) (take-append-drop (c.len_before-len.result + 1) c.args.text.now)
+    (c.if-see_whole.ensures piece (drop (c.len_before-len.result + 1) c.args.text.now) h)
 
 pub returns : goal.returns
 returns c =
-    let few = c.plain_len-len.ensures.within in
+    let few = c.len_before-len.ensures.within in
     let not_all = c.if-len-text.false in (omega arith, omega (arith, few, not_all), c.if-see_whole.ensures)

@@ -1,0 +1,15 @@
+use Rattle.std.proofs.Common.{◌≡◌, ◌≤◌, ◌+◌, ◌-◌, length, drop}
+use Rattle.std.specs.List.{position_or_len}
+use Rattle.byte_devices.proofs.Blocks.{is_any}
+use Rattle.byte_devices.proofs.search.len_before_any.Given as goal
+
+-- so far there is none of the three
+abbrev pub invariant-loop-offset : goal.invariant-loop-offset
+invariant-loop-offset l = record {
+  within : l.offset ≤ length l.bytes;
+  none : l.offset + position_or_len (is_any l.a l.b l.c) (drop l.offset l.bytes)
+      ≡ position_or_len (is_any l.a l.b l.c) l.bytes;
+}
+
+abbrev pub decreases-loop-offset : goal.decreases-loop-offset
+decreases-loop-offset l = length l.bytes - l.offset
