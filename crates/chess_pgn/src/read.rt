@@ -1,6 +1,6 @@
 //! Reading a game.
 
-ghost use Rattle.std.specs.Prelude.{◌≡◌, ℕ, ◌+◌, ◌-◌, ◌^◌, ◌≤◌, ◌<◌, true, false, length, None, IfOk, Err, is_some, IsNone, OnErr};
+ghost use Rattle.std.specs.Prelude.{◌≡◌, ℕ, ◌+◌, ◌-◌, ◌^◌, ◌≤◌, ◌<◌, false, length, None, IfOk, Err, is_some, IsNone, OnErr};
 ghost use Rattle.std.specs.Option.{IfSome, option_map_or};
 ghost use Rattle.chess_game.specs.Game.{State, with_state as left_at, with_declared, current, verdict_now, refusal_now};
 ghost use Rattle.chess_base.specs.declared.man.Variant.TheVariants.{Normal};
@@ -8,18 +8,17 @@ ghost use Rattle.chess_text.specs.Moves.{reading};
 ghost use Rattle.chess_pgn.specs.Words.{word_kind};
 ghost use Rattle.chess_pgn.specs.ties.Seen.{found_seen, token_seen, fault_seen};
 ghost use Rattle.chess_pgn.specs.GameRead.{declared_after, variant_named, tagged_variant, pgn_read};
-ghost use Rattle.chess_pgn.specs.laws.TokenByToken.{termination_after, move_step, word_step, tag_step, step};
+ghost use Rattle.chess_pgn.specs.laws.TokenByToken.{move_step, word_step, tag_step, step};
 ghost use Rattle.chess_pgn.specs.Tokens.{tokens_from};
-ghost use Rattle.chess_pgn.specs.ties.GameSteps.{refusal_kind, EndsIn, so_far, step_seen, IsWithin, IsReadOn, ReadsAlike, is_played, IsNoMove, IsLeft, StopsAt, IsTaken, GoesOn};
+ghost use Rattle.chess_pgn.specs.ties.GameSteps.{refusal_kind, EndsIn, so_far, step_seen, IsWithin, IsReadOn, is_played, IsNoMove, IsLeft};
 
 use crate::last_tag::{last_tag, may_precede_tags, named_tag};
-use crate::skips::after_brace;
+use crate::progress::Progress;
 use crate::tag::Tag;
 use crate::termination::Termination;
-use crate::token::{
-    Token, TokenFault, after_blanks, after_byte_order_mark, next_token, split_word,
-};
+use crate::token::{Token, TokenFault, after_blanks, after_byte_order_mark, next_token};
 use crate::word_kind::{WordKind, word_kind};
+use crate::words::{after_skipped, take_words};
 use chess_base::{FenFault, Position, Variant};
 use chess_fen::read_fen_as;
 use chess_game::{Comment, Game, Outcome, PlayRefusal};
@@ -80,68 +79,6 @@ pub struct PgnFault {
     pub kind: PgnFaultKind,
     /// The byte at which it is, from the text's first byte on.
     pub offset: usize,
-}
-
-// What is known, beside the moves, of a game that is being read.
-#[derive(Clone, Copy)]
-struct Progress {
-    // Whether a tag, number or move was met.
-    is_met: bool,
-    // Whether a number or move was read: after one no tag belongs to this game.
-    is_begun: bool,
-    // What the last tag Termination said.
-    termination: Option<Termination>,
-}
-
-impl Progress {
-    // What is known before the first token: no tag, number or move was met.
-    fn none() -> Self
-        ensures { result ≡ record { is_met = false; is_begun = false; termination = None } }
-    {
-        Progress {
-            is_met: false,
-            is_begun: false,
-            termination: None,
-        }
-    }
-
-    // What is known after a number or move, from what was known before it (`self`).
-    fn begun(self) -> Self
-        ensures { result ≡ record { is_met = true; is_begun = true; termination = self.termination } }
-    {
-        Progress {
-            is_met: true,
-            is_begun: true,
-            ..self
-        }
-    }
-
-    // What is known after a tag, from what was known before it (`self`).
-    fn after_tag(self, tag: &Tag<'_>) -> Self
-        ensures { result ≡ record {
-          is_met = true;
-          is_begun = self.is_begun;
-          termination = termination_after self.termination tag.now.name.now tag.now.text.now;
-        } }
-    {
-        Progress {
-            is_met: true,
-            termination: termination_after(self.termination, tag),
-            ..self
-        }
-    }
-}
-
-// What the last tag `Termination` read so far says, when `tag` is read: what `tag` says, if it is one, else `before`,
-// what was known before it.
-fn termination_after(before: Option<Termination>, tag: &Tag<'_>) -> Option<Termination>
-    ensures { result ≡ termination_after before tag.now.name.now tag.now.text.now }
-{
-    if tag.name == b"Termination".as_slice() {
-        Termination::named(tag.text)
-    } else {
-        before
-    }
 }
 
 // What follows from one token of a game's text.
@@ -369,42 +306,6 @@ fn tagged_variant(text: &[u8], at: usize) -> Variant
     variant_of(last_tag(text, at, b"Variant"))
 }
 
-// The offset after the closed `{` comment that begins at `at`; `None` if no comment begins there, or it isn't closed.
-#[inline(always)]
-fn after_comment(text: &[u8], at: usize) -> Option<usize>
-    requires { at ≤ length text.now }
-    ensures { IfSome result (λ end.
-        ReadsAlike text.now at end × (at < end) × (end ≤ length text.now)) }
-{
-    let [first, rest @ ..] = &text[at..] else {
-        return None;
-    };
-    if *first != b'{' {
-        return None;
-    }
-    match after_brace(rest) {
-        Some(tail) => Some(text.len() - tail.len()),
-        None => None,
-    }
-}
-
-// Skips white space, dots and closed `{` comments from `at` on, and returns the offset after them; `next_token` would
-// skip them one by one, this is faster.
-#[inline(always)]
-fn after_skipped(text: &[u8], at: usize) -> usize
-    requires { at ≤ length text.now }
-    ensures alike { ReadsAlike text.now at result }
-    ensures forward { at ≤ result }
-    ensures within { result ≤ length text.now }
-{
-    let first = after_blanks(text, at);
-    let mut offset = first;
-    while let Some(comment_end) = after_comment(text, offset) {
-        offset = after_blanks(text, comment_end);
-    }
-    offset
-}
-
 // Reads the tags from `at` on as those of a game of normal chess; returns what is known then, and the offset of the
 // first number, move or outcome, or of the text's end. `None` if a tag names another variant, or a fault comes first.
 fn read_normal_tags<B: Board>(
@@ -455,70 +356,6 @@ fn begin_game<B: Board>(text: &[u8], at: usize, game: &mut Game<B>) -> (Progress
     }
     game.restart(&Position::initial_of(tagged_variant(text, at)));
     (Progress::none(), at)
-}
-
-// Plays the move that a word denotes in the current position, and returns whether one was played. If the word denotes
-// no one legal move, or the game is over or full, nothing changes.
-#[inline(always)]
-fn try_move<B: Board>(game: &mut Game<B>, word: &[u8]) -> bool
-    requires { game.old.state.declared ≡ None }
-    ensures limit { game.new.limit ≡ game.old.limit }
-    ensures left { result ≡ false → is_played game.new (reading (current game.new.state) word.now) ≡ false }
-    ensures taken { IsTaken result game.old game.new
-        (λ g offset. move_step game.old.limit g offset (reading (current game.old.state) word.now)) }
-{
-    let Reading::Move(m) = read_move(game.board(), word) else {
-        return false;
-    };
-    if game.refusal_of_moving(&m).is_some() {
-        return false;
-    }
-    game.play_legal(m);
-    true
-}
-
-// Takes a word that is a number, or whose move is played, and returns whether it is such a word. Of any other word, and
-// of none (no bytes), nothing is taken, and nothing changes.
-#[tactic(auto, using(crate::proofs::LeftTokens::move_has_bytes))]
-#[inline(always)]
-fn try_word<B: Board>(game: &mut Game<B>, word: &[u8]) -> bool
-    requires { game.old.state.declared ≡ None }
-    ensures limit { game.new.limit ≡ game.old.limit }
-    ensures some { result ≡ true → 0 < length word.now }
-    ensures left { result ≡ false → IsNoMove game.new word.now (word_kind word.now) }
-    ensures taken { IsTaken result game.old game.new
-        (λ g offset. word_step game.old.limit g offset word.now (word_kind word.now)) }
-{
-    match word_kind(word) {
-        WordKind::Move => try_move(game, word),
-        WordKind::Number => !word.is_empty(),
-        WordKind::End(_) | WordKind::Marks => false,
-    }
-}
-
-// Takes numbers and moves from `at` on, and what is skipped after each, as long as nothing else comes; returns the
-// offset after them. `progress` is what is known before and after. No token and no step is made of these words: handed
-// on through memory, those took a seventh of all instructions on plain games.
-fn take_words<B: Board>(
-    text: &[u8],
-    at: usize,
-    game: &mut Game<B>,
-    progress: &mut Progress,
-) -> usize
-    requires within { at ≤ length text.now }
-    requires undeclared { game.old.state.declared ≡ None }
-    ensures taken { GoesOn text.now at game.old progress.old result game.new progress.new }
-    ensures left { StopsAt game.new (tokens_from text.now result) }
-{
-    let mut offset = at;
-    loop {
-        let (word, tail) = split_word(&text[offset..]);
-        if !try_word(game, word) {
-            return offset;
-        }
-        *progress = progress.begun();
-        offset = after_skipped(text, text.len() - tail.len());
-    }
 }
 
 /// Reads the first game of a text from the offset `at` on (PGN standard of 1994; which words are taken is this

@@ -9,7 +9,7 @@ use Rattle.chess_text.specs.Moves.{reading}
 use Rattle.chess_pgn.specs.declared.read.PgnFault.{PgnFault}
 use Rattle.chess_pgn.specs.declared.read.PgnFaultKind.{PgnFaultKind}
 use Rattle.chess_pgn.specs.declared.read.PgnFaultKind.TheVariants as faults
-use Rattle.chess_pgn.specs.declared.read.Progress.{Progress}
+use Rattle.chess_pgn.specs.declared.progress.Progress.{Progress}
 use Rattle.chess_pgn.specs.declared.read.Step as code
 use Rattle.chess_pgn.specs.declared.read.Step.TheVariants as does
 use Rattle.chess_pgn.specs.declared.word_kind.WordKind.{WordKind}
