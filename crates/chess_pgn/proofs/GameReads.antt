@@ -13,7 +13,7 @@ use Rattle.chess_game.specs.Game.{with_state as left_at}
 use Rattle.chess_game.specs.declared.results.Outcome.{Outcome}
 use Rattle.chess_pgn.specs.declared.read.PgnEnd.{PgnEnd}
 use Rattle.chess_pgn.specs.declared.read.PgnFault.{PgnFault}
-use Rattle.chess_pgn.specs.declared.read.Progress.{Progress}
+use Rattle.chess_pgn.specs.declared.progress.Progress.{Progress}
 use Rattle.chess_pgn.specs.declared.word_kind.WordKind.{WordKind}
 use Rattle.chess_pgn.specs.declared.word_kind.WordKind.TheVariants.{End, Number, Marks, Move}
 use Rattle.chess_text.specs.declared.reading.Reading.{Reading}
@@ -24,7 +24,7 @@ use Rattle.chess_pgn.specs.Tokens.{Token, Skip, Tag, Word, Bad_tag, Unclosed_com
 use Rattle.chess_pgn.specs.GameRead.{tagged_variant, pgn_read}
 use Rattle.chess_pgn.specs.laws.TokenByToken.{SoFar, Step, On, Stop, unless_full, move_step, word_step, fen_step, tag_step, step, read_rest_with, game_of, nothing_read, tokens_read}
 use Rattle.chess_pgn.specs.LastTags.{may_precede_tags, named_tag}
-use Rattle.chess_pgn.specs.ties.GameSteps.{so_far, begun, IsReadOn, ReadsAlike, IsTaken, GoesOn, step_seen}
+use Rattle.chess_pgn.specs.ties.GameSteps.{so_far, begun, StopsAt, IsReadOn, ReadsAlike, IsTaken, GoesOn, step_seen}
 use Rattle.chess_pgn.specs.ties.Seen.{SkipsTo}
 use Rattle.chess_pgn.proofs.GamesByTags.{reads_alike}
 use Rattle.chess_pgn.proofs.Cuts.{pick}
@@ -166,9 +166,20 @@ pub said_last : (text : List ℕ) (from : ℕ) (v : Variant) (here : ℕ) (t : T
 said_last text from v here t ts r is may = ap (λ b. cond b (variant_from (variant_said v t) ts) v) may
     ∙ ap (variant_from v) (sym is) ∙ r.whole
 
+-- the same, and the next token is no move that the game plays
+pub record ReadsWords (limit : ℕ) (text : List ℕ) (from : ℕ) (game : Seen) (progress : Progress) (here : ℕ)
+    : Type 0 where
+  pub forward : from ≤ here
+  pub offset : here ≤ length text
+  pub undeclared : game.state.declared ≡ None
+  pub same_limit : game.limit ≡ limit
+  pub whole : game_of limit (length text) (so_far game.state progress) (tokens_from text here) ≡ pgn_read limit text
+      from
+  pub left : StopsAt game (tokens_from text here)
+
 -- a token: what its step gives is gone on with
 stepped : (limit : ℕ) (text : List ℕ) (from : ℕ) (game : Seen) (p : Progress) (here : ℕ) (t : Token)
-    (ts : List (ℕ × Token)) (after : Step) → Reads limit text from game p here
+    (ts : List (ℕ × Token)) (after : Step) → ReadsWords limit text from game p here
     → tokens_from text here ≡ (length text - here, t) ∷ ts → after ≡ step game.limit (length text) (so_far game.state p)
     (length text - here) t → read_rest_with after (λ g. game_of limit (length text) g ts) ≡ pgn_read limit text from
 stepped limit text from game p here t ts after r is step_is =
@@ -178,7 +189,8 @@ stepped limit text from game p here t ts after r is step_is =
     ∙ r.whole
 
 pub more : (limit : ℕ) (text : List ℕ) (from : ℕ) (game new : Seen) (p q : Progress) (here onward : ℕ) (t : Token)
-    → Reads limit text from game p here → tokens_from text here ≡ (length text - here, t) ∷ tokens_from text onward
+    → ReadsWords limit text from game p here
+    → tokens_from text here ≡ (length text - here, t) ∷ tokens_from text onward
     → here < onward → onward ≤ length text → new.limit ≡ game.limit
     → On (so_far new.state q) ≡ step game.limit (length text) (so_far game.state p) (length text - here) t
     → Reads limit text from new q onward
@@ -349,8 +361,9 @@ one_more text from old game new before p q here onward there word taken g is lat
 
 -- reading goes on after them
 pub further : (limit : ℕ) (text : List ℕ) (from : ℕ) (game new : Seen) (p q : Progress) (here there : ℕ)
-    → Reads limit text from game p here → GoesOn text here game p there new q → Reads limit text from new q there
-further limit text from game new p q here there r g = record {
+    → Reads limit text from game p here → GoesOn text here game p there new q → StopsAt new (tokens_from text there)
+    → ReadsWords limit text from new q there
+further limit text from game new p q here there r g stops = record {
   forward = (let before = r.forward in let after = g.forward in omega (arith, before, after));
   offset = g.offset;
   undeclared = g.undeclared;
@@ -358,4 +371,5 @@ further limit text from game new p q here there r g = record {
   whole = ap (λ n. game_of n (length text) (so_far new.state q) (tokens_from text there)) (sym r.same_limit)
       ∙ g.whole ∙ ap (λ n. game_of n (length text) (so_far game.state p) (tokens_from text here)) r.same_limit
       ∙ r.whole;
+  left = stops;
 }

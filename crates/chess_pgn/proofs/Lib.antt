@@ -8,6 +8,7 @@ mod FilledLines
 mod GameReads
 mod GameTexts
 mod LastTagReads
+mod LeftTokens
 mod MoveBytes
 mod NormalGames
 mod OfTokens

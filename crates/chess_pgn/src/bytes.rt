@@ -41,7 +41,7 @@ pub(crate) fn is_digit(byte: u8) -> bool
     byte.is_ascii_digit()
 }
 
-// Whether a byte may be in a tag's name: letters, digits and `_`.
+// Whether a byte may be in a tag's name: letters, digits and `_`, which `NAMES` marks with `n`.
 #[inline(always)]
 pub(crate) fn is_name_byte(byte: u8) -> bool
     ensures { result ≡ is_name_byte byte }

@@ -16,6 +16,7 @@ mod bytes;
 mod last_tag;
 mod laws;
 mod line_writer;
+mod progress;
 mod read;
 mod skips;
 mod tag;
@@ -26,6 +27,7 @@ mod termination;
 mod token;
 mod variation;
 mod word_kind;
+mod words;
 mod write;
 
 pub use chess_game::{HowEnded, TagText};

@@ -1,28 +1,25 @@
 //! Reading a game.
 
-ghost use Rattle.std.specs.Prelude.{◌≡◌, ℕ, ◌+◌, ◌-◌, ◌^◌, ◌≤◌, ◌<◌, true, false, length, None, IfOk, Err, is_some, IsNone, IsTrue, OnErr};
+ghost use Rattle.std.specs.Prelude.{◌≡◌, ℕ, ◌+◌, ◌-◌, ◌^◌, ◌≤◌, ◌<◌, false, length, None, IfOk, Err, is_some, IsNone, OnErr};
 ghost use Rattle.std.specs.Option.{IfSome, option_map_or};
 ghost use Rattle.chess_game.specs.Game.{State, with_state as left_at, with_declared, current, verdict_now, refusal_now};
 ghost use Rattle.chess_base.specs.declared.man.Variant.TheVariants.{Normal};
-ghost use Rattle.chess_base.specs.Moves.{is_legal};
 ghost use Rattle.chess_text.specs.Moves.{reading};
-ghost use Rattle.chess_text.specs.declared.reading.Reading.TheVariants as reads;
 ghost use Rattle.chess_pgn.specs.Words.{word_kind};
 ghost use Rattle.chess_pgn.specs.ties.Seen.{found_seen, token_seen, fault_seen};
 ghost use Rattle.chess_pgn.specs.GameRead.{declared_after, variant_named, tagged_variant, pgn_read};
-ghost use Rattle.chess_pgn.specs.laws.TokenByToken.{termination_after, move_step, word_step, tag_step, step};
+ghost use Rattle.chess_pgn.specs.laws.TokenByToken.{move_step, word_step, tag_step, step};
 ghost use Rattle.chess_pgn.specs.Tokens.{tokens_from};
-ghost use Rattle.chess_pgn.specs.ties.GameSteps.{refusal_kind, EndsIn, so_far, step_seen, IsWithin, IsReadOn, ReadsAlike, IsTaken, GoesOn};
+ghost use Rattle.chess_pgn.specs.ties.GameSteps.{refusal_kind, EndsIn, so_far, step_seen, IsWithin, IsReadOn, is_played, IsNoMove, IsLeft};
 
 use crate::last_tag::{last_tag, may_precede_tags, named_tag};
-use crate::skips::after_brace;
+use crate::progress::Progress;
 use crate::tag::Tag;
 use crate::termination::Termination;
-use crate::token::{
-    Token, TokenFault, after_blanks, after_byte_order_mark, next_token, split_word,
-};
-use crate::word_kind::{WordKind, begins_as_move, is_number, word_kind};
-use chess_base::{FenFault, Move, Position, Variant};
+use crate::token::{Token, TokenFault, after_blanks, after_byte_order_mark, next_token};
+use crate::word_kind::{WordKind, word_kind};
+use crate::words::{after_skipped, take_words};
+use chess_base::{FenFault, Position, Variant};
 use chess_fen::read_fen_as;
 use chess_game::{Comment, Game, Outcome, PlayRefusal};
 use chess_moves::Board;
@@ -84,68 +81,6 @@ pub struct PgnFault {
     pub offset: usize,
 }
 
-// What is known, beside the moves, of a game that is being read.
-#[derive(Clone, Copy)]
-struct Progress {
-    // Whether a tag, number or move was met.
-    is_met: bool,
-    // Whether a number or move was read: after one no tag belongs to this game.
-    is_begun: bool,
-    // What the last tag Termination said.
-    termination: Option<Termination>,
-}
-
-impl Progress {
-    // What is known before the first token: no tag, number or move was met.
-    fn none() -> Self
-        ensures { result ≡ record { is_met = false; is_begun = false; termination = None } }
-    {
-        Progress {
-            is_met: false,
-            is_begun: false,
-            termination: None,
-        }
-    }
-
-    // What is known after a number or move, from what was known before it (`self`).
-    fn begun(self) -> Self
-        ensures { result ≡ record { is_met = true; is_begun = true; termination = self.termination } }
-    {
-        Progress {
-            is_met: true,
-            is_begun: true,
-            ..self
-        }
-    }
-
-    // What is known after a tag, from what was known before it (`self`).
-    fn after_tag(self, tag: &Tag<'_>) -> Self
-        ensures { result ≡ record {
-          is_met = true;
-          is_begun = self.is_begun;
-          termination = termination_after self.termination tag.now.name.now tag.now.text.now;
-        } }
-    {
-        Progress {
-            is_met: true,
-            termination: termination_after(self.termination, tag),
-            ..self
-        }
-    }
-}
-
-// What the last tag `Termination` read so far says, when `tag` is read: what `tag` says, if it is one, else `before`,
-// what was known before it.
-fn termination_after(before: Option<Termination>, tag: &Tag<'_>) -> Option<Termination>
-    ensures { result ≡ termination_after before tag.now.name.now tag.now.text.now }
-{
-    if tag.name == b"Termination".as_slice() {
-        Termination::named(tag.text)
-    } else {
-        before
-    }
-}
-
 // What follows from one token of a game's text.
 enum Step {
     // Reading goes on.
@@ -183,55 +118,22 @@ fn unplayed_kind<B: Board>(game: &Game<B>, kind: PgnFaultKind) -> PgnFaultKind
     }
 }
 
-// Plays the legal move `m`, unless the game has a verdict or is full: then there is a fault at `offset`, that of the
-// move's text. Returns what is known after it; `progress` is what was known before.
-#[inline(always)]
-fn play_move<B: Board>(
-    game: &mut Game<B>,
-    progress: Progress,
-    offset: usize,
-    m: &Move,
-) -> Result<Step, PgnFault>
-    requires undeclared { game.old.state.declared ≡ None }
-    requires legal { IsTrue (is_legal (current game.old.state) m.now) }
-    ensures limit { game.new.limit ≡ game.old.limit }
-    ensures ended { EndsIn 0 0 result }
-    ensures step { step_seen game.new.state result
-        ≡ move_step game.old.limit (so_far game.old.state progress) offset (reads.Move m.now) }
-{
-    let kind = match game.refusal_of_moving(m) {
-        Some(refusal) => refusal_kind(refusal),
-        None => {
-            game.play_legal(*m);
-            return Ok(Step::On(progress.begun()));
-        }
-    };
-    Err(PgnFault { kind, offset })
-}
-
-// Plays the move that a word denotes in the current position, and returns the step "reading goes on", with what is
-// then known of the game beside its moves; `progress` is what was known of it before the word. If the word denotes no
-// one legal move, or the game is over or full, plays nothing and returns the fault at `offset`, the word's.
-#[inline(always)]
-fn play_word<B: Board>(
-    game: &mut Game<B>,
-    progress: Progress,
-    offset: usize,
-    word: &[u8],
-) -> Result<Step, PgnFault>
-    requires { game.old.state.declared ≡ None }
-    ensures limit { game.new.limit ≡ game.old.limit }
-    ensures ended { EndsIn 0 0 result }
-    ensures step { step_seen game.new.state result
-        ≡ move_step game.old.limit (so_far game.old.state progress) offset (reading (current game.old.state) word.now) }
+// The fault of the word at `offset`, which may be a move, but is none that the game plays. It is apart from the loop over
+// the tokens, since it is long and rare.
+#[inline(never)]
+fn fault_of_move<B: Board>(game: &Game<B>, offset: usize, word: &[u8]) -> PgnFault
+    requires undeclared { game.now.state.declared ≡ None }
+    requires left { is_played game.now (reading (current game.now.state) word.now) ≡ false }
+    ensures { (p : Progress) → step_seen game.now.state (Err result)
+        ≡ move_step game.now.limit (so_far game.now.state p) offset (reading (current game.now.state) word.now) }
 {
     let kind = match read_move(game.board(), word) {
         Reading::NotAMove => PgnFaultKind::BadToken,
-        Reading::Move(m) => return play_move(game, progress, offset, &m),
         Reading::Ambiguous => unplayed_kind(game, PgnFaultKind::AmbiguousMove),
-        Reading::NoSuch => unplayed_kind(game, PgnFaultKind::IllegalMove),
+        // A legal move is left only where the game is over or full.
+        Reading::Move(_) | Reading::NoSuch => unplayed_kind(game, PgnFaultKind::IllegalMove),
     };
-    Err(PgnFault { kind, offset })
+    PgnFault { kind, offset }
 }
 
 // Declares the outcome at the game's end, unless the board has a verdict or the outcome is `*`.
@@ -246,8 +148,8 @@ fn end_game<B: Board>(game: &mut Game<B>, outcome: Outcome)
     }
 }
 
-// Takes a word, which begins at `offset`: a move is played, an outcome such as `1-0` ends the game. `progress` is what
-// is known before the word.
+// Takes a word, which begins at `offset` and is no move that is played: an outcome such as `1-0` ends the game, and what
+// may be a move is a fault. `progress` is what is known before the word.
 #[tactic(auto, using(crate::proofs::GameReads::termination_has_bytes))]
 #[inline(always)]
 fn apply_word<B: Board>(
@@ -258,6 +160,7 @@ fn apply_word<B: Board>(
 ) -> Result<Step, PgnFault>
     requires undeclared { game.old.state.declared ≡ None }
     requires within { offset + length word.now < 2 ^ 64 }
+    requires left { IsNoMove game.old word.now (word_kind word.now) }
     ensures limit { game.new.limit ≡ game.old.limit }
     ensures ended { EndsIn offset (offset + length word.now) result }
     ensures step { step_seen game.new.state result
@@ -275,7 +178,7 @@ fn apply_word<B: Board>(
         }
         WordKind::Number => Ok(Step::On(progress.begun())),
         WordKind::Marks => Ok(Step::On(progress)),
-        WordKind::Move => play_word(game, progress, offset, word),
+        WordKind::Move => Err(fault_of_move(game, offset, word)),
     }
 }
 
@@ -306,8 +209,8 @@ fn apply_tag<B: Board>(
     Ok(Step::On(progress.after_tag(tag)))
 }
 
-// Takes a token, which begins at `offset` in a text of `len` bytes, and returns whether reading goes on or the game
-// ended. `progress` is what is known before the token.
+// Takes a token, which begins at `offset` in a text of `len` bytes and is no move that is played (`take_words` plays
+// moves), and returns whether reading goes on or the game ended. `progress` is what is known before the token.
 #[inline(always)]
 fn apply_token<B: Board>(
     game: &mut Game<B>,
@@ -319,6 +222,7 @@ fn apply_token<B: Board>(
     requires undeclared { game.old.state.declared ≡ None }
     requires within { IsWithin (len - offset) (token_seen token.now) }
     requires offset { offset ≤ len }
+    requires left { IsLeft game.old (token_seen token.now) }
     ensures limit { game.new.limit ≡ game.old.limit }
     ensures ended { EndsIn offset len result }
     ensures step { step_seen game.new.state result
@@ -402,42 +306,6 @@ fn tagged_variant(text: &[u8], at: usize) -> Variant
     variant_of(last_tag(text, at, b"Variant"))
 }
 
-// The offset after the closed `{` comment that begins at `at`; `None` if no comment begins there, or it isn't closed.
-#[inline(always)]
-fn after_comment(text: &[u8], at: usize) -> Option<usize>
-    requires { at ≤ length text.now }
-    ensures { IfSome result (λ end.
-        ReadsAlike text.now at end × (at < end) × (end ≤ length text.now)) }
-{
-    let [first, rest @ ..] = &text[at..] else {
-        return None;
-    };
-    if *first != b'{' {
-        return None;
-    }
-    match after_brace(rest) {
-        Some(tail) => Some(text.len() - tail.len()),
-        None => None,
-    }
-}
-
-// Skips white space, dots and closed `{` comments from `at` on, and returns the offset after them; `next_token` would
-// skip them one by one, this is faster.
-#[inline(always)]
-fn after_skipped(text: &[u8], at: usize) -> usize
-    requires { at ≤ length text.now }
-    ensures alike { ReadsAlike text.now at result }
-    ensures forward { at ≤ result }
-    ensures within { result ≤ length text.now }
-{
-    let first = after_blanks(text, at);
-    let mut offset = first;
-    while let Some(comment_end) = after_comment(text, offset) {
-        offset = after_blanks(text, comment_end);
-    }
-    offset
-}
-
 // Reads the tags from `at` on as those of a game of normal chess; returns what is known then, and the offset of the
 // first number, move or outcome, or of the text's end. `None` if a tag names another variant, or a fault comes first.
 fn read_normal_tags<B: Board>(
@@ -490,68 +358,6 @@ fn begin_game<B: Board>(text: &[u8], at: usize, game: &mut Game<B>) -> (Progress
     (Progress::none(), at)
 }
 
-// Plays the move that a word denotes in the current position, and returns whether one was played. If the word denotes
-// no one legal move, or the game is over or full, nothing changes.
-#[inline(always)]
-fn try_move<B: Board>(game: &mut Game<B>, word: &[u8]) -> bool
-    requires { game.old.state.declared ≡ None }
-    ensures limit { game.new.limit ≡ game.old.limit }
-    ensures taken { IsTaken result game.old game.new
-        (λ g offset. move_step game.old.limit g offset (reading (current game.old.state) word.now)) }
-{
-    let Reading::Move(m) = read_move(game.board(), word) else {
-        return false;
-    };
-    if game.refusal_of_moving(&m).is_some() {
-        return false;
-    }
-    game.play_legal(m);
-    true
-}
-
-// Takes a word that is a number, or whose move is played, and returns whether it is such a word. Of any other word, and
-// of none (no bytes), nothing is taken, and nothing changes.
-#[tactic(auto, using(crate::proofs::PgnWords::begins_as_move_kind, crate::proofs::PgnWords::number_kind))]
-#[inline(always)]
-fn try_word<B: Board>(game: &mut Game<B>, word: &[u8]) -> bool
-    requires { game.old.state.declared ≡ None }
-    ensures limit { game.new.limit ≡ game.old.limit }
-    ensures some { result ≡ true → 0 < length word.now }
-    ensures taken { IsTaken result game.old game.new
-        (λ g offset. word_step game.old.limit g offset word.now (word_kind word.now)) }
-{
-    if begins_as_move(word) {
-        try_move(game, word)
-    } else {
-        is_number(word)
-    }
-}
-
-// Takes numbers and moves from `at` on, and what is skipped after each, as long as nothing else comes; returns the
-// offset after them. `progress` is what is known before and after. The general way (`next_token`, `apply_token`) would
-// take the same words one by one; this is faster.
-#[inline(always)]
-fn take_words<B: Board>(
-    text: &[u8],
-    at: usize,
-    game: &mut Game<B>,
-    progress: &mut Progress,
-) -> usize
-    requires within { at ≤ length text.now }
-    requires undeclared { game.old.state.declared ≡ None }
-    ensures { GoesOn text.now at game.old progress.old result game.new progress.new }
-{
-    let mut offset = at;
-    loop {
-        let (word, tail) = split_word(&text[offset..]);
-        if !try_word(game, word) {
-            return offset;
-        }
-        *progress = progress.begun();
-        offset = after_skipped(text, text.len() - tail.len());
-    }
-}
-
 /// Reads the first game of a text from the offset `at` on (PGN standard of 1994; which words are taken is this
 /// project's own). `game` begins anew from the initial position or from the last FEN tag's, of the variant that the
 /// last tag `Variant` names; its moves are played as they are read, and the outcome at its end is declared unless the
@@ -574,7 +380,9 @@ pub fn read_pgn<B: Board>(
     ensures undeclared { OnErr result (IsNone game.new.state.declared) }
     ensures limit { game.new.limit ≡ game.old.limit }
 {
-    let (mut progress, mut offset) = begin_game(text, after_byte_order_mark(text, at), game);
+    let (mut progress, tags_end) = begin_game(text, after_byte_order_mark(text, at), game);
+    let moves_end = take_words(text, tags_end, game, &mut progress);
+    let mut offset = moves_end;
     loop {
         match next_token(text, offset) {
             Ok(Some((token, token_end))) => {

@@ -1,6 +1,6 @@
 //! What a word is.
 
-ghost use Rattle.std.specs.Prelude.{◌≡◌, ◌&&◌, ◌||◌, ◌==◌, length, nat_lt};
+ghost use Rattle.std.specs.Prelude.{◌≡◌, ◌||◌, ◌==◌, false};
 ghost use Rattle.std.specs.List.{list_all};
 ghost use Rattle.chess_base.specs.Letters.{byte, is_digit};
 ghost use Rattle.chess_pgn.specs.Words.{outcome_of, word_kind};
@@ -42,13 +42,6 @@ fn has_digits_alone(word: &[u8]) -> bool
     word.iter().all(|byte| is_digit(*byte))
 }
 
-// Whether a word is a number: at least one byte, and digits alone.
-pub(crate) fn is_number(word: &[u8]) -> bool
-    ensures { result ≡ (nat_lt 0 (length word.now) && list_all is_digit word.now) }
-{
-    !word.is_empty() && has_digits_alone(word)
-}
-
 // Whether all bytes of a word are `!` or `?`.
 fn has_marks_alone(word: &[u8]) -> bool
     ensures { result ≡ list_all (λ c. c == byte "!" || c == byte "?") word.now }
@@ -57,7 +50,7 @@ fn has_marks_alone(word: &[u8]) -> bool
 }
 
 // Whether a word's first byte is `A` or greater: a letter or `_`. No outcome, number or mark begins so.
-pub(crate) fn begins_as_move(word: &[u8]) -> bool
+fn begins_as_move(word: &[u8]) -> bool
     ensures { result ≡ begins_as_move word.now }
 {
     match word {
@@ -66,15 +59,13 @@ pub(crate) fn begins_as_move(word: &[u8]) -> bool
     }
 }
 
-// What a word is, found without the short cut that most words are moves and begin with a letter.
-#[tactic(auto, using(crate::proofs::PgnWords::number_kind))]
+// What a word is that isn't digits alone, found without the short cut for moves that begin with a letter.
 #[inline(never)]
-fn general_word_kind(word: &[u8]) -> WordKind
+fn other_word_kind(word: &[u8]) -> WordKind
+    requires { list_all is_digit word.now ≡ false }
     ensures { result ≡ word_kind word.now }
 {
-    if has_digits_alone(word) {
-        WordKind::Number
-    } else if let Some(outcome) = outcome_of(word) {
+    if let Some(outcome) = outcome_of(word) {
         WordKind::End(outcome)
     } else if has_marks_alone(word) {
         WordKind::Marks
@@ -83,15 +74,18 @@ fn general_word_kind(word: &[u8]) -> WordKind
     }
 }
 
-/// What a word is. Most words are moves that begin with a letter, so this is tested first.
-#[tactic(auto, using(crate::proofs::PgnWords::begins_as_move_kind))]
+/// What a word is. Most words are moves that begin with a letter, and most others are numbers, so these are tested
+/// first.
+#[tactic(auto, using(crate::proofs::PgnWords::begins_as_move_kind, crate::proofs::PgnWords::number_kind))]
 #[inline(always)]
 pub(crate) fn word_kind(word: &[u8]) -> WordKind
     ensures { result ≡ word_kind word.now }
 {
     if begins_as_move(word) {
         WordKind::Move
+    } else if has_digits_alone(word) {
+        WordKind::Number
     } else {
-        general_word_kind(word)
+        other_word_kind(word)
     }
 }

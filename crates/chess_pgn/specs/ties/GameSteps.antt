@@ -1,14 +1,20 @@
 -- What the reader of a game answers, step by step, in the words of the definitions.
-use Rattle.std.specs.Prelude.{◌≡◌, ℕ, ◌<◌, ◌≤◌, Bool, true, false, List, length, Result, Ok, Err, None, Some}
-use Rattle.chess_game.specs.Game.{Seen, State}
+use Rattle.std.specs.Prelude.{◌≡◌, ℕ, ◌<◌, ◌≤◌, Bool, true, false, not, List, [], ◌∷◌, length, Result, Ok, Err, None, Some, is_some}
+use Rattle.chess_game.specs.Game.{Seen, State, current, refusal_now}
 use Rattle.chess_game.specs.declared.game.PlayRefusal.{PlayRefusal}
 use Rattle.chess_game.specs.declared.game.PlayRefusal.TheVariants.{Over, TooLong, Illegal}
+use Rattle.chess_text.specs.declared.reading.Reading.{Reading}
+use Rattle.chess_text.specs.declared.reading.Reading.TheVariants as reads
+use Rattle.chess_text.specs.Moves.{reading}
 use Rattle.chess_pgn.specs.declared.read.PgnFault.{PgnFault}
 use Rattle.chess_pgn.specs.declared.read.PgnFaultKind.{PgnFaultKind}
 use Rattle.chess_pgn.specs.declared.read.PgnFaultKind.TheVariants as faults
-use Rattle.chess_pgn.specs.declared.read.Progress.{Progress}
+use Rattle.chess_pgn.specs.declared.progress.Progress.{Progress}
 use Rattle.chess_pgn.specs.declared.read.Step as code
 use Rattle.chess_pgn.specs.declared.read.Step.TheVariants as does
+use Rattle.chess_pgn.specs.declared.word_kind.WordKind.{WordKind}
+use Rattle.chess_pgn.specs.declared.word_kind.WordKind.TheVariants.{Move}
+use Rattle.chess_pgn.specs.Words.{word_kind}
 use Rattle.chess_pgn.specs.Tokens.{Token, Skip, Tag, Word, Bad_tag, Unclosed_comment, Unclosed_variation, Bad, tokens_from}
 use Rattle.chess_pgn.specs.laws.TokenByToken.{SoFar, Step, On, Stop, game_of, tokens_read}
 
@@ -28,6 +34,26 @@ abbrev pub step_seen : State → Result code.Step PgnFault → Step
 step_seen s (Ok (does.On p)) = On (so_far s p)
 step_seen s (Ok (does.Ended end)) = Stop (record { state = s; answer = Ok (Some end) })
 step_seen s (Err fault) = Stop (record { state = s; answer = Err fault })
+
+-- whether the game plays what a word is read as: one legal move, and the game is neither over nor full
+abbrev pub is_played : Seen → Reading → Bool
+is_played game (reads.Move m) = not (is_some (refusal_now game))
+is_played game _ = false
+
+-- a word of this kind is no move that the game plays
+abbrev pub IsNoMove : Seen → List ℕ → WordKind → Type 0
+IsNoMove game word Move = is_played game (reading (current game.state) word) ≡ false
+IsNoMove game word _ = Unit {0}
+
+-- a token is no move that the game plays
+abbrev pub IsLeft : Seen → Token → Type 0
+IsLeft game (Word word) = IsNoMove game word (word_kind word)
+IsLeft game _ = Unit {0}
+
+-- the first of these tokens, if there is one, is no move that the game plays
+abbrev pub StopsAt : Seen → List (ℕ × Token) → Type 0
+StopsAt game [] = Unit {0}
+StopsAt game (t ∷ ts) = IsLeft game t.1
 
 -- what is known after a number or move, from what was known before it
 abbrev pub begun : Progress → Progress

@@ -3,6 +3,7 @@
 use Rattle.std.proofs.Common.{sym, ◌∙◌}
 use Rattle.chess_pgn.specs.ties.Seen.{found_seen, token_seen}
 use Rattle.chess_pgn.proofs.GameReads.{first_normal, more_normal, normal_on}
+use Rattle.chess_pgn.proofs.LeftTokens.{tags_left}
 use Rattle.chess_pgn.proofs.TokenPlaces.{token_within}
 use Rattle.chess_pgn.proofs.read.read_normal_tags.Goals as goal
 
@@ -15,6 +16,11 @@ pub apply_token-requires-clause-within : goal.apply_token-requires-clause-within
 apply_token-requires-clause-within g c =
     token_within c.args.text.now c.loop-next.offset (token_seen c.in-Some.token) _
     c.loop-next.invariant.says.offset (rw c.in-Some.is at c.in-Ok.ensures).0
+
+pub apply_token-requires-clause-left : goal.apply_token-requires-clause-left
+apply_token-requires-clause-left g c =
+    tags_left c.loop-next.game (token_seen c.in-Some.token)
+    (sym c.may_precede_tags.ensures ∙ c.if-not-may_precede_tags.false)
 
 pub loop-next-preserved : goal.loop-next-preserved
 loop-next-preserved g c =

@@ -1,17 +1,31 @@
 -- From here on, the rest with what was read so far gives what the whole text gives (GameReads.Reads): the step of a
 -- token keeps that (GameReads.more), and so do what is skipped after it (GameReads.alike) and the words taken then
--- (GameReads.further).
+-- (GameReads.further), after which the next token is left to a step (GameReads.ReadsWords).
 use Rattle.chess_pgn.specs.ties.Seen.{token_seen, fault_seen}
 use Rattle.chess_pgn.proofs.TokenPlaces.{token_within}
-use Rattle.chess_pgn.proofs.GameReads.{more, alike, further, bare_at_fault}
-use Rattle.std.proofs.Common.{length}
-use Rattle.chess_pgn.specs.ties.GameSteps.{so_far}
+use Rattle.chess_pgn.proofs.GameReads.{read_from, more, alike, further, bare_at_fault}
+use Rattle.std.proofs.Common.{length, subst}
+use Rattle.chess_pgn.specs.ties.GameSteps.{so_far, StopsAt}
 use Rattle.chess_pgn.proofs.read.read_pgn.Goals as goal
 
 pub apply_token-requires-clause-within : goal.apply_token-requires-clause-within
 apply_token-requires-clause-within g c =
     token_within c.args.text.now c.loop-token.offset (token_seen c.in-Ok-Some.token) _ c.loop-token.invariant.offset
     (rw c.in-Ok-Some.field-0-is at c.in-Ok-Some.ensures).0
+
+pub apply_token-requires-clause-left : goal.apply_token-requires-clause-left
+apply_token-requires-clause-left g c =
+    subst (StopsAt c.loop-token.game) (rw c.in-Ok-Some.field-0-is at c.in-Ok-Some.ensures).0 c.loop-token.invariant.left
+
+pub loop-token-init : goal.loop-token-init
+loop-token-init g c =
+    let mark = c.after_byte_order_mark.ensures in
+    let begun = read_from c.args.game.now.limit c.begin_game-tags_end.new.game c.begin_game-tags_end.result.0 c.args.text.now c.args.at
+    c.after_byte_order_mark.result c.begin_game-tags_end.result.1 c.begin_game-tags_end.ensures.read c.begin_game-tags_end.ensures.limit
+    mark.offset mark.forward in
+    further c.args.game.now.limit c.args.text.now c.args.at c.begin_game-tags_end.new.game c.take_words-moves_end.new.game
+    c.begin_game-tags_end.result.0 c.take_words-moves_end.new.progress c.begin_game-tags_end.result.1 c.take_words-moves_end.result begun
+    c.take_words-moves_end.ensures.taken c.take_words-moves_end.ensures.left
 
 pub loop-token-preserved : goal.loop-token-preserved
 loop-token-preserved g c =
@@ -25,7 +39,7 @@ loop-token-preserved g c =
     c.after_skipped.ensures.within in
     further c.args.game.now.limit c.args.text.now c.args.at c.apply_token.new.game c.take_words-offset.new.game
     c.in-On.further c.take_words-offset.new.progress c.after_skipped.result c.take_words-offset.result skipped
-    c.take_words-offset.ensures
+    c.take_words-offset.ensures.taken c.take_words-offset.ensures.left
 
 pub reported_fault-requires-clause-within : goal.reported_fault-requires-clause-within
 reported_fault-requires-clause-within g c =

@@ -1,9 +1,9 @@
 use Rattle.std.proofs.Common.{length, ◌-◌}
-use Rattle.chess_pgn.proofs.GameReads.{Reads}
+use Rattle.chess_pgn.proofs.GameReads.{ReadsWords}
 use Rattle.chess_pgn.proofs.read.read_pgn.Given as goal
 
 abbrev pub invariant-loop-token : goal.invariant-loop-token
-invariant-loop-token g l = Reads l.fn.game.limit l.text l.at l.game l.progress l.offset
+invariant-loop-token g l = ReadsWords l.fn.game.limit l.text l.at l.game l.progress l.offset
 
 abbrev pub decreases-loop-token : goal.decreases-loop-token
 decreases-loop-token g l = length l.text - l.offset

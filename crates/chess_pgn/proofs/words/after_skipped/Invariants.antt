@@ -1,6 +1,6 @@
 use Rattle.std.proofs.Common.{◌≤◌, ◌-◌, length}
 use Rattle.chess_pgn.specs.ties.GameSteps.{ReadsAlike}
-use Rattle.chess_pgn.proofs.read.after_skipped.Given as goal
+use Rattle.chess_pgn.proofs.words.after_skipped.Given as goal
 
 -- so far a game is read alike
 abbrev pub invariant-loop-comment_end : goal.invariant-loop-comment_end

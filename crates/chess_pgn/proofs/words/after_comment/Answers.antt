@@ -1,7 +1,7 @@
 -- A closed comment is a token at which nothing counts (GameReads.commented, skipped_alike).
 use Rattle.std.proofs.Common.{refl, sym, arith}
 use Rattle.chess_pgn.proofs.GameReads.{commented, skipped_alike}
-use Rattle.chess_pgn.proofs.read.after_comment.Goals as goal
+use Rattle.chess_pgn.proofs.words.after_comment.Goals as goal
 
 pub returns-in-Some : goal.returns-in-Some
 returns-in-Some c =

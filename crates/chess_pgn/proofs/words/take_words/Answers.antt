@@ -1,9 +1,10 @@
 -- A word that is taken is the next token (PgnWords.some_word), and the step of that token is what was done
--- (GameReads.one_more).
+-- (GameReads.one_more). Where none is taken, the next token is left (LeftTokens.left_at).
 use Rattle.std.proofs.Common.{refl}
 use Rattle.chess_pgn.proofs.GameReads.{one_more}
+use Rattle.chess_pgn.proofs.LeftTokens.{left_at}
 use Rattle.chess_pgn.proofs.PgnWords.{some_word}
-use Rattle.chess_pgn.proofs.read.take_words.Goals as goal
+use Rattle.chess_pgn.proofs.words.take_words.Goals as goal
 
 pub loop-tail-preserved : goal.loop-tail-preserved
 loop-tail-preserved g c =
@@ -15,3 +16,8 @@ loop-tail-preserved g c =
     c.split_word.result.0.now c.try_word.result c.loop-tail.invariant word.tokens word.nearer
     c.try_word.ensures.limit c.if-not-try_word.false c.try_word.ensures.taken c.begun.ensures
     c.after_skipped-offset.ensures.alike c.after_skipped-offset.ensures.forward c.after_skipped-offset.ensures.within
+
+pub returns-then-not-try_word-clause-left : goal.returns-then-not-try_word-clause-left
+returns-then-not-try_word-clause-left g c =
+    left_at c.try_word.new.game c.args.text.now c.loop-tail.offset _ c.split_word.result.0.now
+    c.loop-tail.invariant.offset refl c.split_word.ensures.word (c.try_word.ensures.left c.if-not-try_word.true)

@@ -2,7 +2,7 @@
 use Rattle.std.proofs.Common.{arith}
 use Rattle.chess_pgn.proofs.GameReads.{alike_on}
 use Rattle.chess_pgn.proofs.SkippedTokens.{skips_alike}
-use Rattle.chess_pgn.proofs.read.after_skipped.Goals as goal
+use Rattle.chess_pgn.proofs.words.after_skipped.Goals as goal
 
 pub loop-comment_end-init : goal.loop-comment_end-init
 loop-comment_end-init c = record {

@@ -1,0 +1,118 @@
+//! The words of a game's text that are numbers and moves, and what is skipped between them.
+
+ghost use Rattle.std.specs.Prelude.{◌≡◌, ◌≤◌, ◌<◌, true, false, length, None};
+ghost use Rattle.std.specs.Option.{IfSome};
+ghost use Rattle.chess_game.specs.Game.{current};
+ghost use Rattle.chess_text.specs.Moves.{reading};
+ghost use Rattle.chess_pgn.specs.Words.{word_kind};
+ghost use Rattle.chess_pgn.specs.laws.TokenByToken.{move_step, word_step};
+ghost use Rattle.chess_pgn.specs.Tokens.{tokens_from};
+ghost use Rattle.chess_pgn.specs.ties.GameSteps.{ReadsAlike, is_played, IsNoMove, StopsAt, IsTaken, GoesOn};
+
+use crate::progress::Progress;
+use crate::skips::after_brace;
+use crate::token::{after_blanks, split_word};
+use crate::word_kind::{WordKind, word_kind};
+use chess_game::Game;
+use chess_moves::Board;
+use chess_text::{Reading, read_move};
+
+// The offset after the closed `{` comment that begins at `at`; `None` if no comment begins there, or it isn't closed.
+#[inline(always)]
+fn after_comment(text: &[u8], at: usize) -> Option<usize>
+    requires { at ≤ length text.now }
+    ensures { IfSome result (λ end.
+        ReadsAlike text.now at end × (at < end) × (end ≤ length text.now)) }
+{
+    let [first, rest @ ..] = &text[at..] else {
+        return None;
+    };
+    if *first != b'{' {
+        return None;
+    }
+    match after_brace(rest) {
+        Some(tail) => Some(text.len() - tail.len()),
+        None => None,
+    }
+}
+
+// Skips white space, dots and closed `{` comments from `at` on, and returns the offset after them; `next_token` would
+// skip them one by one, this is faster.
+#[inline(always)]
+pub(crate) fn after_skipped(text: &[u8], at: usize) -> usize
+    requires { at ≤ length text.now }
+    ensures alike { ReadsAlike text.now at result }
+    ensures forward { at ≤ result }
+    ensures within { result ≤ length text.now }
+{
+    let first = after_blanks(text, at);
+    let mut offset = first;
+    while let Some(comment_end) = after_comment(text, offset) {
+        offset = after_blanks(text, comment_end);
+    }
+    offset
+}
+
+// Plays the move that a word denotes in the current position, and returns whether one was played. If the word denotes
+// no one legal move, or the game is over or full, nothing changes.
+#[inline(always)]
+fn try_move<B: Board>(game: &mut Game<B>, word: &[u8]) -> bool
+    requires { game.old.state.declared ≡ None }
+    ensures limit { game.new.limit ≡ game.old.limit }
+    ensures left { result ≡ false → is_played game.new (reading (current game.new.state) word.now) ≡ false }
+    ensures taken { IsTaken result game.old game.new
+        (λ g offset. move_step game.old.limit g offset (reading (current game.old.state) word.now)) }
+{
+    let Reading::Move(m) = read_move(game.board(), word) else {
+        return false;
+    };
+    if game.refusal_of_moving(&m).is_some() {
+        return false;
+    }
+    game.play_legal(m);
+    true
+}
+
+// Takes a word that is a number, or whose move is played, and returns whether it is such a word. Of any other word, and
+// of none (no bytes), nothing is taken, and nothing changes.
+#[tactic(auto, using(crate::proofs::LeftTokens::move_has_bytes))]
+#[inline(always)]
+fn try_word<B: Board>(game: &mut Game<B>, word: &[u8]) -> bool
+    requires { game.old.state.declared ≡ None }
+    ensures limit { game.new.limit ≡ game.old.limit }
+    ensures some { result ≡ true → 0 < length word.now }
+    ensures left { result ≡ false → IsNoMove game.new word.now (word_kind word.now) }
+    ensures taken { IsTaken result game.old game.new
+        (λ g offset. word_step game.old.limit g offset word.now (word_kind word.now)) }
+{
+    match word_kind(word) {
+        WordKind::Move => try_move(game, word),
+        WordKind::Number => !word.is_empty(),
+        WordKind::End(_) | WordKind::Marks => false,
+    }
+}
+
+// Takes numbers and moves from `at` on, and what is skipped after each, as long as nothing else comes; returns the
+// offset after them. `progress` is what is known before and after. No token and no step is made of these words: handed
+// on through memory, those took a seventh of all instructions on plain games.
+pub(crate) fn take_words<B: Board>(
+    text: &[u8],
+    at: usize,
+    game: &mut Game<B>,
+    progress: &mut Progress,
+) -> usize
+    requires within { at ≤ length text.now }
+    requires undeclared { game.old.state.declared ≡ None }
+    ensures taken { GoesOn text.now at game.old progress.old result game.new progress.new }
+    ensures left { StopsAt game.new (tokens_from text.now result) }
+{
+    let mut offset = at;
+    loop {
+        let (word, tail) = split_word(&text[offset..]);
+        if !try_word(game, word) {
+            return offset;
+        }
+        *progress = progress.begun();
+        offset = after_skipped(text, text.len() - tail.len());
+    }
+}
