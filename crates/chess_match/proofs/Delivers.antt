@@ -10,15 +10,18 @@ use Rattle.cecp_engine.specs.Clocks.{ClocksSeen, spent_by}
 use Rattle.text_lines.specs.Lines.{LineSeen}
 use Rattle.chess_match.specs.ties.Delivering.{Delivered, broken_notes, by_turn, event_read, first_in}
 use Rattle.cecp_engine.specs.Items.{Item}
-use Rattle.chess_match.specs.Match.{Match, Event, Line, OutputEnds, FailsToRead, FailsToWrite, match_after}
-use Rattle.chess_match.specs.Notes.{Noted, WasNoted, Happened, both_notes}
+use Rattle.chess_match.specs.laws.Machine.{Match, match_after}
+use Rattle.chess_match.specs.Events.{Event, Line, OutputEnds, FailsToRead, FailsToWrite}
+use Rattle.chess_match.specs.Notes.{Noted, WasNoted, Happened}
+use Rattle.chess_match.specs.laws.TranscriptNotes.{both_notes}
 use Rattle.chess_match.specs.Rules.{Rules}
-use Rattle.chess_match.specs.Sent.{SentLine, answers_to, block, bytes_of}
+use Rattle.chess_match.specs.Lines.{SentLine, answers_to, bytes_of}
+use Rattle.chess_match.specs.laws.Blocks.{block}
 use Rattle.chess_match.specs.ties.Represents.{Represents, Goes, clocks_of, items_to, nothing_said}
 use Rattle.chess_match.specs.ties.Steps.{IsSane, in_turn}
 use Rattle.chess_match.specs.ties.Reported.{SendsIf}
 use Rattle.chess_match.specs.Run.{ClockReadings, text_read}
-use Rattle.chess_match.specs.Transcript.{is_on, reads, moment_in}
+use Rattle.chess_match.specs.laws.Transcript.{is_on, reads, moment_in}
 use Rattle.chess_match.specs.declared.state.MatchState.{MatchState}
 use Rattle.chess_match.specs.declared.state.Actions.{Actions}
 use Rattle.chess_match.proofs.shared.Flushes.{flushed_none}

@@ -14,13 +14,14 @@ use Rattle.chess_match.specs.ties.Chess.{Plays}
 use Rattle.chess_match.specs.ties.Delivering.{Delivered, event_read}
 use Rattle.chess_match.proofs.EngineOutput.{OutputAt}
 use Rattle.cecp_engine.specs.Levels.{LevelSeen}
-use Rattle.chess_match.specs.Match.{Match, Event, start, match_after}
+use Rattle.chess_match.specs.laws.Machine.{Match, start, match_after}
+use Rattle.chess_match.specs.Events.{Event}
 use Rattle.chess_match.specs.Notes.{Noted, WasNoted, Happened}
 use Rattle.chess_match.specs.Rules.{Rules, rules_of}
 use Rattle.chess_match.specs.Run.{ClockReadings}
-use Rattle.chess_match.specs.Sent.{block, lines_on_entering}
+use Rattle.chess_match.specs.laws.Blocks.{block, lines_on_entering}
 use Rattle.chess_match.specs.ties.Represents.{given_block, nothing_said}
-use Rattle.chess_match.specs.Transcript.{match_of, reads, opens, moment_in}
+use Rattle.chess_match.specs.laws.Transcript.{match_of, reads, opens, moment_in}
 use Rattle.chess_match.proofs.RunInvariant.{IsUnderWay, steps_left}
 use Rattle.chess_match.specs.declared.phase.Phase.{Phase}
 use Rattle.chess_match.specs.declared.phase.Phase.TheVariants.{AwaitMove}

@@ -11,13 +11,16 @@ use Rattle.chess_base.proofs.shared.Men.{same_colour-self}
 use Rattle.chess_game.specs.declared.verdicts.Verdict.{Verdict}
 use Rattle.cecp_engine.specs.EngineLines.{LineKind, line_kind, Features, Moves, Resigns, OffersDraw, ClaimsDraw, ClaimsWin, Rejects, Answers, SaysElse}
 use Rattle.cecp_engine.specs.Items.{Item, has_done, takes}
-use Rattle.chess_match.specs.Match as machine
-use Rattle.chess_match.specs.Match.{Event, Line, Opened, OutputEnds, FailsToRead, FailsToWrite, Seat, handshake_line, setup_line, before_line, after_line}
+use Rattle.chess_match.specs.laws.Machine as machine
+use Rattle.chess_match.specs.Events.{Event, Line, Opened, OutputEnds, FailsToRead, FailsToWrite, Seat}
+use Rattle.chess_match.specs.laws.Machine.{handshake_line, setup_line, before_line, after_line}
 use Rattle.chess_game.specs.Results.{result_text}
 use Rattle.chess_match.specs.Reasons.{outcome_by_reason, comment_of}
 use Rattle.chess_match.specs.Rules.{Rules}
-use Rattle.chess_match.specs.Sent.{SentLine, Says, list_if, answers_to, setup_lines, ping, is_unwritten, block, lines_on_entering, is_same_phase, end_lines, last_move_sent, clock_lines, opening_lines, unsent_lines}
-use Rattle.chess_match.specs.Transcript.{is_on, reads}
+use Rattle.chess_match.specs.Lines.{SentLine, Says, list_if, answers_to, setup_lines, ping}
+use Rattle.chess_match.specs.Reasons.{is_unwritten}
+use Rattle.chess_match.specs.laws.Blocks.{block, lines_on_entering, is_same_phase, end_lines, last_move_sent, clock_lines, opening_lines, unsent_lines}
+use Rattle.chess_match.specs.laws.Transcript.{is_on, reads}
 use Rattle.chess_match.specs.declared.phase.Phase.{Phase as MachinePhase}
 use Rattle.chess_match.specs.declared.phase.Phase.TheVariants as phases
 use Rattle.chess_match.specs.declared.reason.DrawClaim.{DrawClaim}

@@ -16,15 +16,16 @@ use Rattle.chess_game.specs.declared.results.Outcome.{Outcome}
 use Rattle.chess_game.specs.declared.results.Outcome.TheVariants.{Unfinished}
 use Rattle.chess_game.specs.declared.tags.HowEnded.{HowEnded}
 use Rattle.cecp_engine.specs.Levels.{LevelSeen}
-use Rattle.chess_match.specs.Match.{Match, Event, seat}
+use Rattle.chess_match.specs.laws.Machine.{Match, seat}
+use Rattle.chess_match.specs.Events.{Event}
 use Rattle.chess_base.specs.ByColour.{by_colour, of_colour}
 use Rattle.chess_match.specs.Reasons.{reported, declared_at, outcome_by_reason, comment_of, ended_by}
 use Rattle.chess_match.specs.Notes.{Noted}
 use Rattle.chess_match.specs.Rules.{Rules, rules_of}
-use Rattle.chess_match.specs.Run.{RanBefore}
+use Rattle.chess_match.specs.laws.TranscriptRuns.{RanBefore}
 use Rattle.chess_match.specs.ties.Represents.{name_by}
 use Rattle.chess_match.specs.ties.Reported.{IsReported}
-use Rattle.chess_match.specs.Transcript.{match_of, engine_name}
+use Rattle.chess_match.specs.laws.Transcript.{match_of, engine_name}
 use Rattle.chess_match.proofs.RunInvariant.{IsUnderWay}
 use Rattle.chess_match.specs.declared.phase.Phase.TheVariants.{Over}
 use Rattle.chess_match.specs.declared.reason.Reason.{Reason}

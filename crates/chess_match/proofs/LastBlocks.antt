@@ -4,11 +4,14 @@ use Rattle.std.specs.Prelude.{if◌then◌else◌, codes, is_some}
 use Rattle.chess_base.specs.declared.man.Colour.{Colour}
 use Rattle.chess_base.specs.declared.man.Colour.TheVariants.{White, Black}
 use Rattle.chess_base.specs.Men.{other}
-use Rattle.chess_match.specs.Match as machine
-use Rattle.chess_match.specs.Match.{Event, Line, Opened, OutputEnds, FailsToRead, FailsToWrite}
+use Rattle.chess_match.specs.laws.Machine as machine
+use Rattle.chess_match.specs.Events.{Seat}
+use Rattle.chess_match.specs.Events.{Event, Line, Opened, OutputEnds, FailsToRead, FailsToWrite}
 use Rattle.chess_match.specs.Rules.{Rules, is_fischerandom}
-use Rattle.chess_match.specs.Sent.{SentLine, block, end_lines, is_unwritten, is_same_phase, answers_to, draw_line, entry_to}
-use Rattle.chess_match.specs.Transcript.{is_on, reads, fits_next, is_fault}
+use Rattle.chess_match.specs.Lines.{SentLine, answers_to}
+use Rattle.chess_match.specs.laws.Blocks.{block, end_lines, is_same_phase, draw_line, entry_to}
+use Rattle.chess_match.specs.Reasons.{is_unwritten}
+use Rattle.chess_match.specs.laws.Transcript.{is_on, reads, fits_next, is_fault}
 use Rattle.chess_match.specs.declared.phase.Phase.{Phase as MachinePhase}
 use Rattle.chess_match.specs.declared.phase.Phase.TheVariants as phases
 use Rattle.chess_match.specs.declared.reason.MatchFault.TheVariants.{Write, NoDone, Ended, Read, NoPing, NoSetboard, NoVariant}
@@ -35,7 +38,7 @@ not_yet : (e : Event) (m : machine.Match) (p : MachinePhase) → m.phase ≡ p �
 not_yet e m p h on reason over O =
     let off : is_on p ≡ false = ap is_on (sym h ∙ over) in let no : true ≡ false = sym on ∙ off in cc
 
-seat_phase : (S : Colour) (change : machine.Seat → machine.Seat) (m : machine.Match)
+seat_phase : (S : Colour) (change : Seat → Seat) (m : machine.Match)
     → (machine.with_seat S change m).phase ≡ m.phase
 seat_phase White change m = refl
 seat_phase Black change m = refl

@@ -25,10 +25,10 @@ use Rattle.chess_match.proofs.UsedLaw.{used_times_are_differences}
 use Rattle.chess_match.specs.Acts.{Act, Block, IsMatch, ReadFails, Reads, ReadsClock, ReadsEnd, SendFails, Sends, blocks_from}
 use Rattle.chess_match.specs.ByDevice.{broken_blocks, has_ended, has_failed_read, is_broken, lines_read, lines_sent, moments_shown}
 use Rattle.chess_match.specs.Effects.{Effect, Match, beginning, clock, effect}
-use Rattle.chess_match.specs.Match.{Event, Line, Opened, OutputEnds, FailsToRead, FailsToWrite}
+use Rattle.chess_match.specs.Events.{Event, Line, Opened, OutputEnds, FailsToRead, FailsToWrite}
 use Rattle.chess_match.specs.Rules.{Rules}
-use Rattle.chess_match.specs.Sent.{SentLine}
-use Rattle.chess_match.specs.Transcript.{blocks, fits, has_fault, is_on, joined_blocks, lines_of_engine, match_of, moments_of}
+use Rattle.chess_match.specs.Lines.{SentLine}
+use Rattle.chess_match.specs.laws.Transcript.{blocks, fits, has_fault, is_on, joined_blocks, lines_of_engine, match_of, moments_of}
 use Rattle.chess_match.specs.declared.phase.Phase.{Phase as MachinePhase}
 use Rattle.chess_match.specs.declared.phase.Phase.TheVariants as phases
 use Rattle.chess_match.specs.declared.reason.MatchFault.TheVariants.{Ended, Read, Write}

@@ -13,13 +13,14 @@ use Rattle.text_lines.specs.Lines.{LineSeen, Held}
 use Rattle.text_lines.specs.Next.{NextLine, GotLine, GotLast, work}
 use Rattle.chess_match.specs.ties.Delivering.{event_read, Delivered}
 use Rattle.chess_match.proofs.EngineOutput.{is_of_output, Reports, OutputAt}
-use Rattle.chess_match.specs.Match.{Match, Event, Line, OutputEnds, FailsToRead, match_after}
+use Rattle.chess_match.specs.laws.Machine.{Match, match_after}
+use Rattle.chess_match.specs.Events.{Event, Line, OutputEnds, FailsToRead}
 use Rattle.chess_match.specs.Notes.{Noted}
 use Rattle.chess_match.specs.Rules.{Rules}
 use Rattle.chess_match.specs.Run.{text_read}
-use Rattle.chess_match.specs.Sent.{SentLine}
+use Rattle.chess_match.specs.Lines.{SentLine}
 use Rattle.chess_match.specs.ties.Steps.{IsSane}
-use Rattle.chess_match.specs.Transcript.{reads, opens, is_on, fits_next}
+use Rattle.chess_match.specs.laws.Transcript.{reads, opens, is_on, fits_next}
 use Rattle.chess_match.proofs.RunInvariant.{steps_left}
 use Rattle.chess_match.specs.declared.phase.Phase.{Phase}
 use Rattle.chess_match.specs.declared.phase.Phase.TheVariants.{Handshake, Setup, SendTurn, AwaitMove, AwaitPong, Over}

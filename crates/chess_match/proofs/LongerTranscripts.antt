@@ -5,12 +5,15 @@ use Rattle.std.specs.Prelude.{if◌then◌else◌, slice_get}
 use Rattle.std.specs.Option.{IfSome}
 use Rattle.chess_base.specs.declared.man.Colour.{Colour}
 use Rattle.byte_devices.specs.Devices.{OutputState}
-use Rattle.chess_match.specs.Match.{Match, Event, Line, Opened, OutputEnds, FailsToRead, FailsToWrite, start, match_after}
+use Rattle.chess_match.specs.laws.Machine.{Match, start, match_after}
+use Rattle.chess_match.specs.Events.{Event, Line, Opened, OutputEnds, FailsToRead, FailsToWrite}
 use Rattle.chess_match.specs.Rules.{Rules}
-use Rattle.chess_match.specs.Run.{Flushed, Written, ClockReadings}
-use Rattle.chess_match.specs.Sent.{SentLine, block, lines_on_entering, bytes_of}
+use Rattle.chess_match.specs.Run.{Flushed, ClockReadings}
+use Rattle.chess_match.specs.laws.TranscriptRuns.{Written}
+use Rattle.chess_match.specs.Lines.{SentLine, bytes_of}
+use Rattle.chess_match.specs.laws.Blocks.{block, lines_on_entering}
 use Rattle.chess_match.specs.ties.Reported.{SendsIf}
-use Rattle.chess_match.specs.Transcript.{match_of, fits_from, fits_next, fits, is_dropped, is_fault, block_at, blocks_from, blocks, joined_blocks, line_in, lines_of_engine, moment_in, moments_of, has_fault}
+use Rattle.chess_match.specs.laws.Transcript.{match_of, fits_from, fits_next, fits, is_dropped, is_fault, block_at, blocks_from, blocks, joined_blocks, line_in, lines_of_engine, moment_in, moments_of, has_fault}
 use Rattle.chess_match.proofs.shared.Flushes.{flushed_more, failed_after}
 use Rattle.chess_match.proofs.Sends.{bytes_of-append}
 use Rattle.chess_match.specs.ties.Steps.{match_from}

@@ -5,11 +5,14 @@ use Rattle.std.specs.Prelude.{if◌then◌else◌}
 use Rattle.chess_base.specs.declared.man.Colour.{Colour}
 use Rattle.chess_base.specs.declared.man.Colour.TheVariants.{White, Black}
 use Rattle.chess_base.specs.Men.{other, same_colour}
-use Rattle.chess_match.specs.Match.{Match, Event, Line, Opened, OutputEnds, FailsToRead, FailsToWrite, start, match_after}
-use Rattle.chess_match.specs.Notes.{Note, Noted, Happened, Gives, WasNoted, given_note, both_notes, first_sent, notes_from, notes_of}
+use Rattle.chess_match.specs.laws.Machine.{Match, start, match_after}
+use Rattle.chess_match.specs.Events.{Event, Line, Opened, OutputEnds, FailsToRead, FailsToWrite}
+use Rattle.chess_match.specs.Notes.{Note, Noted, Happened, Gives, WasNoted}
+use Rattle.chess_match.specs.laws.TranscriptNotes.{given_note, both_notes, first_sent, notes_from, notes_of}
 use Rattle.chess_match.specs.Rules.{Rules}
-use Rattle.chess_match.specs.Sent.{SentLine, block, lines_on_entering, bytes_of}
-use Rattle.chess_match.specs.Transcript.{match_of, is_on, is_fault, joined_blocks}
+use Rattle.chess_match.specs.Lines.{SentLine, bytes_of}
+use Rattle.chess_match.specs.laws.Blocks.{block, lines_on_entering}
+use Rattle.chess_match.specs.laws.Transcript.{match_of, is_on, is_fault, joined_blocks}
 use Rattle.chess_match.specs.ties.Delivering.{broken_notes}
 use Rattle.chess_match.proofs.Blocks.{lines_at, joined_block}
 use Rattle.chess_match.proofs.LongerTranscripts.{is_sound, dropped_alone, dropped-longer, kept_at}

@@ -5,13 +5,15 @@ use Rattle.chess_base.specs.declared.man.Move.{Move}
 use Rattle.byte_devices.specs.Devices.{InputState, OutputState}
 use Rattle.text_lines.specs.Lines.{Held}
 use Rattle.chess_match.proofs.EngineOutput.{OutputSoFar}
-use Rattle.chess_match.specs.Match.{Event}
-use Rattle.chess_match.specs.Notes.{Noted, WasNoted, notes_of}
+use Rattle.chess_match.specs.Events.{Event}
+use Rattle.chess_match.specs.Notes.{Noted, WasNoted}
+use Rattle.chess_match.specs.laws.TranscriptNotes.{notes_of}
 use Rattle.chess_match.specs.Rules.{Rules}
-use Rattle.chess_match.specs.Run.{ReadFrom, Written, ClockReadings}
+use Rattle.chess_match.specs.laws.TranscriptRuns.{ReadFrom, Written}
+use Rattle.chess_match.specs.Run.{ClockReadings}
 use Rattle.chess_match.specs.ties.Represents.{Represents}
 use Rattle.chess_match.specs.ties.Steps.{IsSane}
-use Rattle.chess_match.specs.Transcript.{match_of, fits, blocks, lines_of_engine, moments_of, has_fault, is_on}
+use Rattle.chess_match.specs.laws.Transcript.{match_of, fits, blocks, lines_of_engine, moments_of, has_fault, is_on}
 use Rattle.chess_match.specs.declared.phase.Phase.{Phase}
 use Rattle.chess_match.specs.declared.phase.Phase.TheVariants.{Handshake, Setup, SendTurn, AwaitMove, AwaitPong, Over}
 use Rattle.chess_match.specs.declared.state.MatchState.{MatchState}

@@ -10,15 +10,19 @@ use Rattle.chess_base.proofs.shared.Men.{same_colour-true}
 use Rattle.text_lines.specs.Lines.{Held, nothing_held}
 use Rattle.chess_match.specs.ties.Delivering.{AllSent, OneFailed, Delivered, first_in}
 use Rattle.chess_match.proofs.EngineOutput.{OutputSoFar, OutputAt, is_of_output}
-use Rattle.chess_match.specs.Match.{Match, Event, Line, Opened, OutputEnds, FailsToRead, FailsToWrite, start, match_after}
-use Rattle.chess_match.specs.Notes.{Noted, WasNoted, Happened, both_notes, first_sent, notes_of}
+use Rattle.chess_match.specs.laws.Machine.{Match, start, match_after}
+use Rattle.chess_match.specs.Events.{Event, Line, Opened, OutputEnds, FailsToRead, FailsToWrite}
+use Rattle.chess_match.specs.Notes.{Noted, WasNoted, Happened}
+use Rattle.chess_match.specs.laws.TranscriptNotes.{both_notes, first_sent, notes_of}
 use Rattle.chess_match.specs.Rules.{Rules}
-use Rattle.chess_match.specs.Run.{Flushed, Written, ClockReadings}
-use Rattle.chess_match.specs.Sent.{SentLine, block, lines_on_entering, bytes_of}
+use Rattle.chess_match.specs.Run.{Flushed, ClockReadings}
+use Rattle.chess_match.specs.laws.TranscriptRuns.{Written}
+use Rattle.chess_match.specs.Lines.{SentLine, bytes_of}
+use Rattle.chess_match.specs.laws.Blocks.{block, lines_on_entering}
 use Rattle.chess_match.specs.ties.Represents.{Represents, Goes, given_block, nothing_said}
 use Rattle.chess_match.specs.ties.Steps.{IsSane}
 use Rattle.chess_match.specs.ties.Reported.{SendsIf}
-use Rattle.chess_match.specs.Transcript.{match_of, fits_next, is_on, opens, blocks, blocks_from, joined_blocks, lines_of_engine, moments_of, moment_in, has_fault, is_fault}
+use Rattle.chess_match.specs.laws.Transcript.{match_of, fits_next, is_on, opens, blocks, blocks_from, joined_blocks, lines_of_engine, moments_of, moment_in, has_fault, is_fault}
 use Rattle.chess_match.proofs.RunInvariant.{IsStillRead, ReadSoFar, IsUnderWay}
 use Rattle.chess_match.specs.declared.phase.Phase.{Phase}
 use Rattle.chess_match.specs.declared.phase.Phase.TheVariants.{Handshake, Setup, SendTurn, AwaitMove, AwaitPong, Over}

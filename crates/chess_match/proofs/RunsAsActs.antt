@@ -5,11 +5,12 @@ use Rattle.chess_base.specs.declared.man.Colour.{Colour}
 use Rattle.chess_base.specs.declared.man.Colour.TheVariants.{White, Black}
 use Rattle.chess_base.specs.Men.{other, same_colour}
 use Rattle.chess_base.proofs.shared.Men.{same_colour-self}
-use Rattle.chess_match.specs.Match as machine
-use Rattle.chess_match.specs.Match.{Event, Line, Opened, OutputEnds, FailsToRead, FailsToWrite}
+use Rattle.chess_match.specs.laws.Machine as machine
+use Rattle.chess_match.specs.Events.{Event, Line, Opened, OutputEnds, FailsToRead, FailsToWrite}
 use Rattle.chess_match.specs.Rules.{Rules, rules_of}
-use Rattle.chess_match.specs.Sent.{SentLine, block, lines_on_entering, list_if}
-use Rattle.chess_match.specs.Transcript.{is_on, fits, fits_next, fits_from, match_of, is_fault, has_fault, block_at, blocks_from as blocks_at_all, blocks, joined_blocks, lines_of_engine}
+use Rattle.chess_match.specs.Lines.{SentLine, list_if}
+use Rattle.chess_match.specs.laws.Blocks.{block, lines_on_entering}
+use Rattle.chess_match.specs.laws.Transcript.{is_on, fits, fits_next, fits_from, match_of, is_fault, has_fault, block_at, blocks_from as blocks_at_all, blocks, joined_blocks, lines_of_engine}
 use Rattle.chess_match.specs.declared.phase.Phase.{Phase as MachinePhase}
 use Rattle.chess_match.specs.declared.phase.Phase.TheVariants as phases
 use Rattle.chess_match.specs.declared.reason.MatchFault.TheVariants.{Write, Ended, Read}
@@ -28,7 +29,7 @@ use Rattle.chess_match.specs.Reasons.{first_fault}
 use Rattle.std.proofs.Math.Path.{fun_ext}
 use Rattle.chess_match.specs.ties.SameEffects.{view, phase_of}
 use Rattle.chess_match.specs.ByDevice.{lines_read, has_ended, has_failed_read, lines_sent, broken_blocks, is_broken}
-use Rattle.chess_match.specs.Run.{Written, ReadFrom, RanBefore}
+use Rattle.chess_match.specs.laws.TranscriptRuns.{Written, ReadFrom, RanBefore}
 use Rattle.chess_match.proofs.ActsByDevice.{lines_are_read, moments_are_shown, ends_are_read}
 use Rattle.chess_match.specs.Played.{WrittenAs, ReadAs, World, PlayedNoting}
 use Rattle.chess_match.specs.Notes.{Note, Noted, WasNoted}

@@ -15,7 +15,7 @@ use Rattle.chess_match.specs.Reasons.{reported, first_fault, declared_at}
 use Rattle.chess_base.specs.ByColour.{by_colour}
 use Rattle.chess_match.specs.Rules.{Rules, rules_of}
 use Rattle.chess_match.specs.Run.{Ports, engine_lines, Flushed, FlushedThenFailed, ClockReadings}
-use Rattle.chess_match.specs.Sent.{SentLine, bytes_of}
+use Rattle.chess_match.specs.Lines.{SentLine, bytes_of}
 use Rattle.chess_match.specs.declared.reason.Reason.{Reason}
 use Rattle.chess_match.specs.declared.run.MatchEnd.{MatchEnd}
 use Rattle.chess_match.specs.declared.run.Setup.{Setup}

@@ -10,19 +10,22 @@ ghost use Rattle.chess_match.specs.ties.Awaits.{IsAwaited};
 ghost use Rattle.chess_match.specs.ties.Delivering.{by_turn, event_read, line_event, Delivered};
 ghost use Rattle.cecp_engine.specs.EngineLines.{line_kind, Features};
 ghost use Rattle.cecp_engine.specs.Items.{Item};
-ghost use Rattle.chess_match.specs.Match.{Match, FailsToWrite, match_after};
-ghost use Rattle.chess_match.specs.Notes.{WasNoted, Happened, given_note, both_notes};
+ghost use Rattle.chess_match.specs.laws.Machine.{Match, match_after};
+ghost use Rattle.chess_match.specs.Events.{FailsToWrite};
+ghost use Rattle.chess_match.specs.Notes.{WasNoted, Happened};
+ghost use Rattle.chess_match.specs.laws.TranscriptNotes.{given_note, both_notes};
 ghost use Rattle.chess_base.specs.ByColour.{by_colour, of_colour};
 ghost use Rattle.chess_match.specs.Reasons.{declared_at};
 ghost use Rattle.chess_match.specs.Rules.{Rules};
 ghost use Rattle.chess_match.specs.Played.{Played, PlayedNoting};
-ghost use Rattle.chess_match.specs.Run.{ports_of, MatchRan, RanBefore, ClockReadings, text_read};
+ghost use Rattle.chess_match.specs.Run.{ports_of, ClockReadings, text_read};
 ghost use Rattle.cecp_engine.specs.Seen.{seen};
-ghost use Rattle.chess_match.specs.Sent.{block, bytes_of, answers_to};
+ghost use Rattle.chess_match.specs.laws.Blocks.{block};
+ghost use Rattle.chess_match.specs.Lines.{bytes_of, answers_to};
 ghost use Rattle.chess_match.specs.ties.Represents.{Represents, Goes, given_block, items_to};
 ghost use Rattle.chess_match.specs.ties.Steps.{IsSane};
 ghost use Rattle.chess_match.specs.ties.Reported.{SendsIf, IsReported};
-ghost use Rattle.chess_match.specs.Transcript.{is_on, reads, moment_in};
+ghost use Rattle.chess_match.specs.laws.Transcript.{is_on, reads, moment_in};
 ghost use Rattle.chess_match.specs.declared.block.TheConstants.{ANSWERS_LEN};
 ghost use Rattle.chess_match.specs.declared.run.TheConstants.{ENGINE_LINE_LEN};
 
@@ -82,17 +85,14 @@ pub struct MatchEnd {
 /// Plays one game between two engines by the Chess Engine Communication Protocol, version 2, to its end; the game
 /// begins anew from the start.
 ///
-/// In the contract there is a transcript of the match: the lines, moments, ends and failures in their order. It agrees
-/// with both engines' devices and with the moments, one for each line and one at the end of each turn's opening, and it
-/// fixes all that was sent, the game and the end. Where nothing was unflushed before, nothing is at the end, but for
-/// the beginning of a block at which a write or a flush failed.
+/// In the contract there is a list of acts: blocks that were sent, lines and moments that were read, ends of outputs,
+/// and failures. It is a match, in which each act was due when it came: nothing is read while a block is due, and the
+/// clock is read after each line and at the end of each turn's opening. The acts agree with both engines' devices and
+/// with the clock, and they fix all that was sent, the game and the end. Where nothing was unflushed before, nothing is
+/// at the end, but for the beginning of a block at which a write or a flush failed.
 ///
-/// The clause `played` says it by acts: blocks that were sent, lines and moments that were read, ends of outputs, and
-/// failures. They are a match, in which each act was due when it came, and agree with the same devices.
-///
-/// The contract sees each device apart: that a block is flushed before the next line is read, and that a moment is
-/// asked for after its line or opening, is only tested. By the code no memory is taken, and an engine that doesn't
-/// answer is waited for.
+/// The contract sees each device apart, so that the calls of different devices came in the order of the acts is only
+/// tested. By the code no memory is taken, and an engine that doesn't answer is waited for.
 pub fn run_match<R: Input, W: Output, M: Moments, B: Board>(
     white: &mut Ends<R, W>,
     black: &mut Ends<R, W>,
@@ -100,10 +100,7 @@ pub fn run_match<R: Input, W: Output, M: Moments, B: Board>(
     setup: &Setup,
     game: &mut Game<B>,
 ) -> MatchEnd
-    ensures ran { MatchRan setup.now.start setup.now.level game.old game.new result
-        (ports_of R.seen W.seen white.old black.old) (ports_of R.seen W.seen white.new black.new)
-        (M.coming moments.old) (M.coming moments.new) }
-    ensures played { Played setup.now result
+    ensures ran { Played setup.now result
         (record {
           ports = ports_of R.seen W.seen white.old black.old;
           coming = M.coming moments.old;
@@ -125,9 +122,9 @@ pub fn run_match<R: Input, W: Output, M: Moments, B: Board>(
 
 /// Plays one game as [`run_match`] does, while a witness watches.
 ///
-/// The contract says that the witness was given the notes of the transcript, and no others: each event, and after it
-/// the lines that each engine is sent, in order. Only tested is that each line is noted before it is judged, and that
-/// what an engine is sent is noted before it is written.
+/// The contract says that the witness was given the notes of the acts, and no others: each event, and the bytes of each
+/// block, in order. Only tested is that each line is noted before it is judged, and that what an engine is sent is
+/// noted before it is written.
 pub fn run_match_watched<R: Input, W: Output, M: Moments, B: Board, L: Witness>(
     white: &mut Ends<R, W>,
     black: &mut Ends<R, W>,
@@ -136,12 +133,7 @@ pub fn run_match_watched<R: Input, W: Output, M: Moments, B: Board, L: Witness>(
     game: &mut Game<B>,
     witness: &mut L,
 ) -> MatchEnd
-    ensures ran { RanBefore (L.noted witness.old) (L.noted witness.new) setup.now.start setup.now.level game.old
-        game.new result
-        (ports_of R.seen W.seen white.old black.old) (ports_of R.seen W.seen white.new black.new)
-        (M.coming moments.old) (M.coming moments.new) }
-    ensures played { PlayedNoting (λ notes. WasNoted (L.noted witness.old) (L.noted witness.new) notes) setup.now
-        result
+    ensures ran { PlayedNoting (λ notes. WasNoted (L.noted witness.old) (L.noted witness.new) notes) setup.now result
         (record {
           ports = ports_of R.seen W.seen white.old black.old;
           coming = M.coming moments.old;

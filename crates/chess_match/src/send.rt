@@ -6,10 +6,11 @@ ghost use Rattle.arrayvec.specs.ArrayVec.{array_vec_len};
 ghost use Rattle.chess_base.specs.declared.man.Colour.{Colour};
 ghost use Rattle.cecp_engine.specs.Items.{Item};
 ghost use Rattle.chess_match.specs.declared.block.TheConstants.{ANSWERS_LEN, BLOCK_LEN};
-ghost use Rattle.chess_match.specs.Match.{Match};
-ghost use Rattle.chess_match.specs.Notes.{WasNoted, given_note};
+ghost use Rattle.chess_match.specs.laws.Machine.{Match};
+ghost use Rattle.chess_match.specs.Notes.{WasNoted};
+ghost use Rattle.chess_match.specs.laws.TranscriptNotes.{given_note};
 ghost use Rattle.chess_match.specs.Rules.{Rules};
-ghost use Rattle.chess_match.specs.Sent.{answers_to, bytes_of};
+ghost use Rattle.chess_match.specs.Lines.{answers_to, bytes_of};
 ghost use Rattle.chess_match.specs.ties.Represents.{Represents, after_answers, given_block};
 ghost use Rattle.chess_match.specs.ties.Reported.{SendsIf};
 

@@ -7,9 +7,9 @@ ghost use Rattle.cecp_engine.specs.Seen.{item_seen, features_of};
 ghost use Rattle.cecp_engine.specs.Items as feature_items;
 ghost use Rattle.cecp_engine.specs.Items.{items_of, has_done};
 ghost use Rattle.chess_match.specs.ties.Represents.{name_by, Represents};
-ghost use Rattle.chess_match.specs.Match.{start};
+ghost use Rattle.chess_match.specs.laws.Machine.{start};
 ghost use Rattle.chess_match.specs.Rules.{Rules};
-ghost use Rattle.chess_match.specs.Sent.{answers_to, bytes_of};
+ghost use Rattle.chess_match.specs.Lines.{answers_to, bytes_of};
 ghost use Rattle.chess_match.specs.ties.Texts.{unsent_in};
 
 use crate::block::{Block, add_answer};

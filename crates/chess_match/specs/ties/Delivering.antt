@@ -6,15 +6,18 @@ use Rattle.chess_base.specs.declared.man.Move.{Move}
 use Rattle.byte_devices.specs.Devices.{OutputState, BreaksOff}
 use Rattle.chess_base.specs.Men.{other, same_colour}
 use Rattle.text_lines.specs.Lines.{LineSeen}
-use Rattle.chess_match.specs.Match.{Match, Event, Line, OutputEnds, FailsToRead, FailsToWrite, match_after}
-use Rattle.chess_match.specs.Notes.{Noted, WasNoted, Happened, Note, both_notes}
+use Rattle.chess_match.specs.laws.Machine.{Match, match_after}
+use Rattle.chess_match.specs.Events.{Event, Line, OutputEnds, FailsToRead, FailsToWrite}
+use Rattle.chess_match.specs.Notes.{Noted, WasNoted, Happened, Note}
+use Rattle.chess_match.specs.laws.TranscriptNotes.{both_notes}
 use Rattle.chess_base.specs.ByColour.{by_colour}
 use Rattle.chess_match.specs.Rules.{Rules}
 use Rattle.chess_match.specs.Run.{text_read, Flushed}
-use Rattle.chess_match.specs.Sent.{SentLine, block, bytes_of, answer_text}
+use Rattle.chess_match.specs.Lines.{SentLine, bytes_of, answer_text}
+use Rattle.chess_match.specs.laws.Blocks.{block}
 use Rattle.chess_match.specs.ties.Represents.{Represents}
 use Rattle.chess_match.specs.ties.Reported.{SendsIf}
-use Rattle.chess_match.specs.Transcript.{is_on}
+use Rattle.chess_match.specs.laws.Transcript.{is_on}
 use Rattle.chess_match.specs.declared.state.MatchState.{MatchState}
 use Rattle.chess_base.specs.Letters.{new_line}
 

@@ -3,7 +3,7 @@ use Rattle.std.proofs.Common.{sym, ◌∙◌, ap}
 use Rattle.chess_base.specs.declared.man.Colour.{Colour}
 use Rattle.chess_base.specs.declared.man.Colour.TheVariants.{White, Black}
 use Rattle.chess_base.specs.Men.{other}
-use Rattle.chess_match.specs.Sent.{answers_to, bytes_of}
+use Rattle.chess_match.specs.Lines.{answers_to, bytes_of}
 use Rattle.chess_match.specs.ties.Represents.{given_block}
 use Rattle.chess_match.proofs.Delivers.{turn_white, turn_black, both_sent}
 use Rattle.chess_match.proofs.Sends.{no_answers_of}

@@ -2,9 +2,12 @@
 use Rattle.std.proofs.Common.{◌≡◌, List, [], ◌∷◌, ap, ◌∙◌}
 use Rattle.chess_base.specs.declared.man.Colour.{Colour}
 use Rattle.chess_base.specs.Men.{other}
-use Rattle.chess_match.specs.Match.{Match, FailsToWrite, match_after}
-use Rattle.chess_match.specs.Notes.{Happened, given_note}
-use Rattle.chess_match.specs.Sent.{SentLine, block, bytes_of}
+use Rattle.chess_match.specs.laws.Machine.{Match, match_after}
+use Rattle.chess_match.specs.Events.{FailsToWrite}
+use Rattle.chess_match.specs.Notes.{Happened}
+use Rattle.chess_match.specs.laws.TranscriptNotes.{given_note}
+use Rattle.chess_match.specs.Lines.{SentLine, bytes_of}
+use Rattle.chess_match.specs.laws.Blocks.{block}
 use Rattle.chess_match.specs.ties.Represents.{given_block, nothing_said}
 use Rattle.chess_match.proofs.Notings.{noted_more, noted_as}
 use Rattle.chess_match.proofs.Delivers.{on_too, sends_if}

@@ -7,12 +7,14 @@ use Rattle.text_lines.specs.Lines.{nothing_held}
 use Rattle.text_lines.specs.Next.{line_read}
 use Rattle.chess_game.specs.Game as game
 use Rattle.chess_match.specs.ties.Delivering.{event_read}
-use Rattle.chess_match.specs.Match.{Match, Opened, start, match_after}
+use Rattle.chess_match.specs.laws.Machine.{Match, start, match_after}
+use Rattle.chess_match.specs.Events.{Opened}
 use Rattle.chess_match.specs.Rules.{Rules, rules_of}
-use Rattle.chess_match.specs.Sent.{answers_to, block, bytes_of}
+use Rattle.chess_match.specs.Lines.{answers_to, bytes_of}
+use Rattle.chess_match.specs.laws.Blocks.{block}
 use Rattle.chess_match.specs.ties.Represents.{Represents, items_to, nothing_said}
 use Rattle.cecp_engine.specs.Items.{Item}
-use Rattle.chess_match.specs.Transcript.{match_of, reads, opens}
+use Rattle.chess_match.specs.laws.Transcript.{match_of, reads, opens}
 use Rattle.chess_match.specs.declared.phase.Phase.{Phase}
 use Rattle.chess_match.proofs.Delivers.{both_sides}
 use Rattle.chess_match.proofs.Finished.{ran, told_outcome}
@@ -53,19 +55,6 @@ events-init g c =
 
 pub returns-in-Nothing-clause-ran : goal.returns-in-Nothing-clause-ran
 returns-in-Nothing-clause-ran g c =
-    let i = c.events.invariant in
-    ran c.args.game.now c.events.game c.end_of.new.game c.args.setup.now.start c.args.setup.now.level i.0 c.events.core
-    c.in-Nothing.reason c.events.failed c.end_of.result
-    (g.R.Input.seen c.args.white.now.reader) (g.R.Input.seen c.args.black.now.reader)
-    (g.R.Input.seen c.events.white.reader) (g.R.Input.seen c.events.black.reader)
-    (of_colour c.events.lines)
-    (g.W.Output.seen c.args.white.now.writer) (g.W.Output.seen c.args.black.now.writer)
-    (g.W.Output.seen c.events.white.writer) (g.W.Output.seen c.events.black.writer) _ _ _ _
-    i.1 c.in-Nothing.ensures c.end_of.ensures.report c.end_of.ensures.white_name c.end_of.ensures.black_name i.2 i.3
-    c.end_of.ensures.game
-
-pub returns-in-Nothing-clause-played : goal.returns-in-Nothing-clause-played
-returns-in-Nothing-clause-played g c =
     let i = c.events.invariant in
     run_noted c.args.setup.now c.end_of.result
     (record {

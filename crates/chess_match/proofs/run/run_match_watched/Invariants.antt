@@ -1,6 +1,6 @@
 use Rattle.std.proofs.Common.{◌≡◌, ◌+◌, List, [], None}
 use Rattle.text_lines.specs.Next.{work}
-use Rattle.chess_match.specs.Match.{Event}
+use Rattle.chess_match.specs.Events.{Event}
 use Rattle.chess_match.specs.Rules.{rules_of}
 use Rattle.chess_match.proofs.RunInvariant.{IsUnderWay, steps_left}
 use Rattle.chess_match.proofs.run.run_match_watched.Given as goal

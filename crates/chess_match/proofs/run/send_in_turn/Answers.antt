@@ -2,9 +2,12 @@
 use Rattle.std.proofs.Common.{◌<◌, List, ◌∷◌, length, true, false, refl, ap, sym, ◌∙◌, subst}
 use Rattle.chess_base.specs.declared.man.Colour.{Colour}
 use Rattle.chess_base.specs.Men.{other}
-use Rattle.chess_match.specs.Match.{FailsToWrite, match_after}
-use Rattle.chess_match.specs.Notes.{WasNoted, Happened, given_note}
-use Rattle.chess_match.specs.Sent.{SentLine, block, bytes_of}
+use Rattle.chess_match.specs.Events.{FailsToWrite}
+use Rattle.chess_match.specs.laws.Machine.{match_after}
+use Rattle.chess_match.specs.Notes.{WasNoted, Happened}
+use Rattle.chess_match.specs.laws.TranscriptNotes.{given_note}
+use Rattle.chess_match.specs.Lines.{SentLine, bytes_of}
+use Rattle.chess_match.specs.laws.Blocks.{block}
 use Rattle.chess_match.specs.ties.Represents.{Represents, given_block}
 use Rattle.chess_match.specs.ties.Reported.{SendsIf}
 use Rattle.chess_match.proofs.Delivers.{on_too, sends_if, first_failed, second_failed, none_failed}

@@ -3,7 +3,7 @@ use Rattle.std.proofs.Common.{ap, sym, ◌∙◌, Ok, refl}
 use Rattle.text_lines.specs.Next.{line_read}
 use Rattle.chess_match.proofs.Delivers.{IsNoted, event_failed, event_none, event_last, noted_bare}
 use Rattle.chess_match.proofs.Going.{reads_on}
-use Rattle.chess_match.specs.Match.{FailsToRead, OutputEnds}
+use Rattle.chess_match.specs.Events.{FailsToRead, OutputEnds}
 use Rattle.chess_match.proofs.run.take_next.Goals as goal
 
 pub returns-in-Err-clause-taken : goal.returns-in-Err-clause-taken

@@ -1,6 +1,7 @@
 -- What is not empty is noted, and then written and flushed.
 use Rattle.std.proofs.Common.{List, ℕ, sym, subst}
-use Rattle.chess_match.specs.Notes.{WasNoted, given_note}
+use Rattle.chess_match.specs.Notes.{WasNoted}
+use Rattle.chess_match.specs.laws.TranscriptNotes.{given_note}
 use Rattle.chess_match.specs.Run.{Flushed}
 use Rattle.chess_match.proofs.Due.{is_nil, is_some_text}
 use Rattle.chess_match.proofs.shared.Flushes.{flushed_none}

@@ -1,6 +1,6 @@
 -- The answers wait, and the rest of the block is put after them.
 use Rattle.std.proofs.Common.{◌++◌, List, ℕ, ap, sym, ◌∙◌}
-use Rattle.chess_match.specs.Sent.{bytes_of}
+use Rattle.chess_match.specs.Lines.{bytes_of}
 use Rattle.chess_match.specs.ties.Represents.{after_answers, given_block}
 use Rattle.chess_match.proofs.Due.{some_lines}
 use Rattle.chess_match.proofs.Sends.{given_bytes}

@@ -4,9 +4,9 @@ use Rattle.std.proofs.Common.{◌≡◌, ◌+◌, true, false, refl, sym, ◌∙
 use Rattle.std.proofs.lemmas.Bool.{lt-leb}
 use Rattle.std.specs.Prelude.{nat_le}
 use Rattle.cecp_engine.specs.Items.{has_done}
-use Rattle.chess_match.specs.Match.{take_items, items_of_line, greeted, enter, handshake_line}
+use Rattle.chess_match.specs.laws.Machine.{take_items, items_of_line, greeted, enter, handshake_line}
 use Rattle.cecp_engine.specs.Seen.{seen}
-use Rattle.chess_match.specs.Sent.{is_same_phase}
+use Rattle.chess_match.specs.laws.Blocks.{is_same_phase}
 use Rattle.chess_match.specs.ties.Represents.{Represents}
 use Rattle.chess_match.specs.declared.reason.MatchFault.TheVariants.{NoDone}
 use Rattle.chess_match.specs.declared.reason.Reason.TheVariants.{Faulted}

@@ -1,6 +1,6 @@
 -- What is kept of an engine is what its items say, so it lacks what they lack: White is judged first, then Black.
 use Rattle.std.proofs.Common.{◌≡◌, refl, sym, Some, None}
-use Rattle.chess_match.specs.Match.{lack}
+use Rattle.chess_match.specs.laws.Machine.{lack}
 use Rattle.chess_match.proofs.state.MatchState.phase_after_handshake.Goals as goal
 
 pub returns-in-Some-clause-greeted : goal.returns-in-Some-clause-greeted

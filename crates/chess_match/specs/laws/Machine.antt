@@ -1,4 +1,4 @@
--- The match after each event: one small table for each phase.
+-- The match as the code keeps it, after each event: one small table for each phase.
 use Rattle.std.specs.Prelude.{ℕ, ◌+◌, ◌-◌, ◌==◌, ◌&&◌, nat_lt, nat_le, Bool, true, false, not, if◌then◌else◌, List, [], ◌∷◌, ◌++◌, length, codes, sum, Option, None, Some, is_some}
 use Rattle.std.specs.Option.{option_map_or}
 use Rattle.chess_base.specs.declared.man.Colour.{Colour}
@@ -19,30 +19,7 @@ use Rattle.chess_match.specs.declared.reason.MatchFault.TheVariants.{Ended, Read
 use Rattle.chess_match.specs.declared.reason.Reason.{Reason}
 use Rattle.chess_match.specs.declared.reason.Reason.TheVariants.{Decided, Claimed, Agreed, MovesIllegally, MovesOutOfTurn, ClaimsFalsely, RejectsLegalMove, Forfeits, ForfeitsToBareKing, GameTooLong, Faulted}
 use Rattle.chess_match.specs.declared.reason.Reason.TheVariants as over_by
-
--- what happens in a match, which is one game between two engines: a line comes from an engine (`None`: it was too
--- long), the lines that open a turn were sent, or a device ends or fails. A moment is a time of the clock in
--- milliseconds
-pub data Event : Type 0 where
-  -- that side's engine sent a line; the clock was read after it
-  Line : (side : Colour) → (text : Option (List ℕ)) → (moment : ℕ) → Event
-  -- the lines that open that side's turn were sent; the clock was read after them
-  Opened : (side : Colour) → (moment : ℕ) → Event
-  -- that side's engine ended its output
-  OutputEnds : (side : Colour) → Event
-  -- reading from that side's engine failed
-  FailsToRead : (side : Colour) → Event
-  -- writing to that side's engine failed
-  FailsToWrite : (side : Colour) → Event
-
--- what is known of the engine of one side
-pub record Seat : Type 0 where
-  -- the items that were read in its handshake
-  pub items : List Item
-  -- the milliseconds that each of its moves used
-  pub used : List ℕ
-  -- whether its offer of a draw is open
-  pub offers : Bool
+use Rattle.chess_match.specs.Events.{Event, Line, Opened, OutputEnds, FailsToRead, FailsToWrite, Seat}
 
 -- the state of a match, which is one game between two engines: what it waits for (`phase`), what is known of both
 -- engines, and the moves played
@@ -84,8 +61,6 @@ start =
       opened = 0;
     }
 
--- ---- ways to go on
-
 -- the match `m`, ended for this reason
 abbrev pub over : Reason → Match → Match
 over reason m = record m { phase = Over reason }
@@ -102,8 +77,6 @@ open_turn S m = record m { phase = SendTurn S; count = 0; unsent_to = None }
 -- the match `m` after a line of the side `S` that is ignored; the 10,000th in one setup or turn ends it
 abbrev pub ignore : Colour → Match → Match
 ignore S m = if nat_le 10000 (m.count + 1) then over (Faulted S Flood) m else record m { count = m.count + 1 }
-
--- ---- handshake
 
 -- the items of a line of this kind: those of a `feature` line, none of any other
 abbrev pub items_of_line : LineKind → List Item
@@ -144,8 +117,6 @@ handshake_line r S items m =
     else if nat_le 1000 (m.count + 1) then over (Faulted S NoDone) (take_items S items m)
     else let m' = take_items S items m in record m' { count = m.count + 1 }
 
--- ---- setup
-
 -- the match `m'`; but if there is a verdict of the board (`verdict`), the match `m`, ended by it
 abbrev pub unless_decided : Option Verdict → Match → Match → Match
 unless_decided verdict m m' = option_map_or (λ v. over (Decided v) m) verdict m'
@@ -160,8 +131,6 @@ ready r Black m = unless_decided (r.verdict m.played) m (open_turn r.first m)
 unfoldable pub setup_line : Rules → Colour → LineKind → Match → Match
 setup_line r S (Answers n) m = if n == 1 then ready r S m else ignore S m
 setup_line r S _ m = ignore S m
-
--- ---- turns
 
 -- the milliseconds that the side `S` has left
 abbrev pub clock : Rules → Match → Colour → ℕ
@@ -235,8 +204,6 @@ unfoldable pub after_line : Rules → Colour → LineKind → Match → Match
 after_line r S (Moves _) m = over (MovesOutOfTurn S) m
 after_line r S (Answers n) m = if n == ping_number m S then open_turn (other S) m else ignore S m
 after_line r S kind m = turn_line r S kind m
-
--- ---- one event
 
 -- the match `m` after a line of this kind that came at `moment`, by the phase that the match is in; while a turn is
 -- opened, or at the end, no line is read
