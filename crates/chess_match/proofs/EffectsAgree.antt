@@ -420,15 +420,15 @@ module _ (r : Rules) (c : Colour) (items : List Item) (m : machine.Match) where
 
 agree_handshake_done : (r : Rules) (c : Colour) (items : List Item) (m : machine.Match) → m.phase ≡ phases.Handshake c
     → m.unsent_to ≡ None
-    → Agrees r m (machine.greeted r c (machine.take_items c items m))
+    → Agrees r m (machine.handshake_ended r c (machine.take_items c items m))
     (with_answers c items (handshake_done r c (view (machine.take_items c items m))))
 agree_handshake_done r White items m p none =
     agree_items r White items m (machine.enter (phases.Handshake Black) (machine.take_items White items m))
     (handshake_done r White (view (machine.take_items White items m))) false refl refl (rw p refl) refl (λ S. refl)
     (λ on. none)
 agree_handshake_done r Black items m p none =
-    at (machine.lack r (machine.take_items Black items m).white.items)
-    (machine.lack r (machine.take_items Black items m).black.items)
+    at (machine.missing r (machine.take_items Black items m).white.items)
+    (machine.missing r (machine.take_items Black items m).black.items)
   where
     faulted : (S : Colour) (f : MatchFault) → Agrees r m (machine.enter (phases.Over (Faulted S f))
         (machine.take_items Black items m))
@@ -470,7 +470,7 @@ agree_handshake r c items m p none =
     owed : with_items.unsent_to ≡ owed_in with_items.phase
     owed = frame.0 ∙ none ∙ sym (ap owed_in (frame.1 ∙ p))
 
-    at : (done many : Bool) → Agrees r m (if done then machine.greeted r c (machine.take_items c items m)
+    at : (done many : Bool) → Agrees r m (if done then machine.handshake_ended r c (machine.take_items c items m)
         else if many then machine.over (Faulted c NoDone) (machine.take_items c items m)
         else (let m' = machine.take_items c items m in record m' { count = m.count + 1 }))
         (with_answers c items (if done then handshake_done r c (view (machine.take_items c items m))

@@ -89,7 +89,7 @@ if_fault : (b : Bool) (x y : Option MatchFault) → NoWriteFault x → NoWriteFa
 if_fault true x y p q = p
 if_fault false x y p q = q
 
-lacks : (r : Rules) (items : List Item) → NoWriteFault (machine.lack r items)
+lacks : (r : Rules) (items : List Item) → NoWriteFault (machine.missing r items)
 lacks r items = if_fault (not (takes (codes "ping") items)) (Some NoPing) _ (λ c O. refl)
     (if_fault (is_some r.start_fen && not (takes (codes "setboard") items)) (Some NoSetboard) _ (λ c O. refl)
     (if_fault (is_fischerandom r.variant && not (plays_fischerandom items)) (Some NoVariant) None (λ c O. refl) tt))
@@ -102,10 +102,10 @@ judged_ends e m None None n p q = not_yet e (machine.enter (phases.Setup White) 
 
 handshake_done_ends : (r : Rules) (e : Event) (c : Colour) (m : machine.Match)
     → ((O : Colour) → is_fault Write O e ≡ false)
-    → Ends e (machine.greeted r c m)
+    → Ends e (machine.handshake_ended r c m)
 handshake_done_ends r e White m n = not_yet e (machine.enter (phases.Handshake Black) m) (phases.Handshake Black) refl
     refl
-handshake_done_ends r e Black m n = judged_ends e m (machine.lack r m.white.items) (machine.lack r m.black.items) n
+handshake_done_ends r e Black m n = judged_ends e m (machine.missing r m.white.items) (machine.missing r m.black.items) n
     (lacks r m.white.items)
     (lacks r m.black.items)
 

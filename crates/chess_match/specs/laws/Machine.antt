@@ -45,16 +45,16 @@ with_seat White change m = record m { white = change m.white }
 with_seat Black change m = record m { black = change m.black }
 
 -- what is known of an engine before its first line: nothing
-abbrev pub vacant : Seat
-vacant = record { items = []; used = []; offers = false }
+abbrev pub new_seat : Seat
+new_seat = record { items = []; used = []; offers = false }
 
 -- a match before its first event: White's handshake is awaited
 abbrev pub start : Match
 start =
     record {
       phase = Handshake White;
-      white = vacant;
-      black = vacant;
+      white = new_seat;
+      black = new_seat;
       played = [];
       unsent_to = None;
       count = 0;
@@ -89,8 +89,8 @@ take_items S items m = with_seat S (λ s. record s { items = s.items ++ items })
 
 -- what an engine with these items lacks for the match, if anything: `ping=1`; `setboard=1`, if a start is sent;
 -- `fischerandom` among its variants, for Chess960
-abbrev pub lack : Rules → List Item → Option MatchFault
-lack r items =
+abbrev pub missing : Rules → List Item → Option MatchFault
+missing r items =
     if not (takes (codes "ping") items) then Some NoPing
     else if is_some r.start_fen && not (takes (codes "setboard") items) then Some NoSetboard
     else if is_fischerandom r.variant && not (plays_fischerandom items) then Some NoVariant
@@ -105,15 +105,15 @@ after_handshakes None None m = enter (Setup White) m
 
 -- the match `m` after the handshake of the side `S` ended: Black's comes after White's, and then both engines are
 -- judged
-abbrev pub greeted : Rules → Colour → Match → Match
-greeted r White m = enter (Handshake Black) m
-greeted r Black m = after_handshakes (lack r m.white.items) (lack r m.black.items) m
+abbrev pub handshake_ended : Rules → Colour → Match → Match
+handshake_ended r White m = enter (Handshake Black) m
+handshake_ended r Black m = after_handshakes (missing r m.white.items) (missing r m.black.items) m
 
 -- the match `m` after a line of the side `S` in its handshake, which has these items: `done=1` ends the handshake;
 -- without it the 1,000th line ends the match
 unfoldable pub handshake_line : Rules → Colour → List Item → Match → Match
 handshake_line r S items m =
-    if has_done items then greeted r S (take_items S items m)
+    if has_done items then handshake_ended r S (take_items S items m)
     else if nat_le 1000 (m.count + 1) then over (Faulted S NoDone) (take_items S items m)
     else let m' = take_items S items m in record m' { count = m.count + 1 }
 
