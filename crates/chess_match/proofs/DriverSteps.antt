@@ -12,7 +12,7 @@ use Rattle.chess_game.specs.Game as game
 use Rattle.chess_game.specs.Game.{from_start}
 use Rattle.chess_match.specs.ties.Chess.{Plays}
 use Rattle.chess_match.specs.ties.Delivering.{Delivered, event_read}
-use Rattle.chess_match.proofs.EngineOutput.{OutputAt}
+use Rattle.chess_match.specs.ties.EngineOutput.{OutputAt}
 use Rattle.cecp_engine.specs.Levels.{LevelSeen}
 use Rattle.chess_match.specs.laws.Machine.{Match, start, match_after}
 use Rattle.chess_match.specs.Events.{Event}

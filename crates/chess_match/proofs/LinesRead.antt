@@ -12,7 +12,8 @@ use Rattle.chess_base.proofs.shared.Men.{same_colour-self}
 use Rattle.text_lines.specs.Lines.{LineSeen, Held}
 use Rattle.text_lines.specs.Next.{NextLine, GotLine, GotLast, work}
 use Rattle.chess_match.specs.ties.Delivering.{event_read, Delivered}
-use Rattle.chess_match.proofs.EngineOutput.{is_of_output, Reports, OutputAt}
+use Rattle.chess_match.specs.ties.EngineOutput.{Reports, OutputAt}
+use Rattle.chess_match.specs.ties.Driving.{is_of_output}
 use Rattle.chess_match.specs.laws.Machine.{Match, match_after}
 use Rattle.chess_match.specs.Events.{Event, Line, OutputEnds, FailsToRead}
 use Rattle.chess_match.specs.Notes.{Noted}

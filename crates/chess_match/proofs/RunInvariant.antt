@@ -4,7 +4,7 @@ use Rattle.chess_base.specs.declared.man.Colour.{Colour}
 use Rattle.chess_base.specs.declared.man.Move.{Move}
 use Rattle.byte_devices.specs.Devices.{InputState, OutputState}
 use Rattle.text_lines.specs.Lines.{Held}
-use Rattle.chess_match.proofs.EngineOutput.{OutputSoFar}
+use Rattle.chess_match.specs.ties.EngineOutput.{OutputSoFar}
 use Rattle.chess_match.specs.Events.{Event}
 use Rattle.chess_match.specs.Notes.{Noted, WasNoted}
 use Rattle.chess_match.specs.laws.TranscriptNotes.{notes_of}

@@ -9,7 +9,8 @@ use Rattle.chess_base.specs.Men.{other, same_colour}
 use Rattle.chess_base.proofs.shared.Men.{same_colour-true}
 use Rattle.text_lines.specs.Lines.{Held, nothing_held}
 use Rattle.chess_match.specs.ties.Delivering.{AllSent, OneFailed, Delivered, first_in}
-use Rattle.chess_match.proofs.EngineOutput.{OutputSoFar, OutputAt, is_of_output}
+use Rattle.chess_match.specs.ties.EngineOutput.{OutputSoFar, OutputAt}
+use Rattle.chess_match.specs.ties.Driving.{is_of_output}
 use Rattle.chess_match.specs.laws.Machine.{Match, start, match_after}
 use Rattle.chess_match.specs.Events.{Event, Line, Opened, OutputEnds, FailsToRead, FailsToWrite}
 use Rattle.chess_match.specs.Notes.{Noted, WasNoted, Happened}

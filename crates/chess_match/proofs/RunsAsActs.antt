@@ -527,7 +527,7 @@ first_fault_same : (reason : Reason) (failed failed' : Colour → Bool) → ((S 
     → first_fault reason failed ≡ first_fault reason failed'
 first_fault_same reason failed failed' e = ap (first_fault reason) (fun_ext e)
 
-read_as : (S : Colour) (T : List Event) (H : List Act) (old new : InputState) (given : List ℕ) → lines_read S H
+pub read_as : (S : Colour) (T : List Event) (H : List Act) (old new : InputState) (given : List ℕ) → lines_read S H
     ≡ lines_of_engine S T
     → has_ended S H ≡ has_fault Ended S T → has_failed_read S H ≡ has_fault Read S T → ReadFrom S T old new given
     → ReadAs S H old new given
