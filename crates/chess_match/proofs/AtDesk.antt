@@ -19,7 +19,7 @@ use Rattle.chess_match.specs.Table.{Does, Notes, Passes, Step, reading_of, sendi
 use Rattle.chess_match.specs.declared.reason.MatchFault.TheVariants.{Ended, Read}
 use Rattle.chess_match.specs.declared.reason.Reason.{Reason}
 use Rattle.chess_match.specs.declared.run.TheConstants.{ENGINE_LINE_LEN}
-use Rattle.chess_match.specs.ties.AtDesk.{Did, ReadsOf, WritesAt, WritesOf, acts_in, event_at, notes_in}
+use Rattle.chess_match.specs.ties.AtDesk.{Did, NotedSince, ReadsOf, WritesAt, WritesOf, acts_in, event_at, notes_in}
 use Rattle.chess_match.specs.ties.Delivering.{event_read}
 use Rattle.chess_match.specs.ties.EngineOutput.{OutputAt}
 use Rattle.chess_match.specs.ties.Reported.{SendsIf}
@@ -68,6 +68,13 @@ pub record Moves (ports ports' : Ports) (held held' : Colour → Held) (coming c
   pub moments : ClockReadings coming coming' (moments_shown (acts_in J))
   pub noted : WasNoted witness witness' (notes_in J)
 
+since_more : (a b : Noted) (first : Option (List ℕ × List Note)) (M N all : List Note) → all ≡ M ++ N
+    → WasNoted a b N → NotedSince a first M → NotedSince b first all
+since_more a b None M N all e p h = tt
+since_more a b (Some (text, notes)) M N all e p h =
+    subst (λ (ns : List Note). b text ns)
+    (append_assoc notes M N ∙ ap (λ (l : List Note). notes ++ l) (sym e)) (p.extends text (notes ++ M) h)
+
 pub moved : (ports ports' : Ports) (held held' : Colour → Held) (coming coming' : ℕ → Option ℕ)
     (witness witness' : Noted) (names names' : List ℕ) (J : List Step)
     → Moves ports ports' held held' coming coming' witness witness' names names' J
@@ -87,10 +94,8 @@ moved ports ports' held held' coming coming' witness witness' names names' J m =
         (sym (moments_shown-append (acts_in K) (acts_in J)))
         (asked_more begun.coming coming coming' (moments_shown (acts_in K)) (moments_shown (acts_in J)) d.moments
         m.moments));
-    noted = subst (λ (ns : List Note). witness' begun.text ns)
-        (append_assoc begun.notes (notes_in K) (notes_in J)
-        ∙ ap (λ (l : List Note). begun.notes ++ l) (sym (notes_in-append K J)))
-        (m.noted.extends begun.text (begun.notes ++ notes_in K) d.noted);
+    noted = since_more witness witness' begun.noted (notes_in K) (notes_in J) (notes_in (K ++ J)) (notes_in-append K J)
+        m.noted d.noted;
   };
 }
 

@@ -1,10 +1,11 @@
 -- What each device of a desk did in a whole match.
-use Rattle.std.proofs.Common.{◌≡◌, ℕ, Bool, true, false, List, [], ◌∷◌, ◌++◌, map, refl, ap, sym, ◌∙◌, subst, append_assoc, append-nil, Option}
+use Rattle.std.proofs.Common.{◌≡◌, ℕ, Bool, true, false, List, [], ◌∷◌, ◌++◌, map, refl, ap, sym, ◌∙◌, subst, append_assoc, append-nil, Option, None, Some}
 use Rattle.std.specs.Bool.{MatchBool}
 use Rattle.std.specs.Prelude.{if◌then◌else◌}
 use Rattle.byte_devices.specs.Devices.{InputState, OutputState, BreaksOff}
 use Rattle.chess_base.specs.declared.man.Colour.{Colour}
 use Rattle.chess_base.specs.Men.{same_colour}
+use Rattle.chess_game.specs.Game as game
 use Rattle.text_lines.specs.Lines.{Held, nothing_held}
 use Rattle.chess_match.specs.Acts.{Act, Block, IsMatch, Sends, SendFails, Reads, ReadsEnd, ReadFails, ReadsClock}
 use Rattle.chess_match.specs.ByDevice.{broken_blocks, lines_read, lines_sent, moments_shown, notes_given}
@@ -12,16 +13,18 @@ use Rattle.chess_match.specs.Effects as effects
 use Rattle.chess_match.specs.Events.{Event, Line, FailsToWrite}
 use Rattle.chess_match.specs.laws.TranscriptRuns.{ReadFrom}
 use Rattle.chess_match.specs.Lines.{SentLine, bytes_of, list_if}
-use Rattle.chess_match.specs.Notes.{Note, Noted}
-use Rattle.chess_match.specs.Played.{Passed, ReadAs, World, WrittenAs}
-use Rattle.chess_match.specs.Rules.{Rules}
+use Rattle.chess_match.specs.Notes.{Note, Noted, WasNoted}
+use Rattle.chess_match.specs.Played.{Passed, PlayedAt, PlayedNoting, ReadAs, World, WrittenAs}
+use Rattle.chess_match.specs.Rules.{Rules, rules_of}
 use Rattle.chess_match.specs.Run.{ClockReadings, Flushed, Ports}
-use Rattle.chess_match.specs.Table.{Beginning, watched}
+use Rattle.chess_match.specs.Table.{Beginning, Passes, Step, watched}
 use Rattle.chess_match.specs.declared.reason.Reason.{Reason}
-use Rattle.chess_match.specs.ties.AtDesk.{Did, ReadsOf, WritesOf, acts_in, event_at, notes_in}
+use Rattle.chess_match.specs.declared.run.MatchEnd.{MatchEnd}
+use Rattle.chess_match.specs.declared.run.Setup.{Setup}
+use Rattle.chess_match.specs.ties.AtDesk.{Did, NotedSince, ReadsOf, WritesOf, acts_in, event_at}
 use Rattle.chess_match.specs.ties.EngineOutput.{OutputAt}
 use Rattle.chess_match.proofs.AtDesk.{acts_watched, ends_at, failures_at, lines_at, notes_watched, tail_faults, tail_lines, tail_moments, tail_same}
-use Rattle.chess_match.proofs.LongerTranscripts.{IsTail, no_tail}
+use Rattle.chess_match.proofs.LongerTranscripts.{IsTail, asked_none, no_tail}
 use Rattle.chess_match.proofs.MatchCases.{all_reads_end, all_sends_end, reads_end, sends_end, unread, unsent_in}
 use Rattle.chess_match.proofs.OutputByCalls.{output_start}
 use Rattle.chess_match.proofs.OutputByEvents.{output_longer, still_read}
@@ -196,9 +199,63 @@ desk_passed r H final reason begun ports held coming witness names w w' is_match
           d.moments);
     }
 
-pub desk_noted : (H : List Act) (reason : Reason) (begun : Beginning) (ports : Ports) (held : Colour → Held)
-    (coming : ℕ → Option ℕ) (witness : Noted) (names : List ℕ)
-    → Did begun ports held coming witness names (watched reason H)
-    → witness begun.text (begun.notes ++ notes_given reason H)
-desk_noted H reason begun ports held coming witness names d =
-    subst (λ (ns : List Note). witness begun.text (begun.notes ++ ns)) (notes_watched reason H) d.noted
+-- nothing passed yet
+started : (ports : Ports) (held : Colour → Held) (coming : ℕ → Option ℕ) (witness : Noted) (names : List ℕ)
+    (first : Option (List ℕ × List Note)) → ((S : Colour) → held S ≡ nothing_held) → NotedSince witness first []
+    → Did (record { ports = ports; coming = coming; noted = first; names = names }) ports held coming witness names []
+started ports held coming witness names first none noted = record {
+  named = refl;
+  read = λ S. (refl, none S);
+  written = λ S. refl;
+  moments = asked_none coming;
+  noted = noted;
+}
+
+-- the desk holds the same references
+pub names_kept : (ports ports' : Ports) (held held' : Colour → Held) (coming coming' : ℕ → Option ℕ)
+    (witness witness' : Noted) (names names' : List ℕ) (K : List Step)
+    → Passes (λ begun K. Did begun ports held coming witness names K)
+    (λ begun K. Did begun ports' held' coming' witness' names' K) K
+    → ((S : Colour) → held S ≡ nothing_held) → names' ≡ names
+names_kept ports ports' held held' coming coming' witness witness' names names' K p none =
+    (p.extends (record { ports = ports; coming = coming; noted = None; names = names }) []
+    (started ports held coming witness names None none tt)).named
+
+-- what was played at a desk, its devices show; the clock and the witness are those that the desk holds
+pub desk_ran : (setup : Setup) (end : MatchEnd) (ports ports' : Ports) (held held' : Colour → Held)
+    (coming coming' coming'' : ℕ → Option ℕ) (witness witness' witness'' : Noted) (names names' : List ℕ)
+    (g g' : game.Seen)
+    → PlayedAt setup end (λ begun K. Did begun ports held coming witness names K)
+    (λ begun K. Did begun ports' held' coming' witness' names' K) g g'
+    → ((S : Colour) → held S ≡ nothing_held) → (names' ≡ names → coming'' ≡ coming')
+    → (names' ≡ names → witness'' ≡ witness')
+    → PlayedNoting (λ notes. WasNoted witness witness'' notes) setup end
+    (record { ports = ports; coming = coming; game = g }) (record { ports = ports'; coming = coming''; game = g' })
+desk_ran setup end ports ports' held held' coming coming' coming'' witness witness' witness'' names names' g g'
+    (H, reason, final, is_match, passes, reported, left) none clock watcher =
+    let r : Rules = rules_of setup.start setup.level g.limit in
+    let K : List Step = watched reason H in
+    let named : names' ≡ names =
+    names_kept ports ports' held held' coming coming' witness witness' names names' K passes none in
+    let begun : Beginning = record { ports = ports; coming = coming; noted = None; names = names } in
+    let d : Did begun ports' held' coming' witness' names' K =
+    passes.extends begun [] (started ports held coming witness names None none tt) in (
+      H,
+      reason,
+      record {
+        extends = λ text notes h. subst (λ (x : Noted). x text (notes ++ notes_given reason H)) (sym (watcher named))
+            (subst (λ (ns : List Note). witness' text (notes ++ ns)) (notes_watched reason H)
+            (passes.extends
+            (record { ports = ports; coming = coming; noted = Some (text, notes); names = names }) []
+            (started ports held coming witness names (Some (text, notes)) none
+            (subst (λ (ns : List Note). witness text ns) (sym (append-nil notes)) h))).noted);
+      },
+      (
+        final,
+        desk_passed r H final reason begun ports' held' coming' witness' names'
+            (record { ports = ports; coming = coming; game = g })
+            (record { ports = ports'; coming = coming''; game = g' }) is_match d refl refl refl (clock named),
+        reported,
+        left,
+      ),
+    )

@@ -53,13 +53,12 @@ is_line _ = false
 
 -- ---- what passed
 
--- what a table was at first, as far as contracts see it: both engines' devices, which moments the clock was to show, a
--- text that its witness held, and notes that it may have been given after that text
+-- what a table was at first, as far as contracts see it: both engines' devices, and which moments the clock was to show
 pub record Beginning : Type 0 where
   pub ports : Ports
   pub coming : ℕ → Option ℕ
-  pub text : List ℕ
-  pub notes : List Note
+  -- a text that the witness held at first, and the notes that it may have been given since; `None` says nothing of it
+  pub noted : Option (List ℕ × List Note)
   -- the names of the references to all these
   pub names : List ℕ
 

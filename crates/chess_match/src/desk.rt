@@ -1,13 +1,12 @@
 //! The table of separate devices.
 
 ghost use Rattle.std.specs.Prelude.{◌+◌, ◌∷◌, []};
-ghost use Rattle.chess_base.specs.ByColour.{of_colour};
+ghost use Rattle.chess_base.specs.ByColour.{by_colour, of_colour};
 ghost use Rattle.text_lines.specs.Next.{work};
-ghost use Rattle.chess_match.specs.Run.{ports_of};
 ghost use Rattle.chess_match.specs.ties.AtDesk.{Did};
 
 use crate::moments::Moments;
-use crate::run::{ENGINE_LINE_LEN, Ends};
+use crate::run::ENGINE_LINE_LEN;
 use crate::table::Table;
 use crate::witness::Witness;
 use byte_devices::{Input, Output, ReadFault, WriteFault, send};
@@ -16,26 +15,33 @@ use text_lines::{Line, Lines};
 
 /// Both engines' pipes, the clock and the witness of a match, each on its own.
 #[derive(Drop)]
-pub(crate) struct Desk<'a, 'b, 'c, 'd, R, W, M, L> {
-    pub white: &'a mut Ends<R, W>,
-    pub black: &'b mut Ends<R, W>,
-    pub moments: &'c mut M,
-    pub witness: &'d mut L,
+pub(crate) struct Desk<'a, 'b, 'c, 'd, 'e, 'f, R, W, M, L> {
+    pub white_reader: &'a mut R,
+    pub white_writer: &'b mut W,
+    pub black_reader: &'c mut R,
+    pub black_writer: &'d mut W,
+    pub moments: &'e mut M,
+    pub witness: &'f mut L,
     pub lines: ByColour<Lines<ENGINE_LINE_LEN>>,
 }
 
-impl<R: Input, W: Output, M: Moments, L: Witness> Table for Desk<'_, '_, '_, '_, R, W, M, L> {
-    ghost passed = { λ d begun steps. Did begun (ports_of R.seen W.seen d.white.now d.black.now) (of_colour d.lines)
-        (M.coming d.moments.now) (L.noted d.witness.now)
-        (d.white.ghost_name ∷ d.black.ghost_name ∷ d.moments.ghost_name ∷ d.witness.ghost_name ∷ []) steps };
+impl<R: Input, W: Output, M: Moments, L: Witness> Table for Desk<'_, '_, '_, '_, '_, '_, R, W, M, L> {
+    ghost passed = { λ d begun steps. Did begun
+        (record {
+          reader = by_colour (R.seen d.white_reader.now) (R.seen d.black_reader.now);
+          writer = by_colour (W.seen d.white_writer.now) (W.seen d.black_writer.now);
+        })
+        (of_colour d.lines) (M.coming d.moments.now) (L.noted d.witness.now)
+        (d.white_reader.ghost_name ∷ d.white_writer.ghost_name ∷ d.black_reader.ghost_name ∷ d.black_writer.ghost_name
+        ∷ d.moments.ghost_name ∷ d.witness.ghost_name ∷ []) steps };
 
-    ghost left = { λ d. work (R.seen d.white.now.reader) d.lines.white + work (R.seen d.black.now.reader) d.lines.black };
+    ghost left = { λ d. work (R.seen d.white_reader.now) d.lines.white + work (R.seen d.black_reader.now) d.lines.black };
 
     // Sends this text by one call, and flushes.
     fn send(&mut self, side: Colour, text: &[u8]) -> Result<(), WriteFault> {
         match side {
-            Colour::White => send(&mut self.white.writer, text),
-            Colour::Black => send(&mut self.black.writer, text),
+            Colour::White => send(self.white_writer, text),
+            Colour::Black => send(self.black_writer, text),
         }
     }
 
@@ -46,8 +52,8 @@ impl<R: Input, W: Output, M: Moments, L: Witness> Table for Desk<'_, '_, '_, '_,
         line: &mut Line<ENGINE_LINE_LEN>,
     ) -> Result<bool, ReadFault> {
         match side {
-            Colour::White => self.lines.white.read_line(&mut self.white.reader, line),
-            Colour::Black => self.lines.black.read_line(&mut self.black.reader, line),
+            Colour::White => self.lines.white.read_line(self.white_reader, line),
+            Colour::Black => self.lines.black.read_line(self.black_reader, line),
         }
     }
 

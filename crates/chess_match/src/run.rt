@@ -155,8 +155,10 @@ pub fn run_match_watched<R: Input, W: Output, M: Moments, B: Board, L: Witness>(
     ensures outcome { verdict_now game.new.state ≡ None → outcome_now game.new.state ≡ result.outcome }
 {
     let mut desk = Desk {
-        white,
-        black,
+        white_reader: &mut white.reader,
+        white_writer: &mut white.writer,
+        black_reader: &mut black.reader,
+        black_writer: &mut black.writer,
         moments,
         witness,
         lines: ByColour {
@@ -164,9 +166,7 @@ pub fn run_match_watched<R: Input, W: Output, M: Moments, B: Board, L: Witness>(
             black: Lines::new(),
         },
     };
-    let plan = *setup;
-    let end = run_match_at(&mut desk, &plan, game);
-    end
+    run_match_at(&mut desk, setup, game)
 }
 
 /// Plays one game at a table, as [`run_match`] does between two engines.

@@ -1,5 +1,5 @@
 -- What passed at a desk, as each of its devices, seen apart, shows.
-use Rattle.std.specs.Prelude.{◌≡◌, ℕ, List, [], ◌∷◌, ◌++◌, Option}
+use Rattle.std.specs.Prelude.{◌≡◌, ℕ, List, [], ◌∷◌, ◌++◌, Option, None, Some}
 use Rattle.std.specs.Bool.{MatchBool}
 use Rattle.byte_devices.specs.Devices.{InputState, OutputState, BreaksOff}
 use Rattle.chess_base.specs.declared.man.Colour.{Colour}
@@ -55,6 +55,11 @@ abbrev pub WritesOf : Colour → List Act → OutputState → OutputState → Ty
 WritesOf S [] w w' = w' ≡ w
 WritesOf S (a ∷ H) w w' = (v : OutputState) × WritesAt S a w v × WritesOf S H v w'
 
+-- the witness may have been given the notes `more`, besides those that `first` has
+abbrev pub NotedSince : Noted → Option (List ℕ × List Note) → List Note → Type 0
+NotedSince witness None more = Unit {0}
+NotedSince witness (Some first) more = witness first.0 (first.1 ++ more)
+
 -- since the desk was as in `begun` just these steps passed: the devices did the acts, and the witness was given the
 -- notes. The rest says how the desk is now
 pub record Did (begun : Beginning) (ports : Ports) (held : Colour → Held) (coming : ℕ → Option ℕ) (witness : Noted)
@@ -64,4 +69,4 @@ pub record Did (begun : Beginning) (ports : Ports) (held : Colour → Held) (com
       → ReadsOf S (acts_in steps) (begun.ports.reader S) (ports.reader S) nothing_held (held S)
   pub written : (S : Colour) → WritesOf S (acts_in steps) (begun.ports.writer S) (ports.writer S)
   pub moments : ClockReadings begun.coming coming (moments_shown (acts_in steps))
-  pub noted : witness begun.text (begun.notes ++ notes_in steps)
+  pub noted : NotedSince witness begun.noted (notes_in steps)
