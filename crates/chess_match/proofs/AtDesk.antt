@@ -184,8 +184,7 @@ send_moves ports ports' held coming witness names S failed lines h others same =
       );
       written = either (λ X. WritesOf X (sending failed (record { to = S; lines = lines }) ∷ []) (ports.writer X)
           (ports'.writer X)) S
-          (ports'.writer S, writes_own S failed lines (ports.writer S) (ports'.writer S) h, refl)
-          (
+          (ports'.writer S, writes_own S failed lines (ports.writer S) (ports'.writer S) h, refl) (
             ports'.writer (other S),
             writes_other S failed lines (ports.writer (other S)) (ports'.writer (other S)) others,
             refl,

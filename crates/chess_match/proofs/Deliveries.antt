@@ -1,5 +1,5 @@
 -- The blocks of an event, sent one after the other.
-use Rattle.std.proofs.Common.{◌≡◌, ℕ, ◌<◌, ◌≤◌, Bool, true, false, not, ◌&&◌, ◌||◌, List, [], ◌∷◌, ◌++◌, length, refl, ap, sym, ◌∙◌, subst, append_assoc, append-nil, arith}
+use Rattle.std.proofs.Common.{◌≡◌, ℕ, ◌<◌, Bool, true, false, not, ◌&&◌, ◌||◌, List, [], ◌∷◌, ◌++◌, length, refl, ap, sym, ◌∙◌, subst, append_assoc, append-nil}
 use Rattle.chess_base.specs.declared.man.Colour.{Colour}
 use Rattle.chess_base.specs.declared.man.Colour.TheVariants.{White, Black}
 use Rattle.chess_base.specs.declared.man.Move.{Move}
@@ -113,7 +113,7 @@ pub delivered_last : (r : Rules) (old new : Passing) (core : MatchState) (played
 delivered_last r old new core played m due side white black stands off apart passes some =
     let over : is_over (view m).phase ≡ true = is_over_by m false off in
     let apart' : (S : Colour) (reason : Reason) → (view m).phase ≡ effects.Over reason
-        → is_unwritten reason S ≡ false =
+    → is_unwritten reason S ≡ false =
     λ S reason e. apart reason S (over_back m.opened m.phase reason e) in (
       m,
       giving white White (due White) ++ giving black Black (due Black),

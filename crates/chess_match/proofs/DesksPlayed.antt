@@ -1,5 +1,5 @@
 -- What each device of a desk did in a whole match.
-use Rattle.std.proofs.Common.{◌≡◌, ℕ, Bool, true, false, List, [], ◌∷◌, ◌++◌, map, refl, ap, sym, ◌∙◌, subst, append_assoc, append-nil, Option, None, Some}
+use Rattle.std.proofs.Common.{◌≡◌, ℕ, Bool, true, false, List, [], ◌∷◌, ◌++◌, map, refl, sym, ◌∙◌, subst, append_assoc, append-nil, Option, None, Some}
 use Rattle.std.specs.Bool.{MatchBool}
 use Rattle.std.specs.Prelude.{if◌then◌else◌}
 use Rattle.byte_devices.specs.Devices.{InputState, OutputState, BreaksOff}
@@ -7,8 +7,8 @@ use Rattle.chess_base.specs.declared.man.Colour.{Colour}
 use Rattle.chess_base.specs.Men.{same_colour}
 use Rattle.chess_game.specs.Game as game
 use Rattle.text_lines.specs.Lines.{Held, nothing_held}
-use Rattle.chess_match.specs.Acts.{Act, Block, IsMatch, Sends, SendFails, Reads, ReadsEnd, ReadFails, ReadsClock}
-use Rattle.chess_match.specs.ByDevice.{broken_blocks, lines_read, lines_sent, moments_shown, notes_given}
+use Rattle.chess_match.specs.Acts.{Act, IsMatch, Sends, SendFails, Reads, ReadsEnd, ReadFails, ReadsClock}
+use Rattle.chess_match.specs.ByDevice.{broken_blocks, lines_sent, moments_shown, notes_given}
 use Rattle.chess_match.specs.Effects as effects
 use Rattle.chess_match.specs.Events.{Event, Line, FailsToWrite}
 use Rattle.chess_match.specs.laws.TranscriptRuns.{ReadFrom}
@@ -62,9 +62,11 @@ reads_out : (S : Colour) (T : List Event) (a : Act) (H : List Act) (r v v' r' : 
     (given : List ℕ) → unread H ≡ true → IsStillRead S T r v h given → OutputAt S (event_at a) v v' h k
     → ReadsOf S H v' r' k h' → (all : List ℕ) × ReadFrom S (T ++ event_at a ∷ map event_at H) r r' all
 reads_out S T a H r v v' r' h k h' given u s o p =
-    let q = output_longer S T (event_at a) (map event_at H) false r v v' h k given (quiet H u) (λ e. refl) o s in
-    (q.0, subst (λ (x : InputState). ReadFrom S (T ++ event_at a ∷ map event_at H) r x q.0)
-    (sym (tail_same S H v' r' k h' u p)) q.1)
+    let q = output_longer S T (event_at a) (map event_at H) false r v v' h k given (quiet H u) (λ e. refl) o s in (
+      q.0,
+      subst (λ (x : InputState). ReadFrom S (T ++ event_at a ∷ map event_at H) r x q.0)
+          (sym (tail_same S H v' r' k h' u p)) q.1,
+    )
 
 reads_all : (S : Colour) (T : List Event) (H : List Act) (r v r' : InputState) (h h' : Held) (given : List ℕ)
     → reads_end H ≡ true → IsStillRead S T r v h given → ReadsOf S H v r' h h'

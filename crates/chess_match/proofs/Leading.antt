@@ -1,12 +1,11 @@
 -- Steps that lead from one match to another.
-use Rattle.std.proofs.Common.{◌≡◌, ℕ, ◌<◌, Bool, true, false, not, ◌||◌, List, [], ◌∷◌, ◌++◌, length, refl, ap, sym, ◌∙◌, subst, append_assoc, append-nil, Option, arith, lt-ltb}
+use Rattle.std.proofs.Common.{◌≡◌, ℕ, ◌<◌, Bool, true, false, ◌||◌, List, [], ◌∷◌, ◌++◌, length, refl, ap, sym, ◌∙◌, subst, append_assoc, append-nil, arith, lt-ltb}
 use Rattle.std.specs.Prelude.{if◌then◌else◌, nat_lt}
 use Rattle.chess_base.specs.declared.man.Colour.{Colour}
 use Rattle.chess_base.specs.declared.man.Colour.TheVariants.{White, Black}
-use Rattle.chess_base.specs.ByColour.{by_colour}
 use Rattle.chess_base.specs.Men.{other, same_colour}
 use Rattle.chess_base.proofs.shared.Men.{same_colour-self, same_colour-true}
-use Rattle.chess_match.specs.Acts.{Act, Block, Sends, SendFails, Reads, ReadsEnd, ReadFails, ReadsClock, IsMatchFrom, awaits_line, is_over, block_of, blocks_from, blocks_after, after_failed_send}
+use Rattle.chess_match.specs.Acts.{Act, Block, Sends, SendFails, Reads, ReadsEnd, ReadFails, ReadsClock, IsMatchFrom, awaits_line, is_over, block_of, blocks_from, blocks_after}
 use Rattle.chess_match.specs.ByDevice.{broken_blocks, is_broken}
 use Rattle.chess_match.specs.Effects.{Match, Effect, Opening, Over, effect}
 use Rattle.chess_match.specs.Events.{Event, Line, Opened, OutputEnds, FailsToRead, FailsToWrite}
@@ -14,11 +13,11 @@ use Rattle.chess_match.specs.Lines.{SentLine, bytes_of, list_if}
 use Rattle.chess_match.specs.Notes.{Happened, Gives}
 use Rattle.chess_match.specs.Reasons.{is_unwritten}
 use Rattle.chess_match.specs.Rules.{Rules}
-use Rattle.chess_match.specs.Table.{Step, Does, Notes, sending, watched}
+use Rattle.chess_match.specs.Table.{Step, Does, Notes, watched}
 use Rattle.chess_match.specs.declared.reason.MatchFault.TheVariants.{Write}
 use Rattle.chess_match.specs.declared.reason.Reason.{Reason}
 use Rattle.chess_match.specs.declared.reason.Reason.TheVariants.{Faulted}
-use Rattle.chess_match.specs.ties.Driving.{Ends, Leads, giving, is_of_output, steps_of}
+use Rattle.chess_match.specs.ties.Driving.{Leads, giving, is_of_output, steps_of}
 
 -- no write failed
 abbrev pub none : Colour → Bool

@@ -1,5 +1,5 @@
 -- A match that goes on at a table.
-use Rattle.std.proofs.Common.{◌≡◌, ℕ, ◌+◌, ◌*◌, ◌<◌, ◌≤◌, Bool, true, false, not, ◌||◌, List, [], ◌∷◌, ◌++◌, refl, ap, sym, ◌∙◌, subst, arith, Option, None, Some}
+use Rattle.std.proofs.Common.{◌≡◌, ℕ, ◌+◌, ◌*◌, ◌<◌, ◌≤◌, Bool, true, false, not, ◌||◌, List, [], ◌++◌, refl, ap, sym, ◌∙◌, subst, arith, Option, None, Some}
 use Rattle.std.specs.Option.{option_map_or}
 use Rattle.std.specs.Prelude.{codes, if◌then◌else◌}
 use Rattle.std.proofs.Math.Path.{fun_ext}
@@ -9,7 +9,6 @@ use Rattle.chess_base.specs.declared.man.Colour.{Colour}
 use Rattle.chess_base.specs.declared.man.Colour.TheVariants.{White, Black}
 use Rattle.chess_base.specs.declared.man.Move.{Move}
 use Rattle.chess_base.specs.declared.setup.Setup.{Setup}
-use Rattle.chess_base.specs.Men.{other, same_colour}
 use Rattle.chess_base.proofs.shared.Men.{same_colour-true}
 use Rattle.chess_game.specs.Ends.{verdict, verdict_outcome}
 use Rattle.chess_game.specs.Game as game
@@ -22,8 +21,7 @@ use Rattle.chess_game.specs.declared.results.Outcome.TheVariants.{Unfinished}
 use Rattle.chess_game.specs.declared.tags.HowEnded.{HowEnded}
 use Rattle.cecp_engine.specs.Items.{Item, last_value}
 use Rattle.cecp_engine.specs.Levels.{LevelSeen}
-use Rattle.chess_match.specs.Acts.{Act, Block, IsMatch, awaits_line, blocks_from, blocks_after, is_over}
-use Rattle.chess_match.specs.ByDevice.{is_broken}
+use Rattle.chess_match.specs.Acts.{Block, awaits_line, blocks_from, blocks_after, is_over}
 use Rattle.chess_match.specs.Effects as effects
 use Rattle.chess_match.specs.Effects.{Effect, beginning, effect}
 use Rattle.chess_match.specs.Events.{Event, Line, Opened, OutputEnds, FailsToRead, FailsToWrite}
@@ -31,7 +29,7 @@ use Rattle.chess_match.specs.laws.Blocks.{block, lines_on_entering}
 use Rattle.chess_match.specs.laws.Machine.{Match, match_after, seat, start}
 use Rattle.chess_match.specs.laws.Transcript.{fits_next, is_fault, is_on, opens, reads}
 use Rattle.chess_match.specs.Lines.{SentLine}
-use Rattle.chess_match.specs.Played.{PlayedAt, ReportedAs}
+use Rattle.chess_match.specs.Played.{PlayedAt}
 use Rattle.chess_match.specs.Reasons.{comment_of, declared_at, ended_by, first_fault, is_unwritten, outcome_by_reason, reported}
 use Rattle.chess_match.specs.Rules.{Rules, rules_of}
 use Rattle.chess_match.specs.Table.{Step, Passing, Passes, watched}
@@ -41,7 +39,6 @@ use Rattle.chess_match.specs.declared.reason.MatchFault.TheVariants.{Write}
 use Rattle.chess_match.specs.declared.reason.Reason.{Reason}
 use Rattle.chess_match.specs.declared.run.MatchEnd.{MatchEnd}
 use Rattle.chess_match.specs.declared.run.Setup as run_setup
-use Rattle.chess_match.specs.declared.state.Actions.{Actions}
 use Rattle.chess_match.specs.declared.state.MatchState.{MatchState}
 use Rattle.chess_match.specs.ties.Chess.{Plays}
 use Rattle.chess_match.specs.ties.Driving.{Delivered, Leads, is_line_event, is_of_output, steps_of}

@@ -1,26 +1,23 @@
 -- What reading the next line of an engine comes to.
-use Rattle.std.proofs.Common.{◌≡◌, ◌<◌, ℕ, Bool, true, false, List, [], ◌∷◌, ◌++◌, refl, ap, sym, ◌∙◌, subst, Option, None, Some, Result, Ok, Err}
+use Rattle.std.proofs.Common.{◌≡◌, ◌<◌, ℕ, Bool, true, false, List, [], ◌∷◌, ap, sym, ◌∙◌, subst, Option, None, Some, Result, Ok, Err}
 use Rattle.std.specs.Prelude.{if◌then◌else◌}
 use Rattle.chess_base.specs.declared.man.Colour.{Colour}
 use Rattle.chess_base.specs.declared.man.Move.{Move}
-use Rattle.chess_base.proofs.shared.Men.{same_colour-self}
 use Rattle.cecp_engine.specs.Items.{Item}
 use Rattle.text_lines.specs.Lines.{LineSeen}
-use Rattle.chess_match.specs.Acts.{Act, Reads, ReadsEnd, ReadFails}
-use Rattle.chess_match.specs.Events.{Event, FailsToRead, Line, OutputEnds}
+use Rattle.chess_match.specs.Acts.{Reads, ReadsEnd, ReadFails}
+use Rattle.chess_match.specs.Events.{Event}
 use Rattle.chess_match.specs.laws.Machine.{Match, match_after}
 use Rattle.chess_match.specs.laws.Transcript.{reads}
 use Rattle.chess_match.specs.Lines.{answers_to, bytes_of}
-use Rattle.chess_match.specs.Notes.{Happened}
 use Rattle.chess_match.specs.Rules.{Rules}
 use Rattle.chess_match.specs.Run.{text_read}
-use Rattle.chess_match.specs.Table.{Does, Notes, Passing, Passes, is_line, reading_of}
+use Rattle.chess_match.specs.Table.{Does, Passing, Passes, is_line, reading_of}
 use Rattle.chess_match.specs.declared.state.Actions.{Actions}
 use Rattle.chess_match.specs.declared.state.MatchState.{MatchState}
 use Rattle.chess_match.specs.ties.Driving.{is_line_event, is_of_output, steps_of}
 use Rattle.chess_match.specs.ties.Represents.{Goes, Represents, items_to, nothing_said}
 use Rattle.chess_match.proofs.Going.{goes_with, nothing_to}
-use Rattle.chess_match.proofs.Passings.{passed_more}
 
 -- an event without items that is no line
 pub bare : (plays : Rules → Type 0) (old new : Passing) (core : MatchState) (played : List Move) (core' : MatchState)

@@ -1,10 +1,10 @@
 -- What passes at the table of a match, in order: acts at its devices, and notes that its witness is given.
-use Rattle.std.specs.Prelude.{◌≡◌, ℕ, Bool, true, false, if◌then◌else◌, List, [], ◌∷◌, ◌++◌, Option, None, Some, Result, Ok, Err}
+use Rattle.std.specs.Prelude.{ℕ, Bool, true, false, if◌then◌else◌, List, [], ◌∷◌, ◌++◌, Option, None, Some, Result, Ok, Err}
 use Rattle.chess_base.specs.declared.man.Colour.{Colour}
 use Rattle.text_lines.specs.Lines.{LineSeen}
 use Rattle.chess_match.specs.Acts.{Act, Block, Sends, SendFails, Reads, ReadsEnd, ReadFails, ReadsClock}
 use Rattle.chess_match.specs.Events.{Line, Opened, OutputEnds, FailsToRead, FailsToWrite}
-use Rattle.chess_match.specs.Lines.{SentLine, bytes_of, list_if}
+use Rattle.chess_match.specs.Lines.{bytes_of, list_if}
 use Rattle.chess_match.specs.Notes.{Note, Happened, Gives}
 use Rattle.chess_match.specs.Reasons.{is_unwritten}
 use Rattle.chess_match.specs.Run.{Ports, text_read}

@@ -25,7 +25,8 @@ pub(crate) struct Desk<'a, 'b, 'c, 'd, 'e, 'f, R, W, M, L> {
     pub lines: ByColour<Lines<ENGINE_LINE_LEN>>,
 }
 
-impl<R: Input, W: Output, M: Moments, L: Witness> Table for Desk<'_, '_, '_, '_, '_, '_, R, W, M, L> {
+impl<R: Input, W: Output, M: Moments, L: Witness> Table
+    for Desk<'_, '_, '_, '_, '_, '_, R, W, M, L> {
     ghost passed = { λ d begun steps. Did begun
         (record {
           reader = by_colour (R.seen d.white_reader.now) (R.seen d.black_reader.now);

@@ -328,8 +328,22 @@ fn deliver<T: Table, G: MatchGame>(
 {
     if core.is_over() {
         return match side {
-            Colour::White => send_last(table, core, game, given, &mut blocks.own, &mut blocks.others),
-            Colour::Black => send_last(table, core, game, given, &mut blocks.others, &mut blocks.own),
+            Colour::White => send_last(
+                table,
+                core,
+                game,
+                given,
+                &mut blocks.own,
+                &mut blocks.others,
+            ),
+            Colour::Black => send_last(
+                table,
+                core,
+                game,
+                given,
+                &mut blocks.others,
+                &mut blocks.own,
+            ),
         };
     }
     if note_and_send(table, core, game, given, &mut blocks.own, side) {

@@ -1,12 +1,12 @@
 -- How a match goes on at a table, step by step.
-use Rattle.std.specs.Prelude.{◌≡◌, ℕ, ◌<◌, ◌||◌, Bool, true, false, if◌then◌else◌, List, [], ◌∷◌, ◌++◌, length, Option}
+use Rattle.std.specs.Prelude.{◌≡◌, ℕ, ◌||◌, Bool, true, false, List, [], ◌∷◌, ◌++◌, Option}
 use Rattle.chess_base.specs.ByColour.{by_colour}
 use Rattle.chess_base.specs.declared.man.Colour.{Colour}
 use Rattle.chess_base.specs.declared.man.Colour.TheVariants.{White, Black}
 use Rattle.chess_base.specs.declared.man.Move.{Move}
 use Rattle.chess_base.specs.Men.{same_colour}
 use Rattle.text_lines.specs.Lines.{LineSeen}
-use Rattle.chess_match.specs.Acts.{Act, Block, Sends, SendFails, Reads, ReadsEnd, ReadFails, ReadsClock, IsMatchFrom, is_over, blocks_after}
+use Rattle.chess_match.specs.Acts.{Act, Block, Reads, ReadsEnd, ReadFails, ReadsClock, IsMatchFrom, is_over}
 use Rattle.chess_match.specs.ByDevice.{is_broken}
 use Rattle.chess_match.specs.Effects as effects
 use Rattle.chess_match.specs.Events.{Event, Line, Opened, OutputEnds, FailsToRead, FailsToWrite}

@@ -1,5 +1,5 @@
 -- At the end both blocks are sent; before it the first call fails, or the second, or neither.
-use Rattle.std.proofs.Common.{◌++◌, ap, refl, sym, ◌∙◌, subst, false}
+use Rattle.std.proofs.Common.{ap, refl, sym, ◌∙◌, false}
 use Rattle.chess_base.specs.declared.man.Colour.{Colour}
 use Rattle.chess_base.specs.declared.man.Colour.TheVariants.{White, Black}
 use Rattle.chess_base.specs.Men.{other}

@@ -1,5 +1,5 @@
 -- The loop keeps a match that has come so far, the steps that led to it, and what agrees with it.
-use Rattle.std.proofs.Common.{◌≡◌, List, [], ◌∷◌, ◌++◌, true, refl, ap, sym, ◌∙◌, subst, ℕ}
+use Rattle.std.proofs.Common.{◌≡◌, List, [], ◌∷◌, true, refl, ap, sym, ◌∙◌, subst, ℕ}
 use Rattle.chess_base.specs.declared.man.Colour.{Colour}
 use Rattle.chess_base.specs.declared.man.Move.{Move}
 use Rattle.chess_base.specs.declared.setup.Setup.{Setup}
@@ -14,8 +14,7 @@ use Rattle.chess_match.specs.Notes.{Happened}
 use Rattle.chess_match.specs.Rules.{Rules, rules_of}
 use Rattle.chess_match.specs.Table.{Does, Notes}
 use Rattle.chess_match.specs.declared.phase.Phase.{Phase}
-use Rattle.chess_match.specs.declared.phase.Phase.TheVariants.{Handshake}
-use Rattle.chess_match.specs.ties.Represents.{Represents, items_to, given_block, nothing_said}
+use Rattle.chess_match.specs.ties.Represents.{Represents, items_to, nothing_said}
 use Rattle.chess_match.proofs.Going.{to_other, to_own}
 use Rattle.chess_match.proofs.OnTheWay.{agrees_at, apart_at, begun, opened_less, opened_on, played_at, plays_anew, plays_on, rules_level, told_outcome, went_less, went_on}
 use Rattle.chess_match.proofs.Passings.{passed_more}

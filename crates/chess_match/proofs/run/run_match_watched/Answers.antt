@@ -1,7 +1,6 @@
 -- What passed at the desk is what its devices show, and the desk still holds the same references.
-use Rattle.std.proofs.Common.{◌≡◌, ℕ, List, [], ◌∷◌, ap, sym}
+use Rattle.std.proofs.Common.{◌≡◌, ℕ, [], ◌∷◌, ap}
 use Rattle.chess_base.specs.ByColour.{by_colour}
-use Rattle.chess_base.specs.declared.man.Colour.{Colour}
 use Rattle.text_lines.specs.Lines.{nothing_held}
 use Rattle.chess_match.proofs.Delivers.{both_sides}
 use Rattle.chess_match.proofs.DesksPlayed.{desk_ran, names_kept}

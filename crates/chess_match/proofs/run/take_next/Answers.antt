@@ -1,5 +1,5 @@
 -- A line, the end, or a read that failed.
-use Rattle.std.proofs.Common.{◌∷◌, [], List, ℕ, true, Ok, Option, refl, ap, sym, subst, ◌∙◌, ◌<◌}
+use Rattle.std.proofs.Common.{◌∷◌, [], ℕ, Ok, refl, ap, sym, subst, ◌∙◌, ◌<◌}
 use Rattle.chess_base.proofs.shared.Men.{same_colour-self}
 use Rattle.text_lines.specs.Next.{line_read}
 use Rattle.chess_match.specs.Acts.{Reads, ReadsEnd, ReadFails}

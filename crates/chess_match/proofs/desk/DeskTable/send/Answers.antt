@@ -1,9 +1,7 @@
 -- The text was written and flushed at one pipe, or a call failed; the others stay as they were.
-use Rattle.std.proofs.Common.{List, ℕ, refl, subst, sym}
+use Rattle.std.proofs.Common.{refl}
 use Rattle.std.specs.Result.{is_err}
 use Rattle.chess_base.specs.declared.man.Colour.TheVariants.{White, Black}
-use Rattle.chess_match.specs.Lines.{bytes_of}
-use Rattle.chess_match.specs.ties.Reported.{SendsIf}
 use Rattle.chess_match.proofs.AtDesk.{send_moves}
 use Rattle.chess_match.proofs.SentNow.{sent_now}
 use Rattle.chess_match.proofs.desk.DeskTable.send.Goals as goal
