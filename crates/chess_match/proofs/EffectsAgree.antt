@@ -12,7 +12,7 @@ use Rattle.chess_game.specs.declared.verdicts.Verdict.{Verdict}
 use Rattle.cecp_engine.specs.EngineLines.{LineKind, line_kind, Features, Moves, Resigns, OffersDraw, ClaimsDraw, ClaimsWin, Rejects, Answers, SaysElse}
 use Rattle.cecp_engine.specs.Items.{Item, has_done, takes}
 use Rattle.chess_match.specs.laws.Machine as machine
-use Rattle.chess_match.specs.Events.{Event, Line, Opened, OutputEnds, FailsToRead, FailsToWrite, Seat}
+use Rattle.chess_match.specs.Events.{Line, Opened, OutputEnds, FailsToRead, FailsToWrite, Seat}
 use Rattle.chess_match.specs.laws.Machine.{handshake_line, setup_line, before_line, after_line}
 use Rattle.chess_game.specs.Results.{result_text}
 use Rattle.chess_match.specs.Reasons.{outcome_by_reason, comment_of}

@@ -1,5 +1,5 @@
 -- What a run of a match that goes by a transcript promises.
-use Rattle.std.specs.Prelude.{◌≡◌, ℕ, ◌+◌, Bool, true, false, List, [], ◌++◌, Option, ◌∷◌}
+use Rattle.std.specs.Prelude.{◌≡◌, ℕ, Bool, true, false, List, [], ◌++◌, Option, ◌∷◌}
 use Rattle.std.specs.Io.KnownBytes.{Consumes, IsAtEnd}
 use Rattle.chess_base.specs.declared.man.Colour.{Colour}
 use Rattle.byte_devices.specs.Devices.{InputState, OutputState, Begins}
@@ -12,8 +12,6 @@ use Rattle.chess_match.specs.Reasons.{reported, first_fault, declared_at}
 use Rattle.cecp_engine.specs.Levels.{LevelSeen}
 use Rattle.chess_match.specs.Rules.{Rules, rules_of}
 use Rattle.chess_base.specs.declared.setup.Setup.{Setup}
-use Rattle.chess_match.specs.Notes.{Noted, WasNoted}
-use Rattle.chess_match.specs.laws.TranscriptNotes.{notes_of}
 use Rattle.chess_match.specs.Lines.{SentLine, bytes_of}
 use Rattle.chess_match.specs.laws.Transcript.{match_of, engine_name, fits, blocks, joined_blocks, lines_of_engine, moments_of, has_fault}
 use Rattle.chess_match.specs.declared.phase.Phase.TheVariants.{Over}
@@ -75,13 +73,3 @@ RanBy T start level g g' end w w' coming coming' =
     × IsReportedEnd m reason failed end
     × (g' ≡ game.with_state g
     (record { start = start; moves = m.played; declared = declared_at (r.verdict m.played) reason }))
-
--- what the run of a match from the position `start` with the time control `level` promises if a witness, such as the
--- log, watches: by some transcript, devices, game and the reported `end` agree, and the witness was given its notes.
--- `notes`, `g`, `w` and `coming` are the witness, the game, the engines' devices and the times that the clock is to
--- give before, `notes'`, `g'`, `w'` and `coming'` after
-abbrev pub RanBefore : Noted → Noted → Setup → LevelSeen → game.Seen → game.Seen → MatchEnd
-    → Ports → Ports → (ℕ → Option ℕ) → (ℕ → Option ℕ) → Type 0
-RanBefore notes notes' start level g g' end w w' coming coming' =
-    (T : List Event) × WasNoted notes notes' (notes_of (rules_of start level g.limit) T)
-    × RanBy T start level g g' end w w' coming coming'
