@@ -7,7 +7,7 @@ ghost use Rattle.chess_match.specs.ties.AtDesk.{Did};
 
 use crate::moments::Moments;
 use crate::run::ENGINE_LINE_LEN;
-use crate::table::Table;
+use crate::table::MatchTable;
 use crate::witness::Witness;
 use byte_devices::{Input, Output, ReadFault, WriteFault, send};
 use chess_base::{ByColour, Colour};
@@ -25,7 +25,7 @@ pub(crate) struct Desk<'a, 'b, 'c, 'd, 'e, 'f, R, W, M, L> {
     pub lines: ByColour<Lines<ENGINE_LINE_LEN>>,
 }
 
-impl<R: Input, W: Output, M: Moments, L: Witness> Table
+impl<R: Input, W: Output, M: Moments, L: Witness> MatchTable
     for Desk<'_, '_, '_, '_, '_, '_, R, W, M, L> {
     ghost passed = { λ d begun steps. Did begun
         (record {

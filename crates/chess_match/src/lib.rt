@@ -42,5 +42,5 @@ pub use moments::Moments;
 pub use phase::Phase;
 pub use reason::{DrawClaim, MatchFault, Reason};
 pub use run::{ENGINE_LINE_LEN, Ends, MatchEnd, Setup, run_match, run_match_at, run_match_watched};
-pub use table::Table;
+pub use table::MatchTable;
 pub use witness::Witness;

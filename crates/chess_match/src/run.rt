@@ -40,7 +40,7 @@ use crate::phase::Phase;
 use crate::reason::{MatchFault, Reason, first_fault};
 use crate::send::note_and_send;
 use crate::state::{Actions, ENTRY, MatchState};
-use crate::table::Table;
+use crate::table::MatchTable;
 use crate::witness::{NoWitness, Witness};
 use byte_devices::{Input, Output};
 use cecp_engine::{EngineLine, Level, read_engine_line};
@@ -173,7 +173,7 @@ pub fn run_match_watched<R: Input, W: Output, M: Moments, B: Board, L: Witness>(
 ///
 /// The contract says which steps passed at the table, in their order: the acts of a match, each with its note. What an
 /// engine is sent is noted before it is written, and a line when the clock was read after it, before anything else.
-pub fn run_match_at<T: Table, B: Board>(
+pub fn run_match_at<T: MatchTable, B: Board>(
     table: &mut T,
     setup: &Setup,
     game: &mut Game<B>,
@@ -234,7 +234,7 @@ fn awaited_in(phase: Phase) -> Awaited
 
 // Notes that writing to `side` failed, which ends the match, and sends the other side its last lines, which go to the
 // empty block `waiting`. Returns whether that failed too.
-fn end_for_other<T: Table, G: MatchGame>(
+fn end_for_other<T: MatchTable, G: MatchGame>(
     table: &mut T,
     core: &mut MatchState,
     game: &G,
@@ -257,7 +257,7 @@ fn end_for_other<T: Table, G: MatchGame>(
 }
 
 // Sends both sides their last lines, White first, and returns to which sides that failed.
-fn send_last<T: Table, G: MatchGame>(
+fn send_last<T: MatchTable, G: MatchGame>(
     table: &mut T,
     core: &MatchState,
     game: &G,
@@ -306,7 +306,7 @@ fn in_turn(side: Colour, own: bool, others: bool) -> ByColour<bool>
 // Sends both sides their lines of an event: the engine of `side`, which the event is about, first; at the end White
 // first. A write that fails ends the match. `blocks.own` already has the answers to the items of the event's line;
 // `given` says what else is sent. Returns to which sides a write failed.
-fn deliver<T: Table, G: MatchGame>(
+fn deliver<T: MatchTable, G: MatchGame>(
     table: &mut T,
     core: &mut MatchState,
     game: &G,
@@ -382,7 +382,7 @@ fn said(line: &Line<ENGINE_LINE_LEN>) -> EngineLine<'_>
 
 // Takes a line of this side's engine: the clock is read, the line is noted, and the match goes on by it. Returns what is
 // to be sent; the answers to the line's items go to `block`, which must be empty.
-fn take_line<T: Table, G: MatchGame>(
+fn take_line<T: MatchTable, G: MatchGame>(
     table: &mut T,
     core: &mut MatchState,
     game: &mut G,
@@ -413,7 +413,7 @@ fn take_line<T: Table, G: MatchGame>(
 // Reads the next line of this side's engine into `line` and takes it, if there is one and `\n` ended it; else the end of
 // its output, or a fault, ends the match. Returns what is to be sent; the answers to the line's items go to `block`,
 // which must be empty.
-fn take_next<T: Table, G: MatchGame>(
+fn take_next<T: MatchTable, G: MatchGame>(
     table: &mut T,
     core: &mut MatchState,
     game: &mut G,

@@ -16,7 +16,7 @@ use crate::block::Block;
 use crate::compose::{add_entered, add_offer};
 use crate::match_game::MatchGame;
 use crate::state::{Actions, MatchState};
-use crate::table::Table;
+use crate::table::MatchTable;
 use chess_base::Colour;
 
 // Appends to the block what this side is sent after the answers to its items, as far as `given` says so: an offer of a
@@ -38,7 +38,7 @@ fn add_rest<G: MatchGame>(
 
 // Notes that `side` is sent this text, and then sends it; an empty text is neither noted nor sent. Returns whether that
 // failed.
-fn note_and_put<T: Table>(table: &mut T, text: &[u8], side: Colour) -> bool
+fn note_and_put<T: MatchTable>(table: &mut T, text: &[u8], side: Colour) -> bool
     ensures passes { (lines : List SentLine) → bytes_of lines ≡ text.now
         → Passes (T.passed table.old) (T.passed table.new) (giving result side lines) }
     ensures due { result ≡ true → text.now ≢ [] }
@@ -53,7 +53,7 @@ fn note_and_put<T: Table>(table: &mut T, text: &[u8], side: Colour) -> bool
 
 /// Appends to the answers in `block` what else this side is sent (`given` says what), notes it all, sends it by one
 /// call, and empties `block`. If there is nothing, nothing is noted or sent. Returns whether sending failed.
-pub(crate) fn note_and_send<T: Table, G: MatchGame>(
+pub(crate) fn note_and_send<T: MatchTable, G: MatchGame>(
     table: &mut T,
     core: &MatchState,
     game: &G,

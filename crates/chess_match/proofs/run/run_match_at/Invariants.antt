@@ -6,10 +6,10 @@ use Rattle.chess_match.proofs.run.run_match_at.Given as goal
 
 abbrev pub invariant-events : goal.invariant-events
 invariant-events g l =
-    OnTheWay (rules_of l.fn.setup.start l.fn.setup.level l.fn.game.limit) (g.T.Table.passed l.fn.table)
-    (g.T.Table.passed l.table) l.core l.game.state.moves (of_colour l.failed)
+    OnTheWay (rules_of l.fn.setup.start l.fn.setup.level l.fn.game.limit) (g.T.MatchTable.passed l.fn.table)
+    (g.T.MatchTable.passed l.table) l.core l.game.state.moves (of_colour l.failed)
     × (l.game.state.start ≡ l.fn.setup.start) × (l.game.limit ≡ l.fn.game.limit) × (l.game.state.declared ≡ None)
     × (l.blocks.own.items ≡ []) × (l.blocks.others.items ≡ [])
 
 abbrev pub decreases-events : goal.decreases-events
-decreases-events g l = steps_left l.core.phase (g.T.Table.left l.table)
+decreases-events g l = steps_left l.core.phase (g.T.MatchTable.left l.table)

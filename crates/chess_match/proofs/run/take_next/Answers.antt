@@ -56,7 +56,7 @@ returns-then-is_parsed-clause-taken g c =
       passed_more _ _ _ (Does (Reads c.args.side (text_read c.read_line.new.line)) ∷ [])
           (after_line c.args.side (text_read c.read_line.new.line) h.0)
           (as_line _ _ c.args.side _ c.read_line.new.line found whole c.read_line.ensures.passes) h.2,
-      λ is. subst (λ (n : ℕ). n < g.T.Table.left c.args.table.now) (sym c.take_line.ensures.left)
+      λ is. subst (λ (n : ℕ). n < g.T.MatchTable.left c.args.table.now) (sym c.take_line.ensures.left)
           (line_falls c.args.side _ c.read_line.new.line _ _ found whole c.read_line.ensures.less),
       h.3,
       h.4,

@@ -2,7 +2,7 @@
 use Rattle.std.proofs.Common.{refl}
 use Rattle.chess_base.specs.declared.man.Colour.TheVariants.{White, Black}
 use Rattle.chess_match.proofs.AtDesk.{read_moves}
-use Rattle.chess_match.proofs.desk.DeskTable.read_line.Goals as goal
+use Rattle.chess_match.proofs.desk.DeskMatchTable.read_line.Goals as goal
 
 pub returns-in-White-clause-passes : goal.returns-in-White-clause-passes
 returns-in-White-clause-passes g c =

@@ -4,7 +4,7 @@ use Rattle.std.specs.Result.{is_err}
 use Rattle.chess_base.specs.declared.man.Colour.TheVariants.{White, Black}
 use Rattle.chess_match.proofs.AtDesk.{send_moves}
 use Rattle.chess_match.proofs.SentNow.{sent_now}
-use Rattle.chess_match.proofs.desk.DeskTable.send.Goals as goal
+use Rattle.chess_match.proofs.desk.DeskMatchTable.send.Goals as goal
 
 pub returns-in-White-clause-passes : goal.returns-in-White-clause-passes
 returns-in-White-clause-passes g c lines e =
