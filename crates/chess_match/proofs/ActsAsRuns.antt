@@ -13,13 +13,14 @@ use Rattle.chess_match.proofs.RunsAsActs.{Wrote, all_wrote, broke}
 use Rattle.chess_match.specs.Acts.{Act}
 use Rattle.chess_match.specs.ByDevice.{broken_blocks, has_ended, has_failed_read, is_broken, lines_read, lines_sent, moments_shown}
 use Rattle.chess_match.specs.Effects as effects
-use Rattle.chess_match.specs.Match.{Event}
+use Rattle.chess_match.specs.Events.{Event}
 use Rattle.chess_match.specs.Played.{ReadAs, WrittenAs}
 use Rattle.chess_match.specs.Rules.{Rules, rules_of}
-use Rattle.chess_match.specs.Run.{ClockReadings, Flushed, FlushedThenFailed, ReadFrom, Written}
+use Rattle.chess_match.specs.Run.{ClockReadings, Flushed, FlushedThenFailed}
+use Rattle.chess_match.specs.laws.TranscriptRuns.{ReadFrom, Written}
 use Rattle.chess_match.specs.Reasons.{declared_at}
-use Rattle.chess_match.specs.Sent.{SentLine, bytes_of}
-use Rattle.chess_match.specs.Transcript.{blocks, has_fault, lines_of_engine, match_of}
+use Rattle.chess_match.specs.Lines.{SentLine, bytes_of}
+use Rattle.chess_match.specs.laws.Transcript.{blocks, has_fault, lines_of_engine, match_of}
 use Rattle.chess_match.specs.declared.phase.Phase.{Phase as MachinePhase}
 use Rattle.chess_match.specs.declared.phase.Phase.TheVariants as phases
 use Rattle.chess_match.specs.declared.reason.MatchFault.TheVariants.{Ended, Read}

@@ -1,15 +1,15 @@
 -- The acts of a transcript have its lines, moments, ends and failed reads.
 use Rattle.std.proofs.Common.{◌≡◌, ℕ, Bool, true, false, List, [], ◌∷◌, ◌++◌, map, refl, ap, ◌∙◌, Option}
 use Rattle.std.specs.Prelude.{if◌then◌else◌, ◌||◌}
-use Rattle.chess_match.specs.Transcript.{has_fault}
+use Rattle.chess_match.specs.laws.Transcript.{has_fault}
 use Rattle.chess_match.specs.declared.reason.MatchFault.TheVariants.{Ended, Read}
 use Rattle.chess_base.specs.declared.man.Colour.{Colour}
 use Rattle.chess_base.specs.declared.man.Colour.TheVariants.{White}
 use Rattle.chess_base.specs.Men.{same_colour}
-use Rattle.chess_match.specs.Match.{Event, Line, Opened, OutputEnds, FailsToRead, FailsToWrite}
+use Rattle.chess_match.specs.Events.{Event, Line, Opened, OutputEnds, FailsToRead, FailsToWrite}
 use Rattle.chess_match.specs.Rules.{Rules}
-use Rattle.chess_match.specs.Sent.{list_if}
-use Rattle.chess_match.specs.Transcript.{lines_of_engine, moments_of}
+use Rattle.chess_match.specs.Lines.{list_if}
+use Rattle.chess_match.specs.laws.Transcript.{lines_of_engine, moments_of}
 use Rattle.chess_match.specs.ties.TranscriptActs.{send_act, up_to, first_of, acts_from, LinesAreRead, MomentsAreShown, EndsAreRead}
 use Rattle.chess_match.specs.ByDevice.{has_ended, has_failed_read, lines_read, moments_shown}
 use Rattle.chess_match.specs.Acts.{Block, Act, Sends, SendFails, Reads, ReadsEnd, ReadFails, ReadsClock, blocks_from}

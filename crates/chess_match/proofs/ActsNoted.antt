@@ -6,14 +6,17 @@ use Rattle.chess_base.specs.declared.man.Colour.{Colour}
 use Rattle.chess_base.specs.declared.man.Colour.TheVariants.{White, Black}
 use Rattle.chess_base.specs.Men.{other, same_colour}
 use Rattle.chess_base.proofs.shared.Men.{same_colour-self}
-use Rattle.chess_match.specs.Match as machine
+use Rattle.chess_match.specs.laws.Machine as machine
 use Rattle.std.proofs.Math.Path.{fun_ext}
 use Rattle.chess_match.specs.ties.SameEffects.{view}
-use Rattle.chess_match.specs.Match.{Event, Line, Opened, OutputEnds, FailsToRead, FailsToWrite}
-use Rattle.chess_match.specs.Notes.{Note, Happened, Gives, given_note, both_notes, first_sent, notes_from, notes_of}
+use Rattle.chess_match.specs.Events.{Event, Line, Opened, OutputEnds, FailsToRead, FailsToWrite}
+use Rattle.chess_match.specs.Notes.{Note, Happened, Gives}
+use Rattle.chess_match.specs.laws.TranscriptNotes.{given_note, both_notes, first_sent, notes_from, notes_of}
 use Rattle.chess_match.specs.Rules.{Rules}
-use Rattle.chess_match.specs.Sent.{SentLine, block, lines_on_entering, bytes_of, text_of, is_unwritten, list_if}
-use Rattle.chess_match.specs.Transcript.{is_on, fits, fits_next, fits_from, match_of, is_dropped, block_at, joined_blocks}
+use Rattle.chess_match.specs.Lines.{SentLine, bytes_of, text_of, list_if}
+use Rattle.chess_match.specs.laws.Blocks.{block, lines_on_entering}
+use Rattle.chess_match.specs.Reasons.{is_unwritten}
+use Rattle.chess_match.specs.laws.Transcript.{is_on, fits, fits_next, fits_from, match_of, is_dropped, block_at, joined_blocks}
 use Rattle.chess_match.specs.declared.reason.MatchFault.TheVariants.{Write}
 use Rattle.chess_match.proofs.Blocks.{joined_block}
 use Rattle.chess_match.proofs.OneLaw.{over_stops}

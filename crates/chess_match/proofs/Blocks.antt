@@ -6,10 +6,12 @@ use Rattle.std.proofs.lemmas.Grind.{flat_map-append}
 use Rattle.chess_base.specs.declared.man.Colour.{Colour}
 use Rattle.chess_base.specs.Men.{other}
 use Rattle.cecp_engine.specs.Items.{Item, takes}
-use Rattle.chess_match.specs.Match.{Match, Event, seat}
+use Rattle.chess_match.specs.laws.Machine.{Match, seat}
+use Rattle.chess_match.specs.Events.{Event}
 use Rattle.chess_match.specs.Rules.{Rules}
-use Rattle.chess_match.specs.Sent.{SentLine, answer_text, Says, answers_to, block, lines_on_entering, is_same_phase, draw_line}
-use Rattle.chess_match.specs.Transcript.{block_at, joined_blocks}
+use Rattle.chess_match.specs.Lines.{SentLine, answer_text, Says, answers_to}
+use Rattle.chess_match.specs.laws.Blocks.{block, lines_on_entering, is_same_phase, draw_line}
+use Rattle.chess_match.specs.laws.Transcript.{block_at, joined_blocks}
 
 pub if_nil : {A : Type 0} (b : Bool) (xs : List A) → xs ≡ [] → (if b then [] else xs) ≡ []
 if_nil true xs e = refl

@@ -3,7 +3,7 @@ use Rattle.std.proofs.Common.{◌≡◌, ◌≢◌, ◌<◌, ℕ, Bool, true, fa
 use Rattle.std.proofs.lemmas.Bool.{eqb-true}
 use Rattle.std.proofs.lemmas.List.{nil_from_length}
 use Rattle.std.specs.Prelude.{◌==◌}
-use Rattle.chess_match.specs.Sent.{SentLine, bytes_of}
+use Rattle.chess_match.specs.Lines.{SentLine, bytes_of}
 
 pub is_nil : (text : List ℕ) (b : Bool) → b ≡ (length text == 0) → b ≡ true → text ≡ []
 is_nil text b e h = nil_from_length text (eqb-true (length text) 0 (sym e ∙ h))

@@ -11,13 +11,16 @@ use Rattle.chess_base.proofs.shared.Men.{same_colour-self}
 use Rattle.chess_game.specs.declared.verdicts.Verdict.{Verdict}
 use Rattle.cecp_engine.specs.EngineLines.{LineKind, line_kind, Features, Moves, Resigns, OffersDraw, ClaimsDraw, ClaimsWin, Rejects, Answers, SaysElse}
 use Rattle.cecp_engine.specs.Items.{Item, has_done, takes}
-use Rattle.chess_match.specs.Match as machine
-use Rattle.chess_match.specs.Match.{Event, Line, Opened, OutputEnds, FailsToRead, FailsToWrite, Seat, handshake_line, setup_line, before_line, after_line}
+use Rattle.chess_match.specs.laws.Machine as machine
+use Rattle.chess_match.specs.Events.{Line, Opened, OutputEnds, FailsToRead, FailsToWrite, Seat}
+use Rattle.chess_match.specs.laws.Machine.{handshake_line, setup_line, before_line, after_line}
 use Rattle.chess_game.specs.Results.{result_text}
 use Rattle.chess_match.specs.Reasons.{outcome_by_reason, comment_of}
 use Rattle.chess_match.specs.Rules.{Rules}
-use Rattle.chess_match.specs.Sent.{SentLine, Says, list_if, answers_to, setup_lines, ping, is_unwritten, block, lines_on_entering, is_same_phase, end_lines, last_move_sent, clock_lines, opening_lines, unsent_lines}
-use Rattle.chess_match.specs.Transcript.{is_on, reads}
+use Rattle.chess_match.specs.Lines.{SentLine, Says, list_if, answers_to, setup_lines, ping}
+use Rattle.chess_match.specs.Reasons.{is_unwritten}
+use Rattle.chess_match.specs.laws.Blocks.{block, lines_on_entering, is_same_phase, end_lines, last_move_sent, clock_lines, opening_lines, unsent_lines}
+use Rattle.chess_match.specs.laws.Transcript.{is_on, reads}
 use Rattle.chess_match.specs.declared.phase.Phase.{Phase as MachinePhase}
 use Rattle.chess_match.specs.declared.phase.Phase.TheVariants as phases
 use Rattle.chess_match.specs.declared.reason.DrawClaim.{DrawClaim}
@@ -417,15 +420,15 @@ module _ (r : Rules) (c : Colour) (items : List Item) (m : machine.Match) where
 
 agree_handshake_done : (r : Rules) (c : Colour) (items : List Item) (m : machine.Match) → m.phase ≡ phases.Handshake c
     → m.unsent_to ≡ None
-    → Agrees r m (machine.greeted r c (machine.take_items c items m))
+    → Agrees r m (machine.handshake_ended r c (machine.take_items c items m))
     (with_answers c items (handshake_done r c (view (machine.take_items c items m))))
 agree_handshake_done r White items m p none =
     agree_items r White items m (machine.enter (phases.Handshake Black) (machine.take_items White items m))
     (handshake_done r White (view (machine.take_items White items m))) false refl refl (rw p refl) refl (λ S. refl)
     (λ on. none)
 agree_handshake_done r Black items m p none =
-    at (machine.lack r (machine.take_items Black items m).white.items)
-    (machine.lack r (machine.take_items Black items m).black.items)
+    at (machine.missing r (machine.take_items Black items m).white.items)
+    (machine.missing r (machine.take_items Black items m).black.items)
   where
     faulted : (S : Colour) (f : MatchFault) → Agrees r m (machine.enter (phases.Over (Faulted S f))
         (machine.take_items Black items m))
@@ -467,7 +470,7 @@ agree_handshake r c items m p none =
     owed : with_items.unsent_to ≡ owed_in with_items.phase
     owed = frame.0 ∙ none ∙ sym (ap owed_in (frame.1 ∙ p))
 
-    at : (done many : Bool) → Agrees r m (if done then machine.greeted r c (machine.take_items c items m)
+    at : (done many : Bool) → Agrees r m (if done then machine.handshake_ended r c (machine.take_items c items m)
         else if many then machine.over (Faulted c NoDone) (machine.take_items c items m)
         else (let m' = machine.take_items c items m in record m' { count = m.count + 1 }))
         (with_answers c items (if done then handshake_done r c (view (machine.take_items c items m))

@@ -4,11 +4,14 @@ use Rattle.std.specs.Prelude.{if◌then◌else◌, codes, is_some}
 use Rattle.chess_base.specs.declared.man.Colour.{Colour}
 use Rattle.chess_base.specs.declared.man.Colour.TheVariants.{White, Black}
 use Rattle.chess_base.specs.Men.{other}
-use Rattle.chess_match.specs.Match as machine
-use Rattle.chess_match.specs.Match.{Event, Line, Opened, OutputEnds, FailsToRead, FailsToWrite}
+use Rattle.chess_match.specs.laws.Machine as machine
+use Rattle.chess_match.specs.Events.{Seat}
+use Rattle.chess_match.specs.Events.{Event, Line, Opened, OutputEnds, FailsToRead, FailsToWrite}
 use Rattle.chess_match.specs.Rules.{Rules, is_fischerandom}
-use Rattle.chess_match.specs.Sent.{SentLine, block, end_lines, is_unwritten, is_same_phase, answers_to, draw_line, entry_to}
-use Rattle.chess_match.specs.Transcript.{is_on, reads, fits_next, is_fault}
+use Rattle.chess_match.specs.Lines.{SentLine, answers_to}
+use Rattle.chess_match.specs.laws.Blocks.{block, end_lines, is_same_phase, draw_line, entry_to}
+use Rattle.chess_match.specs.Reasons.{is_unwritten}
+use Rattle.chess_match.specs.laws.Transcript.{is_on, reads, fits_next, is_fault}
 use Rattle.chess_match.specs.declared.phase.Phase.{Phase as MachinePhase}
 use Rattle.chess_match.specs.declared.phase.Phase.TheVariants as phases
 use Rattle.chess_match.specs.declared.reason.MatchFault.TheVariants.{Write, NoDone, Ended, Read, NoPing, NoSetboard, NoVariant}
@@ -35,7 +38,7 @@ not_yet : (e : Event) (m : machine.Match) (p : MachinePhase) → m.phase ≡ p �
 not_yet e m p h on reason over O =
     let off : is_on p ≡ false = ap is_on (sym h ∙ over) in let no : true ≡ false = sym on ∙ off in cc
 
-seat_phase : (S : Colour) (change : machine.Seat → machine.Seat) (m : machine.Match)
+seat_phase : (S : Colour) (change : Seat → Seat) (m : machine.Match)
     → (machine.with_seat S change m).phase ≡ m.phase
 seat_phase White change m = refl
 seat_phase Black change m = refl
@@ -86,7 +89,7 @@ if_fault : (b : Bool) (x y : Option MatchFault) → NoWriteFault x → NoWriteFa
 if_fault true x y p q = p
 if_fault false x y p q = q
 
-lacks : (r : Rules) (items : List Item) → NoWriteFault (machine.lack r items)
+lacks : (r : Rules) (items : List Item) → NoWriteFault (machine.missing r items)
 lacks r items = if_fault (not (takes (codes "ping") items)) (Some NoPing) _ (λ c O. refl)
     (if_fault (is_some r.start_fen && not (takes (codes "setboard") items)) (Some NoSetboard) _ (λ c O. refl)
     (if_fault (is_fischerandom r.variant && not (plays_fischerandom items)) (Some NoVariant) None (λ c O. refl) tt))
@@ -99,10 +102,10 @@ judged_ends e m None None n p q = not_yet e (machine.enter (phases.Setup White) 
 
 handshake_done_ends : (r : Rules) (e : Event) (c : Colour) (m : machine.Match)
     → ((O : Colour) → is_fault Write O e ≡ false)
-    → Ends e (machine.greeted r c m)
+    → Ends e (machine.handshake_ended r c m)
 handshake_done_ends r e White m n = not_yet e (machine.enter (phases.Handshake Black) m) (phases.Handshake Black) refl
     refl
-handshake_done_ends r e Black m n = judged_ends e m (machine.lack r m.white.items) (machine.lack r m.black.items) n
+handshake_done_ends r e Black m n = judged_ends e m (machine.missing r m.white.items) (machine.missing r m.black.items) n
     (lacks r m.white.items)
     (lacks r m.black.items)
 

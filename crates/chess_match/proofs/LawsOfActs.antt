@@ -1,16 +1,14 @@
 -- The laws of matches, from those of transcripts.
-use Rattle.std.proofs.Common.{◌≡◌, ◌<◌, ◌≤◌, ◌+◌, ◌-◌, ◌&&◌, ℕ, Bool, true, false, List, [], ◌∷◌, ◌++◌, length, drop, map, refl, ap, sym, ◌∙◌, subst, append-nil, length-append, arith, Option, None, Some}
+use Rattle.std.proofs.Common.{◌≡◌, ◌<◌, ◌+◌, ◌-◌, ◌&&◌, ℕ, Bool, true, false, List, [], ◌∷◌, ◌++◌, length, drop, map, refl, ap, sym, ◌∙◌, subst, append-nil, arith, Option, None, Some}
 use Rattle.std.proofs.Math.Path.{fun_ext}
 use Rattle.std.proofs.lemmas.List.Concat.{flat_map-append}
 use Rattle.std.specs.List.{flat_map}
-use Rattle.std.specs.Prelude.{codes, if◌then◌else◌, is_some, nat_lt, slice_get, sum}
+use Rattle.std.specs.Prelude.{codes, if◌then◌else◌, is_some, slice_get}
 use Rattle.chess_base.specs.declared.man.Colour.{Colour}
 use Rattle.chess_base.specs.declared.man.Colour.TheVariants.{White, Black}
-use Rattle.chess_base.specs.declared.man.Move.{Move}
 use Rattle.chess_base.specs.Men.{other, same_colour}
 use Rattle.cecp_engine.specs.EngineLines.{line_kind}
 use Rattle.cecp_engine.specs.Items.{takes}
-use Rattle.cecp_engine.specs.Levels.{allotted}
 use Rattle.chess_match.proofs.ActsAsTranscripts.{matches_are_transcripts}
 use Rattle.chess_match.proofs.ActsByDevice.{ends_are_read, lines_are_read, moments_are_shown}
 use Rattle.chess_match.proofs.ClockLaw.{clocks_do_not_underflow}
@@ -24,15 +22,15 @@ use Rattle.chess_match.proofs.TimeLaw.{other_times_are_clocks, times_are_clocks}
 use Rattle.chess_match.proofs.UsedLaw.{used_times_are_differences}
 use Rattle.chess_match.specs.Acts.{Act, Block, IsMatch, ReadFails, Reads, ReadsClock, ReadsEnd, SendFails, Sends, blocks_from}
 use Rattle.chess_match.specs.ByDevice.{broken_blocks, has_ended, has_failed_read, is_broken, lines_read, lines_sent, moments_shown}
-use Rattle.chess_match.specs.Effects.{Effect, Match, beginning, clock, effect}
-use Rattle.chess_match.specs.Match.{Event, Line, Opened, OutputEnds, FailsToRead, FailsToWrite}
+use Rattle.chess_match.specs.Effects.{Effect, Match, beginning, effect}
+use Rattle.chess_match.specs.Events.{Event, Line, Opened, OutputEnds, FailsToRead, FailsToWrite}
 use Rattle.chess_match.specs.Rules.{Rules}
-use Rattle.chess_match.specs.Sent.{SentLine}
-use Rattle.chess_match.specs.Transcript.{blocks, fits, has_fault, is_on, joined_blocks, lines_of_engine, match_of, moments_of}
+use Rattle.chess_match.specs.Lines.{SentLine}
+use Rattle.chess_match.specs.laws.Transcript.{blocks, fits, has_fault, is_on, joined_blocks, lines_of_engine, match_of}
 use Rattle.chess_match.specs.declared.phase.Phase.{Phase as MachinePhase}
 use Rattle.chess_match.specs.declared.phase.Phase.TheVariants as phases
-use Rattle.chess_match.specs.declared.reason.MatchFault.TheVariants.{Ended, Read, Write}
-use Rattle.chess_match.specs.laws.Laws.{AreRead, IsOf, Streams, centiseconds, ending, ending_in, is_move, items_said, line_count, moves_of, moves_sent, otim_sent, sent, texts_from, time_sent, turn_times}
+use Rattle.chess_match.specs.declared.reason.MatchFault.TheVariants.{Write}
+use Rattle.chess_match.specs.laws.Laws.{IsOf, Streams, centiseconds, ending, ending_in, is_move, line_count, otim_sent, sent, time_sent, turn_times}
 use Rattle.chess_match.specs.laws.OfActs.{AllMovesAreSentInMatches, AreOf, ClocksDoNotUnderflowInMatches, EachIsSentOthersMovesInMatches, ItemsAreSaidInMatches, LinesAreFewInMatches, MovesAreReadInMatches, OnlyOneMatch, OtherTimesAreClocksInMatches, TimesAreClocksInMatches, UsedTimesAreDifferencesInMatches, lines_given, move_times}
 use Rattle.chess_match.specs.ties.SameEffects.{view}
 use Rattle.chess_match.specs.ties.TranscriptActs.{acts_from, acts_of, first_of, send_act, up_to}

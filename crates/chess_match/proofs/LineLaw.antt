@@ -7,10 +7,12 @@ use Rattle.chess_base.specs.Men.{other}
 use Rattle.cecp_engine.specs.EngineLines.{LineKind, line_kind}
 use Rattle.cecp_engine.specs.Items.{Item}
 use Rattle.chess_match.specs.laws.Laws.{LinesAreFew, line_count}
-use Rattle.chess_match.specs.Match.{Match, Event, items_of_line, Line, Opened, OutputEnds, FailsToRead, FailsToWrite, seat, take_items, start, over, enter, open_turn, played_by, match_after}
+use Rattle.chess_match.specs.laws.Machine.{Match, items_of_line, seat, take_items, start, over, enter, open_turn, played_by, match_after}
+use Rattle.chess_match.specs.Events.{Event, Line, Opened, OutputEnds, FailsToRead, FailsToWrite}
 use Rattle.chess_match.specs.Rules.{Rules}
-use Rattle.chess_match.specs.Sent.{SentLine, lines_on_entering, block}
-use Rattle.chess_match.specs.Transcript.{reads, opens, fits_next, fits_from}
+use Rattle.chess_match.specs.Lines.{SentLine}
+use Rattle.chess_match.specs.laws.Blocks.{lines_on_entering, block}
+use Rattle.chess_match.specs.laws.Transcript.{reads, opens, fits_next, fits_from}
 use Rattle.chess_match.specs.declared.phase.Phase.{Phase}
 use Rattle.chess_match.specs.declared.phase.Phase.TheVariants.{Handshake, Setup, SendTurn, AwaitMove, AwaitPong, Over}
 use Rattle.chess_match.specs.declared.reason.Reason.{Reason}

@@ -11,10 +11,12 @@ use Rattle.chess_base.specs.declared.man.Move.{Move}
 use Rattle.chess_base.specs.Men.{other, same_colour}
 use Rattle.chess_base.proofs.shared.Men.{same_colour-true}
 use Rattle.cecp_engine.specs.EngineLines.{LineKind, line_kind}
-use Rattle.chess_match.specs.Match.{Match, Event, Line, Opened, OutputEnds, FailsToRead, FailsToWrite, items_of_line, take_items, over, open_turn, played_by, match_after}
+use Rattle.chess_match.specs.laws.Machine.{Match, items_of_line, take_items, over, open_turn, played_by, match_after}
+use Rattle.chess_match.specs.Events.{Event, Line, Opened, OutputEnds, FailsToRead, FailsToWrite}
 use Rattle.chess_match.specs.Rules.{Rules}
-use Rattle.chess_match.specs.Sent.{SentLine, Says, block, lines_on_entering, entry_to, is_same_phase}
-use Rattle.chess_match.specs.Transcript.{is_on, reads, fits_next, fits_from, is_dropped, is_fault, blocks_from, joined_blocks}
+use Rattle.chess_match.specs.Lines.{SentLine, Says}
+use Rattle.chess_match.specs.laws.Blocks.{block, lines_on_entering, entry_to, is_same_phase}
+use Rattle.chess_match.specs.laws.Transcript.{is_on, reads, fits_next, fits_from, is_dropped, is_fault, blocks_from, joined_blocks}
 use Rattle.chess_match.specs.declared.phase.Phase.{Phase}
 use Rattle.chess_match.specs.declared.phase.Phase.TheVariants.{SendTurn, Over}
 use Rattle.chess_match.specs.declared.reason.MatchFault.TheVariants.{Write}

@@ -1,31 +1,23 @@
 -- What a call for the next line returns, and what it leaves to do.
-use Rattle.std.proofs.Common.{◌≡◌, ℕ, ◌+◌, ◌*◌, ◌<◌, ◌≤◌, Bool, true, false, inl, inr, List, refl, ap, sym, ◌∙◌, subst, arith, Option, Some, None, Result, Ok, Err}
+use Rattle.std.proofs.Common.{◌≡◌, ℕ, ◌+◌, ◌*◌, ◌<◌, ◌≤◌, Bool, true, false, inl, inr, List, refl, sym, subst, arith, Option, Some, None, Result, Ok, Err}
 use Rattle.std.specs.Prelude.{if◌then◌else◌}
 use Rattle.std.specs.Bool.{MatchBool}
 use Rattle.std.specs.Io.KnownBytes.{Consumes}
 use Rattle.chess_base.specs.declared.man.Colour.{Colour}
-use Rattle.chess_base.specs.declared.man.Colour.TheVariants.{White, Black}
-use Rattle.chess_base.specs.declared.man.Move.{Move}
-use Rattle.byte_devices.specs.Devices.{InputState, OutputState}
+use Rattle.byte_devices.specs.Devices.{InputState}
 use Rattle.chess_base.specs.Men.{other}
 use Rattle.chess_base.proofs.shared.Men.{same_colour-self}
 use Rattle.text_lines.specs.Lines.{LineSeen, Held}
-use Rattle.text_lines.specs.Next.{NextLine, GotLine, GotLast, work}
-use Rattle.chess_match.specs.ties.Delivering.{event_read, Delivered}
-use Rattle.chess_match.proofs.EngineOutput.{is_of_output, Reports, OutputAt}
-use Rattle.chess_match.specs.Match.{Match, Event, Line, OutputEnds, FailsToRead, match_after}
-use Rattle.chess_match.specs.Notes.{Noted}
-use Rattle.chess_match.specs.Rules.{Rules}
+use Rattle.text_lines.specs.Next.{NextLine, GotLine, GotLast}
+use Rattle.chess_match.specs.ties.Delivering.{event_read}
+use Rattle.chess_match.specs.ties.EngineOutput.{Reports, OutputAt}
+use Rattle.chess_match.specs.ties.Driving.{is_of_output}
+use Rattle.chess_match.specs.Events.{Event, Line, OutputEnds, FailsToRead}
 use Rattle.chess_match.specs.Run.{text_read}
-use Rattle.chess_match.specs.Sent.{SentLine}
-use Rattle.chess_match.specs.ties.Steps.{IsSane}
-use Rattle.chess_match.specs.Transcript.{reads, opens, is_on, fits_next}
+use Rattle.chess_match.specs.laws.Transcript.{reads, opens, is_on}
 use Rattle.chess_match.proofs.RunInvariant.{steps_left}
 use Rattle.chess_match.specs.declared.phase.Phase.{Phase}
 use Rattle.chess_match.specs.declared.phase.Phase.TheVariants.{Handshake, Setup, SendTurn, AwaitMove, AwaitPong, Over}
-use Rattle.chess_match.specs.declared.state.MatchState.{MatchState}
-use Rattle.chess_match.proofs.LongerTranscripts.{nothing_due}
-use Rattle.chess_match.proofs.Sane.{sane_over, sane_line}
 use Rattle.chess_match.proofs.Outcomes.{not_other}
 use Rattle.chess_match.specs.declared.run.TheConstants.{ENGINE_LINE_LEN}
 
@@ -49,25 +41,10 @@ event_is P S moment (Ok (Some line)) l e f = by_either line.ended refl
     by_either true h = by_ended P S line moment true h (l (text_read line))
     by_either false h = by_ended P S line moment false h e
 
-pub event_of : {E : Type 0} (S : Colour) (moment : ℕ) (result : Result (Option LineSeen) E)
-    → is_of_output S (event_read S moment result) ≡ true
-event_of S moment result =
-    event_is (λ e. is_of_output S e ≡ true) S moment result (λ text. same_colour-self S) (same_colour-self S)
-    (same_colour-self S)
-
 pub event_of_none : {E : Type 0} (S : Colour) (moment : ℕ) (result : Result (Option LineSeen) E)
     → is_of_output (other S) (event_read S moment result) ≡ false
 event_of_none S moment result = event_is (λ e. is_of_output (other S) e ≡ false) S moment result (λ text. not_other S)
     (not_other S) (not_other S)
-
-pub event_fits : {E : Type 0} (m : Match) (S : Colour) (moment : ℕ) (result : Result (Option LineSeen) E)
-    → reads m.phase S ≡ true → fits_next nothing_due m (event_read S moment result) ≡ true
-event_fits m S moment result h = event_is (λ e. fits_next nothing_due m e ≡ true) S moment result (λ text. h) h h
-
-pub event_sane : {E : Type 0} (r : Rules) (m : Match) (S : Colour) (moment : ℕ) (result : Result (Option LineSeen) E)
-    → IsSane r m → IsSane r (match_after r m (event_read S moment result))
-event_sane r m S moment result s = event_is (λ e. IsSane r (match_after r m e)) S moment result
-    (λ text. sane_line r m S text moment s) (sane_over r m _ s) (sane_over r m _ s)
 
 -- ---- what reported it
 
@@ -142,52 +119,3 @@ over_less p (Setup c) S n n' h o = absurd cc
 over_less p (SendTurn c) S n n' h o = absurd cc
 over_less p (AwaitMove c) S n n' h o = absurd cc
 over_less p (AwaitPong c) S n n' h o = absurd cc
-
--- of what one engine can still give, a line takes something
-one_less : (S : Colour) (f f' : Colour → ℕ) → f' S < f S → f' (other S) ≡ f (other S)
-    → f' White + f' Black < f White + f Black
-one_less White f f' l e = omega (arith, l, e)
-one_less Black f f' l e = omega (arith, l, e)
-
-over_after : (r : Rules) (core : MatchState) (played : List Move) (m : Match) (due : Colour → List SentLine)
-    (first : Colour)
-    (w w' : Colour → OutputState) (failed : Colour → Bool) (notes notes' : Noted) → is_on m.phase ≡ false
-    → Delivered r core played m due first w w' failed notes notes' → is_on core.phase ≡ false
-over_after r core played m due first w w' failed notes notes' o (inl s) = ap is_on s.stands.phase ∙ o
-over_after r core played m due first w w' failed notes notes' o (inr (c, s)) = ap is_on s.stands.phase
-
-pub event_less : {E : Type 0} (r : Rules) (p : Phase) (core : MatchState) (played : List Move) (m : Match) (S : Colour)
-    (moment : ℕ) (result : Result (Option LineSeen) E) (due : Colour → List SentLine) (n n' : Colour → InputState)
-    (h h' : Colour → Held) (w w' : Colour → OutputState) (failed : Colour → Bool)
-    (notes notes' : Noted)
-    → reads p S ≡ true → NextLine ENGINE_LINE_LEN (n S) (n' S) (h S) (h' S) result → n' (other S) ≡ n (other S)
-    → h' (other S) ≡ h (other S)
-    → Delivered r core played (match_after r m (event_read S moment result)) due S w w' failed
-    notes notes'
-    → steps_left core.phase (work (n' White) (h' White) + work (n' Black) (h' Black)) < steps_left p
-    (work (n White) (h White) + work (n Black) (h Black))
-event_less r p core played m S moment (Err x) due n n' h h' w w' failed notes notes' reading (more, b, waits, got)
-    same kept d =
-    over_less p core.phase S _ _ reading (over_after r core played _ due S w w' failed notes notes' refl d)
-event_less r p core played m S moment (Ok None) due n n' h h' w w' failed notes notes' reading (more, b, waits, got)
-    same kept d =
-    over_less p core.phase S _ _ reading (over_after r core played _ due S w w' failed notes notes' refl d)
-event_less r p core played m S moment (Ok (Some line)) due n n' h h' w w' failed notes notes' reading
-    (more, b, waits, got) same kept
-    d = by_whether line.ended refl got
-  where
-    by_whether : (x : Bool) → line.ended ≡ x → MatchBool x (GotLine ENGINE_LINE_LEN (n S) (n' S) (h S) (h' S) more line)
-        (GotLast ENGINE_LINE_LEN (n S) (n' S) (h S) (h' S) more line)
-        → steps_left core.phase (work (n' White) (h' White) + work (n' Black) (h' Black)) < steps_left p
-        (work (n White) (h White) + work (n Black) (h Black))
-    by_whether true e g =
-        line_less p core.phase S _ _ reading
-        (one_less S (λ X. work (n X) (h X)) (λ X. work (n' X) (h' X)) g.falls
-        (ap (λ (v : InputState). work v (h' (other S))) same ∙ ap (λ (v : Held). work (n (other S)) v) kept))
-    by_whether false e g =
-        over_less p core.phase S _ _ reading
-        (over_after r core played _ due S w w' failed notes notes' refl
-        (subst (λ (v : Bool).
-        Delivered r core played (match_after r m (if v then Line S (text_read line) moment else OutputEnds S)) due S w
-        w'
-        failed notes notes') e d))

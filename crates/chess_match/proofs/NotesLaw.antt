@@ -4,12 +4,15 @@ use Rattle.std.specs.Prelude.{if◌then◌else◌}
 use Rattle.chess_base.specs.declared.man.Colour.{Colour}
 use Rattle.chess_base.specs.declared.man.Colour.TheVariants.{White, Black}
 use Rattle.chess_base.specs.Men.{other, same_colour}
-use Rattle.chess_match.specs.Match.{Match, Event, start, match_after}
-use Rattle.chess_match.specs.Notes.{Note, Happened, Gives, given_note, both_notes, first_sent, notes_from, notes_of}
+use Rattle.chess_match.specs.laws.Machine.{Match, start, match_after}
+use Rattle.chess_match.specs.Events.{Event}
+use Rattle.chess_match.specs.Notes.{Note, Happened, Gives}
+use Rattle.chess_match.specs.laws.TranscriptNotes.{given_note, both_notes, first_sent, notes_from, notes_of}
 use Rattle.chess_match.specs.laws.Laws.{events_in, given_in, sent}
 use Rattle.chess_match.specs.Rules.{Rules}
-use Rattle.chess_match.specs.Sent.{SentLine, block, lines_on_entering, bytes_of}
-use Rattle.chess_match.specs.Transcript.{is_dropped, is_fault, blocks_from, joined_blocks}
+use Rattle.chess_match.specs.Lines.{SentLine, bytes_of}
+use Rattle.chess_match.specs.laws.Blocks.{block, lines_on_entering}
+use Rattle.chess_match.specs.laws.Transcript.{is_dropped, is_fault, blocks_from, joined_blocks}
 use Rattle.chess_match.proofs.Blocks.{lines_at}
 use Rattle.chess_match.proofs.Sends.{bytes_of-append}
 use Rattle.chess_match.specs.declared.reason.MatchFault.TheVariants.{Write}

@@ -8,13 +8,16 @@ use Rattle.chess_base.specs.declared.man.Colour.{Colour}
 use Rattle.byte_devices.specs.Devices.{InputState, OutputState, risen}
 use Rattle.text_lines.specs.Unflushed.{risen_if}
 use Rattle.chess_match.specs.laws.Laws.{ending_in, Streams, IsOf, ShowsAll, OnlyOneOfARun}
-use Rattle.chess_match.specs.Match.{Match, Event, Line, Opened, OutputEnds, FailsToRead, FailsToWrite, start, match_after}
+use Rattle.chess_match.specs.laws.Machine.{Match, start, match_after}
+use Rattle.chess_match.specs.Events.{Event, Line, Opened, OutputEnds, FailsToRead, FailsToWrite}
 use Rattle.chess_match.specs.declared.phase.Phase.{Phase}
 use Rattle.chess_match.specs.declared.phase.Phase.TheVariants.{Over}
 use Rattle.chess_match.specs.Rules.{Rules}
-use Rattle.chess_match.specs.Run.{Ports, engine_lines, ReadFrom, Written, IsTranscript}
-use Rattle.chess_match.specs.Sent.{SentLine, block, lines_on_entering}
-use Rattle.chess_match.specs.Transcript.{fits_next, fits_from, blocks, moments_of, has_fault}
+use Rattle.chess_match.specs.Run.{Ports, engine_lines}
+use Rattle.chess_match.specs.laws.TranscriptRuns.{ReadFrom, Written, IsTranscript}
+use Rattle.chess_match.specs.Lines.{SentLine}
+use Rattle.chess_match.specs.laws.Blocks.{block, lines_on_entering}
+use Rattle.chess_match.specs.laws.Transcript.{fits_next, fits_from, blocks, moments_of, has_fault}
 use Rattle.chess_match.specs.declared.reason.Reason.{Reason}
 use Rattle.chess_match.proofs.OneLaw.{over_stops, only_one}
 use Rattle.chess_match.proofs.Outcomes.{and_second}

@@ -5,7 +5,7 @@ use Rattle.chess_base.specs.declared.man.Colour.{Colour}
 use Rattle.cecp_engine.specs.Seen.{seen}
 use Rattle.cecp_engine.specs.declared.engine_line.EngineLine.{EngineLine}
 use Rattle.cecp_engine.specs.declared.engine_line.EngineLine.TheVariants.{Features, Move, Resign, Offer, Draw, Win, Rejection, Pong, Other}
-use Rattle.chess_match.specs.Match.{Match, after_line, before_row, ignore, items_of_line, turn_line}
+use Rattle.chess_match.specs.laws.Machine.{Match, after_line, before_row, ignore, items_of_line, turn_line}
 use Rattle.chess_match.specs.Rules.{Rules}
 
 -- only a `feature` line has items

@@ -10,10 +10,13 @@ use Rattle.chess_game.specs.declared.verdicts.Verdict.{Verdict}
 use Rattle.cecp_engine.specs.EngineLines.{line_kind, LineKind, Features, Moves, Resigns, OffersDraw, ClaimsDraw, ClaimsWin, Rejects, Answers, SaysElse}
 use Rattle.cecp_engine.specs.Items.{Item, has_done}
 use Rattle.chess_match.specs.laws.Laws.{move_said, is_pong}
-use Rattle.chess_match.specs.Match.{Match, Event, Line, Opened, OutputEnds, FailsToRead, FailsToWrite, match_after, after_kind, items_of_line, seat, clock, over, ignore, enter, open_turn, take_items, greeted, handshake_line, after_handshakes, lack, ready, unless_decided, setup_line, played_by, played_row, offer_row, draw_row, was_sent_move, turn_line, before_row, before_line, after_line, ping_number}
+use Rattle.chess_match.specs.laws.Machine.{Match, match_after, after_kind, items_of_line, seat, clock, over, ignore, enter, open_turn, take_items, handshake_ended, handshake_line, after_handshakes, missing, ready, unless_decided, setup_line, played_by, played_row, offer_row, draw_row, was_sent_move, turn_line, before_row, before_line, after_line, ping_number}
+use Rattle.chess_match.specs.Events.{Event, Line, Opened, OutputEnds, FailsToRead, FailsToWrite}
 use Rattle.chess_match.specs.Rules.{Rules}
-use Rattle.chess_match.specs.Sent.{SentLine, block, is_unwritten}
-use Rattle.chess_match.specs.Transcript.{reads, opens, is_on, is_fault, fits_next, fits_from}
+use Rattle.chess_match.specs.Lines.{SentLine}
+use Rattle.chess_match.specs.laws.Blocks.{block}
+use Rattle.chess_match.specs.Reasons.{is_unwritten}
+use Rattle.chess_match.specs.laws.Transcript.{reads, opens, is_on, is_fault, fits_next, fits_from}
 use Rattle.chess_match.specs.declared.phase.Phase.{Phase}
 use Rattle.chess_match.specs.declared.phase.Phase.TheVariants.{Handshake, Setup, SendTurn, AwaitMove, AwaitPong, Over}
 use Rattle.chess_match.specs.declared.reason.DrawClaim.{DrawClaim}
@@ -149,7 +152,7 @@ pub handshake_outcome : (r : Rules) (S : Colour) (items : List Item) (m : Match)
     → (has_done items ≡ false → P (over (Faulted S NoDone) (take_items S items m)))
     → (has_done items ≡ false → m.count + 1 < 1000
     → (let m' = take_items S items m in P (record m' { count = m.count + 1 })))
-    → (has_done items ≡ true → P (greeted r S (take_items S items m))) → P (handshake_line r S items m)
+    → (has_done items ≡ true → P (handshake_ended r S (take_items S items m))) → P (handshake_line r S items m)
 unfolding handshake_line
 handshake_outcome r White items m P ends counts done =
     by_test P (has_done items) done (λ more. by_test P (nat_le 1000 (m.count + 1)) (λ h. ends more)
@@ -161,8 +164,8 @@ handshake_outcome r Black items m P ends counts done =
 -- both handshakes are judged
 pub judged_outcome : (r : Rules) (m : Match) (P : Match → Type 0)
     → ((S : Colour) (f : MatchFault) → P (enter (Over (Faulted S f)) m)) → P (enter (Setup White) m)
-    → P (after_handshakes (lack r m.white.items) (lack r m.black.items) m)
-judged_outcome r m P ends on = at (lack r m.white.items) (lack r m.black.items)
+    → P (after_handshakes (missing r m.white.items) (missing r m.black.items) m)
+judged_outcome r m P ends on = at (missing r m.white.items) (missing r m.black.items)
   where
     at : (w b : Option MatchFault) → P (after_handshakes w b m)
     at (Some f) b = ends White f

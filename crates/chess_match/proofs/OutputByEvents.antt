@@ -6,10 +6,12 @@ use Rattle.chess_base.specs.declared.man.Colour.{Colour}
 use Rattle.byte_devices.specs.Devices.{InputState, risen}
 use Rattle.text_lines.specs.Lines.{LineSeen, Held, stream_lines, lines_held}
 use Rattle.text_lines.specs.Unflushed.{risen_if}
-use Rattle.chess_match.proofs.EngineOutput.{OutputSoFar, OutputEnded, is_of_output, Reports, OutputAt}
-use Rattle.chess_match.specs.Match.{Event, Line, Opened, OutputEnds, FailsToRead, FailsToWrite}
-use Rattle.chess_match.specs.Run.{text_read, engine_lines, ReadFrom}
-use Rattle.chess_match.specs.Transcript.{line_in, lines_of_engine, is_fault, has_fault}
+use Rattle.chess_match.specs.ties.EngineOutput.{OutputSoFar, OutputEnded, Reports, OutputAt}
+use Rattle.chess_match.specs.ties.Driving.{is_of_output}
+use Rattle.chess_match.specs.Events.{Event, Line, Opened, OutputEnds, FailsToRead, FailsToWrite}
+use Rattle.chess_match.specs.Run.{text_read, engine_lines}
+use Rattle.chess_match.specs.laws.TranscriptRuns.{ReadFrom}
+use Rattle.chess_match.specs.laws.Transcript.{line_in, lines_of_engine, is_fault, has_fault}
 use Rattle.chess_match.proofs.RunInvariant.{IsStillRead, ReadSoFar}
 use Rattle.chess_match.proofs.OutputByCalls.{output_more, output_last, output_none, output_fault}
 use Rattle.chess_match.proofs.LongerTranscripts.{IsTail, lines_more, end_more, failure_more}

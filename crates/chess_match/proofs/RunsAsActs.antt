@@ -1,15 +1,16 @@
 -- The acts of a run's transcript are a match that was played.
-use Rattle.std.proofs.Common.{◌≡◌, ℕ, Bool, true, false, List, [], ◌∷◌, ◌++◌, map, length, refl, ap, sym, ◌∙◌, subst, append_assoc, append-nil, Option}
+use Rattle.std.proofs.Common.{◌≡◌, ℕ, Bool, true, false, List, [], ◌∷◌, ◌++◌, map, length, refl, ap, sym, ◌∙◌, append_assoc, append-nil, Option}
 use Rattle.std.specs.Prelude.{if◌then◌else◌, nat_lt}
 use Rattle.chess_base.specs.declared.man.Colour.{Colour}
 use Rattle.chess_base.specs.declared.man.Colour.TheVariants.{White, Black}
 use Rattle.chess_base.specs.Men.{other, same_colour}
 use Rattle.chess_base.proofs.shared.Men.{same_colour-self}
-use Rattle.chess_match.specs.Match as machine
-use Rattle.chess_match.specs.Match.{Event, Line, Opened, OutputEnds, FailsToRead, FailsToWrite}
+use Rattle.chess_match.specs.laws.Machine as machine
+use Rattle.chess_match.specs.Events.{Event, Line, Opened, OutputEnds, FailsToRead, FailsToWrite}
 use Rattle.chess_match.specs.Rules.{Rules, rules_of}
-use Rattle.chess_match.specs.Sent.{SentLine, block, lines_on_entering, list_if}
-use Rattle.chess_match.specs.Transcript.{is_on, fits, fits_next, fits_from, match_of, is_fault, has_fault, block_at, blocks_from as blocks_at_all, blocks, joined_blocks, lines_of_engine}
+use Rattle.chess_match.specs.Lines.{SentLine, list_if}
+use Rattle.chess_match.specs.laws.Blocks.{block, lines_on_entering}
+use Rattle.chess_match.specs.laws.Transcript.{is_on, fits, fits_next, fits_from, match_of, is_fault, has_fault, block_at, blocks_from as blocks_at_all, blocks, joined_blocks, lines_of_engine}
 use Rattle.chess_match.specs.declared.phase.Phase.{Phase as MachinePhase}
 use Rattle.chess_match.specs.declared.phase.Phase.TheVariants as phases
 use Rattle.chess_match.specs.declared.reason.MatchFault.TheVariants.{Write, Ended, Read}
@@ -28,12 +29,9 @@ use Rattle.chess_match.specs.Reasons.{first_fault}
 use Rattle.std.proofs.Math.Path.{fun_ext}
 use Rattle.chess_match.specs.ties.SameEffects.{view, phase_of}
 use Rattle.chess_match.specs.ByDevice.{lines_read, has_ended, has_failed_read, lines_sent, broken_blocks, is_broken}
-use Rattle.chess_match.specs.Run.{Written, ReadFrom, RanBefore}
+use Rattle.chess_match.specs.laws.TranscriptRuns.{Written, ReadFrom}
 use Rattle.chess_match.proofs.ActsByDevice.{lines_are_read, moments_are_shown, ends_are_read}
-use Rattle.chess_match.specs.Played.{WrittenAs, ReadAs, World, PlayedNoting}
-use Rattle.chess_match.specs.Notes.{Note, Noted, WasNoted}
-use Rattle.chess_match.specs.declared.run.MatchEnd.{MatchEnd}
-use Rattle.chess_match.specs.declared.run.Setup.{Setup}
+use Rattle.chess_match.specs.Played.{WrittenAs, ReadAs}
 use Rattle.chess_match.specs.laws.OfActs.{RunsArePlayed}
 use Rattle.chess_match.specs.Effects.{Effect, effect, beginning}
 
@@ -526,7 +524,7 @@ first_fault_same : (reason : Reason) (failed failed' : Colour → Bool) → ((S 
     → first_fault reason failed ≡ first_fault reason failed'
 first_fault_same reason failed failed' e = ap (first_fault reason) (fun_ext e)
 
-read_as : (S : Colour) (T : List Event) (H : List Act) (old new : InputState) (given : List ℕ) → lines_read S H
+pub read_as : (S : Colour) (T : List Event) (H : List Act) (old new : InputState) (given : List ℕ) → lines_read S H
     ≡ lines_of_engine S T
     → has_ended S H ≡ has_fault Ended S T → has_failed_read S H ≡ has_fault Read S T → ReadFrom S T old new given
     → ReadAs S H old new given
@@ -571,16 +569,4 @@ runs_are_played T setup end w w' (reason, failed, p, reported, left) =
         },
         left,
       ),
-    )
-
--- a run before a witness is a match that was played, and the witness was given its notes
-pub run_noted : (setup : Setup) (end : MatchEnd) (w w' : World) (notes notes' : Noted)
-    → RanBefore notes notes' setup.start setup.level w.game w'.game end w.ports w'.ports w.coming w'.coming
-    → PlayedNoting (λ more. WasNoted notes notes' more) setup end w w'
-run_noted setup end w w' notes notes' (T, noted, by) =
-    let played = runs_are_played T setup end w w' by in (
-      played.0,
-      played.1,
-      subst (λ (more : List Note). WasNoted notes notes' more) (sym played.2) noted,
-      played.3,
     )

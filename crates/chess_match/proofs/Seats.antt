@@ -3,7 +3,7 @@ use Rattle.std.proofs.Common.{◌≡◌, List, refl}
 use Rattle.chess_base.specs.declared.man.Colour.{Colour}
 use Rattle.chess_base.specs.declared.man.Colour.TheVariants.{White, Black}
 use Rattle.cecp_engine.specs.Items.{Item}
-use Rattle.chess_match.specs.Match.{Match, seat, take_items}
+use Rattle.chess_match.specs.laws.Machine.{Match, seat, take_items}
 
 pub items_same : (m m' : Match) → m'.white.items ≡ m.white.items → m'.black.items ≡ m.black.items → (S : Colour)
     → (seat m' S).items ≡ (seat m S).items

@@ -15,9 +15,11 @@ use Rattle.cecp_engine.specs.Items.{item_of, items_of, has_done, takes, last_val
 use Rattle.cecp_engine.specs.EngineLines.{kind_of}
 use Rattle.cecp_engine.specs.Levels.{LevelSeen, level_text, sessions, allotted, time_left}
 use Rattle.chess_match.specs.Rules.{Rules}
-use Rattle.chess_match.specs.Match.{Event, Line, Opened, OutputEnds, FailsToRead, FailsToWrite, handshake_line, setup_line, before_line, after_line}
-use Rattle.chess_match.specs.Sent.{block, bytes_of, setup_lines, last_move_sent, clock_lines, opening_lines, end_lines}
-use Rattle.chess_match.specs.Transcript.{fits}
+use Rattle.chess_match.specs.Events.{Event, Line, Opened, OutputEnds, FailsToRead, FailsToWrite}
+use Rattle.chess_match.specs.laws.Machine.{handshake_line, setup_line, before_line, after_line}
+use Rattle.chess_match.specs.laws.Blocks.{block, last_move_sent, clock_lines, opening_lines, end_lines}
+use Rattle.chess_match.specs.Lines.{bytes_of, setup_lines}
+use Rattle.chess_match.specs.laws.Transcript.{fits}
 use Rattle.chess_match.specs.laws.Laws.{sent, ending}
 use Rattle.chess_match.specs.declared.reason.DrawClaim.TheVariants.{Threefold}
 use Rattle.chess_match.specs.declared.reason.MatchFault.TheVariants.{Ended, Flood}

@@ -15,10 +15,13 @@ use Rattle.cecp_engine.specs.EngineLines.{LineKind, line_kind}
 use Rattle.cecp_engine.specs.Items.{Item, takes}
 use Rattle.chess_match.specs.laws.Laws.{centiseconds, time_sent, otim_sent, TimesAreClocks, OtherTimesAreClocks, sent}
 use Rattle.cecp_engine.specs.Levels.{LevelSeen, time_left, level_text}
-use Rattle.chess_match.specs.Match.{Match, Event, Line, Opened, OutputEnds, FailsToRead, FailsToWrite, items_of_line, seat, take_items, start, over, enter, open_turn, played_by, match_after, clock, ping_number}
+use Rattle.chess_match.specs.laws.Machine.{Match, items_of_line, seat, take_items, start, over, enter, open_turn, played_by, match_after, clock, ping_number}
+use Rattle.chess_match.specs.Events.{Event, Line, Opened, OutputEnds, FailsToRead, FailsToWrite}
 use Rattle.chess_match.specs.Rules.{Rules}
-use Rattle.chess_match.specs.Sent.{SentLine, Says, Time, Otim, lines_on_entering, entry_to, is_same_phase, is_unwritten, setup_lines, variant_command, start_lines, opening_lines, last_move_sent, last_move_lines, clock_lines, end_lines, unsent_lines, ping}
-use Rattle.chess_match.specs.Transcript.{reads, match_of, fits, fits_next, blocks_from, joined_blocks}
+use Rattle.chess_match.specs.Lines.{SentLine, Says, Time, Otim, setup_lines, variant_command, start_lines, ping}
+use Rattle.chess_match.specs.laws.Blocks.{lines_on_entering, entry_to, is_same_phase, opening_lines, last_move_sent, last_move_lines, clock_lines, end_lines, unsent_lines}
+use Rattle.chess_match.specs.Reasons.{is_unwritten}
+use Rattle.chess_match.specs.laws.Transcript.{reads, match_of, fits, fits_next, blocks_from, joined_blocks}
 use Rattle.chess_match.specs.declared.phase.Phase.{Phase}
 use Rattle.chess_match.specs.declared.phase.Phase.TheVariants.{Handshake, Setup, SendTurn, AwaitMove, AwaitPong, Over}
 use Rattle.chess_match.specs.declared.reason.MatchFault.TheVariants.{NoDone, Ended, Read, Write}

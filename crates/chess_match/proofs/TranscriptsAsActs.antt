@@ -4,12 +4,13 @@ use Rattle.std.specs.Prelude.{if◌then◌else◌, nat_lt}
 use Rattle.chess_base.specs.declared.man.Colour.{Colour}
 use Rattle.chess_base.specs.declared.man.Colour.TheVariants.{White, Black}
 use Rattle.chess_base.specs.Men.{other, same_colour}
-use Rattle.chess_match.specs.Match as machine
+use Rattle.chess_match.specs.laws.Machine as machine
 use Rattle.std.proofs.Math.Path.{fun_ext}
-use Rattle.chess_match.specs.Match.{Seat, Event, Line, Opened, OutputEnds, FailsToRead, FailsToWrite}
+use Rattle.chess_match.specs.Events.{Seat, Event, Line, Opened, OutputEnds, FailsToRead, FailsToWrite}
 use Rattle.chess_match.specs.Rules.{Rules}
-use Rattle.chess_match.specs.Sent.{SentLine, block, lines_on_entering}
-use Rattle.chess_match.specs.Transcript.{is_on, reads, fits_next, fits_from, match_of}
+use Rattle.chess_match.specs.Lines.{SentLine}
+use Rattle.chess_match.specs.laws.Blocks.{block, lines_on_entering}
+use Rattle.chess_match.specs.laws.Transcript.{is_on, reads, fits_next, fits_from, match_of}
 use Rattle.chess_match.specs.declared.phase.Phase.{Phase as MachinePhase}
 use Rattle.chess_match.specs.declared.phase.Phase.TheVariants as phases
 use Rattle.chess_match.specs.ties.Steps.{match_from}

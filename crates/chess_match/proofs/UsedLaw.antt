@@ -8,10 +8,12 @@ use Rattle.chess_base.specs.Men.{other, same_colour}
 use Rattle.cecp_engine.specs.EngineLines.{LineKind, line_kind, Features, Moves, Resigns, OffersDraw, ClaimsDraw, ClaimsWin, Rejects, Answers, SaysElse}
 use Rattle.cecp_engine.specs.Items.{Item}
 use Rattle.chess_match.specs.laws.Laws.{is_move, move_said, turn_times, UsedTimesAreDifferences}
-use Rattle.chess_match.specs.Match.{Match, Event, Line, Opened, OutputEnds, FailsToRead, FailsToWrite, items_of_line, seat, take_items, start, over, enter, open_turn, played_by, match_after}
+use Rattle.chess_match.specs.laws.Machine.{Match, items_of_line, seat, take_items, start, over, enter, open_turn, played_by, match_after}
+use Rattle.chess_match.specs.Events.{Event, Line, Opened, OutputEnds, FailsToRead, FailsToWrite}
 use Rattle.chess_match.specs.Rules.{Rules}
-use Rattle.chess_match.specs.Sent.{SentLine, block, lines_on_entering}
-use Rattle.chess_match.specs.Transcript.{is_on, reads, opens, fits_next, fits_from}
+use Rattle.chess_match.specs.Lines.{SentLine}
+use Rattle.chess_match.specs.laws.Blocks.{block, lines_on_entering}
+use Rattle.chess_match.specs.laws.Transcript.{is_on, reads, opens, fits_next, fits_from}
 use Rattle.chess_match.specs.declared.phase.Phase.{Phase}
 use Rattle.chess_match.specs.declared.phase.Phase.TheVariants.{Handshake, Setup, SendTurn, AwaitMove, AwaitPong, Over}
 use Rattle.chess_match.specs.declared.reason.MatchFault.TheVariants.{NoDone}

@@ -3,9 +3,10 @@ use Rattle.std.specs.Prelude.{ℕ, Bool, false, ◌||◌, nat_lt, List, [], ◌�
 use Rattle.chess_base.specs.declared.man.Colour.{Colour}
 use Rattle.chess_base.specs.Men.{same_colour}
 use Rattle.chess_match.specs.Acts.{Act, Sends, SendFails, Reads, ReadsEnd, ReadFails, ReadsClock}
-use Rattle.chess_match.specs.Match.{Line, Opened, OutputEnds, FailsToRead, FailsToWrite}
+use Rattle.chess_match.specs.Events.{Line, Opened, OutputEnds, FailsToRead, FailsToWrite}
 use Rattle.chess_match.specs.Notes.{Note, Happened, Gives}
-use Rattle.chess_match.specs.Sent.{SentLine, bytes_of, is_unwritten, list_if}
+use Rattle.chess_match.specs.Lines.{SentLine, bytes_of, list_if}
+use Rattle.chess_match.specs.Reasons.{is_unwritten}
 use Rattle.chess_match.specs.declared.reason.Reason.{Reason}
 
 -- ---- what was read

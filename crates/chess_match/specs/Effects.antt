@@ -9,10 +9,11 @@ use Rattle.chess_game.specs.Results.{result_text}
 use Rattle.cecp_engine.specs.EngineLines.{LineKind, Features, Moves, Resigns, OffersDraw, ClaimsDraw, ClaimsWin, Rejects, Answers, line_kind}
 use Rattle.cecp_engine.specs.Items.{Item, items_of, has_done, takes, plays_fischerandom}
 use Rattle.cecp_engine.specs.Levels.{time_left}
-use Rattle.chess_match.specs.Match.{Event, Line, Opened, OutputEnds, FailsToRead, FailsToWrite, Seat}
+use Rattle.chess_match.specs.Events.{Event, Line, Opened, OutputEnds, FailsToRead, FailsToWrite, Seat}
 use Rattle.chess_match.specs.Reasons.{outcome_by_reason, comment_of}
 use Rattle.chess_match.specs.Rules.{Rules, is_fischerandom}
-use Rattle.chess_match.specs.Sent.{SentLine, Says, MoveSent, Time, Otim, list_if, answers_to, setup_lines, ping, is_unwritten}
+use Rattle.chess_match.specs.Lines.{SentLine, Says, MoveSent, Time, Otim, list_if, answers_to, setup_lines, ping}
+use Rattle.chess_match.specs.Reasons.{is_unwritten}
 use Rattle.chess_match.specs.declared.reason.MatchFault.{MatchFault}
 use Rattle.chess_match.specs.declared.reason.MatchFault.TheVariants.{Ended, Read, Write, NoDone, NoPing, NoSetboard, Flood, NoVariant}
 use Rattle.chess_match.specs.declared.reason.Reason.{Reason}

@@ -15,7 +15,8 @@ use Rattle.chess_match.specs.Reasons.{reported, first_fault, declared_at}
 use Rattle.chess_base.specs.ByColour.{by_colour}
 use Rattle.chess_match.specs.Rules.{Rules, rules_of}
 use Rattle.chess_match.specs.Run.{Ports, engine_lines, Flushed, FlushedThenFailed, ClockReadings}
-use Rattle.chess_match.specs.Sent.{SentLine, bytes_of}
+use Rattle.chess_match.specs.Lines.{SentLine, bytes_of}
+use Rattle.chess_match.specs.Table.{Passing, Passes, watched}
 use Rattle.chess_match.specs.declared.reason.Reason.{Reason}
 use Rattle.chess_match.specs.declared.run.MatchEnd.{MatchEnd}
 use Rattle.chess_match.specs.declared.run.Setup.{Setup}
@@ -84,3 +85,16 @@ Played setup end w w' = (H : List Act) × (reason : Reason) × PlayedBy H reason
 abbrev pub PlayedNoting : (List Note → Type 0) → Setup → MatchEnd → World → World → Type 0
 PlayedNoting noted setup end w w' =
     (H : List Act) × (reason : Reason) × noted (notes_given reason H) × PlayedBy H reason setup end w w'
+
+-- a match was played at a table as `setup` says, and reported as `end`: the steps that passed from its state `old` to
+-- `new` are the acts of a match, each with its note, and the match left its moves in the game, `g` before and `g'` after
+abbrev pub PlayedAt : Setup → MatchEnd → Passing → Passing → game.Seen → game.Seen → Type 0
+PlayedAt setup end old new g g' =
+    let r = rules_of setup.start setup.level g.limit in
+    (H : List Act) × (reason : Reason) × (final : Match)
+    × IsMatch r H final × Passes old new (watched reason H) × ReportedAs H final reason end
+    × (g' ≡ game.with_state g (record {
+      start = setup.start;
+      moves = final.played;
+      declared = declared_at (r.verdict final.played) reason;
+    }))

@@ -1,9 +1,9 @@
 -- How an end is reported: its outcome, its comment, its fault, and how it came.
-use Rattle.std.specs.Prelude.{ℕ, Bool, if◌then◌else◌, List, ◌++◌, codes, Option, None, Some}
+use Rattle.std.specs.Prelude.{ℕ, Bool, false, if◌then◌else◌, List, ◌++◌, codes, Option, None, Some}
 use Rattle.chess_base.specs.declared.man.Colour.{Colour}
 use Rattle.chess_base.specs.declared.man.Colour.TheVariants.{White, Black}
 use Rattle.chess_base.specs.ByColour.{by_colour}
-use Rattle.chess_base.specs.Men.{other}
+use Rattle.chess_base.specs.Men.{other, same_colour}
 use Rattle.chess_game.specs.Ends.{verdict_outcome, verdict_comment}
 use Rattle.chess_game.specs.declared.verdicts.Verdict.{Verdict}
 use Rattle.chess_game.specs.declared.results.Declared.{Declared}
@@ -82,3 +82,8 @@ first_fault _ failed = if failed White then Some (White, Write) else if failed B
 abbrev pub declared_at : Option Verdict → Reason → Option Declared
 declared_at (Some v) reason = None
 declared_at None reason = Some (record { outcome = outcome_by_reason reason; comment = comment_of reason })
+
+-- whether this reason, for which a match ended, is that writing to the side `S` failed
+abbrev pub is_unwritten : Reason → Colour → Bool
+is_unwritten (Faulted c Write) S = same_colour c S
+is_unwritten _ S = false

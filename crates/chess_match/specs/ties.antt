@@ -6,5 +6,8 @@ pub mod Steps
 pub mod Reported
 pub mod Awaits
 pub mod Delivering
+pub mod Driving
+pub mod EngineOutput
+pub mod AtDesk
 pub mod SameEffects
 pub mod TranscriptActs

@@ -3,10 +3,12 @@
 ghost use Rattle.chess_match.specs.declared.block.TheConstants.{BLOCK_LEN};
 ghost use Rattle.std.specs.Prelude.{◌≡◌, ◌+◌, ◌≤◌, ◌++◌, ◌∷◌, [], List, if◌then◌else◌, codes};
 ghost use Rattle.arrayvec.specs.ArrayVec.{array_vec_len};
-ghost use Rattle.chess_match.specs.Match.{Match};
+ghost use Rattle.chess_match.specs.laws.Machine.{Match};
 ghost use Rattle.chess_match.specs.Rules.{Rules};
 ghost use Rattle.chess_base.specs.declared.man.Move.{Move};
-ghost use Rattle.chess_match.specs.Sent.{Says, bytes_of, last_move_lines, clock_lines, opening_lines, setup_lines, end_lines, lines_on_entering, unsent_lines, variant_command, is_unwritten};
+ghost use Rattle.chess_match.specs.Lines.{Says, bytes_of, setup_lines, variant_command};
+ghost use Rattle.chess_match.specs.laws.Blocks.{last_move_lines, clock_lines, opening_lines, end_lines, lines_on_entering, unsent_lines};
+ghost use Rattle.chess_match.specs.Reasons.{is_unwritten};
 ghost use Rattle.chess_match.specs.ties.Represents.{Represents, player, lines_if_to};
 
 use crate::block::{Block, add_end, add_level, add_move, add_ping, add_times};
@@ -86,7 +88,7 @@ fn add_opening(block: &mut Block, core: &MatchState, side: Colour)
 }
 
 // Appends the line `variant fischerandom`, if the variant is Chess960.
-#[tactic(auto, unfolding(crate::specs::Sent::bytes_of))]
+#[tactic(auto, unfolding(crate::specs::Lines::bytes_of))]
 fn add_variant(block: &mut Block, variant: Variant)
     requires { array_vec_len block.old + 30 ≤ BLOCK_LEN }
     ensures text { block.new.items ≡ block.old.items ++ bytes_of (variant_command variant) }
@@ -191,7 +193,7 @@ fn add_entry<G: MatchGame>(block: &mut Block, core: &MatchState, game: &G, side:
 }
 
 // Appends the line `draw`, if `given` says that this side is sent an offer of a draw.
-#[tactic(auto, unfolding(crate::specs::Sent::bytes_of))]
+#[tactic(auto, unfolding(crate::specs::Lines::bytes_of))]
 pub(crate) fn add_offer(block: &mut Block, given: Actions, side: Colour)
     requires { array_vec_len block.old + 10 ≤ BLOCK_LEN }
     ensures text { block.new.items ≡ block.old.items

@@ -159,7 +159,7 @@ impl<B: Board> MatchGame for Game<B> {
     }
 
     // Appends the line `setboard FEN` to the block, unless the start is the initial position of normal chess.
-    #[tactic(auto, unfolding(crate::specs::Rules::rules_of, crate::specs::Sent::bytes_of))]
+    #[tactic(auto, unfolding(crate::specs::Rules::rules_of, crate::specs::Lines::bytes_of))]
     fn add_start(&self, block: &mut Block) {
         match start_text(&self.start()) {
             None => {}

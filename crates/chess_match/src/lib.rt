@@ -14,6 +14,7 @@
 
 mod block;
 mod compose;
+mod desk;
 mod events;
 mod game;
 mod handshake;
@@ -25,6 +26,7 @@ mod reason;
 mod run;
 mod send;
 mod state;
+mod table;
 mod texts;
 mod transitions;
 mod turn;
@@ -39,5 +41,6 @@ pub use laws::{
 pub use moments::Moments;
 pub use phase::Phase;
 pub use reason::{DrawClaim, MatchFault, Reason};
-pub use run::{ENGINE_LINE_LEN, Ends, MatchEnd, Setup, run_match, run_match_watched};
+pub use run::{ENGINE_LINE_LEN, Ends, MatchEnd, Setup, run_match, run_match_at, run_match_watched};
+pub use table::MatchTable;
 pub use witness::Witness;

@@ -1,40 +1,48 @@
 //! The run of a match.
 
-ghost use Rattle.std.specs.Prelude.{◌≡◌, List, [], ◌∷◌, ℕ, length, true, None, is_some, ◌≤◌};
+ghost use Rattle.std.specs.Prelude.{◌≡◌, List, [], ◌++◌, ℕ, length, true, false, None, ◌≤◌, ◌<◌};
 ghost use Rattle.arrayvec.specs.ArrayVec.{array_vec_len};
+ghost use Rattle.chess_base.specs.ByColour.{of_colour};
 ghost use Rattle.chess_base.specs.Men.{other};
 ghost use Rattle.chess_base.specs.declared.man.Colour.{Colour};
-ghost use Rattle.text_lines.specs.Next.{NextLine, line_read};
 ghost use Rattle.chess_game.specs.Game.{with_state, outcome_now, with_declared, verdict_now};
-ghost use Rattle.chess_match.specs.ties.Awaits.{IsAwaited};
-ghost use Rattle.chess_match.specs.ties.Delivering.{by_turn, event_read, line_event, Delivered};
 ghost use Rattle.cecp_engine.specs.EngineLines.{line_kind, Features};
 ghost use Rattle.cecp_engine.specs.Items.{Item};
-ghost use Rattle.chess_match.specs.Match.{Match, FailsToWrite, match_after};
-ghost use Rattle.chess_match.specs.Notes.{WasNoted, Happened, given_note, both_notes};
-ghost use Rattle.chess_base.specs.ByColour.{by_colour, of_colour};
-ghost use Rattle.chess_match.specs.Reasons.{declared_at};
-ghost use Rattle.chess_match.specs.Rules.{Rules};
-ghost use Rattle.chess_match.specs.Played.{Played, PlayedNoting};
-ghost use Rattle.chess_match.specs.Run.{ports_of, MatchRan, RanBefore, ClockReadings, text_read};
 ghost use Rattle.cecp_engine.specs.Seen.{seen};
-ghost use Rattle.chess_match.specs.Sent.{block, bytes_of, answers_to};
-ghost use Rattle.chess_match.specs.ties.Represents.{Represents, Goes, given_block, items_to};
-ghost use Rattle.chess_match.specs.ties.Steps.{IsSane};
-ghost use Rattle.chess_match.specs.ties.Reported.{SendsIf, IsReported};
-ghost use Rattle.chess_match.specs.Transcript.{is_on, reads, moment_in};
+ghost use Rattle.chess_match.specs.Acts.{blocks_after};
+ghost use Rattle.chess_match.specs.Events.{Event, FailsToWrite};
+ghost use Rattle.chess_match.specs.Lines.{bytes_of, answers_to};
+ghost use Rattle.chess_match.specs.Notes.{WasNoted};
+ghost use Rattle.chess_match.specs.Played.{Played, PlayedNoting, PlayedAt};
+ghost use Rattle.chess_match.specs.Reasons.{declared_at, is_unwritten};
+ghost use Rattle.chess_match.specs.Rules.{Rules};
+ghost use Rattle.chess_match.specs.Run.{ports_of, text_read};
+ghost use Rattle.chess_match.specs.Table.{Passes};
 ghost use Rattle.chess_match.specs.declared.block.TheConstants.{ANSWERS_LEN};
+ghost use Rattle.chess_match.specs.declared.phase.Phase.TheVariants.{Over};
+ghost use Rattle.chess_match.specs.declared.reason.Reason.{Reason};
 ghost use Rattle.chess_match.specs.declared.run.TheConstants.{ENGINE_LINE_LEN};
+ghost use Rattle.chess_match.specs.laws.Blocks.{block};
+ghost use Rattle.chess_match.specs.laws.Machine.{Match, match_after};
+ghost use Rattle.chess_match.specs.laws.Transcript.{is_on, reads};
+ghost use Rattle.chess_match.specs.ties.Awaits.{IsAwaited};
+ghost use Rattle.chess_match.specs.ties.Driving.{Delivered, after_line, by_turn, giving, is_line_event, is_of_output, line_event, steps_of};
+ghost use Rattle.chess_match.specs.ties.Reported.{IsReported};
+ghost use Rattle.chess_match.specs.ties.Represents.{Represents, Goes, given_block, items_to};
+ghost use Rattle.chess_match.specs.ties.SameEffects.{view, owed_in};
+ghost use Rattle.chess_match.specs.ties.Steps.{IsSane};
 
 use crate::block::{Block, Blocks};
+use crate::desk::Desk;
 use crate::match_game::MatchGame;
 use crate::moments::Moments;
 use crate::phase::Phase;
 use crate::reason::{MatchFault, Reason, first_fault};
 use crate::send::note_and_send;
 use crate::state::{Actions, ENTRY, MatchState};
+use crate::table::MatchTable;
 use crate::witness::{NoWitness, Witness};
-use byte_devices::{Input, Output, ReadFault};
+use byte_devices::{Input, Output};
 use cecp_engine::{EngineLine, Level, read_engine_line};
 use chess_base::{ByColour, Colour, Position};
 use chess_game::{Comment, Game, HowEnded, Outcome, TagText};
@@ -82,17 +90,14 @@ pub struct MatchEnd {
 /// Plays one game between two engines by the Chess Engine Communication Protocol, version 2, to its end; the game
 /// begins anew from the start.
 ///
-/// In the contract there is a transcript of the match: the lines, moments, ends and failures in their order. It agrees
-/// with both engines' devices and with the moments, one for each line and one at the end of each turn's opening, and it
-/// fixes all that was sent, the game and the end. Where nothing was unflushed before, nothing is at the end, but for
-/// the beginning of a block at which a write or a flush failed.
+/// In the contract there is a list of acts: blocks that were sent, lines and moments that were read, ends of outputs,
+/// and failures. It is a match, in which each act was due when it came: nothing is read while a block is due, and the
+/// clock is read after each line and at the end of each turn's opening. The acts agree with both engines' devices and
+/// with the clock, and they fix all that was sent, the game and the end. Where nothing was unflushed before, nothing is
+/// at the end, but for the beginning of a block at which a write or a flush failed.
 ///
-/// The clause `played` says it by acts: blocks that were sent, lines and moments that were read, ends of outputs, and
-/// failures. They are a match, in which each act was due when it came, and agree with the same devices.
-///
-/// The contract sees each device apart: that a block is flushed before the next line is read, and that a moment is
-/// asked for after its line or opening, is only tested. By the code no memory is taken, and an engine that doesn't
-/// answer is waited for.
+/// The contract sees each device apart; [`run_match_at`], which this calls, says that the calls came in the order of
+/// the acts. By the code no memory is taken, and an engine that doesn't answer is waited for.
 pub fn run_match<R: Input, W: Output, M: Moments, B: Board>(
     white: &mut Ends<R, W>,
     black: &mut Ends<R, W>,
@@ -100,10 +105,7 @@ pub fn run_match<R: Input, W: Output, M: Moments, B: Board>(
     setup: &Setup,
     game: &mut Game<B>,
 ) -> MatchEnd
-    ensures ran { MatchRan setup.now.start setup.now.level game.old game.new result
-        (ports_of R.seen W.seen white.old black.old) (ports_of R.seen W.seen white.new black.new)
-        (M.coming moments.old) (M.coming moments.new) }
-    ensures played { Played setup.now result
+    ensures ran { Played setup.now result
         (record {
           ports = ports_of R.seen W.seen white.old black.old;
           coming = M.coming moments.old;
@@ -125,9 +127,8 @@ pub fn run_match<R: Input, W: Output, M: Moments, B: Board>(
 
 /// Plays one game as [`run_match`] does, while a witness watches.
 ///
-/// The contract says that the witness was given the notes of the transcript, and no others: each event, and after it
-/// the lines that each engine is sent, in order. Only tested is that each line is noted before it is judged, and that
-/// what an engine is sent is noted before it is written.
+/// The contract says that the witness was given the notes of the acts, and no others: each event, and the bytes of each
+/// block, in order. When each note was given, [`run_match_at`] says.
 pub fn run_match_watched<R: Input, W: Output, M: Moments, B: Board, L: Witness>(
     white: &mut Ends<R, W>,
     black: &mut Ends<R, W>,
@@ -136,12 +137,7 @@ pub fn run_match_watched<R: Input, W: Output, M: Moments, B: Board, L: Witness>(
     game: &mut Game<B>,
     witness: &mut L,
 ) -> MatchEnd
-    ensures ran { RanBefore (L.noted witness.old) (L.noted witness.new) setup.now.start setup.now.level game.old
-        game.new result
-        (ports_of R.seen W.seen white.old black.old) (ports_of R.seen W.seen white.new black.new)
-        (M.coming moments.old) (M.coming moments.new) }
-    ensures played { PlayedNoting (λ notes. WasNoted (L.noted witness.old) (L.noted witness.new) notes) setup.now
-        result
+    ensures ran { PlayedNoting (λ notes. WasNoted (L.noted witness.old) (L.noted witness.new) notes) setup.now result
         (record {
           ports = ports_of R.seen W.seen white.old black.old;
           coming = M.coming moments.old;
@@ -158,60 +154,53 @@ pub fn run_match_watched<R: Input, W: Output, M: Moments, B: Board, L: Witness>(
     ensures limit { game.new.limit ≡ game.old.limit }
     ensures outcome { verdict_now game.new.state ≡ None → outcome_now game.new.state ≡ result.outcome }
 {
+    let mut desk = Desk {
+        white_reader: &mut white.reader,
+        white_writer: &mut white.writer,
+        black_reader: &mut black.reader,
+        black_writer: &mut black.writer,
+        moments,
+        witness,
+        lines: ByColour {
+            white: Lines::new(),
+            black: Lines::new(),
+        },
+    };
+    run_match_at(&mut desk, setup, game)
+}
+
+/// Plays one game at a table, as [`run_match`] does between two engines.
+///
+/// The contract says which steps passed at the table, in their order: the acts of a match, each with its note. What an
+/// engine is sent is noted before it is written, and a line when the clock was read after it, before anything else.
+pub fn run_match_at<T: MatchTable, B: Board>(
+    table: &mut T,
+    setup: &Setup,
+    game: &mut Game<B>,
+) -> MatchEnd
+    ensures ran { PlayedAt setup.now result (T.passed table.old) (T.passed table.new) game.old game.new }
+
+    // The same in single facts.
+    ensures start { game.new.state.start ≡ setup.now.start }
+    ensures limit { game.new.limit ≡ game.old.limit }
+    ensures outcome { verdict_now game.new.state ≡ None → outcome_now game.new.state ≡ result.outcome }
+{
     game.restart(&setup.start);
     let mut core = MatchState::new(setup.level);
-    let mut lines: ByColour<Lines<ENGINE_LINE_LEN>> = ByColour {
-        white: Lines::new(),
-        black: Lines::new(),
-    };
     let mut line = Line::new();
     let mut blocks = Blocks::new();
-    let mut failed = deliver(
-        &mut white.writer,
-        &mut black.writer,
-        witness,
-        &mut core,
-        game,
-        ENTRY,
-        &mut blocks,
-        Colour::White,
-    );
+    let mut failed = deliver(table, &mut core, game, ENTRY, &mut blocks, Colour::White);
     'events: loop {
         match awaited_in(core.phase) {
             Awaited::Nothing(reason) => return end_of(core, game, reason, failed),
             Awaited::Moment(side) => {
-                let moment = moments.now();
-                witness.opened(side, moment);
+                let moment = table.moment(side);
+                table.note_opened(side, moment);
                 core.open(side, moment);
             }
             Awaited::Line(side) => {
-                let found = next_line(
-                    &mut white.reader,
-                    &mut black.reader,
-                    &mut lines,
-                    side,
-                    &mut line,
-                );
-                let given = take_next(
-                    &mut core,
-                    moments,
-                    witness,
-                    game,
-                    found,
-                    &line,
-                    side,
-                    &mut blocks.own,
-                );
-                failed = deliver(
-                    &mut white.writer,
-                    &mut black.writer,
-                    witness,
-                    &mut core,
-                    game,
-                    given,
-                    &mut blocks,
-                    side,
-                );
+                let given = take_next(table, &mut core, game, side, &mut line, &mut blocks.own);
+                failed = deliver(table, &mut core, game, given, &mut blocks, side);
             }
         }
     }
@@ -243,33 +232,33 @@ fn awaited_in(phase: Phase) -> Awaited
     }
 }
 
-// Reads the next line of this side's engine into `line`, and returns whether there was one (false: its output ended).
-fn next_line<R: Input>(
-    white: &mut R,
-    black: &mut R,
-    lines: &mut ByColour<Lines<ENGINE_LINE_LEN>>,
+// Notes that writing to `side` failed, which ends the match, and sends the other side its last lines, which go to the
+// empty block `waiting`. Returns whether that failed too.
+fn end_for_other<T: MatchTable, G: MatchGame>(
+    table: &mut T,
+    core: &mut MatchState,
+    game: &G,
+    waiting: &mut Block,
     side: Colour,
-    line: &mut Line<ENGINE_LINE_LEN>,
-) -> Result<bool, ReadFault>
-    ensures next { NextLine ENGINE_LINE_LEN (by_colour (R.seen white.old) (R.seen black.old) side)
-        (by_colour (R.seen white.new) (R.seen black.new) side) (of_colour lines.old side) (of_colour lines.new side)
-        (line_read result line.new) }
-    ensures others { by_colour (R.seen white.new) (R.seen black.new) (other side)
-        ≡ by_colour (R.seen white.old) (R.seen black.old) (other side) }
-    ensures held { of_colour lines.new (other side) ≡ of_colour lines.old (other side) }
+) -> bool
+    requires on { is_on core.old.phase ≡ true }
+    requires empty { waiting.old.items ≡ [] }
+    ensures ended { (r : Rules) (m : Match) → G.plays game.now r → Represents r core.old (G.played game.now) m
+        → Represents r core.new (G.played game.now) (match_after r m (FailsToWrite side))
+        × Passes (T.passed table.old) (T.passed table.new) (steps_of (FailsToWrite side)
+        ++ giving result (other side) (block r m (match_after r m (FailsToWrite side)) (other side)))
+        × (result ≡ true → 0 < length (block r m (match_after r m (FailsToWrite side)) (other side))) }
+    ensures empty { waiting.new.items ≡ [] }
+    ensures left { T.left table.new ≡ T.left table.old }
 {
-    match side {
-        Colour::White => lines.white.read_line(white, line),
-        Colour::Black => lines.black.read_line(black, line),
-    }
+    table.note_write_fails(side);
+    let given = core.write_fails(side);
+    note_and_send(table, core, game, given, waiting, side.other())
 }
 
-// Sends both sides their last lines, White first, and returns to which sides a write failed. The blocks already have
-// the answers to items; `given` says what else is sent.
-fn send_both<W: Output, L: Witness, G: MatchGame>(
-    white: &mut W,
-    black: &mut W,
-    witness: &mut L,
+// Sends both sides their last lines, White first, and returns to which sides that failed.
+fn send_last<T: MatchTable, G: MatchGame>(
+    table: &mut T,
     core: &MatchState,
     game: &G,
     given: Actions,
@@ -282,118 +271,43 @@ fn send_both<W: Output, L: Witness, G: MatchGame>(
         → Represents r core.now (G.played game.now) m
         → white_block.old.items ≡ bytes_of (answers_to (items Colour.White))
         → black_block.old.items ≡ bytes_of (answers_to (items Colour.Black))
-        → SendsIf result.white (W.seen white.old) (W.seen white.new)
-        (bytes_of (given_block r given items m Colour.White))
-        × SendsIf result.black (W.seen black.old) (W.seen black.new)
-        (bytes_of (given_block r given items m Colour.Black))
-        × WasNoted (L.noted witness.old) (L.noted witness.new) (both_notes Colour.White (given_block r given items m)) }
+        → Passes (T.passed table.old) (T.passed table.new)
+        (giving result.white Colour.White (given_block r given items m Colour.White)
+        ++ giving result.black Colour.Black (given_block r given items m Colour.Black))
+        × ((S : Colour) → of_colour result S ≡ true → 0 < length (given_block r given items m S)) }
     ensures white_empty { white_block.new.items ≡ [] }
     ensures black_empty { black_block.new.items ≡ [] }
+    ensures left { T.left table.new ≡ T.left table.old }
 {
-    let white_failed = note_and_send(
-        white,
-        witness,
-        core,
-        game,
-        given,
-        white_block,
-        Colour::White,
-    )
-    .is_err();
-    let black_failed = note_and_send(
-        black,
-        witness,
-        core,
-        game,
-        given,
-        black_block,
-        Colour::Black,
-    )
-    .is_err();
+    let white_failed = note_and_send(table, core, game, given, white_block, Colour::White);
+    let black_failed = note_and_send(table, core, game, given, black_block, Colour::Black);
     ByColour {
         white: white_failed,
         black: black_failed,
     }
 }
 
-// Ends the match because writing to `side` failed, and sends the other side its last lines: `others` is its engine's
-// input, `waiting` its block, which is empty. Returns whether that write failed too.
-fn end_for_other<W: Output, L: Witness, G: MatchGame>(
-    others: &mut W,
-    witness: &mut L,
-    core: &mut MatchState,
-    game: &G,
-    waiting: &mut Block,
-    side: Colour,
-) -> bool
-    requires on { is_on core.old.phase ≡ true }
-    requires empty { waiting.old.items ≡ [] }
-    ensures ended { (r : Rules) (m : Match) → G.plays game.now r → Represents r core.old (G.played game.now) m
-        → Represents r core.new (G.played game.now) (match_after r m (FailsToWrite side))
-        × SendsIf result (W.seen others.old) (W.seen others.new)
-        (bytes_of (block r m (match_after r m (FailsToWrite side)) (other side)))
-        × WasNoted (L.noted witness.old) (L.noted witness.new) (Happened (FailsToWrite side)
-        ∷ given_note (other side) (bytes_of (block r m (match_after r m (FailsToWrite side)) (other side)))) }
-    ensures empty { waiting.new.items ≡ [] }
+// The value for each side, of `own` for this side and `others` for the other.
+fn in_turn(side: Colour, own: bool, others: bool) -> ByColour<bool>
+    ensures { (S : Colour) → of_colour result S ≡ by_turn side own others S }
 {
-    witness.write_fails(side);
-    let given = core.write_fails(side);
-    note_and_send(others, witness, core, game, given, waiting, side.other()).is_err()
-}
-
-// Sends both sides their lines of an event in a match that is not over. `own` is the input of the engine of `side`,
-// which comes first, `others` that of the other engine; `given` says what is sent beside the answers to items. Returns
-// for each of the two whether a write to it failed.
-fn send_in_turn<W: Output, L: Witness, G: MatchGame>(
-    own: &mut W,
-    others: &mut W,
-    witness: &mut L,
-    core: &mut MatchState,
-    game: &G,
-    given: Actions,
-    blocks: &mut Blocks,
-    side: Colour,
-) -> (bool, bool)
-    requires on { is_on core.old.phase ≡ true }
-    requires room { array_vec_len blocks.old.own ≤ ANSWERS_LEN }
-    requires empty { blocks.old.others.items ≡ [] }
-    ensures delivered { (r : Rules) (m : Match) (items : Colour → List Item) → G.plays game.now r
-        → Represents r core.old (G.played game.now) m → blocks.old.own.items ≡ bytes_of (answers_to (items side))
-        → items (other side) ≡ []
-        → Delivered r core.new (G.played game.now) m (given_block r given items m) side
-        (by_turn side (W.seen own.old) (W.seen others.old)) (by_turn side (W.seen own.new) (W.seen others.new))
-        (by_turn side result.0 result.1) (L.noted witness.old) (L.noted witness.new) }
-    ensures own_empty { blocks.new.own.items ≡ [] }
-    ensures others_empty { blocks.new.others.items ≡ [] }
-{
-    if note_and_send(own, witness, core, game, given, &mut blocks.own, side).is_err() {
-        let others_failed = end_for_other(others, witness, core, game, &mut blocks.others, side);
-        return (true, others_failed);
+    match side {
+        Colour::White => ByColour {
+            white: own,
+            black: others,
+        },
+        Colour::Black => ByColour {
+            white: others,
+            black: own,
+        },
     }
-    if note_and_send(
-        others,
-        witness,
-        core,
-        game,
-        given,
-        &mut blocks.others,
-        side.other(),
-    )
-    .is_err()
-    {
-        let own_failed = end_for_other(own, witness, core, game, &mut blocks.own, side.other());
-        return (own_failed, true);
-    }
-    (false, false)
 }
 
 // Sends both sides their lines of an event: the engine of `side`, which the event is about, first; at the end White
 // first. A write that fails ends the match. `blocks.own` already has the answers to the items of the event's line;
 // `given` says what else is sent. Returns to which sides a write failed.
-fn deliver<W: Output, L: Witness, G: MatchGame>(
-    white: &mut W,
-    black: &mut W,
-    witness: &mut L,
+fn deliver<T: MatchTable, G: MatchGame>(
+    table: &mut T,
     core: &mut MatchState,
     game: &G,
     given: Actions,
@@ -404,57 +318,46 @@ fn deliver<W: Output, L: Witness, G: MatchGame>(
     requires empty { blocks.old.others.items ≡ [] }
     ensures delivered { (r : Rules) (m : Match) (items : Colour → List Item) → G.plays game.now r
         → Represents r core.old (G.played game.now) m → blocks.old.own.items ≡ bytes_of (answers_to (items side))
-        → items (other side) ≡ []
-        → Delivered r core.new (G.played game.now) m (given_block r given items m) side
-        (by_colour (W.seen white.old) (W.seen black.old)) (by_colour (W.seen white.new) (W.seen black.new))
-        (of_colour result) (L.noted witness.old) (L.noted witness.new) }
+        → items (other side) ≡ [] → (is_on m.phase ≡ true → m.unsent_to ≡ owed_in m.phase)
+        → ((reason : Reason) (S : Colour) → m.phase ≡ Over reason → is_unwritten reason S ≡ false)
+        → Delivered r (T.passed table.old) (T.passed table.new) core.new (G.played game.now) m
+        (blocks_after side (record { after = view m; to = given_block r given items m })) (of_colour result) }
     ensures own_empty { blocks.new.own.items ≡ [] }
     ensures others_empty { blocks.new.others.items ≡ [] }
+    ensures left { T.left table.new ≡ T.left table.old }
 {
-    let is_over = core.is_over();
-    match side {
-        Colour::White => {
-            if is_over {
-                return send_both(
-                    white,
-                    black,
-                    witness,
-                    core,
-                    game,
-                    given,
-                    &mut blocks.own,
-                    &mut blocks.others,
-                );
-            }
-            let (own, others) = send_in_turn(
-                white, black, witness, core, game, given, blocks, side,
-            );
-            ByColour {
-                white: own,
-                black: others,
-            }
-        }
-        Colour::Black => {
-            if is_over {
-                return send_both(
-                    white,
-                    black,
-                    witness,
-                    core,
-                    game,
-                    given,
-                    &mut blocks.others,
-                    &mut blocks.own,
-                );
-            }
-            let (own, others) = send_in_turn(
-                black, white, witness, core, game, given, blocks, side,
-            );
-            ByColour {
-                white: others,
-                black: own,
-            }
-        }
+    if core.is_over() {
+        return match side {
+            Colour::White => send_last(
+                table,
+                core,
+                game,
+                given,
+                &mut blocks.own,
+                &mut blocks.others,
+            ),
+            Colour::Black => send_last(
+                table,
+                core,
+                game,
+                given,
+                &mut blocks.others,
+                &mut blocks.own,
+            ),
+        };
+    }
+    if note_and_send(table, core, game, given, &mut blocks.own, side) {
+        let others_failed = end_for_other(table, core, game, &mut blocks.others, side);
+        return in_turn(side, true, others_failed);
+    }
+    let other_side = side.other();
+    if note_and_send(table, core, game, given, &mut blocks.others, other_side) {
+        let own_failed = end_for_other(table, core, game, &mut blocks.own, other_side);
+        return in_turn(side, own_failed, true);
+    }
+    ByColour {
+        white: false,
+        black: false,
     }
 }
 
@@ -477,15 +380,14 @@ fn said(line: &Line<ENGINE_LINE_LEN>) -> EngineLine<'_>
     }
 }
 
-// Takes a line of this side's engine, after reading the clock: the match goes on by the line, and the witness is given
-// it. Returns what is to be sent; the answers to the line's items go to `block`, which must be empty.
-fn take_line<M: Moments, L: Witness, G: MatchGame>(
+// Takes a line of this side's engine: the clock is read, the line is noted, and the match goes on by it. Returns what is
+// to be sent; the answers to the line's items go to `block`, which must be empty.
+fn take_line<T: MatchTable, G: MatchGame>(
+    table: &mut T,
     core: &mut MatchState,
-    moments: &mut M,
-    witness: &mut L,
     game: &mut G,
-    line: &Line<ENGINE_LINE_LEN>,
     side: Colour,
+    line: &Line<ENGINE_LINE_LEN>,
     block: &mut Block,
 ) -> Actions
     requires sane { (r : Rules) × (m : Match) × (G.plays game.old r) × Represents r core.old (G.played game.old) m
@@ -494,31 +396,29 @@ fn take_line<M: Moments, L: Witness, G: MatchGame>(
     ensures rules { (r : Rules) → G.plays game.old r → G.plays game.new r }
     ensures origin { G.origin game.new ≡ G.origin game.old }
     ensures taken { (moment : ℕ) × (items : List Item)
-        × ClockReadings (M.coming moments.old) (M.coming moments.new) (moment_in (line_event side line.now moment))
-        × WasNoted (L.noted witness.old) (L.noted witness.new) (Happened (line_event side line.now moment) ∷ [])
+        × Passes (T.passed table.old) (T.passed table.new) (after_line side (text_read line.now) moment)
         × (block.new.items ≡ bytes_of (answers_to items))
         × ((r : Rules) (m : Match) → G.plays game.old r → reads m.phase side ≡ true
         → Represents r core.old (G.played game.old) m
         → Goes r core.new (G.played game.new) result (items_to side items) m
         (match_after r m (line_event side line.now moment))) }
     ensures room { array_vec_len block.new ≤ ANSWERS_LEN }
+    ensures left { T.left table.new ≡ T.left table.old }
 {
-    let moment = moments.now();
-    witness.line(side, line, moment);
+    let moment = table.moment(side);
+    table.note_line(side, line, moment);
     core.line(game, said(line), moment, block)
 }
 
-// Takes what reading the next line of this side's engine gave (`found`): the line in `line`, if there was one and `\n`
-// ended it; else the end of its output or a fault, which end the match. Returns what is to be sent; the answers to the
-// line's items go to `block`, which must be empty.
-fn take_next<M: Moments, L: Witness, G: MatchGame>(
+// Reads the next line of this side's engine into `line` and takes it, if there is one and `\n` ended it; else the end of
+// its output, or a fault, ends the match. Returns what is to be sent; the answers to the line's items go to `block`,
+// which must be empty.
+fn take_next<T: MatchTable, G: MatchGame>(
+    table: &mut T,
     core: &mut MatchState,
-    moments: &mut M,
-    witness: &mut L,
     game: &mut G,
-    found: Result<bool, ReadFault>,
-    line: &Line<ENGINE_LINE_LEN>,
     side: Colour,
+    line: &mut Line<ENGINE_LINE_LEN>,
     block: &mut Block,
 ) -> Actions
     requires sane { (r : Rules) × (m : Match) × (G.plays game.old r) × Represents r core.old (G.played game.old) m
@@ -526,32 +426,29 @@ fn take_next<M: Moments, L: Witness, G: MatchGame>(
     requires empty { block.old.items ≡ [] }
     ensures rules { (r : Rules) → G.plays game.old r → G.plays game.new r }
     ensures origin { G.origin game.new ≡ G.origin game.old }
-    ensures taken { (moment : ℕ) × (items : List Item)
-        × ClockReadings (M.coming moments.old) (M.coming moments.new)
-        (moment_in (event_read side moment (line_read found line.now)))
-        × WasNoted (L.noted witness.old) (L.noted witness.new)
-        (Happened (event_read side moment (line_read found line.now)) ∷ [])
+    ensures taken { (e : Event) × (items : List Item) × (is_of_output side e ≡ true)
+        × Passes (T.passed table.old) (T.passed table.new) (steps_of e)
+        × (is_line_event e ≡ true → T.left table.new < T.left table.old)
         × (block.new.items ≡ bytes_of (answers_to items))
         × ((r : Rules) (m : Match) → G.plays game.old r → reads m.phase side ≡ true
         → Represents r core.old (G.played game.old) m
-        → Goes r core.new (G.played game.new) result (items_to side items) m
-        (match_after r m (event_read side moment (line_read found line.now)))) }
+        → Goes r core.new (G.played game.new) result (items_to side items) m (match_after r m e)) }
     ensures room { array_vec_len block.new ≤ ANSWERS_LEN }
 {
-    match found {
+    match table.read_line(side, line) {
         Err(_) => {
-            witness.read_fails(side);
+            table.note_read_fails(side);
             core.read_fails(side)
         }
         Ok(false) => {
-            witness.output_ends(side);
+            table.note_output_ends(side);
             core.output_ends(side)
         }
         Ok(true) => {
             if is_parsed(line) {
-                take_line(core, moments, witness, game, line, side, block)
+                take_line(table, core, game, side, line, block)
             } else {
-                witness.output_ends(side);
+                table.note_output_ends(side);
                 core.output_ends(side)
             }
         }

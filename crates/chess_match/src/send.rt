@@ -1,24 +1,22 @@
 //! Noting and sending the blocks of an event.
 
-ghost use Rattle.std.specs.Prelude.{◌≡◌, ◌≢◌, ◌+◌, ◌≤◌, ◌<◌, ◌++◌, [], List, length, if◌then◌else◌, IsErr};
-ghost use Rattle.std.specs.Result.{is_err};
+ghost use Rattle.std.specs.Prelude.{◌≡◌, ◌≢◌, ◌+◌, ◌≤◌, ◌<◌, ◌++◌, [], List, length, true};
 ghost use Rattle.arrayvec.specs.ArrayVec.{array_vec_len};
 ghost use Rattle.chess_base.specs.declared.man.Colour.{Colour};
 ghost use Rattle.cecp_engine.specs.Items.{Item};
 ghost use Rattle.chess_match.specs.declared.block.TheConstants.{ANSWERS_LEN, BLOCK_LEN};
-ghost use Rattle.chess_match.specs.Match.{Match};
-ghost use Rattle.chess_match.specs.Notes.{WasNoted, given_note};
+ghost use Rattle.chess_match.specs.laws.Machine.{Match};
+ghost use Rattle.chess_match.specs.Lines.{SentLine, answers_to, bytes_of};
 ghost use Rattle.chess_match.specs.Rules.{Rules};
-ghost use Rattle.chess_match.specs.Sent.{answers_to, bytes_of};
+ghost use Rattle.chess_match.specs.Table.{Passes};
+ghost use Rattle.chess_match.specs.ties.Driving.{giving};
 ghost use Rattle.chess_match.specs.ties.Represents.{Represents, after_answers, given_block};
-ghost use Rattle.chess_match.specs.ties.Reported.{SendsIf};
 
 use crate::block::Block;
 use crate::compose::{add_entered, add_offer};
 use crate::match_game::MatchGame;
 use crate::state::{Actions, MatchState};
-use crate::witness::Witness;
-use byte_devices::{Output, WriteFault, send};
+use crate::table::MatchTable;
 use chess_base::Colour;
 
 // Appends to the block what this side is sent after the answers to its items, as far as `given` says so: an offer of a
@@ -38,52 +36,41 @@ fn add_rest<G: MatchGame>(
     add_entered(block, core, game, given, side);
 }
 
-// Gives the witness, such as the log, a note that `side` is sent this text, and then writes and flushes the text; an
-// empty text is neither noted nor written.
-fn note_and_put<W: Output, L: Witness>(
-    writer: &mut W,
-    witness: &mut L,
-    text: &[u8],
-    side: Colour,
-) -> Result<(), WriteFault>
-    ensures sends { SendsIf (is_err result) (W.seen writer.old) (W.seen writer.new) text.now }
-    ensures due { IsErr result → text.now ≢ [] }
-    ensures noted { WasNoted (L.noted witness.old) (L.noted witness.new) (given_note side text.now) }
+// Notes that `side` is sent this text, and then sends it; an empty text is neither noted nor sent. Returns whether that
+// failed.
+fn note_and_put<T: MatchTable>(table: &mut T, text: &[u8], side: Colour) -> bool
+    ensures passes { (lines : List SentLine) → bytes_of lines ≡ text.now
+        → Passes (T.passed table.old) (T.passed table.new) (giving result side lines) }
+    ensures due { result ≡ true → text.now ≢ [] }
+    ensures left { T.left table.new ≡ T.left table.old }
 {
     if text.is_empty() {
-        return Ok(());
+        return false;
     }
-    witness.gives(side, text);
-    send(writer, text)
+    table.note_gives(side, text);
+    table.send(side, text).is_err()
 }
 
-/// Appends to the answers in `block` what else this side is sent (`given` says what), gives the witness a note of it
-/// all, writes it by one call, and empties `block`. If there is nothing, nothing is noted or written.
-pub(crate) fn note_and_send<W: Output, L: Witness, G: MatchGame>(
-    writer: &mut W,
-    witness: &mut L,
+/// Appends to the answers in `block` what else this side is sent (`given` says what), notes it all, sends it by one
+/// call, and empties `block`. If there is nothing, nothing is noted or sent. Returns whether sending failed.
+pub(crate) fn note_and_send<T: MatchTable, G: MatchGame>(
+    table: &mut T,
     core: &MatchState,
     game: &G,
     given: Actions,
     block: &mut Block,
     side: Colour,
-) -> Result<(), WriteFault>
+) -> bool
     requires { array_vec_len block.old ≤ ANSWERS_LEN }
     ensures sends { (r : Rules) (m : Match) (items : Colour → List Item) → G.plays game.now r
         → Represents r core.now (G.played game.now) m → block.old.items ≡ bytes_of (answers_to (items side))
-        → SendsIf (is_err result) (W.seen writer.old) (W.seen writer.new)
-        (bytes_of (given_block r given items m side)) }
-    ensures due { (r : Rules) (m : Match) (items : Colour → List Item) → G.plays game.now r
-        → Represents r core.now (G.played game.now) m → block.old.items ≡ bytes_of (answers_to (items side))
-        → IsErr result → 0 < length (given_block r given items m side) }
-    ensures noted { (r : Rules) (m : Match) (items : Colour → List Item) → G.plays game.now r
-        → Represents r core.now (G.played game.now) m → block.old.items ≡ bytes_of (answers_to (items side))
-        → WasNoted (L.noted witness.old) (L.noted witness.new)
-        (given_note side (bytes_of (given_block r given items m side))) }
+        → Passes (T.passed table.old) (T.passed table.new) (giving result side (given_block r given items m side))
+        × (result ≡ true → 0 < length (given_block r given items m side)) }
     ensures empty { block.new.items ≡ [] }
+    ensures left { T.left table.new ≡ T.left table.old }
 {
     add_rest(block, core, game, given, side);
-    let sent = note_and_put(writer, witness, block.as_slice(), side);
+    let failed = note_and_put(table, block.as_slice(), side);
     block.clear();
-    sent
+    failed
 }

@@ -7,9 +7,9 @@ ghost use Rattle.cecp_engine.specs.Seen.{item_seen, features_of};
 ghost use Rattle.cecp_engine.specs.Items as feature_items;
 ghost use Rattle.cecp_engine.specs.Items.{items_of, has_done};
 ghost use Rattle.chess_match.specs.ties.Represents.{name_by, Represents};
-ghost use Rattle.chess_match.specs.Match.{start};
+ghost use Rattle.chess_match.specs.laws.Machine.{start};
 ghost use Rattle.chess_match.specs.Rules.{Rules};
-ghost use Rattle.chess_match.specs.Sent.{answers_to, bytes_of};
+ghost use Rattle.chess_match.specs.Lines.{answers_to, bytes_of};
 ghost use Rattle.chess_match.specs.ties.Texts.{unsent_in};
 
 use crate::block::{Block, add_answer};
@@ -83,8 +83,8 @@ impl Player {
         }
     }
 
-    /// Takes over the items of a `feature` line (`text` is the line without its first word), appends the answers to
-    /// them to `block`, and returns whether `done=1` is among them.
+    /// Takes over the items of a `feature` line (`text` is the line without its first word), up to `done=1` or a
+    /// malformed one, appends the answers to them to `block`, and returns whether `done=1` was met.
     pub(crate) fn take_items(&mut self, text: &[u8], block: &mut Block) -> bool
         requires { array_vec_len block.old + 4 * length text.now ≤ ANSWERS_LEN }
         ensures features { (items : List feature_items.Item) → self.old.features ≡ features_of items

@@ -2,12 +2,12 @@
 
 ghost use Rattle.std.specs.Prelude.{◌≡◌, ◌+◌, ◌<◌, ◌≤◌, List, [], true, false};
 ghost use Rattle.chess_base.specs.declared.man.Move.{Move};
-ghost use Rattle.chess_match.specs.Match.{Match, over, ignore, enter, open_turn};
+ghost use Rattle.chess_match.specs.laws.Machine.{Match, over, ignore, enter, open_turn};
 ghost use Rattle.chess_match.specs.Rules.{Rules};
-ghost use Rattle.chess_match.specs.Sent.{is_same_phase};
+ghost use Rattle.chess_match.specs.laws.Blocks.{is_same_phase};
 ghost use Rattle.chess_match.specs.ties.Represents.{Represents, Goes, nothing_said};
 ghost use Rattle.chess_match.specs.ties.Texts.{all_sent};
-ghost use Rattle.chess_match.specs.Transcript.{is_on, reads};
+ghost use Rattle.chess_match.specs.laws.Transcript.{is_on, reads};
 ghost use Rattle.chess_match.specs.declared.state.TheConstants.{FLOOD_LEN};
 
 use crate::phase::Phase;
@@ -35,7 +35,7 @@ impl MatchState {
         ENTRY
     }
 
-    // Notes that nobody is still to be sent the last move.
+    // Marks the last move, if there is one, as sent: nobody is still to be sent it.
     fn note_sent(&mut self)
         ensures { self.new ≡ (record self.old { last = all_sent self.old.last }) }
     {

@@ -1,7 +1,7 @@
 //! The witness of a match.
 
 ghost use Rattle.std.specs.Prelude.{◌∷◌, []};
-ghost use Rattle.chess_match.specs.Match as events;
+ghost use Rattle.chess_match.specs.Events as events;
 ghost use Rattle.chess_match.specs.Notes.{Happened, Gives, WasNoted};
 ghost use Rattle.chess_match.specs.Run.{text_read};
 

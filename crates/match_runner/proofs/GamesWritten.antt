@@ -1,5 +1,5 @@
 -- The games of a match, one after another.
-use Rattle.std.proofs.Common.{◌≡◌, ◌∙◌, ◌<◌, ◌≤◌, ◌+◌, ℕ, Bool, true, false, List, [], ◌∷◌, ◌++◌, length, Bor, Option, Some, None, Ok, Err, refl, sym, ap, subst, append-nil, length-append, arith, inr}
+use Rattle.std.proofs.Common.{◌≡◌, ◌∙◌, ◌<◌, ◌≤◌, ◌+◌, ℕ, Bool, true, false, List, [], ◌∷◌, ◌++◌, length, Bor, Some, None, Ok, Err, refl, sym, ap, subst, append-nil, length-append, arith, inr}
 use Rattle.std.specs.Prelude.{cond, count_by, flat_map, if◌then◌else◌}
 use Rattle.std.specs.List.{enumerate_from}
 use Rattle.std.proofs.lemmas.List.Concat.{flat_map-append}
@@ -14,19 +14,21 @@ use Rattle.chess_game.specs.Game.{Seen}
 use Rattle.chess_game.specs.Results.{same_outcome}
 use Rattle.chess_game.specs.declared.results.Outcome.{Outcome}
 use Rattle.chess_game.specs.declared.results.Outcome.TheVariants.{Draw, Unfinished}
-use Rattle.chess_base.specs.declared.setup.Setup.{Setup}
-use Rattle.cecp_engine.specs.Levels.{LevelSeen}
 use Rattle.chess_match.specs.Reasons.{comment_of, win_of}
-use Rattle.chess_match.specs.Notes.{Note, notes_of}
-use Rattle.chess_match.specs.Rules.{rules_of}
-use Rattle.chess_match.specs.Run.{Flushed, Ports, MatchRan}
+use Rattle.chess_match.specs.Run.{Flushed}
+use Rattle.chess_match.specs.Acts.{Act}
+use Rattle.chess_match.specs.ByDevice.{notes_given}
+use Rattle.chess_match.specs.Played.{World, PlayedBy}
+use Rattle.chess_match.specs.declared.reason.Reason.{Reason}
+use Rattle.chess_match.specs.declared.run.Setup.{Setup}
+use Rattle.chess_game.specs.declared.game.TheConstants.{MOST_MOVES}
 use Rattle.chess_match.specs.declared.reason.MatchFault.{MatchFault}
 use Rattle.chess_match.specs.declared.reason.Reason.TheVariants.{Faulted}
 use Rattle.chess_match.specs.declared.run.MatchEnd.{MatchEnd}
 use Rattle.chess_match.proofs.shared.Flushes.{flushed_none, failed_after}
-use Rattle.match_runner.specs.Games.{EndsGames, GameRecord, IsOfPlan, LogsGames, RanGames, SoundGames, count_of, first_side, game_logs, game_text, game_texts, match_text, score_line, score_of}
-use Rattle.match_runner.specs.ties.Playing.{HasPlayed, LogsGame, PlayedGame, RanAndLogged, logged_side, no_score, plus, score_after}
-use Rattle.match_runner.specs.Log.{LogSeen, Logged, RanNoted, log_text}
+use Rattle.match_runner.specs.Games.{EndsGames, GameRecord, IsOfPlan, LogsGames, RanGames, SoundGames, count_of, first_side, game_logs, game_text, game_texts, match_text, score_line, score_of, setup_of}
+use Rattle.match_runner.specs.ties.Playing.{HasPlayed, LogsGame, PlayedGame, logged_side, no_score, plus, score_after}
+use Rattle.match_runner.specs.Log.{LogSeen, Logged, log_text}
 use Rattle.match_runner.proofs.Logged.{logged_more, logs_none}
 use Rattle.match_runner.specs.declared.fault.GamesFault.{GamesFault}
 use Rattle.match_runner.specs.declared.fault.GamesFault.TheVariants.{WriteFailed, NoMemory, CanNotStart, Game}
@@ -45,18 +47,15 @@ flushed_more w w' w'' x y h k = record {
 -- ---- one game
 
 -- a match leaves the game its limit
-pub limit_kept : (notes : List Note) (start : Setup) (level : LevelSeen) (g g' : Seen) (end : MatchEnd)
-    (w w' : Ports) (coming coming' : ℕ → Option ℕ) → RanNoted notes start level g g' end w w' coming coming'
-    → g'.limit ≡ g.limit
-limit_kept notes start level g g' end w w' coming coming' (T, are, by) = ap (λ (v : Seen). v.limit) by.4
+pub limit_kept : (setup : Setup) (end : MatchEnd) (w w' : World) (H : List Act) (reason : Reason)
+    → PlayedBy H reason setup end w w' → w'.game.limit ≡ w.game.limit
+limit_kept setup end w w' H reason (final, passed, reported, left) = ap (λ (v : Seen). v.limit) left
 
--- ---- a game that is not logged
-
-pub relayed : (l : LogSeen) (start : Setup) (level : LevelSeen) (g g' : Seen) (end : MatchEnd) (w w' : Ports)
-    (coming coming' : ℕ → Option ℕ) → MatchRan start level g g' end w w' coming coming'
-    → RanAndLogged None l l start level g g' end w w' coming coming'
-relayed l start level g g' end w w' coming coming' (T, by) =
-    (notes_of (rules_of start level g.limit) T, (T, refl, by), refl)
+-- a game that was played by the plan is one of the plan, with its notes
+pub of_plan : (plan : GamesPlan) (end : MatchEnd) (w w' : World) (H : List Act) (reason : Reason)
+    → PlayedBy H reason (setup_of plan) end w w' → w.game.limit ≡ MOST_MOVES
+    → IsOfPlan plan (record { game = w'.game; end = end; notes = notes_given reason H })
+of_plan plan end w w' H reason by most = (w, w', most, refl, (H, reason, refl, by))
 
 -- ---- games with their numbers
 

@@ -7,19 +7,14 @@ use Rattle.std.specs.Io.KnownBytes.{Appends}
 use Rattle.chess_base.specs.Letters.{new_line}
 use Rattle.chess_base.specs.declared.man.Colour.{Colour}
 use Rattle.chess_base.specs.declared.man.Colour.TheVariants.{White, Black}
-use Rattle.chess_base.specs.declared.setup.Setup.{Setup}
 use Rattle.byte_devices.specs.Devices.{OutputState, Sent, Sends, risen}
 use Rattle.byte_devices.proofs.shared.Devices.{appends_more}
-use Rattle.chess_game.specs.Game.{Seen}
-use Rattle.cecp_engine.specs.Levels.{LevelSeen}
 use Rattle.chess_base.specs.Men.{same_colour}
-use Rattle.chess_match.specs.Match.{Line}
-use Rattle.chess_match.specs.Notes.{Note, Happened, WasNoted, notes_of}
-use Rattle.chess_match.specs.Rules.{rules_of}
-use Rattle.chess_match.specs.Run.{Flushed, FlushedThenFailed, Ports, RanBefore}
-use Rattle.chess_match.specs.declared.run.MatchEnd.{MatchEnd}
+use Rattle.chess_match.specs.Events.{Line}
+use Rattle.chess_match.specs.Notes.{Note, Happened, WasNoted}
+use Rattle.chess_match.specs.Run.{Flushed, FlushedThenFailed}
 use Rattle.chess_match.proofs.shared.Flushes.{flushed_none, flushed_more, failed_after}
-use Rattle.match_runner.specs.Log.{LogSeen, Logged, Logs, RanLogged, after_note, ends_line, given_text, log_from, log_text, note_text, shown}
+use Rattle.match_runner.specs.Log.{LogSeen, Logged, Logs, after_note, ends_line, given_text, log_from, log_text, note_text, shown}
 use Rattle.match_runner.specs.ties.Logging.{Adds, IsLog, after_notes, first_of_text, log_of_text, log_start, received_text, text_of_log}
 use Rattle.match_runner.specs.declared.log.LogState.{LogState}
 use Rattle.match_runner.specs.declared.log.Pending.{Pending}
@@ -240,18 +235,14 @@ seen_again first None failures unflushed true = refl
 seen_again first (Some bytes) failures unflushed false = refl
 seen_again first (Some bytes) failures unflushed true = refl
 
--- a match was watched from the beginning of its log, and what was pending then was logged
-pub ran_logged : (first side side' : Colour) (from : LogSeen) (o o' o'' : OutputState) (p p' p'' : Pending)
-    (s s' : LogState) (start : Setup) (level : LevelSeen) (g g' : Seen) (end : MatchEnd) (w w' : Ports)
-    (coming coming' : ℕ → Option ℕ) → IsLog first from side o p s []
-    → RanBefore (λ before notes. IsLog (first_of_text before) (log_of_text before) side o p s notes)
-    (λ before notes. IsLog (first_of_text before) (log_of_text before) side' o' p' s' notes) start level g g' end w w'
-    coming coming'
+-- a witness was given these notes from the beginning of its log on, and what was pending then was logged
+pub notes_logged : (first side side' : Colour) (from : LogSeen) (o o' o'' : OutputState) (p p' p'' : Pending)
+    (s s' : LogState) (notes : List Note) → IsLog first from side o p s []
+    → WasNoted (λ before more. IsLog (first_of_text before) (log_of_text before) side o p s more)
+    (λ before more. IsLog (first_of_text before) (log_of_text before) side' o' p' s' more) notes
     → Adds o' o'' p' p'' [] → p''.bytes.items ≡ []
-    → RanLogged first from (record { output = o''; broken = p''.broken }) start level g g' end w w' coming coming'
-ran_logged first side side' from o o' o'' p p' p'' s s' start level g g' end w w' coming coming' begun
-    (T, noted, by) a none =
-    let notes : List Note = notes_of (rules_of start level g.limit) T in
+    → Logged from (record { output = o''; broken = p''.broken }) (log_text first notes)
+notes_logged first side side' from o o' o'' p p' p'' s s' notes begun noted a none =
     let text : List ℕ = text_of_log first from in
     let first_is : first_of_text text ≡ first = first_again first from in
     let from_is : log_of_text text ≡ from =
@@ -261,10 +252,7 @@ ran_logged first side side' from o o' o'' p p' p'' s s' start level g g' end w w
     (subst (λ (c : Colour). IsLog c (log_of_text text) side' o' p' s' notes) first_is
     (noted.extends text []
     (subst (λ (c : Colour). IsLog c (log_of_text text) side o p s []) (sym first_is)
-    (subst (λ (v : LogSeen). IsLog first v side o p s []) (sym from_is) begun)))) in (
-      notes,
-      (T, refl, by),
-      subst (λ (l : List ℕ). Logs from.broken p''.broken from.output o'' l (log_text first notes)) none
-          (subst (λ (t : List ℕ). Logs from.broken p''.broken from.output o'' p''.bytes.items t)
-          (append-nil (log_text first notes)) (a.after from (log_text first notes) log.written)),
-    )
+    (subst (λ (v : LogSeen). IsLog first v side o p s []) (sym from_is) begun)))) in
+    subst (λ (l : List ℕ). Logs from.broken p''.broken from.output o'' l (log_text first notes)) none
+    (subst (λ (t : List ℕ). Logs from.broken p''.broken from.output o'' p''.bytes.items t)
+    (append-nil (log_text first notes)) (a.after from (log_text first notes) log.written))

@@ -13,12 +13,14 @@ use Rattle.byte_devices.specs.Devices.{OutputState, Begins}
 use Rattle.chess_game.specs.Game.{Seen}
 use Rattle.chess_match.specs.Reasons.{comment_of, win_of}
 use Rattle.chess_match.specs.Notes.{Note}
-use Rattle.chess_match.specs.Run.{Ports, Flushed, FlushedThenFailed}
+use Rattle.chess_match.specs.Played.{World, PlayedNoting}
+use Rattle.chess_match.specs.Run.{Flushed, FlushedThenFailed}
 use Rattle.chess_match.specs.declared.reason.MatchFault.{MatchFault}
 use Rattle.chess_match.specs.declared.reason.Reason.TheVariants.{Faulted}
 use Rattle.chess_match.specs.declared.run.MatchEnd.{MatchEnd}
+use Rattle.chess_match.specs.declared.run.Setup.{Setup}
 use Rattle.chess_pgn.specs.GameText.{pgn}
-use Rattle.match_runner.specs.Log.{LogSeen, Logged, RanNoted, log_text}
+use Rattle.match_runner.specs.Log.{LogSeen, Logged, log_text}
 use Rattle.match_runner.specs.declared.fault.GamesFault.{GamesFault}
 use Rattle.match_runner.specs.declared.fault.GamesFault.TheVariants.{WriteFailed, NoMemory, CanNotStart, Game}
 use Rattle.chess_pgn.specs.declared.tags.Tags.{Tags}
@@ -58,12 +60,15 @@ pub record GameRecord : Type 0 where
   pub end : MatchEnd
   pub notes : List Note
 
+-- what each game of `plan` begins from: its start and its time control
+abbrev pub setup_of : GamesPlan → Setup
+setup_of plan = record { start = plan.start; level = plan.level }
+
 -- the game `played` was played from the start of `plan` with its time control, with at most 20,000 half-moves, whatever
 -- the two engines sent
 abbrev pub IsOfPlan : GamesPlan → GameRecord → Type 0
-IsOfPlan plan played = (before : Seen) × (before.limit ≡ MOST_MOVES)
-    × (w : Ports) × (w' : Ports) × (coming : ℕ → Option ℕ) × (coming' : ℕ → Option ℕ)
-    × RanNoted played.notes plan.start plan.level before played.game played.end w w' coming coming'
+IsOfPlan plan played = (w : World) × (w' : World) × (w.game.limit ≡ MOST_MOVES) × (w'.game ≡ played.game)
+    × PlayedNoting (λ notes. notes ≡ played.notes) (setup_of plan) played.end w w'
 
 -- the PGN of the game `played`, which has this number
 abbrev pub game_text : GamesPlan → ℕ → GameRecord → List ℕ

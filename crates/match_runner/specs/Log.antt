@@ -1,17 +1,12 @@
 -- What a log of a match holds: a line for each line that an engine sends or is sent, as XBoard's debug file has them.
-use Rattle.std.specs.Prelude.{◌≡◌, ℕ, ◌==◌, ◌&&◌, nat_le, Bool, true, false, if◌then◌else◌, List, [], ◌∷◌, ◌++◌, fold, map, codes, decimal, Option, Some, None}
+use Rattle.std.specs.Prelude.{◌≡◌, ℕ, ◌==◌, ◌&&◌, nat_le, Bool, true, false, if◌then◌else◌, List, [], ◌∷◌, ◌++◌, fold, map, codes, decimal, Some, None}
 use Rattle.chess_base.specs.Letters.{byte, new_line}
 use Rattle.chess_base.specs.declared.man.Colour.{Colour}
 use Rattle.chess_base.specs.Men.{same_colour}
-use Rattle.chess_base.specs.declared.setup.Setup.{Setup}
 use Rattle.byte_devices.specs.Devices.{OutputState, Begins}
-use Rattle.chess_game.specs.Game.{Seen}
-use Rattle.cecp_engine.specs.Levels.{LevelSeen}
-use Rattle.chess_match.specs.Match.{Event, Line, Opened, OutputEnds, FailsToRead, FailsToWrite}
-use Rattle.chess_match.specs.Notes.{Note, Happened, Gives, notes_of}
-use Rattle.chess_match.specs.Rules.{rules_of}
-use Rattle.chess_match.specs.Run.{Ports, RanBy, Flushed, FlushedThenFailed}
-use Rattle.chess_match.specs.declared.run.MatchEnd.{MatchEnd}
+use Rattle.chess_match.specs.Events.{Line, Opened, OutputEnds, FailsToRead, FailsToWrite}
+use Rattle.chess_match.specs.Notes.{Note, Happened, Gives}
+use Rattle.chess_match.specs.Run.{Flushed, FlushedThenFailed}
 use Rattle.match_runner.specs.declared.log.Pending.{Pending}
 use Rattle.match_runner.specs.declared.log.LogState.{LogState}
 
@@ -107,22 +102,3 @@ Logs true broken o o' pending text = (broken ≡ true) × (o' ≡ o)
 -- was written; or one had failed before, and nothing was
 abbrev pub Logged : LogSeen → LogSeen → List ℕ → Type 0
 Logged l l' text = Logs l.broken l'.broken l.output l'.output [] text
-
--- ---- a match that is logged
-
--- a game from the position `start` with the time control `level` ran: there is a transcript, of which these are the
--- notes, with which devices, game and the reported `end` agree. `g`, `w` and `coming` are the game, the engines'
--- devices and the times that the clock is to give before, `g'`, `w'` and `coming'` after
-abbrev pub RanNoted : List Note → Setup → LevelSeen → Seen → Seen → MatchEnd → Ports → Ports → (ℕ → Option ℕ)
-    → (ℕ → Option ℕ) → Type 0
-RanNoted notes start level g g' end w w' coming coming' =
-    (T : List Event) × (notes ≡ notes_of (rules_of start level g.limit) T)
-    × RanBy T start level g g' end w w' coming coming'
-
--- a game from the position `start` with the time control `level` ran by a transcript to the reported `end`, and was
--- logged; the engine of `--white` has the side `first`. `l`, `g`, `w` and `coming` are the log, the game, the engines'
--- devices and the times that the clock is to give before, `l'`, `g'`, `w'` and `coming'` after
-abbrev pub RanLogged : Colour → LogSeen → LogSeen → Setup → LevelSeen → Seen → Seen → MatchEnd → Ports → Ports
-    → (ℕ → Option ℕ) → (ℕ → Option ℕ) → Type 0
-RanLogged first l l' start level g g' end w w' coming coming' =
-    (notes : List Note) × RanNoted notes start level g g' end w w' coming coming' × Logged l l' (log_text first notes)

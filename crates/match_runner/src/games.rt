@@ -3,11 +3,12 @@
 ghost use Rattle.std.specs.Prelude.{◌≡◌, ◌≤◌, ◌⊎◌, [], IfErr, IfOk};
 ghost use Rattle.byte_devices.specs.Devices.{Sends};
 ghost use Rattle.chess_match.specs.Reasons.{comment_of};
+ghost use Rattle.chess_match.specs.Played.{PlayedNoting};
 ghost use Rattle.chess_match.specs.Run.{ports_of};
 ghost use Rattle.chess_match.specs.declared.reason.Reason.TheVariants.{Faulted};
 ghost use Rattle.chess_pgn.specs.GameText.{pgn};
-ghost use Rattle.match_runner.specs.Games.{RanGames, engine_command, first_side, player_name, score_line, tags_of};
-ghost use Rattle.match_runner.specs.ties.Playing.{FailsToStart, HasPlayed, IsMatchEndOf, PlayedGame, RanAndLogged, logged_side};
+ghost use Rattle.match_runner.specs.Games.{RanGames, engine_command, first_side, player_name, score_line, setup_of, tags_of};
+ghost use Rattle.match_runner.specs.ties.Playing.{FailsToStart, HasPlayed, LogsGame, PlayedGame, logged_side};
 ghost use Rattle.match_runner.specs.Log.{log_seen};
 ghost use Rattle.chess_game.specs.declared.game.TheConstants.{MOST_MOVES};
 
@@ -117,11 +118,18 @@ fn relay<'t, R: Input, D: Output, M: Moments, E: Output>(
     first: Option<Colour>,
     log: &mut Log<E>,
 ) -> MatchEnd
-    ensures ran { RanAndLogged first
-        (log_seen (E.seen log.old.output) log.old.pending) (log_seen (E.seen log.new.output) log.new.pending)
-        setup.now.start setup.now.level table.old.game table.new.game result
-        (ports_of R.seen D.seen ends.old.white ends.old.black) (ports_of R.seen D.seen ends.new.white ends.new.black)
-        (M.coming table.old.moments) (M.coming table.new.moments) }
+    ensures ran { PlayedNoting (λ notes. LogsGame first (log_seen (E.seen log.old.output) log.old.pending)
+        (log_seen (E.seen log.new.output) log.new.pending) notes) setup.now result
+        (record {
+          ports = ports_of R.seen D.seen ends.old.white ends.old.black;
+          coming = M.coming table.old.moments;
+          game = table.old.game;
+        })
+        (record {
+          ports = ports_of R.seen D.seen ends.new.white ends.new.black;
+          coming = M.coming table.new.moments;
+          game = table.new.game;
+        }) }
 {
     let Some(first) = first else {
         return run_match(
@@ -189,10 +197,19 @@ fn play_game<'a, 't, R: Input, D: Output, M: Moments, W: Output, E: Output>(
     ensures played { PlayedGame plan.now number (W.seen output.old) (W.seen output.new)
         (log_seen (E.seen log.old.output) log.old.pending) (log_seen (E.seen log.new.output) log.new.pending)
         result }
-    ensures ran { (end : _) × IfOk result (λ e. e ≡ end) × IsMatchEndOf (logged_side plan.now number)
-        (log_seen (E.seen log.old.output) log.old.pending) (log_seen (E.seen log.new.output) log.new.pending)
-        plan.now.start plan.now.level table.old.game table.new.game end
-        (ports_of R.seen D.seen ends.old.white ends.old.black) }
+    ensures ran { (end : _) × IfOk result (λ e. e ≡ end) × PlayedNoting (λ notes. LogsGame (logged_side plan.now number)
+        (log_seen (E.seen log.old.output) log.old.pending) (log_seen (E.seen log.new.output) log.new.pending) notes)
+        (setup_of plan.now) end
+        (record {
+          ports = ports_of R.seen D.seen ends.old.white ends.old.black;
+          coming = M.coming table.old.moments;
+          game = table.old.game;
+        })
+        (record {
+          ports = ports_of R.seen D.seen ends.new.white ends.new.black;
+          coming = M.coming table.new.moments;
+          game = table.new.game;
+        }) }
 {
     let setup = Setup {
         start: plan.start,

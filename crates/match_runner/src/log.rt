@@ -5,8 +5,9 @@ ghost use Rattle.arrayvec.specs.ArrayVec.{array_vec_len};
 ghost use Rattle.byte_devices.specs.Devices.{OutputState};
 ghost use Rattle.chess_base.specs.Letters.{byte as letter, new_line};
 ghost use Rattle.chess_base.specs.Men.{same_colour};
+ghost use Rattle.chess_match.specs.Played.{PlayedNoting};
 ghost use Rattle.chess_match.specs.Run.{ports_of, text_read};
-ghost use Rattle.match_runner.specs.Log.{Logs, RanLogged, ends_line, engine_text, given_text, head, log_line, log_seen, shown};
+ghost use Rattle.match_runner.specs.Log.{Logged, Logs, ends_line, engine_text, given_text, head, log_line, log_seen, log_text, shown};
 ghost use Rattle.match_runner.specs.ties.Logging.{Adds, IsLog, log_start, received_text};
 
 use arrayvec::ArrayVec;
@@ -390,9 +391,9 @@ impl<E: Output> Witness for Log<E> {
 /// Plays one game as `run_match` of chess_match does, and logs it; the first engine (that of `--white`) has the side
 /// `first`. `ends` are the ends of the two engines' pipes.
 ///
-/// The contract says that the log has the transcript and all lines that each engine is sent. All of it was written
-/// and flushed; or a write or a flush of it failed, and a beginning of it was written; or one had failed before, and
-/// nothing was.
+/// The contract says that the log has the notes of the match: its events, and all lines that each engine is sent. All
+/// of it was written and flushed; or a write or a flush of it failed, and a beginning of it was written; or one had
+/// failed before, and nothing was.
 pub fn run_match_logged<R: Input, W: Output, M: Moments, B: Board, E: Output>(
     ends: &mut ByColour<Ends<R, W>>,
     moments: &mut M,
@@ -401,11 +402,18 @@ pub fn run_match_logged<R: Input, W: Output, M: Moments, B: Board, E: Output>(
     first: Colour,
     log: &mut Log<E>,
 ) -> MatchEnd
-    ensures ran { RanLogged first
-        (log_seen (E.seen log.old.output) log.old.pending) (log_seen (E.seen log.new.output) log.new.pending)
-        setup.now.start setup.now.level game.old game.new result
-        (ports_of R.seen W.seen ends.old.white ends.old.black) (ports_of R.seen W.seen ends.new.white ends.new.black)
-        (M.coming moments.old) (M.coming moments.new) }
+    ensures ran { PlayedNoting (λ notes. Logged (log_seen (E.seen log.old.output) log.old.pending)
+        (log_seen (E.seen log.new.output) log.new.pending) (log_text first notes)) setup.now result
+        (record {
+          ports = ports_of R.seen W.seen ends.old.white ends.old.black;
+          coming = M.coming moments.old;
+          game = game.old;
+        })
+        (record {
+          ports = ports_of R.seen W.seen ends.new.white ends.new.black;
+          coming = M.coming moments.new;
+          game = game.new;
+        }) }
 {
     log.begin(first);
     let end = run_match_watched(&mut ends.white, &mut ends.black, moments, setup, game, log);

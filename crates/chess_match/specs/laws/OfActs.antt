@@ -9,16 +9,16 @@ use Rattle.cecp_engine.specs.EngineLines.{line_kind}
 use Rattle.cecp_engine.specs.Items.{takes}
 use Rattle.cecp_engine.specs.Levels.{allotted}
 use Rattle.chess_match.specs.ByDevice.{lines_read, has_ended, has_failed_read, moments_shown, lines_sent, broken_blocks, is_broken}
-use Rattle.chess_match.specs.Sent.{SentLine}
+use Rattle.chess_match.specs.Lines.{SentLine}
 use Rattle.chess_match.specs.laws.Laws.{Streams, AreRead, is_move, moves_of, items_said, moves_sent, texts_from, time_sent, otim_sent, centiseconds}
 use Rattle.chess_match.specs.Acts.{Act, Block, Reads, ReadsEnd, ReadFails, ReadsClock, IsMatch, IsMatchFrom}
 use Rattle.chess_match.specs.Effects.{Match, clock}
-use Rattle.chess_match.specs.Match.{Event}
-use Rattle.chess_match.specs.Notes.{notes_of}
+use Rattle.chess_match.specs.Events.{Event}
+use Rattle.chess_match.specs.laws.TranscriptNotes.{notes_of}
 use Rattle.chess_match.specs.Played.{World, PlayedBy, PlayedNoting}
 use Rattle.chess_match.specs.Rules.{Rules, rules_of}
-use Rattle.chess_match.specs.Run.{RanBy}
-use Rattle.chess_match.specs.Transcript.{fits, match_of, is_on, has_fault}
+use Rattle.chess_match.specs.laws.TranscriptRuns.{RanBy}
+use Rattle.chess_match.specs.laws.Transcript.{fits, match_of, is_on, has_fault}
 use Rattle.chess_match.specs.declared.reason.MatchFault.TheVariants.{Write}
 use Rattle.chess_match.specs.declared.reason.Reason.{Reason}
 use Rattle.chess_match.specs.declared.run.MatchEnd.{MatchEnd}

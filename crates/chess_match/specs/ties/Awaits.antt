@@ -1,6 +1,6 @@
 -- What a match waits for.
 use Rattle.std.specs.Prelude.{◌≡◌, true}
-use Rattle.chess_match.specs.Transcript.{reads, opens}
+use Rattle.chess_match.specs.laws.Transcript.{reads, opens}
 use Rattle.chess_match.specs.declared.phase.Phase.{Phase}
 use Rattle.chess_match.specs.declared.phase.Phase.TheVariants.{Over}
 use Rattle.chess_match.specs.declared.run.Awaited.{Awaited}

@@ -10,9 +10,11 @@ use Rattle.cecp_engine.specs.EngineLines.{LineKind}
 use Rattle.cecp_engine.specs.Items.{Item, last_value}
 use Rattle.cecp_engine.specs.Seen.{features_of}
 use Rattle.cecp_engine.specs.Levels.{LevelSeen}
-use Rattle.chess_match.specs.Match.{Match, Seat, items_of_line}
+use Rattle.chess_match.specs.laws.Machine.{Match, items_of_line}
+use Rattle.chess_match.specs.Events.{Seat}
 use Rattle.chess_match.specs.Rules.{Rules}
-use Rattle.chess_match.specs.Sent.{SentLine, Says, answers_to, lines_on_entering, block}
+use Rattle.chess_match.specs.Lines.{SentLine, Says, answers_to}
+use Rattle.chess_match.specs.laws.Blocks.{lines_on_entering, block}
 use Rattle.chess_match.specs.declared.phase.Phase.{Phase}
 use Rattle.chess_match.specs.declared.phase.Phase.TheVariants.{Handshake, AwaitPong}
 use Rattle.chess_match.specs.declared.state.Player.{Player}

@@ -2,11 +2,12 @@
 use Rattle.std.specs.Prelude.{◌≡◌, ℕ, true, List, Option, Some, None}
 use Rattle.chess_base.specs.declared.man.Colour.{Colour}
 use Rattle.chess_base.specs.Men.{other}
-use Rattle.chess_match.specs.Match as machine
-use Rattle.chess_match.specs.Match.{Event}
+use Rattle.chess_match.specs.laws.Machine as machine
+use Rattle.chess_match.specs.Events.{Event}
 use Rattle.chess_match.specs.Rules.{Rules}
-use Rattle.chess_match.specs.Sent.{SentLine, block}
-use Rattle.chess_match.specs.Transcript.{is_on, fits_next}
+use Rattle.chess_match.specs.Lines.{SentLine}
+use Rattle.chess_match.specs.laws.Blocks.{block}
+use Rattle.chess_match.specs.laws.Transcript.{is_on, fits_next}
 use Rattle.chess_match.specs.declared.phase.Phase.{Phase as MachinePhase}
 use Rattle.chess_match.specs.declared.phase.Phase.TheVariants as phases
 use Rattle.chess_match.specs.Effects.{Match, Phase, Handshake, Setup, Opening, BeforeMove, AfterMove, Over, Effect, effect}

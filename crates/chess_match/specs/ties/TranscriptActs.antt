@@ -3,9 +3,9 @@ use Rattle.std.specs.Prelude.{◌≡◌, Bool, true, false, if◌then◌else◌,
 use Rattle.chess_base.specs.declared.man.Colour.{Colour}
 use Rattle.chess_base.specs.declared.man.Colour.TheVariants.{White}
 use Rattle.chess_base.specs.Men.{same_colour}
-use Rattle.chess_match.specs.Match.{Event, Line, Opened, OutputEnds, FailsToRead, FailsToWrite}
+use Rattle.chess_match.specs.Events.{Event, Line, Opened, OutputEnds, FailsToRead, FailsToWrite}
 use Rattle.chess_match.specs.Rules.{Rules}
-use Rattle.chess_match.specs.Transcript.{fits, match_of, is_on, lines_of_engine, moments_of, has_fault}
+use Rattle.chess_match.specs.laws.Transcript.{fits, match_of, is_on, lines_of_engine, moments_of, has_fault}
 use Rattle.chess_match.specs.declared.reason.MatchFault.TheVariants.{Ended, Read}
 use Rattle.chess_match.specs.Acts.{Block, Act, Sends, SendFails, Reads, ReadsEnd, ReadFails, ReadsClock, blocks_from, is_over, IsMatch}
 use Rattle.chess_match.specs.ByDevice.{lines_read, has_ended, has_failed_read, moments_shown}

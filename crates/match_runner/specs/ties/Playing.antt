@@ -3,18 +3,16 @@ use Rattle.std.specs.Prelude.{◌≡◌, ⊤, ℕ, ◌+◌, min, Bool, true, fal
 use Rattle.match_runner.specs.declared.plan.GamesPlan.{GamesPlan}
 use Rattle.chess_base.specs.Men.{other}
 use Rattle.chess_base.specs.declared.man.Colour.{Colour}
-use Rattle.chess_base.specs.declared.setup.Setup.{Setup}
 use Rattle.byte_devices.specs.Devices.{OutputState, BreaksOff, Sent}
 use Rattle.chess_game.specs.Game.{Seen}
 use Rattle.chess_game.specs.Results.{same_outcome}
 use Rattle.chess_game.specs.declared.results.Outcome.{Outcome}
 use Rattle.chess_game.specs.declared.results.Outcome.TheVariants.{Draw, Unfinished}
-use Rattle.cecp_engine.specs.Levels.{LevelSeen}
 use Rattle.chess_match.specs.Notes.{Note}
 use Rattle.chess_match.specs.Reasons.{win_of}
-use Rattle.chess_match.specs.Run.{Ports, Flushed}
+use Rattle.chess_match.specs.Run.{Flushed}
 use Rattle.chess_match.specs.declared.run.MatchEnd.{MatchEnd}
-use Rattle.match_runner.specs.Log.{LogSeen, Logged, RanNoted, log_text}
+use Rattle.match_runner.specs.Log.{LogSeen, Logged, log_text}
 use Rattle.match_runner.specs.declared.fault.GamesFault.{GamesFault}
 use Rattle.match_runner.specs.declared.fault.GamesFault.TheVariants.{WriteFailed, NoMemory, CanNotStart}
 use Rattle.match_runner.specs.declared.games.GamesPlayed.{GamesPlayed}
@@ -53,23 +51,6 @@ logged_side plan number = if plan.log then Some (first_side number) else None
 abbrev pub LogsGame : Option Colour → LogSeen → LogSeen → List Note → Type 0
 LogsGame None l l' notes = l' ≡ l
 LogsGame (Some first) l l' notes = Logged l l' (log_text first notes)
-
--- a game from the position `start` with the time control `level` ran by a transcript to the reported `end`; it was
--- logged if `first`, the side of the engine of `--white`, is given. `l`, `g`, `w` and `coming` are the log, the game,
--- the engines' devices and the times that the clock is to give before, `l'`, `g'`, `w'` and `coming'` after
-abbrev pub RanAndLogged : Option Colour → LogSeen → LogSeen → Setup → LevelSeen → Seen → Seen → MatchEnd → Ports → Ports
-    → (ℕ → Option ℕ) → (ℕ → Option ℕ) → Type 0
-RanAndLogged first l l' start level g g' end w w' coming coming' =
-    (notes : List Note) × RanNoted notes start level g g' end w w' coming coming' × LogsGame first l l' notes
-
--- `end` is the reported end of a game from the position `start` with the time control `level`, between engines whose
--- devices were `w` before; it was logged if `log`, the side of the engine of `--white`, is given. `l` and `g` are the
--- log and the game before, `l'` and `g'` after
-abbrev pub IsMatchEndOf : Option Colour → LogSeen → LogSeen → Setup → LevelSeen → Seen → Seen → MatchEnd → Ports
-    → Type 0
-IsMatchEndOf log l l' start level g g' end w =
-    (notes : List Note) × (w' : Ports) × (coming : ℕ → Option ℕ) × (coming' : ℕ → Option ℕ)
-    × RanNoted notes start level g g' end w w' coming coming' × LogsGame log l l' notes
 
 -- the fault says that an engine of this command could not be started, or that there was no memory
 abbrev pub FailsToStart : List ℕ → GamesFault → Type 0

@@ -1,7 +1,7 @@
 -- What is kept of the engine says whether it takes times, so the clocks' lines are both times or none
 -- (Sends.clock_lines_kept).
 use Rattle.std.proofs.Common.{sym, true, false, append-nil}
-use Rattle.chess_match.specs.Sent.{bytes_of}
+use Rattle.chess_match.specs.Lines.{bytes_of}
 use Rattle.chess_match.proofs.Sends.{clock_lines_kept}
 use Rattle.chess_match.proofs.compose.add_clocks.Goals as goal
 

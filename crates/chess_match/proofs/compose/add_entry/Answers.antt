@@ -2,7 +2,7 @@
 -- end. A side for which it has none gets none (Sends.entry_none).
 use Rattle.std.proofs.Common.{◌≡◌, ◌++◌, List, sym, ◌∙◌, refl, ap, true, false, ℕ}
 use Rattle.chess_base.specs.Men.{same_colour}
-use Rattle.chess_match.specs.Sent.{is_unwritten}
+use Rattle.chess_match.specs.Reasons.{is_unwritten}
 use Rattle.chess_match.specs.declared.phase.Phase.TheVariants.{Handshake, Setup, SendTurn, AwaitMove, AwaitPong, Over}
 use Rattle.chess_match.proofs.Sends.{entry_none, handshake_bytes}
 use Rattle.chess_match.proofs.compose.add_entry.Goals as goal

@@ -1,6 +1,6 @@
 -- Where there is a last move its texts are kept (Sends.last_kept), and without one nothing is put (Sends.no_last).
 use Rattle.std.proofs.Common.{◌++◌, ◌∷◌, [], List, ℕ, ◌∙◌, ap, sym}
-use Rattle.chess_match.specs.Sent.{SentLine, bytes_of, MoveSent}
+use Rattle.chess_match.specs.Lines.{SentLine, bytes_of, MoveSent}
 use Rattle.chess_match.proofs.Sends.{last_kept, no_last, same_end}
 use Rattle.chess_match.proofs.compose.add_last.Goals as goal
 

@@ -1,6 +1,7 @@
 -- Both clocks come before the last move (Sends.behind).
 use Rattle.std.proofs.Common.{◌∙◌, ap, ◌++◌, List, ℕ}
-use Rattle.chess_match.specs.Sent.{bytes_of, clock_lines, last_move_lines}
+use Rattle.chess_match.specs.Lines.{bytes_of}
+use Rattle.chess_match.specs.laws.Blocks.{clock_lines, last_move_lines}
 use Rattle.chess_match.proofs.Sends.{behind}
 use Rattle.chess_match.proofs.compose.add_later_opening.Goals as goal
 

@@ -2,8 +2,9 @@
 -- which has the move before the clocks and `go` after them (Sends.opening_kept).
 use Rattle.std.proofs.Common.{◌≡◌, ◌++◌, ◌∷◌, [], append_assoc, true, false, length, arith, lt-ltb, le-ltb}
 use Rattle.std.specs.Prelude.{nat_lt, codes}
-use Rattle.chess_match.specs.Match.{seat}
-use Rattle.chess_match.specs.Sent.{Says, clock_lines, last_move_lines}
+use Rattle.chess_match.specs.laws.Machine.{seat}
+use Rattle.chess_match.specs.Lines.{Says}
+use Rattle.chess_match.specs.laws.Blocks.{clock_lines, last_move_lines}
 use Rattle.chess_match.proofs.Going.{clocks_moves}
 use Rattle.chess_match.proofs.Sends.{opening_kept, bytes_of-append, go_line}
 use Rattle.chess_match.proofs.compose.add_opening.Goals as goal

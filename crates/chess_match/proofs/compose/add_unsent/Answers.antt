@@ -1,7 +1,7 @@
 -- Where the last move is still to be sent to the side, its texts are kept (Sends.untold_own); where to nobody or to the
 -- other side, no line is due and nothing is put.
 use Rattle.std.proofs.Common.{◌++◌, List, sym, ap, ◌∙◌}
-use Rattle.chess_match.specs.Sent.{SentLine, bytes_of}
+use Rattle.chess_match.specs.Lines.{SentLine, bytes_of}
 use Rattle.chess_match.proofs.Sends.{untold_none, untold_other, untold_own}
 use Rattle.chess_match.proofs.compose.add_unsent.Goals as goal
 

@@ -1,27 +1,22 @@
--- What is not empty is noted, and then written and flushed.
-use Rattle.std.proofs.Common.{List, ℕ, sym, subst}
-use Rattle.chess_match.specs.Notes.{WasNoted, given_note}
-use Rattle.chess_match.specs.Run.{Flushed}
+-- What is not empty is noted, and then sent.
+use Rattle.std.proofs.Common.{◌∷◌, [], Bool, false, subst, sym}
+use Rattle.chess_match.specs.Table.{Does, Passes, sending}
 use Rattle.chess_match.proofs.Due.{is_nil, is_some_text}
-use Rattle.chess_match.proofs.shared.Flushes.{flushed_none}
-use Rattle.chess_match.proofs.SentNow.{sent_now}
-use Rattle.chess_match.proofs.Notings.{noted_none, given_some}
+use Rattle.chess_match.proofs.Passings.{given_lines, given_nothing}
 use Rattle.chess_match.proofs.send.note_and_put.Goals as goal
 
-pub returns-then-is_empty-clause-sends : goal.returns-then-is_empty-clause-sends
-returns-then-is_empty-clause-sends g c =
-    subst (λ (t : List ℕ). Flushed (g.W.Output.seen c.args.writer.now) (g.W.Output.seen c.args.writer.now) t)
-    (sym (is_nil c.args.text.now _ c.is_empty.ensures c.if-is_empty.true)) (flushed_none _)
+pub returns-then-is_empty-clause-passes : goal.returns-then-is_empty-clause-passes
+returns-then-is_empty-clause-passes g c lines e =
+    given_nothing (g.T.MatchTable.passed c.args.table.now) false c.args.side lines c.args.text.now e
+    (is_nil c.args.text.now _ c.is_empty.ensures c.if-is_empty.true)
 
-pub returns-then-is_empty-clause-noted : goal.returns-then-is_empty-clause-noted
-returns-then-is_empty-clause-noted g c =
-    subst (λ (t : List ℕ). WasNoted (g.L.Witness.noted c.args.witness.now) (g.L.Witness.noted c.args.witness.now)
-    (given_note c.args.side t))
-    (sym (is_nil c.args.text.now _ c.is_empty.ensures c.if-is_empty.true)) (noted_none _)
+pub returns-clause-passes : goal.returns-clause-passes
+returns-clause-passes g c lines e =
+    given_lines _ _ _ c.is_err.result c.args.side lines c.args.text.now e
+    (is_some_text c.args.text.now _ c.is_empty.ensures c.if-is_empty.false) c.note_gives.ensures.passes
+    (subst (λ (b : Bool). Passes (g.T.MatchTable.passed c.note_gives.new.self) (g.T.MatchTable.passed c.send.new.self)
+    (Does (sending b (record { to = c.args.side; lines = lines })) ∷ [])) (sym c.is_err.ensures.value)
+    (c.send.ensures.passes lines e))
 
-pub returns-clause-sends : goal.returns-clause-sends
-returns-clause-sends g c = sent_now _ _ c.send.result _ c.send.ensures
-
-pub returns-clause-noted : goal.returns-clause-noted
-returns-clause-noted g c = given_some _ _ c.args.side c.args.text.now
-    (is_some_text c.args.text.now _ c.is_empty.ensures c.if-is_empty.false) c.gives.ensures
+pub returns-clause-due : goal.returns-clause-due
+returns-clause-due g c fails = is_some_text c.args.text.now _ c.is_empty.ensures c.if-is_empty.false

@@ -1,6 +1,6 @@
 -- The answers wait, and the rest of the block is put after them.
 use Rattle.std.proofs.Common.{◌++◌, List, ℕ, ap, sym, ◌∙◌}
-use Rattle.chess_match.specs.Sent.{bytes_of}
+use Rattle.chess_match.specs.Lines.{bytes_of}
 use Rattle.chess_match.specs.ties.Represents.{after_answers, given_block}
 use Rattle.chess_match.proofs.Due.{some_lines}
 use Rattle.chess_match.proofs.Sends.{given_bytes}
@@ -10,20 +10,8 @@ pub returns-clause-sends : goal.returns-clause-sends
 returns-clause-sends g c r m items p s e =
     let text = c.as_slice.ensures.value ∙ c.add_rest.ensures r m p s
     ∙ ap (λ (l : List ℕ). l ++ bytes_of (after_answers r c.args.given m c.args.side)) e
-    ∙ sym (given_bytes r c.args.given items m c.args.side) in
-    rw text at c.note_and_put-sent.ensures.sends
-
-pub returns-clause-due : goal.returns-clause-due
-returns-clause-due g c r m items p s e fails =
-    let text = c.as_slice.ensures.value ∙ c.add_rest.ensures r m p s
-    ∙ ap (λ (l : List ℕ). l ++ bytes_of (after_answers r c.args.given m c.args.side)) e
-    ∙ sym (given_bytes r c.args.given items m c.args.side) in
-    some_lines (given_block r c.args.given items m c.args.side)
-    (λ none. c.note_and_put-sent.ensures.due fails (text ∙ none))
-
-pub returns-clause-noted : goal.returns-clause-noted
-returns-clause-noted g c r m items p s e =
-    let text = c.as_slice.ensures.value ∙ c.add_rest.ensures r m p s
-    ∙ ap (λ (l : List ℕ). l ++ bytes_of (after_answers r c.args.given m c.args.side)) e
-    ∙ sym (given_bytes r c.args.given items m c.args.side) in
-    rw text at c.note_and_put-sent.ensures.noted
+    ∙ sym (given_bytes r c.args.given items m c.args.side) in (
+      c.note_and_put-failed.ensures.passes (given_block r c.args.given items m c.args.side) (sym text),
+      λ fails. some_lines (given_block r c.args.given items m c.args.side)
+          (λ none. c.note_and_put-failed.ensures.due fails (text ∙ none)),
+    )

@@ -1,17 +1,24 @@
--- A game that is not logged has notes too (GamesWritten.relayed).
-use Rattle.std.proofs.Common.{◌≡◌, Option, None, Some, rules, subst, sym}
+-- A game that is not logged has notes too.
+use Rattle.std.proofs.Common.{◌≡◌, Option, None, Some, refl, rules, subst, sym}
 use Rattle.chess_base.specs.declared.man.Colour.{Colour}
+use Rattle.chess_match.specs.ByDevice.{notes_given}
 use Rattle.match_runner.specs.ties.Playing.{LogsGame}
 use Rattle.match_runner.specs.Log.{log_seen}
-use Rattle.match_runner.proofs.GamesWritten.{relayed}
 use Rattle.match_runner.proofs.games.relay.Goals as goal
 
 pub returns-in_default : goal.returns-in_default
 returns-in_default g c =
     let l = log_seen (g.E.Output.seen c.args.log.now.output) c.args.log.now.pending in
-    let r = relayed l _ _ c.args.table.now.game _ _ _ _ _ _ c.run_match.ensures.ran in
+    let r = c.run_match.ensures.ran in
     let none : c.args.first ≡ None = search rules in
-    record { ran = (r.0, r.1, subst (λ (first : Option Colour). LogsGame first l l r.0) (sym none) r.2) }
+    record {
+      ran = (
+        r.0,
+        r.1,
+        subst (λ (first : Option Colour). LogsGame first l l (notes_given r.1 r.0)) (sym none) refl,
+        r.2,
+      );
+    }
 
 pub returns : goal.returns
 returns g c =
@@ -19,4 +26,11 @@ returns g c =
     let l' = log_seen (g.E.Output.seen c.run_match_logged.new.log.output) c.run_match_logged.new.log.pending in
     let r = c.run_match_logged.ensures.ran in
     let some : c.args.first ≡ Some c.in-Some.first = search rules in
-    record { ran = (r.0, r.1, subst (λ (first : Option Colour). LogsGame first l l' r.0) (sym some) r.2) }
+    record {
+      ran = (
+        r.0,
+        r.1,
+        subst (λ (first : Option Colour). LogsGame first l l' (notes_given r.1 r.0)) (sym some) r.2,
+        r.3,
+      );
+    }

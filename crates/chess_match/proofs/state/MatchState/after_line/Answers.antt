@@ -2,9 +2,9 @@
 -- its moves, and so the number of the ping that it is to answer (Going.clocks_moves).
 use Rattle.std.proofs.Common.{◌≡◌, true, false, refl, ◌∙◌, arith, length, eq-eqb, ne_eqb}
 use Rattle.std.specs.Prelude.{◌==◌}
-use Rattle.chess_match.specs.Match.{seat, ping_number, after_line}
-use Rattle.chess_match.specs.Sent.{is_same_phase}
-use Rattle.chess_match.specs.Transcript.{reads, is_on}
+use Rattle.chess_match.specs.laws.Machine.{seat, ping_number, after_line}
+use Rattle.chess_match.specs.laws.Blocks.{is_same_phase}
+use Rattle.chess_match.specs.laws.Transcript.{reads, is_on}
 use Rattle.chess_match.specs.declared.phase.Phase.TheVariants.{SendTurn}
 use Rattle.chess_match.proofs.Going.{clocks_moves}
 use Rattle.chess_match.proofs.OtherLines.{after_other}

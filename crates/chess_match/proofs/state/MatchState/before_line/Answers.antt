@@ -4,8 +4,8 @@ use Rattle.std.proofs.Common.{◌≡◌, ◌-◌, ℕ, Bool, true, false, refl, 
 use Rattle.std.specs.Prelude.{nat_lt}
 use Rattle.chess_base.specs.Men.{other}
 use Rattle.cecp_engine.specs.Clocks.{remaining}
-use Rattle.chess_match.specs.Match.{clock, before_line}
-use Rattle.chess_match.specs.Transcript.{reads, is_on}
+use Rattle.chess_match.specs.laws.Machine.{clock, before_line}
+use Rattle.chess_match.specs.laws.Transcript.{reads, is_on}
 use Rattle.chess_match.proofs.Going.{clocks_left}
 use Rattle.chess_match.proofs.OtherLines.{before_other}
 use Rattle.chess_match.proofs.state.MatchState.before_line.Goals as goal

@@ -4,9 +4,9 @@ use Rattle.std.proofs.Common.{◌≡◌, ◌+◌, true, false, refl, sym, ◌∙
 use Rattle.std.proofs.lemmas.Bool.{lt-leb}
 use Rattle.std.specs.Prelude.{nat_le}
 use Rattle.cecp_engine.specs.Items.{has_done}
-use Rattle.chess_match.specs.Match.{take_items, items_of_line, greeted, enter, handshake_line}
+use Rattle.chess_match.specs.laws.Machine.{take_items, items_of_line, handshake_ended, enter, handshake_line}
 use Rattle.cecp_engine.specs.Seen.{seen}
-use Rattle.chess_match.specs.Sent.{is_same_phase}
+use Rattle.chess_match.specs.laws.Blocks.{is_same_phase}
 use Rattle.chess_match.specs.ties.Represents.{Represents}
 use Rattle.chess_match.specs.declared.reason.MatchFault.TheVariants.{NoDone}
 use Rattle.chess_match.specs.declared.reason.Reason.TheVariants.{Faulted}
@@ -22,9 +22,9 @@ returns-then-done-clause-goes g c r m p at s =
     (take_items c.args.side (items_of_line (seen c.args.line)) m) = c.take_line_items-done.ensures.taken r _ m s in
     let done : has_done (items_of_line (seen c.args.line)) ≡ true = sym c.take_line_items-done.ensures.done
     ∙ c.if-done.true in
-    let on : greeted r c.args.side (take_items c.args.side (items_of_line (seen c.args.line)) m)
+    let on : handshake_ended r c.args.side (take_items c.args.side (items_of_line (seen c.args.line)) m)
     ≡ enter c.phase_after_handshake-self.result (take_items c.args.side (items_of_line (seen c.args.line)) m) =
-    c.phase_after_handshake-self.ensures.greeted r _ p st in
+    c.phase_after_handshake-self.ensures.handshake_ended r _ p st in
     let differs : is_same_phase m.phase c.phase_after_handshake-self.result ≡ false =
     rw at c.phase_after_handshake-self.ensures.leaves in
     rw (done, on) (handshake_goes r c.take_line_items-done.new.self _ _ c.args.side (items_of_line (seen c.args.line))

@@ -3,7 +3,7 @@
 use Rattle.std.proofs.Common.{◌≡◌, true, false, ap, sym, ◌∙◌}
 use Rattle.cecp_engine.specs.Seen.{seen}
 use Rattle.chess_match.specs.declared.phase.Phase.TheVariants.{Handshake, Setup, SendTurn, AwaitMove, AwaitPong, Over}
-use Rattle.chess_match.specs.Transcript.{reads}
+use Rattle.chess_match.specs.laws.Transcript.{reads}
 use Rattle.chess_match.specs.declared.phase.Phase.{Phase}
 use Rattle.chess_match.specs.ties.Represents.{items_in}
 use Rattle.chess_match.proofs.Going.{goes_in, nothing_to, same_to}

@@ -2,8 +2,8 @@
 -- that is played leaves a core that stands for the match with that move (Going.played_goes, played_over_goes).
 use Rattle.std.proofs.Common.{◌≡◌, [], ◌∷◌, ◌++◌, true, false, refl, sym, Some, None, length}
 use Rattle.std.specs.Prelude.{nat_le}
-use Rattle.chess_match.specs.Sent.{is_same_phase}
-use Rattle.chess_match.specs.Transcript.{is_on}
+use Rattle.chess_match.specs.laws.Blocks.{is_same_phase}
+use Rattle.chess_match.specs.laws.Transcript.{is_on}
 use Rattle.chess_match.specs.declared.phase.Phase.TheVariants.{AwaitPong}
 use Rattle.chess_match.proofs.Going.{played_goes, played_over_goes}
 use Rattle.chess_match.proofs.state.MatchState.move_line.Goals as goal

@@ -4,7 +4,7 @@ use Rattle.std.proofs.Common.{◌≡◌, true, false, ◌∙◌, ap}
 use Rattle.std.specs.Prelude.{codes}
 use Rattle.chess_base.specs.Men.{other}
 use Rattle.cecp_engine.specs.Items.{takes}
-use Rattle.chess_match.specs.Match.{seat}
+use Rattle.chess_match.specs.laws.Machine.{seat}
 use Rattle.chess_match.specs.ties.Represents.{Keeps, player}
 use Rattle.cecp_engine.specs.declared.features.Features.{Features}
 use Rattle.chess_match.proofs.Going.{kept, reads_on, offered_goes, features-draw}

@@ -4,11 +4,11 @@ use Rattle.std.proofs.Common.{◌≡◌, List, true, false, refl, sym, Some, Non
 use Rattle.chess_base.specs.declared.man.Colour.{Colour}
 use Rattle.chess_base.specs.declared.man.Colour.TheVariants.{Black}
 use Rattle.chess_base.specs.declared.man.Move.{Move}
-use Rattle.chess_match.specs.Match.{Match, open_turn}
+use Rattle.chess_match.specs.laws.Machine.{Match, open_turn}
 use Rattle.chess_match.specs.Rules.{Rules}
-use Rattle.chess_match.specs.Sent.{is_same_phase}
+use Rattle.chess_match.specs.laws.Blocks.{is_same_phase}
 use Rattle.chess_match.specs.ties.Represents.{Goes, nothing_said}
-use Rattle.chess_match.specs.Transcript.{is_on}
+use Rattle.chess_match.specs.laws.Transcript.{is_on}
 use Rattle.chess_match.specs.declared.state.MatchState.{MatchState}
 use Rattle.chess_match.specs.declared.state.Actions.{Actions}
 use Rattle.chess_match.specs.declared.phase.Phase.TheVariants.{Setup, SendTurn}

@@ -4,7 +4,7 @@ use Rattle.std.proofs.Common.{◌≡◌, true, false, sym}
 use Rattle.chess_match.proofs.Going.{setup_row}
 use Rattle.chess_match.specs.laws.Laws.{is_pong}
 use Rattle.cecp_engine.specs.Seen.{seen}
-use Rattle.chess_match.specs.Transcript.{reads}
+use Rattle.chess_match.specs.laws.Transcript.{reads}
 use Rattle.chess_match.proofs.state.MatchState.setup_line.Goals as goal
 use Rattle.chess_base.proofs.shared.Men.{same_colour-self}
 

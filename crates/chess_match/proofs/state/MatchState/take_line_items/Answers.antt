@@ -1,9 +1,9 @@
 -- A line without features has no items (OtherLines.no_items_said), and taking over none leaves what the core stands for
 -- (Going.no_items_stand).
-use Rattle.std.proofs.Common.{◌≡◌, [], refl}
+use Rattle.std.proofs.Common.{refl}
 use Rattle.cecp_engine.specs.Items.{has_done}
 use Rattle.cecp_engine.specs.Seen.{seen}
-use Rattle.chess_match.specs.Match.{items_of_line}
+use Rattle.chess_match.specs.laws.Machine.{items_of_line}
 use Rattle.chess_match.proofs.Going.{no_items_stand}
 use Rattle.chess_match.proofs.OtherLines.{no_items_said}
 use Rattle.chess_match.proofs.Sends.{no_answers_of}

@@ -2,7 +2,7 @@
 -- kind of line has here the row that it has there; an end needs only that the match is on (Going.reads_on).
 use Rattle.std.proofs.Common.{◌≡◌, true, false, sym, ◌∙◌, Some, None, arith, length, lt-ltb, le-ltb}
 use Rattle.chess_base.specs.Men.{other, same_colour}
-use Rattle.chess_match.specs.Match.{seat, was_sent_move}
+use Rattle.chess_match.specs.laws.Machine.{seat, was_sent_move}
 use Rattle.chess_match.proofs.Going.{reads_on, clocks_moves}
 use Rattle.chess_match.proofs.OtherLines.{ignored_other}
 use Rattle.chess_match.proofs.state.MatchState.turn_line.Goals as goal

@@ -1,6 +1,6 @@
 -- What is written is the note's text.
 use Rattle.std.proofs.Common.{Bool, ◌∙◌, ap, refl}
-use Rattle.chess_match.specs.Match.{Line}
+use Rattle.chess_match.specs.Events.{Line}
 use Rattle.chess_match.specs.Notes.{Happened}
 use Rattle.chess_match.specs.Run.{text_read}
 use Rattle.match_runner.specs.ties.Logging.{received_text}

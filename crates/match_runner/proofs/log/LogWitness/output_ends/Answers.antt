@@ -1,5 +1,5 @@
 -- What is written is the note's text.
-use Rattle.chess_match.specs.Match.{OutputEnds}
+use Rattle.chess_match.specs.Events.{OutputEnds}
 use Rattle.chess_match.specs.Notes.{Happened}
 use Rattle.match_runner.proofs.Logged.{logged}
 use Rattle.match_runner.proofs.log.LogWitness.output_ends.Goals as goal

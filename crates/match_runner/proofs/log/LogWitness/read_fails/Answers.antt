@@ -1,5 +1,5 @@
 -- What is written is the note's text.
-use Rattle.chess_match.specs.Match.{FailsToRead}
+use Rattle.chess_match.specs.Events.{FailsToRead}
 use Rattle.chess_match.specs.Notes.{Happened}
 use Rattle.match_runner.proofs.Logged.{logged}
 use Rattle.match_runner.proofs.log.LogWitness.read_fails.Goals as goal

@@ -1,5 +1,5 @@
 -- What is written is the note's text.
-use Rattle.chess_match.specs.Match.{FailsToWrite}
+use Rattle.chess_match.specs.Events.{FailsToWrite}
 use Rattle.chess_match.specs.Notes.{Happened}
 use Rattle.match_runner.proofs.Logged.{logged}
 use Rattle.match_runner.proofs.log.LogWitness.write_fails.Goals as goal

@@ -5,9 +5,11 @@ use Rattle.chess_base.specs.declared.man.Colour.{Colour}
 use Rattle.chess_base.specs.Men.{same_colour}
 use Rattle.chess_game.specs.Results.{cut_tag}
 use Rattle.cecp_engine.specs.Items.{last_value}
-use Rattle.chess_match.specs.Match.{Match, Event, Line, Opened, OutputEnds, FailsToRead, FailsToWrite, seat, start, match_after}
+use Rattle.chess_match.specs.laws.Machine.{Match, seat, start, match_after}
+use Rattle.chess_match.specs.Events.{Event, Line, Opened, OutputEnds, FailsToRead, FailsToWrite}
 use Rattle.chess_match.specs.Rules.{Rules}
-use Rattle.chess_match.specs.Sent.{SentLine, block, lines_on_entering, list_if}
+use Rattle.chess_match.specs.Lines.{SentLine, list_if}
+use Rattle.chess_match.specs.laws.Blocks.{block, lines_on_entering}
 use Rattle.chess_match.specs.declared.phase.Phase.{Phase}
 use Rattle.chess_match.specs.declared.phase.Phase.TheVariants.{Handshake, Setup, SendTurn, AwaitMove, AwaitPong, Over}
 use Rattle.chess_match.specs.declared.reason.MatchFault.{MatchFault}
@@ -22,8 +24,6 @@ match_of r T = fold (match_after r) start T
 -- gave none
 abbrev pub engine_name : Match → Colour → List ℕ
 engine_name m S = cut_tag (last_value (codes "myname") (seat m S).items)
-
--- ---- what fits
 
 -- whether a match in this phase waits for a line of the side `S`
 abbrev pub reads : Phase → Colour → Bool
@@ -62,8 +62,6 @@ fits_from r due m (e ∷ es) = fits_next due m e && fits_from r (block r m (matc
 abbrev pub fits : Rules → List Event → Bool
 fits r T = fits_from r (lines_on_entering r start) start T
 
--- ---- what is sent
-
 -- whether the side `S` is not sent its lines of an event: the event is a line of the other engine, which is written to
 -- first, and the next event (the first of the list) is that this write failed
 abbrev pub is_dropped : Event → List Event → Colour → Bool
@@ -95,8 +93,6 @@ blocks r S T = lines_on_entering r start S ∷ blocks_from r S start T
 -- the lines of all these blocks, in order, as one list
 abbrev pub joined_blocks : List (List SentLine) → List SentLine
 joined_blocks bs = flat_map (λ b. b) bs
-
--- ---- what passed at the devices
 
 -- the line that an event brings from the side `S`, as a list of one; empty for any other event. The line is `None` if
 -- it was too long

@@ -1,76 +1,19 @@
--- What is sent: what entering a phase gives to send, and the answers and offers between.
-use Rattle.std.specs.Prelude.{ℕ, ◌/◌, ◌&&◌, nat_lt, Bool, true, false, not, if◌then◌else◌, List, [], ◌∷◌, ◌++◌, length, drop, map, codes, decimal, Option}
+-- What the code sends: what entering a phase gives to send, and the answers and offers between.
+use Rattle.std.specs.Prelude.{◌/◌, ◌&&◌, nat_lt, Bool, true, false, not, if◌then◌else◌, List, [], ◌∷◌, ◌++◌, length, drop, codes, Option}
 use Rattle.std.specs.Option.{option_map_or}
-use Rattle.chess_base.specs.Letters.{new_line}
 use Rattle.chess_base.specs.declared.man.Colour.{Colour}
 use Rattle.chess_base.specs.Men.{other, same_colour}
 use Rattle.chess_game.specs.Results.{result_text}
-use Rattle.cecp_engine.specs.Items.{Item, takes, is_known}
-use Rattle.cecp_engine.specs.Levels.{level_text}
-use Rattle.chess_match.specs.Match.{Match, Seat, seat, clock, ping_number}
+use Rattle.cecp_engine.specs.Items.{takes}
+use Rattle.chess_match.specs.laws.Machine.{Match, seat, clock, ping_number}
+use Rattle.chess_match.specs.Events.{Seat}
 use Rattle.chess_match.specs.Reasons.{outcome_by_reason, comment_of}
-use Rattle.chess_match.specs.Rules.{Rules, is_fischerandom}
+use Rattle.chess_match.specs.Rules.{Rules}
 use Rattle.chess_match.specs.declared.phase.Phase.{Phase}
 use Rattle.chess_match.specs.declared.phase.Phase.TheVariants.{Handshake, Setup, SendTurn, AwaitMove, AwaitPong, Over}
-use Rattle.chess_match.specs.declared.reason.MatchFault.TheVariants.{Write}
 use Rattle.chess_match.specs.declared.reason.Reason.{Reason}
-use Rattle.chess_match.specs.declared.reason.Reason.TheVariants.{Faulted}
-use Rattle.chess_base.specs.declared.man.Variant.{Variant}
-
--- the list `xs` if `b` is true, else the empty list
-abbrev pub list_if : {A : Type 0} → Bool → List A → List A
-list_if b xs = if b then xs else []
-
--- ---- lines
-
--- a line that is sent to an engine: a text as it is; a move (`prefixed`: with `usermove` before it); `time`, with its
--- own clock; `otim`, with its opponent's clock
-pub data SentLine : Type 0 where
-  Says : (text : List ℕ) → SentLine
-  MoveSent : (prefixed : Bool) → (text : List ℕ) → SentLine
-  Time : (centiseconds : ℕ) → SentLine
-  Otim : (centiseconds : ℕ) → SentLine
-
--- the answer to an item of a `feature` line: `accepted ping`, or `rejected` and the name if it is not known
-abbrev pub answer_text : List ℕ → List ℕ
-answer_text name = (if is_known name then codes "accepted " else codes "rejected ") ++ name
-
--- the text of a line without `\n`: `usermove e2e4`, `time 30000`
-abbrev pub text_of : SentLine → List ℕ
-text_of (Says text) = text
-text_of (MoveSent prefixed text) = list_if prefixed (codes "usermove ") ++ text
-text_of (Time n) = codes "time " ++ decimal n
-text_of (Otim n) = codes "otim " ++ decimal n
-
--- the bytes of these lines one after another, each with `\n` at its end
-unfoldable pub bytes_of : List SentLine → List ℕ
-bytes_of [] = []
-bytes_of (l ∷ ls) = text_of l ++ new_line ∷ bytes_of ls
-
--- ---- what a phase gives
-
--- the lines that answer these items of `feature` lines, one for each, in their order
-abbrev pub answers_to : List Item → List SentLine
-answers_to items = map (λ i. Says (answer_text i.name)) items
-
--- the line `setboard FEN` for the start's FEN, as a list of one; empty if none is sent (`None`)
-abbrev pub start_lines : Option (List ℕ) → List SentLine
-start_lines start = option_map_or (λ fen. Says (codes "setboard " ++ fen) ∷ []) start []
-
--- the line `variant fischerandom` if the game is of Chess960, as a list of one; else empty
-abbrev pub variant_command : Variant → List SentLine
-variant_command v = list_if (is_fischerandom v) (Says (codes "variant fischerandom") ∷ [])
-
--- the line `ping N` with this number
-abbrev pub ping : ℕ → SentLine
-ping n = Says (codes "ping " ++ decimal n)
-
--- the lines that set an engine up for the game: `new`, the variant, `level`, `nopost`, `easy`, `force`, the start,
--- `ping 1`
-unfoldable pub setup_lines : Rules → List SentLine
-setup_lines r =
-    Says (codes "new") ∷ (variant_command r.variant ++ (Says (codes "level " ++ level_text r.level)
-    ∷ Says (codes "nopost") ∷ Says (codes "easy") ∷ Says (codes "force") ∷ (start_lines r.start_fen ++ ping 1 ∷ [])))
+use Rattle.chess_match.specs.Lines.{list_if, SentLine, Says, MoveSent, Time, Otim, answers_to, ping, setup_lines}
+use Rattle.chess_match.specs.Reasons.{is_unwritten}
 
 -- the line with the last move played, in the form that the engine of the side `S` asked for: after `usermove` or alone,
 -- in SAN or by squares
@@ -108,11 +51,6 @@ end_lines r m S reason =
     ++ (Says (codes "result " ++ result_text (outcome_by_reason reason) (comment_of reason))
     ∷ Says (codes "quit") ∷ [])
 
--- whether this reason, for which a match ended, is that writing to the side `S` failed
-abbrev pub is_unwritten : Reason → Colour → Bool
-is_unwritten (Faulted c Write) S = same_colour c S
-is_unwritten _ S = false
-
 -- the lines that the side `S` is sent when the match `m` enters this phase: most phases have lines for one side only;
 -- at the end both are sent some, unless writing to `S` failed
 abbrev pub entry_to : Rules → Match → Colour → Phase → List SentLine
@@ -126,8 +64,6 @@ entry_to r m S (Over reason) = if is_unwritten reason S then [] else end_lines r
 -- the lines that the side `S` is sent when the match `m` enters the phase in which it now is
 abbrev pub lines_on_entering : Rules → Match → Colour → List SentLine
 lines_on_entering r m S = entry_to r m S m.phase
-
--- ---- one event's block
 
 -- whether going from the first phase to the second enters no new one: they are the same, or the match was over before.
 -- The opening of a turn (`SendTurn`) is always a new phase

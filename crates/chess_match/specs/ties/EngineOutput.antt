@@ -4,11 +4,11 @@ use Rattle.std.specs.Bool.{MatchBool}
 use Rattle.std.specs.Io.KnownBytes.{Consumes}
 use Rattle.byte_devices.specs.Devices.{InputState}
 use Rattle.chess_base.specs.declared.man.Colour.{Colour}
-use Rattle.chess_base.specs.Men.{same_colour}
 use Rattle.text_lines.specs.Lines.{LineSeen, Held, stream_lines, lines_held}
 use Rattle.text_lines.specs.Next.{GotLine, GotLast, GotNone, GotFault}
-use Rattle.chess_match.specs.Match.{Event, Line, Opened, OutputEnds, FailsToRead, FailsToWrite}
+use Rattle.chess_match.specs.Events.{Event, Line, Opened, OutputEnds, FailsToRead, FailsToWrite}
 use Rattle.chess_match.specs.Run.{text_read}
+use Rattle.chess_match.specs.ties.Driving.{is_of_output}
 use Rattle.chess_match.specs.declared.run.TheConstants.{ENGINE_LINE_LEN}
 
 -- these bytes came, of them these lines were given, and the rest is held; no end was reported, and no read failed
@@ -28,14 +28,6 @@ pub record OutputEnded (old new : InputState) (given : List ℕ) (texts : List (
       × (stream_lines ENGINE_LINE_LEN false given ≡ outputs)
 
 -- ---- one event more
-
--- the event is one of S's output
-abbrev pub is_of_output : Colour → Event → Bool
-is_of_output S (Line c text moment) = same_colour c S
-is_of_output S (OutputEnds c) = same_colour c S
-is_of_output S (FailsToRead c) = same_colour c S
-is_of_output S (Opened c moment) = false
-is_of_output S (FailsToWrite c) = false
 
 -- the bytes that came with an event, and what reported it
 abbrev pub Reports : Event → InputState → InputState → Held → Held → List ℕ → Type 0

@@ -1,4 +1,4 @@
--- The match after each event: one small table for each phase.
+-- The match as the code keeps it, after each event: one small table for each phase.
 use Rattle.std.specs.Prelude.{ℕ, ◌+◌, ◌-◌, ◌==◌, ◌&&◌, nat_lt, nat_le, Bool, true, false, not, if◌then◌else◌, List, [], ◌∷◌, ◌++◌, length, codes, sum, Option, None, Some, is_some}
 use Rattle.std.specs.Option.{option_map_or}
 use Rattle.chess_base.specs.declared.man.Colour.{Colour}
@@ -19,30 +19,7 @@ use Rattle.chess_match.specs.declared.reason.MatchFault.TheVariants.{Ended, Read
 use Rattle.chess_match.specs.declared.reason.Reason.{Reason}
 use Rattle.chess_match.specs.declared.reason.Reason.TheVariants.{Decided, Claimed, Agreed, MovesIllegally, MovesOutOfTurn, ClaimsFalsely, RejectsLegalMove, Forfeits, ForfeitsToBareKing, GameTooLong, Faulted}
 use Rattle.chess_match.specs.declared.reason.Reason.TheVariants as over_by
-
--- what happens in a match, which is one game between two engines: a line comes from an engine (`None`: it was too
--- long), the lines that open a turn were sent, or a device ends or fails. A moment is a time of the clock in
--- milliseconds
-pub data Event : Type 0 where
-  -- that side's engine sent a line; the clock was read after it
-  Line : (side : Colour) → (text : Option (List ℕ)) → (moment : ℕ) → Event
-  -- the lines that open that side's turn were sent; the clock was read after them
-  Opened : (side : Colour) → (moment : ℕ) → Event
-  -- that side's engine ended its output
-  OutputEnds : (side : Colour) → Event
-  -- reading from that side's engine failed
-  FailsToRead : (side : Colour) → Event
-  -- writing to that side's engine failed
-  FailsToWrite : (side : Colour) → Event
-
--- what is known of the engine of one side
-pub record Seat : Type 0 where
-  -- the items that were read in its handshake
-  pub items : List Item
-  -- the milliseconds that each of its moves used
-  pub used : List ℕ
-  -- whether its offer of a draw is open
-  pub offers : Bool
+use Rattle.chess_match.specs.Events.{Event, Line, Opened, OutputEnds, FailsToRead, FailsToWrite, Seat}
 
 -- the state of a match, which is one game between two engines: what it waits for (`phase`), what is known of both
 -- engines, and the moves played
@@ -68,23 +45,21 @@ with_seat White change m = record m { white = change m.white }
 with_seat Black change m = record m { black = change m.black }
 
 -- what is known of an engine before its first line: nothing
-abbrev pub vacant : Seat
-vacant = record { items = []; used = []; offers = false }
+abbrev pub new_seat : Seat
+new_seat = record { items = []; used = []; offers = false }
 
 -- a match before its first event: White's handshake is awaited
 abbrev pub start : Match
 start =
     record {
       phase = Handshake White;
-      white = vacant;
-      black = vacant;
+      white = new_seat;
+      black = new_seat;
       played = [];
       unsent_to = None;
       count = 0;
       opened = 0;
     }
-
--- ---- ways to go on
 
 -- the match `m`, ended for this reason
 abbrev pub over : Reason → Match → Match
@@ -103,8 +78,6 @@ open_turn S m = record m { phase = SendTurn S; count = 0; unsent_to = None }
 abbrev pub ignore : Colour → Match → Match
 ignore S m = if nat_le 10000 (m.count + 1) then over (Faulted S Flood) m else record m { count = m.count + 1 }
 
--- ---- handshake
-
 -- the items of a line of this kind: those of a `feature` line, none of any other
 abbrev pub items_of_line : LineKind → List Item
 items_of_line (Features text) = items_of text
@@ -116,8 +89,8 @@ take_items S items m = with_seat S (λ s. record s { items = s.items ++ items })
 
 -- what an engine with these items lacks for the match, if anything: `ping=1`; `setboard=1`, if a start is sent;
 -- `fischerandom` among its variants, for Chess960
-abbrev pub lack : Rules → List Item → Option MatchFault
-lack r items =
+abbrev pub missing : Rules → List Item → Option MatchFault
+missing r items =
     if not (takes (codes "ping") items) then Some NoPing
     else if is_some r.start_fen && not (takes (codes "setboard") items) then Some NoSetboard
     else if is_fischerandom r.variant && not (plays_fischerandom items) then Some NoVariant
@@ -132,19 +105,17 @@ after_handshakes None None m = enter (Setup White) m
 
 -- the match `m` after the handshake of the side `S` ended: Black's comes after White's, and then both engines are
 -- judged
-abbrev pub greeted : Rules → Colour → Match → Match
-greeted r White m = enter (Handshake Black) m
-greeted r Black m = after_handshakes (lack r m.white.items) (lack r m.black.items) m
+abbrev pub handshake_ended : Rules → Colour → Match → Match
+handshake_ended r White m = enter (Handshake Black) m
+handshake_ended r Black m = after_handshakes (missing r m.white.items) (missing r m.black.items) m
 
 -- the match `m` after a line of the side `S` in its handshake, which has these items: `done=1` ends the handshake;
 -- without it the 1,000th line ends the match
 unfoldable pub handshake_line : Rules → Colour → List Item → Match → Match
 handshake_line r S items m =
-    if has_done items then greeted r S (take_items S items m)
+    if has_done items then handshake_ended r S (take_items S items m)
     else if nat_le 1000 (m.count + 1) then over (Faulted S NoDone) (take_items S items m)
     else let m' = take_items S items m in record m' { count = m.count + 1 }
-
--- ---- setup
 
 -- the match `m'`; but if there is a verdict of the board (`verdict`), the match `m`, ended by it
 abbrev pub unless_decided : Option Verdict → Match → Match → Match
@@ -160,8 +131,6 @@ ready r Black m = unless_decided (r.verdict m.played) m (open_turn r.first m)
 unfoldable pub setup_line : Rules → Colour → LineKind → Match → Match
 setup_line r S (Answers n) m = if n == 1 then ready r S m else ignore S m
 setup_line r S _ m = ignore S m
-
--- ---- turns
 
 -- the milliseconds that the side `S` has left
 abbrev pub clock : Rules → Match → Colour → ℕ
@@ -235,8 +204,6 @@ unfoldable pub after_line : Rules → Colour → LineKind → Match → Match
 after_line r S (Moves _) m = over (MovesOutOfTurn S) m
 after_line r S (Answers n) m = if n == ping_number m S then open_turn (other S) m else ignore S m
 after_line r S kind m = turn_line r S kind m
-
--- ---- one event
 
 -- the match `m` after a line of this kind that came at `moment`, by the phase that the match is in; while a turn is
 -- opened, or at the end, no line is read

@@ -1,0 +1,263 @@
+-- What each device of a desk did in a whole match.
+use Rattle.std.proofs.Common.{◌≡◌, ℕ, Bool, true, false, List, [], ◌∷◌, ◌++◌, map, refl, sym, ◌∙◌, subst, append_assoc, append-nil, Option, None, Some}
+use Rattle.std.specs.Bool.{MatchBool}
+use Rattle.std.specs.Prelude.{if◌then◌else◌}
+use Rattle.byte_devices.specs.Devices.{InputState, OutputState, BreaksOff}
+use Rattle.chess_base.specs.declared.man.Colour.{Colour}
+use Rattle.chess_base.specs.Men.{same_colour}
+use Rattle.chess_game.specs.Game as game
+use Rattle.text_lines.specs.Lines.{Held, nothing_held}
+use Rattle.chess_match.specs.Acts.{Act, IsMatch, Sends, SendFails, Reads, ReadsEnd, ReadFails, ReadsClock}
+use Rattle.chess_match.specs.ByDevice.{broken_blocks, lines_sent, moments_shown, notes_given}
+use Rattle.chess_match.specs.Effects as effects
+use Rattle.chess_match.specs.Events.{Event, Line, FailsToWrite}
+use Rattle.chess_match.specs.laws.TranscriptRuns.{ReadFrom}
+use Rattle.chess_match.specs.Lines.{SentLine, bytes_of, list_if}
+use Rattle.chess_match.specs.Notes.{Note, Noted, WasNoted}
+use Rattle.chess_match.specs.Played.{Passed, PlayedAt, PlayedNoting, ReadAs, World, WrittenAs}
+use Rattle.chess_match.specs.Rules.{Rules, rules_of}
+use Rattle.chess_match.specs.Run.{ClockReadings, Flushed, Ports}
+use Rattle.chess_match.specs.Table.{Beginning, Passes, Step, watched}
+use Rattle.chess_match.specs.declared.reason.Reason.{Reason}
+use Rattle.chess_match.specs.declared.run.MatchEnd.{MatchEnd}
+use Rattle.chess_match.specs.declared.run.Setup.{Setup}
+use Rattle.chess_match.specs.ties.AtDesk.{Did, NotedSince, ReadsOf, WritesOf, acts_in, event_at}
+use Rattle.chess_match.specs.ties.EngineOutput.{OutputAt}
+use Rattle.chess_match.proofs.AtDesk.{acts_watched, ends_at, failures_at, lines_at, notes_watched, tail_faults, tail_lines, tail_moments, tail_same}
+use Rattle.chess_match.proofs.LongerTranscripts.{IsTail, asked_none, no_tail}
+use Rattle.chess_match.proofs.MatchCases.{all_reads_end, all_sends_end, reads_end, sends_end, unread, unsent_in}
+use Rattle.chess_match.proofs.OutputByCalls.{output_start}
+use Rattle.chess_match.proofs.OutputByEvents.{output_longer, still_read}
+use Rattle.chess_match.proofs.RunInvariant.{IsStillRead, ReadSoFar}
+use Rattle.chess_match.proofs.RunsAsActs.{read_as}
+use Rattle.chess_match.proofs.Sends.{bytes_of-append}
+use Rattle.chess_match.proofs.shared.Flushes.{failed_after, flushed_more, flushed_none}
+
+-- ---- what was read
+
+quiet : (H : List Act) → unread H ≡ true → IsTail (map event_at H)
+quiet H u = record {
+  lines = λ S. tail_lines S H u;
+  moments = tail_moments H u;
+  ends = λ S. (tail_faults S H u).0;
+  failures = λ S. (tail_faults S H u).1;
+}
+
+one_more : (T U : List Event) (e : Event) → (T ++ e ∷ []) ++ U ≡ T ++ e ∷ U
+one_more T U e = append_assoc T (e ∷ []) U
+
+-- an act that ends no reading
+reads_on : (S : Colour) (T : List Event) (a : Act) (H : List Act) (r v v' r' : InputState) (h k h' : Held)
+    (given : List ℕ) → IsStillRead S T r v h given → OutputAt S (event_at a) v v' h k
+    → ((given' : List ℕ) → IsStillRead S (T ++ event_at a ∷ []) r v' k given'
+    → (all : List ℕ) × ReadFrom S ((T ++ event_at a ∷ []) ++ map event_at H) r r' all)
+    → ReadSoFar S (T ++ event_at a ∷ []) true r v' k
+    → (all : List ℕ) × ReadFrom S (T ++ event_at a ∷ map event_at H) r r' all
+reads_on S T a H r v v' r' h k h' given s o more so_far =
+    let q = more _ (so_far.2 refl) in
+    (q.0, subst (λ (U : List Event). ReadFrom S U r r' q.0) (one_more T (map event_at H) (event_at a)) q.1)
+
+-- an act after which nothing is read
+reads_out : (S : Colour) (T : List Event) (a : Act) (H : List Act) (r v v' r' : InputState) (h k h' : Held)
+    (given : List ℕ) → unread H ≡ true → IsStillRead S T r v h given → OutputAt S (event_at a) v v' h k
+    → ReadsOf S H v' r' k h' → (all : List ℕ) × ReadFrom S (T ++ event_at a ∷ map event_at H) r r' all
+reads_out S T a H r v v' r' h k h' given u s o p =
+    let q = output_longer S T (event_at a) (map event_at H) false r v v' h k given (quiet H u) (λ e. refl) o s in (
+      q.0,
+      subst (λ (x : InputState). ReadFrom S (T ++ event_at a ∷ map event_at H) r x q.0)
+          (sym (tail_same S H v' r' k h' u p)) q.1,
+    )
+
+reads_all : (S : Colour) (T : List Event) (H : List Act) (r v r' : InputState) (h h' : Held) (given : List ℕ)
+    → reads_end H ≡ true → IsStillRead S T r v h given → ReadsOf S H v r' h h'
+    → (all : List ℕ) × ReadFrom S (T ++ map event_at H) r r' all
+reads_all S T [] r v r' h h' given end s (e, k) = (
+  given,
+  subst (λ (x : InputState). ReadFrom S (T ++ []) r x given) (sym e)
+      (subst (λ (U : List Event). ReadFrom S U r v given) (sym (append-nil T)) (still_read S T r v h given s)),
+)
+reads_all S T (Sends b ∷ H) r v r' h h' given end s (v', k, o, p) =
+    reads_on S T (Sends b) H r v v' r' h k h' given s o
+    (λ g s'. reads_all S (T ++ FailsToWrite b.to ∷ []) H r v' r' k h' g end s' p)
+    (output_longer S T (FailsToWrite b.to) [] true r v v' h k given no_tail (λ e. absurd cc) o s)
+reads_all S T (SendFails b ∷ H) r v r' h h' given end s (v', k, o, p) =
+    reads_on S T (SendFails b) H r v v' r' h k h' given s o
+    (λ g s'. reads_all S (T ++ FailsToWrite b.to ∷ []) H r v' r' k h' g end s' p)
+    (output_longer S T (FailsToWrite b.to) [] true r v v' h k given no_tail (λ e. absurd cc) o s)
+reads_all S T (ReadsClock c n ∷ H) r v r' h h' given end s (v', k, o, p) =
+    reads_on S T (ReadsClock c n) H r v v' r' h k h' given s o
+    (λ g s'. reads_all S (T ++ FailsToWrite c ∷ []) H r v' r' k h' g end s' p)
+    (output_longer S T (FailsToWrite c) [] true r v v' h k given no_tail (λ e. absurd cc) o s)
+reads_all S T (Reads c t ∷ H) r v r' h h' given end s (v', k, o, p) =
+    reads_on S T (Reads c t) H r v v' r' h k h' given s o
+    (λ g s'. reads_all S (T ++ Line c t 0 ∷ []) H r v' r' k h' g end s' p)
+    (output_longer S T (Line c t 0) [] true r v v' h k given no_tail (λ e. absurd cc) o s)
+reads_all S T (ReadsEnd c ∷ H) r v r' h h' given end s (v', k, o, p) =
+    reads_out S T (ReadsEnd c) H r v v' r' h k h' given end s o p
+reads_all S T (ReadFails c ∷ H) r v r' h h' given end s (v', k, o, p) =
+    reads_out S T (ReadFails c) H r v v' r' h k h' given end s o p
+
+pub all_read : (S : Colour) (H : List Act) (r r' : InputState) (h' : Held) → reads_end H ≡ true
+    → ReadsOf S H r r' nothing_held h' → (given : List ℕ) × ReadAs S H r r' given
+all_read S H r r' h' end p =
+    let q = reads_all S [] H r r r' nothing_held h' [] end
+    (record { output = output_start r; unended = refl; unfailed = refl }) p in
+    (q.0, read_as S (map event_at H) H r r' q.0 (lines_at S H) (ends_at S H) (failures_at S H) q.1)
+
+-- ---- what was written
+
+silent : (S : Colour) (H : List Act) (w w' : OutputState) → unsent_in S H ≡ true → WritesOf S H w w'
+    → (lines_sent S H ≡ []) × (broken_blocks S H ≡ []) × (w' ≡ w)
+silent S [] w w' u e = (refl, refl, e)
+silent S (Sends b ∷ H) w w' u (v, o, p) = at (same_colour b.to S) u o (λ h. silent S H v w' h p)
+  where
+    at : (x : Bool) → (if x then false else unsent_in S H) ≡ true
+        → MatchBool x (Flushed w v (bytes_of b.lines)) (v ≡ w)
+        → (unsent_in S H ≡ true → (lines_sent S H ≡ []) × (broken_blocks S H ≡ []) × (w' ≡ v))
+        → (list_if x b.lines ++ lines_sent S H ≡ []) × (broken_blocks S H ≡ []) × (w' ≡ w)
+    at true u o more = absurd cc
+    at false u o more = let q = more u in (q.0, q.1, q.2 ∙ o)
+silent S (SendFails b ∷ H) w w' u (v, o, p) = at (same_colour b.to S) u o (λ h. silent S H v w' h p)
+  where
+    at : (x : Bool) → (if x then false else unsent_in S H) ≡ true
+        → MatchBool x (BreaksOff w v (bytes_of b.lines)) (v ≡ w)
+        → (unsent_in S H ≡ true → (lines_sent S H ≡ []) × (broken_blocks S H ≡ []) × (w' ≡ v))
+        → (lines_sent S H ≡ []) × (list_if x (b.lines ∷ []) ++ broken_blocks S H ≡ []) × (w' ≡ w)
+    at true u o more = absurd cc
+    at false u o more = let q = more u in (q.0, q.1, q.2 ∙ o)
+silent S (ReadsClock c n ∷ H) w w' u (v, o, p) = let q = silent S H v w' u p in (q.0, q.1, q.2 ∙ o)
+silent S (Reads c t ∷ H) w w' u (v, o, p) = let q = silent S H v w' u p in (q.0, q.1, q.2 ∙ o)
+silent S (ReadsEnd c ∷ H) w w' u (v, o, p) = let q = silent S H v w' u p in (q.0, q.1, q.2 ∙ o)
+silent S (ReadFails c ∷ H) w w' u (v, o, p) = let q = silent S H v w' u p in (q.0, q.1, q.2 ∙ o)
+
+-- after these lines
+writes_all : (S : Colour) (before : List SentLine) (H : List Act) (w v w' : OutputState) → sends_end S H ≡ true
+    → Flushed w v (bytes_of before) → WritesOf S H v w'
+    → WrittenAs (before ++ lines_sent S H) (broken_blocks S H) w w'
+writes_all S before [] w v w' end f e =
+    subst (λ (l : List SentLine). Flushed w w' (bytes_of l)) (sym (append-nil before))
+    (subst (λ (x : OutputState). Flushed w x (bytes_of before)) (sym e) f)
+writes_all S before (Sends b ∷ H) w v w' end f (u, o, p) =
+    at (same_colour b.to S) o (λ front g. writes_all S front H w u w' end g p)
+  where
+    at : (x : Bool) → MatchBool x (Flushed v u (bytes_of b.lines)) (u ≡ v)
+        → ((front : List SentLine) → Flushed w u (bytes_of front)
+        → WrittenAs (front ++ lines_sent S H) (broken_blocks S H) w w')
+        → WrittenAs (before ++ (list_if x b.lines ++ lines_sent S H)) (broken_blocks S H) w w'
+    at true o more = subst (λ (l : List SentLine). WrittenAs l (broken_blocks S H) w w')
+        (append_assoc before b.lines (lines_sent S H))
+        (more (before ++ b.lines)
+        (subst (λ (bytes : List ℕ). Flushed w u bytes) (sym (bytes_of-append before b.lines))
+        (flushed_more w v u (bytes_of before) (bytes_of b.lines) f o)))
+    at false o more = more before (subst (λ (x : OutputState). Flushed w x (bytes_of before)) (sym o) f)
+writes_all S before (SendFails b ∷ H) w v w' end f (u, o, p) =
+    at (same_colour b.to S) end o (λ e g. writes_all S before H w u w' e g p)
+  where
+    at : (x : Bool) → (if x then unsent_in S H else sends_end S H) ≡ true
+        → MatchBool x (BreaksOff v u (bytes_of b.lines)) (u ≡ v)
+        → (sends_end S H ≡ true → Flushed w u (bytes_of before)
+        → WrittenAs (before ++ lines_sent S H) (broken_blocks S H) w w')
+        → WrittenAs (before ++ lines_sent S H) (list_if x (b.lines ∷ []) ++ broken_blocks S H) w w'
+    at true end o more =
+        let q = silent S H u w' end p in
+        subst (λ (l : List (List SentLine)). WrittenAs (before ++ lines_sent S H) (b.lines ∷ l) w w') (sym q.1)
+        (subst (λ (l : List SentLine). WrittenAs (before ++ l) (b.lines ∷ []) w w') (sym q.0)
+        (subst (λ (l : List SentLine). WrittenAs l (b.lines ∷ []) w w') (sym (append-nil before))
+        (subst (λ (x : OutputState). WrittenAs before (b.lines ∷ []) w x) (sym q.2)
+        (o.0, o.1, failed_after w v u (bytes_of before) o.0 f o.2))))
+    at false end o more = more end (subst (λ (x : OutputState). Flushed w x (bytes_of before)) (sym o) f)
+writes_all S before (ReadsClock c n ∷ H) w v w' end f (u, o, p) =
+    writes_all S before H w u w' end (subst (λ (x : OutputState). Flushed w x (bytes_of before)) (sym o) f) p
+writes_all S before (Reads c t ∷ H) w v w' end f (u, o, p) =
+    writes_all S before H w u w' end (subst (λ (x : OutputState). Flushed w x (bytes_of before)) (sym o) f) p
+writes_all S before (ReadsEnd c ∷ H) w v w' end f (u, o, p) =
+    writes_all S before H w u w' end (subst (λ (x : OutputState). Flushed w x (bytes_of before)) (sym o) f) p
+writes_all S before (ReadFails c ∷ H) w v w' end f (u, o, p) =
+    writes_all S before H w u w' end (subst (λ (x : OutputState). Flushed w x (bytes_of before)) (sym o) f) p
+
+pub all_written : (S : Colour) (H : List Act) (w w' : OutputState) → sends_end S H ≡ true → WritesOf S H w w'
+    → WrittenAs (lines_sent S H) (broken_blocks S H) w w'
+unfolding bytes_of
+all_written S H w w' end p = writes_all S [] H w w w' end (flushed_none w) p
+
+-- ---- the match
+
+pub desk_passed : (r : Rules) (H : List Act) (final : effects.Match) (reason : Reason) (begun : Beginning)
+    (ports : Ports) (held : Colour → Held) (coming : ℕ → Option ℕ) (witness : Noted) (names : List ℕ) (w w' : World)
+    → IsMatch r H final → Did begun ports held coming witness names (watched reason H)
+    → w.ports ≡ begun.ports → w.coming ≡ begun.coming → w'.ports ≡ ports → w'.coming ≡ coming
+    → Passed r H final w w'
+desk_passed r H final reason begun ports held coming witness names w w' is_match d p c p' c' =
+    let acts : acts_in (watched reason H) ≡ H = acts_watched reason H in
+    record {
+      is_match = is_match;
+      read = λ S. all_read S H (w.ports.reader S) (w'.ports.reader S) (held S) (all_reads_end r H final is_match)
+          (rw (p, p') (subst (λ (G : List Act).
+          ReadsOf S G (begun.ports.reader S) (ports.reader S) nothing_held (held S)) acts (d.read S)));
+      written = λ S. all_written S H (w.ports.writer S) (w'.ports.writer S) (all_sends_end r H final S is_match)
+          (rw (p, p') (subst (λ (G : List Act). WritesOf S G (begun.ports.writer S) (ports.writer S)) acts
+          (d.written S)));
+      moments = rw (c, c') (subst (λ (G : List Act). ClockReadings begun.coming coming (moments_shown G)) acts
+          d.moments);
+    }
+
+-- nothing passed yet
+started : (ports : Ports) (held : Colour → Held) (coming : ℕ → Option ℕ) (witness : Noted) (names : List ℕ)
+    (first : Option (List ℕ × List Note)) → ((S : Colour) → held S ≡ nothing_held) → NotedSince witness first []
+    → Did (record { ports = ports; coming = coming; noted = first; names = names }) ports held coming witness names []
+started ports held coming witness names first none noted = record {
+  named = refl;
+  read = λ S. (refl, none S);
+  written = λ S. refl;
+  moments = asked_none coming;
+  noted = noted;
+}
+
+-- the desk holds the same references
+pub names_kept : (ports ports' : Ports) (held held' : Colour → Held) (coming coming' : ℕ → Option ℕ)
+    (witness witness' : Noted) (names names' : List ℕ) (K : List Step)
+    → Passes (λ begun K. Did begun ports held coming witness names K)
+    (λ begun K. Did begun ports' held' coming' witness' names' K) K
+    → ((S : Colour) → held S ≡ nothing_held) → names' ≡ names
+names_kept ports ports' held held' coming coming' witness witness' names names' K p none =
+    (p.extends (record { ports = ports; coming = coming; noted = None; names = names }) []
+    (started ports held coming witness names None none tt)).named
+
+-- what was played at a desk, its devices show; the clock and the witness are those that the desk holds
+pub desk_ran : (setup : Setup) (end : MatchEnd) (ports ports' : Ports) (held held' : Colour → Held)
+    (coming coming' coming'' : ℕ → Option ℕ) (witness witness' witness'' : Noted) (names names' : List ℕ)
+    (g g' : game.Seen)
+    → PlayedAt setup end (λ begun K. Did begun ports held coming witness names K)
+    (λ begun K. Did begun ports' held' coming' witness' names' K) g g'
+    → ((S : Colour) → held S ≡ nothing_held) → (names' ≡ names → coming'' ≡ coming')
+    → (names' ≡ names → witness'' ≡ witness')
+    → PlayedNoting (λ notes. WasNoted witness witness'' notes) setup end
+    (record { ports = ports; coming = coming; game = g }) (record { ports = ports'; coming = coming''; game = g' })
+desk_ran setup end ports ports' held held' coming coming' coming'' witness witness' witness'' names names' g g'
+    (H, reason, final, is_match, passes, reported, left) none clock watcher =
+    let r : Rules = rules_of setup.start setup.level g.limit in
+    let K : List Step = watched reason H in
+    let named : names' ≡ names =
+    names_kept ports ports' held held' coming coming' witness witness' names names' K passes none in
+    let begun : Beginning = record { ports = ports; coming = coming; noted = None; names = names } in
+    let d : Did begun ports' held' coming' witness' names' K =
+    passes.extends begun [] (started ports held coming witness names None none tt) in (
+      H,
+      reason,
+      record {
+        extends = λ text notes h. subst (λ (x : Noted). x text (notes ++ notes_given reason H)) (sym (watcher named))
+            (subst (λ (ns : List Note). witness' text (notes ++ ns)) (notes_watched reason H)
+            (passes.extends
+            (record { ports = ports; coming = coming; noted = Some (text, notes); names = names }) []
+            (started ports held coming witness names (Some (text, notes)) none
+            (subst (λ (ns : List Note). witness text ns) (sym (append-nil notes)) h))).noted);
+      },
+      (
+        final,
+        desk_passed r H final reason begun ports' held' coming' witness' names'
+            (record { ports = ports; coming = coming; game = g })
+            (record { ports = ports'; coming = coming''; game = g' }) is_match d refl refl refl (clock named),
+        reported,
+        left,
+      ),
+    )

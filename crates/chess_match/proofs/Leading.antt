@@ -1,0 +1,198 @@
+-- Steps that lead from one match to another.
+use Rattle.std.proofs.Common.{◌≡◌, ℕ, ◌<◌, Bool, true, false, ◌||◌, List, [], ◌∷◌, ◌++◌, length, refl, ap, sym, ◌∙◌, subst, append_assoc, append-nil, arith, lt-ltb}
+use Rattle.std.specs.Prelude.{if◌then◌else◌, nat_lt}
+use Rattle.chess_base.specs.declared.man.Colour.{Colour}
+use Rattle.chess_base.specs.declared.man.Colour.TheVariants.{White, Black}
+use Rattle.chess_base.specs.Men.{other, same_colour}
+use Rattle.chess_base.proofs.shared.Men.{same_colour-self, same_colour-true}
+use Rattle.chess_match.specs.Acts.{Act, Block, Sends, SendFails, Reads, ReadsEnd, ReadFails, ReadsClock, IsMatchFrom, awaits_line, is_over, block_of, blocks_from, blocks_after}
+use Rattle.chess_match.specs.ByDevice.{broken_blocks, is_broken}
+use Rattle.chess_match.specs.Effects.{Match, Effect, Opening, Over, effect}
+use Rattle.chess_match.specs.Events.{Event, Line, Opened, OutputEnds, FailsToRead, FailsToWrite}
+use Rattle.chess_match.specs.Lines.{SentLine, bytes_of, list_if}
+use Rattle.chess_match.specs.Notes.{Happened, Gives}
+use Rattle.chess_match.specs.Reasons.{is_unwritten}
+use Rattle.chess_match.specs.Rules.{Rules}
+use Rattle.chess_match.specs.Table.{Step, Does, Notes, watched}
+use Rattle.chess_match.specs.declared.reason.MatchFault.TheVariants.{Write}
+use Rattle.chess_match.specs.declared.reason.Reason.{Reason}
+use Rattle.chess_match.specs.declared.reason.Reason.TheVariants.{Faulted}
+use Rattle.chess_match.specs.ties.Driving.{Leads, giving, is_of_output, steps_of}
+
+-- no write failed
+abbrev pub none : Colour → Bool
+none S = false
+
+-- a write to the side `S` failed, if the flag says so
+abbrev pub only : Bool → Colour → Colour → Bool
+only failed S X = if failed then same_colour S X else false
+
+-- ---- put together
+
+pub leads_nowhere : (r : Rules) (m : Match) (due : List Block) → Leads r m due [] m due none
+leads_nowhere r m due H final reason g e = (H, g, refl, λ S. refl)
+
+or_more : (a b c : Bool) → (a || (b || c)) ≡ ((a || b) || c)
+or_more true b c = refl
+or_more false b c = refl
+
+pub leads_on : (r : Rules) (m m' m'' : Match) (due due' due'' : List Block) (K J : List Step) (f g : Colour → Bool)
+    → (is_over m'.phase ≡ true → m''.phase ≡ m'.phase) → Leads r m due K m' due' f → Leads r m' due' J m'' due'' g
+    → Leads r m due (K ++ J) m'' due'' (λ S. f S || g S)
+leads_on r m m' m'' due due' due'' K J f g stays p q H final reason h e =
+    let b = q H final reason h e in
+    let a = p b.0 final reason b.1 (λ over. sym (stays over) ∙ e (ap is_over (stays over) ∙ over)) in (
+      a.0,
+      a.1,
+      a.2 ∙ ap (λ (l : List Step). K ++ l) b.2 ∙ sym (append_assoc K J (watched reason H)),
+      λ S. a.3 S ∙ ap (λ (x : Bool). f S || x) (b.3 S) ∙ or_more (f S) (g S) (is_broken H S),
+    )
+
+pub leads_as : (r : Rules) (m m' : Match) (due due' : List Block) (K : List Step) (f g : Colour → Bool)
+    → ((S : Colour) → f S ≡ g S) → Leads r m due K m' due' f → Leads r m due K m' due' g
+leads_as r m m' due due' K f g e p H final reason h ends =
+    let a = p H final reason h ends in
+    (a.0, a.1, a.2, λ S. a.3 S ∙ ap (λ (x : Bool). x || is_broken H S) (e S))
+
+-- ---- blocks
+
+more_broken : (b : Block) (H : List Act) (S : Colour)
+    → is_broken (SendFails b ∷ H) S ≡ (same_colour b.to S || is_broken H S)
+more_broken b H S = at (same_colour b.to S)
+  where
+    at : (x : Bool) → nat_lt 0 (length (list_if x (b.lines ∷ []) ++ broken_blocks S H)) ≡ (x || is_broken H S)
+    at true = lt-ltb 0 (length (b.lines ∷ broken_blocks S H)) (omega arith)
+    at false = refl
+
+-- lines were sent
+pub leads_sent : (r : Rules) (m : Match) (S : Colour) (lines : List SentLine) (due : List Block)
+    → Leads r m (block_of S lines ++ due) (giving false S lines) m due none
+leads_sent r m S [] due H final reason g e = (H, g, refl, λ X. refl)
+leads_sent r m S (l ∷ ls) due H final reason g e =
+    (Sends (record { to = S; lines = l ∷ ls }) ∷ H, (refl, g), refl, λ X. refl)
+
+-- a write of a farewell failed
+pub leads_broken : (r : Rules) (m : Match) (S : Colour) (lines : List SentLine) (due : List Block)
+    → is_over m.phase ≡ true → 0 < length lines
+    → ((reason : Reason) → m.phase ≡ Over reason → is_unwritten reason S ≡ false)
+    → Leads r m (block_of S lines ++ due) (giving true S lines) m due (same_colour S)
+leads_broken r m S [] due over some apart H final reason g e = absurd (omega (arith, some))
+leads_broken r m S (l ∷ ls) due over some apart H final reason g e =
+    let b : Block = record { to = S; lines = l ∷ ls } in (
+      SendFails b ∷ H,
+      (
+        refl,
+        subst (λ (x : Bool). let n : Match × List Block = if x then (m, due) else (
+          (effect r m (FailsToWrite S)).after,
+          blocks_from White (effect r m (FailsToWrite S)).to,
+        ) in IsMatchFrom r n.0 n.1 H final) (sym over) g,
+      ),
+      ap (λ (x : Bool). Notes (Gives S (bytes_of (l ∷ ls))) ∷ Does (SendFails b)
+          ∷ (list_if x (Notes (Happened (FailsToWrite S)) ∷ []) ++ watched reason H)) (apart reason (e over)),
+      λ X. more_broken b H X,
+    )
+
+-- a farewell was sent, or a write of it failed
+pub leads_farewell : (r : Rules) (m : Match) (S : Colour) (lines : List SentLine) (due : List Block) (failed : Bool)
+    → is_over m.phase ≡ true → (failed ≡ true → 0 < length lines)
+    → ((reason : Reason) → m.phase ≡ Over reason → is_unwritten reason S ≡ false)
+    → Leads r m (block_of S lines ++ due) (giving failed S lines) m due (only failed S)
+leads_farewell r m S lines due true over some apart = leads_broken r m S lines due over (some refl) apart
+leads_farewell r m S lines due false over some apart = leads_sent r m S lines due
+
+unwritten : (S : Colour) (reason : Reason) → Over (Faulted S Write) ≡ Over reason → is_unwritten reason S ≡ true
+unwritten S reason e = let same : Faulted S Write ≡ reason = cc in
+    ap (λ (x : Reason). is_unwritten x S) (sym same) ∙ same_colour-self S
+
+-- a write failed, and that ended the match
+pub leads_failed : (r : Rules) (m : Match) (S : Colour) (lines : List SentLine) (due : List Block)
+    → is_over m.phase ≡ false → 0 < length lines
+    → Leads r m (block_of S lines ++ due) (giving true S lines ++ steps_of (FailsToWrite S))
+    (effect r m (FailsToWrite S)).after (blocks_from White (effect r m (FailsToWrite S)).to) (same_colour S)
+leads_failed r m S [] due on some H final reason g e = absurd (omega (arith, some))
+leads_failed r m S (l ∷ ls) due on some H final reason g e =
+    let b : Block = record { to = S; lines = l ∷ ls } in (
+      SendFails b ∷ H,
+      (
+        refl,
+        subst (λ (x : Bool). let n : Match × List Block = if x then (m, due) else (
+          (effect r m (FailsToWrite S)).after,
+          blocks_from White (effect r m (FailsToWrite S)).to,
+        ) in IsMatchFrom r n.0 n.1 H final) (sym on) g,
+      ),
+      ap (λ (x : Bool). Notes (Gives S (bytes_of (l ∷ ls))) ∷ Does (SendFails b)
+          ∷ (list_if x (Notes (Happened (FailsToWrite S)) ∷ []) ++ watched reason H)) (unwritten S reason (e refl)),
+      λ X. more_broken b H X,
+    )
+
+-- ---- events
+
+-- a line, an end or a failed read of the engine of S
+pub leads_event : (r : Rules) (m : Match) (S : Colour) (e : Event) → is_of_output S e ≡ true
+    → awaits_line m.phase S ≡ true
+    → Leads r m [] (steps_of e) (effect r m e).after (blocks_after S (effect r m e)) none
+leads_event r m S (Line c text moment) is awaits H final reason g ends =
+    let same : c ≡ S = same_colour-true c S is in (
+      Reads c text ∷ ReadsClock c moment ∷ H,
+      (
+        refl,
+        subst (λ (x : Colour). awaits_line m.phase x ≡ true) (sym same) awaits,
+        subst (λ (x : Colour). IsMatchFrom r (effect r m (Line c text moment)).after
+            (blocks_after x (effect r m (Line c text moment))) H final) (sym same) g,
+      ),
+      refl,
+      λ X. refl,
+    )
+leads_event r m S (OutputEnds c) is awaits H final reason g ends =
+    let same : c ≡ S = same_colour-true c S is in (
+      ReadsEnd c ∷ H,
+      (subst (λ (x : Colour). awaits_line m.phase x ≡ true) (sym same) awaits, g),
+      refl,
+      λ X. refl,
+    )
+leads_event r m S (FailsToRead c) is awaits H final reason g ends =
+    let same : c ≡ S = same_colour-true c S is in (
+      ReadFails c ∷ H,
+      (subst (λ (x : Colour). awaits_line m.phase x ≡ true) (sym same) awaits, g),
+      refl,
+      λ X. refl,
+    )
+leads_event r m S (Opened c moment) is awaits H final reason g ends = absurd cc
+leads_event r m S (FailsToWrite c) is awaits H final reason g ends = absurd cc
+
+-- a turn was opened
+pub leads_opened : (r : Rules) (m : Match) (S : Colour) (moment : ℕ) → m.phase ≡ Opening S
+    → Leads r m [] (steps_of (Opened S moment)) (effect r m (Opened S moment)).after [] none
+leads_opened r m S moment opening H final reason g ends = (ReadsClock S moment ∷ H, (opening, g), refl, λ X. refl)
+
+-- ---- which blocks
+
+-- if one side is sent nothing, what is due is the block of the other
+pub one_block : (to : Colour → List SentLine) (S : Colour) → to S ≡ []
+    → blocks_from White to ≡ block_of (other S) (to (other S)) ++ []
+one_block to White e = ap (λ (l : List SentLine). block_of White l ++ block_of Black (to Black)) e
+    ∙ sym (append-nil (block_of Black (to Black)))
+one_block to Black e = ap (λ (l : List SentLine). block_of White (to White) ++ block_of Black l) e
+
+-- the side to which a write failed is sent nothing
+pub unsent : (r : Rules) (m : Match) (S : Colour) → (effect r m (FailsToWrite S)).to S ≡ []
+unsent r m White = refl
+unsent r m Black = refl
+
+pub over_first : (S : Colour) (t : Effect) (b : Bool) → is_over t.after.phase ≡ b
+    → blocks_after S t ≡ blocks_from (if b then White else S) t.to
+over_first S t b e = ap (λ (x : Bool). blocks_from (if x then White else S) t.to) e
+
+-- ---- the end
+
+-- what passed from the beginning of a match to its end are all its acts
+pub leads_out : (r : Rules) (m m' : Match) (due : List Block) (K : List Step) (f : Colour → Bool) (reason : Reason)
+    → Leads r m due K m' [] f → m'.phase ≡ Over reason
+    → (H : List Act) × IsMatchFrom r m due H m' × (watched reason H ≡ K) × ((S : Colour) → is_broken H S ≡ f S)
+leads_out r m m' due K f reason p over =
+    let a = p [] m' reason (ap is_over over, refl) (λ h. over) in
+    (a.0, a.1, a.2 ∙ append-nil K, λ S. a.3 S ∙ or_none (f S))
+  where
+    or_none : (b : Bool) → (b || false) ≡ b
+    or_none true = refl
+    or_none false = refl

@@ -1,0 +1,279 @@
+-- What holds of the acts of a match, by the kinds of act.
+use Rattle.std.proofs.Common.{◌≡◌, ℕ, Bool, true, false, List, [], ◌∷◌, ◌++◌, refl, ap, sym, ◌∙◌, subst, Option}
+use Rattle.std.specs.Prelude.{if◌then◌else◌}
+use Rattle.chess_base.specs.declared.man.Colour.{Colour}
+use Rattle.chess_base.specs.declared.man.Colour.TheVariants.{White, Black}
+use Rattle.chess_base.specs.Men.{other, same_colour}
+use Rattle.chess_match.specs.Acts.{Act, Block, Sends, SendFails, Reads, ReadsEnd, ReadFails, ReadsClock, IsMatch, IsMatchFrom, awaits_line, is_over, block_of, blocks_from, blocks_after}
+use Rattle.chess_match.specs.Effects.{Match, Phase, Handshake, Setup, Opening, BeforeMove, AfterMove, Over, effect, beginning}
+use Rattle.chess_match.specs.Events.{Line, Opened, OutputEnds, FailsToRead, FailsToWrite}
+use Rattle.chess_match.specs.Lines.{SentLine}
+use Rattle.chess_match.specs.Rules.{Rules}
+use Rattle.chess_match.proofs.Leading.{unsent}
+
+-- what holds of a match and what is due follows from what holds after each kind of act
+pub record Cases (r : Rules) (P : Match → List Block → List Act → Type 0) : Type 0 where
+  pub sends : (m : Match) (b : Block) (due : List Block) (H : List Act) → P m due H → P m (b ∷ due) (Sends b ∷ H)
+  pub fails : (m : Match) (b : Block) (due : List Block) (H : List Act) → is_over m.phase ≡ false
+      → P (effect r m (FailsToWrite b.to)).after (blocks_from White (effect r m (FailsToWrite b.to)).to) H
+      → P m (b ∷ due) (SendFails b ∷ H)
+  pub fails_late : (m : Match) (b : Block) (due : List Block) (H : List Act) → is_over m.phase ≡ true → P m due H
+      → P m (b ∷ due) (SendFails b ∷ H)
+  pub reads : (m : Match) (S : Colour) (t : Option (List ℕ)) (n : ℕ) (H : List Act) → awaits_line m.phase S ≡ true
+      → P (effect r m (Line S t n)).after (blocks_after S (effect r m (Line S t n))) H
+      → P m [] (Reads S t ∷ ReadsClock S n ∷ H)
+  pub opens : (m : Match) (S : Colour) (n : ℕ) (H : List Act) → m.phase ≡ Opening S
+      → P (effect r m (Opened S n)).after [] H → P m [] (ReadsClock S n ∷ H)
+  pub ends : (m : Match) (S : Colour) (H : List Act) → awaits_line m.phase S ≡ true
+      → P (effect r m (OutputEnds S)).after (blocks_from White (effect r m (OutputEnds S)).to) H
+      → P m [] (ReadsEnd S ∷ H)
+  pub read_fails : (m : Match) (S : Colour) (H : List Act) → awaits_line m.phase S ≡ true
+      → P (effect r m (FailsToRead S)).after (blocks_from White (effect r m (FailsToRead S)).to) H
+      → P m [] (ReadFails S ∷ H)
+  pub over : (m : Match) → is_over m.phase ≡ true → P m [] []
+
+pub by_cases : (r : Rules) (P : Match → List Block → List Act → Type 0) → Cases r P → (m final : Match)
+    (due : List Block) (H : List Act) → IsMatchFrom r m due H final → P m due H
+by_cases r P k m final (b ∷ due) (Sends s ∷ H) (e, g) =
+    subst (λ (x : Block). P m (b ∷ due) (Sends x ∷ H)) e (k.sends m b due H (by_cases r P k m final due H g))
+by_cases r P k m final (b ∷ due) (SendFails s ∷ H) (e, g) =
+    subst (λ (x : Block). P m (b ∷ due) (SendFails x ∷ H)) e
+    (at (is_over m.phase) refl (λ m' due' h. by_cases r P k m' final due' H h)
+    (subst (λ (x : Block). let n : Match × List Block = if is_over m.phase then (m, due) else (
+      (effect r m (FailsToWrite x.to)).after,
+      blocks_from White (effect r m (FailsToWrite x.to)).to,
+    ) in IsMatchFrom r n.0 n.1 H final) (sym e) g))
+  where
+    at : (x : Bool) → is_over m.phase ≡ x
+        → ((m' : Match) (due' : List Block) → IsMatchFrom r m' due' H final → P m' due' H)
+        → (let n : Match × List Block = if is_over m.phase then (m, due) else (
+          (effect r m (FailsToWrite b.to)).after,
+          blocks_from White (effect r m (FailsToWrite b.to)).to,
+        ) in IsMatchFrom r n.0 n.1 H final) → P m (b ∷ due) (SendFails b ∷ H)
+    at true o more h = k.fails_late m b due H o (more m due
+        (subst (λ (x : Bool). let n : Match × List Block = if x then (m, due) else (
+          (effect r m (FailsToWrite b.to)).after,
+          blocks_from White (effect r m (FailsToWrite b.to)).to,
+        ) in IsMatchFrom r n.0 n.1 H final) o h))
+    at false o more h = k.fails m b due H o (more (effect r m (FailsToWrite b.to)).after
+        (blocks_from White (effect r m (FailsToWrite b.to)).to)
+        (subst (λ (x : Bool). let n : Match × List Block = if x then (m, due) else (
+          (effect r m (FailsToWrite b.to)).after,
+          blocks_from White (effect r m (FailsToWrite b.to)).to,
+        ) in IsMatchFrom r n.0 n.1 H final) o h))
+by_cases r P k m final [] (Reads S t ∷ ReadsClock c n ∷ H) (e, aw, g) =
+    subst (λ (x : Colour). P m [] (Reads S t ∷ ReadsClock x n ∷ H)) (sym e)
+    (k.reads m S t n H aw (by_cases r P k _ final _ H g))
+by_cases r P k m final [] (ReadsClock S n ∷ H) (o, g) = k.opens m S n H o (by_cases r P k _ final [] H g)
+by_cases r P k m final [] (ReadsEnd S ∷ H) (aw, g) = k.ends m S H aw (by_cases r P k _ final _ H g)
+by_cases r P k m final [] (ReadFails S ∷ H) (aw, g) = k.read_fails m S H aw (by_cases r P k _ final _ H g)
+by_cases r P k m final [] [] (o, e) = k.over m o
+by_cases r P k m final (b ∷ due) [] g = absurd g
+by_cases r P k m final (b ∷ due) (Reads S t ∷ H) g = absurd g
+by_cases r P k m final (b ∷ due) (ReadsClock S n ∷ H) g = absurd g
+by_cases r P k m final (b ∷ due) (ReadsEnd S ∷ H) g = absurd g
+by_cases r P k m final (b ∷ due) (ReadFails S ∷ H) g = absurd g
+by_cases r P k m final [] (Sends s ∷ H) g = absurd g
+by_cases r P k m final [] (SendFails s ∷ H) g = absurd g
+by_cases r P k m final [] (Reads S t ∷ []) g = absurd g
+by_cases r P k m final [] (Reads S t ∷ Sends s ∷ H) g = absurd g
+by_cases r P k m final [] (Reads S t ∷ SendFails s ∷ H) g = absurd g
+by_cases r P k m final [] (Reads S t ∷ Reads c u ∷ H) g = absurd g
+by_cases r P k m final [] (Reads S t ∷ ReadsEnd c ∷ H) g = absurd g
+by_cases r P k m final [] (Reads S t ∷ ReadFails c ∷ H) g = absurd g
+
+-- ---- nothing is read after an end
+
+-- none of these acts reads from an engine
+abbrev pub unread : List Act → Bool
+unread [] = true
+unread (Sends b ∷ H) = unread H
+unread (SendFails b ∷ H) = unread H
+unread (ReadsClock c n ∷ H) = unread H
+unread (Reads c t ∷ H) = false
+unread (ReadsEnd c ∷ H) = false
+unread (ReadFails c ∷ H) = false
+
+-- after an end or a failed read, nothing is read
+abbrev pub reads_end : List Act → Bool
+reads_end [] = true
+reads_end (Sends b ∷ H) = reads_end H
+reads_end (SendFails b ∷ H) = reads_end H
+reads_end (ReadsClock c n ∷ H) = reads_end H
+reads_end (Reads c t ∷ H) = reads_end H
+reads_end (ReadsEnd c ∷ H) = unread H
+reads_end (ReadFails c ∷ H) = unread H
+
+on_when_read : (p : Phase) (S : Colour) → awaits_line p S ≡ true → is_over p ≡ false
+on_when_read (Handshake c) S h = refl
+on_when_read (Setup c) S h = refl
+on_when_read (BeforeMove c n) S h = refl
+on_when_read (AfterMove c) S h = refl
+on_when_read (Opening c) S h = refl
+on_when_read (Over x) S h = absurd cc
+
+both_not : {P : Type 0} (b : Bool) → b ≡ false → b ≡ true → P
+both_not true e h = absurd cc
+both_not false e h = absurd cc
+
+abbrev Reading : Match → List Block → List Act → Type 0
+Reading m due H = (is_over m.phase ≡ true → unread H ≡ true) × (reads_end H ≡ true)
+
+pub reading_ends : (r : Rules) (m final : Match) (due : List Block) (H : List Act) → IsMatchFrom r m due H final
+    → reads_end H ≡ true
+reading_ends r m final due H g = (by_cases r Reading (record {
+  sends = λ m b due H p. p;
+  fails = λ m b due H on p. (λ h. both_not (is_over m.phase) on h, p.1);
+  fails_late = λ m b due H over p. p;
+  reads = λ m S t n H aw p. (λ h. both_not (is_over m.phase) (on_when_read m.phase S aw) h, p.1);
+  opens = λ m S n H o p. (λ h. both_not (is_over m.phase) (ap is_over o) h, p.1);
+  ends = λ m S H aw p. (λ h. both_not (is_over m.phase) (on_when_read m.phase S aw) h, p.0 refl);
+  read_fails = λ m S H aw p. (λ h. both_not (is_over m.phase) (on_when_read m.phase S aw) h, p.0 refl);
+  over = λ m o. (λ h. refl, refl);
+}) m final due H g).1
+
+-- ---- nothing is sent after a failure
+
+-- none of these acts sends to the side `S`
+abbrev pub unsent_in : Colour → List Act → Bool
+unsent_in S [] = true
+unsent_in S (Sends b ∷ H) = if same_colour b.to S then false else unsent_in S H
+unsent_in S (SendFails b ∷ H) = if same_colour b.to S then false else unsent_in S H
+unsent_in S (ReadsClock c n ∷ H) = unsent_in S H
+unsent_in S (Reads c t ∷ H) = unsent_in S H
+unsent_in S (ReadsEnd c ∷ H) = unsent_in S H
+unsent_in S (ReadFails c ∷ H) = unsent_in S H
+
+-- after a failed write to the side `S`, nothing is sent to it
+abbrev pub sends_end : Colour → List Act → Bool
+sends_end S [] = true
+sends_end S (Sends b ∷ H) = sends_end S H
+sends_end S (SendFails b ∷ H) = if same_colour b.to S then unsent_in S H else sends_end S H
+sends_end S (ReadsClock c n ∷ H) = sends_end S H
+sends_end S (Reads c t ∷ H) = sends_end S H
+sends_end S (ReadsEnd c ∷ H) = sends_end S H
+sends_end S (ReadFails c ∷ H) = sends_end S H
+
+-- none of these blocks is for the side `S`, or at most one
+abbrev none_for : Colour → List Block → Bool
+none_for S [] = true
+none_for S (b ∷ due) = if same_colour b.to S then false else none_for S due
+
+abbrev few_for : Colour → List Block → Bool
+few_for S [] = true
+few_for S (b ∷ due) = if same_colour b.to S then none_for S due else few_for S due
+
+few_due : (S first : Colour) (to : Colour → List SentLine) → few_for S (blocks_from first to) ≡ true
+few_due S first to = at S first (to first) (to (other first))
+  where
+    at : (S first : Colour) (x y : List SentLine) → few_for S (block_of first x ++ block_of (other first) y) ≡ true
+    at S first [] [] = refl
+    at White White (l ∷ x) [] = refl
+    at White Black (l ∷ x) [] = refl
+    at Black White (l ∷ x) [] = refl
+    at Black Black (l ∷ x) [] = refl
+    at White White [] (l ∷ y) = refl
+    at White Black [] (l ∷ y) = refl
+    at Black White [] (l ∷ y) = refl
+    at Black Black [] (l ∷ y) = refl
+    at White White (k ∷ x) (l ∷ y) = refl
+    at White Black (k ∷ x) (l ∷ y) = refl
+    at Black White (k ∷ x) (l ∷ y) = refl
+    at Black Black (k ∷ x) (l ∷ y) = refl
+
+none_due : (S : Colour) (to : Colour → List SentLine) → to S ≡ [] → none_for S (blocks_from White to) ≡ true
+none_due White to e = ap (λ (l : List SentLine). none_for White (block_of White l ++ block_of Black (to Black))) e
+    ∙ at (to Black)
+  where
+    at : (y : List SentLine) → none_for White (block_of Black y) ≡ true
+    at [] = refl
+    at (l ∷ y) = refl
+none_due Black to e = ap (λ (l : List SentLine). none_for Black (block_of White (to White) ++ block_of Black l)) e
+    ∙ at (to White)
+  where
+    at : (x : List SentLine) → none_for Black (block_of White x ++ []) ≡ true
+    at [] = refl
+    at (l ∷ x) = refl
+
+abbrev Sending : Colour → Match → List Block → List Act → Type 0
+Sending S m due H = (is_over m.phase ≡ true → none_for S due ≡ true → unsent_in S H ≡ true)
+    × (few_for S due ≡ true → sends_end S H ≡ true)
+
+-- nothing is due for the side, and nothing is sent to it, but what another act sends
+unsent_more : (x : Bool) (due H : Bool) → (if x then false else due) ≡ true → (due ≡ true → H ≡ true)
+    → (if x then false else H) ≡ true
+unsent_more true due H h f = absurd cc
+unsent_more false due H h f = f h
+
+few_less : (x none few : Bool) → (if x then none else few) ≡ true → (none ≡ true → few ≡ true) → few ≡ true
+few_less true none few h f = f h
+few_less false none few h f = h
+
+none_few : (S : Colour) (due : List Block) → none_for S due ≡ true → few_for S due ≡ true
+none_few S [] h = refl
+none_few S (b ∷ due) h = at (same_colour b.to S) h (none_few S due)
+  where
+    at : (x : Bool) → (if x then false else none_for S due) ≡ true
+        → (none_for S due ≡ true → few_for S due ≡ true)
+        → (if x then none_for S due else few_for S due) ≡ true
+    at true h more = absurd cc
+    at false h more = more h
+
+ends_more : (x none few rest end : Bool) → (if x then none else few) ≡ true → (none ≡ true → rest ≡ true)
+    → (few ≡ true → end ≡ true) → (if x then rest else end) ≡ true
+ends_more true none few rest end h f g = f h
+ends_more false none few rest end h f g = g h
+
+chosen_by : (x a b : Bool) → (x ≡ true → a ≡ true) → b ≡ true → (if x then a else b) ≡ true
+chosen_by true a b f g = f refl
+chosen_by false a b f g = g
+
+failed_none : (r : Rules) (m : Match) (c S : Colour) → same_colour c S ≡ true
+    → none_for S (blocks_from White (effect r m (FailsToWrite c)).to) ≡ true
+failed_none r m White White h = none_due White (effect r m (FailsToWrite White)).to (unsent r m White)
+failed_none r m Black Black h = none_due Black (effect r m (FailsToWrite Black)).to (unsent r m Black)
+failed_none r m White Black h = absurd cc
+failed_none r m Black White h = absurd cc
+
+pub sending_ends : (r : Rules) (m final : Match) (due : List Block) (H : List Act) (S : Colour)
+    → IsMatchFrom r m due H final → few_for S due ≡ true → sends_end S H ≡ true
+sending_ends r m final due H S g = (by_cases r (Sending S) (record {
+  sends = λ m b due H p. (
+    λ o n. unsent_more (same_colour b.to S) (none_for S due) (unsent_in S H) n (p.0 o),
+    λ f. p.1 (few_less (same_colour b.to S) (none_for S due) (few_for S due) f (none_few S due)),
+  );
+  fails = λ m b due H on p. (
+    λ o. both_not (is_over m.phase) on o,
+    λ f. chosen_by (same_colour b.to S) (unsent_in S H) (sends_end S H)
+        (λ h. p.0 refl (failed_none r m b.to S h)) (p.1 (few_due S White (effect r m (FailsToWrite b.to)).to)),
+  );
+  fails_late = λ m b due H over p. (
+    λ o n. unsent_more (same_colour b.to S) (none_for S due) (unsent_in S H) n (p.0 o),
+    λ f. ends_more (same_colour b.to S) (none_for S due) (few_for S due) (unsent_in S H) (sends_end S H) f (p.0 over)
+        p.1,
+  );
+  reads = λ m c t n H aw p. (
+    λ o. both_not (is_over m.phase) (on_when_read m.phase c aw) o,
+    λ f. p.1 (few_due S (if is_over (effect r m (Line c t n)).after.phase then White else c)
+        (effect r m (Line c t n)).to),
+  );
+  opens = λ m c n H opening p. (λ o. both_not (is_over m.phase) (ap is_over opening) o, λ f. p.1 refl);
+  ends = λ m c H aw p. (
+    λ o. both_not (is_over m.phase) (on_when_read m.phase c aw) o,
+    λ f. p.1 (few_due S White (effect r m (OutputEnds c)).to),
+  );
+  read_fails = λ m c H aw p. (
+    λ o. both_not (is_over m.phase) (on_when_read m.phase c aw) o,
+    λ f. p.1 (few_due S White (effect r m (FailsToRead c)).to),
+  );
+  over = λ m o. (λ h n. refl, λ f. refl);
+}) m final due H g).1
+
+-- of a whole match
+pub all_reads_end : (r : Rules) (H : List Act) (final : Match) → IsMatch r H final → reads_end H ≡ true
+all_reads_end r H final g = reading_ends r beginning.after final (blocks_from White beginning.to) H g
+
+pub all_sends_end : (r : Rules) (H : List Act) (final : Match) (S : Colour) → IsMatch r H final
+    → sends_end S H ≡ true
+all_sends_end r H final S g =
+    sending_ends r beginning.after final (blocks_from White beginning.to) H S g (few_due S White beginning.to)

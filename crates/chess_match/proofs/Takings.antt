@@ -1,0 +1,71 @@
+-- What reading the next line of an engine comes to.
+use Rattle.std.proofs.Common.{◌≡◌, ◌<◌, ℕ, Bool, true, false, List, [], ◌∷◌, ap, sym, ◌∙◌, subst, Option, None, Some, Result, Ok, Err}
+use Rattle.std.specs.Prelude.{if◌then◌else◌}
+use Rattle.chess_base.specs.declared.man.Colour.{Colour}
+use Rattle.chess_base.specs.declared.man.Move.{Move}
+use Rattle.cecp_engine.specs.Items.{Item}
+use Rattle.text_lines.specs.Lines.{LineSeen}
+use Rattle.chess_match.specs.Acts.{Reads, ReadsEnd, ReadFails}
+use Rattle.chess_match.specs.Events.{Event}
+use Rattle.chess_match.specs.laws.Machine.{Match, match_after}
+use Rattle.chess_match.specs.laws.Transcript.{reads}
+use Rattle.chess_match.specs.Lines.{answers_to, bytes_of}
+use Rattle.chess_match.specs.Rules.{Rules}
+use Rattle.chess_match.specs.Run.{text_read}
+use Rattle.chess_match.specs.Table.{Does, Passing, Passes, is_line, reading_of}
+use Rattle.chess_match.specs.declared.state.Actions.{Actions}
+use Rattle.chess_match.specs.declared.state.MatchState.{MatchState}
+use Rattle.chess_match.specs.ties.Driving.{is_line_event, is_of_output, steps_of}
+use Rattle.chess_match.specs.ties.Represents.{Goes, Represents, items_to, nothing_said}
+use Rattle.chess_match.proofs.Going.{goes_with, nothing_to}
+
+-- an event without items that is no line
+pub bare : (plays : Rules → Type 0) (old new : Passing) (core : MatchState) (played : List Move) (core' : MatchState)
+    (given : Actions) (text : List ℕ) (S : Colour) (n n' : ℕ) (e : Event) → is_of_output S e ≡ true
+    → is_line_event e ≡ false → text ≡ [] → Passes old new (steps_of e)
+    → ((r : Rules) (m : Match) → plays r → reads m.phase S ≡ true → Represents r core played m
+    → Goes r core' played given nothing_said m (match_after r m e))
+    → (x : Event) × (items : List Item) × (is_of_output S x ≡ true) × Passes old new (steps_of x)
+    × (is_line_event x ≡ true → n' < n) × (text ≡ bytes_of (answers_to items))
+    × ((r : Rules) (m : Match) → plays r → reads m.phase S ≡ true → Represents r core played m
+    → Goes r core' played given (items_to S items) m (match_after r m x))
+unfolding bytes_of
+bare plays old new core played core' given text S n n' e is line empty passes goes = (
+  e,
+  [],
+  is,
+  passes,
+  λ h. let no : false ≡ true = sym line ∙ h in absurd cc,
+  empty,
+  λ r m p h s. goes_with r core' played given nothing_said (items_to S []) m (match_after r m e) (nothing_to S)
+      (goes r m p h s),
+)
+
+-- the act of a read that failed, found no line, or found a last one
+pub as_fault : {E : Type 0} (old new : Passing) (S : Colour) (result : Result (Option LineSeen) E) (x : E)
+    → result ≡ Err x → Passes old new (Does (reading_of S result) ∷ []) → Passes old new (Does (ReadFails S) ∷ [])
+as_fault old new S result x e p = subst (λ v. Passes old new (Does (reading_of S v) ∷ [])) e p
+
+pub as_none : {E : Type 0} (old new : Passing) (S : Colour) (result : Result (Option LineSeen) E) → result ≡ Ok None
+    → Passes old new (Does (reading_of S result) ∷ []) → Passes old new (Does (ReadsEnd S) ∷ [])
+as_none old new S result e p = subst (λ v. Passes old new (Does (reading_of S v) ∷ [])) e p
+
+pub as_last : {E : Type 0} (old new : Passing) (S : Colour) (result : Result (Option LineSeen) E) (line : LineSeen)
+    → result ≡ Ok (Some line) → line.ended ≡ false → Passes old new (Does (reading_of S result) ∷ [])
+    → Passes old new (Does (ReadsEnd S) ∷ [])
+as_last old new S result line e last p =
+    subst (λ (b : Bool). Passes old new (Does (if b then Reads S (text_read line) else ReadsEnd S) ∷ [])) last
+    (subst (λ v. Passes old new (Does (reading_of S v) ∷ [])) e p)
+
+pub as_line : {E : Type 0} (old new : Passing) (S : Colour) (result : Result (Option LineSeen) E) (line : LineSeen)
+    → result ≡ Ok (Some line) → line.ended ≡ true → Passes old new (Does (reading_of S result) ∷ [])
+    → Passes old new (Does (Reads S (text_read line)) ∷ [])
+as_line old new S result line e whole p =
+    subst (λ (b : Bool). Passes old new (Does (if b then Reads S (text_read line) else ReadsEnd S) ∷ [])) whole
+    (subst (λ v. Passes old new (Does (reading_of S v) ∷ [])) e p)
+
+pub line_falls : {E : Type 0} (S : Colour) (result : Result (Option LineSeen) E) (line : LineSeen) (n n' : ℕ)
+    → result ≡ Ok (Some line) → line.ended ≡ true → (is_line (reading_of S result) ≡ true → n' < n) → n' < n
+line_falls S result line n n' e whole falls = falls
+    (ap (λ v. is_line (reading_of S v)) e
+    ∙ ap (λ (b : Bool). is_line (if b then Reads S (text_read line) else ReadsEnd S)) whole)

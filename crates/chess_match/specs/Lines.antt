@@ -1,0 +1,59 @@
+-- The lines that engines are sent.
+use Rattle.std.specs.Prelude.{ℕ, Bool, if◌then◌else◌, List, [], ◌∷◌, ◌++◌, map, codes, decimal, Option}
+use Rattle.std.specs.Option.{option_map_or}
+use Rattle.chess_base.specs.Letters.{new_line}
+use Rattle.cecp_engine.specs.Items.{Item, is_known}
+use Rattle.cecp_engine.specs.Levels.{level_text}
+use Rattle.chess_match.specs.Rules.{Rules, is_fischerandom}
+use Rattle.chess_base.specs.declared.man.Variant.{Variant}
+
+-- the list `xs` if `b` is true, else the empty list
+abbrev pub list_if : {A : Type 0} → Bool → List A → List A
+list_if b xs = if b then xs else []
+
+-- a line that is sent to an engine: a text as it is; a move (`prefixed`: with `usermove` before it); `time`, with its
+-- own clock; `otim`, with its opponent's clock
+pub data SentLine : Type 0 where
+  Says : (text : List ℕ) → SentLine
+  MoveSent : (prefixed : Bool) → (text : List ℕ) → SentLine
+  Time : (centiseconds : ℕ) → SentLine
+  Otim : (centiseconds : ℕ) → SentLine
+
+-- the answer to an item of a `feature` line: `accepted ping`, or `rejected` and the name if it is not known
+abbrev pub answer_text : List ℕ → List ℕ
+answer_text name = (if is_known name then codes "accepted " else codes "rejected ") ++ name
+
+-- the text of a line without `\n`: `usermove e2e4`, `time 30000`
+abbrev pub text_of : SentLine → List ℕ
+text_of (Says text) = text
+text_of (MoveSent prefixed text) = list_if prefixed (codes "usermove ") ++ text
+text_of (Time n) = codes "time " ++ decimal n
+text_of (Otim n) = codes "otim " ++ decimal n
+
+-- the bytes of these lines one after another, each with `\n` at its end
+unfoldable pub bytes_of : List SentLine → List ℕ
+bytes_of [] = []
+bytes_of (l ∷ ls) = text_of l ++ new_line ∷ bytes_of ls
+
+-- the lines that answer these items of `feature` lines, one for each, in their order
+abbrev pub answers_to : List Item → List SentLine
+answers_to items = map (λ i. Says (answer_text i.name)) items
+
+-- the line `setboard FEN` for the start's FEN, as a list of one; empty if none is sent (`None`)
+abbrev pub start_lines : Option (List ℕ) → List SentLine
+start_lines start = option_map_or (λ fen. Says (codes "setboard " ++ fen) ∷ []) start []
+
+-- the line `variant fischerandom` if the game is of Chess960, as a list of one; else empty
+abbrev pub variant_command : Variant → List SentLine
+variant_command v = list_if (is_fischerandom v) (Says (codes "variant fischerandom") ∷ [])
+
+-- the line `ping N` with this number
+abbrev pub ping : ℕ → SentLine
+ping n = Says (codes "ping " ++ decimal n)
+
+-- the lines that set an engine up for the game: `new`, the variant, `level`, `nopost`, `easy`, `force`, the start,
+-- `ping 1`
+unfoldable pub setup_lines : Rules → List SentLine
+setup_lines r =
+    Says (codes "new") ∷ (variant_command r.variant ++ (Says (codes "level " ++ level_text r.level)
+    ∷ Says (codes "nopost") ∷ Says (codes "easy") ∷ Says (codes "force") ∷ (start_lines r.start_fen ++ ping 1 ∷ [])))

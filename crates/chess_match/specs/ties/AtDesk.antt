@@ -1,0 +1,72 @@
+-- What passed at a desk, as each of its devices, seen apart, shows.
+use Rattle.std.specs.Prelude.{◌≡◌, ℕ, List, [], ◌∷◌, ◌++◌, Option, None, Some}
+use Rattle.std.specs.Bool.{MatchBool}
+use Rattle.byte_devices.specs.Devices.{InputState, OutputState, BreaksOff}
+use Rattle.chess_base.specs.declared.man.Colour.{Colour}
+use Rattle.chess_base.specs.Men.{same_colour}
+use Rattle.text_lines.specs.Lines.{Held, nothing_held}
+use Rattle.chess_match.specs.Acts.{Act, Sends, SendFails, Reads, ReadsEnd, ReadFails, ReadsClock}
+use Rattle.chess_match.specs.ByDevice.{moments_shown}
+use Rattle.chess_match.specs.Events.{Event, Line, OutputEnds, FailsToRead, FailsToWrite}
+use Rattle.chess_match.specs.Lines.{bytes_of}
+use Rattle.chess_match.specs.Notes.{Note, Noted}
+use Rattle.chess_match.specs.Run.{Ports, Flushed, ClockReadings}
+use Rattle.chess_match.specs.Table.{Step, Does, Notes, Beginning}
+use Rattle.chess_match.specs.ties.EngineOutput.{OutputAt}
+
+-- the acts among these steps
+abbrev pub acts_in : List Step → List Act
+acts_in [] = []
+acts_in (Does act ∷ K) = act ∷ acts_in K
+acts_in (Notes note ∷ K) = acts_in K
+
+-- the notes among these steps
+abbrev pub notes_in : List Step → List Note
+notes_in [] = []
+notes_in (Does act ∷ K) = notes_in K
+notes_in (Notes note ∷ K) = note ∷ notes_in K
+
+-- the event that an act is for what an engine gives; an act that reads from no engine is as a failed write
+abbrev pub event_at : Act → Event
+event_at (Reads S text) = Line S text 0
+event_at (ReadsEnd S) = OutputEnds S
+event_at (ReadFails S) = FailsToRead S
+event_at (ReadsClock S moment) = FailsToWrite S
+event_at (Sends block) = FailsToWrite block.to
+event_at (SendFails block) = FailsToWrite block.to
+
+-- these acts took the output of the engine of the side `S` from `r` to `r'`; `h` and `h'` are the bytes of it that are
+-- held, before and after
+abbrev pub ReadsOf : Colour → List Act → InputState → InputState → Held → Held → Type 0
+ReadsOf S [] r r' h h' = (r' ≡ r) × (h' ≡ h)
+ReadsOf S (a ∷ H) r r' h h' =
+    (v : InputState) × (k : Held) × OutputAt S (event_at a) r v h k × ReadsOf S H v r' k h'
+
+-- this act took the input of the engine of the side `S` from `w` to `w'`
+abbrev pub WritesAt : Colour → Act → OutputState → OutputState → Type 0
+WritesAt S (Sends block) w w' =
+    MatchBool (same_colour block.to S) (Flushed w w' (bytes_of block.lines)) (w' ≡ w)
+WritesAt S (SendFails block) w w' =
+    MatchBool (same_colour block.to S) (BreaksOff w w' (bytes_of block.lines)) (w' ≡ w)
+WritesAt S _ w w' = w' ≡ w
+
+-- these acts took it from `w` to `w'`
+abbrev pub WritesOf : Colour → List Act → OutputState → OutputState → Type 0
+WritesOf S [] w w' = w' ≡ w
+WritesOf S (a ∷ H) w w' = (v : OutputState) × WritesAt S a w v × WritesOf S H v w'
+
+-- the witness may have been given the notes `more`, besides those that `first` has
+abbrev pub NotedSince : Noted → Option (List ℕ × List Note) → List Note → Type 0
+NotedSince witness None more = Unit {0}
+NotedSince witness (Some first) more = witness first.0 (first.1 ++ more)
+
+-- since the desk was as in `begun` just these steps passed: the devices did the acts, and the witness was given the
+-- notes. The rest says how the desk is now
+pub record Did (begun : Beginning) (ports : Ports) (held : Colour → Held) (coming : ℕ → Option ℕ) (witness : Noted)
+    (names : List ℕ) (steps : List Step) : Type 0 where
+  pub named : names ≡ begun.names
+  pub read : (S : Colour)
+      → ReadsOf S (acts_in steps) (begun.ports.reader S) (ports.reader S) nothing_held (held S)
+  pub written : (S : Colour) → WritesOf S (acts_in steps) (begun.ports.writer S) (ports.writer S)
+  pub moments : ClockReadings begun.coming coming (moments_shown (acts_in steps))
+  pub noted : NotedSince witness begun.noted (notes_in steps)

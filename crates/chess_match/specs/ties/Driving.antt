@@ -1,0 +1,102 @@
+-- How a match goes on at a table, step by step.
+use Rattle.std.specs.Prelude.{◌≡◌, ℕ, ◌||◌, Bool, true, false, List, [], ◌∷◌, ◌++◌, Option}
+use Rattle.chess_base.specs.ByColour.{by_colour}
+use Rattle.chess_base.specs.declared.man.Colour.{Colour}
+use Rattle.chess_base.specs.declared.man.Colour.TheVariants.{White, Black}
+use Rattle.chess_base.specs.declared.man.Move.{Move}
+use Rattle.chess_base.specs.Men.{same_colour}
+use Rattle.text_lines.specs.Lines.{LineSeen}
+use Rattle.chess_match.specs.Acts.{Act, Block, Reads, ReadsEnd, ReadFails, ReadsClock, IsMatchFrom, is_over}
+use Rattle.chess_match.specs.ByDevice.{is_broken}
+use Rattle.chess_match.specs.Effects as effects
+use Rattle.chess_match.specs.Events.{Event, Line, Opened, OutputEnds, FailsToRead, FailsToWrite}
+use Rattle.chess_match.specs.laws.Machine.{Match}
+use Rattle.chess_match.specs.laws.Transcript.{is_on}
+use Rattle.chess_match.specs.Lines.{SentLine, bytes_of}
+use Rattle.chess_match.specs.Notes.{Happened, Gives}
+use Rattle.chess_match.specs.Rules.{Rules}
+use Rattle.chess_match.specs.Run.{text_read}
+use Rattle.chess_match.specs.Table.{Step, Does, Notes, Passing, Passes, sending, watched}
+use Rattle.chess_match.specs.declared.reason.Reason.{Reason}
+use Rattle.chess_match.specs.declared.state.MatchState.{MatchState}
+use Rattle.chess_match.specs.ties.Represents.{Represents}
+use Rattle.chess_match.specs.ties.SameEffects.{view}
+use Rattle.chess_match.specs.ties.Steps.{IsSane}
+
+-- ---- steps
+
+-- the steps of an event
+abbrev pub steps_of : Event → List Step
+steps_of (Line S text moment) =
+    Does (Reads S text) ∷ Does (ReadsClock S moment) ∷ Notes (Happened (Line S text moment)) ∷ []
+steps_of (Opened S moment) = Does (ReadsClock S moment) ∷ Notes (Happened (Opened S moment)) ∷ []
+steps_of (OutputEnds S) = Does (ReadsEnd S) ∷ Notes (Happened (OutputEnds S)) ∷ []
+steps_of (FailsToRead S) = Does (ReadFails S) ∷ Notes (Happened (FailsToRead S)) ∷ []
+steps_of (FailsToWrite S) = Notes (Happened (FailsToWrite S)) ∷ []
+
+-- the event of a line of the side `S` that ended with `\n` and came at this moment
+abbrev pub line_event : Colour → LineSeen → ℕ → Event
+line_event S line moment = Line S (text_read line) moment
+
+-- the steps after a line of the side `S` was read
+abbrev pub after_line : Colour → Option (List ℕ) → ℕ → List Step
+after_line S text moment = Does (ReadsClock S moment) ∷ Notes (Happened (Line S text moment)) ∷ []
+
+-- the steps of sending these lines to the side `S`, none if there are no lines; `failed` says whether a write failed
+abbrev pub giving : Bool → Colour → List SentLine → List Step
+giving failed S [] = []
+giving failed S (l ∷ ls) =
+    Notes (Gives S (bytes_of (l ∷ ls))) ∷ Does (sending failed (record { to = S; lines = l ∷ ls })) ∷ []
+
+-- the event is one of the output of the engine of the side `S`
+abbrev pub is_of_output : Colour → Event → Bool
+is_of_output S (Line c text moment) = same_colour c S
+is_of_output S (OutputEnds c) = same_colour c S
+is_of_output S (FailsToRead c) = same_colour c S
+is_of_output S (Opened c moment) = false
+is_of_output S (FailsToWrite c) = false
+
+-- whether the event is a line
+abbrev pub is_line_event : Event → Bool
+is_line_event (Line c text moment) = true
+is_line_event _ = false
+
+-- a value for each side: `own` for the side that the first argument names, `others` for the other side; the last
+-- argument says for which side it is asked
+abbrev pub by_turn : {A : Type 0} → Colour → A → A → Colour → A
+by_turn White own others = by_colour own others
+by_turn Black own others = by_colour others own
+
+-- ---- what follows
+
+-- if the match `m` is over, it ended for this reason
+abbrev pub Ends : effects.Match → Reason → Type 0
+Ends m reason = is_over m.phase ≡ true → m.phase ≡ effects.Over reason
+
+-- the steps `K` lead from the match `m`, when the blocks `due` are still to be sent, to `m'` and `due'`: whichever acts
+-- follow there, with acts of these steps before them they follow in `m`. `failed` says to which sides a write failed
+abbrev pub Leads : Rules → effects.Match → List Block → List Step → effects.Match → List Block → (Colour → Bool)
+    → Type 0
+Leads r m due K m' due' failed = (H : List Act) (final : effects.Match) (reason : Reason)
+    → IsMatchFrom r m' due' H final → Ends m' reason
+    → (H' : List Act) × IsMatchFrom r m due H' final × (watched reason H' ≡ K ++ watched reason H)
+    × ((S : Colour) → is_broken H' S ≡ (failed S || is_broken H S))
+
+-- the steps `K` passed, which sent the blocks `due`, or those up to a write that failed, and then those of the end. `m`
+-- is the match before; `m'` is the one after, of which `core` and the moves `played` are the code's state. `failed`
+-- says to which sides a write failed; `old` and `new` are the table before and after
+pub record IsDelivered (r : Rules) (old new : Passing) (core : MatchState) (played : List Move) (m : Match)
+    (due : List Block) (failed : Colour → Bool) (m' : Match) (K : List Step) : Type 0 where
+  pub stands : Represents r core played m'
+  pub passes : Passes old new K
+  pub leads : Leads r (view m) due K (view m') [] failed
+  pub stays : is_on m.phase ≡ false → m' ≡ m
+  pub on : is_on m'.phase ≡ true → m' ≡ m
+  pub fine : is_on m'.phase ≡ true → (S : Colour) → failed S ≡ false
+  pub sane : IsSane r m → IsSane r m'
+
+-- the blocks `due` were sent, or those up to a write that failed, and then those of the end
+abbrev pub Delivered : Rules → Passing → Passing → MatchState → List Move → Match → List Block → (Colour → Bool)
+    → Type 0
+Delivered r old new core played m due failed =
+    (m' : Match) × (K : List Step) × IsDelivered r old new core played m due failed m' K
