@@ -18,7 +18,7 @@ use crate::tag::Tag;
 use crate::termination::Termination;
 use crate::token::{Token, TokenFault, after_blanks, after_byte_order_mark, next_token};
 use crate::word_kind::{WordKind, word_kind};
-use crate::words::{after_skipped, take_words};
+use crate::words::{after_skipped, play_words};
 use chess_base::{FenFault, Position, Variant};
 use chess_fen::read_fen_as;
 use chess_game::{Comment, Game, Outcome, PlayRefusal};
@@ -209,7 +209,7 @@ fn apply_tag<B: Board>(
     Ok(Step::On(progress.after_tag(tag)))
 }
 
-// Takes a token, which begins at `offset` in a text of `len` bytes and is no move that is played (`take_words` plays
+// Takes a token, which begins at `offset` in a text of `len` bytes and is no move that is played (`play_words` plays
 // moves), and returns whether reading goes on or the game ended. `progress` is what is known before the token.
 #[inline(always)]
 fn apply_token<B: Board>(
@@ -381,7 +381,7 @@ pub fn read_pgn<B: Board>(
     ensures limit { game.new.limit ≡ game.old.limit }
 {
     let (mut progress, tags_end) = begin_game(text, after_byte_order_mark(text, at), game);
-    let moves_end = take_words(text, tags_end, game, &mut progress);
+    let moves_end = play_words(text, tags_end, game, &mut progress);
     let mut offset = moves_end;
     loop {
         match next_token(text, offset) {
@@ -390,7 +390,7 @@ pub fn read_pgn<B: Board>(
                     Step::On(further) => progress = further,
                     Step::Ended(end) => return Ok(Some(end)),
                 }
-                offset = take_words(text, after_skipped(text, token_end), game, &mut progress);
+                offset = play_words(text, after_skipped(text, token_end), game, &mut progress);
             }
             Ok(None) if progress.is_met => {
                 return Err(PgnFault {

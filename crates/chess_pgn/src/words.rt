@@ -1,4 +1,4 @@
-//! The words of a game's text that are numbers and moves, and what is skipped between them.
+//! The words of a game's text that are numbers and moves, with the white space, dots and comments between them.
 
 ghost use Rattle.std.specs.Prelude.{◌≡◌, ◌≤◌, ◌<◌, true, false, length, None};
 ghost use Rattle.std.specs.Option.{IfSome};
@@ -73,8 +73,8 @@ fn try_move<B: Board>(game: &mut Game<B>, word: &[u8]) -> bool
     true
 }
 
-// Takes a word that is a number, or whose move is played, and returns whether it is such a word. Of any other word, and
-// of none (no bytes), nothing is taken, and nothing changes.
+// Plays the move that a word denotes, or passes over a number, and returns whether the word was one of these. At any
+// other word, and at none (no bytes), nothing changes.
 #[tactic(auto, using(crate::proofs::LeftTokens::move_has_bytes))]
 #[inline(always)]
 fn try_word<B: Board>(game: &mut Game<B>, word: &[u8]) -> bool
@@ -92,10 +92,11 @@ fn try_word<B: Board>(game: &mut Game<B>, word: &[u8]) -> bool
     }
 }
 
-// Takes numbers and moves from `at` on, and what is skipped after each, as long as nothing else comes; returns the
-// offset after them. `progress` is what is known before and after. No token and no step is made of these words: handed
-// on through memory, those took a seventh of all instructions on plain games.
-pub(crate) fn take_words<B: Board>(
+// Plays the moves from `at` on, passing over move numbers, white space, dots and closed comments, up to what is neither
+// a number nor a move that can be played; returns its offset. `progress` notes that a number or move was read. No token
+// and no step is made of these words: handed on through memory, those took a seventh of the instructions on plain
+// games.
+pub(crate) fn play_words<B: Board>(
     text: &[u8],
     at: usize,
     game: &mut Game<B>,

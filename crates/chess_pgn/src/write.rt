@@ -10,8 +10,6 @@ ghost use Rattle.chess_fen.specs.Writing.{is_initial};
 ghost use Rattle.chess_pgn.specs.ties.Lines.{placed_all, column_after_all};
 ghost use Rattle.chess_pgn.specs.ties.Waiting.{Adds};
 ghost use Rattle.chess_pgn.specs.Written.{ended, move_text_of};
-ghost use Rattle.chess_text.specs.San.{san};
-ghost use Rattle.chess_moves.specs.Made.{WasMade};
 
 use crate::line_writer::LineWriter;
 use crate::tag_lines::put_tags;
@@ -19,11 +17,11 @@ use crate::tags::{TagPair, Tags};
 use crate::termination::Termination;
 use arrayvec::ArrayVec;
 use byte_devices::{Output, WriteFault, append, append_number};
-use chess_base::{Colour, Move, Position, Saved, Setup, Variant};
+use chess_base::{Colour, Move, Position, Setup, Variant};
 use chess_fen::{is_initial, write_fen};
 use chess_game::{Game, Outcome};
 use chess_moves::Board;
-use chess_text::{SanText, add_check_mark, san_is_a_word, unmarked_san};
+use chess_text::{make_san, san_is_a_word};
 
 // The token of a move number, with room for 20 digits and three dots.
 type NumberText = ArrayVec<u8, 23>;
@@ -293,23 +291,6 @@ fn put_move<B: Board, W: Output>(
             Err(fault)
         }
     }
-}
-
-// Makes the legal move `m` on the board, and returns its SAN, and what `take_back` needs. The mark is found where the
-// move leads, so the move is made only once.
-fn make_san<B: Board>(board: &mut B, m: Move) -> (SanText, Saved)
-    requires { IsTrue (is_legal (B.position board.old) m) }
-    ensures text { result.0.items ≡ san (B.position board.old) m }
-    ensures len { array_vec_len result.0 ≤ 7 }
-    ensures position { B.position board.new ≡ after (B.position board.old) m }
-    ensures made { WasMade (B.position board.old) m result.1 (B.position board.new) }
-{
-    // The prover wants two variables here: one move is lent, and one is given to the board.
-    let again = m;
-    let mut text = unmarked_san(board, &m);
-    let saved = board.make(again);
-    add_check_mark(board, &mut text);
-    (text, saved)
 }
 
 // Writes the number before a move in the position `setup`: `12.` before each of White's, and `12...` if the game's

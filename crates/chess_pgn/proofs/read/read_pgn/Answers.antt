@@ -23,9 +23,9 @@ loop-token-init g c =
     let begun = read_from c.args.game.now.limit c.begin_game-tags_end.new.game c.begin_game-tags_end.result.0 c.args.text.now c.args.at
     c.after_byte_order_mark.result c.begin_game-tags_end.result.1 c.begin_game-tags_end.ensures.read c.begin_game-tags_end.ensures.limit
     mark.offset mark.forward in
-    further c.args.game.now.limit c.args.text.now c.args.at c.begin_game-tags_end.new.game c.take_words-moves_end.new.game
-    c.begin_game-tags_end.result.0 c.take_words-moves_end.new.progress c.begin_game-tags_end.result.1 c.take_words-moves_end.result begun
-    c.take_words-moves_end.ensures.taken c.take_words-moves_end.ensures.left
+    further c.args.game.now.limit c.args.text.now c.args.at c.begin_game-tags_end.new.game c.play_words-moves_end.new.game
+    c.begin_game-tags_end.result.0 c.play_words-moves_end.new.progress c.begin_game-tags_end.result.1 c.play_words-moves_end.result begun
+    c.play_words-moves_end.ensures.taken c.play_words-moves_end.ensures.left
 
 pub loop-token-preserved : goal.loop-token-preserved
 loop-token-preserved g c =
@@ -37,9 +37,9 @@ loop-token-preserved g c =
     let skipped = alike c.args.game.now.limit c.args.text.now c.args.at c.apply_token.new.game c.in-On.further
     c.in-Ok-Some.token_end c.after_skipped.result before c.after_skipped.ensures.alike c.after_skipped.ensures.forward
     c.after_skipped.ensures.within in
-    further c.args.game.now.limit c.args.text.now c.args.at c.apply_token.new.game c.take_words-offset.new.game
-    c.in-On.further c.take_words-offset.new.progress c.after_skipped.result c.take_words-offset.result skipped
-    c.take_words-offset.ensures.taken c.take_words-offset.ensures.left
+    further c.args.game.now.limit c.args.text.now c.args.at c.apply_token.new.game c.play_words-offset.new.game
+    c.in-On.further c.play_words-offset.new.progress c.after_skipped.result c.play_words-offset.result skipped
+    c.play_words-offset.ensures.taken c.play_words-offset.ensures.left
 
 pub reported_fault-requires-clause-within : goal.reported_fault-requires-clause-within
 reported_fault-requires-clause-within g c =

@@ -4,7 +4,7 @@ use Rattle.std.proofs.Common.{refl}
 use Rattle.chess_pgn.proofs.GameReads.{one_more}
 use Rattle.chess_pgn.proofs.LeftTokens.{left_at}
 use Rattle.chess_pgn.proofs.PgnWords.{some_word}
-use Rattle.chess_pgn.proofs.words.take_words.Goals as goal
+use Rattle.chess_pgn.proofs.words.play_words.Goals as goal
 
 pub loop-tail-preserved : goal.loop-tail-preserved
 loop-tail-preserved g c =

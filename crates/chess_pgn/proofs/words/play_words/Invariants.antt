@@ -1,6 +1,6 @@
 use Rattle.std.proofs.Common.{length, ◌-◌}
 use Rattle.chess_pgn.specs.ties.GameSteps.{GoesOn}
-use Rattle.chess_pgn.proofs.words.take_words.Given as goal
+use Rattle.chess_pgn.proofs.words.play_words.Given as goal
 
 abbrev pub invariant-loop-tail : goal.invariant-loop-tail
 invariant-loop-tail g l = GoesOn l.text l.at l.fn.game l.fn.progress l.offset l.game l.progress
