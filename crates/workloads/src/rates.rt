@@ -75,8 +75,9 @@ fn time_matches(
     game: &mut Game<Bits<'_>>,
 ) -> io::Result<ExitCode> {
     let begun = Instant::now(rt)?;
-    let half_moves = relay(rt.alloc(), times, script, game)
-        .map_err(|_| io::Error::from(ErrorKind::InvalidInput))?;
+    let half_moves = relay(rt.alloc(), times, script, game).map_err(|_| io::Error::from(
+        ErrorKind::InvalidInput,
+    ))?;
     let rate = a_second(half_moves, begun.elapsed(rt)?);
     println!(rt; "relay {times} half-moves {half_moves}")?;
     eprintln!(rt; "{rate} half-moves a second")?;
