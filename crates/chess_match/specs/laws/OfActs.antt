@@ -5,9 +5,11 @@ use Rattle.chess_base.specs.declared.man.Colour.{Colour}
 use Rattle.chess_base.specs.declared.man.Colour.TheVariants.{White, Black}
 use Rattle.chess_base.specs.declared.man.Move.{Move}
 use Rattle.chess_base.specs.Men.{other, same_colour}
+use Rattle.chess_base.specs.declared.setup.Setup.{Setup as Position}
+use Rattle.chess_game.specs.Line.{IsLine}
 use Rattle.cecp_engine.specs.EngineLines.{line_kind}
 use Rattle.cecp_engine.specs.Items.{takes}
-use Rattle.cecp_engine.specs.Levels.{allotted}
+use Rattle.cecp_engine.specs.Levels.{LevelSeen, allotted}
 use Rattle.chess_match.specs.ByDevice.{lines_read, has_ended, has_failed_read, moments_shown, lines_sent, broken_blocks, is_broken}
 use Rattle.chess_match.specs.Lines.{SentLine}
 use Rattle.chess_match.specs.laws.Laws.{Streams, AreRead, is_move, moves_of, items_said, moves_sent, texts_from, time_sent, otim_sent, centiseconds}
@@ -110,6 +112,11 @@ abbrev pub AllMovesAreSentInMatches : Type 0
 AllMovesAreSentInMatches = (r : Rules) (H : List Act) (final : Match) (O : Colour) → IsMatch r H final
     → is_broken H O ≡ false → moves_sent (lines_sent O H)
     ≡ texts_from r (takes (codes "san") (final.seat O).items) (other O) r.first [] final.played
+
+-- in every match of chess: each move played is legal in the position in which it is made, from the start on
+abbrev pub GamesAreLines : Type 0
+GamesAreLines = (start : Position) (level : LevelSeen) (limit : ℕ) (H : List Act) (final : Match)
+    → IsMatch (rules_of start level limit) H final → IsLine start final.played
 
 -- ---- clocks
 

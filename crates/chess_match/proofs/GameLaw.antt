@@ -1,0 +1,42 @@
+-- The moves of a match are legal, each in the position to which those before it lead.
+use Rattle.std.proofs.Common.{◌≡◌, ℕ, List, [], ◌∷◌, ◌++◌, refl, ap, sym, ◌∙◌, subst, None}
+use Rattle.std.specs.Prelude.{IsTrue}
+use Rattle.chess_base.specs.Men.{other}
+use Rattle.chess_base.specs.Moves.{after, is_legal}
+use Rattle.chess_base.specs.declared.man.Move.{Move}
+use Rattle.chess_base.specs.declared.setup.Setup.{Setup}
+use Rattle.chess_game.specs.Game as game
+use Rattle.chess_game.specs.Line.{IsLine, position_after}
+use Rattle.chess_text.specs.laws.Laws.{ReadMovesAreLegal}
+use Rattle.cecp_engine.specs.Levels.{LevelSeen}
+use Rattle.chess_match.specs.ByDevice.{lines_read}
+use Rattle.chess_match.specs.Rules.{Rules, rules_of}
+use Rattle.chess_match.specs.laws.Laws.{AreRead, moves_of}
+use Rattle.chess_match.specs.laws.OfActs.{GamesAreLines}
+use Rattle.chess_match.proofs.LawsOfActs.{moves_read}
+use Rattle.chess_match.proofs.Playing.{legal_read}
+
+one_after : (start : Setup) (before : List Move) (m : Move)
+    → position_after start (before ++ m ∷ []) ≡ after (position_after start before) m
+one_after start [] m = refl
+one_after start (n ∷ before) m = one_after (after start n) before m
+
+line_from : ReadMovesAreLegal → (start : Setup) (level : LevelSeen) (limit : ℕ) (before ms : List Move)
+    (mine theirs : List (List ℕ)) → AreRead (rules_of start level limit) before ms mine theirs
+    → IsLine (position_after start before) ms
+line_from legal start level limit before [] mine theirs h = tt
+line_from legal start level limit before (m ∷ ms) mine theirs (text, rest, e, reads, more) =
+    let g : game.Seen = record {
+      limit = limit;
+      state = record { start = start; moves = before; declared = None };
+    } in (
+      legal_read legal g (rules_of start level limit) text m (level, refl, refl) reads,
+      subst (λ (p : Setup). IsLine p ms) (one_after start before m)
+          (line_from legal start level limit (before ++ m ∷ []) ms theirs rest more),
+    )
+
+pub games_are_lines : ReadMovesAreLegal → GamesAreLines
+games_are_lines legal start level limit H final is_match =
+    let r : Rules = rules_of start level limit in
+    line_from legal start level limit [] final.played (moves_of (lines_read r.first H))
+    (moves_of (lines_read (other r.first) H)) (moves_read r H final is_match)
