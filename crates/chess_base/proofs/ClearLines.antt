@@ -7,7 +7,8 @@ use Rattle.chess_base.specs.declared.line.Line.TheVariants.{Rank, File, Diagonal
 use Rattle.chess_base.specs.Squares.{file, rank, gap, lies_inside, share_diagonal, is_between, is_between_on_file, is_between_on_rank, is_between_on_diagonal}
 use Rattle.chess_base.specs.Men.{Men, man_at}
 use Rattle.chess_base.specs.Attacks.{is_clear}
-use Rattle.chess_base.specs.ties.Lines.{line_number, same_line, step_of}
+use Rattle.chess_base.specs.shared.Lines.{line_number, same_line}
+use Rattle.chess_base.specs.ties.Lines.{step_of}
 use Rattle.chess_base.proofs.shared.Squares.{each_square-all, each_square-fails, each_square_same}
 use Rattle.chess_base.proofs.Geometry.{between_on_line}
 

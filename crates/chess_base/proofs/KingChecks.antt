@@ -1,11 +1,13 @@
 -- Where a colour has one king, the attacks on his square decide whether it is in check.
-use Rattle.std.proofs.Common.{◌≡◌, ℕ, ◌<◌, inl, inr, length, Bool, true, false, ◌&&◌, refl, sym, ap, ◌∙◌}
+use Rattle.std.proofs.Common.{◌≡◌, ℕ, ◌<◌, ◌-◌, inl, inr, length, Bool, true, false, ◌&&◌, refl, sym, ap, ◌∙◌, arith}
 use Rattle.std.proofs.lemmas.Bool.{and_from, cases_Bool}
 use Rattle.chess_base.specs.declared.man.Colour.{Colour}
+use Rattle.chess_base.specs.declared.man.Colour.TheVariants.{White, Black}
 use Rattle.chess_base.specs.declared.man.Kind.TheVariants.{King}
 use Rattle.chess_base.specs.Men.{Men, man_at, is_man, other}
 use Rattle.chess_base.specs.Attacks.{is_attacked, is_in_check}
 use Rattle.chess_base.specs.Sound.{has_one_king}
+use Rattle.chess_base.specs.ties.KingSearch.{from_own_side}
 use Rattle.chess_base.proofs.shared.Squares.{some_square-at, some_square-none}
 use Rattle.chess_base.proofs.shared.Kings.{one_king}
 
@@ -33,3 +35,14 @@ unfolding is_in_check
 no_check_without_king men c none =
     sym (some_square-none (λ k. is_man c King (man_at men k) && is_attacked men k (other c))
     (λ k low. ap (λ v. v && is_attacked men k (other c)) (none k low)))
+
+from_h8 : (k : ℕ) → k < 64 → 63 - (63 - k) ≡ k
+from_h8 k low = omega arith
+
+-- a search from a colour's own side looks at each square
+pub none_from_own_side : (men : Men) (c : Colour)
+    → ((k : ℕ) → k < 64 → is_man c King (man_at men (from_own_side c k)) ≡ false)
+    → (k : ℕ) → k < 64 → is_man c King (man_at men k) ≡ false
+none_from_own_side men White h k low = h k low
+none_from_own_side men Black h k low =
+    rw (from_h8 k low) at (h (63 - k) (omega arith))

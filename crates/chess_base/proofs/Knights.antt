@@ -7,7 +7,7 @@ use Rattle.chess_base.specs.declared.man.Kind.TheVariants.{Knight}
 use Rattle.chess_base.specs.Squares.{file, rank, gap}
 use Rattle.chess_base.specs.Men.{Men, man_at, is_man}
 use Rattle.chess_base.specs.Attacks.{could_capture}
-use Rattle.chess_base.specs.ties.Lines.{struck_by_knight, struck_by_knight_from_below, struck_by_knight_from_above}
+use Rattle.chess_base.specs.ties.Lines.{attacked_by_knight, attacked_by_knight_from_below, attacked_by_knight_from_above}
 use Rattle.chess_base.proofs.shared.Squares.{some_square-at, some_square-none}
 
 -- a knight of colour c is on the square of this file and rank, both counted from 2: so a knight's way from a square
@@ -103,10 +103,10 @@ guarded true true h = h refl
 guarded true false h = refl
 guarded false q h = refl
 
-none_struck : (men : Men) (c : Colour) (b : ℕ) → eight (has_knight men c) (file b + 2) (rank b + 2) ≡ false
-    → struck_by_knight men c b ≡ false
-unfolding struck_by_knight could_capture
-none_struck men c b e =
+none_attacked : (men : Men) (c : Colour) (b : ℕ) → eight (has_knight men c) (file b + 2) (rank b + 2) ≡ false
+    → attacked_by_knight men c b ≡ false
+unfolding attacked_by_knight could_capture
+none_attacked men c b e =
     some_square-none _
     (λ a low. guarded (is_man c Knight (man_at men a)) (a_way (file a) (rank a) (file b) (rank b))
     (λ way. sym (has_knight_at men c a low)
@@ -116,8 +116,8 @@ way_framed : (f r g q : ℕ) → 2 ≤ f → 2 ≤ r → a_way f r (g + 2) (q + 
 way_framed f r g q h l e = grind (arith, nat_tests, e)
 
 knight_there : (men : Men) (c : Colour) (b f r : ℕ) → a_way f r (file b + 2) (rank b + 2) ≡ true
-    → has_knight men c f r ≡ true → struck_by_knight men c b ≡ true
-unfolding has_knight struck_by_knight could_capture
+    → has_knight men c f r ≡ true → attacked_by_knight men c b ≡ true
+unfolding has_knight attacked_by_knight could_capture
 knight_there men c b f r way e =
     let all = and_parts _ (is_man c Knight (man_at men (framed f r))) e in
     let r_high = and_parts _ (nat_lt r 10) all.0 in
@@ -160,7 +160,7 @@ way8 : (g q : ℕ) → a_way ((g + 2) + 1) ((q + 2) + 2) (g + 2) (q + 2) ≡ tru
 way8 g q = grind (arith, nat_tests)
 
 one_of_eight : (men : Men) (c : Colour) (b : ℕ) → eight (has_knight men c) (file b + 2) (rank b + 2) ≡ true
-    → struck_by_knight men c b ≡ true
+    → attacked_by_knight men c b ≡ true
 one_of_eight men c b e =
     let t : ℕ → ℕ → Bool = has_knight men c in
     let f = file b + 2 in
@@ -196,11 +196,11 @@ one_of_eight men c b e =
     ]
 
 by_eight : (men : Men) (c : Colour) (b : ℕ)
-    → struck_by_knight men c b ≡ eight (has_knight men c) (file b + 2) (rank b + 2)
+    → attacked_by_knight men c b ≡ eight (has_knight men c) (file b + 2) (rank b + 2)
 by_eight men c b =
     elim (cases_Bool (eight (has_knight men c) (file b + 2) (rank b + 2))) [
       | inl some ↦ one_of_eight men c b some ∙ sym some
-      | inr none ↦ none_struck men c b none ∙ sym none
+      | inr none ↦ none_attacked men c b none ∙ sym none
     ]
 
 -- ---- the eight squares by their numbers
@@ -215,130 +215,130 @@ on_board1 : (f r : ℕ) → f < 8 → r < 8
     → (nat_le 2 ((f + 2) - 1) && nat_lt ((f + 2) - 1) 10 && nat_le 2 ((r + 2) - 2) && nat_lt ((r + 2) - 2) 10) ≡ (nat_le 2 r && nat_le 1 f)
 on_board1 f r h g = grind (arith, nat_tests)
 
-number1 : (b : ℕ) → nat_le 2 (rank b) ≡ true → nat_le 1 (file b) ≡ true → framed ((file b + 2) - 1) ((rank b + 2) - 2) ≡ b - 17
+number1 : (b : ℕ) → nat_le 2 (rank b) ≡ true → nat_le 1 (file b) ≡ true → framed ((file b + 2) - 1) ((rank b + 2) - 2) ≡ b - 16 - 1
 number1 b h g = let e = leb-true 2 (rank b) h in let i = leb-true 1 (file b) g in omega (arith, e, i)
 
 on_board2 : (f r : ℕ) → f < 8 → r < 8
     → (nat_le 2 ((f + 2) + 1) && nat_lt ((f + 2) + 1) 10 && nat_le 2 ((r + 2) - 2) && nat_lt ((r + 2) - 2) 10) ≡ (nat_le 2 r && nat_lt f 7)
 on_board2 f r h g = grind (arith, nat_tests)
 
-number2 : (b : ℕ) → nat_le 2 (rank b) ≡ true → nat_lt (file b) 7 ≡ true → framed ((file b + 2) + 1) ((rank b + 2) - 2) ≡ b - 15
+number2 : (b : ℕ) → nat_le 2 (rank b) ≡ true → nat_lt (file b) 7 ≡ true → framed ((file b + 2) + 1) ((rank b + 2) - 2) ≡ b - 16 + 1
 number2 b h g = let e = leb-true 2 (rank b) h in let i = ltb-true (file b) 7 g in omega (arith, e, i)
 
 on_board3 : (f r : ℕ) → f < 8 → r < 8
     → (nat_le 2 ((f + 2) - 2) && nat_lt ((f + 2) - 2) 10 && nat_le 2 ((r + 2) - 1) && nat_lt ((r + 2) - 1) 10) ≡ (nat_le 1 r && nat_le 2 f)
 on_board3 f r h g = grind (arith, nat_tests)
 
-number3 : (b : ℕ) → nat_le 1 (rank b) ≡ true → nat_le 2 (file b) ≡ true → framed ((file b + 2) - 2) ((rank b + 2) - 1) ≡ b - 10
+number3 : (b : ℕ) → nat_le 1 (rank b) ≡ true → nat_le 2 (file b) ≡ true → framed ((file b + 2) - 2) ((rank b + 2) - 1) ≡ b - 8 - 2
 number3 b h g = let e = leb-true 1 (rank b) h in let i = leb-true 2 (file b) g in omega (arith, e, i)
 
 on_board4 : (f r : ℕ) → f < 8 → r < 8
     → (nat_le 2 ((f + 2) + 2) && nat_lt ((f + 2) + 2) 10 && nat_le 2 ((r + 2) - 1) && nat_lt ((r + 2) - 1) 10) ≡ (nat_le 1 r && nat_lt f 6)
 on_board4 f r h g = grind (arith, nat_tests)
 
-number4 : (b : ℕ) → nat_le 1 (rank b) ≡ true → nat_lt (file b) 6 ≡ true → framed ((file b + 2) + 2) ((rank b + 2) - 1) ≡ b - 6
+number4 : (b : ℕ) → nat_le 1 (rank b) ≡ true → nat_lt (file b) 6 ≡ true → framed ((file b + 2) + 2) ((rank b + 2) - 1) ≡ b - 8 + 2
 number4 b h g = let e = leb-true 1 (rank b) h in let i = ltb-true (file b) 6 g in omega (arith, e, i)
 
 on_board5 : (f r : ℕ) → f < 8 → r < 8
     → (nat_le 2 ((f + 2) - 2) && nat_lt ((f + 2) - 2) 10 && nat_le 2 ((r + 2) + 1) && nat_lt ((r + 2) + 1) 10) ≡ (nat_lt r 7 && nat_le 2 f)
 on_board5 f r h g = grind (arith, nat_tests)
 
-number5 : (b : ℕ) → nat_lt (rank b) 7 ≡ true → nat_le 2 (file b) ≡ true → framed ((file b + 2) - 2) ((rank b + 2) + 1) ≡ b + 6
+number5 : (b : ℕ) → nat_lt (rank b) 7 ≡ true → nat_le 2 (file b) ≡ true → framed ((file b + 2) - 2) ((rank b + 2) + 1) ≡ b + 8 - 2
 number5 b h g = let e = ltb-true (rank b) 7 h in let i = leb-true 2 (file b) g in omega (arith, e, i)
 
 on_board6 : (f r : ℕ) → f < 8 → r < 8
     → (nat_le 2 ((f + 2) + 2) && nat_lt ((f + 2) + 2) 10 && nat_le 2 ((r + 2) + 1) && nat_lt ((r + 2) + 1) 10) ≡ (nat_lt r 7 && nat_lt f 6)
 on_board6 f r h g = grind (arith, nat_tests)
 
-number6 : (b : ℕ) → nat_lt (rank b) 7 ≡ true → nat_lt (file b) 6 ≡ true → framed ((file b + 2) + 2) ((rank b + 2) + 1) ≡ b + 10
+number6 : (b : ℕ) → nat_lt (rank b) 7 ≡ true → nat_lt (file b) 6 ≡ true → framed ((file b + 2) + 2) ((rank b + 2) + 1) ≡ b + 8 + 2
 number6 b h g = let e = ltb-true (rank b) 7 h in let i = ltb-true (file b) 6 g in omega (arith, e, i)
 
 on_board7 : (f r : ℕ) → f < 8 → r < 8
     → (nat_le 2 ((f + 2) - 1) && nat_lt ((f + 2) - 1) 10 && nat_le 2 ((r + 2) + 2) && nat_lt ((r + 2) + 2) 10) ≡ (nat_lt r 6 && nat_le 1 f)
 on_board7 f r h g = grind (arith, nat_tests)
 
-number7 : (b : ℕ) → nat_lt (rank b) 6 ≡ true → nat_le 1 (file b) ≡ true → framed ((file b + 2) - 1) ((rank b + 2) + 2) ≡ b + 15
+number7 : (b : ℕ) → nat_lt (rank b) 6 ≡ true → nat_le 1 (file b) ≡ true → framed ((file b + 2) - 1) ((rank b + 2) + 2) ≡ b + 16 - 1
 number7 b h g = let e = ltb-true (rank b) 6 h in let i = leb-true 1 (file b) g in omega (arith, e, i)
 
 on_board8 : (f r : ℕ) → f < 8 → r < 8
     → (nat_le 2 ((f + 2) + 1) && nat_lt ((f + 2) + 1) 10 && nat_le 2 ((r + 2) + 2) && nat_lt ((r + 2) + 2) 10) ≡ (nat_lt r 6 && nat_lt f 7)
 on_board8 f r h g = grind (arith, nat_tests)
 
-number8 : (b : ℕ) → nat_lt (rank b) 6 ≡ true → nat_lt (file b) 7 ≡ true → framed ((file b + 2) + 1) ((rank b + 2) + 2) ≡ b + 17
+number8 : (b : ℕ) → nat_lt (rank b) 6 ≡ true → nat_lt (file b) 7 ≡ true → framed ((file b + 2) + 1) ((rank b + 2) + 2) ≡ b + 16 + 1
 number8 b h g = let e = ltb-true (rank b) 6 h in let i = ltb-true (file b) 7 g in omega (arith, e, i)
 
 knight1 : (men : Men) (c : Colour) (b : ℕ) → b < 64 → has_knight men c ((file b + 2) - 1) ((rank b + 2) - 2)
-    ≡ (nat_le 2 (rank b) && nat_le 1 (file b) && is_man c Knight (man_at men (b - 17)))
+    ≡ (nat_le 2 (rank b) && nat_le 1 (file b) && is_man c Knight (man_at men (b - 16 - 1)))
 unfolding has_knight
 knight1 men c b low =
     same_knight (λ x. is_man c Knight (man_at men x)) _ (nat_le 2 (rank b)) (nat_le 1 (file b))
-    (framed ((file b + 2) - 1) ((rank b + 2) - 2)) (b - 17)
+    (framed ((file b + 2) - 1) ((rank b + 2) - 2)) (b - 16 - 1)
     (on_board1 (file b) (rank b) (omega arith) (omega arith)) (number1 b)
 
 knight2 : (men : Men) (c : Colour) (b : ℕ) → b < 64 → has_knight men c ((file b + 2) + 1) ((rank b + 2) - 2)
-    ≡ (nat_le 2 (rank b) && nat_lt (file b) 7 && is_man c Knight (man_at men (b - 15)))
+    ≡ (nat_le 2 (rank b) && nat_lt (file b) 7 && is_man c Knight (man_at men (b - 16 + 1)))
 unfolding has_knight
 knight2 men c b low =
     same_knight (λ x. is_man c Knight (man_at men x)) _ (nat_le 2 (rank b)) (nat_lt (file b) 7)
-    (framed ((file b + 2) + 1) ((rank b + 2) - 2)) (b - 15)
+    (framed ((file b + 2) + 1) ((rank b + 2) - 2)) (b - 16 + 1)
     (on_board2 (file b) (rank b) (omega arith) (omega arith)) (number2 b)
 
 knight3 : (men : Men) (c : Colour) (b : ℕ) → b < 64 → has_knight men c ((file b + 2) - 2) ((rank b + 2) - 1)
-    ≡ (nat_le 1 (rank b) && nat_le 2 (file b) && is_man c Knight (man_at men (b - 10)))
+    ≡ (nat_le 1 (rank b) && nat_le 2 (file b) && is_man c Knight (man_at men (b - 8 - 2)))
 unfolding has_knight
 knight3 men c b low =
     same_knight (λ x. is_man c Knight (man_at men x)) _ (nat_le 1 (rank b)) (nat_le 2 (file b))
-    (framed ((file b + 2) - 2) ((rank b + 2) - 1)) (b - 10)
+    (framed ((file b + 2) - 2) ((rank b + 2) - 1)) (b - 8 - 2)
     (on_board3 (file b) (rank b) (omega arith) (omega arith)) (number3 b)
 
 knight4 : (men : Men) (c : Colour) (b : ℕ) → b < 64 → has_knight men c ((file b + 2) + 2) ((rank b + 2) - 1)
-    ≡ (nat_le 1 (rank b) && nat_lt (file b) 6 && is_man c Knight (man_at men (b - 6)))
+    ≡ (nat_le 1 (rank b) && nat_lt (file b) 6 && is_man c Knight (man_at men (b - 8 + 2)))
 unfolding has_knight
 knight4 men c b low =
     same_knight (λ x. is_man c Knight (man_at men x)) _ (nat_le 1 (rank b)) (nat_lt (file b) 6)
-    (framed ((file b + 2) + 2) ((rank b + 2) - 1)) (b - 6)
+    (framed ((file b + 2) + 2) ((rank b + 2) - 1)) (b - 8 + 2)
     (on_board4 (file b) (rank b) (omega arith) (omega arith)) (number4 b)
 
 knight5 : (men : Men) (c : Colour) (b : ℕ) → b < 64 → has_knight men c ((file b + 2) - 2) ((rank b + 2) + 1)
-    ≡ (nat_lt (rank b) 7 && nat_le 2 (file b) && is_man c Knight (man_at men (b + 6)))
+    ≡ (nat_lt (rank b) 7 && nat_le 2 (file b) && is_man c Knight (man_at men (b + 8 - 2)))
 unfolding has_knight
 knight5 men c b low =
     same_knight (λ x. is_man c Knight (man_at men x)) _ (nat_lt (rank b) 7) (nat_le 2 (file b))
-    (framed ((file b + 2) - 2) ((rank b + 2) + 1)) (b + 6)
+    (framed ((file b + 2) - 2) ((rank b + 2) + 1)) (b + 8 - 2)
     (on_board5 (file b) (rank b) (omega arith) (omega arith)) (number5 b)
 
 knight6 : (men : Men) (c : Colour) (b : ℕ) → b < 64 → has_knight men c ((file b + 2) + 2) ((rank b + 2) + 1)
-    ≡ (nat_lt (rank b) 7 && nat_lt (file b) 6 && is_man c Knight (man_at men (b + 10)))
+    ≡ (nat_lt (rank b) 7 && nat_lt (file b) 6 && is_man c Knight (man_at men (b + 8 + 2)))
 unfolding has_knight
 knight6 men c b low =
     same_knight (λ x. is_man c Knight (man_at men x)) _ (nat_lt (rank b) 7) (nat_lt (file b) 6)
-    (framed ((file b + 2) + 2) ((rank b + 2) + 1)) (b + 10)
+    (framed ((file b + 2) + 2) ((rank b + 2) + 1)) (b + 8 + 2)
     (on_board6 (file b) (rank b) (omega arith) (omega arith)) (number6 b)
 
 knight7 : (men : Men) (c : Colour) (b : ℕ) → b < 64 → has_knight men c ((file b + 2) - 1) ((rank b + 2) + 2)
-    ≡ (nat_lt (rank b) 6 && nat_le 1 (file b) && is_man c Knight (man_at men (b + 15)))
+    ≡ (nat_lt (rank b) 6 && nat_le 1 (file b) && is_man c Knight (man_at men (b + 16 - 1)))
 unfolding has_knight
 knight7 men c b low =
     same_knight (λ x. is_man c Knight (man_at men x)) _ (nat_lt (rank b) 6) (nat_le 1 (file b))
-    (framed ((file b + 2) - 1) ((rank b + 2) + 2)) (b + 15)
+    (framed ((file b + 2) - 1) ((rank b + 2) + 2)) (b + 16 - 1)
     (on_board7 (file b) (rank b) (omega arith) (omega arith)) (number7 b)
 
 knight8 : (men : Men) (c : Colour) (b : ℕ) → b < 64 → has_knight men c ((file b + 2) + 1) ((rank b + 2) + 2)
-    ≡ (nat_lt (rank b) 6 && nat_lt (file b) 7 && is_man c Knight (man_at men (b + 17)))
+    ≡ (nat_lt (rank b) 6 && nat_lt (file b) 7 && is_man c Knight (man_at men (b + 16 + 1)))
 unfolding has_knight
 knight8 men c b low =
     same_knight (λ x. is_man c Knight (man_at men x)) _ (nat_lt (rank b) 6) (nat_lt (file b) 7)
-    (framed ((file b + 2) + 1) ((rank b + 2) + 2)) (b + 17)
+    (framed ((file b + 2) + 1) ((rank b + 2) + 2)) (b + 16 + 1)
     (on_board8 (file b) (rank b) (omega arith) (omega arith)) (number8 b)
 
 two_halves : (h1 h2 h3 h4 h5 h6 h7 h8 : Bool)
     → (h1 || h2 || h3 || h4 || h5 || h6 || h7 || h8) ≡ ((h1 || h2 || h3 || h4) || (h5 || h6 || h7 || h8))
 two_halves h1 h2 h3 h4 h5 h6 h7 h8 = grind arith
 
-pub struck_by_knight_is : (men : Men) (c : Colour) (b : ℕ) → b < 64
-    → struck_by_knight men c b ≡ (struck_by_knight_from_below men c b || struck_by_knight_from_above men c b)
-unfolding struck_by_knight_from_below struck_by_knight_from_above
-struck_by_knight_is men c b low =
+pub attacked_by_knight_is : (men : Men) (c : Colour) (b : ℕ) → b < 64
+    → attacked_by_knight men c b ≡ (attacked_by_knight_from_below men c b || attacked_by_knight_from_above men c b)
+unfolding attacked_by_knight_from_below attacked_by_knight_from_above
+attacked_by_knight_is men c b low =
     let t : ℕ → ℕ → Bool = has_knight men c in
     let f = file b + 2 in
     let r = rank b + 2 in

@@ -7,6 +7,7 @@ mod Knights
 mod CountedWrites
 mod KingChecks
 mod CastlingChange
+mod CastlingNamed
 mod StaysSound
 mod TakesBack
 mod CountsAfter

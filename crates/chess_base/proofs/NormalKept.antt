@@ -1,21 +1,19 @@
 -- On positions of normal chess the rules of both variants are those of normal chess.
 use Rattle.std.proofs.Common.{◌≡◌, ℕ, Bool, true, false, ◌&&◌, cond, ◌==◌, nat_lt, Option, Some, None, is_some, refl, ap, ◌∙◌}
-use Rattle.chess_base.specs.declared.castling.Castle.{Castle}
-use Rattle.chess_base.specs.declared.steps.Steps.{Steps}
 use Rattle.chess_base.specs.declared.man.Colour.{Colour}
 use Rattle.chess_base.specs.declared.man.CastlingSide.{CastlingSide}
 use Rattle.chess_base.specs.declared.man.CastlingSide.TheVariants.{KingSide, QueenSide}
-use Rattle.chess_base.specs.declared.man.Kind.TheVariants.{King, Rook, Pawn}
+use Rattle.chess_base.specs.declared.man.Kind.TheVariants.{King, Pawn}
 use Rattle.chess_base.specs.declared.man.Man.{Man}
 use Rattle.chess_base.specs.declared.man.Move.{Move}
 use Rattle.chess_base.specs.declared.man.Variant.TheVariants.{Normal}
 use Rattle.chess_base.specs.declared.setup.Setup.{Setup}
 use Rattle.chess_base.specs.Men.{Men, man_at, is_man, same_colour, same_kind, other}
-use Rattle.chess_base.specs.Moves.{one_rank_back, is_en_passant, arriving_man, moves_as, is_pseudo_legal, pawn_moves, second_square_emptied, men_after, rights_after, target_after, halfmove_after, fullmove_after, is_legal, after}
-use Rattle.chess_base.specs.shared.Splits.{castles_or_moves, names_castling, rook_from, rook_to, right_is_sound_at}
-use Rattle.chess_base.specs.Castling.{is_castling_to, castling, castle_by, castle_of, mover_end, castling_rook_to, castled_king_file, right_of, right_is_sound, home_square, king_home_file}
-use Rattle.chess_base.specs.Before.{mover_to}
-use Rattle.chess_base.specs.Steps.{men_stepped}
+use Rattle.chess_base.specs.Moves.{moves_as, is_pseudo_legal, pawn_moves, after_castling, after_moving, men_after, rights_after, target_after, halfmove_after, fullmove_after, is_legal, after}
+use Rattle.chess_base.specs.shared.Splits.{castles_or_moves, names_castling, right_is_sound_at}
+use Rattle.chess_base.specs.Castling.{is_castling_to, castling, castle_by, castle_of, castled_king_file, right_of, right_is_sound, home_square, king_home_file}
+use Rattle.chess_base.specs.Squares.{from_below}
+use Rattle.std.specs.Option.{option_map_or}
 use Rattle.chess_base.specs.laws.Normal.{normal_right_is_sound_at, normal_says_castling, normal_castling, normal_castle_of, normal_moves_as, normal_has_pattern, normal_men_after, normal_after, normal_is_legal, NormalIsKept}
 
 in_turn : (a b c : Bool) → (a && (b && c)) ≡ (true && a && b && c)
@@ -58,20 +56,10 @@ pattern_kept : (p : Setup) → p.variant ≡ Normal → (m : Move) → is_pseudo
 unfolding is_pseudo_legal normal_has_pattern
 pattern_kept p e m = ap (λ b. nat_lt m.from 64 && nat_lt m.to 64 && b) (moves_kept p e m (man_at p.men m.from))
 
--- the steps of a move, by the castling that it is
-steps_by : Setup → Move → Option Castle → Steps
-steps_by p m o = record {
-  from = m.from;
-  second_from = cond (is_en_passant p m) (Some (one_rank_back p.side m.to)) (rook_from o);
-  second_to = rook_to o;
-  second = Some (record { colour = p.side; kind = Rook });
-  to = mover_to m o;
-  mover = arriving_man (man_at p.men m.from) m.promotion;
-}
-
 men_kept : (p : Setup) → p.variant ≡ Normal → (m : Move) → men_after p m ≡ normal_men_after p m
-unfolding men_after normal_men_after mover_end castling_rook_to second_square_emptied steps_by
-men_kept p e m = ap (λ o. men_stepped p.men (steps_by p m o)) (castle_kept p e m)
+unfolding men_after normal_men_after
+men_kept p e m =
+    ap (λ o. from_below 64 (λ s. option_map_or (λ k. after_castling p m k s) o (after_moving p m s))) (castle_kept p e m)
 
 after_kept : (p : Setup) → p.variant ≡ Normal → (m : Move) → after p m ≡ normal_after p m
 unfolding after normal_after

@@ -13,10 +13,11 @@ use Rattle.chess_base.specs.declared.man.Man.{Man}
 use Rattle.chess_base.specs.Squares.{file, rank, gap, lies_inside, share_rank_or_file, share_diagonal, is_between, is_between_on_file, is_between_on_rank, is_between_on_diagonal, some_square}
 use Rattle.chess_base.specs.Men.{Men, man_at, is_of, is_man, same_colour, same_kind}
 use Rattle.chess_base.specs.Attacks.{is_clear, is_rank_ahead, could_capture, attacks, is_attacked}
-use Rattle.chess_base.specs.ties.Lines.{same_line, step_of, is_above, is_below, strikes, struck_from_above, struck_from_below, struck_along, struck_by_knight, struck_by_knight_from_below, struck_by_knight_from_above, attacked_from_below, attacked_from_above}
+use Rattle.chess_base.specs.shared.Lines.{same_line}
+use Rattle.chess_base.specs.ties.Lines.{step_of, is_above, is_below, attacked_from, attacked_along_from_above, attacked_along_from_below, attacked_along, attacked_by_knight, attacked_by_knight_from_below, attacked_by_knight_from_above, attacked_from_below, attacked_from_above}
 use Rattle.chess_base.proofs.shared.Squares.{each_square-fails, some_square-at, some_square-none, some_square_same, some_square-or}
 use Rattle.chess_base.proofs.Geometry.{between_on_line}
-use Rattle.chess_base.proofs.Knights.{struck_by_knight_is}
+use Rattle.chess_base.proofs.Knights.{attacked_by_knight_is}
 use Rattle.chess_base.proofs.ClearLines.{is_clear_back, clear_by, step_fits, step_stays, none_between, rises, line_back, line_on}
 
 -- ---- what stands between hides the square
@@ -108,14 +109,14 @@ hidden men c Bishop a b x h e piece =
 hidden men c Knight a b x h e piece = no_knight_between a b x e
 hidden men c Pawn a b x h e piece = no_pawn_between c a b x e
 
-none_strikes : (men : Men) (c : Colour) (b k : ℕ) → (o : Option Man) → man_at men k ≡ o → is_none o ≡ true
-    → strikes men c b k ≡ false
+none_from : (men : Men) (c : Colour) (b k : ℕ) → (o : Option Man) → man_at men k ≡ o → is_none o ≡ true
+    → attacked_from men c b k ≡ false
 unfolding is_of
-none_strikes men c b k None at e = rw at refl
-none_strikes men c b k (Some x) at e = absurd cc
+none_from men c b k None at e = rw at refl
+none_from men c b k (Some x) at e = absurd cc
 
-empty_strikes : (men : Men) (c : Colour) (b k : ℕ) → is_none (man_at men k) ≡ true → strikes men c b k ≡ false
-empty_strikes men c b k e = none_strikes men c b k (man_at men k) refl e
+empty_from : (men : Men) (c : Colour) (b k : ℕ) → is_none (man_at men k) ≡ true → attacked_from men c b k ≡ false
+empty_from men c b k e = none_from men c b k (man_at men k) refl e
 
 hidden_attacks : (men : Men) (b k x : ℕ) → x < 64 → is_between k b x ≡ true → is_none (man_at men x) ≡ false
     → (o : Option Man) → man_at men k ≡ o → attacks men k b ≡ false
@@ -123,9 +124,9 @@ unfolding attacks
 hidden_attacks men b k x h e piece None at = rw at refl
 hidden_attacks men b k x h e piece (Some y) at = rw at (hidden men y.colour y.kind k b x h e piece)
 
-hidden_strikes : (men : Men) (c : Colour) (b k x : ℕ) → x < 64 → is_between k b x ≡ true
-    → is_none (man_at men x) ≡ false → strikes men c b k ≡ false
-hidden_strikes men c b k x h e piece =
+hidden_from : (men : Men) (c : Colour) (b k x : ℕ) → x < 64 → is_between k b x ≡ true
+    → is_none (man_at men x) ≡ false → attacked_from men c b k ≡ false
+hidden_from men c b k x h e piece =
     and_right (is_of c (man_at men k)) (attacks men k b) (hidden_attacks men b k x h e piece (man_at men k) refl)
 
 -- ---- of the squares that pass a test, only the first piece counts
@@ -135,10 +136,10 @@ abbrev IsHidden : Men → ℕ → ℕ → ℕ → Type 0
 IsHidden men b x k = (is_none (man_at men k) ≡ true) ⊎ ((k ≡ x) ⊎ (is_between k b x ≡ true))
 
 all_hidden : (p : ℕ → Bool) (men : Men) (c : Colour) (b x k : ℕ) → x < 64 → is_none (man_at men x) ≡ false
-    → strikes men c b x ≡ false → IsHidden men b x k → strikes men c b k ≡ false
-all_hidden p men c b x k h piece fails (inl empty) = empty_strikes men c b k empty
+    → attacked_from men c b x ≡ false → IsHidden men b x k → attacked_from men c b k ≡ false
+all_hidden p men c b x k h piece fails (inl empty) = empty_from men c b k empty
 all_hidden p men c b x k h piece fails (inr (inl same)) = rw same fails
-all_hidden p men c b x k h piece fails (inr (inr between)) = hidden_strikes men c b k x h between piece
+all_hidden p men c b x k h piece fails (inr (inr between)) = hidden_from men c b k x h between piece
 
 guarded : (p q : Bool) → (p ≡ true → q ≡ false) → (p && q) ≡ false
 guarded true q h = h refl
@@ -146,24 +147,24 @@ guarded false q h = refl
 
 pub first_decides : (p : ℕ → Bool) (men : Men) (c : Colour) (b x : ℕ) → x < 64 → p x ≡ true
     → is_none (man_at men x) ≡ false → ((k : ℕ) → k < 64 → p k ≡ true → IsHidden men b x k)
-    → strikes men c b x ≡ some_square (λ a. p a && strikes men c b a)
+    → attacked_from men c b x ≡ some_square (λ a. p a && attacked_from men c b a)
 first_decides p men c b x h on piece hidden =
-    elim (cases_Bool (strikes men c b x)) [
+    elim (cases_Bool (attacked_from men c b x)) [
       | inl passes ↦
-          passes ∙ sym (some_square-at (λ a. p a && strikes men c b a) x h
-          (and_from (p x) (strikes men c b x) on passes))
+          passes ∙ sym (some_square-at (λ a. p a && attacked_from men c b a) x h
+          (and_from (p x) (attacked_from men c b x) on passes))
       | inr fails ↦
-          fails ∙ sym (some_square-none (λ a. p a && strikes men c b a)
-          (λ k low. guarded (p k) (strikes men c b k)
+          fails ∙ sym (some_square-none (λ a. p a && attacked_from men c b a)
+          (λ k low. guarded (p k) (attacked_from men c b k)
           (λ e. all_hidden p men c b x k h piece fails (hidden k low e))))
     ]
 
 pub none_decides : (p : ℕ → Bool) (men : Men) (c : Colour) (b : ℕ)
     → ((k : ℕ) → k < 64 → p k ≡ true → is_none (man_at men k) ≡ true)
-    → false ≡ some_square (λ a. p a && strikes men c b a)
+    → false ≡ some_square (λ a. p a && attacked_from men c b a)
 none_decides p men c b empty =
-    sym (some_square-none (λ a. p a && strikes men c b a)
-    (λ k low. guarded (p k) (strikes men c b k) (λ e. empty_strikes men c b k (empty k low e))))
+    sym (some_square-none (λ a. p a && attacked_from men c b a)
+    (λ k low. guarded (p k) (attacked_from men c b k) (λ e. empty_from men c b k (empty k low e))))
 
 -- ---- up a line
 
@@ -261,8 +262,8 @@ hidden_by_first men l b end n on w more in_board there k above e =
 
 pub rise_stops : (men : Men) (l : Line) (c : Colour) (b end n : ℕ) → same_line l b end ≡ true → HasRisen men l b end n
     → n < end → end < 64 → is_none (man_at men (n + step_of l)) ≡ false
-    → strikes men c b (n + step_of l) ≡ struck_from_above men l c b
-unfolding struck_from_above
+    → attacked_from men c b (n + step_of l) ≡ attacked_along_from_above men l c b
+unfolding attacked_along_from_above
 rise_stops men l c b end n on w more in_board piece =
     let fit = step_fits l n end more in_board w.on in
     let far = rises l n in
@@ -284,8 +285,8 @@ rise_clear men l b end n on w more in_board =
     (λ k above below e. before_next men l b end n on w more in_board k above below e)
 
 pub rise_ends : (men : Men) (l : Line) (c : Colour) (b end n : ℕ) → HasRisen men l b end n → end ≤ n
-    → ((k : ℕ) → k < 64 → same_line l b k ≡ true → k ≤ end) → false ≡ struck_from_above men l c b
-unfolding struck_from_above
+    → ((k : ℕ) → k < 64 → same_line l b k ≡ true → k ≤ end) → false ≡ attacked_along_from_above men l c b
+unfolding attacked_along_from_above
 rise_ends men l c b end n w past last =
     none_decides (λ a. is_above l b a) men c b
     (λ k low e.
@@ -387,8 +388,8 @@ beyond_first men l b end n x in_board on w next there k below e =
 
 pub fall_stops : (men : Men) (l : Line) (c : Colour) (b end n : ℕ) → b < 64 → same_line l b end ≡ true
     → HasFallen men l b end n → end < n → is_none (man_at men (n - step_of l)) ≡ false
-    → strikes men c b (n - step_of l) ≡ struck_from_below men l c b
-unfolding struck_from_below
+    → attacked_from men c b (n - step_of l) ≡ attacked_along_from_below men l c b
+unfolding attacked_along_from_below
 fall_stops men l c b end n in_board on w more piece =
     let fit = fall_fits men l b end n in_board w more in
     let next : (n - step_of l) + step_of l ≡ n = omega (arith, fit) in
@@ -416,8 +417,8 @@ fall_clear men l b end n in_board on w more =
     (line_on l b (n - step_of l) k there e))
 
 pub fall_ends : (men : Men) (l : Line) (c : Colour) (b end n : ℕ) → HasFallen men l b end n → n ≤ end
-    → ((k : ℕ) → k < 64 → same_line l b k ≡ true → end ≤ k) → false ≡ struck_from_below men l c b
-unfolding struck_from_below
+    → ((k : ℕ) → k < 64 → same_line l b k ≡ true → end ≤ k) → false ≡ attacked_along_from_below men l c b
+unfolding attacked_along_from_below
 fall_ends men l c b end n w past last =
     none_decides (λ a. is_below l b a) men c b
     (λ k low e.
@@ -441,8 +442,8 @@ unfolding attacks
 no_attack_itself men b None at = rw at refl
 no_attack_itself men b (Some y) at = rw at (attacks_itself men y.colour y.kind b)
 
-strikes_itself : (men : Men) (c : Colour) (b : ℕ) → strikes men c b b ≡ false
-strikes_itself men c b =
+itself_from : (men : Men) (c : Colour) (b : ℕ) → attacked_from men c b b ≡ false
+itself_from men c b =
     and_right (is_of c (man_at men b)) (attacks men b b) (no_attack_itself men b (man_at men b) refl)
 
 above_or_below : (e : Bool) (b k : ℕ) (s : Bool) → (b ≡ k → s ≡ false)
@@ -456,13 +457,14 @@ above_or_below true b k true h =
     ]
 
 pub along_is : (men : Men) (l : Line) (c : Colour) (b : ℕ)
-    → struck_along men l c b ≡ (struck_from_above men l c b || struck_from_below men l c b)
-unfolding struck_along struck_from_above struck_from_below
+    → attacked_along men l c b ≡ (attacked_along_from_above men l c b || attacked_along_from_below men l c b)
+unfolding attacked_along attacked_along_from_above attacked_along_from_below
 along_is men l c b =
-    some_square_same (λ a. same_line l b a && strikes men c b a)
-    (λ a. (is_above l b a && strikes men c b a) || (is_below l b a && strikes men c b a))
-    (λ k low. above_or_below (same_line l b k) b k (strikes men c b k) (λ e. ap (λ t. strikes men c b t) (sym e) ∙ strikes_itself men c b))
-    ∙ some_square-or (λ a. is_above l b a && strikes men c b a) (λ a. is_below l b a && strikes men c b a)
+    some_square_same (λ a. same_line l b a && attacked_from men c b a)
+    (λ a. (is_above l b a && attacked_from men c b a) || (is_below l b a && attacked_from men c b a))
+    (λ k low. above_or_below (same_line l b k) b k (attacked_from men c b k)
+    (λ e. ap (λ t. attacked_from men c b t) (sym e) ∙ itself_from men c b))
+    ∙ some_square-or (λ a. is_above l b a && attacked_from men c b a) (λ a. is_below l b a && attacked_from men c b a)
 
 -- ---- all ways
 
@@ -513,11 +515,11 @@ lined men d Knight a b e = inr (refl, e)
 lined men d Pawn a b e = inl (diagonal_line a b (pawn_line d a b e))
 
 -- a knight of colour c on square a could capture on b
-abbrev knight_strikes : Men → Colour → ℕ → ℕ → Bool
-knight_strikes men c b a = is_man c Knight (man_at men a) && could_capture men c Knight a b
+abbrev knight_attacks : Men → Colour → ℕ → ℕ → Bool
+knight_attacks men c b a = is_man c Knight (man_at men a) && could_capture men c Knight a b
 
-lined_of : (men : Men) (c : Colour) (a b : ℕ) (o : Option Man) → man_at men a ≡ o → strikes men c b a ≡ true
-    → (on_some_line a b ≡ true) ⊎ (knight_strikes men c b a ≡ true)
+lined_of : (men : Men) (c : Colour) (a b : ℕ) (o : Option Man) → man_at men a ≡ o → attacked_from men c b a ≡ true
+    → (on_some_line a b ≡ true) ⊎ (knight_attacks men c b a ≡ true)
 unfolding is_of is_man attacks could_capture
 lined_of men c a b None at e = let none = rw at at e in cc
 lined_of men c a b (Some x) at e =
@@ -539,8 +541,8 @@ knight_by men c d Bishop a b e f = cc
 knight_by men c d Knight a b e f = f
 knight_by men c d Pawn a b e f = cc
 
-knight_of : (men : Men) (c : Colour) (a b : ℕ) (o : Option Man) → man_at men a ≡ o → knight_strikes men c b a ≡ true
-    → strikes men c b a ≡ true
+knight_of : (men : Men) (c : Colour) (a b : ℕ) (o : Option Man) → man_at men a ≡ o → knight_attacks men c b a ≡ true
+    → attacked_from men c b a ≡ true
 unfolding is_of is_man attacks
 knight_of men c a b None at e = let none = rw at at e in cc
 knight_of men c a b (Some x) at e =
@@ -561,18 +563,18 @@ ways f r d t true false h g = let no = g refl in cc
 ways f r d t false false h g = rw (and-false f, and-false r, and-false d, and-false t) refl
 
 lines_attack : (men : Men) (b : ℕ) (c : Colour)
-    → is_attacked men b c ≡ (struck_along men File c b || struck_along men Rank c b || struck_along men Diagonal c b
-    || struck_along men Antidiagonal c b || struck_by_knight men c b)
-unfolding is_attacked struck_along struck_by_knight
+    → is_attacked men b c ≡ (attacked_along men File c b || attacked_along men Rank c b
+    || attacked_along men Diagonal c b || attacked_along men Antidiagonal c b || attacked_by_knight men c b)
+unfolding is_attacked attacked_along attacked_by_knight
 lines_attack men b c =
-    let f : ℕ → Bool = λ a. same_line File b a && strikes men c b a in
-    let r : ℕ → Bool = λ a. same_line Rank b a && strikes men c b a in
-    let d : ℕ → Bool = λ a. same_line Diagonal b a && strikes men c b a in
-    let t : ℕ → Bool = λ a. same_line Antidiagonal b a && strikes men c b a in
-    let k : ℕ → Bool = λ a. knight_strikes men c b a in
-    some_square_same (λ a. strikes men c b a) (λ a. f a || r a || d a || t a || k a)
+    let f : ℕ → Bool = λ a. same_line File b a && attacked_from men c b a in
+    let r : ℕ → Bool = λ a. same_line Rank b a && attacked_from men c b a in
+    let d : ℕ → Bool = λ a. same_line Diagonal b a && attacked_from men c b a in
+    let t : ℕ → Bool = λ a. same_line Antidiagonal b a && attacked_from men c b a in
+    let k : ℕ → Bool = λ a. knight_attacks men c b a in
+    some_square_same (λ a. attacked_from men c b a) (λ a. f a || r a || d a || t a || k a)
     (λ a low. ways (same_line File b a) (same_line Rank b a) (same_line Diagonal b a) (same_line Antidiagonal b a)
-    (knight_strikes men c b a) (strikes men c b a) (lined_of men c a b (man_at men a) refl)
+    (knight_attacks men c b a) (attacked_from men c b a) (lined_of men c a b (man_at men a) refl)
     (knight_of men c a b (man_at men a) refl))
     ∙ (some_square-or (λ a. f a || r a || d a || t a) k
     ∙ ap (λ v. v || some_square k) (some_square-or (λ a. f a || r a || d a) t
@@ -594,10 +596,10 @@ attacked_is men b c low =
       along_is men Rank c b,
       along_is men Diagonal c b,
       along_is men Antidiagonal c b,
-      struck_by_knight_is men c b low,
+      attacked_by_knight_is men c b low,
     )
-    (by_numbers (struck_from_above men File c b) (struck_from_below men File c b)
-    (struck_from_above men Rank c b) (struck_from_below men Rank c b)
-    (struck_from_above men Diagonal c b) (struck_from_below men Diagonal c b)
-    (struck_from_above men Antidiagonal c b) (struck_from_below men Antidiagonal c b)
-    (struck_by_knight_from_below men c b) (struck_by_knight_from_above men c b)))
+    (by_numbers (attacked_along_from_above men File c b) (attacked_along_from_below men File c b)
+    (attacked_along_from_above men Rank c b) (attacked_along_from_below men Rank c b)
+    (attacked_along_from_above men Diagonal c b) (attacked_along_from_below men Diagonal c b)
+    (attacked_along_from_above men Antidiagonal c b) (attacked_along_from_below men Antidiagonal c b)
+    (attacked_by_knight_from_below men c b) (attacked_by_knight_from_above men c b)))

@@ -11,7 +11,8 @@ use Rattle.chess_base.specs.declared.man.Man.{Man}
 use Rattle.chess_base.specs.Squares.{file, rank, gap, share_rank_or_file, share_diagonal}
 use Rattle.chess_base.specs.Men.{Men, man_at, is_of, same_colour}
 use Rattle.chess_base.specs.Attacks.{is_clear, could_capture, attacks}
-use Rattle.chess_base.specs.ties.Lines.{same_line, step_of, is_straight, reaches, strikes}
+use Rattle.chess_base.specs.shared.Lines.{same_line}
+use Rattle.chess_base.specs.ties.Lines.{step_of, is_straight, reaches, attacked_from}
 
 -- over files f and g and ranks r and q of two squares: the squares of one line
 
@@ -114,9 +115,9 @@ abbrev pub reaching : Line → Colour → ℕ → ℕ → Option Man → Bool
 reaching l c a b None = false
 reaching l c a b (Some x) = same_colour c x.colour && reaches l x.colour x.kind a b
 
-pub strikes_by : (men : Men) (l : Line) (c : Colour) (a b : ℕ) → a ≢ b → same_line l b a ≡ true
-    → is_clear men a b ≡ true → (o : Option Man) → man_at men a ≡ o → strikes men c b a ≡ reaching l c a b o
+pub attacked_from_by : (men : Men) (l : Line) (c : Colour) (a b : ℕ) → a ≢ b → same_line l b a ≡ true
+    → is_clear men a b ≡ true → (o : Option Man) → man_at men a ≡ o → attacked_from men c b a ≡ reaching l c a b o
 unfolding is_of attacks
-strikes_by men l c a b n on clear None at = rw at refl
-strikes_by men l c a b n on clear (Some x) at =
+attacked_from_by men l c a b n on clear None at = rw at refl
+attacked_from_by men l c a b n on clear (Some x) at =
     rw at (ap (λ v. same_colour c x.colour && v) (captures_is men l x.colour x.kind a b n on clear))

@@ -23,6 +23,7 @@ use Rattle.chess_base.proofs.shared.Squares.{each_square-at, length-from_below, 
 use Rattle.chess_base.proofs.shared.Men.{same_colour-true, is_of-from_is_man, is_man-kind, is_none-None, in_board}
 use Rattle.chess_base.proofs.shared.MoveKinds.{is_of-mover, Moves, MoveKind, ManMoves, Castles, PawnMoves, PawnKind, Advances, Captures, TakesEnPassant}
 use Rattle.chess_base.proofs.shared.Changes.{Change, Rest, Alone, WithCapture, WithRook, pawn_attack, pawn_no_castling, rank_ahead_White, rank_ahead_Black, advance_goes}
+use Rattle.chess_base.proofs.shared.Captures.{resets_clock_is}
 use Rattle.chess_base.proofs.shared.Castling.{says_from_castling, castling_says, lands_on_to}
 use Rattle.chess_base.proofs.CastlingChange.{change_of}
 use Rattle.chess_base.proofs.CountsAfter.{castled_rook, apart_by, from_apart}
@@ -309,11 +310,12 @@ clock_was_reset p m e = reset_by (resets_clock p m) e
 
 pub falls_for_good : (p : Setup) (m : Move) → IsSound p → is_legal p m ≡ true → (after p m).halfmove ≡ 0
     → reserve (after p m).men < reserve p.men
-unfolding is_legal after resets_clock
+unfolding is_legal after
 falls_for_good p m sound legal e =
+    let reset = sym (resets_clock_is p m) ∙ clock_was_reset p m e in
     let h = change_of p m sound (and_parts (is_pseudo_legal p m) (not (is_in_check (men_after p m) p.side)) legal).0 in
     elim (or_cases (is_man p.side Pawn (man_at p.men m.from)) (is_of (other p.side) (man_at p.men m.to))
-    (clock_was_reset p m e)) [
+    reset) [
       | inl man ↦ pawn_falls p m sound h man h.moves.kind
       | inr taken ↦ capture_falls p m sound h taken
     ]

@@ -1,4 +1,5 @@
 -- Lemmas for crates above: all are about definitions, none about functions. They can cite no other module of proofs/.
+pub mod Captures
 pub mod Castling
 pub mod Changes
 pub mod Choices

@@ -129,15 +129,6 @@ castle_by c r m side = option_and_then (λ w. option_map (castle_from c w m.from
 unfoldable pub castle_of : Setup → Move → Option Castle
 castle_of p m = castle_by p.side p.rights m (castling p m)
 
--- the mover's square after the move: the king's after castling, else m.to. In normal chess it is always m.to, since
--- the king's squares name castling
-unfoldable pub mover_end : Setup → Move → ℕ
-mover_end p m = option_map_or (λ k. k.king_to) (castle_of p m) m.to
-
--- the square on which the castling rook ends, as f1 for e1g1; none if the move is not castling
-unfoldable pub castling_rook_to : Setup → Move → Option ℕ
-castling_rook_to p m = option_map (λ k. k.rook_to) (castle_of p m)
-
 -- ---- when castling may be played (3.8.2.2)
 
 -- square x is a or b, or lies strictly between them
@@ -163,3 +154,14 @@ castling_way_is_safe men c k = each_square
 -- two, the king's are not attacked, and m names no promotion
 unfoldable pub castles : Setup → Move → Castle → Bool
 castles p m k = is_none m.promotion && castling_way_is_empty p.men k && castling_way_is_safe p.men p.side k
+
+-- ---- where mover and castling rook end, for the steps in which boards change the pieces
+
+-- the mover's square after the move: the king's after castling, else m.to. In normal chess it is always m.to, since
+-- the king's squares name castling
+unfoldable pub mover_end : Setup → Move → ℕ
+mover_end p m = option_map_or (λ k. k.king_to) (castle_of p m) m.to
+
+-- the square on which the castling rook ends, as f1 for e1g1; none if the move is not castling
+unfoldable pub castling_rook_to : Setup → Move → Option ℕ
+castling_rook_to p m = option_map (λ k. k.rook_to) (castle_of p m)

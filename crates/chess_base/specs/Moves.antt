@@ -1,6 +1,7 @@
 -- The moves: their pattern, the position after one, and which are legal (Laws of Chess 2023, article 3).
-use Rattle.std.specs.Prelude.{ℕ, ◌+◌, ◌==◌, nat_lt, min, Bool, false, not, ◌&&◌, ◌||◌, Option, Some, None, is_none, if◌then◌else◌}
+use Rattle.std.specs.Prelude.{ℕ, ◌+◌, ◌==◌, nat_lt, min, Bool, false, not, ◌&&◌, ◌||◌, Option, Some, None, is_none, is_some, if◌then◌else◌}
 use Rattle.std.specs.Option.{option_map, option_map_or}
+use Rattle.chess_base.specs.declared.castling.Castle.{Castle}
 use Rattle.chess_base.specs.declared.man.Colour.{Colour}
 use Rattle.chess_base.specs.declared.man.Colour.TheVariants.{White, Black}
 use Rattle.chess_base.specs.declared.man.Kind.{Kind}
@@ -11,11 +12,10 @@ use Rattle.chess_base.specs.declared.man.Rights.{Rights}
 use Rattle.chess_base.specs.declared.setup.Setup.{Setup}
 use Rattle.chess_base.specs.declared.setup.TheConstants.{COUNTER_LIMIT}
 use Rattle.chess_base.specs.declared.steps.Steps.{Steps}
-use Rattle.chess_base.specs.Squares.{rank, is_square}
+use Rattle.chess_base.specs.Squares.{rank, is_square, from_below}
 use Rattle.chess_base.specs.Men.{Men, man_at, is_of, is_man, same_colour, same_kind, other, forward, first_rank, pawn_rank}
 use Rattle.chess_base.specs.Attacks.{attacks, is_in_check}
 use Rattle.chess_base.specs.Castling.{right_of, rights_by, castle_of, castling_rook_to, castles, mover_end}
-use Rattle.chess_base.specs.Steps.{men_stepped}
 
 -- a pawn's move names a promotion to a queen, rook, bishop or knight if it ends on its last rank (`last`), and
 -- otherwise none (3.7.3.3)
@@ -81,27 +81,35 @@ arriving_man (Some x) (Some k) = Some (record { colour = x.colour; kind = k })
 abbrev pub one_rank_back : Colour → ℕ → ℕ
 one_rank_back c s = forward (other c) s
 
--- the square, beside its start square, that move m empties: that of the pawn taken en passant, or of the castling rook;
--- none for any other move
-unfoldable pub second_square_emptied : Setup → Move → Option ℕ
-second_square_emptied p m =
-    if is_en_passant p m then Some (one_rank_back p.side m.to) else option_map (λ k. k.rook_from) (castle_of p m)
+-- the square of the piece that move m captures: its end square, or e5 for White's en passant capture on e6; none if it
+-- captures nothing
+unfoldable pub captured_square : Setup → Move → Option ℕ
+captured_square p m =
+    if is_en_passant p m then Some (one_rank_back p.side m.to)
+    else if is_of (other p.side) (man_at p.men m.to) then Some m.to
+    else None
 
--- what the move changes on the board: the mover leaves `from` and arrives on `to`; in castling the rook does so from
--- `second_from` to `second_to`, and a pawn taken en passant leaves `second_from`
-abbrev pub steps_of : Setup → Move → Steps
-steps_of p m = record {
-  from = m.from;
-  second_from = second_square_emptied p m;
-  second_to = castling_rook_to p m;
-  second = Some (record { colour = p.side; kind = Rook });
-  to = mover_end p m;
-  mover = arriving_man (man_at p.men m.from) m.promotion;
-}
+-- what is on square s after castling k, which move m is: the king and the rook on their new squares, nothing on their
+-- old ones, and elsewhere what was there. In Chess960 a new square may be an old one. A legal castling names no
+-- promotion, so what arrives on k.king_to is the king
+abbrev pub after_castling : Setup → Move → Castle → ℕ → Option Man
+after_castling p m k s =
+    if s == k.king_to then arriving_man (man_at p.men m.from) m.promotion
+    else if s == k.rook_to then Some (record { colour = p.side; kind = Rook })
+    else if (s == k.king_from) || (s == k.rook_from) then None
+    else man_at p.men s
 
--- the pieces on the board after the move m of position p
+-- what is on square s after any other move m: the piece that moved, promoted if m says so, on its end square, nothing
+-- on its start square and on that of a captured piece, and elsewhere what was there
+abbrev pub after_moving : Setup → Move → ℕ → Option Man
+after_moving p m s =
+    if s == m.to then arriving_man (man_at p.men m.from) m.promotion
+    else if (s == m.from) || is_square (captured_square p m) s then None
+    else man_at p.men s
+
+-- the pieces on the board after the move m of position p, on all squares at once
 unfoldable pub men_after : Setup → Move → Men
-men_after p m = men_stepped p.men (steps_of p m)
+men_after p m = from_below 64 (λ s. option_map_or (λ k. after_castling p m k s) (castle_of p m) (after_moving p m s))
 
 -- what a move leaves of a castling right of colour c, given as the rook's square: it is lost when c's king moves, or
 -- when a move starts or ends on the rook's square (3.8.2.1)
@@ -121,7 +129,7 @@ target_after p m = if is_double_advance p m then Some (forward p.side m.from) el
 
 -- the move sets the halfmove clock to 0: a pawn moves or a piece is captured (9.3)
 unfoldable pub resets_clock : Setup → Move → Bool
-resets_clock p m = is_man p.side Pawn (man_at p.men m.from) || is_of (other p.side) (man_at p.men m.to)
+resets_clock p m = is_man p.side Pawn (man_at p.men m.from) || is_some (captured_square p m)
 
 -- the halfmove clock after a move: 0 after a pawn move or a capture, else one more, up to 999,999
 unfoldable pub halfmove_after : Setup → Move → ℕ
@@ -132,8 +140,8 @@ abbrev pub fullmove_after : Colour → ℕ → ℕ
 fullmove_after White n = n
 fullmove_after Black n = min (n + 1) COUNTER_LIMIT
 
--- the whole position after a move: the pieces after its steps, the other side on move, and rights, target and counters
--- by their rules. Castling, en passant and promotion are cases of one change, `steps_of`
+-- the whole position after a move: the other side is on move, and pieces, rights, target and counters are by their
+-- rules
 unfoldable pub after : Setup → Move → Setup
 after p m = record {
   variant = p.variant;
@@ -148,3 +156,24 @@ after p m = record {
 -- the move is legal: it is pseudo-legal, and the mover's king is not attacked after it (3.9.2)
 unfoldable pub is_legal : Setup → Move → Bool
 is_legal p m = is_pseudo_legal p m && not (is_in_check (after p m).men p.side)
+
+-- ---- the pieces after a move in steps, as boards change them. That this is `men_after` is a law: no claim on games
+-- rests on what follows
+
+-- the square, beside its start square, that move m empties: that of the pawn taken en passant, or of the castling rook;
+-- none for any other move
+unfoldable pub second_square_emptied : Setup → Move → Option ℕ
+second_square_emptied p m =
+    if is_en_passant p m then Some (one_rank_back p.side m.to) else option_map (λ k. k.rook_from) (castle_of p m)
+
+-- what the move changes on the board: the mover leaves `from` and arrives on `to`; in castling the rook does so from
+-- `second_from` to `second_to`, and a pawn taken en passant leaves `second_from`
+abbrev pub steps_of : Setup → Move → Steps
+steps_of p m = record {
+  from = m.from;
+  second_from = second_square_emptied p m;
+  second_to = castling_rook_to p m;
+  second = Some (record { colour = p.side; kind = Rook });
+  to = mover_end p m;
+  mover = arriving_man (man_at p.men m.from) m.promotion;
+}

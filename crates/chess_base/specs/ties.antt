@@ -1,4 +1,5 @@
 -- What only joins code to the definitions: no claim rests on it.
 pub mod Lines
+pub mod KingSearch
 pub mod Tallies
 pub mod MoveTexts

@@ -63,7 +63,7 @@ pub fn steps_of(setup: &Setup, m: &Move) -> Steps
 }
 
 // The pieces on all 64 squares after move `m` of the position.
-#[tactic(auto, unfolding(crate::specs::Moves::men_after))]
+#[tactic(auto, using(crate::proofs::shared::MenAfter::men_after_by_steps))]
 pub(crate) fn men_after(setup: &Setup, m: &Move) -> [Option<Man>; 64]
     requires { IsSound setup.now }
     ensures { result ≡ men_after setup.now m.now }
@@ -121,8 +121,9 @@ pub fn target_after(setup: &Setup, m: &Move) -> Option<Square>
     }
 }
 
-// Whether the move sets the halfmove clock to 0: a pawn moves or a piece is captured.
-#[tactic(auto, unfolding(crate::specs::Moves::resets_clock))]
+// Whether the move sets the halfmove clock to 0: a pawn moves or a piece is captured. A capture en passant is a pawn's
+// move.
+#[tactic(auto, using(crate::proofs::shared::Captures::resets_clock_is))]
 fn resets_clock(setup: &Setup, m: &Move) -> bool
     ensures { result ≡ resets_clock setup.now m.now }
 {

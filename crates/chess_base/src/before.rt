@@ -3,9 +3,9 @@
 ghost use Rattle.std.specs.Prelude.{◌≡◌, ◌<◌, IsTrue};
 ghost use Rattle.chess_base.specs.Squares.{is_square};
 ghost use Rattle.chess_base.specs.Men.{other};
-ghost use Rattle.chess_base.specs.Moves.{one_rank_back};
+ghost use Rattle.chess_base.specs.Moves.{one_rank_back, captured_square};
 ghost use Rattle.chess_base.specs.Sound.{IsSound};
-ghost use Rattle.chess_base.specs.Before.{captured_square, saved_of, captured_from, was_castling, castling_side_undone, castling_undone, leaving_man, returning_square, returning_man, steps_back};
+ghost use Rattle.chess_base.specs.Before.{saved_of, captured_from, was_castling, castling_side_undone, castling_undone, leaving_man, returning_square, returning_man, steps_back};
 
 use crate::attack::{is_man, is_of};
 use crate::castling::{
@@ -19,7 +19,7 @@ use crate::steps::Steps;
 
 // The square of the piece that the move captures: its end square, or `e5` for White's en passant capture on `e6`; none
 // if it captures nothing.
-#[tactic(auto, unfolding(crate::specs::Before::captured_square))]
+#[tactic(auto, unfolding(crate::specs::Moves::captured_square))]
 fn captured_square(setup: &Setup, m: &Move) -> Option<Square>
     requires { IsSound setup.now }
     ensures { result ≡ captured_square setup.now m.now }

@@ -3,15 +3,16 @@
 ghost use Rattle.std.specs.Prelude.{◌≡◌, ℕ, true, ◌<◌, ◌≤◌, ◌||◌, IsTrue};
 ghost use Rattle.chess_base.specs.Squares.{share_rank_or_file, share_diagonal};
 ghost use Rattle.chess_base.specs.Attacks.{is_clear};
-ghost use Rattle.chess_base.specs.ties.Lines.{same_line, step_of};
+ghost use Rattle.chess_base.specs.shared.Lines.{same_line};
+ghost use Rattle.chess_base.specs.ties.Lines.{step_of};
 
 use crate::man::Man;
 use crate::square::Square;
 
-// The four kinds of lines on the board. A diagonal goes up to the right, as a1 to h8, an antidiagonal up to the left,
-// as h1 to a8.
-#[derive(Clone, Copy)]
-pub(crate) enum Line {
+/// The four kinds of lines on the board. A diagonal goes up to the right, as a1 to h8, an antidiagonal up to the left,
+/// as h1 to a8.
+#[derive(Clone, Copy, Debug, PartialEq, Eq)]
+pub enum Line {
     Rank,
     File,
     Diagonal,

@@ -33,6 +33,14 @@ pub fn pawn_rank(colour: Colour) -> u8
     }
 }
 
+/// The promotions that a pawn's move may name, in the order in which moves are listed.
+pub const PROMOTIONS: [Option<Kind>; 4] = [
+    Some(Kind::Queen),
+    Some(Kind::Rook),
+    Some(Kind::Bishop),
+    Some(Kind::Knight),
+];
+
 /// Whether a pawn's move names a promotion to a queen, rook, bishop or knight if it ends on its last rank (`last`), and
 /// none otherwise (Laws of Chess 2023, article 3.7.3.3).
 pub fn promotion_fits(last: bool, promotion: Option<Kind>) -> bool

@@ -19,13 +19,14 @@ use Rattle.chess_base.specs.declared.setup.Saved.{Saved}
 use Rattle.chess_base.specs.declared.setup.Setup.{Setup}
 use Rattle.chess_base.specs.Squares.{is_square}
 use Rattle.chess_base.specs.Men.{Men, man_at, other, is_man, is_of, same_colour, same_kind}
-use Rattle.chess_base.specs.Before.{captured_square, man_on, saved_of}
+use Rattle.chess_base.specs.Before.{man_on, saved_of}
 use Rattle.chess_base.specs.Castling.{castling_rook_to, home_square, is_beside, king_home_file, king_square, mover_end, right_of, right_is_sound, rook_file, is_castling_to, are_placed_for_castling}
 use Rattle.chess_base.specs.shared.Splits.{right_is_sound_at}
 use Rattle.chess_base.specs.Sound.{IsSound}
 use Rattle.chess_base.specs.Attacks.{is_in_check}
-use Rattle.chess_base.specs.Moves.{after, fullmove_after, halfmove_after, is_pseudo_legal, is_double_advance, is_legal, arriving_man, men_after, resets_clock, right_after, rights_after, second_square_emptied, target_after}
+use Rattle.chess_base.specs.Moves.{after, captured_square, fullmove_after, halfmove_after, is_pseudo_legal, is_double_advance, is_legal, arriving_man, men_after, right_after, rights_after, second_square_emptied, target_after}
 use Rattle.chess_base.proofs.shared.LegalMoves.{change_of}
+use Rattle.chess_base.proofs.shared.Captures.{resets_clock_is}
 use Rattle.chess_base.proofs.shared.Changes.{Change, Rest, Alone, WithCapture, WithRook}
 use Rattle.chess_base.proofs.shared.MoveKinds.{is_of-mover}
 use Rattle.chess_base.proofs.shared.Writes.{men_after-written}
@@ -292,10 +293,11 @@ pawn_is c o x at own = rw at (ap (λ t. t && same_kind Pawn x.kind) (rw at at ow
 
 clock_is : (p : Setup) (m : Move) (x : Man) → IsSound p → is_legal p m ≡ true → Shifts p m x
     → clock_left p.halfmove x.kind (man_at p.men m.to) ≡ halfmove_after p m
-unfolding halfmove_after resets_clock
+unfolding halfmove_after
 clock_is p m x sound legal h =
     let change = change_legal p m sound legal in
     rw (
+      resets_clock_is p m,
       pawn_is p.side (man_at p.men m.from) x h.mover (is_of-mover p m change.moves),
       theirs_there p.side (man_at p.men m.to) (not_own p m h.plainly change.rest),
     ) refl

@@ -273,7 +273,7 @@ fn shift(setup: &mut Setup, sets: &mut Sets, keys: &KeyTable, m: &Move, man: Man
 // Makes any legal move `m` in place, and returns what is needed to take it back; `keys` keep the pieces' hash up to
 // date. Few moves need it (such as castling, en passant and promotions), so it is not inlined.
 #[inline(never)]
-#[tactic(auto, unfolding(chess_base::specs::Moves::after, chess_base::specs::Moves::men_after))]
+#[tactic(auto, unfolding(chess_base::specs::Moves::after), using(chess_base::proofs::shared::MenAfter::men_after_by_steps))]
 fn make_in_steps(setup: &mut Setup, sets: &mut Sets, keys: &KeyTable, m: &Move) -> Saved
     requires { IsSound setup.old }
     ensures setup { setup.new ≡ after setup.old m.now }
@@ -312,7 +312,7 @@ pub(crate) fn make_move(setup: &mut Setup, sets: &mut Sets, keys: &KeyTable, m: 
 
 // Takes the move `m`, which led to this setup, back in place, in the setup and its sets, by what was saved when it was
 // made; `keys` keep the pieces' hash up to date.
-#[tactic(auto, unfolding(chess_base::specs::Before::before, chess_base::specs::Before::men_before))]
+#[tactic(auto, unfolding(chess_base::specs::Before::before), using(chess_base::proofs::shared::MenAfter::men_before_by_steps))]
 pub(crate) fn move_back(
     setup: &mut Setup,
     sets: &mut Sets,

@@ -101,8 +101,8 @@ pub trait Board {
     /// Takes back the move that was made last, `m`, by what `make` returned for it.
     fn take_back(&mut self, m: Move, saved: Saved)
         requires { IsMade (position self.old) m saved }
-        ensures position { position self.new ≡ before (position self.old) m saved }
         ensures back { (p : Setup) → WasMade p m saved (position self.old) → position self.new ≡ p }
+        ensures position { position self.new ≡ before (position self.old) m saved }
         ensures sound { IsSound (position self.new) };
 }
 

@@ -14,6 +14,7 @@ use Rattle.chess_base.specs.Squares.{is_square, file, rank, gap, each_square}
 use Rattle.chess_base.specs.Sound.{IsSound, pawn_is_allowed, no_pawn_on_end_ranks}
 use Rattle.chess_base.proofs.shared.Squares.{each_below-at}
 use Rattle.chess_base.proofs.shared.Men.{same_colour-self, is_none-None}
+use Rattle.chess_base.proofs.shared.Captures.{captures_is}
 use Rattle.chess_base.proofs.shared.Changes.{advance_to_empty}
 use Rattle.chess_text.specs.Moves.{captures}
 
@@ -129,10 +130,10 @@ unfolding pawn_captures
 captures_attack p m e =
     (and_parts (attacks p.men m.from m.to) (is_of (other p.side) (man_at p.men m.to) || is_square p.target m.to) e).0
 
-pawn_captures_so : (p : Setup) (m : Move) → man_at p.men m.from ≡ Some (pawn_of p.side) → pawn_captures p m ≡ true
-    → captures p m ≡ true
-unfolding pawn_captures captures is_en_passant is_man
-pawn_captures_so p m at e =
+pawn_takes : (p : Setup) (m : Move) → man_at p.men m.from ≡ Some (pawn_of p.side) → pawn_captures p m ≡ true
+    → (is_of (other p.side) (man_at p.men m.to) || is_en_passant p m) ≡ true
+unfolding pawn_captures is_en_passant is_man
+pawn_takes p m at e =
     let both = and_parts (attacks p.men m.from m.to)
     (is_of (other p.side) (man_at p.men m.to) || is_square p.target m.to) e in
     elim (or_cases (is_of (other p.side) (man_at p.men m.to)) (is_square p.target m.to) both.1) [
@@ -145,6 +146,11 @@ pawn_captures_so p m at e =
           (is_square p.target m.to)
           (and_from (is_man p.side Pawn (man_at p.men m.from)) (attacks p.men m.from m.to) own both.0) passed)
     ]
+
+pawn_captures_so : (p : Setup) (m : Move) → man_at p.men m.from ≡ Some (pawn_of p.side) → pawn_captures p m ≡ true
+    → captures p m ≡ true
+unfolding captures
+pawn_captures_so p m at e = captures_is p m ∙ pawn_takes p m at e
 
 -- a pawn that doesn't capture advances; so does one that stays on its file
 pub advances_without : (p : Setup) (m : Move) → man_at p.men m.from ≡ Some (pawn_of p.side) → pawn_moves p m ≡ true
@@ -180,7 +186,7 @@ pub captures_ahead : (p : Setup) (m : Move) → man_at p.men m.from ≡ Some (pa
     → captures p m ≡ true → is_rank_ahead p.side m.from m.to ≡ true
 unfolding captures
 captures_ahead p m at e takes =
-    elim (or_cases (is_of (other p.side) (man_at p.men m.to)) (is_en_passant p m) takes) [
+    elim (or_cases (is_of (other p.side) (man_at p.men m.to)) (is_en_passant p m) (sym (captures_is p m) ∙ takes)) [
       | inr passed ↦ (attack_of p m at (en_passant_attacks p m passed)).1
       | inl taken ↦ elim (or_cases (pawn_advances p m) (pawn_captures p m) (pawn_goes p m e)) [
         | inl goes ↦ absurd (is_of-none (other p.side) (man_at p.men m.to) taken (advance_to_empty p m goes))

@@ -13,8 +13,8 @@ use Rattle.chess_base.specs.declared.man.Move.{Move}
 use Rattle.chess_base.specs.declared.setup.Setup.{Setup}
 use Rattle.chess_base.specs.Coordinates.{small_letter_text}
 use Rattle.chess_base.specs.Letters.{square_text}
-use Rattle.chess_base.specs.Men.{man_at, is_of, other, same_kind}
-use Rattle.chess_base.specs.Moves.{is_en_passant, is_legal}
+use Rattle.chess_base.specs.Men.{man_at, same_kind}
+use Rattle.chess_base.specs.Moves.{captured_square, is_legal}
 use Rattle.chess_base.specs.Castling.{castling}
 use Rattle.chess_base.specs.MoveList.{promotions, squares, moves}
 use Rattle.chess_base.specs.Squares.{file, rank}
@@ -25,9 +25,9 @@ use Rattle.chess_text.specs.Parts.{unmarked, kind_text, file_text, rank_text, fo
 
 -- ---- what a text can say of a move
 
--- move m captures: an enemy piece is on its end square, or it is en passant
+-- move m captures a piece, en passant too
 unfoldable pub captures : Setup → Move → Bool
-captures p m = is_of (other p.side) (man_at p.men m.to) || is_en_passant p m
+captures p m = is_some (captured_square p m)
 
 -- a move as far as a text can describe it: the kind of its piece, both squares, the promotion, whether it captures, and
 -- to which side it castles; none if no piece is on its start square

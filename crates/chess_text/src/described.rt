@@ -21,7 +21,7 @@ pub struct Described {
 }
 
 // Whether the move captures an enemy piece, en passant too.
-#[tactic(auto, unfolding(crate::specs::Moves::captures))]
+#[tactic(auto, unfolding(crate::specs::Moves::captures), using(chess_base::proofs::shared::Captures::captures_is))]
 pub(crate) fn captures(setup: &Setup, m: &Move) -> bool
     ensures { result ≡ captures setup.now m.now }
 {

@@ -13,7 +13,7 @@ use crate::described::{admits, captures, names};
 use crate::form::{Form, is_denoted, read_form};
 use crate::parts::Parts;
 use crate::usual::{usual_parts, without_mark};
-use chess_base::rules::{castled_king_file, castling, home_square, right_of};
+use chess_base::rules::{PROMOTIONS, castled_king_file, castling, home_square, right_of};
 use chess_base::{CastlingSide, Colour, Kind, Move, Setup, Square, Variant};
 use chess_moves::{Board, SquareSet, would_promote};
 
@@ -162,13 +162,7 @@ fn with_denoted_between<B: Board>(
     ensures { result ≡ with_moves found (denoted_with form.now (B.position board.now) from to promotions) }
 {
     if would_promote(board.setup(), from, to) {
-        let promotions = [
-            Some(Kind::Queen),
-            Some(Kind::Rook),
-            Some(Kind::Bishop),
-            Some(Kind::Knight),
-        ];
-        with_denoted(board, form, from, to, &promotions, found)
+        with_denoted(board, form, from, to, &PROMOTIONS, found)
     } else {
         with_denoted(board, form, from, to, &[None], found)
     }

@@ -1,18 +1,26 @@
 -- For boards: the pieces after a move, square by square.
-use Rattle.std.proofs.Common.{◌≡◌, ℕ, ◌<◌, length, ◌==◌, ◌||◌, Option, Some, None, ◌≢◌, false, refl}
-use Rattle.std.proofs.lemmas.Bool.{eq-eqb, ne_eqb}
+use Rattle.std.proofs.Common.{◌≡◌, ℕ, ◌<◌, inl, inr, length, ◌==◌, Bool, ◌||◌, Option, Some, None, ◌≢◌, true, false, refl, sym, ap, ◌∙◌}
+use Rattle.std.proofs.lemmas.Bool.{cases_eq, eq-eqb, ne_eqb}
+use Rattle.std.specs.Option.{option_map_or}
 use Rattle.std.specs.Prelude.{if◌then◌else◌}
+use Rattle.chess_base.specs.declared.castling.Castle.{Castle}
+use Rattle.chess_base.specs.declared.man.CastlingSide.{CastlingSide}
 use Rattle.chess_base.specs.declared.man.Move.{Move}
 use Rattle.chess_base.specs.declared.man.Man.{Man}
-use Rattle.chess_base.specs.declared.man.Kind.TheVariants.{Rook}
+use Rattle.chess_base.specs.declared.man.Kind.TheVariants.{King, Pawn, Rook}
 use Rattle.chess_base.specs.declared.steps.Steps.{Steps}
-use Rattle.chess_base.specs.Men.{Men, man_at}
+use Rattle.chess_base.specs.declared.setup.Saved.{Saved}
+use Rattle.chess_base.specs.Men.{Men, man_at, is_man, is_of, other}
 use Rattle.chess_base.specs.declared.setup.Setup.{Setup}
-use Rattle.chess_base.specs.Moves.{arriving_man, second_square_emptied, steps_of, men_after}
+use Rattle.chess_base.specs.Moves.{is_en_passant, one_rank_back, arriving_man, captured_square, after_castling, after_moving, second_square_emptied, steps_of, men_after}
+use Rattle.chess_base.specs.Before.{castling_undone, before_castling, before_moving, steps_back_by, steps_back, men_before}
 use Rattle.chess_base.specs.Squares.{is_square}
-use Rattle.chess_base.specs.Castling.{mover_end, castling_rook_to}
+use Rattle.chess_base.specs.Castling.{castling, castle_of, castle_from, mover_end, castling_rook_to}
 use Rattle.chess_base.specs.Steps.{man_stepped, men_stepped}
-use Rattle.chess_base.proofs.shared.Squares.{get_or-from_below, length-from_below}
+use Rattle.chess_base.proofs.shared.Castling.{says_from_castling, castling_says, castle_there, no_castle}
+use Rattle.chess_base.proofs.shared.Changes.{no_en_passant}
+use Rattle.chess_base.proofs.shared.Men.{is_man-kind}
+use Rattle.chess_base.proofs.shared.Squares.{get_or-from_below, length-from_below, from_below-same}
 
 -- the pieces after steps, as one list
 
@@ -24,7 +32,122 @@ pub man_at-men_stepped : (men : Men) (t : Steps) (s : ℕ) → s < 64 → man_at
 unfolding men_stepped
 man_at-men_stepped men t s h = get_or-from_below 64 (man_stepped men t) s None h
 
--- what is on s after the move, all at once
+-- ---- the two cases of a move are its steps
+
+pub flip : (a b : ℕ) → (a == b) ≡ (b == a)
+flip a b = elim (cases_eq a b) [
+  | inl e ↦ eq-eqb a b e ∙ sym (eq-eqb b a (sym e))
+  | inr n ↦ ne_eqb a b n ∙ sym (ne_eqb b a (λ e. n (sym e)))
+]
+
+or_flip : (a b : Bool) → (a || b) ≡ (b || a)
+or_flip true true = refl
+or_flip true false = refl
+or_flip false true = refl
+or_flip false false = refl
+
+-- off the end square, a capture empties a square beside the start square only if it is en passant
+emptied : (passes enemy : Bool) (behind to s : ℕ) → (s == to) ≡ false
+    → is_square (if passes then Some behind else None) s
+    ≡ is_square (if passes then Some behind else if enemy then Some to else None) s
+emptied true enemy behind to s n = refl
+emptied false true behind to s n = sym (flip to s ∙ n)
+emptied false false behind to s n = refl
+
+moved_by : (b : Bool) (to from s : ℕ) (x y : Option Man) (q r : Bool) → (to == s) ≡ b → (b ≡ false → q ≡ r)
+    → (if to == s then x else if q || (from == s) then None else y)
+    ≡ (if s == to then x else if (s == from) || r then None else y)
+moved_by true to from s x y q r e h = let f = flip s to ∙ e in rw (e, f) refl
+moved_by false to from s x y q r e h =
+    let f = flip s to ∙ e in
+    let g = h refl in
+    rw (e, f, g, flip s from, or_flip (from == s) r) refl
+
+moved : (p : Setup) (m : Move) (s : ℕ) → castle_of p m ≡ None
+    → man_stepped p.men (steps_of p m) s ≡ after_moving p m s
+unfolding mover_end castling_rook_to second_square_emptied captured_square
+moved p m s e =
+    let passes = is_en_passant p m in
+    let behind = one_rank_back p.side m.to in
+    let second = if passes then Some behind else None in
+    let taken = if passes then Some behind else if is_of (other p.side) (man_at p.men m.to) then Some m.to else None in
+    rw e (moved_by (m.to == s) m.to m.from s (arriving_man (man_at p.men m.from) m.promotion) (man_at p.men s)
+    (is_square second s) (is_square taken s) refl
+    (λ n. emptied passes (is_of (other p.side) (man_at p.men m.to)) behind m.to s (flip s m.to ∙ n)))
+
+turned_round : (a b c d s : ℕ) (x y z : Option Man)
+    → (if a == s then x else if b == s then y else if (c == s) || (d == s) then None else z)
+    ≡ (if s == a then x else if s == b then y else if (s == d) || (s == c) then None else z)
+turned_round a b c d s x y z = rw (flip s a, flip s b, flip s c, flip s d, or_flip (d == s) (c == s)) refl
+
+castled : (p : Setup) (m : Move) (s : ℕ) (k : Castle) → castle_of p m ≡ Some k → k.king_from ≡ m.from
+    → is_man p.side King (man_at p.men m.from) ≡ true
+    → man_stepped p.men (steps_of p m) s ≡ after_castling p m k s
+unfolding mover_end castling_rook_to second_square_emptied
+castled p m s k e from king =
+    let none : is_en_passant p m ≡ false =
+    no_en_passant p m (is_man-kind p.side p.side King Pawn (man_at p.men m.from) refl king) in
+    rw (e, none, ← from)
+    (turned_round k.king_to k.rook_to k.rook_from k.king_from s (arriving_man (man_at p.men k.king_from) m.promotion)
+    (Some (record { colour = p.side; kind = Rook })) (man_at p.men s))
+
+-- what a castling says of the move
+record IsCastling (p : Setup) (m : Move) (k : Castle) : Type 0 where
+  pub king : is_man p.side King (man_at p.men m.from) ≡ true
+  pub from : k.king_from ≡ m.from
+
+castling_of : (p : Setup) (m : Move) (k : Castle) → castle_of p m ≡ Some k → IsCastling p m k
+castling_of p m k e = by (castling p m) refl
+  where
+    by : (o : Option CastlingSide) → castling p m ≡ o → IsCastling p m k
+    by None at = let n : None ≡ Some k = sym (no_castle p m at) ∙ e in cc
+    by (Some w) at =
+        let there = castle_there p m w at in
+        let is : Some (castle_from p.side w m.from there.0) ≡ Some k = sym there.2 ∙ e in
+        let same : castle_from p.side w m.from there.0 ≡ k = cc in
+        record {
+          king = (castling_says p m w (says_from_castling p m w at)).0;
+          from = sym (ap (λ (v : Castle). v.king_from) same);
+        }
+
+by_cases : (p : Setup) (m : Move) (s : ℕ) (o : Option Castle) → castle_of p m ≡ o
+    → option_map_or (λ k. after_castling p m k s) o (after_moving p m s) ≡ man_stepped p.men (steps_of p m) s
+by_cases p m s None e = sym (moved p m s e)
+by_cases p m s (Some k) e = let c = castling_of p m k e in sym (castled p m s k e c.from c.king)
+
+pub men_after_by_steps : (p : Setup) (m : Move) → men_after p m ≡ men_stepped p.men (steps_of p m)
+unfolding men_after men_stepped
+men_after_by_steps p m =
+    from_below-same 64 (λ s. option_map_or (λ k. after_castling p m k s) (castle_of p m) (after_moving p m s))
+    (man_stepped p.men (steps_of p m)) (λ s. by_cases p m s (castle_of p m) refl)
+
+-- ---- and backwards
+
+back_by_cases : (q : Setup) (m : Move) (s : Saved) (x : ℕ) (o : Option Castle)
+    → option_map_or (λ k. before_castling q m k x) o (before_moving q m s x)
+    ≡ man_stepped q.men (steps_back_by (other q.side) q.men m s o) x
+back_by_cases q m s x None = rw (flip x m.from, flip x m.to) refl
+back_by_cases q m s x (Some k) =
+    rw (
+      flip x m.from,
+      flip x k.rook_from,
+      flip x k.king_to,
+      flip x k.rook_to,
+      or_flip (k.king_to == x) (k.rook_to == x),
+    ) refl
+
+pub men_before_by_steps : (q : Setup) (m : Move) (s : Saved)
+    → men_before q m s ≡ men_stepped q.men (steps_back q m s)
+unfolding men_before men_stepped steps_back
+men_before_by_steps q m s =
+    from_below-same 64
+    (λ x. option_map_or (λ k. before_castling q m k x) (castling_undone q m s) (before_moving q m s x))
+    (man_stepped q.men (steps_back_by (other q.side) q.men m s (castling_undone q m s)))
+    (λ x. back_by_cases q m s x (castling_undone q m s))
+
+-- ---- square by square
+
+-- what is on s after the move, by its steps
 unfoldable pub man_after : Setup → Move → ℕ → Option Man
 man_after p m s =
     if mover_end p m == s then arriving_man (man_at p.men m.from) m.promotion
@@ -33,12 +156,12 @@ man_after p m s =
     else man_at p.men s
 
 pub length-men_after : (p : Setup) (m : Move) → length (men_after p m) ≡ 64
-unfolding men_after
-length-men_after p m = length-men_stepped p.men (steps_of p m)
+length-men_after p m = ap (λ (men : Men). length men) (men_after_by_steps p m) ∙ length-men_stepped p.men (steps_of p m)
 
 pub man_at-men_after : (p : Setup) (m : Move) (s : ℕ) → s < 64 → man_at (men_after p m) s ≡ man_after p m s
-unfolding men_after man_after
-man_at-men_after p m s h = man_at-men_stepped p.men (steps_of p m) s h
+unfolding man_after
+man_at-men_after p m s h =
+    ap (λ (men : Men). man_at men s) (men_after_by_steps p m) ∙ man_at-men_stepped p.men (steps_of p m) s h
 
 pub man_after-same : (p : Setup) (m : Move) (s : ℕ) → mover_end p m ≢ s → m.from ≢ s
     → is_square (castling_rook_to p m) s ≡ false → is_square (second_square_emptied p m) s ≡ false

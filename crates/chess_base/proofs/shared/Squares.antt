@@ -1,5 +1,5 @@
 -- For proofs that go over squares: tests of all 64, square by square, and lists that are made of numbers.
-use Rattle.std.proofs.Common.{◌≡◌, ℕ, ◌<◌, ◌⊎◌, inl, inr, Bool, true, false, ◌||◌, refl, arith, zero, suc, length, get_or, ap}
+use Rattle.std.proofs.Common.{◌≡◌, ℕ, ◌<◌, ◌⊎◌, inl, inr, Bool, true, false, ◌||◌, refl, arith, zero, suc, ◌∷◌, length, get_or, ap, ◌∙◌}
 use Rattle.std.proofs.lemmas.Bool.{and_parts, and_from, and_left, and_right, or_from, or_left, or_right}
 use Rattle.chess_base.specs.Squares.{some_below, each_below, some_square, each_square, from_below}
 
@@ -103,3 +103,9 @@ pub get_or-from_below : {A : Type 0} (n : ℕ) (f : ℕ → A) (k : ℕ) (d : A)
 get_or-from_below zero f k d h = absurd (omega arith)
 get_or-from_below (suc n) f zero d h = refl
 get_or-from_below (suc n) f (suc k) d h = get_or-from_below n (λ j. f (suc j)) k d (omega arith)
+
+pub from_below-same : {A : Type 0} (n : ℕ) (f g : ℕ → A) → ((k : ℕ) → f k ≡ g k) → from_below n f ≡ from_below n g
+from_below-same zero f g h = refl
+from_below-same {A} (suc n) f g h =
+    ap (λ (x : A). x ∷ from_below n (λ k. f (suc k))) (h zero)
+    ∙ ap (λ xs. g zero ∷ xs) (from_below-same n (λ k. f (suc k)) (λ k. g (suc k)) (λ k. h (suc k)))

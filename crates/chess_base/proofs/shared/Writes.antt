@@ -11,7 +11,7 @@ use Rattle.chess_base.specs.Steps.{men_stepped}
 use Rattle.chess_base.specs.Moves.{arriving_man, second_square_emptied, steps_of, men_after}
 use Rattle.chess_base.specs.Castling.{mover_end, castling_rook_to}
 use Rattle.chess_base.specs.Squares.{is_square}
-use Rattle.chess_base.proofs.shared.MenAfter.{length-men_stepped, man_at-men_stepped}
+use Rattle.chess_base.proofs.shared.MenAfter.{men_after_by_steps, length-men_stepped, man_at-men_stepped}
 
 -- the list after a write, if there is a place to write
 abbrev pub write : {X : Type 0} → List X → Option ℕ → X → List X
@@ -65,5 +65,4 @@ men_stepped-written men t l =
     man_at-men_stepped men t i in' ∙ sym (d ∙ rw (c, b, a, either_none) refl))
 
 pub men_after-written : (p : Setup) (m : Move) → length p.men ≡ 64 → men_after p m ≡ written p m
-unfolding men_after
-men_after-written p m l = men_stepped-written p.men (steps_of p m) l
+men_after-written p m l = men_after_by_steps p m ∙ men_stepped-written p.men (steps_of p m) l

@@ -2,9 +2,8 @@
 -- these is the definition of the same name without `normal_`, with castling named by the king's squares: from the
 -- e-file to the g-file or the c-file.
 use Rattle.std.specs.Prelude.{◌≡◌, ℕ, ◌==◌, nat_lt, Bool, false, true, not, ◌&&◌, Option, Some, None, is_some, if◌then◌else◌}
-use Rattle.std.specs.Option.{option_map, option_map_or}
+use Rattle.std.specs.Option.{option_map_or}
 use Rattle.chess_base.specs.declared.castling.Castle.{Castle}
-use Rattle.chess_base.specs.declared.steps.Steps.{Steps}
 use Rattle.chess_base.specs.declared.man.Colour.{Colour}
 use Rattle.chess_base.specs.declared.man.CastlingSide.{CastlingSide}
 use Rattle.chess_base.specs.declared.man.CastlingSide.TheVariants.{KingSide, QueenSide}
@@ -13,11 +12,11 @@ use Rattle.chess_base.specs.declared.man.Man.{Man}
 use Rattle.chess_base.specs.declared.man.Move.{Move}
 use Rattle.chess_base.specs.declared.man.Variant.TheVariants.{Normal}
 use Rattle.chess_base.specs.declared.setup.Setup.{Setup}
+use Rattle.chess_base.specs.Squares.{from_below}
 use Rattle.chess_base.specs.Men.{Men, man_at, is_man, same_colour, same_kind, other}
 use Rattle.chess_base.specs.Attacks.{is_in_check}
 use Rattle.chess_base.specs.Castling.{right_of, rook_file, king_home_file, home_square, right_is_sound, castled_king_file, castle_by, castles}
-use Rattle.chess_base.specs.Steps.{men_stepped}
-use Rattle.chess_base.specs.Moves.{pawn_moves, is_en_passant, one_rank_back, man_moves, arriving_man, rights_after, target_after, halfmove_after, fullmove_after, is_legal, after}
+use Rattle.chess_base.specs.Moves.{pawn_moves, man_moves, after_castling, after_moving, rights_after, target_after, halfmove_after, fullmove_after, is_legal, after}
 
 -- a castling right of colour c on side w, given as its rook's square, has its king and rook on their initial squares;
 -- true if there is no right
@@ -58,22 +57,10 @@ normal_moves_as p m (Some x) =
 unfoldable pub normal_has_pattern : Setup → Move → Bool
 normal_has_pattern p m = nat_lt m.from 64 && nat_lt m.to 64 && normal_moves_as p m (man_at p.men m.from)
 
--- what move m changes on the board, in normal chess: the mover goes from its start to its end square; in castling the
--- rook goes too, and a pawn taken en passant leaves
-abbrev pub normal_steps_of : Setup → Move → Steps
-normal_steps_of p m = record {
-  from = m.from;
-  second_from = if is_en_passant p m then Some (one_rank_back p.side m.to) else option_map (λ k. k.rook_from)
-      (normal_castle_of p m);
-  second_to = option_map (λ k. k.rook_to) (normal_castle_of p m);
-  second = Some (record { colour = p.side; kind = Rook });
-  to = option_map_or (λ k. k.king_to) (normal_castle_of p m) m.to;
-  mover = arriving_man (man_at p.men m.from) m.promotion;
-}
-
 -- normal chess: the pieces on the board after the move m of position p
 unfoldable pub normal_men_after : Setup → Move → Men
-normal_men_after p m = men_stepped p.men (normal_steps_of p m)
+normal_men_after p m = from_below 64
+    (λ s. option_map_or (λ k. after_castling p m k s) (normal_castle_of p m) (after_moving p m s))
 
 -- normal chess: the whole position after the move m of position p
 unfoldable pub normal_after : Setup → Move → Setup

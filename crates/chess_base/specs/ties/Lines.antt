@@ -1,4 +1,4 @@
--- The lines of the board: ranks, files, and the diagonals in both directions.
+-- Attacks along the lines of the board, and by knights.
 use Rattle.std.specs.Prelude.{ℕ, ◌+◌, ◌-◌, ◌==◌, nat_le, nat_lt, Bool, true, false, not, ◌&&◌, ◌||◌}
 use Rattle.chess_base.specs.declared.line.Line.{Line}
 use Rattle.chess_base.specs.declared.line.Line.TheVariants.{Rank, File, Diagonal, Antidiagonal}
@@ -8,18 +8,7 @@ use Rattle.chess_base.specs.declared.man.Kind.TheVariants.{King, Queen, Rook, Bi
 use Rattle.chess_base.specs.Squares.{file, rank, gap, some_square}
 use Rattle.chess_base.specs.Men.{Men, man_at, is_of, is_man}
 use Rattle.chess_base.specs.Attacks.{is_rank_ahead, attacks, could_capture}
-
--- the number of the line of this kind on which square s is: squares of one line have the same number. The diagonal a1
--- to h8 has 7
-abbrev pub line_number : Line → ℕ → ℕ
-line_number Rank s = rank s
-line_number File s = file s
-line_number Diagonal s = rank s + 7 - file s
-line_number Antidiagonal s = rank s + file s
-
--- squares a and b are on one line of kind l
-abbrev pub same_line : Line → ℕ → ℕ → Bool
-same_line l a b = line_number l a == line_number l b
+use Rattle.chess_base.specs.shared.Lines.{same_line}
 
 -- how much the number rises from a square of such a line to the next one
 abbrev pub step_of : Line → ℕ
@@ -55,50 +44,52 @@ reaches l c Pawn a b = (gap (file a) (file b) == 1) && is_rank_ahead c a b
 
 -- ---- the attacks on a square, by where they come from
 
--- on a is a piece of colour c that attacks b
-abbrev pub strikes : Men → Colour → ℕ → ℕ → Bool
-strikes men c b a = is_of c (man_at men a) && attacks men a b
+-- a piece of colour c on a attacks b
+abbrev pub attacked_from : Men → Colour → ℕ → ℕ → Bool
+attacked_from men c b a = is_of c (man_at men a) && attacks men a b
 
 -- a piece of colour c above b on its line of kind l attacks b
-unfoldable pub struck_from_above : Men → Line → Colour → ℕ → Bool
-struck_from_above men l c b = some_square (λ a. is_above l b a && strikes men c b a)
+unfoldable pub attacked_along_from_above : Men → Line → Colour → ℕ → Bool
+attacked_along_from_above men l c b = some_square (λ a. is_above l b a && attacked_from men c b a)
 
 -- a piece of colour c below b on its line of kind l attacks b
-unfoldable pub struck_from_below : Men → Line → Colour → ℕ → Bool
-struck_from_below men l c b = some_square (λ a. is_below l b a && strikes men c b a)
+unfoldable pub attacked_along_from_below : Men → Line → Colour → ℕ → Bool
+attacked_along_from_below men l c b = some_square (λ a. is_below l b a && attacked_from men c b a)
 
 -- a piece of colour c on b's line of kind l attacks b
-unfoldable pub struck_along : Men → Line → Colour → ℕ → Bool
-struck_along men l c b = some_square (λ a. same_line l b a && strikes men c b a)
+unfoldable pub attacked_along : Men → Line → Colour → ℕ → Bool
+attacked_along men l c b = some_square (λ a. same_line l b a && attacked_from men c b a)
 
 -- a knight of colour c attacks b
-unfoldable pub struck_by_knight : Men → Colour → ℕ → Bool
-struck_by_knight men c b = some_square (λ a. is_man c Knight (man_at men a) && could_capture men c Knight a b)
+unfoldable pub attacked_by_knight : Men → Colour → ℕ → Bool
+attacked_by_knight men c b = some_square (λ a. is_man c Knight (man_at men a) && could_capture men c Knight a b)
 
 -- a knight of colour c attacks b from one of the four squares whose number is smaller than b's
-unfoldable pub struck_by_knight_from_below : Men → Colour → ℕ → Bool
-struck_by_knight_from_below men c b =
-    (nat_le 2 (rank b) && nat_le 1 (file b) && is_man c Knight (man_at men (b - 17)))
-    || (nat_le 2 (rank b) && nat_lt (file b) 7 && is_man c Knight (man_at men (b - 15)))
-    || (nat_le 1 (rank b) && nat_le 2 (file b) && is_man c Knight (man_at men (b - 10)))
-    || (nat_le 1 (rank b) && nat_lt (file b) 6 && is_man c Knight (man_at men (b - 6)))
+unfoldable pub attacked_by_knight_from_below : Men → Colour → ℕ → Bool
+attacked_by_knight_from_below men c b =
+    (nat_le 2 (rank b) && nat_le 1 (file b) && is_man c Knight (man_at men (b - 16 - 1)))
+    || (nat_le 2 (rank b) && nat_lt (file b) 7 && is_man c Knight (man_at men (b - 16 + 1)))
+    || (nat_le 1 (rank b) && nat_le 2 (file b) && is_man c Knight (man_at men (b - 8 - 2)))
+    || (nat_le 1 (rank b) && nat_lt (file b) 6 && is_man c Knight (man_at men (b - 8 + 2)))
 
 -- a knight of colour c attacks b from one of the four squares whose number is greater than b's
-unfoldable pub struck_by_knight_from_above : Men → Colour → ℕ → Bool
-struck_by_knight_from_above men c b =
-    (nat_lt (rank b) 7 && nat_le 2 (file b) && is_man c Knight (man_at men (b + 6)))
-    || (nat_lt (rank b) 7 && nat_lt (file b) 6 && is_man c Knight (man_at men (b + 10)))
-    || (nat_lt (rank b) 6 && nat_le 1 (file b) && is_man c Knight (man_at men (b + 15)))
-    || (nat_lt (rank b) 6 && nat_lt (file b) 7 && is_man c Knight (man_at men (b + 17)))
+unfoldable pub attacked_by_knight_from_above : Men → Colour → ℕ → Bool
+attacked_by_knight_from_above men c b =
+    (nat_lt (rank b) 7 && nat_le 2 (file b) && is_man c Knight (man_at men (b + 8 - 2)))
+    || (nat_lt (rank b) 7 && nat_lt (file b) 6 && is_man c Knight (man_at men (b + 8 + 2)))
+    || (nat_lt (rank b) 6 && nat_le 1 (file b) && is_man c Knight (man_at men (b + 16 - 1)))
+    || (nat_lt (rank b) 6 && nat_lt (file b) 7 && is_man c Knight (man_at men (b + 16 + 1)))
 
 -- a piece of colour c attacks b from a square whose number is smaller than b's
 abbrev pub attacked_from_below : Men → ℕ → Colour → Bool
 attacked_from_below men b c =
-    struck_by_knight_from_below men c b || struck_from_below men Diagonal c b || struck_from_below men File c b
-    || struck_from_below men Antidiagonal c b || struck_from_below men Rank c b
+    attacked_by_knight_from_below men c b || attacked_along_from_below men Diagonal c b
+    || attacked_along_from_below men File c b || attacked_along_from_below men Antidiagonal c b
+    || attacked_along_from_below men Rank c b
 
 -- a piece of colour c attacks b from a square whose number is greater than b's
 abbrev pub attacked_from_above : Men → ℕ → Colour → Bool
 attacked_from_above men b c =
-    struck_by_knight_from_above men c b || struck_from_above men Rank c b || struck_from_above men Antidiagonal c b
-    || struck_from_above men File c b || struck_from_above men Diagonal c b
+    attacked_by_knight_from_above men c b || attacked_along_from_above men Rank c b
+    || attacked_along_from_above men Antidiagonal c b || attacked_along_from_above men File c b
+    || attacked_along_from_above men Diagonal c b

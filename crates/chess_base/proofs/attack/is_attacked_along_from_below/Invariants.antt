@@ -1,6 +1,6 @@
 use Rattle.std.proofs.Common.{◌-◌}
 use Rattle.chess_base.proofs.Rays.{HasFallen}
-use Rattle.chess_base.proofs.attack.is_struck_from_below.Given as goal
+use Rattle.chess_base.proofs.attack.is_attacked_along_from_below.Given as goal
 
 abbrev pub invariant-loop-number : goal.invariant-loop-number
 invariant-loop-number l = HasFallen l.men l.fn.line l.b l.end l.number

@@ -3,10 +3,10 @@ use Rattle.std.proofs.Common.{arith, ◌≡◌, ◌+◌, false, is_none}
 use Rattle.std.proofs.lemmas.Grind.{common_steps}
 use Rattle.chess_base.specs.Men.{man_at}
 use Rattle.chess_base.proofs.Rays.{rise_stops, rise_ends, rise_clear}
-use Rattle.chess_base.proofs.attack.is_struck_from_above.Goals as goal
+use Rattle.chess_base.proofs.attack.is_attacked_along_from_above.Goals as goal
 
-pub strikes-requires-clause-clear : goal.strikes-requires-clause-clear
-strikes-requires-clause-clear c =
+pub attacks_along-requires-clause-clear : goal.attacks_along-requires-clause-clear
+attacks_along-requires-clause-clear c =
     let clear = rise_clear c.args.men.now c.args.line c.args.b c.last_above-end.result c.loop-number.number
     c.last_above-end.ensures.on_line c.loop-number.invariant (omega arith) (omega arith) in
     rw (c.new.ensures, c.step_of-step.ensures.value) clear

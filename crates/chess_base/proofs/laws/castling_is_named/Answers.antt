@@ -1,0 +1,5 @@
+use Rattle.chess_base.proofs.CastlingNamed.{same_side, same_castle}
+use Rattle.chess_base.proofs.laws.castling_is_named.Goals as goal
+
+pub returns : goal.returns
+returns c = λ p m sound. record { side = same_side p m sound; squares = same_castle p m sound }

@@ -1,0 +1,5 @@
+use Rattle.chess_base.proofs.shared.MenAfter.{men_after_by_steps, men_before_by_steps}
+use Rattle.chess_base.proofs.laws.moves_go_in_steps.Goals as goal
+
+pub returns : goal.returns
+returns c = λ p m. record { on = men_after_by_steps p m; back = λ s. men_before_by_steps p m s }

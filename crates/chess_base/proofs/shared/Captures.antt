@@ -1,0 +1,37 @@
+-- For boards and texts of moves: what captures, and what turns the clock back.
+use Rattle.std.proofs.Common.{◌≡◌, ℕ, Bool, true, false, ◌||◌, ◌&&◌, Some, None, refl, ap, ◌∙◌}
+use Rattle.std.specs.Prelude.{is_some, if◌then◌else◌}
+use Rattle.chess_base.specs.declared.man.Kind.TheVariants.{Pawn}
+use Rattle.chess_base.specs.declared.man.Move.{Move}
+use Rattle.chess_base.specs.declared.setup.Setup.{Setup}
+use Rattle.chess_base.specs.Squares.{is_square}
+use Rattle.chess_base.specs.Men.{man_at, is_of, is_man, other}
+use Rattle.chess_base.specs.Attacks.{attacks}
+use Rattle.chess_base.specs.Moves.{is_en_passant, one_rank_back, captured_square, resets_clock}
+
+some_by : (passes enemy : Bool) (x y : ℕ)
+    → is_some (if passes then Some x else if enemy then Some y else None) ≡ (enemy || passes)
+some_by true true x y = refl
+some_by true false x y = refl
+some_by false true x y = refl
+some_by false false x y = refl
+
+pub captures_is : (p : Setup) (m : Move)
+    → is_some (captured_square p m) ≡ (is_of (other p.side) (man_at p.men m.to) || is_en_passant p m)
+unfolding captured_square
+captures_is p m =
+    some_by (is_en_passant p m) (is_of (other p.side) (man_at p.men m.to)) (one_rank_back p.side m.to) m.to
+
+-- a capture en passant is a pawn's move
+passing : (pawn enemy hits target : Bool) → (pawn || (enemy || ((pawn && hits) && target))) ≡ (pawn || enemy)
+passing true enemy hits target = refl
+passing false true hits target = refl
+passing false false hits target = refl
+
+pub resets_clock_is : (p : Setup) (m : Move)
+    → resets_clock p m ≡ (is_man p.side Pawn (man_at p.men m.from) || is_of (other p.side) (man_at p.men m.to))
+unfolding resets_clock is_en_passant
+resets_clock_is p m =
+    let pawn = is_man p.side Pawn (man_at p.men m.from) in
+    ap (λ v. pawn || v) (captures_is p m)
+    ∙ passing pawn (is_of (other p.side) (man_at p.men m.to)) (attacks p.men m.from m.to) (is_square p.target m.to)

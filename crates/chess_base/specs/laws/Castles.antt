@@ -1,0 +1,43 @@
+-- Castling by the squares of king and rook: which move names it.
+use Rattle.std.specs.Prelude.{◌≡◌, ℕ, ◌==◌, Bool, false, ◌&&◌, Option, [], ◌∷◌, option_and_then, find}
+use Rattle.std.specs.Option.{option_map, option_map_or}
+use Rattle.chess_base.specs.declared.castling.Castle.{Castle}
+use Rattle.chess_base.specs.declared.man.CastlingSide.{CastlingSide}
+use Rattle.chess_base.specs.declared.man.CastlingSide.TheVariants.{KingSide, QueenSide}
+use Rattle.chess_base.specs.declared.man.Move.{Move}
+use Rattle.chess_base.specs.declared.man.Variant.{Variant}
+use Rattle.chess_base.specs.declared.man.Variant.TheVariants.{Normal, Fischerandom}
+use Rattle.chess_base.specs.declared.setup.Setup.{Setup}
+use Rattle.chess_base.specs.Castling.{right_of, king_square, castle_from, castling, castle_of}
+use Rattle.chess_base.specs.Sound.{IsSound}
+
+-- the four squares of castling on side w, by the side on move: where its king and the rook of its right are, and where
+-- they go; none without the right
+abbrev pub castling_on : Setup → CastlingSide → Option Castle
+castling_on p w = option_and_then
+    (λ rook. option_map (λ king. castle_from p.side w king rook) (king_square p.men p.side)) (right_of p.rights p.side w)
+
+-- the end square by which a move names castling k: in normal chess that of the king (e1g1), in Chess960 the square
+-- where the rook stands (e1h1)
+abbrev pub named_square : Variant → Castle → ℕ
+named_square Normal k = k.king_to
+named_square Fischerandom k = k.rook_from
+
+-- move m is castling k: it starts on the king's square, and its end square names k
+abbrev pub is_castling_by : Variant → Move → Castle → Bool
+is_castling_by v m k = (k.king_from == m.from) && (named_square v k == m.to)
+
+-- the side on which move m castles, by these squares; none if it is not castling
+unfoldable pub castling_named : Setup → Move → Option CastlingSide
+castling_named p m =
+    find (λ w. option_map_or (is_castling_by p.variant m) (castling_on p w) false) (KingSide ∷ QueenSide ∷ [])
+
+-- in a sound position move m castles on the side that it names by the squares of king and rook, and its castling has
+-- these squares
+pub record CastlesByName (p : Setup) (m : Move) : Type 0 where
+  pub side : castling p m ≡ castling_named p m
+  pub squares : castle_of p m ≡ option_and_then (castling_on p) (castling_named p m)
+
+-- in each sound position castling is what its squares name
+abbrev pub CastlingIsNamed : Type 0
+CastlingIsNamed = (p : Setup) → (m : Move) → IsSound p → CastlesByName p m
