@@ -3,9 +3,10 @@ use Rattle.std.proofs.Common.{◌≡◌, ℕ, zero, suc, ◌+◌, ◌*◌, ◌/�
 use Rattle.std.proofs.lemmas.Bool.Decides.{nat_tests}
 use Rattle.std.proofs.lemmas.Bool.{cases_Bool, cases_eq, or_cases}
 use Rattle.chess_base.specs.Squares.{is_between, share_rank_or_file, share_diagonal, some_below, each_below, some_square, each_square}
-use Rattle.chess_bits.specs.declared.line.Line.{Line}
-use Rattle.chess_bits.specs.declared.line.Line.TheVariants.{Rank, File, Diagonal, Antidiagonal}
-use Rattle.chess_bits.specs.ties.Rays.{line_number, same_line, is_on_ray, is_open}
+use Rattle.chess_base.specs.declared.line.Line.{Line}
+use Rattle.chess_base.specs.declared.line.Line.TheVariants.{Rank, File, Diagonal, Antidiagonal}
+use Rattle.chess_base.specs.shared.Lines.{line_number, same_line}
+use Rattle.chess_bits.specs.ties.Rays.{is_on_ray, is_open}
 use Rattle.chess_bits.proofs.Attackers.{each_square_same, eq_back}
 use Rattle.chess_bits.proofs.Geometry.{between_on_line, share_diagonal_is}
 use Rattle.chess_moves.specs.Sets.{contains}

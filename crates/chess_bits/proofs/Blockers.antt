@@ -4,10 +4,11 @@ use Rattle.std.proofs.Common.{◌≡◌, ◌==◌, ℕ, zero, suc, ◌<◌, inl,
 use Rattle.std.proofs.lemmas.Bool.Decides.{nat_tests}
 use Rattle.std.proofs.lemmas.Bool.{and_parts, and_right, both_ways, cases_Bool, eq-eqb, or_right}
 use Rattle.chess_base.specs.Squares.{is_between}
-use Rattle.chess_bits.specs.declared.line.Line.{Line}
+use Rattle.chess_base.specs.declared.line.Line.{Line}
 use Rattle.chess_moves.specs.Sets.{contains, is_beyond}
 use Rattle.chess_moves.proofs.shared.Members.{has_zero}
-use Rattle.chess_bits.specs.ties.Rays.{same_line, is_on_ray, is_open}
+use Rattle.chess_base.specs.shared.Lines.{same_line}
+use Rattle.chess_bits.specs.ties.Rays.{is_on_ray, is_open}
 use Rattle.chess_bits.proofs.Geometry.{between_on_line}
 use Rattle.chess_base.proofs.shared.Squares.{each_square-all, each_square-fails}
 

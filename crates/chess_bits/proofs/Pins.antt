@@ -24,10 +24,10 @@ use Rattle.chess_base.proofs.shared.Squares.{each_square-all, each_square-at, so
 use Rattle.chess_moves.specs.Sets.{contains}
 use Rattle.chess_bits.specs.ties.Pins.{aims_from, IsShield}
 use Rattle.chess_bits.specs.ties.Goes.{lifted}
-use Rattle.chess_bits.specs.declared.line.Line.{Line}
-use Rattle.chess_bits.specs.declared.line.Line.TheVariants.{Rank, File, Diagonal, Antidiagonal}
+use Rattle.chess_base.specs.declared.line.Line.{Line}
+use Rattle.chess_base.specs.declared.line.Line.TheVariants.{Rank, File, Diagonal, Antidiagonal}
 use Rattle.chess_bits.specs.ties.Occupancy.{IsOccupied}
-use Rattle.chess_bits.specs.ties.Rays.{line_number, same_line}
+use Rattle.chess_base.specs.shared.Lines.{line_number, same_line}
 use Rattle.chess_bits.proofs.Attackers.{between_back, eq_back}
 use Rattle.chess_bits.proofs.BetweenSquares.{are_on_line}
 use Rattle.chess_bits.proofs.BoardSets.{own_of, theirs_of}

@@ -5,10 +5,10 @@ use Rattle.chess_base.specs.Attacks.{is_clear}
 use Rattle.chess_base.specs.Men.{Men, man_at}
 use Rattle.chess_base.specs.Squares.{share_rank_or_file, share_diagonal, lies_inside, is_between}
 use Rattle.chess_base.proofs.shared.Squares.{each_square-all, each_square-at}
-use Rattle.chess_bits.specs.declared.line.Line.{Line}
-use Rattle.chess_bits.specs.declared.line.Line.TheVariants.{Rank, File, Diagonal, Antidiagonal}
+use Rattle.chess_base.specs.declared.line.Line.{Line}
+use Rattle.chess_base.specs.declared.line.Line.TheVariants.{Rank, File, Diagonal, Antidiagonal}
 use Rattle.chess_bits.specs.ties.Goes.{lifted}
-use Rattle.chess_bits.specs.ties.Rays.{line_number, same_line}
+use Rattle.chess_base.specs.shared.Lines.{line_number, same_line}
 use Rattle.chess_bits.proofs.Geometry.{share_diagonal_is, between_on_line}
 use Rattle.chess_bits.proofs.Lifted.{lifted_at}
 

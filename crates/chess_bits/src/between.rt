@@ -3,13 +3,14 @@
 ghost use Rattle.std.specs.Prelude.{◌≡◌, ℕ, ◌<◌, ◌≤◌, ◌+◌, ◌*◌, ◌&&◌, true, false, length, slice_index};
 ghost use Rattle.chess_base.specs.Squares.{is_between};
 ghost use Rattle.chess_moves.specs.Sets.{contains};
-ghost use Rattle.chess_bits.specs.declared.line.Line.{Line as LineKind};
-ghost use Rattle.chess_bits.specs.ties.Rays.{is_on_ray, same_line};
+ghost use Rattle.chess_base.specs.declared.line.Line.{Line as LineKind};
+ghost use Rattle.chess_base.specs.shared.Lines.{same_line};
+ghost use Rattle.chess_bits.specs.ties.Rays.{is_on_ray};
 
-use crate::line::Line;
 use crate::table::Shape;
 use crate::tables::Tables;
 use chess_base::Square;
+use chess_base::rules::Line;
 use chess_moves::SquareSet;
 use std::alloc::{AllocError, Global};
 

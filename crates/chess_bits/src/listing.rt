@@ -1,9 +1,9 @@
 //! The list of legal moves: piece by piece, and end square by end square.
 
-ghost use Rattle.std.specs.Prelude.{◌≡◌, ◌+◌, ◌≤◌, ◌<◌, ◌&&◌, ◌++◌, ℕ, length, map, true, false, None, [], ◌∷◌};
+ghost use Rattle.std.specs.Prelude.{◌≡◌, ◌+◌, ◌≤◌, ◌<◌, ◌&&◌, ◌++◌, ℕ, length, map, true, false, None, []};
 ghost use Rattle.arrayvec.specs.ArrayVec.{array_vec_len};
 ghost use Rattle.chess_base.specs.Men.{man_at, is_man};
-ghost use Rattle.chess_base.specs.MoveList.{moves, move_of, promotions};
+ghost use Rattle.chess_base.specs.MoveList.{moves, move_of};
 ghost use Rattle.chess_base.specs.declared.man.Kind.TheVariants.{King, Pawn};
 ghost use Rattle.chess_bits.specs.ties.Pins.{AreEvasions, EndsOn};
 ghost use Rattle.chess_bits.specs.ties.Goes.{goes, goes_specially, IsFree};
@@ -12,21 +12,9 @@ ghost use Rattle.chess_moves.specs.Sets.{contains, members};
 
 use crate::bits::Bits;
 use crate::pinning::Pins;
-use chess_base::rules::is_man;
+use chess_base::rules::{PROMOTIONS, is_man};
 use chess_base::{Kind, Move, Square};
 use chess_moves::{MoveList, SquareSet, would_promote};
-
-// The kinds to which a pawn may promote, in the order in which its moves are listed.
-fn each_promotion() -> [Option<Kind>; 4]
-    ensures { None ∷ result ≡ promotions }
-{
-    [
-        Some(Kind::Queen),
-        Some(Kind::Rook),
-        Some(Kind::Bishop),
-        Some(Kind::Knight),
-    ]
-}
 
 // Appends to `list` the moves from `from` to `to` with each of `promotions`.
 fn add_promotions(from: Square, to: Square, promotions: &[Option<Kind>], list: &mut MoveList)
@@ -67,7 +55,7 @@ impl Bits<'_> {
     {
         if would_promote(&self.setup, from, to) {
             if self.promotes_legally(from, to) {
-                add_promotions(from, to, &each_promotion(), list);
+                add_promotions(from, to, &PROMOTIONS, list);
             }
         } else {
             let m = Move {

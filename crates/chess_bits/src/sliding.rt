@@ -6,10 +6,10 @@ ghost use Rattle.chess_moves.specs.Sets.{contains};
 ghost use Rattle.chess_bits.specs.ties.Rays.{is_open};
 
 use crate::filter::filter;
-use crate::line::Line;
 use crate::table::Shape;
 use crate::tables::AttackTables;
 use chess_base::Square;
+use chess_base::rules::Line;
 use chess_moves::SquareSet;
 
 // The squares that a rook on `square` attacks: in each of its four directions up to the first occupied square, that one

@@ -5,7 +5,8 @@ ghost use Rattle.std.specs.Prelude.{◌≡◌, ℕ, ◌<◌};
 ghost use Rattle.chess_moves.specs.Sets.{contains};
 ghost use Rattle.chess_bits.specs.ties.Shapes.{in_shape};
 
-use crate::line::{Line, is_on_ray};
+use crate::ray::is_on_ray;
+use chess_base::rules::Line;
 use chess_base::{Colour, Square};
 use chess_moves::SquareSet;
 use std::marker::Model;

@@ -3,17 +3,18 @@
 ghost use Rattle.std.specs.Prelude.{◌≡◌, ℕ, ◌<◌, ◌&&◌, ◌||◌, true, false};
 ghost use Rattle.chess_moves.specs.Sets.{contains, is_beyond};
 ghost use Rattle.chess_bits.specs.ties.Shapes.{in_shape};
-ghost use Rattle.chess_bits.specs.ties.Rays.{is_on_ray, is_open, same_line};
-ghost use Rattle.chess_bits.specs.declared.line.Line.{Line as LineKind};
+ghost use Rattle.chess_base.specs.shared.Lines.{same_line};
+ghost use Rattle.chess_bits.specs.ties.Rays.{is_on_ray, is_open};
+ghost use Rattle.chess_base.specs.declared.line.Line.{Line as LineKind};
 ghost use Rattle.chess_bits.specs.declared.table.Shape.TheVariants.{King, Knight, Pawn, Lines, Diagonals, Ray};
-ghost use Rattle.chess_bits.specs.declared.line.Line.TheVariants.{Rank, File, Diagonal, Antidiagonal};
+ghost use Rattle.chess_base.specs.declared.line.Line.TheVariants.{Rank, File, Diagonal, Antidiagonal};
 ghost use Rattle.chess_base.specs.declared.man.Colour.TheVariants.{White, Black};
 ghost use Rattle.chess_base.specs.Squares.{is_between};
 
 use crate::between::BetweenTable;
 use crate::keys::KeyTable;
-use crate::line::Line;
 use crate::table::{Shape, Table};
+use chess_base::rules::Line;
 use chess_base::{Colour, Square};
 use chess_moves::SquareSet;
 use std::alloc::{AllocError, Global};

@@ -1,7 +1,7 @@
 -- What lies between two squares lies between them the other way round (between_back of Attackers).
 use Rattle.std.proofs.Common.{◌∙◌}
 use Rattle.chess_bits.proofs.Attackers.{between_back, eq_back}
-use Rattle.chess_bits.specs.ties.Rays.{line_number}
+use Rattle.chess_base.specs.shared.Lines.{line_number}
 use Rattle.chess_bits.proofs.between.between_by_rays.Goals as goal
 
 pub returns : goal.returns

@@ -1,9 +1,7 @@
 -- A pawn that promotes has the four promotions there and no other move, and all or none are legal (promotions_between of
 -- Listed); elsewhere a piece has one move at most (one_between).
-use Rattle.std.proofs.Common.{◌≡◌, ◌++◌, [], List, Option, length, map, drop, true, false, lit<, sym, ap, ◌∙◌, append-nil, arith}
-use Rattle.chess_base.specs.declared.man.Kind.{Kind}
+use Rattle.std.proofs.Common.{◌≡◌, ◌++◌, [], List, length, true, false, lit<, sym, ap, ◌∙◌, append-nil, arith}
 use Rattle.chess_base.specs.declared.man.Move.{Move}
-use Rattle.chess_base.specs.MoveList.{move_of}
 use Rattle.chess_moves.specs.shared.MovesBySquares.{moves_between}
 use Rattle.chess_moves.specs.Promoting.{would_promote}
 use Rattle.chess_bits.proofs.Listed.{promotions_between, one_between, unpromoted}
@@ -21,9 +19,7 @@ add_promotions-requires c =
     (promotions_between c.args.self.now c.args.from c.args.to c.promotes_legally.result promotes
     c.promotes_legally.ensures) in
     let four : length (moves_between c.args.self.now c.args.from c.args.to) ≡ 4 = ap length all in
-    let each : length c.each_promotion.result ≡ 4 = ap (λ (ks : List (Option Kind)). length (drop 1 ks))
-    c.each_promotion.ensures in
-    omega (arith, four, each, c.requires.room)
+    omega (arith, four, c.requires.room)
 
 pub returns-then-promotes_legally : goal.returns-then-promotes_legally
 returns-then-promotes_legally c =
@@ -33,8 +29,6 @@ returns-then-promotes_legally c =
     (promotions_between c.args.self.now c.args.from c.args.to c.promotes_legally.result promotes
     c.promotes_legally.ensures) in
     c.add_promotions.ensures
-    ∙ ap (λ (ks : List (Option Kind)). c.args.list.now.items ++ map (move_of c.args.from c.args.to) (drop 1 ks))
-    c.each_promotion.ensures
     ∙ ap (λ (ms : List Move). c.args.list.now.items ++ ms) (sym all)
 
 pub returns-else-promotes_legally : goal.returns-else-promotes_legally

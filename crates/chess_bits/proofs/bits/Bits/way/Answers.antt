@@ -2,7 +2,7 @@
 use Rattle.std.proofs.Common.{refl, ◌∙◌}
 use Rattle.std.proofs.lemmas.Bool.{eq-eqb}
 use Rattle.chess_base.specs.Squares.{rank}
-use Rattle.chess_bits.specs.declared.line.Line.TheVariants.{Rank}
+use Rattle.chess_base.specs.declared.line.Line.TheVariants.{Rank}
 use Rattle.chess_bits.proofs.bits.Bits.way.Goals as goal
 
 pub returns : goal.returns

@@ -1,19 +1,11 @@
-//! The lines of the board, and its rays: which squares lie on a line through a square, above it in number or below it.
+//! The rays of the board: which squares lie on a line through a square, above it in number or below it.
 
 ghost use Rattle.std.specs.Prelude.{◌≡◌};
-ghost use Rattle.chess_bits.specs.ties.Rays.{line_number, is_on_ray};
+ghost use Rattle.chess_base.specs.shared.Lines.{line_number};
+ghost use Rattle.chess_bits.specs.ties.Rays.{is_on_ray};
 
 use chess_base::Square;
-
-/// The four kinds of lines on the board. A diagonal goes up to the right, as a1 to h8, an antidiagonal up to the left,
-/// as h1 to a8.
-#[derive(Clone, Copy, PartialEq, Eq)]
-pub enum Line {
-    Rank,
-    File,
-    Diagonal,
-    Antidiagonal,
-}
+use chess_base::rules::Line;
 
 // The number of the line of this kind on which a square is: two squares are on one line exactly if their numbers are
 // equal. For ranks it is the square's rank.
