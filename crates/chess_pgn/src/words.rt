@@ -1,4 +1,5 @@
 //! The words of a game's text that are numbers and moves, with the white space, dots and comments between them.
+//! All half-moves of a game are played in one loop, `play_words`, into which the others are inlined.
 
 ghost use Rattle.std.specs.Prelude.{◌≡◌, ◌≤◌, ◌<◌, true, false, length, None};
 ghost use Rattle.std.specs.Option.{IfSome};
