@@ -46,8 +46,8 @@ WrittenAs sent [] old new = Flushed old new (bytes_of sent)
 WrittenAs sent (block ∷ more) old new =
     (start : List ℕ) × Begins start (bytes_of block) × FlushedThenFailed old new (bytes_of sent) start
 
--- these acts were done, as each device, seen apart, shows: they are a match by the rules `r`, which ended as `final`. `w`
--- is the world before, `w'` after
+-- these acts were done, as each device, seen apart, shows: they are a match by the rules `r`, which ended as `final`.
+-- `w` is the world before, `w'` after
 pub record Passed (r : Rules) (H : List Act) (final : Match) (w w' : World) : Type 0 where
   pub is_match : IsMatch r H final
   pub read : (S : Colour) → (given : List ℕ) × ReadAs S H (w.ports.reader S) (w'.ports.reader S) given
@@ -89,7 +89,8 @@ PlayedNoting noted setup end w w' =
     (H : List Act) × (reason : Reason) × noted (notes_given reason H) × PlayedBy H reason setup end w w'
 
 -- a match was played at a table as `setup` says, and reported as `end`: the steps that passed from its state `old` to
--- `new` are the acts of a match, each with its note, and the match left its moves in the game, `g` before and `g'` after
+-- `new` are the acts of a match, each with its note, and the match left its moves in the game, `g` before and
+-- `g'` after
 abbrev pub PlayedAt : Setup → MatchEnd → Passing → Passing → game.Seen → game.Seen → Type 0
 PlayedAt setup end old new g g' =
     let r = rules_of setup.start setup.level g.limit in
