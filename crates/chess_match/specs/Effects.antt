@@ -190,8 +190,8 @@ move_row r S used (Some move) m =
     let m' = moved S move used m in unless_decided r m' (sends_to S (ping (ping_number m' S) ∷ []) m')
 
 -- a line of the side `S`, of which a move is awaited and whose flag has not fallen; its turn began `used` milliseconds
--- before. A move ends the match if as many half-moves stand as the limit allows; for a line that is no move see
--- `turn_row`
+-- before. A move ends the match if there are already as many half-moves as the limit allows; for a line that is no
+-- move see `turn_row`
 abbrev pub before_move : Rules → Colour → ℕ → LineKind → Match → Effect
 before_move r S used (Moves text) m =
     if nat_le r.limit (length m.played) then ends r GameTooLong m else move_row r S used (r.reading m.played text) m
