@@ -9,9 +9,10 @@ use Rattle.chess_game.specs.Results.{cut_tag}
 use Rattle.cecp_engine.specs.Items.{last_value}
 use Rattle.chess_match.proofs.ActsAsTranscripts.{matches_are_transcripts}
 use Rattle.chess_match.proofs.ActsByDevice.{ends_are_read, lines_are_read, moments_are_shown}
+use Rattle.chess_match.proofs.ActsNoted.{acts_are_noted}
 use Rattle.chess_match.proofs.RunsAsActs.{Wrote, all_wrote, broke}
 use Rattle.chess_match.specs.Acts.{Act}
-use Rattle.chess_match.specs.ByDevice.{broken_blocks, has_ended, has_failed_read, is_broken, lines_read, lines_sent, moments_shown}
+use Rattle.chess_match.specs.ByDevice.{broken_blocks, has_ended, has_failed_read, is_broken, lines_read, lines_sent, moments_shown, notes_given}
 use Rattle.chess_match.specs.Effects as effects
 use Rattle.chess_match.specs.Events.{Event}
 use Rattle.chess_match.specs.Played.{ReadAs, WrittenAs}
@@ -28,7 +29,7 @@ use Rattle.chess_match.specs.declared.reason.Reason.{Reason}
 use Rattle.chess_match.specs.laws.OfActs.{PlayedAreRuns}
 use Rattle.chess_match.specs.ties.SameEffects.{phase_of}
 
-over_back : (opened : ℕ) (p : MachinePhase) (reason : Reason) → phase_of opened p ≡ effects.Over reason
+pub over_back : (opened : ℕ) (p : MachinePhase) (reason : Reason) → phase_of opened p ≡ effects.Over reason
     → p ≡ phases.Over reason
 over_back opened (phases.Over x) reason h = let same : x ≡ reason = cc in rw same refl
 over_back opened (phases.Handshake c) reason h = cc
@@ -79,6 +80,7 @@ played_are_runs H reason setup end w w' (final, p, reported, left) =
     λ S. subst (λ (K : List Act). Wrote (failed S) (blocks r S T) (lines_sent S K) (broken_blocks S K)) (sym acts)
     (all_wrote r failed T S fitting over failing) in (
       T,
+      ap (notes_given reason) acts ∙ acts_are_noted r T reason failed fitting phase,
       (
         reason,
         is_broken H,

@@ -1,8 +1,7 @@
 -- The moves of a match are legal, each in the position to which those before it lead.
-use Rattle.std.proofs.Common.{◌≡◌, ℕ, List, [], ◌∷◌, ◌++◌, refl, ap, sym, ◌∙◌, subst, None}
-use Rattle.std.specs.Prelude.{IsTrue}
+use Rattle.std.proofs.Common.{◌≡◌, ℕ, List, [], ◌∷◌, ◌++◌, refl, subst, None}
 use Rattle.chess_base.specs.Men.{other}
-use Rattle.chess_base.specs.Moves.{after, is_legal}
+use Rattle.chess_base.specs.Moves.{after}
 use Rattle.chess_base.specs.declared.man.Move.{Move}
 use Rattle.chess_base.specs.declared.setup.Setup.{Setup}
 use Rattle.chess_game.specs.Game as game

@@ -89,8 +89,8 @@ if_fault : (b : Bool) (x y : Option MatchFault) → NoWriteFault x → NoWriteFa
 if_fault true x y p q = p
 if_fault false x y p q = q
 
-lacks : (r : Rules) (items : List Item) → NoWriteFault (machine.missing r items)
-lacks r items = if_fault (not (takes (codes "ping") items)) (Some NoPing) _ (λ c O. refl)
+misses : (r : Rules) (items : List Item) → NoWriteFault (machine.missing r items)
+misses r items = if_fault (not (takes (codes "ping") items)) (Some NoPing) _ (λ c O. refl)
     (if_fault (is_some r.start_fen && not (takes (codes "setboard") items)) (Some NoSetboard) _ (λ c O. refl)
     (if_fault (is_fischerandom r.variant && not (plays_fischerandom items)) (Some NoVariant) None (λ c O. refl) tt))
 
@@ -105,9 +105,9 @@ handshake_done_ends : (r : Rules) (e : Event) (c : Colour) (m : machine.Match)
     → Ends e (machine.handshake_ended r c m)
 handshake_done_ends r e White m n = not_yet e (machine.enter (phases.Handshake Black) m) (phases.Handshake Black) refl
     refl
-handshake_done_ends r e Black m n = judged_ends e m (machine.missing r m.white.items) (machine.missing r m.black.items) n
-    (lacks r m.white.items)
-    (lacks r m.black.items)
+handshake_done_ends r e Black m n =
+    judged_ends e m (machine.missing r m.white.items) (machine.missing r m.black.items) n (misses r m.white.items)
+    (misses r m.black.items)
 
 in_handshake_ends : (r : Rules) (e : Event) (c : Colour) (items : List Item) (m : machine.Match) → m.phase
     ≡ phases.Handshake c

@@ -9,11 +9,14 @@ use Rattle.chess_base.specs.declared.man.Colour.TheVariants.{White, Black}
 use Rattle.chess_base.specs.Men.{other, same_colour}
 use Rattle.cecp_engine.specs.EngineLines.{line_kind}
 use Rattle.cecp_engine.specs.Items.{takes}
+use Rattle.chess_match.proofs.ActsAsRuns.{over_back}
+use Rattle.chess_match.proofs.ActsNoted.{acts_are_noted}
 use Rattle.chess_match.proofs.ActsAsTranscripts.{matches_are_transcripts}
 use Rattle.chess_match.proofs.ActsByDevice.{ends_are_read, lines_are_read, moments_are_shown}
 use Rattle.chess_match.proofs.ClockLaw.{clocks_do_not_underflow}
 use Rattle.chess_match.proofs.LineLaw.{lines_are_few}
 use Rattle.chess_match.proofs.MoveLaw.{all_moves_are_told}
+use Rattle.chess_match.proofs.NotesLaw.{all_events, all_lines}
 use Rattle.chess_match.proofs.OneLaw.{only_one}
 use Rattle.chess_match.proofs.ReadLaw.{moves_are_read}
 use Rattle.chess_match.proofs.RunsAsActs.{Wrote, all_wrote, broke}
@@ -21,17 +24,19 @@ use Rattle.chess_match.proofs.SentByLinesLaw.{each_is_sent_the_others, items_are
 use Rattle.chess_match.proofs.TimeLaw.{other_times_are_clocks, times_are_clocks}
 use Rattle.chess_match.proofs.UsedLaw.{used_times_are_differences}
 use Rattle.chess_match.specs.Acts.{Act, Block, IsMatch, ReadFails, Reads, ReadsClock, ReadsEnd, SendFails, Sends, blocks_from}
-use Rattle.chess_match.specs.ByDevice.{broken_blocks, has_ended, has_failed_read, is_broken, lines_read, lines_sent, moments_shown}
-use Rattle.chess_match.specs.Effects.{Effect, Match, beginning, effect}
+use Rattle.chess_match.specs.ByDevice.{broken_blocks, has_ended, has_failed_read, is_broken, lines_read, lines_sent, moments_shown, notes_given}
+use Rattle.chess_match.specs.Effects.{Effect, Match, Over, beginning, effect}
 use Rattle.chess_match.specs.Events.{Event, Line, Opened, OutputEnds, FailsToRead, FailsToWrite}
 use Rattle.chess_match.specs.Rules.{Rules}
-use Rattle.chess_match.specs.Lines.{SentLine}
+use Rattle.chess_match.specs.Lines.{SentLine, bytes_of}
 use Rattle.chess_match.specs.laws.Transcript.{blocks, fits, has_fault, is_on, joined_blocks, lines_of_engine, match_of}
 use Rattle.chess_match.specs.declared.phase.Phase.{Phase as MachinePhase}
 use Rattle.chess_match.specs.declared.phase.Phase.TheVariants as phases
 use Rattle.chess_match.specs.declared.reason.MatchFault.TheVariants.{Write}
-use Rattle.chess_match.specs.laws.Laws.{IsOf, Streams, centiseconds, ending, ending_in, is_move, line_count, otim_sent, sent, time_sent, turn_times}
-use Rattle.chess_match.specs.laws.OfActs.{AllMovesAreSentInMatches, AreOf, ClocksDoNotUnderflowInMatches, EachIsSentOthersMovesInMatches, ItemsAreSaidInMatches, LinesAreFewInMatches, MovesAreReadInMatches, OnlyOneMatch, OtherTimesAreClocksInMatches, TimesAreClocksInMatches, UsedTimesAreDifferencesInMatches, lines_given, move_times}
+use Rattle.chess_match.specs.declared.reason.Reason.{Reason}
+use Rattle.chess_match.specs.laws.TranscriptNotes.{notes_of}
+use Rattle.chess_match.specs.laws.Laws.{IsOf, Streams, centiseconds, ending, ending_in, events_in, given_in, is_move, line_count, otim_sent, sent, time_sent, turn_times}
+use Rattle.chess_match.specs.laws.OfActs.{AllMovesAreSentInMatches, AreOf, ClocksDoNotUnderflowInMatches, EachIsSentOthersMovesInMatches, ItemsAreSaidInMatches, LinesAreFewInMatches, MovesAreReadInMatches, NotesHaveAllLinesInMatches, NotesHaveTheEventsInMatches, OnlyOneMatch, OtherTimesAreClocksInMatches, TimesAreClocksInMatches, UsedTimesAreDifferencesInMatches, lines_given, move_times}
 use Rattle.chess_match.specs.ties.SameEffects.{view}
 use Rattle.chess_match.specs.ties.TranscriptActs.{acts_from, acts_of, first_of, send_act, up_to}
 
@@ -258,6 +263,29 @@ lines_few r H final h =
     let (T, failed, a) = has_acts r H final h in
     rw (lines r H final T failed a White, lines r H final T failed a Black, sym (counted T))
     (lines_are_few r T a.fitting)
+
+-- ---- notes
+
+noted : (r : Rules) (reason : Reason) (H : List Act) (final : Match) (T : List Event) (failed : Colour → Bool)
+    → HasActs r H final T failed → final.phase ≡ Over reason → notes_given reason H ≡ notes_of r T
+noted r reason H final T failed a over =
+    ap (notes_given reason) a.acts
+    ∙ acts_are_noted r T reason failed a.fitting (over_back (match_of r T).opened (match_of r T).phase reason
+    (ap (λ (m : Match). m.phase) (sym a.same) ∙ over))
+
+pub notes_have_events : NotesHaveTheEventsInMatches
+notes_have_events r reason H final h over =
+    let (T, failed, a) = has_acts r H final h in
+    let n : notes_given reason H ≡ notes_of r T = noted r reason H final T failed a over in
+    subst (λ (U : List Event). (failed : Colour → Bool) × (fits r U ≡ true) × (final ≡ view (match_of r U))
+    × (H ≡ acts_of r failed U) × (notes_given reason H ≡ notes_of r U))
+    (sym (ap events_in n ∙ all_events r T)) (failed, a.fitting, a.same, a.acts, n)
+
+pub notes_have_lines : NotesHaveAllLinesInMatches
+notes_have_lines r reason H final S h over =
+    let (T, failed, a) = has_acts r H final h in
+    ap (given_in S) (noted r reason H final T failed a over) ∙ all_lines r T S
+    ∙ ap (λ (l : List SentLine). bytes_of l) (sym (given r H final T failed a S))
 
 -- ---- only one
 

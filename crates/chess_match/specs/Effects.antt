@@ -62,7 +62,8 @@ clock r m S = time_left r.level (length (m.seat S).used) (sum (m.seat S).used)
 abbrev pub ping_number : Match → Colour → ℕ
 ping_number m S = length (m.seat S).used + 1
 
--- whether the side `S` was ever sent a move, when a line of it is awaited: whether the other side has moved
+-- whether the side `S` was ever sent a move, asked when a line of `S` is awaited. The other side's moves (each has one
+-- used time) have all been sent by then
 abbrev pub was_sent_move : Match → Colour → Bool
 was_sent_move m S = nat_lt 0 (length (m.seat (other S)).used)
 
@@ -188,7 +189,9 @@ move_row r S used None m = ends r (MovesIllegally S) m
 move_row r S used (Some move) m =
     let m' = moved S move used m in unless_decided r m' (sends_to S (ping (ping_number m' S) ∷ []) m')
 
--- a line of the side `S`, of which a move is awaited, after `used` milliseconds of those that it has
+-- a line of the side `S`, of which a move is awaited and whose flag has not fallen; its turn began `used` milliseconds
+-- before. A move ends the match if there are already as many half-moves as the limit allows; for a line that is no
+-- move see `turn_row`
 abbrev pub before_move : Rules → Colour → ℕ → LineKind → Match → Effect
 before_move r S used (Moves text) m =
     if nat_le r.limit (length m.played) then ends r GameTooLong m else move_row r S used (r.reading m.played text) m
@@ -208,7 +211,7 @@ after_move r S kind m = turn_row r S kind m
 -- ---- a line before the game
 
 -- both handshakes are done; the options are what is missing for White and for Black. White is judged first; if nothing
--- is missing, White is set up
+-- is missing, White is set up. Either way no line counts any more: those counted were of the handshake
 abbrev pub judged : Rules → Option MatchFault → Option MatchFault → Match → Effect
 judged r (Some fault) _ m = ends r (Faulted White fault) (record m { count = 0 })
 judged r None (Some fault) m = ends r (Faulted Black fault) (record m { count = 0 })

@@ -46,8 +46,8 @@ WrittenAs sent [] old new = Flushed old new (bytes_of sent)
 WrittenAs sent (block ∷ more) old new =
     (start : List ℕ) × Begins start (bytes_of block) × FlushedThenFailed old new (bytes_of sent) start
 
--- these acts were done, as each device, seen apart, shows: they are a match by the rules `r`, which ended as `final`. `w`
--- is the world before, `w'` after
+-- these acts were done, as each device, seen apart, shows: they are a match by the rules `r`, which ended as `final`.
+-- `w` is the world before, `w'` after
 pub record Passed (r : Rules) (H : List Act) (final : Match) (w w' : World) : Type 0 where
   pub is_match : IsMatch r H final
   pub read : (S : Colour) → (given : List ℕ) × ReadAs S H (w.ports.reader S) (w'.ports.reader S) given
@@ -55,8 +55,9 @@ pub record Passed (r : Rules) (H : List Act) (final : Match) (w w' : World) : Ty
       → WrittenAs (lines_sent S H) (broken_blocks S H) (w.ports.writer S) (w'.ports.writer S)
   pub moments : ClockReadings w.coming w'.coming (moments_shown H)
 
--- `end` is what is reported of a match of these acts, which ended as `final` for this reason: its outcome, comment and
--- kind of end, each engine's last `myname`, and the first fault
+-- `end` is what is reported of a match of these acts, which ended as `final` for this reason: the outcome, comment and
+-- Termination value of that reason, each engine's last `myname` as a PGN tag keeps it (its first 60 bytes; empty if
+-- there was none), and the first fault
 pub record ReportedAs (H : List Act) (final : Match) (reason : Reason) (end : MatchEnd) : Type 0 where
   pub ended : final.phase ≡ Over reason
   pub report : reported reason ≡ (end.outcome, end.comment, end.ended)
@@ -81,13 +82,15 @@ PlayedBy H reason setup end w w' =
 abbrev pub Played : Setup → MatchEnd → World → World → Type 0
 Played setup end w w' = (H : List Act) × (reason : Reason) × PlayedBy H reason setup end w w'
 
--- the same, and `noted` is true of the notes of these acts
+-- a match was played as `Played` says, and the claim `noted` (such as: the witness was given them) is true of the notes
+-- of its acts
 abbrev pub PlayedNoting : (List Note → Type 0) → Setup → MatchEnd → World → World → Type 0
 PlayedNoting noted setup end w w' =
     (H : List Act) × (reason : Reason) × noted (notes_given reason H) × PlayedBy H reason setup end w w'
 
 -- a match was played at a table as `setup` says, and reported as `end`: the steps that passed from its state `old` to
--- `new` are the acts of a match, each with its note, and the match left its moves in the game, `g` before and `g'` after
+-- `new` are the acts of a match, each with its note, and the match left its moves in the game, `g` before and
+-- `g'` after
 abbrev pub PlayedAt : Setup → MatchEnd → Passing → Passing → game.Seen → game.Seen → Type 0
 PlayedAt setup end old new g g' =
     let r = rules_of setup.start setup.level g.limit in

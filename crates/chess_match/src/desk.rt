@@ -36,7 +36,8 @@ impl<R: Input, W: Output, M: Moments, L: Witness> MatchTable
         (d.white_reader.ghost_name ∷ d.white_writer.ghost_name ∷ d.black_reader.ghost_name ∷ d.black_writer.ghost_name
         ∷ d.moments.ghost_name ∷ d.witness.ghost_name ∷ []) steps };
 
-    ghost left = { λ d. work (R.seen d.white_reader.now) d.lines.white + work (R.seen d.black_reader.now) d.lines.black };
+    ghost left = { λ d.
+        work (R.seen d.white_reader.now) d.lines.white + work (R.seen d.black_reader.now) d.lines.black };
 
     // Sends this text by one call, and flushes.
     fn send(&mut self, side: Colour, text: &[u8]) -> Result<(), WriteFault> {

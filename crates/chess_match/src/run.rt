@@ -380,8 +380,8 @@ fn said(line: &Line<ENGINE_LINE_LEN>) -> EngineLine<'_>
     }
 }
 
-// Takes a line of this side's engine: the clock is read, the line is noted, and the match goes on by it. Returns what is
-// to be sent; the answers to the line's items go to `block`, which must be empty.
+// Takes a line of this side's engine: the clock is read, the line is noted, and the match goes on by it. Returns what
+// is to be sent; the answers to the line's items go to `block`, which must be empty.
 fn take_line<T: MatchTable, G: MatchGame>(
     table: &mut T,
     core: &mut MatchState,
@@ -410,9 +410,9 @@ fn take_line<T: MatchTable, G: MatchGame>(
     core.line(game, said(line), moment, block)
 }
 
-// Reads the next line of this side's engine into `line` and takes it, if there is one and `\n` ended it; else the end of
-// its output, or a fault, ends the match. Returns what is to be sent; the answers to the line's items go to `block`,
-// which must be empty.
+// Reads the next line of this side's engine into `line` and takes it, if there is one and `\n` ended it; else the end
+// of its output, or a fault, ends the match. Returns what is to be sent; the answers to the line's items go to
+// `block`, which must be empty.
 fn take_next<T: MatchTable, G: MatchGame>(
     table: &mut T,
     core: &mut MatchState,

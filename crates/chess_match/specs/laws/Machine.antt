@@ -87,7 +87,7 @@ items_of_line _ = []
 abbrev pub take_items : Colour → List Item → Match → Match
 take_items S items m = with_seat S (λ s. record s { items = s.items ++ items }) m
 
--- what an engine with these items lacks for the match, if anything: `ping=1`; `setboard=1`, if a start is sent;
+-- what an engine with these items misses for the match, if anything: `ping=1`; `setboard=1`, if a start is sent;
 -- `fischerandom` among its variants, for Chess960
 abbrev pub missing : Rules → List Item → Option MatchFault
 missing r items =
@@ -96,8 +96,8 @@ missing r items =
     else if is_fischerandom r.variant && not (plays_fischerandom items) then Some NoVariant
     else None
 
--- the match `m` after both handshakes, by what White's engine lacks (the first option) and Black's (the second): the
--- first of them that lacks something ends it
+-- the match `m` after both handshakes, by what White's engine misses (the first option) and Black's (the second): the
+-- first of them that misses something ends it
 abbrev pub after_handshakes : Option MatchFault → Option MatchFault → Match → Match
 after_handshakes (Some f) _ m = enter (Over (Faulted White f)) m
 after_handshakes None (Some f) m = enter (Over (Faulted Black f)) m

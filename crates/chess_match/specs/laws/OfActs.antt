@@ -10,11 +10,11 @@ use Rattle.chess_game.specs.Line.{IsLine}
 use Rattle.cecp_engine.specs.EngineLines.{line_kind}
 use Rattle.cecp_engine.specs.Items.{takes}
 use Rattle.cecp_engine.specs.Levels.{LevelSeen, allotted}
-use Rattle.chess_match.specs.ByDevice.{lines_read, has_ended, has_failed_read, moments_shown, lines_sent, broken_blocks, is_broken}
-use Rattle.chess_match.specs.Lines.{SentLine}
-use Rattle.chess_match.specs.laws.Laws.{Streams, AreRead, is_move, moves_of, items_said, moves_sent, texts_from, time_sent, otim_sent, centiseconds}
+use Rattle.chess_match.specs.ByDevice.{lines_read, has_ended, has_failed_read, moments_shown, lines_sent, broken_blocks, is_broken, notes_given}
+use Rattle.chess_match.specs.Lines.{SentLine, bytes_of}
+use Rattle.chess_match.specs.laws.Laws.{Streams, AreRead, events_in, given_in, is_move, moves_of, items_said, moves_sent, texts_from, time_sent, otim_sent, centiseconds}
 use Rattle.chess_match.specs.Acts.{Act, Block, Reads, ReadsEnd, ReadFails, ReadsClock, IsMatch, IsMatchFrom}
-use Rattle.chess_match.specs.Effects.{Match, clock}
+use Rattle.chess_match.specs.Effects.{Match, Over, clock}
 use Rattle.chess_match.specs.Events.{Event}
 use Rattle.chess_match.specs.laws.TranscriptNotes.{notes_of}
 use Rattle.chess_match.specs.Played.{World, PlayedBy, PlayedNoting}
@@ -55,11 +55,12 @@ RunsArePlayed = (T : List Event) (setup : Setup) (end : MatchEnd) (w w' : World)
     → RanBy T setup.start setup.level w.game w'.game end w.ports w'.ports w.coming w'.coming
     → PlayedNoting (λ notes. notes ≡ notes_of (rules_of setup.start setup.level w.game.limit) T) setup end w w'
 
--- each match that was played is a run that goes by a transcript
+-- each match that was played is a run that goes by a transcript, with the same notes
 abbrev pub PlayedAreRuns : Type 0
 PlayedAreRuns = (H : List Act) (reason : Reason) (setup : Setup) (end : MatchEnd) (w w' : World)
     → PlayedBy H reason setup end w w'
-    → (T : List Event) × RanBy T setup.start setup.level w.game w'.game end w.ports w'.ports w.coming w'.coming
+    → (T : List Event) × (notes_given reason H ≡ notes_of (rules_of setup.start setup.level w.game.limit) T)
+    × RanBy T setup.start setup.level w.game w'.game end w.ports w'.ports w.coming w'.coming
 
 -- ---- what two engines and a clock give fixes the match
 
@@ -174,3 +175,20 @@ ClocksDoNotUnderflowInMatches = (r : Rules) (H : List Act) (final : Match) (S : 
 abbrev pub LinesAreFewInMatches : Type 0
 LinesAreFewInMatches = (r : Rules) (H : List Act) (final : Match) → IsMatch r H final
     → length (lines_read White H) + length (lines_read Black H) ≤ 22000 + 10002 * (r.limit + 1)
+
+-- ---- notes
+
+-- in every match that ended for this reason: the events among its notes are a transcript that ended as the match did,
+-- and the acts and the notes are those of this transcript. `failed` says to which sides a write failed
+abbrev pub NotesHaveTheEventsInMatches : Type 0
+NotesHaveTheEventsInMatches = (r : Rules) (reason : Reason) (H : List Act) (final : Match) → IsMatch r H final
+    → final.phase ≡ Over reason
+    → let T = events_in (notes_given reason H) in
+    (failed : Colour → Bool) × (fits r T ≡ true) × (final ≡ view (match_of r T)) × (H ≡ acts_of r failed T)
+    × (notes_given reason H ≡ notes_of r T)
+
+-- in every match that ended for this reason: the bytes that by its notes the side `S` is sent are, one after another,
+-- just those of all lines that `S` was sent, with those of a block that could not be sent
+abbrev pub NotesHaveAllLinesInMatches : Type 0
+NotesHaveAllLinesInMatches = (r : Rules) (reason : Reason) (H : List Act) (final : Match) (S : Colour)
+    → IsMatch r H final → final.phase ≡ Over reason → given_in S (notes_given reason H) ≡ bytes_of (lines_given S H)

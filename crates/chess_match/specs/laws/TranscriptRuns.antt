@@ -32,8 +32,8 @@ pub record ReadFrom (S : Colour) (T : List Event) (old new : InputState) (given 
   pub at_failure : has_fault Read S T ≡ true → engine_lines given ≡ lines_of_engine S T
 
 -- from the state `old` of an engine's input to `new` these blocks of lines were written and flushed; or, if the flag
--- says that a write failed, all but the last and a beginning of that. That each is flushed before the next line is read
--- is only tested
+-- says that a write failed, all but the last and a beginning of that. In which order calls of different devices come,
+-- only `PlayedAt` says
 abbrev pub Written : Bool → OutputState → OutputState → List (List SentLine) → Type 0
 Written false old new bs = Flushed old new (bytes_of (joined_blocks bs))
 Written true old new bs =

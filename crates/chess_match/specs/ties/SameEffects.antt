@@ -1,4 +1,4 @@
--- How the effects of events agree with the state of the code (Match) and the blocks that it sends (Sent).
+-- How the effects of events agree with the state of the code (laws/Machine) and the blocks that it sends (laws/Blocks).
 use Rattle.std.specs.Prelude.{◌≡◌, ℕ, true, List, Option, Some, None}
 use Rattle.chess_base.specs.declared.man.Colour.{Colour}
 use Rattle.chess_base.specs.Men.{other}
