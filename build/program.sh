@@ -97,8 +97,9 @@ build() {
     set -- "${PIPESTATUS[@]:0:2}" "$copies/crates/arbiter/out/arbiter"
     [ "$1" -eq 0 ] && [ -x "$3" ] || fail_by "$@"
     # Until now the former program has the former list. A part of a list, from a full disk, differs from the sources.
-    rm -f "$out/sources" && cp --remove-destination "$3" "$out" && printf '%s\n' "$before" >"$out/sources" ||
-        fail "$out can't be written"
+    # The program gets the time when its sources were listed: what was edited since is newer, as tools/check asks.
+    rm -f "$out/sources" && cp --remove-destination "$3" "$out" && touch -r "$out/folders" "$out/arbiter" &&
+        printf '%s\n' "$before" >"$out/sources" || fail "$out can't be written"
 }
 
 # Ends the build with all that it started, and then this script by the same signal.
