@@ -39,41 +39,36 @@ copy() {
 prove() {
     [[ $(</proc/meminfo) =~ MemAvailable:\ *([0-9]+) ]]
     set -- "$(printf '%s\n' 8 "$(nproc)" $((BASH_REMATCH[1] / 1500000)) | sort -n | head -n 1)"
-    cd "$copies" && rt all check --jobs $(($1 > 0 ? $1 : 1)) && cd crates/arbiter && exec rt run -- --version
+    cd "$copies" && rt all check --jobs $(($1 > 0 ? $1 : 1)) && cd ./crates/arbiter && exec rt run -- --version
 }
 
-# Writes the log from what rt prints, and shows how many crates of all are proved, and the minutes so far: on a terminal
-# in one line, which is rewritten. Fails if the disk was full, which the log can't say then.
+# Shows how many crates of all are proved, and the minutes so far: on a terminal in one line, which is rewritten.
 follow() {
-    local line='' part status proved=0 step shown='' form='arbiter: %s\n' clear='' full=0
+    local line proved=0 step shown='' form='arbiter: %s\n' clear=''
     [ ! -t 2 ] || form='\r\e[Karbiter: %s' clear='\r\e[K'
     while
         step="$proved of $1 crates proved ($((SECONDS / 60)) min)"
         [ "$step" = "$shown" ] || printf "$form" "$step" >&2
-        IFS= read -r -t 60 part
-        status=$? shown=$step line+=$part
-        [ $status -ne 1 ] || [ -n "$line" ]
+        shown=$step
+        IFS= read -r -t 60 line || [ $? -gt 128 ] # a minute has passed
     do
-        [ $status -le 128 ] || continue # a minute has passed
-        printf '%s\n' "$line" 2>/dev/null || full=1
         case $line in
-            '== summary') ;;
+            '' | '== summary') ;;
             '== '*) : $((proved += 1)) ;;
-            *'No space left'* | *'quota exceeded'*) full=1 ;;
-            'rt: '*waiting*) printf "$clear%s\n" "$line" >&2 ;;
+            *) printf "$clear%s\n" "$line" >&2 ;;
         esac
-        line=''
-    done >"$log"
+    done
     printf "$clear" >&2
-    return $full
 }
 
 # Ends with what rt printed, without what was proved, and with the reason why it failed. Its status is given, or another
-# reason, and whether a disk was full.
+# reason, and whether a part of the log could not be written.
 fail_by() {
-    local free=$(($(df -k --output=avail "$copies" | tail -n 1)))
+    [ -f "$log" ] || fail "$copies was deleted meanwhile"
     grep -avE ': (proved|ok)$|: modules loaded=|^(so far: |by-macro: |logic |logic=proved )' "$log" >&2
-    [ "$2" -eq 0 ] && [ "$free" -ge 10000 ] || fail "the disk is full ($free kB are left for $copies)"
+    local free=$(($(df -k --output=avail "$copies" | tail -n 1)))
+    [ "$2" -eq 0 ] && [ "$free" -ge 10000 ] && ! grep -aqE 'No space left|quota exceeded' "$log" ||
+        fail "the disk is full ($free kB are left for $copies)"
     [ "$kills" = "$(grep -s '^oom_kill ' /proc/vmstat)" ] || set -- 137 # the kernel killed a process, maybe one of rt's
     case $1 in
         0) fail "rt left no program" ;;
@@ -97,12 +92,14 @@ build() {
     kills=$(grep -s '^oom_kill ' /proc/vmstat)
     copy 2>"$log" || fail_by "the sources can't be copied to $copies" 0
     say "proving and building the program (README says how long the first build takes); the log is $log"
-    prove 2>&1 9<&- | follow "$(grep -c '' "$copies/crates.txt")"
-    set -- "${PIPESTATUS[@]}" "$copies/crates/arbiter/out/arbiter"
+    prove 2>&1 9<&- | tee "$log" | grep -a --line-buffered -e '^== ' -e '^rt: .*waiting' |
+        follow "$(grep -c '' "$copies/crates.txt")"
+    set -- "${PIPESTATUS[@]:0:2}" "$copies/crates/arbiter/out/arbiter"
     [ "$1" -eq 0 ] && [ -x "$3" ] || fail_by "$@"
     # Until now the former program has the former list. A part of a list, from a full disk, differs from the sources.
-    rm -f "$out/sources" && cp --remove-destination "$3" "$out" && printf '%s\n' "$before" >"$out/sources" ||
-        fail "$out can't be written"
+    # The program gets the time when its sources were listed: what was edited since is newer, as tools/check asks.
+    rm -f "$out/sources" && cp --remove-destination "$3" "$out" && touch -r "$out/folders" "$out/arbiter" &&
+        printf '%s\n' "$before" >"$out/sources" || fail "$out can't be written"
 }
 
 # Ends the build with all that it started, and then this script by the same signal.
