@@ -53,8 +53,8 @@ module _ (p : ℕ → Bool) where
   none_set [] all = refl
   none_set (x ∷ xs) all =
       let up : cond (not (p x)) (1 + position_or_len p xs) 0 ≡ 1 + length xs = omega (arith, all) in
-      bit_unset (p x) (position_or_len p xs) (length xs) (mask_l (map p xs)) (prefix_len-le-length (λ y. not (p y)) xs) up
-      (none_set xs)
+      let few = prefix_len-le-length (λ y. not (p y)) xs in
+      bit_unset (p x) (position_or_len p xs) (length xs) (mask_l (map p xs)) few up (none_set xs)
 
   module _ (xs : List ℕ) (k n : ℕ) (room : k + n ≤ length xs) where
     abbrev block : List ℕ
@@ -79,8 +79,9 @@ module _ (p : ℕ → Bool) where
         → position_or_len p (drop k xs) ≡ count_trailing_zeros 64 mask
     found mask is some few =
         let long = length-chunk k n xs room in
+        let not_all : position_or_len p block ≢ length block = λ all. some (is ∙ none_set block all) in
         by_block
-        ∙ cond-false _ _ _ (ne_eqb _ _ (λ (all : position_or_len p block ≡ length block). some (is ∙ none_set block all)))
+        ∙ cond-false _ _ _ (ne_eqb _ _ not_all)
         ∙ sym (trailing_mask_l p 64 block (omega (arith, long, few)) (omega (arith, is, some)))
         ∙ ap (λ m. count_trailing_zeros 64 m) (sym is)
 

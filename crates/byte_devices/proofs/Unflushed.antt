@@ -1,30 +1,13 @@
 -- Bytes that were written, counted.
-use Rattle.std.proofs.Common.{◌≡◌, ℕ, ◌+◌, ◌-◌, ◌^◌, ◌<◌, ◌≤◌, ◌==◌, ◌&&◌, nat_lt, nat_eq, Bool, true, false, if◌then◌else◌, min, List, [], ◌∷◌, length, take, Option, None, Some, Result, Ok, Err, refl, sym, ap, subst, ◌∙◌, arith, append-nil}
+use Rattle.std.proofs.Common.{◌≡◌, ℕ, ◌<◌, ◌≤◌, ◌==◌, ◌&&◌, nat_lt, Bool, true, false, if◌then◌else◌, List, [], length, take, Option, None, Some, Result, Ok, Err, refl, sym, ap, subst, ◌∙◌, arith, append-nil}
 use Rattle.std.proofs.lemmas.Bool.{and_parts}
 use Rattle.std.proofs.lemmas.Bool.Decides.{nat_tests}
 use Rattle.std.proofs.lemmas.List.{length-take-le}
 use Rattle.std.specs.Io.{WritesAtMost}
 use Rattle.std.specs.Io.KnownBytes.{Keeps, Appends, WriteAppends}
 use Rattle.byte_devices.specs.declared.counted.Counts.{Counts}
-use Rattle.byte_devices.specs.Devices.{OutputState, WriteStep, risen, raised}
-use Rattle.byte_devices.specs.ties.Counting.{raised_by, one_failure_more, write_passed_on, counts_after_write}
-
-raised_past : (c : ℕ) (bs : List ℕ) → raised (risen c) bs ≡ min (c + 1 + length bs) (2 ^ 64 - 1)
-unfolding risen
-raised_past c [] = omega arith
-raised_past c (b ∷ bs) =
-    let more : raised (risen (risen c)) bs ≡ min (risen c + 1 + length bs) (2 ^ 64 - 1) = raised_past (risen c) bs in
-    more ∙ omega arith
-
-some_raised : (c n : ℕ) → 0 < n → min (c + n) (2 ^ 64 - 1) ≡ raised_by c n
-some_raised c n h = let e : nat_eq n 0 ≡ false = grind arith in rw e refl
-
--- a count after some bytes is that after as many
-pub raised_is : (c : ℕ) (bs : List ℕ) → raised c bs ≡ raised_by c (length bs)
-raised_is c [] = refl
-raised_is c (b ∷ bs) =
-    let e : c + 1 + length bs ≡ c + length (b ∷ bs) = omega arith in
-    raised_past c bs ∙ ap (λ n. min n (2 ^ 64 - 1)) e ∙ some_raised c (length (b ∷ bs)) (omega arith)
+use Rattle.byte_devices.specs.Devices.{OutputState, WriteStep, saturating_add}
+use Rattle.byte_devices.specs.ties.Counting.{one_failure_more, write_passed_on, counts_after_write}
 
 abbrev pub state_of : Option (List ℕ) → Counts → OutputState
 state_of known c = record { known_bytes = known; failure_count = c.failures; unflushed = c.unflushed }
@@ -38,8 +21,7 @@ wrote F a b old new n buf within some bytes is = (
   record {
     bytes = bytes;
     failures = ap (λ c. c.failures) is;
-    unflushed = ap (λ c. c.unflushed) is ∙ ap (raised_by old.unflushed) (sym (length-take-le n buf within))
-        ∙ sym (raised_is old.unflushed (take n buf));
+    unflushed = ap (λ c. c.unflushed) is ∙ ap (saturating_add old.unflushed) (sym (length-take-le n buf within));
   },
 )
 

@@ -2,7 +2,7 @@
 -- of a run speaks, and how these values follow from the devices' states before and after the run.
 use Rattle.std.specs.Prelude.{◌≡◌, ℕ, ◌-◌, ◌^◌, min, Bool, true, false, if◌then◌else◌, List, [], ◌++◌, length, take}
 use Rattle.std.specs.Io.KnownBytes.{Appends, Consumes, IsAtEnd}
-use Rattle.byte_devices.specs.Devices.{InputState, OutputState, risen, Begins}
+use Rattle.byte_devices.specs.Devices.{InputState, OutputState, saturating_increment, Begins}
 
 -- what came from an input in a run
 pub record FromInput : Type 0 where
@@ -28,9 +28,9 @@ pub record Devices : Type 0 where
   pub input : InputState
   pub output : OutputState
 
--- a count of a device, such as that of its failures: one more (`risen`) if the flag is true, else unchanged
-abbrev pub risen_if : Bool → ℕ → ℕ
-risen_if rises n = if rises then risen n else n
+-- a count of a device, such as that of its failures: one more, up to 2 ^ 64 - 1, if the flag is true, else unchanged
+abbrev pub saturating_increment_if : Bool → ℕ → ℕ
+saturating_increment_if rises n = if rises then saturating_increment n else n
 
 -- between its states `r` and `r'` the input gave just `i`: the bytes where they are known, and the counts of ends and
 -- failures. The last read that did not fail gave `r'.last_len` bytes, none at the input's end
@@ -38,15 +38,15 @@ pub record InputGave (r r' : InputState) (i : FromInput) : Type 0 where
   pub bytes : Consumes r.known_bytes r'.known_bytes i.text
   pub early : i.early ≡ take (length i.text - r'.last_len) i.text
   pub at_end : i.ended ≡ true → IsAtEnd r'.known_bytes
-  pub ends : r'.end_count ≡ risen_if i.ended r.end_count
-  pub failures : r'.failure_count ≡ risen_if i.failed r.failure_count
+  pub ends : r'.end_count ≡ saturating_increment_if i.ended r.end_count
+  pub failures : r'.failure_count ≡ saturating_increment_if i.failed r.failure_count
 
 -- between its states `w` and `w'` the output took just `o`: the bytes where they are known, how many of them are
 -- unflushed (a count that stops at 2 ^ 64 - 1) if none was before, and the count of failures
 pub record OutputTook (w w' : OutputState) (o : ToOutput) : Type 0 where
   pub bytes : Appends w.known_bytes w'.known_bytes (o.flushed ++ o.left)
   pub unflushed : w.unflushed ≡ 0 → w'.unflushed ≡ min (length o.left) (2 ^ 64 - 1)
-  pub failures : w'.failure_count ≡ risen_if o.failed w.failure_count
+  pub failures : w'.failure_count ≡ saturating_increment_if o.failed w.failure_count
 
 -- between the states `d` and `d'` of its devices a run read and wrote what the claim `P` says of the two: the form of
 -- each contract of a run

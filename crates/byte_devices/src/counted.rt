@@ -1,7 +1,7 @@
 //! An input or an output out of any reader or writer of std.
 
 ghost use Rattle.std.specs.Prelude.{◌≡◌, ◌==◌, ◌-◌, ◌^◌, ◌<◌, false};
-ghost use Rattle.byte_devices.specs.Devices.{risen};
+ghost use Rattle.byte_devices.specs.Devices.{saturating_increment};
 ghost use Rattle.byte_devices.specs.ties.Counting.{no_counts, one_failure_more, passed_on, counts_after_read, write_passed_on, counts_after_write, counts_after_flush};
 
 use crate::traits::{Input, Output, ReadFault, WriteFault};
@@ -184,9 +184,9 @@ impl<W: Write> Counted<W> {
 }
 
 // `count + 1`, but at most `u64::MAX`: a counter that has reached it stays there.
-#[tactic(auto, unfolding(crate::specs::Devices::risen))]
+#[tactic(auto, unfolding(crate::specs::Devices::saturating_increment))]
 pub(crate) fn count_up(count: u64) -> u64
-    ensures { result ≡ risen count }
+    ensures { result ≡ saturating_increment count }
 {
     count.saturating_add(1)
 }

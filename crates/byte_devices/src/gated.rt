@@ -4,7 +4,7 @@
 ghost use Rattle.std.specs.Prelude.{◌≡◌, [], ◌<◌, ◌≤◌, ◌==◌, ◌+◌, length, min, position, IsOk, IfOk, OnErr, IfSome, is_err, vec_len, vec_capacity, if◌then◌else◌};
 ghost use Rattle.std.specs.Io.{ReadsAtMost, WritesAtMost};
 ghost use Rattle.std.specs.Io.KnownBytes.{ReadConsumes, WriteAppends, Keeps};
-ghost use Rattle.byte_devices.specs.Devices.{risen, first_line_len};
+ghost use Rattle.byte_devices.specs.Devices.{saturating_increment, first_line_len};
 
 use crate::counted::count_up;
 use std::alloc::Global;
@@ -70,7 +70,8 @@ impl Read for GatedReader<'_> {
         ensures bound { ReadsAtMost result buf.new }
         ensures bytes { ReadConsumes (Some self.old.rest.now) (Some self.new.rest.now) result buf.new }
         ensures line { IfOk result (λ n. n ≡ min (first_line_len self.old.rest.now) (length buf.old)) }
-        ensures early { self.new.early ≡ (if is_err result then risen self.old.early else self.old.early) }
+        ensures early { self.new.early
+            ≡ (if is_err result then saturating_increment self.old.early else self.old.early) }
     {
         if !self.open.replace(false) {
             self.early = count_up(self.early);

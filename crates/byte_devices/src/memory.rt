@@ -3,7 +3,7 @@
 ghost use Rattle.std.specs.Prelude.{◌≡◌, [], ◌<◌, ◌+◌, ◌⊎◌, ◌↔◌, min, length, IsErr, IfOk, IfErr, OnErr, vec_len, vec_capacity};
 ghost use Rattle.std.specs.Io.{ReadsAtMost, WritesAtMost};
 ghost use Rattle.std.specs.Io.KnownBytes.{ReadConsumes, WriteAppends, Keeps};
-ghost use Rattle.byte_devices.specs.Devices.{risen};
+ghost use Rattle.byte_devices.specs.Devices.{saturating_increment};
 
 use crate::counted::count_up;
 use std::alloc::Global;
@@ -51,7 +51,7 @@ impl Read for PieceReader<'_> {
     fn read(&mut self, buf: &mut [u8]) -> Result<usize>
         ensures bound { ReadsAtMost result buf.new }
         ensures bytes { ReadConsumes (Some self.old.rest.now) (Some self.new.rest.now) result buf.new }
-        ensures calls { self.new.calls ≡ risen self.old.calls }
+        ensures calls { self.new.calls ≡ saturating_increment self.old.calls }
         ensures fails { IsErr result ↔ (self.new.calls ≡ self.old.fails_at) }
         ensures len { IfOk result (λ n. n ≡ min self.old.cut (min (length buf.old) (length self.old.rest.now))) }
         ensures cut { self.new.cut ≡ self.old.cut }
@@ -109,7 +109,7 @@ impl Write for PieceWriter {
     fn write(&mut self, buf: &[u8]) -> Result<usize>
         ensures bound { WritesAtMost result buf.now }
         ensures bytes { WriteAppends (Some self.old.bytes.items) (Some self.new.bytes.items) result buf.now }
-        ensures calls { self.new.calls ≡ risen self.old.calls }
+        ensures calls { self.new.calls ≡ saturating_increment self.old.calls }
         ensures fails { self.new.calls ≡ self.old.fails_at → IsErr result }
         // Another call fails only where more memory was needed.
         ensures only { OnErr result
@@ -131,7 +131,7 @@ impl Write for PieceWriter {
     // Does nothing but count the call, and fails if it is the one numbered `fails_at`.
     fn flush(&mut self) -> Result<()>
         ensures bytes { Keeps (Some self.old.bytes.items) (Some self.new.bytes.items) }
-        ensures calls { self.new.calls ≡ risen self.old.calls }
+        ensures calls { self.new.calls ≡ saturating_increment self.old.calls }
         ensures fails { IsErr result ↔ (self.new.calls ≡ self.old.fails_at) }
         ensures cut { self.new.cut ≡ self.old.cut }
         ensures fails_at { self.new.fails_at ≡ self.old.fails_at }

@@ -1,4 +1,9 @@
-//! Searching a text for bytes.
+//! Where the first of one, two or three bytes is in a text, such as the end of a line, the quote that closes a tag's
+//! string, or the brace that closes a comment. 16 bytes are compared at a time: byte by byte, reading tags took 1.10
+//! times as long, and matches, whose lines are found so, 1.09 times.
+//!
+//! All functions here are inlined, since the bytes that are searched for are constants where they are called. What that
+//! gains was not measured apart.
 
 ghost use Rattle.std.specs.Prelude.{◌≡◌, ◌+◌, ◌≤◌, ◌==◌, ◌||◌, length, map, take, drop};
 ghost use Rattle.std.specs.List.{position_or_len};
@@ -6,9 +11,10 @@ ghost use Rattle.std.specs.Simd.Lanes.{mask_l};
 
 use std::simd::prelude::*;
 
-// How many bytes are compared at a time. Few, since a text that is shorter is looked at byte by byte, and many are short:
-// a session's command or an engine's line that comes alone, a tag's string, a comment with a clock time. In a line of
-// 5,000 bytes blocks of 64 would take a quarter less time, but in a text of 20 to 60 bytes more than twice as much.
+// How many bytes are compared at a time. Few, since a text that is shorter is looked at byte by byte, and many are
+// short: a session's command or an engine's line that comes alone, a tag's string, a comment with a clock time. In a
+// line of 5,000 bytes blocks of 64 would take a quarter less time, but in a text of 20 to 60 bytes more than twice as
+// much.
 const BLOCK_LEN: usize = 16;
 
 // Which of the 16 bytes from `offset` on are one of `a`, `b` and `c`: a bit for each, the lowest for the first.

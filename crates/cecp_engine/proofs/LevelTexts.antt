@@ -1,17 +1,20 @@
 -- What is written of a level is parsed as that level: its three words have neither spaces nor tabs, and each is parsed as
 -- the number that it was written for.
-use Rattle.std.proofs.Common.{◌≡◌, ℕ, suc, ◌+◌, ◌-◌, ◌*◌, ◌/◌, ◌%◌, ◌<◌, ◌≤◌, Bool, true, false, eqb, ltb, leb, List, [], ◌∷◌, ◌++◌, length, take, drop, Some, refl, sym, ap, ◌∙◌, append_assoc, arith, rules}
-use Rattle.std.specs.Prelude.{codes, decimal}
+use Rattle.std.proofs.Common.{◌≡◌, ℕ, suc, ◌+◌, ◌-◌, ◌*◌, ◌/◌, ◌%◌, ◌<◌, ◌≤◌, Bool, true, false, eqb, ltb, leb, List, [], ◌∷◌, ◌++◌, length, take, drop, Some, refl, sym, ap, ◌∙◌, arith, rules}
+use Rattle.std.specs.Prelude.{decimal}
 use Rattle.std.specs.List.{list_all}
 use Rattle.std.proofs.lemmas.Bool.{and_parts}
 use Rattle.std.proofs.lemmas.Bool.Decides.{nat_tests}
 use Rattle.std.proofs.lemmas.List.{append-nil, length-append}
 use Rattle.std.proofs.lemmas.Fmt.{digits_decimal, digits_value-decimal, length-decimal-le, decimal_nonempty}
-use Rattle.std.proofs.lemmas.Str.Parse.{IsNumeralModel, numerals_by_fold}
-use Rattle.chess_base.specs.Letters.{byte, is_digit, value_after}
+use Rattle.std.proofs.lemmas.Str.Parse.{IsNumeralModel, numerals_by_value}
+use Rattle.std.specs.Char.{digit_value}
+use Rattle.std.specs.Str.Parse.{digits_value}
+use Rattle.std.proofs.lemmas.Str.{digit_value_digit}
+use Rattle.chess_base.specs.Letters.{byte, is_digit}
 use Rattle.text_lines.specs.Lines.{is_blank, without_front_blanks}
 use Rattle.text_lines.specs.Words.{short_number, word_of, argument_of}
-use Rattle.cecp_engine.specs.Levels.{LevelSeen, level_of, level_text, base_of, base_text, colon_at, two_digits}
+use Rattle.cecp_engine.specs.Levels.{level_of, level_text, base_of, base_text, colon_at, two_digits}
 
 -- ---- words
 
@@ -61,8 +64,8 @@ argument_whole xs h = rw (word_whole xs h) (ap without_front_blanks (
 
 -- ---- numbers
 
-numeral : IsNumeralModel (λ ds. list_all is_digit ds ≡ true) (value_after 0)
-numeral = numerals_by_fold _ (search rules) value_after (search rules)
+numeral : IsNumeralModel (λ ds. list_all is_digit ds ≡ true) (digits_value 10)
+numeral = numerals_by_value _ (search rules)
 
 are_digits : (n : ℕ) → n ≤ 999 → list_all is_digit (decimal n) ≡ true
 are_digits n h = digits_decimal numeral n (omega arith)
@@ -86,6 +89,14 @@ number_back n h =
     let t1 : leb (length (decimal n)) 3 ≡ true = grind (arith, nat_tests) in
     rw (t0, t1, are_digits n h, digits_value-decimal numeral n (omega arith)) refl
 
+two_value : (a b x y : ℕ) → digit_value a + 48 ≡ 48 + x → digit_value b + 48 ≡ 48 + y
+    → digits_value 10 (a ∷ b ∷ []) ≡ 10 * x + y
+two_value a b x y h k =
+    let e : digit_value a ≡ x = omega (arith, h) in
+    let f : digit_value b ≡ y = omega (arith, k) in
+    let is : (0 * 10 + x) * 10 + y ≡ 10 * x + y = omega arith in
+    ap (λ (u : ℕ). (0 * 10 + u) * 10 + digit_value b) e ∙ ap (λ (v : ℕ). (0 * 10 + x) * 10 + v) f ∙ is
+
 two_digits_back : (n : ℕ) → n < 100 → short_number 2 (two_digits n) ≡ Some n
 two_digits_back n h =
     let a : leb 48 (48 + n / 10) ≡ true = grind (arith, nat_tests) in
@@ -94,8 +105,12 @@ two_digits_back n h =
     let c : leb 48 (48 + n % 10) ≡ true = grind (arith, nat_tests) in
     let ones : n % 10 < 10 = omega arith in
     let d : leb (48 + n % 10) 57 ≡ true = grind (arith, nat_tests) in
-    let is : 10 * (10 * 0 + (48 + n / 10 - 48)) + (48 + n % 10 - 48) ≡ n = omega arith in
-    rw (a, b, c, d) (ap Some is)
+    let first : digit_value (48 + n / 10) + 48 ≡ 48 + n / 10 =
+    digit_value_digit (48 + n / 10) (omega arith, omega (arith, tens)) in
+    let second : digit_value (48 + n % 10) + 48 ≡ 48 + n % 10 =
+    digit_value_digit (48 + n % 10) (omega arith, omega (arith, ones)) in
+    let is : 10 * (n / 10) + n % 10 ≡ n = omega arith in
+    rw (a, b, c, d) (ap Some (two_value (48 + n / 10) (48 + n % 10) (n / 10) (n % 10) first second ∙ is))
 
 two_digits_solid : (n : ℕ) → n < 100 → Solid (two_digits n)
 two_digits_solid n h =

@@ -1,59 +1,16 @@
 -- Walking along a line from square to square, and what is then known of the squares between two of its squares.
-use Rattle.std.proofs.Common.{◌≡◌, ℕ, ◌+◌, ◌-◌, ◌<◌, ◌≤◌, inl, inr, Bool, true, false, ◌&&◌, ◌||◌, not, ◌==◌, is_none, refl, sym, ap, ◌∙◌, arith}
+use Rattle.std.proofs.Common.{◌≡◌, ℕ, ◌+◌, ◌-◌, ◌<◌, ◌≤◌, inl, inr, Bool, true, false, ◌||◌, not, is_none, refl, sym, ◌∙◌, arith}
 use Rattle.std.proofs.lemmas.Bool.{and_parts, and_from, cases_order, eqb-true, eq-eqb}
 use Rattle.std.proofs.lemmas.Bool.Decides.{nat_tests}
 use Rattle.chess_base.specs.declared.line.Line.{Line}
 use Rattle.chess_base.specs.declared.line.Line.TheVariants.{Rank, File, Diagonal, Antidiagonal}
-use Rattle.chess_base.specs.Squares.{file, rank, gap, lies_inside, share_diagonal, is_between, is_between_on_file, is_between_on_rank, is_between_on_diagonal}
+use Rattle.chess_base.specs.Squares.{file, rank, is_strictly_between, is_between}
 use Rattle.chess_base.specs.Men.{Men, man_at}
 use Rattle.chess_base.specs.Attacks.{is_clear}
 use Rattle.chess_base.specs.shared.Lines.{line_number, same_line}
 use Rattle.chess_base.specs.ties.Lines.{step_of}
-use Rattle.chess_base.proofs.shared.Squares.{each_square-all, each_square-fails, each_square_same}
-use Rattle.chess_base.proofs.Geometry.{between_on_line}
-
--- ---- which squares are between two does not depend on their order
-
-gap_back : (m n : ℕ) → gap m n ≡ gap n m
-gap_back m n = omega arith
-
-inside_back : (m n x : ℕ) → lies_inside m n x ≡ lies_inside n m x
-inside_back m n x = grind (arith, nat_tests)
-
-swap_first : (p q r : Bool) → (p && q && r) ≡ (q && p && r)
-swap_first true true r = refl
-swap_first true false r = refl
-swap_first false true r = refl
-swap_first false false r = refl
-
-back_on_file : (a b x : ℕ) → is_between_on_file a b x ≡ is_between_on_file b a x
-unfolding is_between_on_file
-back_on_file a b x = rw (inside_back (rank a) (rank b) (rank x))
-    (swap_first (file x == file a) (file x == file b) (lies_inside (rank b) (rank a) (rank x)))
-
-back_on_rank : (a b x : ℕ) → is_between_on_rank a b x ≡ is_between_on_rank b a x
-unfolding is_between_on_rank
-back_on_rank a b x = rw (inside_back (file a) (file b) (file x))
-    (swap_first (rank x == rank a) (rank x == rank b) (lies_inside (file b) (file a) (file x)))
-
-diagonal_back : (a b : ℕ) → share_diagonal a b ≡ share_diagonal b a
-diagonal_back a b = rw (gap_back (file a) (file b), gap_back (rank a) (rank b)) refl
-
-back_on_diagonal : (a b x : ℕ) → is_between_on_diagonal a b x ≡ is_between_on_diagonal b a x
-unfolding is_between_on_diagonal
-back_on_diagonal a b x =
-    let e = inside_back (rank a) (rank b) (rank x) in
-    let f = inside_back (file a) (file b) (file x) in
-    grind (arith, e, f, diagonal_back a x, diagonal_back x b)
-
-pub between_back : (a b x : ℕ) → is_between a b x ≡ is_between b a x
-unfolding is_between
-between_back a b x = rw (back_on_file a b x, back_on_rank a b x, back_on_diagonal a b x) refl
-
-pub is_clear_back : (men : Men) (a b : ℕ) → is_clear men a b ≡ is_clear men b a
-unfolding is_clear
-is_clear_back men a b =
-    each_square_same _ _ (λ x l. ap (λ t. not t || is_none (man_at men x)) (between_back a b x))
+use Rattle.chess_base.proofs.shared.Squares.{each_square-all, each_square-fails}
+use Rattle.chess_base.proofs.shared.Geometry.{between_on_line}
 
 -- ---- from square to square
 
@@ -88,10 +45,10 @@ line_on l a b c e f =
 
 -- ---- clear lines
 
-inside_rising : (low high k : ℕ) → low < high → lies_inside low high k ≡ true → (low < k) × (k < high)
+inside_rising : (low high k : ℕ) → low < high → is_strictly_between low high k ≡ true → (low < k) × (k < high)
 inside_rising low high k h e = (grind (arith, nat_tests), grind (arith, nat_tests))
 
-inside_of : (low high k : ℕ) → low < k → k < high → lies_inside low high k ≡ true
+inside_of : (low high k : ℕ) → low < k → k < high → is_strictly_between low high k ≡ true
 inside_of low high k h g = grind (arith, nat_tests)
 
 passes_if : (p q : Bool) → (p ≡ true → q ≡ true) → (not p || q) ≡ true
@@ -111,7 +68,8 @@ clear_by men l low high rising on empty =
     (λ k _.
     passes_if (is_between low high k) (is_none (man_at men k))
     (λ e.
-    let both = and_parts (same_line l low k) (lies_inside low high k) (sym (between_on_line l low high k on) ∙ e) in
+    let both = and_parts (same_line l low k) (is_strictly_between low high k)
+    (sym (between_on_line l low high k on) ∙ e) in
     let inside = inside_rising low high k rising both.1 in
     empty k inside.0 inside.1 both.0))
 
@@ -124,7 +82,7 @@ not_clear_by men l low high k h g in_board on there piece =
     each_square-fails _ k (omega arith)
     (fails_by (is_between low high k) (is_none (man_at men k))
     (between_on_line l low high k on
-    ∙ and_from (same_line l low k) (lies_inside low high k) there (inside_of low high k h g)) piece)
+    ∙ and_from (same_line l low k) (is_strictly_between low high k) there (inside_of low high k h g)) piece)
 
 -- ---- a walk up a line
 

@@ -2,9 +2,10 @@
 use Rattle.std.proofs.Common.{◌≡◌, ℕ, ◌+◌, ◌-◌, ◌*◌, ◌<◌, ◌≤◌, ◌⊎◌, inl, inr, Bool, true, false, ◌&&◌, ◌||◌, ◌==◌, nat_le, nat_lt, refl, sym, ◌∙◌, arith}
 use Rattle.std.proofs.lemmas.Bool.{and_parts, and_from, cases_Bool, leb-true, ltb-true, or_cases, or_parts}
 use Rattle.std.proofs.lemmas.Bool.Decides.{nat_tests}
+use Rattle.std.specs.Int.{abs_diff}
 use Rattle.chess_base.specs.declared.man.Colour.{Colour}
 use Rattle.chess_base.specs.declared.man.Kind.TheVariants.{Knight}
-use Rattle.chess_base.specs.Squares.{file, rank, gap}
+use Rattle.chess_base.specs.Squares.{file, rank}
 use Rattle.chess_base.specs.Men.{Men, man_at, is_man}
 use Rattle.chess_base.specs.Attacks.{could_capture}
 use Rattle.chess_base.specs.ties.Lines.{attacked_by_knight, attacked_by_knight_from_below, attacked_by_knight_from_above}
@@ -18,7 +19,7 @@ has_knight men c f r = nat_le 2 f && nat_lt f 10 && nat_le 2 r && nat_lt r 10
 
 -- from one file and rank to another is a knight's way
 abbrev a_way : ℕ → ℕ → ℕ → ℕ → Bool
-a_way f r g q = ((gap f g == 1) && (gap r q == 2)) || ((gap f g == 2) && (gap r q == 1))
+a_way f r g q = ((abs_diff f g == 1) && (abs_diff r q == 2)) || ((abs_diff f g == 2) && (abs_diff r q == 1))
 
 -- a test of the eight squares that are a knight's way from file f and rank r
 abbrev eight : (ℕ → ℕ → Bool) → ℕ → ℕ → Bool
@@ -26,10 +27,10 @@ eight t f r =
     t (f - 1) (r - 2) || t (f + 1) (r - 2) || t (f - 2) (r - 1) || t (f + 2) (r - 1) || t (f - 2) (r + 1)
     || t (f + 2) (r + 1) || t (f - 1) (r + 2) || t (f + 1) (r + 2)
 
-one_apart : (m n : ℕ) → (gap m n == 1) ≡ true → (m + 2 ≡ (n + 2) - 1) ⊎ (m + 2 ≡ (n + 2) + 1)
+one_apart : (m n : ℕ) → (abs_diff m n == 1) ≡ true → (m + 2 ≡ (n + 2) - 1) ⊎ (m + 2 ≡ (n + 2) + 1)
 one_apart m n e = grind (arith, nat_tests, e)
 
-two_apart : (m n : ℕ) → (gap m n == 2) ≡ true → (m + 2 ≡ (n + 2) - 2) ⊎ (m + 2 ≡ (n + 2) + 2)
+two_apart : (m n : ℕ) → (abs_diff m n == 2) ≡ true → (m + 2 ≡ (n + 2) - 2) ⊎ (m + 2 ≡ (n + 2) + 2)
 two_apart m n e = grind (arith, nat_tests, e)
 
 -- where the test fails at all eight, it fails wherever there is a knight's way
@@ -43,9 +44,9 @@ none_of_eight t f r g q e way =
     let h4 = or_parts _ (t ((g + 2) + 2) ((q + 2) - 1)) h5.0 in
     let h3 = or_parts _ (t ((g + 2) - 2) ((q + 2) - 1)) h4.0 in
     let h2 = or_parts (t ((g + 2) - 1) ((q + 2) - 2)) (t ((g + 2) + 1) ((q + 2) - 2)) h3.0 in
-    elim (or_cases ((gap f g == 1) && (gap r q == 2)) ((gap f g == 2) && (gap r q == 1)) way) [
+    elim (or_cases ((abs_diff f g == 1) && (abs_diff r q == 2)) ((abs_diff f g == 2) && (abs_diff r q == 1)) way) [
       | inl tall ↦
-          let both = and_parts (gap f g == 1) (gap r q == 2) tall in
+          let both = and_parts (abs_diff f g == 1) (abs_diff r q == 2) tall in
           elim (one_apart f g both.0) [
             | inl left ↦
                 elim (two_apart r q both.1) [
@@ -59,7 +60,7 @@ none_of_eight t f r g q e way =
                 ]
           ]
       | inr wide ↦
-          let both = and_parts (gap f g == 2) (gap r q == 1) wide in
+          let both = and_parts (abs_diff f g == 2) (abs_diff r q == 1) wide in
           elim (two_apart f g both.0) [
             | inl left ↦
                 elim (one_apart r q both.1) [

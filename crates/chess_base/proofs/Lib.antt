@@ -1,5 +1,4 @@
 pub mod shared
-mod Geometry
 mod ClearLines
 mod Rays
 mod Reaches

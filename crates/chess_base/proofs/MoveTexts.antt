@@ -11,7 +11,7 @@ use Rattle.chess_base.specs.Coordinates.{optional, small_letter_text, coordinate
 use Rattle.chess_base.specs.Letters.{kinds, letter_by, kind_with_small_letter, is_file_letter, is_rank_digit, square_text, square_with_letters}
 use Rattle.chess_base.specs.MoveList.{move_of}
 use Rattle.chess_base.specs.ties.MoveTexts.{promotion_of_text, move_of_text}
-use Rattle.chess_base.proofs.shared.Choices.{chosen}
+use Rattle.chess_base.proofs.shared.Choices.{chosen, mapped}
 
 -- ---- squares
 
@@ -69,11 +69,6 @@ small_read Bishop = refl
 small_read Rook = refl
 small_read Queen = refl
 small_read King = refl
-
-mapped : {A B : Type 0} (f : A → B) (o : Option A) (y : B) → option_map f o ≡ Some y
-    → (x : A) × (o ≡ Some x) × (f x ≡ y)
-mapped f None y e = absurd cc
-mapped f (Some x) y e = (x, refl, cc)
 
 promotion_read : (o : Option Kind) → promotion_of_text (optional small_letter_text o) ≡ Some o
 promotion_read None = refl

@@ -1,5 +1,5 @@
 -- On positions of normal chess the rules of both variants are those of normal chess.
-use Rattle.std.proofs.Common.{◌≡◌, ℕ, Bool, true, false, ◌&&◌, cond, ◌==◌, nat_lt, Option, Some, None, is_some, refl, ap, ◌∙◌}
+use Rattle.std.proofs.Common.{◌≡◌, ℕ, Bool, true, false, ◌&&◌, cond, ◌==◌, nat_lt, Option, Some, None, is_some, refl, ap, ◌∙◌, arith}
 use Rattle.chess_base.specs.declared.man.Colour.{Colour}
 use Rattle.chess_base.specs.declared.man.CastlingSide.{CastlingSide}
 use Rattle.chess_base.specs.declared.man.CastlingSide.TheVariants.{KingSide, QueenSide}
@@ -17,9 +17,7 @@ use Rattle.std.specs.Option.{option_map_or}
 use Rattle.chess_base.specs.laws.Normal.{normal_right_is_sound_at, normal_says_castling, normal_castling, normal_castle_of, normal_moves_as, normal_has_pattern, normal_men_after, normal_after, normal_is_legal, NormalIsKept}
 
 in_turn : (a b c : Bool) → (a && (b && c)) ≡ (true && a && b && c)
-in_turn true true c = refl
-in_turn true false c = refl
-in_turn false b c = refl
+in_turn a b c = grind arith
 
 never : (a b c : Bool) → (a && false) ≡ (false && a && b && c)
 never true b c = refl
@@ -39,7 +37,7 @@ says_kept : (p : Setup) → p.variant ≡ Normal → (m : Move) (w : CastlingSid
 unfolding is_castling_to normal_says_castling
 says_kept p e m w = rw e (says_by p.side m w (is_man p.side King (man_at p.men m.from)) (right_of p.rights p.side w))
 
-castling_kept : (p : Setup) → p.variant ≡ Normal → (m : Move) → castling p m ≡ normal_castling p m
+pub castling_kept : (p : Setup) → p.variant ≡ Normal → (m : Move) → castling p m ≡ normal_castling p m
 unfolding castling normal_castling
 castling_kept p e m = rw (says_kept p e m KingSide, says_kept p e m QueenSide) refl
 

@@ -3,6 +3,7 @@ use Rattle.std.proofs.Common.{◌≡◌, ℕ, ◌+◌, ◌-◌, ◌<◌, ◌≤�
 use Rattle.std.proofs.lemmas.Bool.{and_parts, and_from, and_right, cases_Bool, cases_order, eqb-true, eq-eqb, ltb-true, or_cases}
 use Rattle.std.proofs.Math.Bool.{and-false}
 use Rattle.std.proofs.lemmas.Bool.Decides.{nat_tests}
+use Rattle.std.specs.Int.{abs_diff}
 use Rattle.chess_base.specs.declared.line.Line.{Line}
 use Rattle.chess_base.specs.declared.line.Line.TheVariants.{Rank, File, Diagonal, Antidiagonal}
 use Rattle.chess_base.specs.declared.man.Colour.{Colour}
@@ -10,59 +11,60 @@ use Rattle.chess_base.specs.declared.man.Colour.TheVariants.{White, Black}
 use Rattle.chess_base.specs.declared.man.Kind.{Kind}
 use Rattle.chess_base.specs.declared.man.Kind.TheVariants.{King, Queen, Rook, Bishop, Knight, Pawn}
 use Rattle.chess_base.specs.declared.man.Man.{Man}
-use Rattle.chess_base.specs.Squares.{file, rank, gap, lies_inside, share_rank_or_file, share_diagonal, is_between, is_between_on_file, is_between_on_rank, is_between_on_diagonal, some_square}
+use Rattle.chess_base.specs.Squares.{file, rank, is_strictly_between, share_rank_or_file, share_diagonal, is_between, is_between_on_file, is_between_on_rank, is_between_on_diagonal, some_square}
 use Rattle.chess_base.specs.Men.{Men, man_at, is_of, is_man, same_colour, same_kind}
 use Rattle.chess_base.specs.Attacks.{is_clear, is_rank_ahead, could_capture, attacks, is_attacked}
 use Rattle.chess_base.specs.shared.Lines.{same_line}
 use Rattle.chess_base.specs.ties.Lines.{step_of, is_above, is_below, attacked_from, attacked_along_from_above, attacked_along_from_below, attacked_along, attacked_by_knight, attacked_by_knight_from_below, attacked_by_knight_from_above, attacked_from_below, attacked_from_above}
 use Rattle.chess_base.proofs.shared.Squares.{each_square-fails, some_square-at, some_square-none, some_square_same, some_square-or}
-use Rattle.chess_base.proofs.Geometry.{between_on_line}
+use Rattle.chess_base.proofs.shared.Geometry.{between_on_line, is_clear_back}
 use Rattle.chess_base.proofs.Knights.{attacked_by_knight_is}
-use Rattle.chess_base.proofs.ClearLines.{is_clear_back, clear_by, step_fits, step_stays, none_between, rises, line_back, line_on}
+use Rattle.chess_base.proofs.ClearLines.{clear_by, step_fits, step_stays, none_between, rises, line_back, line_on}
 
 -- ---- what stands between hides the square
 
 not_near : (a b x : ℕ) → is_between a b x ≡ true
-    → (nat_le (gap (file a) (file b)) 1 && nat_le (gap (rank a) (rank b)) 1) ≡ false
+    → (nat_le (abs_diff (file a) (file b)) 1 && nat_le (abs_diff (rank a) (rank b)) 1) ≡ false
 unfolding is_between is_between_on_file is_between_on_rank is_between_on_diagonal
 not_near a b x e = grind (arith, nat_tests, e)
 
 no_knight_on_file : (a b x : ℕ) → is_between_on_file a b x ≡ true
-    → (((gap (file a) (file b) == 1) && (gap (rank a) (rank b) == 2))
-    || ((gap (file a) (file b) == 2) && (gap (rank a) (rank b) == 1))) ≡ false
+    → (((abs_diff (file a) (file b) == 1) && (abs_diff (rank a) (rank b) == 2))
+    || ((abs_diff (file a) (file b) == 2) && (abs_diff (rank a) (rank b) == 1))) ≡ false
 unfolding is_between_on_file
 no_knight_on_file a b x e = grind (arith, nat_tests, e)
 
 no_knight_on_rank : (a b x : ℕ) → is_between_on_rank a b x ≡ true
-    → (((gap (file a) (file b) == 1) && (gap (rank a) (rank b) == 2))
-    || ((gap (file a) (file b) == 2) && (gap (rank a) (rank b) == 1))) ≡ false
+    → (((abs_diff (file a) (file b) == 1) && (abs_diff (rank a) (rank b) == 2))
+    || ((abs_diff (file a) (file b) == 2) && (abs_diff (rank a) (rank b) == 1))) ≡ false
 unfolding is_between_on_rank
 no_knight_on_rank a b x e = grind (arith, nat_tests, e)
 
 -- over files and ranks: from one square to the next on a diagonal, both change alike
-alike : (f h g r t q : ℕ) → gap f h ≡ gap r t → gap h g ≡ gap t q → lies_inside r q t ≡ true → lies_inside f g h ≡ true
-    → gap f g ≡ gap r q
+alike : (f h g r t q : ℕ) → abs_diff f h ≡ abs_diff r t → abs_diff h g ≡ abs_diff t q → is_strictly_between r q t ≡ true
+    → is_strictly_between f g h ≡ true
+    → abs_diff f g ≡ abs_diff r q
 alike f h g r t q e1 e2 i1 i2 = grind (arith, nat_tests, i1, i2)
 
 no_knight_alike : (n m : ℕ) → n ≡ m → (((n == 1) && (m == 2)) || ((n == 2) && (m == 1))) ≡ false
 no_knight_alike n m e = grind (arith, nat_tests)
 
 no_knight_on_diagonal : (a b x : ℕ) → is_between_on_diagonal a b x ≡ true
-    → (((gap (file a) (file b) == 1) && (gap (rank a) (rank b) == 2))
-    || ((gap (file a) (file b) == 2) && (gap (rank a) (rank b) == 1))) ≡ false
+    → (((abs_diff (file a) (file b) == 1) && (abs_diff (rank a) (rank b) == 2))
+    || ((abs_diff (file a) (file b) == 2) && (abs_diff (rank a) (rank b) == 1))) ≡ false
 unfolding is_between_on_diagonal
 no_knight_on_diagonal a b x e =
-    let last = and_parts _ (lies_inside (file a) (file b) (file x)) e in
-    let next = and_parts _ (lies_inside (rank a) (rank b) (rank x)) last.0 in
+    let last = and_parts _ (is_strictly_between (file a) (file b) (file x)) e in
+    let next = and_parts _ (is_strictly_between (rank a) (rank b) (rank x)) last.0 in
     let first = and_parts (share_diagonal a x) (share_diagonal x b) next.0 in
-    no_knight_alike (gap (file a) (file b)) (gap (rank a) (rank b))
+    no_knight_alike (abs_diff (file a) (file b)) (abs_diff (rank a) (rank b))
     (alike (file a) (file x) (file b) (rank a) (rank x) (rank b)
-    (eqb-true (gap (file a) (file x)) (gap (rank a) (rank x)) first.0)
-    (eqb-true (gap (file x) (file b)) (gap (rank x) (rank b)) first.1) next.1 last.1)
+    (eqb-true (abs_diff (file a) (file x)) (abs_diff (rank a) (rank x)) first.0)
+    (eqb-true (abs_diff (file x) (file b)) (abs_diff (rank x) (rank b)) first.1) next.1 last.1)
 
 no_knight_between : (a b x : ℕ) → is_between a b x ≡ true
-    → (((gap (file a) (file b) == 1) && (gap (rank a) (rank b) == 2))
-    || ((gap (file a) (file b) == 2) && (gap (rank a) (rank b) == 1))) ≡ false
+    → (((abs_diff (file a) (file b) == 1) && (abs_diff (rank a) (rank b) == 2))
+    || ((abs_diff (file a) (file b) == 2) && (abs_diff (rank a) (rank b) == 1))) ≡ false
 unfolding is_between
 no_knight_between a b x e =
     elim (or_cases _ (is_between_on_diagonal a b x) e) [
@@ -75,7 +77,7 @@ no_knight_between a b x e =
     ]
 
 no_pawn_between : (c : Colour) (a b x : ℕ) → is_between a b x ≡ true
-    → ((gap (file a) (file b) == 1) && is_rank_ahead c a b) ≡ false
+    → ((abs_diff (file a) (file b) == 1) && is_rank_ahead c a b) ≡ false
 no_pawn_between White a b x e = let far = not_near a b x e in grind (arith, nat_tests, far)
 no_pawn_between Black a b x e = let far = not_near a b x e in grind (arith, nat_tests, far)
 
@@ -97,7 +99,7 @@ hidden : (men : Men) (c : Colour) (k : Kind) (a b x : ℕ) → x < 64 → is_bet
     → is_none (man_at men x) ≡ false → could_capture men c k a b ≡ false
 unfolding could_capture
 hidden men c King a b x h e piece =
-    last_two_fail (not (a == b)) (nat_le (gap (file a) (file b)) 1) (nat_le (gap (rank a) (rank b)) 1)
+    last_two_fail (not (a == b)) (nat_le (abs_diff (file a) (file b)) 1) (nat_le (abs_diff (rank a) (rank b)) 1)
     (not_near a b x e)
 hidden men c Queen a b x h e piece =
     last_fails (not (a == b)) (share_rank_or_file a b || share_diagonal a b) (is_clear men a b)
@@ -225,18 +227,18 @@ rise_goes_on men l b end n on w more in_board empty = record {
   empty = up_to_next men l b end n on w more in_board empty;
 }
 
-inside_falling : (k b x : ℕ) → b < x → x < k → lies_inside k b x ≡ true
+inside_falling : (k b x : ℕ) → b < x → x < k → is_strictly_between k b x ≡ true
 inside_falling k b x h g = grind (arith, nat_tests)
 
-inside_rising : (k b x : ℕ) → x < b → k < x → lies_inside k b x ≡ true
+inside_rising : (k b x : ℕ) → x < b → k < x → is_strictly_between k b x ≡ true
 inside_rising k b x h g = grind (arith, nat_tests)
 
-hides : (l : Line) (k b x : ℕ) → same_line l b k ≡ true → same_line l b x ≡ true → lies_inside k b x ≡ true
+hides : (l : Line) (k b x : ℕ) → same_line l b k ≡ true → same_line l b x ≡ true → is_strictly_between k b x ≡ true
     → is_between k b x ≡ true
 hides l k b x e f inside =
     let back = line_back l b k e in
     between_on_line l k b x back
-    ∙ and_from (same_line l k x) (lies_inside k b x) (line_on l k b x back f) inside
+    ∙ and_from (same_line l k x) (is_strictly_between k b x) (line_on l k b x back f) inside
 
 above_parts : (l : Line) (b k : ℕ) → is_above l b k ≡ true → (same_line l b k ≡ true) × (b < k)
 above_parts l b k e =
@@ -485,11 +487,11 @@ either_line a b e =
       | inr diagonal ↦ diagonal_line a b diagonal
     ]
 
-king_line : (a b : ℕ) → nat_le (gap (file a) (file b)) 1 ≡ true → nat_le (gap (rank a) (rank b)) 1 ≡ true
+king_line : (a b : ℕ) → nat_le (abs_diff (file a) (file b)) 1 ≡ true → nat_le (abs_diff (rank a) (rank b)) 1 ≡ true
     → (share_rank_or_file a b || share_diagonal a b) ≡ true
 king_line a b e f = grind (arith, nat_tests, e, f)
 
-pawn_line : (c : Colour) (a b : ℕ) → ((gap (file a) (file b) == 1) && is_rank_ahead c a b) ≡ true
+pawn_line : (c : Colour) (a b : ℕ) → ((abs_diff (file a) (file b) == 1) && is_rank_ahead c a b) ≡ true
     → share_diagonal a b ≡ true
 pawn_line White a b e = grind (arith, nat_tests, e)
 pawn_line Black a b e = grind (arith, nat_tests, e)
@@ -503,8 +505,8 @@ lined : (men : Men) (d : Colour) (k : Kind) (a b : ℕ) → could_capture men d 
 unfolding could_capture
 lined men d King a b e =
     inl (either_line a b (king_line a b
-    (middle (not (a == b)) (nat_le (gap (file a) (file b)) 1) (nat_le (gap (rank a) (rank b)) 1) e)
-    (and_parts _ (nat_le (gap (rank a) (rank b)) 1) e).1))
+    (middle (not (a == b)) (nat_le (abs_diff (file a) (file b)) 1) (nat_le (abs_diff (rank a) (rank b)) 1) e)
+    (and_parts _ (nat_le (abs_diff (rank a) (rank b)) 1) e).1))
 lined men d Queen a b e =
     inl (either_line a b (middle (not (a == b)) (share_rank_or_file a b || share_diagonal a b) (is_clear men a b) e))
 lined men d Rook a b e =

@@ -2,53 +2,48 @@
 use Rattle.std.proofs.Common.{◌≡◌, ◌≢◌, ℕ, ◌+◌, ◌-◌, ◌*◌, ◌<◌, Bool, true, false, ◌&&◌, ◌||◌, not, ◌==◌, nat_le, Option, Some, None, refl, sym, ap, ◌∙◌, arith}
 use Rattle.std.proofs.lemmas.Bool.{eqb-true, ne_eqb}
 use Rattle.std.proofs.lemmas.Bool.Decides.{nat_tests}
+use Rattle.std.specs.Int.{abs_diff}
 use Rattle.chess_base.specs.declared.line.Line.{Line}
 use Rattle.chess_base.specs.declared.line.Line.TheVariants.{Rank, File, Diagonal, Antidiagonal}
 use Rattle.chess_base.specs.declared.man.Colour.{Colour}
 use Rattle.chess_base.specs.declared.man.Kind.{Kind}
 use Rattle.chess_base.specs.declared.man.Kind.TheVariants.{King, Queen, Rook, Bishop, Knight, Pawn}
 use Rattle.chess_base.specs.declared.man.Man.{Man}
-use Rattle.chess_base.specs.Squares.{file, rank, gap, share_rank_or_file, share_diagonal}
+use Rattle.chess_base.specs.Squares.{file, rank, share_rank_or_file, share_diagonal}
 use Rattle.chess_base.specs.Men.{Men, man_at, is_of, same_colour}
 use Rattle.chess_base.specs.Attacks.{is_clear, could_capture, attacks}
 use Rattle.chess_base.specs.shared.Lines.{same_line}
 use Rattle.chess_base.specs.ties.Lines.{step_of, is_straight, reaches, attacked_from}
+use Rattle.chess_base.proofs.shared.Geometry.{by_parts}
 
 -- over files f and g and ranks r and q of two squares: the squares of one line
 
-rank_king : (f g r q : ℕ) → f < 8 → g < 8 → r ≡ q → (nat_le (gap f g) 1 && nat_le (gap r q) 1 && not (8 * r + f == 8 * q + g))
-    ≡ (gap (8 * r + f) (8 * q + g) == 1)
+rank_king : (f g r q : ℕ) → f < 8 → g < 8 → r ≡ q
+    → (nat_le (abs_diff f g) 1 && nat_le (abs_diff r q) 1 && not (8 * r + f == 8 * q + g))
+    ≡ (abs_diff (8 * r + f) (8 * q + g) == 1)
 rank_king f g r q h k e = grind (arith, nat_tests)
 
-file_king : (f g r q : ℕ) → f ≡ g → (nat_le (gap f g) 1 && nat_le (gap r q) 1 && not (8 * r + f == 8 * q + g))
-    ≡ (gap (8 * r + f) (8 * q + g) == 8)
+file_king : (f g r q : ℕ) → f ≡ g → (nat_le (abs_diff f g) 1 && nat_le (abs_diff r q) 1 && not (8 * r + f == 8 * q + g))
+    ≡ (abs_diff (8 * r + f) (8 * q + g) == 8)
 file_king f g r q e = grind (arith, nat_tests)
 
-diagonal_king : (f g r q : ℕ) → r + g ≡ q + f → (nat_le (gap f g) 1 && nat_le (gap r q) 1 && not (8 * r + f == 8 * q + g))
-    ≡ (gap (8 * r + f) (8 * q + g) == 9)
+diagonal_king : (f g r q : ℕ) → r + g ≡ q + f
+    → (nat_le (abs_diff f g) 1 && nat_le (abs_diff r q) 1 && not (8 * r + f == 8 * q + g))
+    ≡ (abs_diff (8 * r + f) (8 * q + g) == 9)
 diagonal_king f g r q e = grind (arith, nat_tests)
 
 antidiagonal_king : (f g r q : ℕ) → r + f ≡ q + g
-    → (nat_le (gap f g) 1 && nat_le (gap r q) 1 && not (8 * r + f == 8 * q + g))
-    ≡ (gap (8 * r + f) (8 * q + g) == 7)
+    → (nat_le (abs_diff f g) 1 && nat_le (abs_diff r q) 1 && not (8 * r + f == 8 * q + g))
+    ≡ (abs_diff (8 * r + f) (8 * q + g) == 7)
 antidiagonal_king f g r q e = grind (arith, nat_tests)
 
-by_parts : (s : ℕ) → 8 * rank s + file s ≡ s
-by_parts s = omega arith
-
 moved_first : (p q r : Bool) → (p && q && r) ≡ (q && r && p)
-moved_first true true true = refl
-moved_first true true false = refl
-moved_first true false true = refl
-moved_first true false false = refl
-moved_first false true true = refl
-moved_first false true false = refl
-moved_first false false true = refl
-moved_first false false false = refl
+moved_first p q r = grind arith
 
 next_to : (l : Line) (a b : ℕ) → same_line l b a ≡ true
-    → (nat_le (gap (file a) (file b)) 1 && nat_le (gap (rank a) (rank b)) 1 && not (8 * rank a + file a == 8 * rank b + file b))
-    ≡ (gap (8 * rank a + file a) (8 * rank b + file b) == step_of l)
+    → (nat_le (abs_diff (file a) (file b)) 1 && nat_le (abs_diff (rank a) (rank b)) 1
+    && not (8 * rank a + file a == 8 * rank b + file b))
+    ≡ (abs_diff (8 * rank a + file a) (8 * rank b + file b) == step_of l)
 next_to Rank a b e =
     let n = eqb-true (rank b) (rank a) e in
     rank_king (file a) (file b) (rank a) (rank b) (omega arith) (omega arith) (sym n)
@@ -79,8 +74,8 @@ either_way true = refl
 either_way false = refl
 
 no_knight : (l : Line) (a b : ℕ) → same_line l b a ≡ true
-    → (((gap (file a) (file b) == 1) && (gap (rank a) (rank b) == 2))
-    || ((gap (file a) (file b) == 2) && (gap (rank a) (rank b) == 1))) ≡ false
+    → (((abs_diff (file a) (file b) == 1) && (abs_diff (rank a) (rank b) == 2))
+    || ((abs_diff (file a) (file b) == 2) && (abs_diff (rank a) (rank b) == 1))) ≡ false
 no_knight Rank a b e = grind (arith, nat_tests, e)
 no_knight File a b e = grind (arith, nat_tests, e)
 no_knight Diagonal a b e = grind (arith, nat_tests, e)
@@ -96,7 +91,7 @@ captures_is : (men : Men) (l : Line) (c : Colour) (k : Kind) (a b : ℕ) → a �
     → is_clear men a b ≡ true → could_capture men c k a b ≡ reaches l c k a b
 unfolding could_capture
 captures_is men l c King a b n on clear =
-    moved_first (not (a == b)) (nat_le (gap (file a) (file b)) 1) (nat_le (gap (rank a) (rank b)) 1)
+    moved_first (not (a == b)) (nat_le (abs_diff (file a) (file b)) 1) (nat_le (abs_diff (rank a) (rank b)) 1)
     ∙ rw (by_parts a, by_parts b) at (next_to l a b on)
 captures_is men l c Queen a b n on clear =
     all_three (not (a == b)) (share_rank_or_file a b || share_diagonal a b) (is_clear men a b) true

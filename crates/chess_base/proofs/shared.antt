@@ -3,6 +3,7 @@ pub mod Captures
 pub mod Castling
 pub mod Changes
 pub mod Choices
+pub mod Geometry
 pub mod Kings
 pub mod LegalMoves
 pub mod Men

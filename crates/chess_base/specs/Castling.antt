@@ -64,16 +64,17 @@ rights_by f = record {
 unfoldable pub king_square : Men → Colour → Option ℕ
 king_square men c = position (λ o. is_man c King o) men
 
--- for squares k and s on one rank: s lies on that side of k, towards file h (king side) or towards file a (queen side)
+-- for squares of one rank: square s lies on that side of the king's square, towards file h (king side) or towards file
+-- a (queen side)
 abbrev pub is_to_side : CastlingSide → ℕ → ℕ → Bool
-is_to_side KingSide k s = nat_lt k s
-is_to_side QueenSide k s = nat_lt s k
+is_to_side KingSide king s = nat_lt king s
+is_to_side QueenSide king s = nat_lt s king
 
 -- the king's square and square s are on colour c's first rank, and s lies on side w of the king; false if there is no
 -- king
 abbrev pub is_beside : Colour → CastlingSide → Option ℕ → ℕ → Bool
 is_beside c w None s = false
-is_beside c w (Some k) s = (rank k == first_rank c) && (rank s == first_rank c) && is_to_side w k s
+is_beside c w (Some king) s = (rank king == first_rank c) && (rank s == first_rank c) && is_to_side w king s
 
 -- colour c's king, and a rook of c on square s, are where castling on side w begins: in normal chess both on their
 -- initial squares, in Chess960 both on the first rank, the rook on that side of the king
@@ -111,12 +112,12 @@ castling p m =
 
 -- ---- the squares of a castling
 
--- the four squares of castling: of colour c, on side w, with the king on square k and the rook on square r before it
+-- the four squares of colour c's castling on side w, from those of king and rook before it
 abbrev pub castle_from : Colour → CastlingSide → ℕ → ℕ → Castle
-castle_from c w k r = record {
-  king_from = k;
+castle_from c w king rook = record {
+  king_from = king;
   king_to = home_square c (castled_king_file w);
-  rook_from = r;
+  rook_from = rook;
   rook_to = home_square c (castled_rook_file w);
 }
 

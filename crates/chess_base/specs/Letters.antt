@@ -43,11 +43,6 @@ is_letter c = (nat_le (byte "A") c && nat_le c (byte "Z")) || (nat_le (byte "a")
 abbrev pub is_digit : ℕ → Bool
 is_digit c = nat_le (byte "0") c && nat_le c (byte "9")
 
--- the number n with more decimal digits appended: after 12, the digits "34" give 1234
-abbrev pub value_after : ℕ → List ℕ → ℕ
-value_after n [] = n
-value_after n (c ∷ cs) = value_after (10 * n + (c - byte "0")) cs
-
 -- ---- pieces and squares
 
 -- the capital letter of a kind of piece, as in SAN, and in FEN for White's (PGN standard of 1994, sections 8.2.3.2 and

@@ -1,7 +1,11 @@
--- Values that may be missing, one after another.
-use Rattle.std.specs.Prelude.{Option, option_and_then}
+-- Values and lists that may be missing.
+use Rattle.std.specs.Prelude.{Bool, if◌then◌else◌, List, [], Option, option_and_then}
 
 infixl 10 ◌>>=◌
 -- `f` of the value that `o` has; `None` if it has none
 abbrev pub ◌>>=◌ : {A B : Type 0} → Option A → (A → Option B) → Option B
 o >>= f = option_and_then f o
+
+-- the list `xs` if `b` is true, else the empty list
+abbrev pub list_if : {A : Type 0} → Bool → List A → List A
+list_if b xs = if b then xs else []

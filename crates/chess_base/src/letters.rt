@@ -1,4 +1,7 @@
 //! The letters of pieces, written and read: capital in SAN, capital or small in FEN.
+//!
+//! All functions are inlined: each is a choice of one of a few bytes, made for each piece of a FEN and each word of a
+//! game. What that gains was not measured apart.
 
 ghost use Rattle.std.specs.Prelude.{◌≡◌, ◌<◌};
 ghost use Rattle.chess_base.specs.declared.man.Colour.TheVariants.{Black};

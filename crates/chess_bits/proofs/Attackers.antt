@@ -2,12 +2,13 @@
 use Rattle.std.proofs.Common.{◌≡◌, ℕ, zero, suc, ◌<◌, Bool, true, false, not, ◌&&◌, ◌||◌, ◌==◌, refl, ◌∙◌, ap, arith, Option, Some, None, is_none}
 use Rattle.std.proofs.lemmas.Bool.{eqb-true}
 use Rattle.std.proofs.lemmas.Bool.Decides.{nat_tests}
+use Rattle.std.specs.Int.{abs_diff}
 use Rattle.chess_base.specs.declared.man.Colour.{Colour}
 use Rattle.chess_base.specs.declared.man.Colour.TheVariants.{White, Black}
 use Rattle.chess_base.specs.declared.man.Kind.{Kind}
 use Rattle.chess_base.specs.declared.man.Kind.TheVariants.{King, Queen, Rook, Bishop, Knight, Pawn}
 use Rattle.chess_base.specs.declared.man.Man.{Man}
-use Rattle.chess_base.specs.Squares.{file, rank, gap, lies_inside, share_rank_or_file, share_diagonal, is_between, is_between_on_file, is_between_on_rank, is_between_on_diagonal, each_below, each_square, some_below, some_square}
+use Rattle.chess_base.specs.Squares.{file, rank, is_strictly_between, share_rank_or_file, share_diagonal, is_between, is_between_on_file, is_between_on_rank, is_between_on_diagonal, each_below, each_square, some_below, some_square}
 use Rattle.chess_base.specs.Men.{Men, man_at, other, same_colour, same_kind, is_of, is_man}
 use Rattle.chess_base.specs.Attacks.{is_clear, could_capture, attacks, is_attacked}
 use Rattle.chess_base.specs.shared.Splits.{could_capture_as}
@@ -43,13 +44,13 @@ pub each_square_same : (p q : ℕ → Bool) → ((k : ℕ) → k < 64 → p k �
 unfolding each_square
 each_square_same p q h = each_below_same 64 p q h
 
-pub gap_back : (m n : ℕ) → gap m n ≡ gap n m
+pub gap_back : (m n : ℕ) → abs_diff m n ≡ abs_diff n m
 gap_back m n = omega arith
 
 pub eq_back : (m n : ℕ) → (m == n) ≡ (n == m)
 eq_back m n = grind (arith, nat_tests)
 
-inside_back : (m n x : ℕ) → lies_inside m n x ≡ lies_inside n m x
+inside_back : (m n x : ℕ) → is_strictly_between m n x ≡ is_strictly_between n m x
 inside_back m n x = grind (arith, nat_tests)
 
 swap_first : (p q r : Bool) → (p && q && r) ≡ (q && p && r)
@@ -61,12 +62,12 @@ swap_first false false r = refl
 back_on_file : (a b x : ℕ) → is_between_on_file a b x ≡ is_between_on_file b a x
 unfolding is_between_on_file
 back_on_file a b x = rw (inside_back (rank a) (rank b) (rank x))
-    (swap_first (file x == file a) (file x == file b) (lies_inside (rank b) (rank a) (rank x)))
+    (swap_first (file x == file a) (file x == file b) (is_strictly_between (rank b) (rank a) (rank x)))
 
 back_on_rank : (a b x : ℕ) → is_between_on_rank a b x ≡ is_between_on_rank b a x
 unfolding is_between_on_rank
 back_on_rank a b x = rw (inside_back (file a) (file b) (file x))
-    (swap_first (rank x == rank a) (rank x == rank b) (lies_inside (file b) (file a) (file x)))
+    (swap_first (rank x == rank a) (rank x == rank b) (is_strictly_between (file b) (file a) (file x)))
 
 pub diagonal_back : (a b : ℕ) → share_diagonal a b ≡ share_diagonal b a
 diagonal_back a b = rw (gap_back (file a) (file b), gap_back (rank a) (rank b)) refl

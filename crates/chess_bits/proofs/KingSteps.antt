@@ -2,6 +2,7 @@
 use Rattle.std.proofs.Common.{◌≡◌, ℕ, ◌<◌, inl, inr, Bool, true, false, not, ◌&&◌, ◌==◌, Option, Some, None, refl, sym, ap, ◌∙◌, arith}
 use Rattle.std.proofs.lemmas.Bool.{and_parts, and_right, both_ways, cases_Bool, eqb-true, eq-eqb, false_from_ne_true}
 use Rattle.std.proofs.lemmas.Bool.Decides.{nat_tests}
+use Rattle.std.specs.Int.{abs_diff}
 use Rattle.chess_base.specs.declared.man.CastlingSide.{CastlingSide}
 use Rattle.chess_base.specs.declared.man.CastlingSide.TheVariants.{KingSide, QueenSide}
 use Rattle.chess_base.specs.declared.man.Colour.{Colour}
@@ -20,7 +21,7 @@ use Rattle.chess_base.specs.Men.{Men, man_at, other, is_of, is_man}
 use Rattle.chess_base.specs.MoveList.{move_of}
 use Rattle.chess_base.specs.Moves.{is_pseudo_legal, is_legal, is_en_passant, man_moves, men_after, second_square_emptied}
 use Rattle.chess_base.specs.Sound.{IsSound}
-use Rattle.chess_base.specs.Squares.{file, rank, gap, is_between, is_between_on_file, is_between_on_rank, is_between_on_diagonal}
+use Rattle.chess_base.specs.Squares.{file, rank, is_between, is_between_on_file, is_between_on_rank, is_between_on_diagonal}
 use Rattle.chess_base.proofs.shared.Castling.{right_is_sound_of, castling_rook_is_there}
 use Rattle.chess_base.proofs.shared.Men.{is_of-from_is_man}
 use Rattle.chess_moves.specs.Promoting.{would_promote}
@@ -35,7 +36,7 @@ use Rattle.chess_bits.proofs.TargetsOf.{man_told, none_castles, steps_of_man}
 
 -- ---- a square is attacked from elsewhere: what is on it doesn't count
 
-gap_self : (n : ℕ) → gap n n ≡ 0
+gap_self : (n : ℕ) → abs_diff n n ≡ 0
 gap_self n = omega arith
 
 no_self_hit : (men : Men) (c : Colour) (k : Kind) (b : ℕ) → could_capture men c k b b ≡ false

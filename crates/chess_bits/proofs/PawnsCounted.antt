@@ -4,6 +4,7 @@ use Rattle.std.proofs.Common.{◌≡◌, ℕ, zero, suc, ◌+◌, ◌-◌, ◌/�
 use Rattle.std.specs.List.{filter, flat_map, range_with_len}
 use Rattle.std.proofs.lemmas.Bool.{and_parts, and_from, and_right, or_cases, or_parts, or_left, or_right, cases_Bool, eqb-true, eq-eqb, ne_eqb, both_ways, false_from_ne_true, not-true}
 use Rattle.std.proofs.lemmas.Bool.Decides.{nat_tests}
+use Rattle.std.specs.Int.{abs_diff}
 use Rattle.chess_base.specs.declared.man.Colour.{Colour}
 use Rattle.chess_base.specs.declared.man.Colour.TheVariants.{White, Black}
 use Rattle.chess_base.specs.declared.man.Kind.TheVariants.{King, Pawn}
@@ -13,7 +14,7 @@ use Rattle.chess_base.specs.Men.{Men, man_at, is_of, is_man, other, forward, paw
 use Rattle.chess_base.specs.MoveList.{move_of, squares}
 use Rattle.chess_base.specs.Moves.{is_legal, pawn_advances, pawn_captures}
 use Rattle.chess_base.specs.Sound.{IsSound, no_pawn_on_end_ranks, pawn_is_allowed}
-use Rattle.chess_base.specs.Squares.{file, rank, gap, is_square}
+use Rattle.chess_base.specs.Squares.{file, rank, is_square}
 use Rattle.chess_base.proofs.shared.Squares.{each_square-at}
 use Rattle.chess_moves.specs.shared.MovesBySquares.{moves_between, moves_from}
 use Rattle.chess_moves.specs.Sets.{contains, members}
@@ -172,7 +173,7 @@ same_tests false true h g = g refl
 same_tests false false h g = refl
 
 -- one file apart is to the left or to the right
-aside : (m n : ℕ) → gap m n ≡ 1 → (m ≡ n + 1) ⊎ (n ≡ m + 1)
+aside : (m n : ℕ) → abs_diff m n ≡ 1 → (m ≡ n + 1) ⊎ (n ≡ m + 1)
 aside m n e = grind (arith, e)
 
 off_edge : (n m : ℕ) → not (n == m) ≡ true → n ≡ m → ⊥
@@ -195,30 +196,32 @@ to_left : (men : Men) (c : Colour) (a b : ℕ) → Inside c a → (file a ≡ 0 
     → could_capture men c Pawn a b ≡ true
 unfolding could_capture
 to_left men White a b i off e =
-    and_from (gap (file a) (file b) == 1) (rank b == rank a + 1) (eq-eqb (gap (file a) (file b)) 1 (omega (arith, e, off)))
+    and_from (abs_diff (file a) (file b) == 1) (rank b == rank a + 1)
+        (eq-eqb (abs_diff (file a) (file b)) 1 (omega (arith, e, off)))
     (eq-eqb (rank b) (rank a + 1) (omega (arith, e, off)))
 to_left men Black a b i off e =
-    and_from (gap (file a) (file b) == 1) (rank a == rank b + 1)
-    (eq-eqb (gap (file a) (file b)) 1 (omega (arith, e, off, i.0)))
+    and_from (abs_diff (file a) (file b) == 1) (rank a == rank b + 1)
+    (eq-eqb (abs_diff (file a) (file b)) 1 (omega (arith, e, off, i.0)))
     (eq-eqb (rank a) (rank b + 1) (omega (arith, e, off, i.0)))
 
 to_right : (men : Men) (c : Colour) (a b : ℕ) → Inside c a → (file a ≡ 7 → ⊥) → b ≡ forward c a + 1
     → could_capture men c Pawn a b ≡ true
 unfolding could_capture
 to_right men White a b i off e =
-    and_from (gap (file a) (file b) == 1) (rank b == rank a + 1) (eq-eqb (gap (file a) (file b)) 1 (omega (arith, e, off)))
+    and_from (abs_diff (file a) (file b) == 1) (rank b == rank a + 1)
+        (eq-eqb (abs_diff (file a) (file b)) 1 (omega (arith, e, off)))
     (eq-eqb (rank b) (rank a + 1) (omega (arith, e, off)))
 to_right men Black a b i off e =
-    and_from (gap (file a) (file b) == 1) (rank a == rank b + 1)
-    (eq-eqb (gap (file a) (file b)) 1 (omega (arith, e, off, i.0)))
+    and_from (abs_diff (file a) (file b) == 1) (rank a == rank b + 1)
+    (eq-eqb (abs_diff (file a) (file b)) 1 (omega (arith, e, off, i.0)))
     (eq-eqb (rank a) (rank b + 1) (omega (arith, e, off, i.0)))
 
 attacked : (men : Men) (c : Colour) (a b : ℕ) → Inside c a → could_capture men c Pawn a b ≡ true
     → ((not (file a == 0) && (b == forward c a - 1)) || (not (file a == 7) && (b == forward c a + 1))) ≡ true
 unfolding could_capture
 attacked men c a b i h =
-    let both = and_parts (gap (file a) (file b) == 1) (is_rank_ahead c a b) h in
-    elim (aside (file a) (file b) (eqb-true (gap (file a) (file b)) 1 both.0)) [
+    let both = and_parts (abs_diff (file a) (file b) == 1) (is_rank_ahead c a b) h in
+    elim (aside (file a) (file b) (eqb-true (abs_diff (file a) (file b)) 1 both.0)) [
       | inl left ↦
           or_left (not (file a == 0) && (b == forward c a - 1)) (not (file a == 7) && (b == forward c a + 1))
           (and_from (not (file a == 0)) (b == forward c a - 1) (off_edge' (file a) 0 (λ e. omega (arith, e, left)))

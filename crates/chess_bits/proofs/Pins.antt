@@ -16,7 +16,7 @@ use Rattle.chess_base.specs.Castling.{castle_of, castle_from, mover_end, castlin
 use Rattle.chess_base.specs.Men.{Men, man_at, other, is_man, is_of, same_kind, same_colour, first_rank, crossed_rank, forward}
 use Rattle.chess_base.specs.Moves.{is_pseudo_legal, is_legal, after, arriving_man, man_moves, men_after, second_square_emptied, promotion_fits}
 use Rattle.chess_base.specs.Sound.{IsSound, target_is_sound, target_is_sound_at}
-use Rattle.chess_base.specs.Squares.{file, rank, is_between, is_between_on_file, is_between_on_rank, is_between_on_diagonal, lies_inside, is_square, share_rank_or_file, share_diagonal}
+use Rattle.chess_base.specs.Squares.{file, rank, is_between, is_between_on_file, is_between_on_rank, is_between_on_diagonal, is_strictly_between, is_square, share_rank_or_file, share_diagonal}
 use Rattle.chess_base.specs.shared.Splits.{could_capture_as}
 use Rattle.chess_base.proofs.shared.Men.{is_none-None}
 use Rattle.chess_base.proofs.shared.MoveKinds.{Moves, MoveKind, ManMoves, Castles, PawnMoves, moves_from_pattern, castles_unpromoted}
@@ -412,7 +412,8 @@ line_between a b x la lb lx h =
       | inl straight ↦
           elim (or_cases (is_between_on_file a b x) (is_between_on_rank a b x) straight) [
             | inl f ↦
-                let one = and_parts ((file x == file a) && (file x == file b)) (lies_inside (rank a) (rank b) (rank x))
+                let one = and_parts ((file x == file a) && (file x == file b))
+                    (is_strictly_between (rank a) (rank b) (rank x))
                 f in
                 let two = and_parts (file x == file a) (file x == file b) one.0 in (
                   File,
@@ -420,7 +421,8 @@ line_between a b x la lb lx h =
                       (sym (eqb-true (file x) (file a) two.0) ∙ eqb-true (file x) (file b) two.1),
                 )
             | inr r ↦
-                let one = and_parts ((rank x == rank a) && (rank x == rank b)) (lies_inside (file a) (file b) (file x))
+                let one = and_parts ((rank x == rank a) && (rank x == rank b))
+                    (is_strictly_between (file a) (file b) (file x))
                 r in
                 let two = and_parts (rank x == rank a) (rank x == rank b) one.0 in (
                   Rank,
@@ -430,9 +432,10 @@ line_between a b x la lb lx h =
           ]
       | inr d ↦
           let one = and_parts
-          ((share_diagonal a x && share_diagonal x b) && lies_inside (rank a) (rank b) (rank x))
-          (lies_inside (file a) (file b) (file x)) d in
-          let two = and_parts (share_diagonal a x && share_diagonal x b) (lies_inside (rank a) (rank b) (rank x)) one.0
+          ((share_diagonal a x && share_diagonal x b) && is_strictly_between (rank a) (rank b) (rank x))
+          (is_strictly_between (file a) (file b) (file x)) d in
+          let two = and_parts (share_diagonal a x && share_diagonal x b)
+              (is_strictly_between (rank a) (rank b) (rank x)) one.0
           in
           let both = and_parts (share_diagonal a x) (share_diagonal x b) two.0 in
           aslant (or_cases (same_line Diagonal a x) (same_line Antidiagonal a x)
@@ -442,16 +445,18 @@ line_between a b x la lb lx h =
     ]
   where
     bent : same_line Diagonal a x ≡ true → same_line Antidiagonal x b ≡ true
-        → lies_inside (rank a) (rank b) (rank x) ≡ true → lies_inside (file a) (file b) (file x) ≡ true → ⊥
+        → is_strictly_between (rank a) (rank b) (rank x) ≡ true → is_strictly_between (file a) (file b) (file x) ≡ true
+        → ⊥
     bent e f r s = grind (arith, nat_tests, e, f, r, s)
 
     bent_back : same_line Antidiagonal a x ≡ true → same_line Diagonal x b ≡ true
-        → lies_inside (rank a) (rank b) (rank x) ≡ true → lies_inside (file a) (file b) (file x) ≡ true → ⊥
+        → is_strictly_between (rank a) (rank b) (rank x) ≡ true → is_strictly_between (file a) (file b) (file x) ≡ true
+        → ⊥
     bent_back e f r s = grind (arith, nat_tests, e, f, r, s)
 
     aslant : ((same_line Diagonal a x ≡ true) ⊎ (same_line Antidiagonal a x ≡ true))
         → ((same_line Diagonal x b ≡ true) ⊎ (same_line Antidiagonal x b ≡ true))
-        → lies_inside (rank a) (rank b) (rank x) ≡ true → lies_inside (file a) (file b) (file x) ≡ true
+        → is_strictly_between (rank a) (rank b) (rank x) ≡ true → is_strictly_between (file a) (file b) (file x) ≡ true
         → (l : Line) × (same_line l a b ≡ true)
     aslant (inl e) (inl f) r s = (
       Diagonal,

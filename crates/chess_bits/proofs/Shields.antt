@@ -3,7 +3,7 @@ use Rattle.std.proofs.Common.{◌≡◌, ℕ, ◌<◌, inl, inr, Bool, true, fal
 use Rattle.std.proofs.lemmas.Bool.{and_parts, or_cases, or_left, or_right, both_ways, cases_Bool, eqb-true, eq-eqb, false_from_ne_true}
 use Rattle.chess_base.specs.Attacks.{is_clear}
 use Rattle.chess_base.specs.Men.{Men, man_at}
-use Rattle.chess_base.specs.Squares.{share_rank_or_file, share_diagonal, lies_inside, is_between}
+use Rattle.chess_base.specs.Squares.{share_rank_or_file, share_diagonal, is_strictly_between, is_between}
 use Rattle.chess_base.proofs.shared.Squares.{each_square-all, each_square-at}
 use Rattle.chess_base.specs.declared.line.Line.{Line}
 use Rattle.chess_base.specs.declared.line.Line.TheVariants.{Rank, File, Diagonal, Antidiagonal}
@@ -15,8 +15,9 @@ use Rattle.chess_bits.proofs.Lifted.{lifted_at}
 -- ---- three squares on a line
 
 parts_on : (l : Line) (b k a : ℕ) → same_line l b k ≡ true → is_between b k a ≡ true → (same_line l b a ≡ true)
-    × (lies_inside b k a ≡ true)
-parts_on l b k a same h = and_parts (same_line l b a) (lies_inside b k a) (sym (between_on_line l b k a same) ∙ h)
+    × (is_strictly_between b k a ≡ true)
+parts_on l b k a same h = and_parts (same_line l b a) (is_strictly_between b k a)
+    (sym (between_on_line l b k a same) ∙ h)
 
 line_on : (l : Line) (b k a : ℕ) → same_line l b k ≡ true → is_between b k a ≡ true → same_line l a k ≡ true
 line_on l b k a same h =

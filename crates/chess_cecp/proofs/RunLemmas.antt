@@ -4,8 +4,8 @@ use Rattle.std.proofs.Math.Seq.{take-append-add}
 use Rattle.std.specs.Io.KnownBytes.{Consumes, IsAtEnd}
 use Rattle.std.specs.Bool.{MatchBool}
 use Rattle.std.proofs.lemmas.Grind.{common_steps}
-use Rattle.byte_devices.specs.Devices.{InputState, OutputState, Sent, BreaksOff, risen}
-use Rattle.byte_devices.specs.Transfers.{FromInput, InputGave, OutputTook, Ran, all_of, risen_if}
+use Rattle.byte_devices.specs.Devices.{InputState, OutputState, Sent, BreaksOff, saturating_increment}
+use Rattle.byte_devices.specs.Transfers.{FromInput, InputGave, OutputTook, Ran, all_of, saturating_increment_if}
 use Rattle.byte_devices.proofs.shared.Devices.{consumes_more, consumes_none}
 use Rattle.byte_devices.proofs.shared.Transfers.{came, broke, took_nothing, took_more, took_some_more}
 use Rattle.text_lines.specs.Lines.{LineSeen, Held, nothing_held, stream_lines, lines_held, whole}
@@ -84,7 +84,7 @@ pub record Reached (r r' : InputState) (given : List ℕ) (reported : Bool) (don
   pub lines : stream_lines COMMAND_LEN reported given ≡ done ++ line ∷ after
   pub on_demand : length (whole COMMAND_LEN (before_piece r'.last_len given)) ≤ length done
   pub failures : r'.failure_count ≡ r.failure_count
-  pub ends : r'.end_count ≡ risen_if reported r.end_count
+  pub ends : r'.end_count ≡ saturating_increment_if reported r.end_count
   pub at_end : reported ≡ true → IsAtEnd r'.known_bytes
 
 pub of_true : (b : Bool) (P Q : Type 0) → b ≡ true → MatchBool b P Q → P
@@ -120,7 +120,7 @@ reached_last r r' r'' held held' given more done line f bytes waits got = record
   lines = f.lines true more ∙ ap (λ v. done ++ v) got.lines;
   on_demand = waited r r' r'' held given more done f waits;
   failures = got.failures ∙ f.failures;
-  ends = got.ends ∙ ap risen f.ends;
+  ends = got.ends ∙ ap saturating_increment f.ends;
   at_end = λ e. got.at_end;
 }
 
@@ -318,7 +318,7 @@ by_end {respond} E {r} {r'} {r''} {s} {s'} {given} {done} f (more, bytes, waits,
     bytes = consumes_more r.known_bytes r'.known_bytes r''.known_bytes given more f.bytes bytes;
     early = refl;
     at_end = λ e. got.at_end;
-    ends = got.ends ∙ ap risen f.ends;
+    ends = got.ends ∙ ap saturating_increment f.ends;
     failures = got.failures ∙ f.failures;
   },
   f.took,
@@ -343,7 +343,7 @@ by_read {respond} e {r} {r'} {r''} {s} {s'} {given} {done} f (more, bytes, waits
     early = refl;
     at_end = λ e. cc;
     ends = got.ends ∙ f.ends;
-    failures = got.failures ∙ ap risen f.failures;
+    failures = got.failures ∙ ap saturating_increment f.failures;
   },
   f.took,
   (

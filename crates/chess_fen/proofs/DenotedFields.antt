@@ -4,17 +4,18 @@ use Rattle.std.specs.Prelude.{option_and_then}
 use Rattle.std.specs.List.{slice_split, AllZip, AllByRecursion, list_all}
 use Rattle.std.proofs.lemmas.Bool.Decides.{nat_tests}
 use Rattle.std.proofs.lemmas.List.{append-nil}
+use Rattle.std.specs.Str.Parse.{digits_value}
 use Rattle.chess_base.proofs.shared.Choices.{chosen}
 use Rattle.chess_base.specs.declared.man.Man.{Man}
 use Rattle.chess_base.specs.declared.man.Colour.{Colour}
 use Rattle.chess_base.specs.declared.man.Colour.TheVariants.{White, Black}
-use Rattle.chess_base.specs.Letters.{is_digit, value_after}
+use Rattle.chess_base.specs.Letters.{is_digit}
 use Rattle.chess_fen.specs.Texts.{number_of, rank_of, squares_by_ranks, placement_of, target_of}
 use Rattle.chess_fen.specs.Writing.{side_text}
 use Rattle.chess_fen.specs.Reading.{side_of}
 use Rattle.chess_fen.specs.Denotation.{DenotesRank, from_top, DenotesPlacement, DenotesTarget, DenotesNumber}
 use Rattle.chess_fen.proofs.DenotedRanks.{denoted-rank, rank-of_denoted}
-use Rattle.chess_fen.proofs.RoundTrip.{side-text, target-text, own_bytes}
+use Rattle.chess_fen.proofs.RoundTrip.{side-text, target-text}
 
 -- ---- placement
 
@@ -147,13 +148,13 @@ digits_all (c ∷ cs) p =
 
 pub denoted-number : (text : List ℕ) (n : ℕ) → number_of text ≡ Some n → DenotesNumber text n
 denoted-number text n e =
-    let h = chosen (ltb 0 (length text) && leb (length text) 6 && list_all is_digit text) (Some (value_after 0 text)) n
+    let h = chosen (ltb 0 (length text) && leb (length text) 6 && list_all is_digit text) (Some (digits_value 10 text)) n
     e in
     let t = both3 (ltb 0 (length text)) (leb (length text) 6) (list_all is_digit text) h.0 in
     let some : 0 < length text = grind (arith, nat_tests, t.0) in
     let short : length text ≤ 6 = grind (arith, nat_tests, t.1) in
-    let is : value_after 0 text ≡ n = cc in
-    (some, short, all_digits text t.2, sym is ∙ own_bytes.same text (own_bytes.to text (all_digits text t.2)))
+    let is : digits_value 10 text ≡ n = cc in
+    (some, short, all_digits text t.2, sym is)
   where
     both3 : (a b c : Bool) → (a && b && c) ≡ true → (a ≡ true) × (b ≡ true) × (c ≡ true)
     both3 true true c e = (refl, refl, e)
@@ -164,4 +165,4 @@ pub number-denoted : (text : List ℕ) (n : ℕ) → DenotesNumber text n → nu
 number-denoted text n s =
     let t0 : ltb 0 (length text) ≡ true = grind (arith, nat_tests, s.0) in
     let t1 : leb (length text) 6 ≡ true = grind (arith, nat_tests, s.1) in
-    rw (t0, t1, digits_all text s.2) (ap Some (own_bytes.same text (own_bytes.to text s.2) ∙ sym s.3))
+    rw (t0, t1, digits_all text s.2) (ap Some (sym s.3))

@@ -1,18 +1,13 @@
 -- The fields of a FEN by whole lists: ranks, placement and counters denote what is read of them.
-use Rattle.std.proofs.Common.{◌≡◌, ℕ, ◌≤◌, Bool, true, false, cond, eqb, List, [], ◌∷◌, ◌++◌, length, map, Option, Some, None, refl, sym, ap, ◌∙◌, append_assoc, append-nil, arith}
-use Rattle.std.specs.Prelude.{option_and_then, ◌&&◌, nat_lt, nat_le, ◌==◌}
-use Rattle.std.specs.List.{slice_split, list_all, flat_map, AllByRecursion}
+use Rattle.std.proofs.Common.{◌≡◌, ℕ, cond, eqb, List, [], ◌∷◌, ◌++◌, length, map, Option, Some, None, refl, sym, ap, ◌∙◌, append_assoc, append-nil}
+use Rattle.std.specs.Prelude.{option_and_then, ◌==◌}
+use Rattle.std.specs.List.{slice_split, flat_map}
 use Rattle.std.specs.Option.{option_map}
-use Rattle.std.specs.Str.Parse.{digits_value}
-use Rattle.std.proofs.lemmas.Bool.{and_parts}
-use Rattle.std.proofs.lemmas.Bool.Decides.{nat_tests}
 use Rattle.chess_base.specs.declared.man.Man.{Man}
-use Rattle.chess_base.specs.Letters.{is_digit, value_after}
 use Rattle.chess_fen.specs.Texts.{stroke}
 use Rattle.chess_fen.specs.Denotation.{from_top}
 use Rattle.chess_fen.specs.Texts.{squares_of, rank_after, squares_by_ranks}
 use Rattle.chess_fen.specs.Texts as reads
-use Rattle.chess_fen.proofs.RoundTrip.{own_bytes}
 use Rattle.chess_fen.specs.laws.FenTexts.{all_there, rank_denoted, placement_denoted, number_denoted}
 
 abbrev joined : List (List (Option Man)) → List (Option Man)
@@ -79,20 +74,5 @@ placements_are text =
     (sym (placement_from [] (slice_split (λ c. c == stroke) text)
     ∙ from_nothing (all_there (map rank_denoted (slice_split (λ c. c == stroke) text)))))
 
-all_digits : (text : List ℕ) → list_all is_digit text ≡ true → AllByRecursion (λ c. (48 ≤ c) × (c ≤ 57)) text
-all_digits [] e = tt
-all_digits (c ∷ cs) e =
-    let parts = and_parts (is_digit c) (list_all is_digit cs) e in
-    let low : 48 ≤ c = grind (arith, nat_tests, parts.0) in
-    let high : c ≤ 57 = grind (arith, nat_tests, parts.0) in
-    ((low, high), all_digits cs parts.1)
-
 pub numbers_are : (text : List ℕ) → number_denoted text ≡ reads.number_of text
-numbers_are text = by_tests (nat_lt 0 (length text)) (nat_le (length text) 6) (list_all is_digit text) refl
-  where
-    by_tests : (a b d : Bool) → list_all is_digit text ≡ d
-        → cond (a && b && d) (Some (digits_value 10 text)) None ≡ cond (a && b && d) (Some (value_after 0 text)) None
-    by_tests true true true e = ap Some (sym (own_bytes.same text (own_bytes.to text (all_digits text e))))
-    by_tests true true false e = refl
-    by_tests true false d e = refl
-    by_tests false b d e = refl
+numbers_are text = refl

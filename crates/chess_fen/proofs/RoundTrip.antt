@@ -5,8 +5,9 @@ use Rattle.std.specs.List.{AllByRecursion, list_all, slice_split}
 use Rattle.std.proofs.lemmas.Bool.Decides.{nat_tests}
 use Rattle.std.proofs.lemmas.List.{append-nil, length-take, length-drop, take_all, length-append}
 use Rattle.std.proofs.lemmas.Fmt.{digits_decimal, digits_value-decimal, decimal_nonempty}
-use Rattle.std.proofs.lemmas.Str.Parse.{IsNumeralModel, IsDigitsTest, numerals_by_fold}
+use Rattle.std.proofs.lemmas.Str.Parse.{IsNumeralModel, IsDigitsTest, numerals_by_value}
 use Rattle.std.proofs.lemmas.Grind.{replicate_next}
+use Rattle.std.specs.Str.Parse.{digits_value}
 use Rattle.chess_base.specs.declared.man.Man.{Man}
 use Rattle.chess_base.specs.declared.man.Kind.{Kind}
 use Rattle.chess_base.specs.declared.man.Kind.TheVariants.{Pawn, Knight, Bishop, Rook, Queen, King}
@@ -19,7 +20,7 @@ use Rattle.chess_fen.specs.RightNames.{right_letter, right_by_letters}
 use Rattle.chess_fen.proofs.RightsBack.{Stand, right_back, text_is_castling}
 use Rattle.chess_fen.proofs.DenotedRights.{castling-denoted}
 use Rattle.chess_base.specs.declared.setup.Setup.{Setup}
-use Rattle.chess_base.specs.Letters.{white_letter, byte, is_digit, value_after, letter, letter_by}
+use Rattle.chess_base.specs.Letters.{white_letter, byte, is_digit, letter, letter_by}
 use Rattle.chess_fen.specs.Texts.{number_of, rank_after, rank_of, squares_by_ranks, placement_of, occurs, may_name_right, is_castling, target_of, fields_of}
 use Rattle.chess_fen.specs.Writing.{run_text, row_text, fen_rank, ranks_down, placement_text, side_text, right_text, or_dash, rights_text, target_text, fen}
 use Rattle.chess_fen.specs.ties.Loops.{ranks_text}
@@ -39,8 +40,8 @@ use Rattle.chess_fen.proofs.Joined.{From, From-append, From-weaker, From-join, s
 
 -- ---- numbers
 
-own : IsNumeralModel (λ ds. list_all is_digit ds ≡ true) (value_after 0)
-own = numerals_by_fold _ (search rules) value_after (search rules)
+own : IsNumeralModel (λ ds. list_all is_digit ds ≡ true) (digits_value 10)
+own = numerals_by_value _ (search rules)
 
 abbrev pub DigitBytes : List ℕ → Type 0
 DigitBytes ds = AllByRecursion (λ c. (48 ≤ c) × (c ≤ 57)) ds
@@ -48,8 +49,8 @@ DigitBytes ds = AllByRecursion (λ c. (48 ≤ c) × (c ≤ 57)) ds
 says_bytes : IsDigitsTest DigitBytes
 says_bytes = record { empty = tt; parts = λ c cs p. (search rules, p.1); more = λ c cs d p. (search rules, p) }
 
-pub own_bytes : IsNumeralModel DigitBytes (value_after 0)
-own_bytes = numerals_by_fold _ says_bytes value_after (search rules)
+pub own_bytes : IsNumeralModel DigitBytes (digits_value 10)
+own_bytes = numerals_by_value _ says_bytes
 
 digits_from : (ds : List ℕ) → DigitBytes ds → From 48 ds
 digits_from [] p = tt

@@ -3,7 +3,7 @@ use Rattle.std.proofs.Common.{◌≡◌, ℕ, Bool, true, false, List, [], ◌�
 use Rattle.std.specs.Prelude.{codes, nat_lt}
 use Rattle.byte_devices.specs.Devices.{InputState, OutputState}
 use Rattle.chess_base.specs.declared.man.Colour.{Colour}
-use Rattle.text_lines.specs.Unflushed.{risen_if}
+use Rattle.byte_devices.specs.Transfers.{saturating_increment_if}
 use Rattle.chess_game.specs.Game as game
 use Rattle.chess_game.specs.Results.{cut_tag}
 use Rattle.cecp_engine.specs.Items.{last_value}
@@ -63,8 +63,8 @@ read_from : (S : Colour) (T : List Event) (H : List Act) (old new : InputState) 
 read_from S T H old new given l e f q = record {
   bytes = q.bytes;
   lines = (q.lines.0, q.lines.1 ∙ ap (λ (x : List (Option (List ℕ))). x ++ q.lines.0) l);
-  ends = q.ends ∙ ap (λ (b : Bool). risen_if b old.end_count) e;
-  failures = q.failures ∙ ap (λ (b : Bool). risen_if b old.failure_count) f;
+  ends = q.ends ∙ ap (λ (b : Bool). saturating_increment_if b old.end_count) e;
+  failures = q.failures ∙ ap (λ (b : Bool). saturating_increment_if b old.failure_count) f;
   at_end = λ h. let k = q.at_end (e ∙ h) in (k.0 ∙ l, k.1);
   at_failure = λ h. q.at_failure (f ∙ h) ∙ l;
 }

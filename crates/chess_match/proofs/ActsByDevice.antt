@@ -8,7 +8,7 @@ use Rattle.chess_base.specs.declared.man.Colour.TheVariants.{White}
 use Rattle.chess_base.specs.Men.{same_colour}
 use Rattle.chess_match.specs.Events.{Event, Line, Opened, OutputEnds, FailsToRead, FailsToWrite}
 use Rattle.chess_match.specs.Rules.{Rules}
-use Rattle.chess_match.specs.Lines.{list_if}
+use Rattle.chess_base.specs.Options.{list_if}
 use Rattle.chess_match.specs.laws.Transcript.{lines_of_engine, moments_of}
 use Rattle.chess_match.specs.ties.TranscriptActs.{send_act, up_to, first_of, acts_from, LinesAreRead, MomentsAreShown, EndsAreRead}
 use Rattle.chess_match.specs.ByDevice.{has_ended, has_failed_read, lines_read, moments_shown}

@@ -13,7 +13,8 @@ use Rattle.chess_match.specs.Events.{Event, Line, Opened, OutputEnds, FailsToRea
 use Rattle.chess_match.specs.Notes.{Note, Happened, Gives}
 use Rattle.chess_match.specs.laws.TranscriptNotes.{given_note, both_notes, first_sent, notes_from, notes_of}
 use Rattle.chess_match.specs.Rules.{Rules}
-use Rattle.chess_match.specs.Lines.{SentLine, bytes_of, text_of, list_if}
+use Rattle.chess_base.specs.Options.{list_if}
+use Rattle.chess_match.specs.Lines.{SentLine, bytes_of, text_of}
 use Rattle.chess_match.specs.laws.Blocks.{block, lines_on_entering}
 use Rattle.chess_match.specs.Reasons.{is_unwritten}
 use Rattle.chess_match.specs.laws.Transcript.{is_on, fits, fits_next, fits_from, match_of, is_dropped, block_at, joined_blocks}

@@ -11,7 +11,8 @@ use Rattle.chess_match.specs.Acts.{Act, Block, Sends, SendFails, Reads, ReadsEnd
 use Rattle.chess_match.specs.ByDevice.{has_ended, has_failed_read, lines_read, moments_shown, notes_given}
 use Rattle.chess_match.specs.Events.{Line, Opened, OutputEnds, FailsToRead, FailsToWrite}
 use Rattle.chess_match.specs.laws.Transcript.{has_fault, lines_of_engine, moments_of}
-use Rattle.chess_match.specs.Lines.{SentLine, bytes_of, list_if}
+use Rattle.chess_base.specs.Options.{list_if}
+use Rattle.chess_match.specs.Lines.{SentLine, bytes_of}
 use Rattle.chess_match.specs.Notes.{Note, Noted, Happened, Gives, WasNoted}
 use Rattle.chess_match.specs.Reasons.{is_unwritten}
 use Rattle.chess_match.specs.Run.{ClockReadings, Ports, text_read}

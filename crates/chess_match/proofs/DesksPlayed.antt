@@ -12,7 +12,8 @@ use Rattle.chess_match.specs.ByDevice.{broken_blocks, lines_sent, moments_shown,
 use Rattle.chess_match.specs.Effects as effects
 use Rattle.chess_match.specs.Events.{Event, Line, FailsToWrite}
 use Rattle.chess_match.specs.laws.TranscriptRuns.{ReadFrom}
-use Rattle.chess_match.specs.Lines.{SentLine, bytes_of, list_if}
+use Rattle.chess_base.specs.Options.{list_if}
+use Rattle.chess_match.specs.Lines.{SentLine, bytes_of}
 use Rattle.chess_match.specs.Notes.{Note, Noted, WasNoted}
 use Rattle.chess_match.specs.Played.{Passed, PlayedAt, PlayedNoting, ReadAs, World, WrittenAs}
 use Rattle.chess_match.specs.Rules.{Rules, rules_of}

@@ -17,7 +17,8 @@ use Rattle.chess_match.specs.laws.Machine.{handshake_line, setup_line, before_li
 use Rattle.chess_game.specs.Results.{result_text}
 use Rattle.chess_match.specs.Reasons.{outcome_by_reason, comment_of}
 use Rattle.chess_match.specs.Rules.{Rules}
-use Rattle.chess_match.specs.Lines.{SentLine, Says, list_if, answers_to, setup_lines, ping}
+use Rattle.chess_base.specs.Options.{list_if}
+use Rattle.chess_match.specs.Lines.{SentLine, Says, answers_to, setup_lines, ping}
 use Rattle.chess_match.specs.Reasons.{is_unwritten}
 use Rattle.chess_match.specs.laws.Blocks.{block, lines_on_entering, is_same_phase, end_lines, last_move_sent, clock_lines, opening_lines, unsent_lines}
 use Rattle.chess_match.specs.laws.Transcript.{is_on, reads}

@@ -9,7 +9,8 @@ use Rattle.chess_match.specs.Acts.{Act, Block, Sends, SendFails, Reads, ReadsEnd
 use Rattle.chess_match.specs.ByDevice.{broken_blocks, is_broken}
 use Rattle.chess_match.specs.Effects.{Match, Effect, Opening, Over, effect}
 use Rattle.chess_match.specs.Events.{Event, Line, Opened, OutputEnds, FailsToRead, FailsToWrite}
-use Rattle.chess_match.specs.Lines.{SentLine, bytes_of, list_if}
+use Rattle.chess_base.specs.Options.{list_if}
+use Rattle.chess_match.specs.Lines.{SentLine, bytes_of}
 use Rattle.chess_match.specs.Notes.{Happened, Gives}
 use Rattle.chess_match.specs.Reasons.{is_unwritten}
 use Rattle.chess_match.specs.Rules.{Rules}

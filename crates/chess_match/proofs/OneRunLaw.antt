@@ -5,8 +5,8 @@ use Rattle.std.specs.Option.{IfSome}
 use Rattle.std.specs.Io.KnownBytes.{Consumes}
 use Rattle.std.proofs.lemmas.List.{append_cancel_right}
 use Rattle.chess_base.specs.declared.man.Colour.{Colour}
-use Rattle.byte_devices.specs.Devices.{InputState, OutputState, risen}
-use Rattle.text_lines.specs.Unflushed.{risen_if}
+use Rattle.byte_devices.specs.Devices.{InputState, OutputState, saturating_increment}
+use Rattle.byte_devices.specs.Transfers.{saturating_increment_if}
 use Rattle.chess_match.specs.laws.Laws.{ending_in, Streams, IsOf, ShowsAll, OnlyOneOfARun}
 use Rattle.chess_match.specs.laws.Machine.{Match, start, match_after}
 use Rattle.chess_match.specs.Events.{Event, Line, Opened, OutputEnds, FailsToRead, FailsToWrite}
@@ -30,12 +30,13 @@ one_given None new a b h x y = cc
 one_given (Some xs) None a b h x y = absurd x
 one_given (Some xs) (Some ys) a b h x y = append_cancel_right a b ys (sym x ∙ y)
 
-rises : {A : Type 0} (n : ℕ) → n < 2 ^ 64 - 1 → n ≡ risen n → A
-unfolding risen
+rises : {A : Type 0} (n : ℕ) → n < 2 ^ 64 - 1 → n ≡ saturating_increment n → A
+unfolding saturating_increment
 rises n small e = absurd (omega (arith, small, e))
 
 -- a count that can rise shows whether it did
-one_rise : (n m : ℕ) (a b : Bool) → n < 2 ^ 64 - 1 → m ≡ risen_if a n → m ≡ risen_if b n → a ≡ b
+one_rise : (n m : ℕ) (a b : Bool) → n < 2 ^ 64 - 1 → m ≡ saturating_increment_if a n → m ≡ saturating_increment_if b n
+    → a ≡ b
 one_rise n m true true small x y = refl
 one_rise n m false false small x y = refl
 one_rise n m true false small x y = rises n small (sym y ∙ x)

@@ -3,9 +3,9 @@ use Rattle.std.proofs.Common.{◌≡◌, ℕ, Bool, true, false, inl, inr, List,
 use Rattle.std.specs.Bool.{MatchBool}
 use Rattle.std.specs.Io.KnownBytes.{Consumes, IsAtEnd}
 use Rattle.chess_base.specs.declared.man.Colour.{Colour}
-use Rattle.byte_devices.specs.Devices.{InputState, risen}
+use Rattle.byte_devices.specs.Devices.{InputState, saturating_increment}
 use Rattle.text_lines.specs.Lines.{LineSeen, Held, stream_lines, lines_held}
-use Rattle.text_lines.specs.Unflushed.{risen_if}
+use Rattle.byte_devices.specs.Transfers.{saturating_increment_if}
 use Rattle.chess_match.specs.ties.EngineOutput.{OutputSoFar, OutputEnded, Reports, OutputAt}
 use Rattle.chess_match.specs.ties.Driving.{is_of_output}
 use Rattle.chess_match.specs.Events.{Event, Line, Opened, OutputEnds, FailsToRead, FailsToWrite}
@@ -46,8 +46,8 @@ still_read S T r r' h given s = record {
     first_lines r r' h given
         (lines_of_engine S T) s.output,
   );
-  ends = s.output.ends ∙ ap (λ b. risen_if b r.end_count) (sym s.unended);
-  failures = s.output.failures ∙ ap (λ b. risen_if b r.failure_count) (sym s.unfailed);
+  ends = s.output.ends ∙ ap (λ b. saturating_increment_if b r.end_count) (sym s.unended);
+  failures = s.output.failures ∙ ap (λ b. saturating_increment_if b r.failure_count) (sym s.unfailed);
   at_end = λ e. not_both (has_fault Ended S T) s.unended e;
   at_failure = λ e. not_both (has_fault Read S T) s.unfailed e;
 }
@@ -57,7 +57,8 @@ all_lines : (r r' : InputState) (given : List ℕ) (texts : List (Option (List �
 all_lines r r' given texts s = ap (λ ls. map text_read ls) s.lines.2 ∙ s.lines.1
 
 read_to_end : (S : Colour) (T : List Event) (r r' : InputState) (given : List ℕ) (texts : List (Option (List ℕ)))
-    → OutputEnded r r' given texts × (r'.end_count ≡ risen r.end_count) × (r'.failure_count ≡ r.failure_count)
+    → OutputEnded r r' given texts × (r'.end_count ≡ saturating_increment r.end_count)
+    × (r'.failure_count ≡ r.failure_count)
     × IsAtEnd r'.known_bytes
     → lines_of_engine S T ≡ texts → has_fault Ended S T ≡ true → has_fault Read S T ≡ false → ReadFrom S T r r' given
 read_to_end S T r r' given texts (s, ends, failures, at_end) l e f =
@@ -65,22 +66,23 @@ read_to_end S T r r' given texts (s, ends, failures, at_end) l e f =
     record {
       bytes = s.bytes;
       lines = ([], all ∙ sym (append-nil (lines_of_engine S T)));
-      ends = ends ∙ ap (λ b. risen_if b r.end_count) (sym e);
-      failures = failures ∙ ap (λ b. risen_if b r.failure_count) (sym f);
+      ends = ends ∙ ap (λ b. saturating_increment_if b r.end_count) (sym e);
+      failures = failures ∙ ap (λ b. saturating_increment_if b r.failure_count) (sym f);
       at_end = λ h. (all, at_end);
       at_failure = λ h. not_both (has_fault Read S T) f h;
     }
 
 read_to_fault : (S : Colour) (T : List Event) (r r' : InputState) (given : List ℕ) (texts : List (Option (List ℕ)))
-    → OutputEnded r r' given texts × (r'.end_count ≡ r.end_count) × (r'.failure_count ≡ risen r.failure_count)
+    → OutputEnded r r' given texts × (r'.end_count ≡ r.end_count)
+    × (r'.failure_count ≡ saturating_increment r.failure_count)
     → lines_of_engine S T ≡ texts → has_fault Ended S T ≡ false → has_fault Read S T ≡ true → ReadFrom S T r r' given
 read_to_fault S T r r' given texts (s, ends, failures) l e f =
     let all : engine_lines given ≡ lines_of_engine S T = all_lines r r' given texts s ∙ sym l in
     record {
       bytes = s.bytes;
       lines = ([], all ∙ sym (append-nil (lines_of_engine S T)));
-      ends = ends ∙ ap (λ b. risen_if b r.end_count) (sym e);
-      failures = failures ∙ ap (λ b. risen_if b r.failure_count) (sym f);
+      ends = ends ∙ ap (λ b. saturating_increment_if b r.end_count) (sym e);
+      failures = failures ∙ ap (λ b. saturating_increment_if b r.failure_count) (sym f);
       at_end = λ h. not_both (has_fault Ended S T) e h;
       at_failure = λ h. all;
     }

@@ -8,7 +8,8 @@ use Rattle.chess_base.proofs.shared.Men.{same_colour-self}
 use Rattle.chess_match.specs.laws.Machine as machine
 use Rattle.chess_match.specs.Events.{Event, Line, Opened, OutputEnds, FailsToRead, FailsToWrite}
 use Rattle.chess_match.specs.Rules.{Rules, rules_of}
-use Rattle.chess_match.specs.Lines.{SentLine, list_if}
+use Rattle.chess_base.specs.Options.{list_if}
+use Rattle.chess_match.specs.Lines.{SentLine}
 use Rattle.chess_match.specs.laws.Blocks.{block, lines_on_entering}
 use Rattle.chess_match.specs.laws.Transcript.{is_on, fits, fits_next, fits_from, match_of, is_fault, has_fault, block_at, blocks_from as blocks_at_all, blocks, joined_blocks, lines_of_engine}
 use Rattle.chess_match.specs.declared.phase.Phase.{Phase as MachinePhase}
@@ -24,7 +25,7 @@ use Rattle.chess_match.proofs.LastBlocks.{IsSome, end_block, no_write}
 use Rattle.chess_match.specs.ties.TranscriptActs.{send_act, up_to, first_of, acts_from, acts_of}
 use Rattle.chess_match.specs.Acts.{Block, Act, Sends, SendFails, Reads, ReadsEnd, ReadFails, ReadsClock, block_of, blocks_from}
 use Rattle.byte_devices.specs.Devices.{OutputState, InputState}
-use Rattle.text_lines.specs.Unflushed.{risen_if}
+use Rattle.byte_devices.specs.Transfers.{saturating_increment_if}
 use Rattle.chess_match.specs.Reasons.{first_fault}
 use Rattle.std.proofs.Math.Path.{fun_ext}
 use Rattle.chess_match.specs.ties.SameEffects.{view, phase_of}
@@ -531,8 +532,8 @@ pub read_as : (S : Colour) (T : List Event) (H : List Act) (old new : InputState
 read_as S T H old new given l e f q = record {
   bytes = q.bytes;
   lines = (q.lines.0, q.lines.1 ∙ ap (λ (x : List (Option (List ℕ))). x ++ q.lines.0) (sym l));
-  ends = q.ends ∙ ap (λ (b : Bool). risen_if b old.end_count) (sym e);
-  failures = q.failures ∙ ap (λ (b : Bool). risen_if b old.failure_count) (sym f);
+  ends = q.ends ∙ ap (λ (b : Bool). saturating_increment_if b old.end_count) (sym e);
+  failures = q.failures ∙ ap (λ (b : Bool). saturating_increment_if b old.failure_count) (sym f);
   at_end = λ h. let k = q.at_end (sym e ∙ h) in (k.0 ∙ sym l, k.1);
   at_failure = λ h. q.at_failure (sym f ∙ h) ∙ sym l;
 }

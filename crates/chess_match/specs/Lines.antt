@@ -1,15 +1,12 @@
 -- The lines that engines are sent.
-use Rattle.std.specs.Prelude.{ℕ, Bool, if◌then◌else◌, List, [], ◌∷◌, ◌++◌, map, codes, decimal, Option}
+use Rattle.std.specs.Prelude.{ℕ, Bool, List, [], ◌∷◌, ◌++◌, map, codes, decimal, Option}
 use Rattle.std.specs.Option.{option_map_or}
 use Rattle.chess_base.specs.Letters.{new_line}
+use Rattle.chess_base.specs.Options.{list_if}
 use Rattle.cecp_engine.specs.Items.{Item, is_known}
 use Rattle.cecp_engine.specs.Levels.{level_text}
 use Rattle.chess_match.specs.Rules.{Rules, is_fischerandom}
 use Rattle.chess_base.specs.declared.man.Variant.{Variant}
-
--- the list `xs` if `b` is true, else the empty list
-abbrev pub list_if : {A : Type 0} → Bool → List A → List A
-list_if b xs = if b then xs else []
 
 -- a line that is sent to an engine: a text as it is; a move (`prefixed`: with `usermove` before it); `time`, with its
 -- own clock; `otim`, with its opponent's clock

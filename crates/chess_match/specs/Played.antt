@@ -3,7 +3,7 @@ use Rattle.std.specs.Prelude.{◌≡◌, ℕ, true, List, [], ◌∷◌, ◌++�
 use Rattle.std.specs.Io.KnownBytes.{Consumes, IsAtEnd}
 use Rattle.byte_devices.specs.Devices.{InputState, OutputState, Begins}
 use Rattle.chess_base.specs.declared.man.Colour.{Colour}
-use Rattle.text_lines.specs.Unflushed.{risen_if}
+use Rattle.byte_devices.specs.Transfers.{saturating_increment_if}
 use Rattle.chess_game.specs.Game as game
 use Rattle.chess_game.specs.Results.{cut_tag}
 use Rattle.cecp_engine.specs.Items.{last_value}
@@ -34,8 +34,8 @@ pub record World : Type 0 where
 pub record ReadAs (S : Colour) (H : List Act) (old new : InputState) (given : List ℕ) : Type 0 where
   pub bytes : Consumes old.known_bytes new.known_bytes given
   pub lines : (rest : List (Option (List ℕ))) × (engine_lines given ≡ lines_read S H ++ rest)
-  pub ends : new.end_count ≡ risen_if (has_ended S H) old.end_count
-  pub failures : new.failure_count ≡ risen_if (has_failed_read S H) old.failure_count
+  pub ends : new.end_count ≡ saturating_increment_if (has_ended S H) old.end_count
+  pub failures : new.failure_count ≡ saturating_increment_if (has_failed_read S H) old.failure_count
   pub at_end : has_ended S H ≡ true → (engine_lines given ≡ lines_read S H) × IsAtEnd new.known_bytes
   pub at_failure : has_failed_read S H ≡ true → engine_lines given ≡ lines_read S H
 

@@ -1,6 +1,7 @@
 -- A pawn's move is fixed by where it ends and by its file.
 use Rattle.std.proofs.Common.{◌≡◌, ◌≢◌, ℕ, ◌+◌, ◌<◌, ◌≤◌, inl, inr, true, false, ◌&&◌, ◌||◌, Option, Some, None, is_none, refl, sym, ap, ◌∙◌, arith, ◌==◌}
 use Rattle.std.proofs.lemmas.Bool.{and_parts, and_from, or_cases, or_left, or_right, both_ways, eqb-true}
+use Rattle.std.specs.Int.{abs_diff}
 use Rattle.chess_base.specs.declared.man.Colour.{Colour}
 use Rattle.chess_base.specs.declared.man.Colour.TheVariants.{White, Black}
 use Rattle.chess_base.specs.declared.man.Kind.TheVariants.{Pawn}
@@ -10,7 +11,7 @@ use Rattle.chess_base.specs.declared.setup.Setup.{Setup}
 use Rattle.chess_base.specs.Attacks.{attacks, could_capture, is_rank_ahead}
 use Rattle.chess_base.specs.Men.{Men, man_at, other, is_of, is_man, same_colour, forward, first_rank, pawn_rank}
 use Rattle.chess_base.specs.Moves.{is_double_advance, is_en_passant, pawn_advances, pawn_captures, pawn_moves, promotion_fits}
-use Rattle.chess_base.specs.Squares.{is_square, file, rank, gap, each_square}
+use Rattle.chess_base.specs.Squares.{is_square, file, rank, each_square}
 use Rattle.chess_base.specs.Sound.{IsSound, pawn_is_allowed, no_pawn_on_end_ranks}
 use Rattle.chess_base.proofs.shared.Squares.{each_below-at}
 use Rattle.chess_base.proofs.shared.Men.{same_colour-self, is_none-None}
@@ -113,12 +114,12 @@ same_advance p m n am an hm hn to (Double a home free) (Single b) =
 -- ---- captures
 
 attack_of : (p : Setup) (m : Move) → man_at p.men m.from ≡ Some (pawn_of p.side) → attacks p.men m.from m.to ≡ true
-    → (gap (file m.from) (file m.to) ≡ 1) × (is_rank_ahead p.side m.from m.to ≡ true)
+    → (abs_diff (file m.from) (file m.to) ≡ 1) × (is_rank_ahead p.side m.from m.to ≡ true)
 unfolding attacks could_capture
 attack_of p m at e =
     let e' = rw at at e in
-    let both = and_parts (gap (file m.from) (file m.to) == 1) (is_rank_ahead p.side m.from m.to) e' in
-    (eqb-true (gap (file m.from) (file m.to)) 1 both.0, both.1)
+    let both = and_parts (abs_diff (file m.from) (file m.to) == 1) (is_rank_ahead p.side m.from m.to) e' in
+    (eqb-true (abs_diff (file m.from) (file m.to)) 1 both.0, both.1)
 
 pawn_goes : (p : Setup) (m : Move) → pawn_moves p m ≡ true → (pawn_advances p m || pawn_captures p m) ≡ true
 unfolding pawn_moves

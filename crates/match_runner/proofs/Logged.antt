@@ -7,7 +7,7 @@ use Rattle.std.specs.Io.KnownBytes.{Appends}
 use Rattle.chess_base.specs.Letters.{new_line}
 use Rattle.chess_base.specs.declared.man.Colour.{Colour}
 use Rattle.chess_base.specs.declared.man.Colour.TheVariants.{White, Black}
-use Rattle.byte_devices.specs.Devices.{OutputState, Sent, Sends, risen}
+use Rattle.byte_devices.specs.Devices.{OutputState, Sent, Sends, saturating_increment}
 use Rattle.byte_devices.proofs.shared.Devices.{appends_more}
 use Rattle.chess_base.specs.Men.{same_colour}
 use Rattle.chess_match.specs.Events.{Line}
@@ -43,7 +43,7 @@ failed_more : (a b c : OutputState) (x y start : List ℕ) → Flushed a b x →
 failed_more a b c x y start h k = record {
   bytes = subst (λ (t : List ℕ). Appends a.known_bytes c.known_bytes t) (sym (append_assoc x y start))
       (appends_more a.known_bytes b.known_bytes c.known_bytes x (y ++ start) h.bytes k.bytes);
-  failures = k.failures ∙ ap risen h.failures;
+  failures = k.failures ∙ ap saturating_increment h.failures;
   unflushed = λ e. k.unflushed (h.unflushed e);
 }
 

@@ -4,7 +4,7 @@ use Rattle.std.specs.Char.{is_ascii_alphanumeric}
 use Rattle.std.specs.Io.KnownBytes.{Consumes, IsAtEnd}
 use Rattle.std.specs.List.{onto_first, take_while, prefix_len, list_any, list_all, concat}
 use Rattle.std.specs.Str.{bytes_eq}
-use Rattle.byte_devices.specs.Devices.{InputState, risen}
+use Rattle.byte_devices.specs.Devices.{InputState, saturating_increment}
 use Rattle.pgn_pieces.specs.Places.{line_ends}
 use Rattle.pgn_pieces.specs.declared.pieces.PieceFault.{PieceFault}
 use Rattle.pgn_pieces.specs.declared.pieces.PieceFault.TheVariants.{ReadFailed, NoMemory, InputTooLong}
@@ -135,13 +135,13 @@ pieces ended text = pieces_from ended 0 text
 pub record HasRead (ended : Bool) (r r' : InputState) (text : List ℕ) : Type 0 where
   pub bytes : Consumes r.known_bytes r'.known_bytes text
   pub failures : r'.failure_count ≡ r.failure_count
-  pub ends : r'.end_count ≡ (if ended then risen r.end_count else r.end_count)
+  pub ends : r'.end_count ≡ (if ended then saturating_increment r.end_count else r.end_count)
   pub at_end : ended ≡ true → IsAtEnd r'.known_bytes
 
 -- between two states of the input, `r` and then `r'`, this text was read, and then one read failed
 pub record BrokeOff (r r' : InputState) (text : List ℕ) : Type 0 where
   pub bytes : Consumes r.known_bytes r'.known_bytes text
-  pub failures : r'.failure_count ≡ risen r.failure_count
+  pub failures : r'.failure_count ≡ saturating_increment r.failure_count
   pub ends : r'.end_count ≡ r.end_count
 
 -- why nothing was read after this text, between the input's states `r` and `r'`: a read failed, memory ran out, or

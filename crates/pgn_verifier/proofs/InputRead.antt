@@ -2,7 +2,7 @@
 use Rattle.std.proofs.Common.{◌≡◌, ◌≤◌, ◌<◌, ◌-◌, ◌==◌, nat_eq, length-append, ◌∙◌, ℕ, List, [], ◌++◌, length, take, false, if◌then◌else◌, refl, ap, subst, append-nil, arith}
 use Rattle.std.proofs.lemmas.List.{length-take-le}
 use Rattle.std.specs.Io.KnownBytes.{Consumes}
-use Rattle.byte_devices.specs.Devices.{InputState, GavePiece, risen}
+use Rattle.byte_devices.specs.Devices.{InputState, GavePiece, saturating_increment}
 use Rattle.byte_devices.proofs.shared.Devices.{consumes_more}
 use Rattle.pgn_verifier.specs.declared.fault.VerifyFault.TheVariants.{NoMemory, InputTooLong}
 use Rattle.pgn_pieces.specs.Pieces.{HasRead}
@@ -17,13 +17,14 @@ all_read r r' r'' text buf n front few gave is =
         bytes = subst (Consumes r.known_bytes r''.known_bytes) (append-nil text)
             (consumes_more r.known_bytes r'.known_bytes r''.known_bytes text [] front.bytes gave'.bytes);
         failures = gave'.failures ∙ front.failures;
-        ends = gave'.ends ∙ ap risen front.ends;
+        ends = gave'.ends ∙ ap saturating_increment front.ends;
         at_end = λ e. gave'.at_end refl;
       },
       few,
     )
 
-not_ended : (a b n : ℕ) (buf : List ℕ) → 0 < n → n ≤ length buf → a ≡ (if length (take n buf) == 0 then risen b else b)
+not_ended : (a b n : ℕ) (buf : List ℕ) → 0 < n → n ≤ length buf
+    → a ≡ (if length (take n buf) == 0 then saturating_increment b else b)
     → a ≡ b
 not_ended a b n buf some within is =
     let len = length-take-le n buf within in

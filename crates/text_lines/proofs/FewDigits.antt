@@ -1,6 +1,12 @@
--- What few digits write is small.
-use Rattle.std.proofs.Common.{ℕ, ◌^◌, ◌<◌, ◌≤◌, arith}
+-- What few digits write: it is small, and it is what the loop over them gives.
+use Rattle.std.proofs.Common.{◌≡◌, ℕ, ◌+◌, ◌-◌, ◌*◌, ◌^◌, ◌<◌, ◌≤◌, true, nat_lt, nat_le, List, [], ◌∷◌, length, drop, Some, sym, ap, ◌∙◌, arith, rules}
+use Rattle.std.specs.List.{list_all}
 use Rattle.std.proofs.Math.Nat.{pow-le-pow_right}
+use Rattle.std.proofs.lemmas.Bool.Decides.{nat_tests}
+use Rattle.std.proofs.lemmas.Grind.{common_steps}
+use Rattle.std.proofs.lemmas.Str.Parse.{IsNumeralModel, numerals_by_fold}
+use Rattle.chess_base.specs.Letters.{is_digit}
+use Rattle.text_lines.specs.Words.{short_number}
 
 pub small_number : (n i k most : ℕ) → n < 10 ^ i → i < k → most ≤ 9 → k ≤ most → n < 10 ^ 8
 small_number n i k most h lt nine le = let p : 10 ^ i ≤ 10 ^ 8 =
@@ -12,3 +18,23 @@ number_bound n k most h le =
     let ten : 0 < 10 = omega arith in
     let p : 10 ^ k ≤ 10 ^ most = pow-le-pow_right ten le in
     omega arith
+
+-- the number n with more digits appended, one after the other, as the loop has it
+abbrev pub value_after : ℕ → List ℕ → ℕ
+value_after n [] = n
+value_after n (c ∷ cs) = value_after (10 * n + (c - 48)) cs
+
+numeral : IsNumeralModel (λ ds. list_all is_digit ds ≡ true) (value_after 0)
+numeral = numerals_by_fold _ (search rules) value_after (search rules)
+
+-- once the loop is over
+pub number_is : (most i n : ℕ) (text : List ℕ) → 0 < length text → length text ≤ most → length text ≤ i
+    → value_after n (drop i text) ≡ value_after 0 text → list_all is_digit (drop i text) ≡ list_all is_digit text
+    → Some n ≡ short_number most text
+number_is most i n text some few over rest digits =
+    let none : drop i text ≡ [] = grind (arith, common_steps) in
+    let all : list_all is_digit text ≡ true = sym digits ∙ ap (list_all is_digit) none in
+    let value : n ≡ value_after 0 text = sym (ap (value_after n) none) ∙ rest in
+    let t0 : nat_lt 0 (length text) ≡ true = grind (arith, nat_tests) in
+    let t1 : nat_le (length text) most ≡ true = grind (arith, nat_tests) in
+    rw (t0, t1, all) (ap Some (value ∙ numeral.same text (numeral.to text all)))

@@ -5,7 +5,7 @@ use Rattle.text_lines.proofs.LineParts.{line_ended, ten_step, byte_step, none_fr
 use Rattle.text_lines.proofs.shared.Lines.{nothing_left}
 use Rattle.std.specs.Io.KnownBytes.{Consumes}
 use Rattle.std.specs.Bool.{MatchBool}
-use Rattle.byte_devices.specs.Devices.{InputState, GavePiece, risen}
+use Rattle.byte_devices.specs.Devices.{InputState, GavePiece, saturating_increment}
 use Rattle.byte_devices.proofs.shared.Devices.{consumes_more, consumes_none}
 use Rattle.text_lines.specs.Lines.{LineSeen, Held, nothing_held, lines_from, lines_held, line_of}
 use Rattle.text_lines.specs.laws.Unended.{HasNoEnd}
@@ -81,7 +81,7 @@ piece_on n r r' r'' h h' h'' given piece s f p some few = record {
 }
 
 reported_end : (r r' : InputState) (piece : List ℕ) → GavePiece r r' piece → piece ≡ []
-    → r'.end_count ≡ risen r.end_count
+    → r'.end_count ≡ saturating_increment r.end_count
 reported_end r r' piece p e = p.ends ∙ rw e refl
 
 lines_end : (n : ℕ) (r r' : InputState) (h h' h'' : Held) (given piece : List ℕ) → SoFar n r r' h h' given
@@ -109,7 +109,7 @@ end_none E n r r' r'' h h' h'' h3 given piece s f p e empty left = (
     rest = left;
     at_end = p.at_end (ap length e);
     failures = p.failures ∙ s.failures;
-    ends = reported_end r' r'' piece p e ∙ ap risen s.ends;
+    ends = reported_end r' r'' piece p e ∙ ap saturating_increment s.ends;
   },
 )
 
@@ -129,7 +129,7 @@ end_last E n r r' r'' h h' h'' h3 given piece line s f p e some is left =
         rest = left;
         at_end = p.at_end (ap length e);
         failures = p.failures ∙ s.failures;
-        ends = reported_end r' r'' piece p e ∙ ap risen s.ends;
+        ends = reported_end r' r'' piece p e ∙ ap saturating_increment s.ends;
       }),
     )
 

@@ -1,6 +1,5 @@
 pub mod Lines
 pub mod Next
 pub mod Words
-pub mod Unflushed
 pub mod laws
 pub mod ties

@@ -2,7 +2,7 @@
 use Rattle.std.specs.Prelude.{◌≡◌, ℕ, ◌+◌, ◌-◌, ◌*◌, ◌<◌, ◌≤◌, ◌⊎◌, Bool, true, false, List, [], ◌∷◌, ◌++◌, length, take, Option, None, Some, Result, Ok, Err}
 use Rattle.std.specs.Bool.{MatchBool}
 use Rattle.std.specs.Io.KnownBytes.{Consumes, IsAtEnd}
-use Rattle.byte_devices.specs.Devices.{InputState, risen}
+use Rattle.byte_devices.specs.Devices.{InputState, saturating_increment}
 use Rattle.text_lines.specs.Lines.{LineSeen, Held, nothing_held, lines_held}
 
 -- these bytes without the last `len` of them, which the last read gave
@@ -40,7 +40,7 @@ pub record GotLast (n : ℕ) (r r' : InputState) (held held' : Held) (given : Li
   pub rest : held' ≡ nothing_held
   pub at_end : IsAtEnd r'.known_bytes
   pub failures : r'.failure_count ≡ r.failure_count
-  pub ends : r'.end_count ≡ risen r.end_count
+  pub ends : r'.end_count ≡ saturating_increment r.end_count
 
 -- the end of the stream was reported, and no line is left: `given`, which was read and took the input from `r` to `r'`,
 -- and what was `held` before give no line, and nothing is held after (`held'`). Lines have at most `n` bytes
@@ -49,7 +49,7 @@ pub record GotNone (n : ℕ) (r r' : InputState) (held held' : Held) (given : Li
   pub rest : held' ≡ nothing_held
   pub at_end : IsAtEnd r'.known_bytes
   pub failures : r'.failure_count ≡ r.failure_count
-  pub ends : r'.end_count ≡ risen r.end_count
+  pub ends : r'.end_count ≡ saturating_increment r.end_count
 
 -- a read failed: what was `held` before and read (`given`, which took the input from `r` to `r'`) has no whole line,
 -- and all of it is kept in `held'`. Lines have at most `n` bytes
@@ -57,7 +57,7 @@ pub record GotFault (n : ℕ) (r r' : InputState) (held held' : Held) (given : L
   pub whole : lines_held n false held given ≡ []
   pub lines : (at_end : Bool) (rest : List ℕ)
       → lines_held n at_end held (given ++ rest) ≡ lines_held n at_end held' rest
-  pub failures : r'.failure_count ≡ risen r.failure_count
+  pub failures : r'.failure_count ≡ saturating_increment r.failure_count
   pub ends : r'.end_count ≡ r.end_count
 
 -- what the call for the next line, of at most `n` bytes, returned after it read the bytes `given`: a line, `None` at

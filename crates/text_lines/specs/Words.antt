@@ -1,7 +1,8 @@
 -- The words and the numbers of a line.
 use Rattle.std.specs.Prelude.{ℕ, ◌==◌, ◌&&◌, ◌||◌, nat_lt, nat_le, Bool, if◌then◌else◌, List, [], ◌∷◌, length, drop, Option, Some, None}
 use Rattle.std.specs.List.{list_all}
-use Rattle.chess_base.specs.Letters.{byte, is_digit, is_letter, value_after}
+use Rattle.std.specs.Str.Parse.{digits_value}
+use Rattle.chess_base.specs.Letters.{byte, is_digit, is_letter}
 use Rattle.text_lines.specs.Lines.{is_blank, without_front_blanks}
 
 -- the first word of a text: its bytes up to the first space or tab
@@ -20,7 +21,7 @@ is_name_byte c = is_letter c || (is_digit c || c == byte "_")
 -- the number that a text of 1 to `most` digits denotes; none for any other text
 abbrev pub short_number : ℕ → List ℕ → Option ℕ
 short_number most text = if nat_lt 0 (length text) && nat_le (length text) most
-    && list_all is_digit text then Some (value_after 0 text) else None
+    && list_all is_digit text then Some (digits_value 10 text) else None
 
 -- the number that a text of 1 to 9 digits denotes, as in `ping 7`; `None` for any other text
 unfoldable pub command_number : List ℕ → Option ℕ

@@ -1,13 +1,13 @@
 -- For crates that read or write in steps: what holds after one text more, of the definitions in specs/Devices.
-use Rattle.std.proofs.Common.{◌≡◌, ℕ, ◌+◌, ◌<◌, List, [], ◌++◌, length, take, drop, Option, None, Some, Result, Ok, Err, IsErr, refl, sym, ap, ◌∙◌, append_assoc, append-nil, arith, ◌-◌}
+use Rattle.std.proofs.Common.{◌≡◌, ℕ, zero, suc, ◌+◌, ◌^◌, ◌<◌, min, nat_eq, false, List, [], ◌++◌, length, take, drop, Option, None, Some, Result, Ok, Err, IsErr, refl, sym, ap, ◌∙◌, append_assoc, append-nil, arith, ◌-◌}
 use Rattle.std.specs.Io.KnownBytes.{Keeps, Appends, Consumes}
 use Rattle.std.proofs.Math.Seq.{take-add, take-suc}
 use Rattle.std.proofs.lemmas.List.Concat.{flat_map-append}
 use Rattle.std.specs.List.{flat_map}
 use Rattle.std.proofs.Common.{get_or, add-one, ◌∷◌}
-use Rattle.std.proofs.lemmas.List.{take-append-drop}
+use Rattle.std.proofs.lemmas.List.{take-append-drop, length-append}
 use Rattle.std.proofs.lemmas.Grind.{common_steps}
-use Rattle.byte_devices.specs.Devices.{OutputState, Took, TookThenFailed, Sent, BreaksOff, Puts, Sends, FlushStep, risen, raised}
+use Rattle.byte_devices.specs.Devices.{OutputState, Took, TookThenFailed, Sent, BreaksOff, Puts, Sends, FlushStep, saturating_increment, saturating_add}
 
 pub appends_more : (a b c : Option (List ℕ)) (x y : List ℕ) → Appends a b x → Appends b c y → Appends a c (x ++ y)
 appends_more None b c x y h k = tt
@@ -34,13 +34,26 @@ consumes_kept None b h = tt
 consumes_kept (Some s) None h = absurd h
 consumes_kept (Some s) (Some t) h = sym h
 
--- a count after some bytes, and after more
-pub raised_more : (n : ℕ) (x y : List ℕ) → raised n (x ++ y) ≡ raised (raised n x) y
-raised_more n [] y = refl
-raised_more n (b ∷ x) y = raised_more (risen n) x y
+min_more : (n j k top : ℕ) → min (min (n + j) top + k) top ≡ min (n + (j + k)) top
+min_more n j k top = grind (arith, common_steps)
 
-unflushed_more : (l m n : ℕ) (x y : List ℕ) → m ≡ raised l x → n ≡ raised m y → n ≡ raised l (x ++ y)
-unflushed_more l m n x y e f = f ∙ ap (λ k. raised k y) e ∙ sym (raised_more l x y)
+pub add_some : (n k : ℕ) → 0 < k → saturating_add n k ≡ min (n + k) (2 ^ 64 - 1)
+add_some n k h = let e : nat_eq k 0 ≡ false = grind arith in rw e refl
+
+-- a count raised twice
+add_twice : (n j k : ℕ) → saturating_add (saturating_add n j) k ≡ saturating_add n (j + k)
+add_twice n zero k = ap (saturating_add n) (omega arith)
+add_twice n (suc j) zero = ap (saturating_add n) (omega arith)
+add_twice n (suc j) (suc k) =
+    add_some (saturating_add n (suc j)) (suc k) (omega arith)
+    ∙ ap (λ c. min (c + suc k) (2 ^ 64 - 1)) (add_some n (suc j) (omega arith))
+    ∙ min_more n (suc j) (suc k) (2 ^ 64 - 1) ∙ sym (add_some n (suc j + suc k) (omega arith))
+
+unflushed_more : (l m n : ℕ) (x y : List ℕ) → m ≡ saturating_add l (length x) → n ≡ saturating_add m (length y)
+    → n ≡ saturating_add l (length (x ++ y))
+unflushed_more l m n x y e f =
+    f ∙ ap (λ c. saturating_add c (length y)) e ∙ add_twice l (length x) (length y)
+    ∙ ap (saturating_add l) (sym (length-append x y))
 
 pub took_none : (a : OutputState) → Took a a []
 took_none a = record { bytes = appends_none a.known_bytes; failures = refl; unflushed = refl }
@@ -55,7 +68,7 @@ took_more a b c x y h k = record {
 pub failed_more : (a b c : OutputState) (x y : List ℕ) → Took a b x → TookThenFailed b c y → TookThenFailed a c (x ++ y)
 failed_more a b c x y h k = record {
   bytes = appends_more a.known_bytes b.known_bytes c.known_bytes x y h.bytes k.bytes;
-  failures = k.failures ∙ ap risen h.failures;
+  failures = k.failures ∙ ap saturating_increment h.failures;
   unflushed = unflushed_more a.unflushed b.unflushed c.unflushed x y h.unflushed k.unflushed;
 }
 

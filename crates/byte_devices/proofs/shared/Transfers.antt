@@ -1,42 +1,21 @@
 -- For laws of whole runs: what passed at the devices, put together from what the calls did.
-use Rattle.std.proofs.Common.{◌≡◌, ℕ, ◌+◌, ◌-◌, ◌^◌, ◌≤◌, min, Bool, true, List, [], ◌∷◌, ◌++◌, length, take, suc, refl, sym, ap, subst, ◌∙◌, arith, append-nil}
-use Rattle.std.proofs.lemmas.Grind.{common_steps}
+use Rattle.std.proofs.Common.{◌≡◌, ℕ, ◌+◌, ◌-◌, ◌^◌, min, Bool, true, List, [], ◌++◌, length, take, zero, suc, refl, sym, ap, subst, ◌∙◌, arith, append-nil}
 use Rattle.std.specs.Io.KnownBytes.{Appends}
-use Rattle.byte_devices.specs.Devices.{InputState, OutputState, Took, TookThenFailed, Sent, risen, raised}
+use Rattle.byte_devices.specs.Devices.{InputState, OutputState, Took, TookThenFailed, Sent, saturating_increment, saturating_add}
 use Rattle.byte_devices.specs.Transfers.{FromInput, ToOutput, OutputTook, all_of, all_unflushed, nothing}
-use Rattle.byte_devices.proofs.shared.Devices.{appends_more, appends_none}
+use Rattle.byte_devices.proofs.shared.Devices.{add_some, appends_more, appends_none}
 
--- ---- a count of bytes, byte by byte and at once
-
-min_step : (n k top : ℕ) → min (min (n + 1) top + k) top ≡ min (n + (k + 1)) top
-min_step n k top = grind (arith, common_steps)
-
-step : (n : ℕ) (b : ℕ) (bs : List ℕ)
-    → min (risen n + length bs) (2 ^ 64 - 1) ≡ min (n + length (b ∷ bs)) (2 ^ 64 - 1)
-unfolding risen
-step n b bs =
-    let e : length bs + 1 ≡ suc (length bs) = omega arith in
-    min_step n (length bs) (2 ^ 64 - 1) ∙ ap (λ v. min (n + v) (2 ^ 64 - 1)) e
-
-risen_le : (n : ℕ) → risen n ≤ 2 ^ 64 - 1
-unfolding risen
-risen_le n = grind (arith, common_steps)
-
-small : (n : ℕ) → n ≤ 2 ^ 64 - 1 → n ≡ min (n + 0) (2 ^ 64 - 1)
-small n h = grind (arith, common_steps)
-
-raised_at_once : (n : ℕ) (bs : List ℕ) → n ≤ 2 ^ 64 - 1 → raised n bs ≡ min (n + length bs) (2 ^ 64 - 1)
-raised_at_once n [] h = small n h
-raised_at_once n (b ∷ bs) h = raised_at_once (risen n) bs (risen_le n) ∙ step n b bs
-
-zero_plus : (k : ℕ) → 0 + k ≡ k
-zero_plus k = omega arith
-
-pub raised_from_0 : (bs : List ℕ) → raised 0 bs ≡ min (length bs) (2 ^ 64 - 1)
-raised_from_0 bs = raised_at_once 0 bs (omega arith) ∙ ap (λ v. min v (2 ^ 64 - 1)) (zero_plus (length bs))
+-- ---- counts of bytes
 
 none_left : min (length {A = ℕ} []) (2 ^ 64 - 1) ≡ 0
-none_left = sym (raised_from_0 [])
+none_left = omega arith
+
+-- a count from 0 on
+pub added_to_0 : (k : ℕ) → saturating_add 0 k ≡ min k (2 ^ 64 - 1)
+added_to_0 zero = omega arith
+added_to_0 (suc k) =
+    let e : 0 + suc k ≡ suc k = omega arith in
+    add_some 0 (suc k) (omega arith) ∙ ap (λ v. min v (2 ^ 64 - 1)) e
 
 -- ---- the input
 
@@ -60,8 +39,9 @@ all_bytes : (w w' : OutputState) (text : List ℕ) → Appends w.known_bytes w'.
     → Appends w.known_bytes w'.known_bytes (text ++ [])
 all_bytes w w' text h = subst (Appends w.known_bytes w'.known_bytes) (sym (append-nil text)) h
 
-unflushed_by : (n m : ℕ) (text : List ℕ) → n ≡ 0 → m ≡ raised n text → m ≡ min (length text) (2 ^ 64 - 1)
-unflushed_by n m text h e = e ∙ ap (λ v. raised v text) h ∙ raised_from_0 text
+pub unflushed_by : (n m : ℕ) (text : List ℕ) → n ≡ 0 → m ≡ saturating_add n (length text)
+    → m ≡ min (length text) (2 ^ 64 - 1)
+unflushed_by n m text h e = e ∙ ap (λ v. saturating_add v (length text)) h ∙ added_to_0 (length text)
 
 -- an output that was left as it was
 pub took_nothing : (w : OutputState) → OutputTook w w nothing
@@ -108,5 +88,5 @@ pub took_some_more : (w w' w'' : OutputState) (x start : List ℕ) → OutputToo
 took_some_more w w' w'' x start h k = record {
   bytes = appends_more w.known_bytes w'.known_bytes w''.known_bytes x start (flushed_bytes w w' x h) k.bytes;
   unflushed = λ none. unflushed_by w'.unflushed w''.unflushed start (h.unflushed none ∙ none_left) k.unflushed;
-  failures = k.failures ∙ ap risen h.failures;
+  failures = k.failures ∙ ap saturating_increment h.failures;
 }

@@ -1,6 +1,6 @@
 -- What `Counted` makes of its device's answers.
-use Rattle.std.specs.Prelude.{ℕ, ◌+◌, ◌-◌, ◌^◌, min, ◌==◌, ◌&&◌, nat_lt, if◌then◌else◌, Result, Ok, Err}
-use Rattle.byte_devices.specs.Devices.{risen}
+use Rattle.std.specs.Prelude.{ℕ, ◌+◌, ◌==◌, ◌&&◌, nat_lt, if◌then◌else◌, Result, Ok, Err}
+use Rattle.byte_devices.specs.Devices.{saturating_increment, saturating_add}
 use Rattle.byte_devices.specs.declared.counted.Counts.{Counts}
 
 -- the counts before the first call: all 0
@@ -10,7 +10,7 @@ no_counts = record { failures = 0; ends = 0; last = 0; pieces = 0; unflushed = 0
 -- the counts with one more failed call, and all else as it was
 abbrev pub one_failure_more : Counts → Counts
 one_failure_more c = record {
-  failures = risen c.failures;
+  failures = saturating_increment c.failures;
   ends = c.ends;
   last = c.last;
   pieces = c.pieces;
@@ -27,7 +27,7 @@ passed_on fault (Err e) = Err fault
 abbrev pub counts_after_read : {E : Type 0} → Counts → Result ℕ E → Counts
 counts_after_read c (Ok n) = record {
   failures = c.failures;
-  ends = if n == 0 then risen c.ends else c.ends;
+  ends = if n == 0 then saturating_increment c.ends else c.ends;
   last = n;
   pieces = c.pieces + 1;
   unflushed = c.unflushed;
@@ -40,10 +40,6 @@ abbrev pub write_passed_on : {E F : Type 0} → F → ℕ → Result ℕ E → R
 write_passed_on fault len (Ok n) = if (n == 0) && nat_lt 0 len then Err fault else Ok n
 write_passed_on fault len (Err e) = Err fault
 
--- a counter raised by n, but at most to 2 ^ 64 - 1
-abbrev pub raised_by : ℕ → ℕ → ℕ
-raised_by count n = if n == 0 then count else min (count + n) (2 ^ 64 - 1)
-
 -- the counts after a write with this result: `Ok n` adds n unflushed bytes, `Err` is a failure
 abbrev pub counts_after_write : {E : Type 0} → Counts → Result ℕ E → Counts
 counts_after_write c (Ok n) = record {
@@ -51,7 +47,7 @@ counts_after_write c (Ok n) = record {
   ends = c.ends;
   last = c.last;
   pieces = c.pieces;
-  unflushed = raised_by c.unflushed n;
+  unflushed = saturating_add c.unflushed n;
 }
 counts_after_write c (Err e) = one_failure_more c
 

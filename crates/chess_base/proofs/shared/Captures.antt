@@ -1,5 +1,5 @@
 -- For boards and texts of moves: what captures, and what turns the clock back.
-use Rattle.std.proofs.Common.{◌≡◌, ℕ, Bool, true, false, ◌||◌, ◌&&◌, Some, None, refl, ap, ◌∙◌}
+use Rattle.std.proofs.Common.{◌≡◌, ℕ, Bool, true, false, ◌||◌, ◌&&◌, Some, None, refl, ap, ◌∙◌, arith}
 use Rattle.std.specs.Prelude.{is_some, if◌then◌else◌}
 use Rattle.chess_base.specs.declared.man.Kind.TheVariants.{Pawn}
 use Rattle.chess_base.specs.declared.man.Move.{Move}
@@ -24,9 +24,7 @@ captures_is p m =
 
 -- a capture en passant is a pawn's move
 passing : (pawn enemy hits target : Bool) → (pawn || (enemy || ((pawn && hits) && target))) ≡ (pawn || enemy)
-passing true enemy hits target = refl
-passing false true hits target = refl
-passing false false hits target = refl
+passing pawn enemy hits target = grind arith
 
 pub resets_clock_is : (p : Setup) (m : Move)
     → resets_clock p m ≡ (is_man p.side Pawn (man_at p.men m.from) || is_of (other p.side) (man_at p.men m.to))

@@ -1,6 +1,7 @@
 -- For boards: what a legal move of a sound position changes, by its kind.
 use Rattle.std.proofs.Common.{◌≡◌, ◌≢◌, ℕ, ◌+◌, ◌<◌, ◌⊎◌, inl, inr, true, false, ◌&&◌, ◌||◌, not, Option, Some, None, is_none, refl, arith, ◌==◌}
 use Rattle.std.proofs.lemmas.Bool.{and_parts, and_left, and_right, or_cases, both_ways, eqb-true, eqb-false, false_from_ne_true, not-true}
+use Rattle.std.specs.Int.{abs_diff}
 use Rattle.chess_base.specs.declared.man.Colour.{Colour}
 use Rattle.chess_base.specs.declared.man.Colour.TheVariants.{White, Black}
 use Rattle.chess_base.specs.declared.man.Kind.{Kind}
@@ -9,7 +10,7 @@ use Rattle.chess_base.specs.declared.man.CastlingSide.{CastlingSide}
 use Rattle.chess_base.specs.declared.man.CastlingSide.TheVariants.{KingSide, QueenSide}
 use Rattle.chess_base.specs.declared.man.Man.{Man}
 use Rattle.chess_base.specs.declared.man.Move.{Move}
-use Rattle.chess_base.specs.Squares.{rank, file, gap, is_square}
+use Rattle.chess_base.specs.Squares.{rank, file, is_square}
 use Rattle.chess_base.specs.Men.{Men, man_at, other, same_colour, same_kind, is_of, is_man, forward, first_rank, crossed_rank, pawn_rank}
 use Rattle.chess_base.specs.Attacks.{attacks, could_capture, is_rank_ahead}
 use Rattle.chess_base.specs.shared.Splits.{could_capture_as, names_castling}
@@ -31,7 +32,7 @@ pawn_from_same Pawn e = refl
 
 pawn_attack_by : (men : Men) (c : Colour) (a b : ℕ) (o : Option Man) → is_man c Pawn o ≡ true
     → could_capture_as men o a b ≡ true
-    → (gap (file a) (file b) ≡ 1) × (is_rank_ahead c a b ≡ true)
+    → (abs_diff (file a) (file b) ≡ 1) × (is_rank_ahead c a b ≡ true)
 unfolding is_man could_capture
 pawn_attack_by men c a b None e h = cc
 pawn_attack_by men c a b (Some x) e h =
@@ -39,12 +40,12 @@ pawn_attack_by men c a b (Some x) e h =
     let colour : c ≡ x.colour = same_colour-true c x.colour man.0 in
     let kind : x.kind ≡ Pawn = pawn_from_same x.kind man.1 in
     let h' = rw (kind, ← colour) at h in
-    let both = and_parts (gap (file a) (file b) == 1) (is_rank_ahead c a b) h' in
-    (eqb-true (gap (file a) (file b)) 1 both.0, both.1)
+    let both = and_parts (abs_diff (file a) (file b) == 1) (is_rank_ahead c a b) h' in
+    (eqb-true (abs_diff (file a) (file b)) 1 both.0, both.1)
 
 -- a pawn attacks one file aside and one rank ahead
 pub pawn_attack : (men : Men) (c : Colour) (a b : ℕ) → is_man c Pawn (man_at men a) ≡ true → attacks men a b ≡ true
-    → (gap (file a) (file b) ≡ 1) × (is_rank_ahead c a b ≡ true)
+    → (abs_diff (file a) (file b) ≡ 1) × (is_rank_ahead c a b ≡ true)
 unfolding attacks
 pawn_attack men c a b e h = pawn_attack_by men c a b (man_at men a) e h
 
@@ -55,12 +56,13 @@ pub rank_ahead_Black : (a b : ℕ) → is_rank_ahead Black a b ≡ true → rank
 rank_ahead_Black a b e = eqb-true (rank a) (rank b + 1) e
 
 -- straight ahead is no capture
-straight_one : (c : Colour) (a b : ℕ) → b ≡ forward c a → gap (file a) (file b) ≡ 1 → is_rank_ahead c a b ≡ true → ⊥
+straight_one : (c : Colour) (a b : ℕ) → b ≡ forward c a → abs_diff (file a) (file b) ≡ 1 → is_rank_ahead c a b ≡ true
+    → ⊥
 straight_one White a b e g h = let r = rank_ahead_White a b h in omega (arith, r, e, g)
 straight_one Black a b e g h = let r = rank_ahead_Black a b h in omega (arith, r, e, g)
 
 pub straight_two : (c : Colour) (a b : ℕ) → rank a ≡ pawn_rank c → b ≡ forward c (forward c a)
-    → gap (file a) (file b) ≡ 1 → is_rank_ahead c a b ≡ true → ⊥
+    → abs_diff (file a) (file b) ≡ 1 → is_rank_ahead c a b ≡ true → ⊥
 straight_two White a b f e g h = let r = rank_ahead_White a b h in omega (arith, r, e, g)
 straight_two Black a b f e g h = let r = rank_ahead_Black a b h in omega (arith, r, e, g)
 

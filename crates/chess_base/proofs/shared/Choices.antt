@@ -1,6 +1,13 @@
--- For readers: where a choice by a test gives a value, the test holds.
+-- For readers: where a choice by a test gives a value, the test holds; and where a function of an option gives one, the
+-- option has one.
 use Rattle.std.proofs.Common.{◌≡◌, Bool, true, false, cond, Option, Some, None, refl}
+use Rattle.std.specs.Option.{option_map}
 
 pub chosen : {A : Type 0} (b : Bool) (o : Option A) (x : A) → cond b o None ≡ Some x → (b ≡ true) × (o ≡ Some x)
 chosen true o x e = (refl, e)
 chosen false o x e = absurd cc
+
+pub mapped : {A B : Type 0} (f : A → B) (o : Option A) (y : B) → option_map f o ≡ Some y
+    → (x : A) × (o ≡ Some x) × (f x ≡ y)
+mapped f None y e = absurd cc
+mapped f (Some x) y e = (x, refl, cc)

@@ -1,11 +1,13 @@
 -- For proofs about pieces: what follows from the tests on the piece of a square, if there is one.
-use Rattle.std.proofs.Common.{◌≡◌, ℕ, ◌<◌, ◌⊎◌, inl, inr, true, false, Option, Some, None, is_none, length, refl, arith}
+use Rattle.std.proofs.Common.{◌≡◌, ℕ, ◌<◌, ◌⊎◌, inl, inr, true, false, Option, Some, None, is_none, length, get_or, refl, sym, ap, ◌∙◌, arith}
 use Rattle.std.proofs.lemmas.Bool.{and_parts, and_left, and_right, eqb-true, cases_lt}
 use Rattle.std.proofs.lemmas.List.{get_or_past}
 use Rattle.chess_base.specs.declared.man.Colour.{Colour}
 use Rattle.chess_base.specs.declared.man.Colour.TheVariants.{White, Black}
 use Rattle.chess_base.specs.declared.man.Kind.{Kind}
+use Rattle.chess_base.specs.declared.man.Kind.TheVariants.{King, Queen, Rook, Bishop, Knight, Pawn}
 use Rattle.chess_base.specs.declared.man.Man.{Man}
+use Rattle.chess_base.specs.Letters.{kinds}
 use Rattle.chess_base.specs.Men.{Men, man_at, other, same_colour, same_kind, kind_number, is_of, is_man}
 
 pub same_colour-self : (c : Colour) → same_colour c c ≡ true
@@ -17,6 +19,31 @@ same_colour-true White White e = refl
 same_colour-true Black Black e = refl
 same_colour-true White Black e = cc
 same_colour-true Black White e = cc
+
+-- the kind with this number
+abbrev kind_at : ℕ → Kind
+kind_at n = get_or kinds n King
+
+kind_back : (k : Kind) → kind_at (kind_number k) ≡ k
+kind_back King = refl
+kind_back Queen = refl
+kind_back Rook = refl
+kind_back Bishop = refl
+kind_back Knight = refl
+kind_back Pawn = refl
+
+pub same_kind-self : (k : Kind) → same_kind k k ≡ true
+same_kind-self King = refl
+same_kind-self Queen = refl
+same_kind-self Rook = refl
+same_kind-self Bishop = refl
+same_kind-self Knight = refl
+same_kind-self Pawn = refl
+
+pub same_kind-true : (k l : Kind) → same_kind k l ≡ true → k ≡ l
+same_kind-true k l e =
+    let numbers : kind_number k ≡ kind_number l = eqb-true (kind_number k) (kind_number l) e in
+    sym (kind_back k) ∙ ap kind_at numbers ∙ kind_back l
 
 pub same_colour-other : (c d : Colour) → same_colour (other c) d ≡ true → same_colour c d ≡ false
 same_colour-other White White e = cc

@@ -1,5 +1,5 @@
 -- For boards: the pieces after a move, square by square.
-use Rattle.std.proofs.Common.{◌≡◌, ℕ, ◌<◌, inl, inr, length, ◌==◌, Bool, ◌||◌, Option, Some, None, ◌≢◌, true, false, refl, sym, ap, ◌∙◌}
+use Rattle.std.proofs.Common.{◌≡◌, ℕ, ◌<◌, inl, inr, length, ◌==◌, Bool, ◌||◌, Option, Some, None, ◌≢◌, true, false, refl, sym, ap, ◌∙◌, arith}
 use Rattle.std.proofs.lemmas.Bool.{cases_eq, eq-eqb, ne_eqb}
 use Rattle.std.specs.Option.{option_map_or}
 use Rattle.std.specs.Prelude.{if◌then◌else◌}
@@ -41,10 +41,7 @@ flip a b = elim (cases_eq a b) [
 ]
 
 or_flip : (a b : Bool) → (a || b) ≡ (b || a)
-or_flip true true = refl
-or_flip true false = refl
-or_flip false true = refl
-or_flip false false = refl
+or_flip a b = grind arith
 
 -- off the end square, a capture empties a square beside the start square only if it is en passant
 emptied : (passes enemy : Bool) (behind to s : ℕ) → (s == to) ≡ false

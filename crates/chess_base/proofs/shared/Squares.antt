@@ -81,11 +81,7 @@ some_square_same p q h = some_below_same 64 p q h
 -- a test by two ways, over all squares
 
 swap_inner : (p q r s : Bool) → ((p || q) || (r || s)) ≡ ((p || r) || (q || s))
-swap_inner true q r s = refl
-swap_inner false true true s = refl
-swap_inner false true false s = refl
-swap_inner false false true s = refl
-swap_inner false false false s = refl
+swap_inner p q r s = grind arith
 
 some_below-or : (n : ℕ) (p q : ℕ → Bool) → some_below n (λ k. p k || q k) ≡ (some_below n p || some_below n q)
 some_below-or zero p q = refl

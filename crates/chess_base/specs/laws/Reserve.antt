@@ -1,14 +1,15 @@
 -- What captures and pawn moves use up, the moves from which the 50 move rule counts (Laws of Chess 2023, article 9.3).
 use Rattle.std.specs.Prelude.{ℕ, ◌+◌, Option, Some, None, sum, if◌then◌else◌}
+use Rattle.std.specs.Int.{abs_diff}
 use Rattle.chess_base.specs.declared.man.Colour.{Colour}
 use Rattle.chess_base.specs.declared.man.Kind.TheVariants.{Pawn}
 use Rattle.chess_base.specs.declared.man.Man.{Man}
-use Rattle.chess_base.specs.Squares.{rank, gap, from_below}
+use Rattle.chess_base.specs.Squares.{rank, from_below}
 use Rattle.chess_base.specs.Men.{Men, man_at, same_kind, other, first_rank}
 
 -- how many ranks a pawn of colour c on square s is from its last rank: 6 for White's on e2
 abbrev pub ranks_to_go : Colour → ℕ → ℕ
-ranks_to_go c s = gap (rank s) (first_rank (other c))
+ranks_to_go c s = abs_diff (rank s) (first_rank (other c))
 
 -- what the content of square s counts: 1 for a piece, and for a pawn 1 more for each rank that it still has to go
 abbrev pub weight : ℕ → Option Man → ℕ

@@ -1,11 +1,12 @@
 -- Attacks along the lines of the board, and by knights.
 use Rattle.std.specs.Prelude.{ℕ, ◌+◌, ◌-◌, ◌==◌, nat_le, nat_lt, Bool, true, false, not, ◌&&◌, ◌||◌}
+use Rattle.std.specs.Int.{abs_diff}
 use Rattle.chess_base.specs.declared.line.Line.{Line}
 use Rattle.chess_base.specs.declared.line.Line.TheVariants.{Rank, File, Diagonal, Antidiagonal}
 use Rattle.chess_base.specs.declared.man.Colour.{Colour}
 use Rattle.chess_base.specs.declared.man.Kind.{Kind}
 use Rattle.chess_base.specs.declared.man.Kind.TheVariants.{King, Queen, Rook, Bishop, Knight, Pawn}
-use Rattle.chess_base.specs.Squares.{file, rank, gap, some_square}
+use Rattle.chess_base.specs.Squares.{file, rank, some_square}
 use Rattle.chess_base.specs.Men.{Men, man_at, is_of, is_man}
 use Rattle.chess_base.specs.Attacks.{is_rank_ahead, attacks, could_capture}
 use Rattle.chess_base.specs.shared.Lines.{same_line}
@@ -35,12 +36,12 @@ is_straight Antidiagonal = false
 -- a piece of colour c and this kind on a could capture on b, where both are on one line of kind l with no piece between
 -- them
 abbrev pub reaches : Line → Colour → Kind → ℕ → ℕ → Bool
-reaches l c King a b = gap a b == step_of l
+reaches l c King a b = abs_diff a b == step_of l
 reaches l c Queen a b = true
 reaches l c Rook a b = is_straight l
 reaches l c Bishop a b = not (is_straight l)
 reaches l c Knight a b = false
-reaches l c Pawn a b = (gap (file a) (file b) == 1) && is_rank_ahead c a b
+reaches l c Pawn a b = (abs_diff (file a) (file b) == 1) && is_rank_ahead c a b
 
 -- ---- the attacks on a square, by where they come from
 

@@ -1,6 +1,7 @@
 -- The squares on which a piece could capture on an empty board, ranks and files, diagonals, and the rays.
 use Rattle.std.specs.Prelude.{ℕ, ◌==◌, nat_le, Bool, not, ◌&&◌, ◌||◌}
-use Rattle.chess_base.specs.Squares.{file, rank, gap, share_rank_or_file, share_diagonal}
+use Rattle.std.specs.Int.{abs_diff}
+use Rattle.chess_base.specs.Squares.{file, rank, share_rank_or_file, share_diagonal}
 use Rattle.chess_base.specs.Attacks.{is_rank_ahead}
 use Rattle.chess_bits.specs.declared.table.Shape.{Shape}
 use Rattle.chess_bits.specs.declared.table.Shape.TheVariants.{King, Knight, Pawn, Lines, Diagonals, Ray}
@@ -9,11 +10,11 @@ use Rattle.chess_bits.specs.ties.Rays.{is_on_ray}
 -- square b belongs to that shape from square a: a king, knight or pawn on a attacks b; or b is on a's rank or file, on
 -- a's diagonals, or on that ray from a
 unfoldable pub in_shape : Shape → ℕ → ℕ → Bool
-in_shape King a b = not (a == b) && nat_le (gap (file a) (file b)) 1 && nat_le (gap (rank a) (rank b)) 1
+in_shape King a b = not (a == b) && nat_le (abs_diff (file a) (file b)) 1 && nat_le (abs_diff (rank a) (rank b)) 1
 in_shape Knight a b =
-    ((gap (file a) (file b) == 1) && (gap (rank a) (rank b) == 2))
-    || ((gap (file a) (file b) == 2) && (gap (rank a) (rank b) == 1))
-in_shape (Pawn c) a b = (gap (file a) (file b) == 1) && is_rank_ahead c a b
+    ((abs_diff (file a) (file b) == 1) && (abs_diff (rank a) (rank b) == 2))
+    || ((abs_diff (file a) (file b) == 2) && (abs_diff (rank a) (rank b) == 1))
+in_shape (Pawn c) a b = (abs_diff (file a) (file b) == 1) && is_rank_ahead c a b
 in_shape Lines a b = not (b == a) && share_rank_or_file b a
 in_shape Diagonals a b = not (b == a) && share_diagonal b a
 in_shape (Ray l up) a b = is_on_ray l up a b

@@ -1,6 +1,6 @@
 -- For witnesses of a match: texts that are written and flushed, one after the other.
-use Rattle.std.proofs.Common.{ℕ, List, [], ◌++◌, ap, ◌∙◌, refl}
-use Rattle.byte_devices.specs.Devices.{OutputState, TookThenFailed, raised, risen}
+use Rattle.std.proofs.Common.{ℕ, List, [], ◌++◌, length, ap, ◌∙◌, refl}
+use Rattle.byte_devices.specs.Devices.{OutputState, TookThenFailed, saturating_add, saturating_increment}
 use Rattle.byte_devices.proofs.shared.Devices.{appends_more, appends_none}
 use Rattle.chess_match.specs.Run.{Flushed, FlushedThenFailed}
 
@@ -18,6 +18,6 @@ pub failed_after : (a b c : OutputState) (x start : List ℕ) → Flushed a b x 
     → FlushedThenFailed a c x start
 failed_after a b c x start h k = record {
   bytes = appends_more a.known_bytes b.known_bytes c.known_bytes x start h.bytes k.bytes;
-  failures = k.failures ∙ ap risen h.failures;
-  unflushed = λ e. k.unflushed ∙ ap (λ (n : ℕ). raised n start) (h.unflushed e);
+  failures = k.failures ∙ ap saturating_increment h.failures;
+  unflushed = λ e. k.unflushed ∙ ap (λ (n : ℕ). saturating_add n (length start)) (h.unflushed e);
 }

@@ -12,7 +12,8 @@ use Rattle.chess_match.specs.Rules.{Rules}
 use Rattle.chess_match.specs.declared.phase.Phase.{Phase}
 use Rattle.chess_match.specs.declared.phase.Phase.TheVariants.{Handshake, Setup, SendTurn, AwaitMove, AwaitPong, Over}
 use Rattle.chess_match.specs.declared.reason.Reason.{Reason}
-use Rattle.chess_match.specs.Lines.{list_if, SentLine, Says, MoveSent, Time, Otim, answers_to, ping, setup_lines}
+use Rattle.chess_base.specs.Options.{list_if}
+use Rattle.chess_match.specs.Lines.{SentLine, Says, MoveSent, Time, Otim, answers_to, ping, setup_lines}
 use Rattle.chess_match.specs.Reasons.{is_unwritten}
 
 -- the line with the last move played, in the form that the engine of the side `S` asked for: after `usermove` or alone,

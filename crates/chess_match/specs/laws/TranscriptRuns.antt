@@ -3,7 +3,7 @@ use Rattle.std.specs.Prelude.{◌≡◌, ℕ, Bool, true, false, List, [], ◌++
 use Rattle.std.specs.Io.KnownBytes.{Consumes, IsAtEnd}
 use Rattle.chess_base.specs.declared.man.Colour.{Colour}
 use Rattle.byte_devices.specs.Devices.{InputState, OutputState, Begins}
-use Rattle.text_lines.specs.Unflushed.{risen_if}
+use Rattle.byte_devices.specs.Transfers.{saturating_increment_if}
 use Rattle.chess_game.specs.Game as game
 use Rattle.chess_match.specs.laws.Machine.{Match}
 use Rattle.chess_match.specs.Events.{Event}
@@ -26,8 +26,8 @@ use Rattle.chess_match.specs.Run.{engine_lines, Ports, Flushed, FlushedThenFaile
 pub record ReadFrom (S : Colour) (T : List Event) (old new : InputState) (given : List ℕ) : Type 0 where
   pub bytes : Consumes old.known_bytes new.known_bytes given
   pub lines : (rest : List (Option (List ℕ))) × (engine_lines given ≡ lines_of_engine S T ++ rest)
-  pub ends : new.end_count ≡ risen_if (has_fault Ended S T) old.end_count
-  pub failures : new.failure_count ≡ risen_if (has_fault Read S T) old.failure_count
+  pub ends : new.end_count ≡ saturating_increment_if (has_fault Ended S T) old.end_count
+  pub failures : new.failure_count ≡ saturating_increment_if (has_fault Read S T) old.failure_count
   pub at_end : has_fault Ended S T ≡ true → (engine_lines given ≡ lines_of_engine S T) × IsAtEnd new.known_bytes
   pub at_failure : has_fault Read S T ≡ true → engine_lines given ≡ lines_of_engine S T
 

@@ -1,7 +1,7 @@
 -- For crates that take pieces from an input: what was read of it, and more of it afterwards.
 use Rattle.std.proofs.Common.{◌≡◌, ℕ, ◌==◌, Bool, true, false, if◌then◌else◌, List, [], ◌++◌, length, refl, ap, subst, append-nil, ◌∙◌, arith}
 use Rattle.std.proofs.lemmas.Bool.Decides.{nat_tests}
-use Rattle.byte_devices.specs.Devices.{InputState, GavePiece, FailedToRead, risen}
+use Rattle.byte_devices.specs.Devices.{InputState, GavePiece, FailedToRead, saturating_increment}
 use Rattle.byte_devices.proofs.shared.Devices.{consumes_more, consumes_none, consumes_kept}
 use Rattle.std.specs.Io.KnownBytes.{Consumes}
 use Rattle.pgn_pieces.specs.Pieces.{BrokeOff, HasRead}
@@ -19,8 +19,8 @@ pub read_on : (b : Bool) (r r' r'' : InputState) (text more : List ℕ) → (len
 read_on b r r' r'' text more h front gave = record {
   bytes = consumes_more r.known_bytes r'.known_bytes r''.known_bytes text more front.bytes gave.bytes;
   failures = gave.failures ∙ front.failures;
-  ends = gave.ends ∙ ap (λ c. if c then risen r'.end_count else r'.end_count) h
-      ∙ ap (λ n. if b then risen n else n) front.ends;
+  ends = gave.ends ∙ ap (λ c. if c then saturating_increment r'.end_count else r'.end_count) h
+      ∙ ap (λ n. if b then saturating_increment n else n) front.ends;
   at_end = λ e. gave.at_end (is_none more (h ∙ e));
 }
 
@@ -29,6 +29,6 @@ broke_off r r' r'' text front failed = record {
   bytes = subst (Consumes r.known_bytes r''.known_bytes) (append-nil text)
       (consumes_more r.known_bytes r'.known_bytes r''.known_bytes text [] front.bytes
       (consumes_kept r'.known_bytes r''.known_bytes failed.bytes));
-  failures = failed.failures ∙ ap risen front.failures;
+  failures = failed.failures ∙ ap saturating_increment front.failures;
   ends = failed.ends ∙ front.ends;
 }

@@ -1,7 +1,8 @@
 -- Of at most nine digits those before the last write less than 10 ^ 8 (FewDigits.small_number), so no step overflows;
--- and all write less than 10 to the power of their number (FewDigits.number_bound).
+-- and all write less than 10 to the power of their number (FewDigits.number_bound). What they write is FewDigits.number_is.
 use Rattle.std.proofs.Common.{arith, ◌<◌, ◌≤◌, ◌^◌, length}
-use Rattle.text_lines.proofs.FewDigits.{small_number, number_bound}
+use Rattle.std.proofs.lemmas.Bool.Decides.{nat_tests}
+use Rattle.text_lines.proofs.FewDigits.{small_number, number_bound, number_is}
 use Rattle.text_lines.proofs.number.short_number.Goals as goal
 
 pub overflow_mul-number : goal.overflow_mul-number
@@ -11,6 +12,13 @@ overflow_mul-number c = let s : c.loop-byte.number < 10 ^ 8 = small_number _ _ (
 pub overflow_add-number : goal.overflow_add-number
 overflow_add-number c = let s : c.loop-byte.number < 10 ^ 8 = small_number _ _ (length c.args.text.now) c.args.most
     c.loop-byte.invariant.small c.loop-byte-test.true c.requires c.if-text-most.false in omega arith
+
+pub returns-clause-value : goal.returns-clause-value
+returns-clause-value c =
+    let some : 0 < length c.args.text.now = grind (arith, nat_tests, c.if-is_empty.false, c.is_empty.ensures) in
+    number_is c.args.most c.loop-byte.byte-index c.loop-byte.number c.args.text.now some
+    (omega (arith, c.if-text-most.false)) c.loop-byte-test.false c.loop-byte.invariant.rest
+    c.loop-byte.invariant.digits
 
 pub returns-clause-small : goal.returns-clause-small
 returns-clause-small c =

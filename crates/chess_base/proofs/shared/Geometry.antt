@@ -1,11 +1,15 @@
--- Lines and what lies between two squares of one.
-use Rattle.std.proofs.Common.{◌≡◌, ℕ, ◌<◌, ◌*◌, ◌+◌, nat_lt, ◌-◌, inl, inr, Bool, true, false, ◌&&◌, ◌||◌, ◌==◌, refl, arith}
+-- For proofs about lines: what lies between two of the squares of a line.
+use Rattle.std.proofs.Common.{◌≡◌, ℕ, ◌<◌, ◌*◌, ◌+◌, nat_lt, ◌-◌, inl, inr, Bool, true, false, ◌&&◌, ◌||◌, not, ◌==◌, is_none, refl, ap, arith}
 use Rattle.std.proofs.lemmas.Bool.Decides.{nat_tests}
 use Rattle.std.proofs.lemmas.Bool.{cases_order}
-use Rattle.chess_base.specs.Squares.{file, rank, gap, lies_inside, share_rank_or_file, share_diagonal, is_between, is_between_on_file, is_between_on_rank, is_between_on_diagonal}
+use Rattle.std.specs.Int.{abs_diff}
+use Rattle.chess_base.specs.Squares.{file, rank, is_strictly_between, share_rank_or_file, share_diagonal, is_between, is_between_on_file, is_between_on_rank, is_between_on_diagonal}
 use Rattle.chess_base.specs.declared.line.Line.{Line}
 use Rattle.chess_base.specs.declared.line.Line.TheVariants.{Rank, File, Diagonal, Antidiagonal}
+use Rattle.chess_base.specs.Men.{Men, man_at}
+use Rattle.chess_base.specs.Attacks.{is_clear}
 use Rattle.chess_base.specs.shared.Lines.{same_line}
+use Rattle.chess_base.proofs.shared.Squares.{each_square_same}
 
 pub share_rank_or_file_is : (a b : ℕ) → share_rank_or_file a b ≡ (same_line File a b || same_line Rank a b)
 share_rank_or_file_is a b = refl
@@ -15,7 +19,7 @@ pub share_diagonal_is : (a b : ℕ) → a < 64 → b < 64
 share_diagonal_is a b h l = grind (arith, nat_tests)
 
 pub between_rank : (a b x : ℕ) → same_line Rank a b ≡ true
-    → is_between a b x ≡ (same_line Rank a x && lies_inside a b x)
+    → is_between a b x ≡ (same_line Rank a x && is_strictly_between a b x)
 unfolding is_between is_between_on_file is_between_on_rank is_between_on_diagonal
 between_rank a b x e = grind (arith, nat_tests)
 
@@ -27,7 +31,7 @@ only_last : (p q r t : Bool) → p ≡ false → q ≡ false → r ≡ t → (p 
 only_last p q r t e f g = rw (e, f, g) refl
 
 file_part : (a b x : ℕ) → same_line File a b ≡ true
-    → is_between_on_file a b x ≡ (same_line File a x && lies_inside a b x)
+    → is_between_on_file a b x ≡ (same_line File a x && is_strictly_between a b x)
 unfolding is_between_on_file
 file_part a b x e = grind (arith, nat_tests)
 
@@ -40,54 +44,58 @@ unfolding is_between_on_diagonal
 file_no_diagonal a b x e = grind (arith, nat_tests)
 
 pub between_file : (a b x : ℕ) → same_line File a b ≡ true
-    → is_between a b x ≡ (same_line File a x && lies_inside a b x)
+    → is_between a b x ≡ (same_line File a x && is_strictly_between a b x)
 unfolding is_between
 between_file a b x e = only_first _ _ _ _ (file_part a b x e) (file_no_rank a b x e) (file_no_diagonal a b x e)
 
-inside_up : (m n x : ℕ) → m < n → lies_inside m n x ≡ (nat_lt m x && nat_lt x n)
+inside_up : (m n x : ℕ) → m < n → is_strictly_between m n x ≡ (nat_lt m x && nat_lt x n)
 inside_up m n x h = grind (arith, nat_tests)
 
-inside_down : (m n x : ℕ) → n < m → lies_inside m n x ≡ (nat_lt n x && nat_lt x m)
+inside_down : (m n x : ℕ) → n < m → is_strictly_between m n x ≡ (nat_lt n x && nat_lt x m)
 inside_down m n x h = grind (arith, nat_tests)
 
-inside_none : (m n x : ℕ) → m ≡ n → lies_inside m n x ≡ false
+inside_none : (m n x : ℕ) → m ≡ n → is_strictly_between m n x ≡ false
 inside_none m n x h = grind (arith, nat_tests)
 
 -- over files and ranks: up and down a diagonal, and an antidiagonal
 up_diagonal : (f r g q h t : ℕ) → f < 8 → g < 8 → h < 8 → r + g ≡ q + f → f < g
-    → (gap f h == gap r t && gap h g == gap t q && lies_inside r q t && lies_inside f g h)
+    → (abs_diff f h == abs_diff r t && abs_diff h g == abs_diff t q && is_strictly_between r q t
+    && is_strictly_between f g h)
     ≡ ((r + 7 - f == t + 7 - h) && (nat_lt (8 * r + f) (8 * t + h) && nat_lt (8 * t + h) (8 * q + g)))
 up_diagonal f r g q h t a b c e l =
     rw (inside_up r q t (omega arith), inside_up f g h l) (grind (arith, nat_tests))
 
 down_diagonal : (f r g q h t : ℕ) → f < 8 → g < 8 → h < 8 → r + g ≡ q + f → g < f
-    → (gap f h == gap r t && gap h g == gap t q && lies_inside r q t && lies_inside f g h)
+    → (abs_diff f h == abs_diff r t && abs_diff h g == abs_diff t q && is_strictly_between r q t
+    && is_strictly_between f g h)
     ≡ ((r + 7 - f == t + 7 - h) && (nat_lt (8 * q + g) (8 * t + h) && nat_lt (8 * t + h) (8 * r + f)))
 down_diagonal f r g q h t a b c e l =
     rw (inside_down r q t (omega arith), inside_down f g h l) (grind (arith, nat_tests))
 
 up_antidiagonal : (f r g q h t : ℕ) → f < 8 → g < 8 → h < 8 → r + f ≡ q + g → r < q
-    → (gap f h == gap r t && gap h g == gap t q && lies_inside r q t && lies_inside f g h)
+    → (abs_diff f h == abs_diff r t && abs_diff h g == abs_diff t q && is_strictly_between r q t
+    && is_strictly_between f g h)
     ≡ ((r + f == t + h) && (nat_lt (8 * r + f) (8 * t + h) && nat_lt (8 * t + h) (8 * q + g)))
 up_antidiagonal f r g q h t a b c e l =
     rw (inside_up r q t l, inside_down f g h (omega arith)) (grind (arith, nat_tests))
 
 down_antidiagonal : (f r g q h t : ℕ) → f < 8 → g < 8 → h < 8 → r + f ≡ q + g → q < r
-    → (gap f h == gap r t && gap h g == gap t q && lies_inside r q t && lies_inside f g h)
+    → (abs_diff f h == abs_diff r t && abs_diff h g == abs_diff t q && is_strictly_between r q t
+    && is_strictly_between f g h)
     ≡ ((r + f == t + h) && (nat_lt (8 * q + g) (8 * t + h) && nat_lt (8 * t + h) (8 * r + f)))
 down_antidiagonal f r g q h t a b c e l =
     rw (inside_down r q t l, inside_up f g h (omega arith)) (grind (arith, nat_tests))
 
-by_parts : (s : ℕ) → 8 * rank s + file s ≡ s
+pub by_parts : (s : ℕ) → 8 * rank s + file s ≡ s
 by_parts s = omega arith
 
 none_inside : (a b x : ℕ) (s t u : Bool) → rank a ≡ rank b → a ≡ b
-    → (s && t && lies_inside (rank a) (rank b) (rank x) && lies_inside (file a) (file b) (file x))
-    ≡ (u && lies_inside a b x)
+    → (s && t && is_strictly_between (rank a) (rank b) (rank x) && is_strictly_between (file a) (file b) (file x))
+    ≡ (u && is_strictly_between a b x)
 none_inside a b x s t u e f = rw (inside_none (rank a) (rank b) (rank x) e, inside_none a b x f) (grind arith)
 
 diagonal_part : (a b x : ℕ) → same_line Diagonal a b ≡ true
-    → is_between_on_diagonal a b x ≡ (same_line Diagonal a x && lies_inside a b x)
+    → is_between_on_diagonal a b x ≡ (same_line Diagonal a x && is_strictly_between a b x)
 unfolding is_between_on_diagonal
 diagonal_part a b x e =
     let n : rank a + file b ≡ rank b + file a = grind (arith, nat_tests) in
@@ -109,7 +117,7 @@ diagonal_part a b x e =
     ]
 
 antidiagonal_part : (a b x : ℕ) → same_line Antidiagonal a b ≡ true
-    → is_between_on_diagonal a b x ≡ (same_line Antidiagonal a x && lies_inside a b x)
+    → is_between_on_diagonal a b x ≡ (same_line Antidiagonal a x && is_strictly_between a b x)
 unfolding is_between_on_diagonal
 antidiagonal_part a b x e =
     let n : rank a + file a ≡ rank b + file b = grind (arith, nat_tests) in
@@ -139,7 +147,7 @@ unfolding is_between_on_rank
 diagonal_no_rank a b x e = grind (arith, nat_tests)
 
 pub between_diagonal : (a b x : ℕ) → same_line Diagonal a b ≡ true
-    → is_between a b x ≡ (same_line Diagonal a x && lies_inside a b x)
+    → is_between a b x ≡ (same_line Diagonal a x && is_strictly_between a b x)
 unfolding is_between
 between_diagonal a b x e = only_last _ _ _ _ (diagonal_no_file a b x e) (diagonal_no_rank a b x e)
     (diagonal_part a b x e)
@@ -153,15 +161,55 @@ unfolding is_between_on_rank
 antidiagonal_no_rank a b x e = grind (arith, nat_tests)
 
 pub between_antidiagonal : (a b x : ℕ) → same_line Antidiagonal a b ≡ true
-    → is_between a b x ≡ (same_line Antidiagonal a x && lies_inside a b x)
+    → is_between a b x ≡ (same_line Antidiagonal a x && is_strictly_between a b x)
 unfolding is_between
 between_antidiagonal a b x e = only_last _ _ _ _ (antidiagonal_no_file a b x e) (antidiagonal_no_rank a b x e)
     (antidiagonal_part a b x e)
 
 -- what lies between two squares of one line lies on the line, between them in number
 pub between_on_line : (l : Line) (a b x : ℕ) → same_line l a b ≡ true
-    → is_between a b x ≡ (same_line l a x && lies_inside a b x)
+    → is_between a b x ≡ (same_line l a x && is_strictly_between a b x)
 between_on_line Rank a b x e = between_rank a b x e
 between_on_line File a b x e = between_file a b x e
 between_on_line Diagonal a b x e = between_diagonal a b x e
 between_on_line Antidiagonal a b x e = between_antidiagonal a b x e
+
+-- ---- which squares are between two does not depend on their order
+
+pub abs_diff_back : (m n : ℕ) → abs_diff m n ≡ abs_diff n m
+abs_diff_back m n = omega arith
+
+inside_back : (m n x : ℕ) → is_strictly_between m n x ≡ is_strictly_between n m x
+inside_back m n x = grind (arith, nat_tests)
+
+swap_first : (p q r : Bool) → (p && q && r) ≡ (q && p && r)
+swap_first p q r = grind arith
+
+back_on_file : (a b x : ℕ) → is_between_on_file a b x ≡ is_between_on_file b a x
+unfolding is_between_on_file
+back_on_file a b x = rw (inside_back (rank a) (rank b) (rank x))
+    (swap_first (file x == file a) (file x == file b) (is_strictly_between (rank b) (rank a) (rank x)))
+
+back_on_rank : (a b x : ℕ) → is_between_on_rank a b x ≡ is_between_on_rank b a x
+unfolding is_between_on_rank
+back_on_rank a b x = rw (inside_back (file a) (file b) (file x))
+    (swap_first (rank x == rank a) (rank x == rank b) (is_strictly_between (file b) (file a) (file x)))
+
+pub diagonal_back : (a b : ℕ) → share_diagonal a b ≡ share_diagonal b a
+diagonal_back a b = rw (abs_diff_back (file a) (file b), abs_diff_back (rank a) (rank b)) refl
+
+back_on_diagonal : (a b x : ℕ) → is_between_on_diagonal a b x ≡ is_between_on_diagonal b a x
+unfolding is_between_on_diagonal
+back_on_diagonal a b x =
+    let e = inside_back (rank a) (rank b) (rank x) in
+    let f = inside_back (file a) (file b) (file x) in
+    grind (arith, e, f, diagonal_back a x, diagonal_back x b)
+
+pub between_back : (a b x : ℕ) → is_between a b x ≡ is_between b a x
+unfolding is_between
+between_back a b x = rw (back_on_file a b x, back_on_rank a b x, back_on_diagonal a b x) refl
+
+pub is_clear_back : (men : Men) (a b : ℕ) → is_clear men a b ≡ is_clear men b a
+unfolding is_clear
+is_clear_back men a b =
+    each_square_same _ _ (λ x l. ap (λ t. not t || is_none (man_at men x)) (between_back a b x))
