@@ -315,12 +315,10 @@ fn after_the_last_piece_there_is_none(rt: HostRuntime) -> Result<(), Fail> {
     Ok(())
 }
 
-// Gives so many sections of text, each by one read.
+// Gives so many pieces, each by one read.
 #[derive(Drop)]
 struct Sections {
     left: usize,
-    // With what each of them begins.
-    front: &'static [u8; 12],
 }
 
 impl Read for Sections {
@@ -335,7 +333,7 @@ impl Read for Sections {
         self.left -= 1;
         buf.fill(b'x');
         if let Some(front) = buf.get_mut(..12) {
-            front.copy_from_slice(self.front);
+            front.copy_from_slice(b"[Event \"a\"]\n");
         }
         if let Some(last) = buf.last_mut() {
             *last = b'\n';
@@ -351,41 +349,22 @@ fn pages(host: &HostRuntime) -> Result<usize, Fail> {
     Ok(count.parse::<usize>()?)
 }
 
-// Goes past so many pieces of such sections: no more pages are held then than `most` and those held before.
-fn check_let_go(
-    rt: &impl Abort,
-    host: &HostRuntime,
-    sections: Sections,
-    count: usize,
-    most: usize,
-) -> Result<(), Fail> {
-    let before = pages(host)?;
-    let mut input = Counted::reading(sections);
-    let mut pieces = PgnPieces::open(host.alloc())?;
-    for _ in 0..count {
-        is_equal(rt, &pieces.next(&mut input), &Ok(true));
-    }
-    let after = pages(host)?;
-    assert!(rt;
-        after < before.saturating_add(most),
-        "{before} pages, then {after}"
-    );
-    ends(rt, &mut pieces, &mut input, Ok(false));
-    Ok(())
-}
-
-// What is held does not grow with what was read: of 64 MiB in pieces of 64 KiB no 16 MiB are held at the end, and of a
-// piece of 256 MiB, which is too long, no 128 MiB.
+// What is held does not grow with what was read: of 64 MiB in pieces of 64 KiB no 16 MiB are held at the end.
 #[test]
 fn pieces_are_let_go(rt: HostRuntime) -> Result<(), Fail> {
-    let short = Sections {
-        left: 1024,
-        front: b"[Event \"a\"]\n",
-    };
-    check_let_go(&rt, &rt, short, 1024, 4096)?;
-    let long = Sections {
-        left: 4096,
-        front: b"no new piece",
-    };
-    check_let_go(&rt, &rt, long, 1, 32_768)
+    let before = pages(&rt)?;
+    let mut input = Counted::reading(Sections { left: 1024 });
+    let mut pieces = PgnPieces::open(rt.alloc())?;
+    for _ in 0..1023 {
+        is_equal(&rt, &pieces.next(&mut input), &Ok(true));
+    }
+    is_equal(&rt, &pieces.offset(), &66_977_792);
+    let after = pages(&rt)?;
+    assert!(rt;
+        after < before.saturating_add(4096),
+        "{before} pages, then {after}"
+    );
+    is_equal(&rt, &pieces.next(&mut input), &Ok(true));
+    ends(&rt, &mut pieces, &mut input, Ok(false));
+    Ok(())
 }
