@@ -10,7 +10,6 @@ from pathlib import Path
 PACKAGES = {
     "bzip2": "bzip2",
     "gzip": "gzip",
-    "parallel": "parallel",
     "ssh": "openssh-client",
     "xz": "xz-utils",
     "zstd": "zstd",

@@ -1,8 +1,6 @@
 """Plays the games of a tournament on one or several hosts, and tries its engines. tools/tournament uses it.
 
-A host plays a game by tools/lib/play_game, here as a process of this script, elsewhere by ssh. GNU parallel is not
-used: it reports neither a game when it ends nor a host when it dies, and starting a job takes it longer than two stubs
-play.
+A host plays a game by tools/lib/play_game, here as a process of this script, elsewhere by ssh.
 """
 
 import contextlib

@@ -1,6 +1,16 @@
-# Verifies a collection of 64 MiB in 65 pieces with 16 MiB: large.sh PROGRAM. What was read of it is let go, so there is
-# memory for each piece; the last one's fault is on the line that the whole collection gives it.
+# Verifies a collection of 64 MiB in 65 pieces with 16 MiB, and one with a piece of 96 MiB with 64 MiB: large.sh PROGRAM.
+# Pieces that are done with are let go, and so is what was read of a piece that is too long. The last piece's fault is on
+# the line that the whole collection gives it.
 program=$1
+
+# Verifies its input with so many KiB; this file has what is to be written: verifies KIB FILE
+verifies() {
+    (ulimit -v "$1" && exec "$program" verify --keep-going --quiet --explain) > large 2> complaint
+    if ! cmp large "$2" >&2; then
+        cat complaint >&2
+        exit 1
+    fi
+}
 
 {
     printf '[Event "x"]\n{'
@@ -14,8 +24,10 @@ program=$1
         count=$((count + 1))
     done
     printf '[Event "y"]\n1. e4 e4 *\n'
-} | (ulimit -v 16384 && exec "$program" verify --keep-going --quiet --explain) > large 2> complaint
-if ! cmp large large.txt >&2; then
-    cat complaint >&2
-    exit 1
-fi
+} | verifies 16384 large.txt || exit
+
+{
+    printf '[Event "x"]\n{'
+    head -c 100663296 /dev/zero | tr '\0' a
+    printf '} *\n[Event "y"]\n1. e4 e4 *\n'
+} | verifies 65536 longer.txt

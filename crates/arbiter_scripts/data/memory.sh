@@ -26,6 +26,16 @@ run_with() {
     fi
 }
 
+# Tells how many runs there were of each kind: there must be one. counted WORDS..
+counted() {
+    told="$*: $complete complete, $refused without memory, $unstarted not started"
+    echo "$told" >> counts
+    if [ "$complete" -eq 0 ] || [ "$refused" -eq 0 ] || [ "$unstarted" -eq 0 ]; then
+        echo "$told" >&2
+        exit 1
+    fi
+}
+
 # Runs with smaller and smaller limits: runs STATUS INPUT OUTPUT WORDS..
 runs() {
     complete=0 refused=0 unstarted=0 limit=32768
@@ -39,12 +49,27 @@ runs() {
             limit=$((limit - 16))
         fi
     done
-    counted="$*: $complete complete, $refused without memory, $unstarted not started"
-    echo "$counted" >> counts
-    if [ "$complete" -eq 0 ] || [ "$refused" -eq 0 ] || [ "$unstarted" -eq 0 ]; then
-        echo "$counted" >&2
-        exit 1
-    fi
+    counted "$@"
+}
+
+# Runs with limits that rise by a page, from those with which the program doesn't begin to the first with which it is
+# complete: refused_in_turn STATUS INPUT OUTPUT WORDS..
+# By the first variable each request for memory gets pages of its own. By the second the loader finds the C library
+# without a list that it would map, and let go before the program begins. So each request that takes more than was taken
+# before, as all do when a session opens, is refused in turn.
+refused_in_turn() {
+    export MALLOC_MMAP_THRESHOLD_=1
+    LD_LIBRARY_PATH=$(ldd "$program" | sed -n 's|.*=> \(/.*\)/libc\.so.*|\1|p')
+    export LD_LIBRARY_PATH
+    complete=0 refused=0 unstarted=0 limit=1024 step=64
+    while [ "$complete" -eq 0 ] && [ "$limit" -lt 32768 ]; do
+        limit=$((limit + step))
+        run_with "$limit" "$@"
+        if [ "$step" -eq 64 ] && [ "$refused" -gt 0 ]; then
+            limit=$((limit - 64)) step=4
+        fi
+    done
+    counted "$@, refused in turn"
 }
 
 runs 0 session.txt answers.txt session
@@ -52,3 +77,4 @@ runs 1 games.pgn plain.txt verify
 runs 1 games.pgn verified.txt verify --keep-going
 runs 1 games.pgn explained.txt verify --keep-going --explain
 runs 0 stubbed.txt stub.txt stub e2e4 offer
+refused_in_turn 0 session.txt answers.txt session

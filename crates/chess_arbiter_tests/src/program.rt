@@ -145,11 +145,12 @@ const RUNS: [ProgramRun; 21] = [
         errors: b"arbiter: read failed\n",
         status: 1,
     },
+    // The flush after a fault with its explanation, which are one write.
     ProgramRun {
-        arguments: &["verify", "--strict"],
-        input: b"* *",
+        arguments: &["verify", "--explain"],
+        input: b"1. e5 *",
         fails: (0, 2),
-        output: b"game 1: 0 half-moves, *\n",
+        output: b"game 1: illegal move at byte 3\n# line 1 column 4 e5 | rnbqkbnr/pppppppp/8/8/8/8/PPPPPPPP/RNBQKBNR w KQkq - 0 1\n",
         errors: b"arbiter: write failed\n",
         status: 1,
     },

@@ -301,10 +301,11 @@ fn long_pieces_have_beginnings_and_line_ends(rt: HostRuntime) -> Result<(), Fail
     Ok(())
 }
 
-// After the last piece there is none, however often one is asked for.
+// After the last piece there is none, however often one is asked for: the third read reports the input's end, and a
+// fourth, which would fail, is not made.
 #[test]
 fn after_the_last_piece_there_is_none(rt: HostRuntime) -> Result<(), Fail> {
-    let mut input = Counted::reading(COLLECTION);
+    let mut input = Counted::reading(PieceReader::new(COLLECTION, 22, 4));
     let mut pieces = PgnPieces::open(rt.alloc())?;
     gives(&rt, &mut pieces, &mut input, 0, Some(b"[Event \"a\"]\n*\n"));
     gives(&rt, &mut pieces, &mut input, 14, Some(b"[Event \"b\"]\n*"));
