@@ -19,7 +19,7 @@ use Rattle.chess_text.specs.ties.Fitting.{parts_text, admits, promotes_so, is_by
 use Rattle.chess_text.specs.ties.Reader.{parts_at}
 use Rattle.chess_text.specs.laws.Laws.{CanPromote, AreParts, IsDenoted}
 use Rattle.chess_text.proofs.Grammar.{denoted-parts, parts-denoted}
-use Rattle.chess_text.proofs.SameKinds.{same_kind-self}
+use Rattle.chess_base.proofs.shared.Men.{same_kind-self}
 use Rattle.chess_text.proofs.Lists.{IsIn, Each, here, later, in-flat_map, in-one, in-below, each-nil, each-cons, each-flat_map, each-one, each-below}
 use Rattle.chess_text.proofs.Denotations.{of, fit_letter, fit_straight, fit_file, by_letter_fits, straight_fits, file_fits, passing, bool_same, denoted_so, denotes_is}
 
