@@ -134,32 +134,6 @@ knight_there men c b f r way e =
     (and_from (is_man c Knight (man_at men (framed f r)))
     (a_way (file (framed f r)) (rank (framed f r)) (file b) (rank b)) all.1 moved)
 
--- ---- the eight ways
-
-way1 : (g q : ℕ) → a_way ((g + 2) - 1) ((q + 2) - 2) (g + 2) (q + 2) ≡ true
-way1 g q = grind (arith, nat_tests)
-
-way2 : (g q : ℕ) → a_way ((g + 2) + 1) ((q + 2) - 2) (g + 2) (q + 2) ≡ true
-way2 g q = grind (arith, nat_tests)
-
-way3 : (g q : ℕ) → a_way ((g + 2) - 2) ((q + 2) - 1) (g + 2) (q + 2) ≡ true
-way3 g q = grind (arith, nat_tests)
-
-way4 : (g q : ℕ) → a_way ((g + 2) + 2) ((q + 2) - 1) (g + 2) (q + 2) ≡ true
-way4 g q = grind (arith, nat_tests)
-
-way5 : (g q : ℕ) → a_way ((g + 2) - 2) ((q + 2) + 1) (g + 2) (q + 2) ≡ true
-way5 g q = grind (arith, nat_tests)
-
-way6 : (g q : ℕ) → a_way ((g + 2) + 2) ((q + 2) + 1) (g + 2) (q + 2) ≡ true
-way6 g q = grind (arith, nat_tests)
-
-way7 : (g q : ℕ) → a_way ((g + 2) - 1) ((q + 2) + 2) (g + 2) (q + 2) ≡ true
-way7 g q = grind (arith, nat_tests)
-
-way8 : (g q : ℕ) → a_way ((g + 2) + 1) ((q + 2) + 2) (g + 2) (q + 2) ≡ true
-way8 g q = grind (arith, nat_tests)
-
 one_of_eight : (men : Men) (c : Colour) (b : ℕ) → eight (has_knight men c) (file b + 2) (rank b + 2) ≡ true
     → attacked_by_knight men c b ≡ true
 one_of_eight men c b e =
@@ -167,27 +141,27 @@ one_of_eight men c b e =
     let f = file b + 2 in
     let r = rank b + 2 in
     elim (or_cases _ (t (f + 1) (r + 2)) e) [
-      | inr there8 ↦ knight_there men c b (f + 1) (r + 2) (way8 (file b) (rank b)) there8
+      | inr there8 ↦ knight_there men c b (f + 1) (r + 2) (grind (arith, nat_tests)) there8
       | inl rest8 ↦
           elim (or_cases _ (t (f - 1) (r + 2)) rest8) [
-            | inr there7 ↦ knight_there men c b (f - 1) (r + 2) (way7 (file b) (rank b)) there7
+            | inr there7 ↦ knight_there men c b (f - 1) (r + 2) (grind (arith, nat_tests)) there7
             | inl rest7 ↦
                 elim (or_cases _ (t (f + 2) (r + 1)) rest7) [
-                  | inr there6 ↦ knight_there men c b (f + 2) (r + 1) (way6 (file b) (rank b)) there6
+                  | inr there6 ↦ knight_there men c b (f + 2) (r + 1) (grind (arith, nat_tests)) there6
                   | inl rest6 ↦
                       elim (or_cases _ (t (f - 2) (r + 1)) rest6) [
-                        | inr there5 ↦ knight_there men c b (f - 2) (r + 1) (way5 (file b) (rank b)) there5
+                        | inr there5 ↦ knight_there men c b (f - 2) (r + 1) (grind (arith, nat_tests)) there5
                         | inl rest5 ↦
                             elim (or_cases _ (t (f + 2) (r - 1)) rest5) [
-                              | inr there4 ↦ knight_there men c b (f + 2) (r - 1) (way4 (file b) (rank b)) there4
+                              | inr there4 ↦ knight_there men c b (f + 2) (r - 1) (grind (arith, nat_tests)) there4
                               | inl rest4 ↦
                                   elim (or_cases _ (t (f - 2) (r - 1)) rest4) [
-                                    | inr there3 ↦ knight_there men c b (f - 2) (r - 1) (way3 (file b) (rank b)) there3
+                                    | inr there3 ↦ knight_there men c b (f - 2) (r - 1) (grind (arith, nat_tests)) there3
                                     | inl rest3 ↦
                                         elim (or_cases (t (f - 1) (r - 2)) (t (f + 1) (r - 2)) rest3) [
-                                          | inr there2 ↦ knight_there men c b (f + 1) (r - 2) (way2 (file b) (rank b)) there2
+                                          | inr there2 ↦ knight_there men c b (f + 1) (r - 2) (grind (arith, nat_tests)) there2
                                           | inl rest2 ↦
-                                              knight_there men c b (f - 1) (r - 2) (way1 (file b) (rank b)) rest2
+                                              knight_there men c b (f - 1) (r - 2) (grind (arith, nat_tests)) rest2
                                         ]
                                   ]
                             ]
@@ -212,125 +186,59 @@ same_knight t p true true x y e h = rw (e, h refl refl) refl
 same_knight t p true false x y e h = rw e refl
 same_knight t p false r x y e h = rw e refl
 
-on_board1 : (f r : ℕ) → f < 8 → r < 8
-    → (nat_le 2 ((f + 2) - 1) && nat_lt ((f + 2) - 1) 10 && nat_le 2 ((r + 2) - 2) && nat_lt ((r + 2) - 2) 10) ≡ (nat_le 2 r && nat_le 1 f)
-on_board1 f r h g = grind (arith, nat_tests)
-
-number1 : (b : ℕ) → nat_le 2 (rank b) ≡ true → nat_le 1 (file b) ≡ true → framed ((file b + 2) - 1) ((rank b + 2) - 2) ≡ b - 16 - 1
-number1 b h g = let e = leb-true 2 (rank b) h in let i = leb-true 1 (file b) g in omega (arith, e, i)
-
-on_board2 : (f r : ℕ) → f < 8 → r < 8
-    → (nat_le 2 ((f + 2) + 1) && nat_lt ((f + 2) + 1) 10 && nat_le 2 ((r + 2) - 2) && nat_lt ((r + 2) - 2) 10) ≡ (nat_le 2 r && nat_lt f 7)
-on_board2 f r h g = grind (arith, nat_tests)
-
-number2 : (b : ℕ) → nat_le 2 (rank b) ≡ true → nat_lt (file b) 7 ≡ true → framed ((file b + 2) + 1) ((rank b + 2) - 2) ≡ b - 16 + 1
-number2 b h g = let e = leb-true 2 (rank b) h in let i = ltb-true (file b) 7 g in omega (arith, e, i)
-
-on_board3 : (f r : ℕ) → f < 8 → r < 8
-    → (nat_le 2 ((f + 2) - 2) && nat_lt ((f + 2) - 2) 10 && nat_le 2 ((r + 2) - 1) && nat_lt ((r + 2) - 1) 10) ≡ (nat_le 1 r && nat_le 2 f)
-on_board3 f r h g = grind (arith, nat_tests)
-
-number3 : (b : ℕ) → nat_le 1 (rank b) ≡ true → nat_le 2 (file b) ≡ true → framed ((file b + 2) - 2) ((rank b + 2) - 1) ≡ b - 8 - 2
-number3 b h g = let e = leb-true 1 (rank b) h in let i = leb-true 2 (file b) g in omega (arith, e, i)
-
-on_board4 : (f r : ℕ) → f < 8 → r < 8
-    → (nat_le 2 ((f + 2) + 2) && nat_lt ((f + 2) + 2) 10 && nat_le 2 ((r + 2) - 1) && nat_lt ((r + 2) - 1) 10) ≡ (nat_le 1 r && nat_lt f 6)
-on_board4 f r h g = grind (arith, nat_tests)
-
-number4 : (b : ℕ) → nat_le 1 (rank b) ≡ true → nat_lt (file b) 6 ≡ true → framed ((file b + 2) + 2) ((rank b + 2) - 1) ≡ b - 8 + 2
-number4 b h g = let e = leb-true 1 (rank b) h in let i = ltb-true (file b) 6 g in omega (arith, e, i)
-
-on_board5 : (f r : ℕ) → f < 8 → r < 8
-    → (nat_le 2 ((f + 2) - 2) && nat_lt ((f + 2) - 2) 10 && nat_le 2 ((r + 2) + 1) && nat_lt ((r + 2) + 1) 10) ≡ (nat_lt r 7 && nat_le 2 f)
-on_board5 f r h g = grind (arith, nat_tests)
-
-number5 : (b : ℕ) → nat_lt (rank b) 7 ≡ true → nat_le 2 (file b) ≡ true → framed ((file b + 2) - 2) ((rank b + 2) + 1) ≡ b + 8 - 2
-number5 b h g = let e = ltb-true (rank b) 7 h in let i = leb-true 2 (file b) g in omega (arith, e, i)
-
-on_board6 : (f r : ℕ) → f < 8 → r < 8
-    → (nat_le 2 ((f + 2) + 2) && nat_lt ((f + 2) + 2) 10 && nat_le 2 ((r + 2) + 1) && nat_lt ((r + 2) + 1) 10) ≡ (nat_lt r 7 && nat_lt f 6)
-on_board6 f r h g = grind (arith, nat_tests)
-
-number6 : (b : ℕ) → nat_lt (rank b) 7 ≡ true → nat_lt (file b) 6 ≡ true → framed ((file b + 2) + 2) ((rank b + 2) + 1) ≡ b + 8 + 2
-number6 b h g = let e = ltb-true (rank b) 7 h in let i = ltb-true (file b) 6 g in omega (arith, e, i)
-
-on_board7 : (f r : ℕ) → f < 8 → r < 8
-    → (nat_le 2 ((f + 2) - 1) && nat_lt ((f + 2) - 1) 10 && nat_le 2 ((r + 2) + 2) && nat_lt ((r + 2) + 2) 10) ≡ (nat_lt r 6 && nat_le 1 f)
-on_board7 f r h g = grind (arith, nat_tests)
-
-number7 : (b : ℕ) → nat_lt (rank b) 6 ≡ true → nat_le 1 (file b) ≡ true → framed ((file b + 2) - 1) ((rank b + 2) + 2) ≡ b + 16 - 1
-number7 b h g = let e = ltb-true (rank b) 6 h in let i = leb-true 1 (file b) g in omega (arith, e, i)
-
-on_board8 : (f r : ℕ) → f < 8 → r < 8
-    → (nat_le 2 ((f + 2) + 1) && nat_lt ((f + 2) + 1) 10 && nat_le 2 ((r + 2) + 2) && nat_lt ((r + 2) + 2) 10) ≡ (nat_lt r 6 && nat_lt f 7)
-on_board8 f r h g = grind (arith, nat_tests)
-
-number8 : (b : ℕ) → nat_lt (rank b) 6 ≡ true → nat_lt (file b) 7 ≡ true → framed ((file b + 2) + 1) ((rank b + 2) + 2) ≡ b + 16 + 1
-number8 b h g = let e = ltb-true (rank b) 6 h in let i = ltb-true (file b) 7 g in omega (arith, e, i)
+knight_by : (men : Men) (c : Colour) (f r : ℕ) (p q : Bool) (x : ℕ)
+    → (nat_le 2 f && nat_lt f 10 && nat_le 2 r && nat_lt r 10) ≡ (p && q)
+    → (p ≡ true → q ≡ true → framed f r ≡ x) → has_knight men c f r ≡ (p && q && is_man c Knight (man_at men x))
+unfolding has_knight
+knight_by men c f r p q x e h = same_knight (λ y. is_man c Knight (man_at men y)) _ p q (framed f r) x e h
 
 knight1 : (men : Men) (c : Colour) (b : ℕ) → b < 64 → has_knight men c ((file b + 2) - 1) ((rank b + 2) - 2)
     ≡ (nat_le 2 (rank b) && nat_le 1 (file b) && is_man c Knight (man_at men (b - 16 - 1)))
-unfolding has_knight
 knight1 men c b low =
-    same_knight (λ x. is_man c Knight (man_at men x)) _ (nat_le 2 (rank b)) (nat_le 1 (file b))
-    (framed ((file b + 2) - 1) ((rank b + 2) - 2)) (b - 16 - 1)
-    (on_board1 (file b) (rank b) (omega arith) (omega arith)) (number1 b)
+    knight_by men c ((file b + 2) - 1) ((rank b + 2) - 2) (nat_le 2 (rank b)) (nat_le 1 (file b)) (b - 16 - 1)
+    (grind (arith, nat_tests)) (λ h g. grind (arith, nat_tests, h, g))
 
 knight2 : (men : Men) (c : Colour) (b : ℕ) → b < 64 → has_knight men c ((file b + 2) + 1) ((rank b + 2) - 2)
     ≡ (nat_le 2 (rank b) && nat_lt (file b) 7 && is_man c Knight (man_at men (b - 16 + 1)))
-unfolding has_knight
 knight2 men c b low =
-    same_knight (λ x. is_man c Knight (man_at men x)) _ (nat_le 2 (rank b)) (nat_lt (file b) 7)
-    (framed ((file b + 2) + 1) ((rank b + 2) - 2)) (b - 16 + 1)
-    (on_board2 (file b) (rank b) (omega arith) (omega arith)) (number2 b)
+    knight_by men c ((file b + 2) + 1) ((rank b + 2) - 2) (nat_le 2 (rank b)) (nat_lt (file b) 7) (b - 16 + 1)
+    (grind (arith, nat_tests)) (λ h g. grind (arith, nat_tests, h, g))
 
 knight3 : (men : Men) (c : Colour) (b : ℕ) → b < 64 → has_knight men c ((file b + 2) - 2) ((rank b + 2) - 1)
     ≡ (nat_le 1 (rank b) && nat_le 2 (file b) && is_man c Knight (man_at men (b - 8 - 2)))
-unfolding has_knight
 knight3 men c b low =
-    same_knight (λ x. is_man c Knight (man_at men x)) _ (nat_le 1 (rank b)) (nat_le 2 (file b))
-    (framed ((file b + 2) - 2) ((rank b + 2) - 1)) (b - 8 - 2)
-    (on_board3 (file b) (rank b) (omega arith) (omega arith)) (number3 b)
+    knight_by men c ((file b + 2) - 2) ((rank b + 2) - 1) (nat_le 1 (rank b)) (nat_le 2 (file b)) (b - 8 - 2)
+    (grind (arith, nat_tests)) (λ h g. grind (arith, nat_tests, h, g))
 
 knight4 : (men : Men) (c : Colour) (b : ℕ) → b < 64 → has_knight men c ((file b + 2) + 2) ((rank b + 2) - 1)
     ≡ (nat_le 1 (rank b) && nat_lt (file b) 6 && is_man c Knight (man_at men (b - 8 + 2)))
-unfolding has_knight
 knight4 men c b low =
-    same_knight (λ x. is_man c Knight (man_at men x)) _ (nat_le 1 (rank b)) (nat_lt (file b) 6)
-    (framed ((file b + 2) + 2) ((rank b + 2) - 1)) (b - 8 + 2)
-    (on_board4 (file b) (rank b) (omega arith) (omega arith)) (number4 b)
+    knight_by men c ((file b + 2) + 2) ((rank b + 2) - 1) (nat_le 1 (rank b)) (nat_lt (file b) 6) (b - 8 + 2)
+    (grind (arith, nat_tests)) (λ h g. grind (arith, nat_tests, h, g))
 
 knight5 : (men : Men) (c : Colour) (b : ℕ) → b < 64 → has_knight men c ((file b + 2) - 2) ((rank b + 2) + 1)
     ≡ (nat_lt (rank b) 7 && nat_le 2 (file b) && is_man c Knight (man_at men (b + 8 - 2)))
-unfolding has_knight
 knight5 men c b low =
-    same_knight (λ x. is_man c Knight (man_at men x)) _ (nat_lt (rank b) 7) (nat_le 2 (file b))
-    (framed ((file b + 2) - 2) ((rank b + 2) + 1)) (b + 8 - 2)
-    (on_board5 (file b) (rank b) (omega arith) (omega arith)) (number5 b)
+    knight_by men c ((file b + 2) - 2) ((rank b + 2) + 1) (nat_lt (rank b) 7) (nat_le 2 (file b)) (b + 8 - 2)
+    (grind (arith, nat_tests)) (λ h g. grind (arith, nat_tests, h, g))
 
 knight6 : (men : Men) (c : Colour) (b : ℕ) → b < 64 → has_knight men c ((file b + 2) + 2) ((rank b + 2) + 1)
     ≡ (nat_lt (rank b) 7 && nat_lt (file b) 6 && is_man c Knight (man_at men (b + 8 + 2)))
-unfolding has_knight
 knight6 men c b low =
-    same_knight (λ x. is_man c Knight (man_at men x)) _ (nat_lt (rank b) 7) (nat_lt (file b) 6)
-    (framed ((file b + 2) + 2) ((rank b + 2) + 1)) (b + 8 + 2)
-    (on_board6 (file b) (rank b) (omega arith) (omega arith)) (number6 b)
+    knight_by men c ((file b + 2) + 2) ((rank b + 2) + 1) (nat_lt (rank b) 7) (nat_lt (file b) 6) (b + 8 + 2)
+    (grind (arith, nat_tests)) (λ h g. grind (arith, nat_tests, h, g))
 
 knight7 : (men : Men) (c : Colour) (b : ℕ) → b < 64 → has_knight men c ((file b + 2) - 1) ((rank b + 2) + 2)
     ≡ (nat_lt (rank b) 6 && nat_le 1 (file b) && is_man c Knight (man_at men (b + 16 - 1)))
-unfolding has_knight
 knight7 men c b low =
-    same_knight (λ x. is_man c Knight (man_at men x)) _ (nat_lt (rank b) 6) (nat_le 1 (file b))
-    (framed ((file b + 2) - 1) ((rank b + 2) + 2)) (b + 16 - 1)
-    (on_board7 (file b) (rank b) (omega arith) (omega arith)) (number7 b)
+    knight_by men c ((file b + 2) - 1) ((rank b + 2) + 2) (nat_lt (rank b) 6) (nat_le 1 (file b)) (b + 16 - 1)
+    (grind (arith, nat_tests)) (λ h g. grind (arith, nat_tests, h, g))
 
 knight8 : (men : Men) (c : Colour) (b : ℕ) → b < 64 → has_knight men c ((file b + 2) + 1) ((rank b + 2) + 2)
     ≡ (nat_lt (rank b) 6 && nat_lt (file b) 7 && is_man c Knight (man_at men (b + 16 + 1)))
-unfolding has_knight
 knight8 men c b low =
-    same_knight (λ x. is_man c Knight (man_at men x)) _ (nat_lt (rank b) 6) (nat_lt (file b) 7)
-    (framed ((file b + 2) + 1) ((rank b + 2) + 2)) (b + 16 + 1)
-    (on_board8 (file b) (rank b) (omega arith) (omega arith)) (number8 b)
+    knight_by men c ((file b + 2) + 1) ((rank b + 2) + 2) (nat_lt (rank b) 6) (nat_lt (file b) 7) (b + 16 + 1)
+    (grind (arith, nat_tests)) (λ h g. grind (arith, nat_tests, h, g))
 
 two_halves : (h1 h2 h3 h4 h5 h6 h7 h8 : Bool)
     → (h1 || h2 || h3 || h4 || h5 || h6 || h7 || h8) ≡ ((h1 || h2 || h3 || h4) || (h5 || h6 || h7 || h8))

@@ -218,15 +218,6 @@ up_to_next men l b end n on w more in_board empty k above below e =
       | inr same ↦ rw same empty
     ]
 
-pub rise_goes_on : (men : Men) (l : Line) (b end n : ℕ) → same_line l b end ≡ true → HasRisen men l b end n → n < end
-    → end < 64 → is_none (man_at men (n + step_of l)) ≡ true → HasRisen men l b end (n + step_of l)
-rise_goes_on men l b end n on w more in_board empty = record {
-  begun = let more_begun = rises l n in omega (arith, more_begun, w.begun);
-  fits = step_fits l n end more in_board w.on;
-  on = step_stays l n end more in_board w.on;
-  empty = up_to_next men l b end n on w more in_board empty;
-}
-
 inside_falling : (k b x : ℕ) → b < x → x < k → is_strictly_between k b x ≡ true
 inside_falling k b x h g = grind (arith, nat_tests)
 
@@ -355,17 +346,6 @@ down_to_next men l b end n x in_board on w next empty k below above e =
 
 pub fall_fits : (men : Men) (l : Line) (b end n : ℕ) → b < 64 → HasFallen men l b end n → end < n → end + step_of l ≤ n
 fall_fits men l b end n in_board w more = step_fits l end n more (omega (arith, w.begun, in_board)) w.on
-
-pub fall_goes_on : (men : Men) (l : Line) (b end n : ℕ) → b < 64 → same_line l b end ≡ true → HasFallen men l b end n
-    → end < n → is_none (man_at men (n - step_of l)) ≡ true → HasFallen men l b end (n - step_of l)
-fall_goes_on men l b end n in_board on w more empty =
-    let fit = fall_fits men l b end n in_board w more in
-    record {
-      begun = omega (arith, w.begun);
-      fits = omega (arith, fit);
-      on = step_back_stays l end n more (omega (arith, w.begun, in_board)) w.on;
-      empty = down_to_next men l b end n (n - step_of l) in_board on w (omega (arith, fit)) empty;
-    }
 
 below_parts : (l : Line) (b k : ℕ) → is_below l b k ≡ true → (same_line l b k ≡ true) × (k < b)
 below_parts l b k e =

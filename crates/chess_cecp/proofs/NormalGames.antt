@@ -28,13 +28,13 @@ use Rattle.chess_game.specs.Ends.{has_insufficient_material, mates, verdict, ver
 use Rattle.chess_game.specs.Game.{State, is_over, outcome_now}
 use Rattle.chess_game.specs.Line.{positions_of, position_after}
 use Rattle.chess_game.specs.Results.{outcome_text}
-use Rattle.chess_game.specs.Same.{live_target, is_same_position, same_men, same_rights, same_square, repetition_count}
+use Rattle.chess_game.specs.Same.{legal_en_passant_square, is_same_position, same_men, same_rights, same_square, repetition_count}
 use Rattle.chess_pgn.specs.declared.tags.Tags.{Tags}
 use Rattle.chess_pgn.specs.declared.termination.Termination.{Termination}
 use Rattle.chess_pgn.specs.GameText.{start_lines_in, last_lines, further_lines, roster_lines, tag_lines, number_token, move_tokens, game_tokens, pgn}
 use Rattle.chess_pgn.specs.Terminations.{termination_text, termination_of}
 use Rattle.chess_pgn.specs.Written.{tag_line, ended, move_text_of}
-use Rattle.chess_cecp.specs.laws.NormalGame.{normal_initial, normal_line, normal_last, normal_live_target, normal_same, normal_rep, normal_verdict, normal_claims, normal_is_over, normal_outcome_now}
+use Rattle.chess_cecp.specs.laws.NormalGame.{normal_initial, normal_line, normal_last, normal_legal_en_passant_square, normal_same, normal_rep, normal_verdict, normal_claims, normal_is_over, normal_outcome_now}
 use Rattle.chess_cecp.specs.laws.NormalPgn.{normal_is_initial, normal_start_lines, normal_further_lines, normal_tag_lines, normal_move_tokens, normal_game_tokens, normal_pgn}
 
 pub initial_kept : initial_setup ≡ normal_initial
@@ -59,17 +59,17 @@ last_kept p e (m ∷ ms) = last_kept (after p m) (stays p m ∙ e) ms
 
 -- ---- repetition
 
-target_kept : (p : Setup) → p.variant ≡ Normal → live_target p ≡ normal_live_target p
-unfolding live_target normal_live_target
+target_kept : (p : Setup) → p.variant ≡ Normal → legal_en_passant_square p ≡ normal_legal_en_passant_square p
+unfolding legal_en_passant_square normal_legal_en_passant_square
 target_kept p e = ap (λ ms. if list_any (λ m. is_en_passant p m) ms then p.target else None) (texts_kept p e).moves
 
 same_kept : (p q : Setup) → p.variant ≡ Normal → q.variant ≡ Normal → is_same_position p q ≡ normal_same p q
 unfolding is_same_position normal_same
 same_kept p q e h =
     ap (λ t. same_colour p.side q.side && same_men p.men q.men && same_rights p.rights q.rights
-    && same_square t (live_target q)) (target_kept p e)
+    && same_square t (legal_en_passant_square q)) (target_kept p e)
     ∙ ap (λ t. same_colour p.side q.side && same_men p.men q.men && same_rights p.rights q.rights
-    && same_square (normal_live_target p) t) (target_kept q h)
+    && same_square (normal_legal_en_passant_square p) t) (target_kept q h)
 
 -- one more, where the first is the same
 counted_one : (f g : Setup → Bool) (p : Setup) (ps qs : List Setup) → f p ≡ g p → count_by f ps ≡ count_by g qs

@@ -173,9 +173,7 @@ differ_at p q s o r h t = by_test (same_man o r) refl
 -- ---- on all squares
 
 not_either : (a b : Bool) → not (a || not b) ≡ (not a && b)
-not_either true b = refl
-not_either false true = refl
-not_either false false = refl
+not_either a b = grind arith
 
 not_some : (n : ℕ) (f g : ℕ → Bool) → ((k : ℕ) → k < n → f k ≡ not (g k)) → not (some_below n f) ≡ each_below n g
 not_some zero f g h = refl

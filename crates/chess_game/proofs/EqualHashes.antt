@@ -1,38 +1,20 @@
 -- Positions that are the same have the same pieces, side and rights, so their hashes by one definition are equal.
-use Rattle.std.proofs.Common.{◌≡◌, ℕ, ◌<◌, true, false, not, ◌&&◌, ◌==◌, [], ◌∷◌, length, get_or, Option, None, Some, refl, sym, ◌∙◌, ap, arith, true≢false}
+use Rattle.std.proofs.Common.{◌≡◌, ℕ, ◌<◌, true, false, not, ◌&&◌, ◌==◌, length, Option, None, Some, refl, sym, ◌∙◌, ap, arith, true≢false}
 use Rattle.std.proofs.lemmas.Bool.{and_parts, eqb-true, eq-eqb, false_from_ne_true}
 use Rattle.std.proofs.lemmas.List.{ext_get_or}
 use Rattle.chess_base.specs.declared.man.ColourRights.{ColourRights}
-use Rattle.chess_base.specs.declared.man.Kind.{Kind}
-use Rattle.chess_base.specs.declared.man.Kind.TheVariants.{King, Queen, Rook, Bishop, Knight, Pawn}
 use Rattle.chess_base.specs.declared.man.Man.{Man}
 use Rattle.chess_base.specs.declared.man.Rights.{Rights}
 use Rattle.chess_base.specs.declared.setup.Setup.{Setup}
-use Rattle.chess_base.specs.Men.{Men, man_at, same_colour, same_kind, kind_number}
+use Rattle.chess_base.specs.Men.{Men, man_at, same_colour, same_kind}
 use Rattle.chess_base.specs.Sound.{IsSound}
-use Rattle.chess_base.proofs.shared.Men.{same_colour-true}
+use Rattle.chess_base.proofs.shared.Men.{same_colour-true, same_kind-true}
 use Rattle.chess_base.proofs.shared.Squares.{each_square-at}
-use Rattle.chess_game.specs.Same.{is_same_position, same_man, same_men, same_square, same_colour_rights, same_rights, live_target}
+use Rattle.chess_game.specs.Same.{is_same_position, same_man, same_men, same_square, same_colour_rights, same_rights, legal_en_passant_square}
 use Rattle.chess_game.specs.ties.PlayedMoves.{Hashing, HasHash}
 use Rattle.chess_game.specs.declared.repetition.Hashed.{Hashed}
 
 -- ---- the same part by part
-
-abbrev kind_at : ℕ → Kind
-kind_at n = get_or (King ∷ Queen ∷ Rook ∷ Bishop ∷ Knight ∷ Pawn ∷ []) n King
-
-kind_back : (k : Kind) → kind_at (kind_number k) ≡ k
-kind_back King = refl
-kind_back Queen = refl
-kind_back Rook = refl
-kind_back Bishop = refl
-kind_back Knight = refl
-kind_back Pawn = refl
-
-kinds_equal : (k l : Kind) → same_kind k l ≡ true → k ≡ l
-kinds_equal k l e =
-    let numbers : kind_number k ≡ kind_number l = eqb-true (kind_number k) (kind_number l) e in
-    sym (kind_back k) ∙ ap kind_at numbers ∙ kind_back l
 
 man_of_equal : (x y : Man) → x.colour ≡ y.colour → x.kind ≡ y.kind → x ≡ y
 man_of_equal x y colours kinds = (λ i. record { colour = colours i; kind = kinds i })
@@ -44,7 +26,7 @@ places_equal (Some x) None e = cc
 places_equal (Some x) (Some y) e =
     let both = and_parts (same_colour x.colour y.colour) (same_kind x.kind y.kind) e in
     ap (λ (z : Man). Some z)
-    (man_of_equal x y (same_colour-true x.colour y.colour both.0) (kinds_equal x.kind y.kind both.1))
+    (man_of_equal x y (same_colour-true x.colour y.colour both.0) (same_kind-true x.kind y.kind both.1))
 
 men_equal : (men others : Men) → length men ≡ 64 → length others ≡ 64 → same_men men others ≡ true → men ≡ others
 unfolding same_men
@@ -84,7 +66,8 @@ equal_hashes f p q this that e =
     let sides = same_colour p.side q.side in
     let men = same_men p.men q.men in
     let rights = same_rights p.rights q.rights in
-    let all = and_parts (sides && men && rights) (same_square (live_target p) (live_target q)) e in
+    let all = and_parts (sides && men && rights)
+    (same_square (legal_en_passant_square p) (legal_en_passant_square q)) e in
     let most = and_parts (sides && men) rights all.0 in
     let first = and_parts sides men most.0 in
     let a = men_equal p.men q.men this.board that.board first.1 in
@@ -100,15 +83,16 @@ same_alike p q r this that e =
     let sides = same_colour q.side r.side in
     let men = same_men q.men r.men in
     let rights = same_rights q.rights r.rights in
-    let all = and_parts (sides && men && rights) (same_square (live_target q) (live_target r)) e in
+    let all = and_parts (sides && men && rights)
+    (same_square (legal_en_passant_square q) (legal_en_passant_square r)) e in
     let most = and_parts (sides && men) rights all.0 in
     let first = and_parts sides men most.0 in
     let a = men_equal q.men r.men this.board that.board first.1 in
     let b = same_colour-true q.side r.side first.0 in
     let c = rights_equal q.rights r.rights most.1 in
-    let d = squares_equal (live_target q) (live_target r) all.1 in
+    let d = squares_equal (legal_en_passant_square q) (legal_en_passant_square r) all.1 in
     (λ i. same_colour p.side (b i) && same_men p.men (a i) && same_rights p.rights (c i)
-    && same_square (live_target p) (d i))
+    && same_square (legal_en_passant_square p) (d i))
 
 -- so hashes that differ tell positions apart
 pub hashes_differ : (f : Hashing) (x y : Hashed) → IsSound x.position → IsSound y.position → HasHash f x → HasHash f y

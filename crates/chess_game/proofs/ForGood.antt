@@ -18,7 +18,7 @@ use Rattle.chess_base.proofs.shared.Squares.{each_below-at}
 use Rattle.chess_base.proofs.shared.Men.{same_colour-true}
 use Rattle.chess_moves.specs.Made.{WasMade}
 use Rattle.chess_game.specs.Line.{position_after}
-use Rattle.chess_game.specs.Same.{is_same_position, same_man, same_men, same_rights, same_square, live_target}
+use Rattle.chess_game.specs.Same.{is_same_position, same_man, same_men, same_rights, same_square, legal_en_passant_square}
 use Rattle.chess_game.specs.ties.PlayedMoves.{moves_of, IsKnown, Follows}
 use Rattle.chess_game.specs.ties.Buckets.{known_at, is_same_at}
 use Rattle.chess_game.specs.declared.game.PlayedMove.{PlayedMove}
@@ -68,7 +68,7 @@ other_by_reserve p q h =
       | inl passes ↦
           let alike = same_reserve p.men q.men
           (second (same_colour p.side q.side) (same_men p.men q.men) (same_rights p.rights q.rights)
-          (same_square (live_target p) (live_target q)) passes) in
+          (same_square (legal_en_passant_square p) (legal_en_passant_square q)) passes) in
           absurd (omega (arith, alike))
     ]
 

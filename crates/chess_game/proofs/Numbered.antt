@@ -2,7 +2,7 @@
 use Rattle.std.proofs.Common.{◌≡◌, ℕ, zero, suc, ◌<◌, List, [], ◌∷◌, ◌++◌, length, get_or, refl, sym, subst, arith}
 use Rattle.chess_base.specs.Sound.{IsSound}
 use Rattle.chess_game.specs.Line.{position_after}
-use Rattle.chess_game.specs.ties.PlayedMoves.{moves_of, IsKnown, Hashing, HasHash, HaveHashes, Follows}
+use Rattle.chess_game.specs.ties.PlayedMoves.{moves_of, Hashing, HasHash, HaveHashes, Follows}
 use Rattle.chess_game.specs.ties.Buckets.{known_at}
 use Rattle.chess_game.specs.declared.game.PlayedMove.{PlayedMove}
 use Rattle.chess_game.specs.declared.repetition.Hashed.{Hashed}
@@ -30,13 +30,6 @@ pub known_last : (start : Hashed) (xs : List PlayedMove) (y : PlayedMove)
 unfolding known_at
 known_last start [] y = refl
 known_last start (x ∷ xs) y = known_last x.reached xs y
-
-pub known_is : (start : Hashed) (xs : List PlayedMove) (k : ℕ) → IsKnown start → Follows start.position xs
-    → IsKnown (known_at start xs k)
-unfolding known_at
-known_is start xs zero known f = known
-known_is start [] (suc k) known f = known
-known_is start (x ∷ xs) (suc k) known f = known_is x.reached xs k f.1 f.2
 
 hash_is : (f : Hashing) (start : Hashed) (xs : List PlayedMove) (k : ℕ) → HasHash f start → AllHave f xs
     → HasHash f (known_at start xs k)

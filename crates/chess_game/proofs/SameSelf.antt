@@ -8,7 +8,7 @@ use Rattle.chess_base.specs.declared.setup.Setup.{Setup}
 use Rattle.chess_base.specs.Men.{Men, man_at, kind_number}
 use Rattle.chess_base.specs.Squares.{each_below, each_square}
 use Rattle.chess_base.proofs.shared.Men.{same_colour-self}
-use Rattle.chess_game.specs.Same.{is_same_position, same_man, same_men, same_square, same_colour_rights, same_rights, live_target}
+use Rattle.chess_game.specs.Same.{is_same_position, same_man, same_men, same_square, same_colour_rights, same_rights, legal_en_passant_square}
 
 pub man_self : (o : Option Man) → same_man o o ≡ true
 man_self None = refl
@@ -37,4 +37,4 @@ pub same_self : (p : Setup) → is_same_position p p ≡ true
 unfolding is_same_position
 same_self p =
     and_from _ _ (and_from _ _ (and_from _ _ (same_colour-self p.side) (men_self p.men)) (rights_self p.rights))
-    (square_self (live_target p))
+    (square_self (legal_en_passant_square p))

@@ -12,6 +12,7 @@ use Rattle.chess_base.specs.declared.setup.Setup.{Setup}
 use Rattle.chess_base.specs.Men.{Men, man_at, is_man, same_colour, same_kind}
 use Rattle.chess_base.specs.Sound.{IsSound}
 use Rattle.chess_base.specs.Squares.{some_below, some_square}
+use Rattle.chess_base.proofs.shared.Squares.{some_square_same}
 use Rattle.chess_moves.specs.Sets.{contains}
 use Rattle.chess_game.specs.Ends.{is_kind}
 use Rattle.chess_game.specs.ties.Material.{is_pawn_rook_or_queen}
@@ -19,10 +20,7 @@ use Rattle.chess_game.specs.ties.Material.{is_pawn_rook_or_queen}
 -- ---- over lists
 
 either_parts : (a b c d : Bool) → ((a || b) || (c || d)) ≡ ((a || c) || (b || d))
-either_parts true b c d = refl
-either_parts false true true d = refl
-either_parts false true false d = refl
-either_parts false false c d = refl
+either_parts a b c d = grind arith
 
 any_either : {A : Type 0} (f g : A → Bool) (xs : List A) → list_any (λ x. f x || g x) xs
     ≡ (list_any f xs || list_any g xs)
@@ -58,10 +56,6 @@ unfolding is_man
 of_colours wanted None = refl
 of_colours wanted (Some x) = by_colour x.colour (same_kind wanted x.kind)
 
-same_below : (n : ℕ) (f g : ℕ → Bool) → ((k : ℕ) → k < n → f k ≡ g k) → some_below n f ≡ some_below n g
-same_below zero f g e = refl
-same_below (suc n) f g e = rw (same_below n f g (λ k l. e k (omega arith)), e n (omega arith)) refl
-
 not_none : (a : Bool) → not (not a) ≡ a
 not_none true = refl
 not_none false = refl
@@ -70,11 +64,10 @@ not_none false = refl
 pub some_of_kind : (p : Setup) (kind : Kind) (w : ℕ) → IsSound p
     → ((k : ℕ) → k < 64 → contains w k ≡ is_kind kind (man_at p.men k))
     → not (not (some_square (λ k. contains w k))) ≡ list_any (is_kind kind) p.men
-unfolding some_square
 some_of_kind p kind w sound is =
     not_none (some_square (λ k. contains w k))
     ∙ sym (any_square (is_kind kind) p.men sound.board
-    ∙ same_below 64 (λ k. is_kind kind (man_at p.men k)) (λ k. contains w k) (λ k l. sym (is k l)))
+    ∙ some_square_same (λ k. is_kind kind (man_at p.men k)) (λ k. contains w k) (λ k l. sym (is k l)))
 
 -- the three kinds together
 pub by_kinds : (men : Men) → list_any is_pawn_rook_or_queen men

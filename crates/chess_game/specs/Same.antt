@@ -35,14 +35,14 @@ same_rights r q = same_colour_rights r.white q.white && same_colour_rights r.bla
 
 -- the en passant target, if some legal move captures on it; else none, since positions differ by a capture en passant
 -- only if it can be played
-unfoldable pub live_target : Setup → Option ℕ
-live_target p = if list_any (λ m. is_en_passant p m) (moves p) then p.target else None
+unfoldable pub legal_en_passant_square : Setup → Option ℕ
+legal_en_passant_square p = if list_any (λ m. is_en_passant p m) (moves p) then p.target else None
 
 -- two positions are the same: the same side on move, the same pieces on the same squares, the same castling rights, and
 -- the same pawn that may be captured en passant; clock and move number make no difference
 unfoldable pub is_same_position : Setup → Setup → Bool
 is_same_position p q = same_colour p.side q.side && same_men p.men q.men && same_rights p.rights q.rights
-    && same_square (live_target p) (live_target q)
+    && same_square (legal_en_passant_square p) (legal_en_passant_square q)
 
 -- how many positions of the game that went from `start` by the moves ms, from the start to the present one, are the
 -- same as the present one: 1 at its first occurrence

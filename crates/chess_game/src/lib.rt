@@ -14,6 +14,7 @@
 mod game;
 mod index;
 mod iter;
+mod laws;
 mod packed;
 mod repetition;
 mod result_text;
@@ -23,6 +24,7 @@ mod verdicts;
 
 pub use game::{BoardSaysOtherwise, Game, MOST_MOVES, NoMove, PlayRefusal};
 pub use iter::{Moves, Positions};
+pub use laws::equalities_are_derived;
 pub use result_text::ParseOutcomeError;
 pub use results::{Comment, Declared, Outcome};
 pub use tags::{HowEnded, TagText};

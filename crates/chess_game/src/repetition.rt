@@ -1,10 +1,10 @@
-//! When positions are the same.
+//! When positions are the same. `Hashed::on` and what it calls are inlined for the reason at the head of game.rt.
 
 ghost use Rattle.std.specs.Prelude.{◌≡◌, cond, true, false, Some};
 ghost use Rattle.std.specs.List.{list_any};
 ghost use Rattle.chess_base.specs.MoveList.{moves};
 ghost use Rattle.chess_base.specs.Moves.{is_en_passant};
-ghost use Rattle.chess_game.specs.Same.{same_square, same_colour_rights, same_rights, live_target, is_same_position};
+ghost use Rattle.chess_game.specs.Same.{same_square, same_colour_rights, same_rights, legal_en_passant_square, is_same_position};
 ghost use Rattle.chess_game.specs.ties.Captures.{captures_legally};
 ghost use Rattle.chess_game.specs.ties.PlayedMoves.{IsKnown, HasHash, ShareHashing};
 
@@ -17,12 +17,12 @@ use chess_moves::Board;
 #[derive(Drop)]
 pub(crate) struct Hashed {
     pub(crate) position: PackedPosition,
-    pub(crate) live_target: Option<Square>,
+    pub(crate) legal_en_passant_square: Option<Square>,
     pub(crate) hash: u64,
 }
 
 impl Hashed {
-    // The board's present position, packed, with its hash and its live en passant target. It is packed last: so nothing
+    // The board's present position, packed, with its hash and its legal en passant square. It is packed last: so nothing
     // has to be kept through the search for a capture on the target, which there rarely is.
     #[inline(always)]
     pub(crate) fn on<B: Board>(board: &B) -> Self
@@ -30,11 +30,11 @@ impl Hashed {
         ensures known { IsKnown result }
         ensures hash { HasHash B.word_of result }
     {
-        let live_target = live_target(board);
+        let legal_en_passant_square = legal_en_passant_square(board);
         let hash = board.word();
         Hashed {
             position: PackedPosition::of(board),
-            live_target,
+            legal_en_passant_square,
             hash,
         }
     }
@@ -66,7 +66,7 @@ impl Hashed {
         this.side() == that.side()
             && this.same_men(that)
             && same_rights(this.rights(), that.rights())
-            && same_square(self.live_target, other.live_target)
+            && same_square(self.legal_en_passant_square, other.legal_en_passant_square)
     }
 
     // 1 if the two positions are the same (Laws of Chess 2023, article 9.2.3), else 0.
@@ -82,9 +82,9 @@ impl Hashed {
 
 // The en passant target, if some legal move captures on it; else none.
 #[inline(always)]
-#[tactic(auto, unfolding(crate::specs::Same::live_target))]
-fn live_target<B: Board>(board: &B) -> Option<Square>
-    ensures { result ≡ live_target (B.position board.now) }
+#[tactic(auto, unfolding(crate::specs::Same::legal_en_passant_square))]
+fn legal_en_passant_square<B: Board>(board: &B) -> Option<Square>
+    ensures { result ≡ legal_en_passant_square (B.position board.now) }
 {
     let target = board.setup().target?;
     if is_captured_on(board, target) {

@@ -16,14 +16,15 @@ use Rattle.chess_base.specs.Squares.{file, rank}
 use Rattle.chess_text.specs.declared.described.Described.{Described}
 use Rattle.chess_text.specs.declared.parts.Parts.{Parts}
 use Rattle.chess_text.specs.declared.parts.Promotion.{Promotion}
-use Rattle.chess_text.specs.Parts.{unmarked, when, kind_text, file_text, rank_text}
+use Rattle.chess_base.specs.Options.{list_if}
+use Rattle.chess_text.specs.Parts.{unmarked, kind_text, file_text, rank_text}
 use Rattle.chess_text.specs.Moves.{is_castling_text, passes, denotes_described, start_texts, capture_texts, promotion_texts, texts_by_squares, texts_by_letter, pawn_starts, texts_of_pawn}
 use Rattle.chess_text.specs.ties.Fitting.{promotion_text, parts_text, admits, names, names_kind, promotes_so, has_equals, is_by_squares, is_by_letter, is_straight, is_by_file, parts_fit, has_parts, fits_text}
 use Rattle.chess_text.specs.ties.Reader.{parts_at}
 use Rattle.chess_text.specs.laws.Laws.{HasLetter, CanPromote, AreParts, IsDenoted}
 use Rattle.chess_text.proofs.Lists.{IsIn, Each, here, later, in-flat_map, in-one, in-append-left, in-append-right, each-nil, each-cons, each-flat_map, each-one, each-append}
 use Rattle.chess_text.proofs.Grammar.{denoted-parts, parts-denoted}
-use Rattle.chess_text.proofs.SameKinds.{same_kind-self, same_kind-true}
+use Rattle.chess_base.proofs.shared.Men.{same_kind-self, same_kind-true, is_none-None}
 
 abbrev Text : Type 0
 Text = List ℕ
@@ -73,10 +74,6 @@ unfolding parts_fit
 fit_file q d e = or_right (is_by_squares q d || is_by_letter q d || is_straight q d) (is_by_file q d) e
 
 -- ---- each listed text is that of parts that fit
-
-not_or : (a : Bool) → (not a || a) ≡ true
-not_or true = refl
-not_or false = refl
 
 abbrev IsPromotionText : Option Kind → Text → Type 0
 IsPromotionText o t = (p : Option Promotion) × (t ≡ optional promotion_text p) × (promotes_so p o ≡ true)
@@ -146,7 +143,7 @@ each_start from =
     (each-cons P (square_text from) [] (Some (file from), Some (rank from), refl, a, b) (each-nil P))))
 
 abbrev IsCaptureText : Bool → Text → Type 0
-IsCaptureText c t = (takes : Bool) × (t ≡ when takes (120 ∷ [])) × ((not takes || c) ≡ true)
+IsCaptureText c t = (takes : Bool) × (t ≡ list_if takes (120 ∷ [])) × ((not takes || c) ≡ true)
 
 each_capture : (c : Bool) → Each Text (IsCaptureText c) (capture_texts c)
 each_capture true =
@@ -189,7 +186,7 @@ letter_text d start takes other walks (f, r, is, file_is, rank_is) (t, written, 
       ap (λ v. kind_text d.man ++ (v ++ (takes ++ square_text d.to))) is
           ∙ ap (λ v. kind_text d.man ++ ((optional file_text f ++ optional rank_text r) ++ (v ++ square_text d.to))) written
           ∙ ap (λ v. kind_text d.man ++ v)
-          (grouped (optional file_text f) (optional rank_text r) (when t (120 ∷ [])) (square_text d.to)),
+          (grouped (optional file_text f) (optional rank_text r) (list_if t (120 ∷ [])) (square_text d.to)),
       fit_letter q d (by_letter_fits d f r t walks file_is rank_is takes_is),
     )
 
@@ -224,7 +221,7 @@ each_letter d = by_test (same_kind d.man Pawn || is_some d.castles) refl
 -- what is written before the end square, with which parts fit for each promotion
 abbrev IsPawnStart : Described → Text → Type 0
 IsPawnStart d t = (f : Option ℕ) × (r : Option ℕ) × (takes : Bool)
-    × (t ≡ optional file_text f ++ (optional rank_text r ++ when takes (120 ∷ [])))
+    × (t ≡ optional file_text f ++ (optional rank_text r ++ list_if takes (120 ∷ [])))
     × ((p : Option Promotion) → promotes_so p d.promotion ≡ true → parts_fit (of None f r takes d.to p) d ≡ true)
 
 pub straight_fits : (d : Described) (p : Option Promotion) → same_kind Pawn d.man ≡ true → (file d.from == file d.to) ≡ true
@@ -266,7 +263,7 @@ file_start d pawn start takes (r, is, rank_is) (t, written, takes_is) = (
   r,
   t,
   ap (λ v. v ++ takes) is ∙ ap (λ v. (file_text (file d.from) ++ optional rank_text r) ++ v) written
-      ∙ append_assoc (file_text (file d.from)) (optional rank_text r) (when t (120 ∷ [])),
+      ∙ append_assoc (file_text (file d.from)) (optional rank_text r) (list_if t (120 ∷ [])),
   λ p so. fit_file (of None (Some (file d.from)) r t d.to p) d
       (file_fits d (Some (file d.from)) r t p pawn (eq-eqb (file d.from) (file d.from) refl) rank_is takes_is so),
 )
@@ -285,14 +282,14 @@ each_pawn_start d pawn =
 pawn_text : (d : Described) (start promotion : Text) → IsPawnStart d start → IsPromotionText d.promotion promotion
     → IsText d (start ++ (square_text d.to ++ promotion))
 pawn_text d start promotion (f, r, t, is, fit) (p, written, so) =
-    let before = optional rank_text r ++ when t (120 ∷ []) in
+    let before = optional rank_text r ++ list_if t (120 ∷ []) in
     let after = square_text d.to ++ optional promotion_text p in (
       of None f r t d.to p,
       tt,
       ap (λ v. v ++ (square_text d.to ++ promotion)) is
           ∙ ap (λ v. (optional file_text f ++ before) ++ (square_text d.to ++ v)) written
           ∙ append_assoc (optional file_text f) before after
-          ∙ ap (λ v. optional file_text f ++ v) (append_assoc (optional rank_text r) (when t (120 ∷ [])) after),
+          ∙ ap (λ v. optional file_text f ++ v) (append_assoc (optional rank_text r) (list_if t (120 ∷ [])) after),
       fit p so,
     )
 
@@ -389,17 +386,13 @@ in_start from (Some x) (Some y) a b =
     (later (file_text (file from)) (rank_text (rank from) ∷ square_text from ∷ []) (square_text from)
     (later (rank_text (rank from)) (square_text from ∷ []) (square_text from) (here (square_text from) []))))
 
-in_capture : (c takes : Bool) → (not takes || c) ≡ true → IsIn Text (capture_texts c) (when takes (120 ∷ []))
+in_capture : (c takes : Bool) → (not takes || c) ≡ true → IsIn Text (capture_texts c) (list_if takes (120 ∷ []))
 in_capture true true e = later [] ((120 ∷ []) ∷ []) (120 ∷ []) (here (120 ∷ []) [])
 in_capture true false e = here [] ((120 ∷ []) ∷ [])
 in_capture false true e = absurd cc
 in_capture false false e = here [] []
 
 -- ---- by each form
-
-nothing : {A : Type 0} (o : Option A) → is_none o ≡ true → o ≡ None
-nothing None e = refl
-nothing (Some x) e = absurd cc
 
 not_so : (b : Bool) → not b ≡ true → b ≡ false
 not_so true e = absurd cc
@@ -425,7 +418,7 @@ squares_in d letter f r takes to p e =
     let h : to ≡ d.to = grind (arith, nat_tests, e) in
     let u : not (has_equals p) ≡ true = grind (arith, nat_tests, e) in
     let so : promotes_so p d.promotion ≡ true = grind (arith, nat_tests, e) in
-    rw (nothing letter a, named f (file d.from) b, named r (rank d.from) c, not_so takes g, h)
+    rw (is_none-None letter a, named f (file d.from) b, named r (rank d.from) c, not_so takes g, h)
     (in-one (λ t. square_text d.from ++ (square_text d.to ++ t)) (promotion_texts plain d.promotion)
     (optional promotion_text p) (in_plain d.promotion p so (not_so (has_equals p) u)))
 
@@ -450,11 +443,11 @@ lettered_in : (d : Described) (f r : Option ℕ) (takes : Bool) → same_kind d.
     → IsIn Text (texts_by_letter d) (parts_text (of (Some d.man) f r takes d.to None))
 lettered_in d f r takes other walks file_is rank_is takes_is =
     let start : Text = optional file_text f ++ optional rank_text r in
-    let x : Text = when takes (120 ∷ []) in
+    let x : Text = list_if takes (120 ∷ []) in
     let texts : List Text = flat_map (λ start. flat_map (λ takes.
     (kind_text d.man ++ (start ++ (takes ++ square_text d.to))) ∷ []) (capture_texts d.captures)) (start_texts d.from) in
     let off : (same_kind d.man Pawn || is_some d.castles) ≡ false =
-    rw (other, nothing d.castles walks) refl in
+    rw (other, is_none-None d.castles walks) refl in
     in_else (same_kind d.man Pawn || is_some d.castles) texts (parts_text (of (Some d.man) f r takes d.to None)) off
     (subst (IsIn Text texts)
     (ap (λ v. kind_text d.man ++ v) (grouped (optional file_text f) (optional rank_text r) x (square_text d.to)))
@@ -478,7 +471,7 @@ letter_in d letter f r takes to p has e =
     let none : is_none p ≡ true = grind (arith, nat_tests, e) in
     let is = kind_named letter d.man a in
     let has_own : HasLetter d.man = subst (λ (o : Option Kind). IfSome o HasLetter) is has in
-    rw (is, nothing p none, h) (lettered_in d f r takes (no_pawn d.man has_own) walks b c g)
+    rw (is, is_none-None p none, h) (lettered_in d f r takes (no_pawn d.man has_own) walks b c g)
 
 in_pawn : (d : Described) (start : Text) (p : Option Promotion) → same_kind Pawn d.man ≡ true
     → promotes_so p d.promotion ≡ true → IsIn Text (pawn_starts d) start
@@ -506,7 +499,7 @@ straight_in d letter f r takes to p e =
     let on : (file d.from == file d.to) ≡ true = grind (arith, nat_tests, e) in
     let h : to ≡ d.to = grind (arith, nat_tests, e) in
     let so : promotes_so p d.promotion ≡ true = grind (arith, nat_tests, e) in
-    rw (nothing letter a, nothing f b, nothing r c, not_so takes g, h)
+    rw (is_none-None letter a, is_none-None f b, is_none-None r c, not_so takes g, h)
     (in_pawn d [] p pawn so
     (in-append-left (if file d.from == file d.to then [] ∷ [] else [])
     (flat_map (λ start. flat_map (λ takes. (start ++ takes) ∷ []) (capture_texts d.captures))
@@ -525,7 +518,7 @@ filed_in : (d : Described) (r : Option ℕ) (takes : Bool) (p : Option Promotion
     → IsIn Text (texts_of_pawn d) (parts_text (of None (Some (file d.from)) r takes d.to p))
 filed_in d r takes p pawn rank_is takes_is so =
     let start : Text = file_text (file d.from) ++ optional rank_text r in
-    let x : Text = when takes (120 ∷ []) in
+    let x : Text = list_if takes (120 ∷ []) in
     let end : Text = square_text d.to ++ optional promotion_text p in
     let files : List Text = file_text (file d.from) ∷ square_text d.from ∷ [] in
     subst (IsIn Text (texts_of_pawn d))
@@ -549,7 +542,7 @@ file_in d letter f r takes to p e =
     let g : (not takes || d.captures) ≡ true = grind (arith, nat_tests, e) in
     let h : to ≡ d.to = grind (arith, nat_tests, e) in
     let so : promotes_so p d.promotion ≡ true = grind (arith, nat_tests, e) in
-    rw (nothing letter a, named f (file d.from) b, h) (filed_in d r takes p pawn c g so)
+    rw (is_none-None letter a, named f (file d.from) b, h) (filed_in d r takes p pawn c g so)
 
 pub text_in : (q : Parts) (d : Described) → Lettered q → parts_fit q d ≡ true → IsIn Text (texts_of d) (parts_text q)
 unfolding parts_fit
@@ -574,16 +567,16 @@ text_in q d has e =
 
 -- ---- what a text denotes, with no list of texts
 
-pub castled : (test : CastlingSide → Bool) (o : Option CastlingSide) → passes test o ≡ true → (w : CastlingSide)
-    × (o ≡ Some w) × (test w ≡ true)
-castled test None e = absurd cc
-castled test (Some w) e = (w, refl, e)
+pub passing : {A : Type 0} (test : A → Bool) (o : Option A) → passes test o ≡ true
+    → (x : A) × (o ≡ Some x) × (test x ≡ true)
+passing test None e = absurd cc
+passing test (Some x) e = (x, refl, e)
 
 is_denoted_so : (text : Text) (d : Described) → denotes_described text d ≡ true → IsDenoted text d
 unfolding denotes_described
 is_denoted_so text d e =
     elim (or_cases (passes (is_castling_text text) d.castles) (list_any (bytes_eq (unmarked text)) (texts_of d)) e) [
-      | inl h ↦ inl (castled (is_castling_text text) d.castles h)
+      | inl h ↦ inl (passing (is_castling_text text) d.castles h)
       | inr h ↦
           let f = each_text d (bytes_eq (unmarked text)) h in
           inr (f.1.0, f.1.1, (bytes_eq-Decides (unmarked text) f.0).0 f.2 ∙ f.1.2, f.1.3)
@@ -697,11 +690,6 @@ are_parts q d has from to promotion e =
       promotion_is = promoting q.end.promotion d.promotion promotion f.promotion_is;
     }
 
-pub of_parts : (test : Parts → Bool) (o : Option Parts) → passes test o ≡ true → (q : Parts) × (o ≡ Some q)
-    × (test q ≡ true)
-of_parts test None e = absurd cc
-of_parts test (Some q) e = (q, refl, e)
-
 pub bool_same : (a b : Bool) → (a ≡ true → b ≡ true) → (b ≡ true → a ≡ true) → a ≡ b
 bool_same true true h k = refl
 bool_same true false h k = sym (h refl)
@@ -730,9 +718,9 @@ pub fits_cases : (text : Text) (d : Described) → fits_text text d ≡ true →
 unfolding fits_text has_parts
 fits_cases text d e =
     elim (or_cases (passes (is_castling_text text) d.castles) (passes (λ r. parts_fit r d) (parts_at (unmarked text))) e) [
-      | inl h ↦ inl (castled (is_castling_text text) d.castles h)
+      | inl h ↦ inl (passing (is_castling_text text) d.castles h)
       | inr h ↦
-          let of = of_parts (λ r. parts_fit r d) (parts_at (unmarked text)) h in
+          let of = passing (λ r. parts_fit r d) (parts_at (unmarked text)) h in
           let is = denoted-parts (unmarked text) of.0 of.1 in
           inr (of.0, is.0.letter_is, is.1, of.2)
     ]

@@ -21,7 +21,7 @@ use Rattle.chess_text.specs.declared.parts.Parts.{Parts}
 use Rattle.chess_text.specs.Moves.{described, passes}
 use Rattle.chess_text.specs.ties.Fitting.{is_by_squares, is_by_letter, is_straight, is_by_file, parts_fit}
 use Rattle.chess_text.specs.ties.Forms.{same_side, form_fits, is_denoted, castling_end, end_square, denoted_with}
-use Rattle.chess_text.proofs.OneMoveFits.{castled}
+use Rattle.chess_text.proofs.Denotations.{passing}
 use Rattle.chess_text.proofs.AllMoves.{filter-both, none-kept, kept, alone-square}
 use Rattle.chess_text.proofs.Legal.{described_by, castling_says, names_end, legal_move}
 
@@ -68,7 +68,7 @@ form_ends : (form : Form) (p : Setup) (m : Move) (o : Option Man) → passes (fo
 form_ends form p m None h = cc
 form_ends (Piece q) p m (Some x) h = fitting_ends q _ h
 form_ends (Castling w) p m (Some x) h =
-    let c = castled (same_side w) _ h in
+    let c = passing (same_side w) _ h in
     names_end p.variant p.side m c.0 (right_of p.rights p.side c.0) (castling_says p m c.0 c.1).1
     ∙ ap (λ v. castling_end p.variant p.side v (right_of p.rights p.side v)) (sym (same_side-true w c.0 c.2))
 

@@ -15,6 +15,7 @@ use Rattle.chess_base.specs.Squares.{file, rank}
 use Rattle.chess_base.specs.Men.{kind_number, man_at, is_man, same_colour, same_kind}
 use Rattle.chess_base.specs.Moves.{is_legal}
 use Rattle.chess_base.specs.Castling.{castling}
+use Rattle.chess_base.proofs.shared.Men.{same_kind-true}
 use Rattle.chess_text.specs.declared.described.Described.{Described}
 use Rattle.chess_text.specs.declared.form.Form.TheVariants.{Piece}
 use Rattle.chess_text.specs.declared.parts.Parts.{Parts}
@@ -27,50 +28,12 @@ use Rattle.chess_text.proofs.Origins.{named_is}
 
 -- ---- the piece
 
-same_number : (j k : Kind) → same_kind j k ≡ true → j ≡ k
-same_number King King e = refl
-same_number Queen Queen e = refl
-same_number Rook Rook e = refl
-same_number Bishop Bishop e = refl
-same_number Knight Knight e = refl
-same_number Pawn Pawn e = refl
-same_number King Queen e = absurd cc
-same_number King Rook e = absurd cc
-same_number King Bishop e = absurd cc
-same_number King Knight e = absurd cc
-same_number King Pawn e = absurd cc
-same_number Queen King e = absurd cc
-same_number Queen Rook e = absurd cc
-same_number Queen Bishop e = absurd cc
-same_number Queen Knight e = absurd cc
-same_number Queen Pawn e = absurd cc
-same_number Rook King e = absurd cc
-same_number Rook Queen e = absurd cc
-same_number Rook Bishop e = absurd cc
-same_number Rook Knight e = absurd cc
-same_number Rook Pawn e = absurd cc
-same_number Bishop King e = absurd cc
-same_number Bishop Queen e = absurd cc
-same_number Bishop Rook e = absurd cc
-same_number Bishop Knight e = absurd cc
-same_number Bishop Pawn e = absurd cc
-same_number Knight King e = absurd cc
-same_number Knight Queen e = absurd cc
-same_number Knight Rook e = absurd cc
-same_number Knight Bishop e = absurd cc
-same_number Knight Pawn e = absurd cc
-same_number Pawn King e = absurd cc
-same_number Pawn Queen e = absurd cc
-same_number Pawn Rook e = absurd cc
-same_number Pawn Bishop e = absurd cc
-same_number Pawn Knight e = absurd cc
-
 kind_there : (c : Colour) (k : Kind) (o : Option Man) (x : Man) → o ≡ Some x → is_man c k o ≡ true → k ≡ x.kind
 unfolding is_man
 kind_there c k None x at e = absurd cc
 kind_there c k (Some y) x at e =
     let same : y ≡ x = cc in
-    same_number k y.kind (and_parts (same_colour c y.colour) (same_kind k y.kind) e).1
+    same_kind-true k y.kind (and_parts (same_colour c y.colour) (same_kind k y.kind) e).1
     ∙ ap (λ (z : Man). z.kind) same
 
 -- ---- castling
@@ -152,18 +115,13 @@ pawn_fits_by None None takes captured a to o e = rw (e, eq-eqb to to refl)
     (straight (not takes) (file a == file to))
   where
     straight : (t s : Bool) → ((t && true && s && true && true) || false) ≡ (t && s)
-    straight true true = refl
-    straight true false = refl
-    straight false s = refl
+    straight t s = grind arith
 pawn_fits_by None (Some n) takes captured a to o e = rw e refl
 pawn_fits_by (Some n) r takes captured a to o e = rw (e, eq-eqb to to refl)
     (from_file (n == file a) (admits r (rank a)) (not takes || captured))
   where
     from_file : (x y z : Bool) → (x && y && true && z && true && true) ≡ (x && y && z)
-    from_file true true true = refl
-    from_file true true false = refl
-    from_file true false z = refl
-    from_file false y z = refl
+    from_file x y z = grind arith
 
 -- ---- as the parts are
 

@@ -7,19 +7,15 @@ use Rattle.chess_base.specs.declared.man.Kind.{Kind}
 use Rattle.chess_base.specs.declared.man.Kind.TheVariants.{Pawn, Knight, Bishop, Rook, Queen, King}
 use Rattle.chess_base.specs.Coordinates.{optional}
 use Rattle.chess_base.specs.Letters.{white_letter, square_text, is_file_letter, is_rank_digit}
-use Rattle.chess_base.proofs.shared.Choices.{chosen}
+use Rattle.chess_base.proofs.shared.Choices.{chosen, mapped}
 use Rattle.chess_text.specs.declared.parts.Parts.{Parts}
 use Rattle.chess_text.specs.declared.parts.End.{End}
 use Rattle.chess_text.specs.declared.parts.Promotion.{Promotion}
-use Rattle.chess_text.specs.Parts.{when, kind_text}
+use Rattle.chess_base.specs.Options.{list_if}
+use Rattle.chess_text.specs.Parts.{kind_text}
 use Rattle.chess_text.specs.ties.Fitting.{promotion_letter, promotion_text, end_text, parts_text}
 use Rattle.chess_text.specs.ties.Reader.{lettered_kinds, promoted, kind_from, or_else, promotion_by, promotion_at, end_at, takes_at, rank_at, with_parts, file_at, at_letter, parts_at}
 use Rattle.chess_text.specs.laws.Laws.{CanPromote, HasLetter, AreParts}
-
-mapped : {A B : Type 0} (f : A → B) (o : Option A) (y : B) → option_map f o ≡ Some y
-    → (x : A) × (o ≡ Some x) × (f x ≡ y)
-mapped f None y e = absurd cc
-mapped f (Some x) y e = (x, refl, cc)
 
 either : {A : Type 0} (o p : Option A) (x : A) → or_else o p ≡ Some x → (o ≡ Some x) ⊎ (p ≡ Some x)
 either (Some y) p x e = inl e
@@ -166,7 +162,7 @@ abbrev with_rank : Option ℕ → Bool × End → Option ℕ × Bool × End
 with_rank o y = (o, y.0, y.1)
 
 abbrev takes_text : Bool → End → List ℕ
-takes_text b e = when b (120 ∷ []) ++ end_text e
+takes_text b e = list_if b (120 ∷ []) ++ end_text e
 
 denoted-takes : (text : List ℕ) (b : Bool) (x : End) → takes_at text ≡ Some (b, x) → (text ≡ takes_text b x) × IsEnd x
 denoted-takes [] b x e = absurd cc
@@ -279,7 +275,7 @@ not_promoted : (x : End) → promotion_at (end_text x) ≡ None
 not_promoted x = by_promotion x.promotion
   where
     by_equals : (b : Bool) (p : Promotion) → promotion_at
-        (square_text x.to ++ (when b (61 ∷ []) ++ promotion_letter p ∷ [])) ≡ None
+        (square_text x.to ++ (list_if b (61 ∷ []) ++ promotion_letter p ∷ [])) ≡ None
     by_equals true p = refl
     by_equals false p = refl
 

@@ -2,7 +2,6 @@ pub mod shared
 mod DenotedMoves
 mod Grammar
 mod Lists
-mod SameKinds
 mod Denotations
 mod ShapeByForm
 mod CastlingTexts

@@ -1,6 +1,5 @@
 -- What is in a list, and what each of its elements has.
-use Rattle.std.proofs.Common.{◌≡◌, ℕ, zero, suc, ◌<◌, inl, inr, Bool, true, ◌||◌, Option, Some, None, List, [], ◌∷◌, ◌++◌, map, refl, sym, ap, ◌∙◌, arith}
-use Rattle.std.specs.Prelude.{IfSome}
+use Rattle.std.proofs.Common.{◌≡◌, ℕ, zero, suc, ◌<◌, inl, inr, Bool, true, ◌||◌, List, [], ◌∷◌, ◌++◌, map, refl, sym, ap, ◌∙◌, arith}
 use Rattle.std.specs.List.{list_any, flat_map}
 use Rattle.std.proofs.lemmas.Bool.{or_cases, or_left, or_right}
 use Rattle.chess_base.specs.Squares.{from_below}
@@ -23,9 +22,6 @@ here x xs t e = or_left (t x) (list_any t xs) e
 pub later : {A : Type 0} (y : A) (xs : List A) (x : A) → IsIn A xs x → IsIn A (y ∷ xs) x
 later y xs x h t e = or_right (t y) (list_any t xs) (h t e)
 
-pub in-map : {A B : Type 0} (g : A → B) (xs : List A) (x : A) → IsIn A xs x → IsIn B (map g xs) (g x)
-in-map g xs x h t e = any-map t g xs ∙ h (λ y. t (g y)) e
-
 pub in-flat_map : {A B : Type 0} (g : A → List B) (xs : List A) (x : A) (y : B) → IsIn A xs x → IsIn B (g x) y
     → IsIn B (flat_map g xs) y
 in-flat_map g xs x y h k t e = any-flat_map t g xs ∙ h (λ z. list_any t (g z)) (k t e)
@@ -38,11 +34,6 @@ in-below zero f k h t e = absurd (omega arith)
 in-below (suc n) f zero h t e = or_left (t (f 0)) _ e
 in-below (suc n) f (suc k) h t e = or_right (t (f 0)) _ (in-below n (λ i. f (suc i)) k (omega arith) t e)
 
-pub in-or_none : {A : Type 0} (P : A → Type 0) (xs : List A) → ((x : A) → P x → IsIn A xs x) → (o : Option A) → IfSome o P
-    → IsIn (Option A) (None ∷ map Some xs) o
-in-or_none P xs h None k = here None (map Some xs)
-in-or_none P xs h (Some x) k = later None (map Some xs) (Some x) (in-map Some xs x (h x k))
-
 -- ---- each element of a list
 
 -- what a test finds in the list has the property
@@ -54,12 +45,6 @@ each-nil P t e = absurd cc
 
 pub each-cons : {A : Type 0} (P : A → Type 0) (x : A) (xs : List A) → P x → Each A P xs → Each A P (x ∷ xs)
 each-cons P x xs p h t e = elim (or_cases (t x) (list_any t xs) e) [ inl at ↦ (x, p, at) | inr after ↦ h t after ]
-
-pub each-map : {A B : Type 0} (P : A → Type 0) (Q : B → Type 0) (g : A → B) (xs : List A) → Each A P xs
-    → ((x : A) → P x → Q (g x)) → Each B Q (map g xs)
-each-map P Q g xs h k t e =
-    let f = h (λ x. t (g x)) (sym (any-map t g xs) ∙ e) in
-    (g f.0, k f.0 f.1, f.2)
 
 pub each-flat_map : {A B : Type 0} (P : A → Type 0) (Q : B → Type 0) (g : A → List B) (xs : List A) → Each A P xs
     → ((x : A) → P x → Each B Q (g x)) → Each B Q (flat_map g xs)
@@ -79,11 +64,6 @@ each-below P (suc n) f h t e =
       | inl at ↦ (f 0, h 0 (omega arith), at)
       | inr after ↦ each-below P n (λ k. f (suc k)) (λ k l. h (suc k) (omega arith)) t after
     ]
-
-pub each-or_none : {A : Type 0} (P : A → Type 0) (xs : List A) → Each A P xs
-    → Each (Option A) (λ o. IfSome o P) (None ∷ map Some xs)
-each-or_none P xs h = each-cons (λ o. IfSome o P) None (map Some xs) tt
-    (each-map P (λ o. IfSome o P) Some xs h (λ x k. k))
 
 -- ---- two lists
 

@@ -1,63 +1,30 @@
 -- On positions of normal chess the texts are those of normal chess.
-use Rattle.std.proofs.Common.{◌≡◌, ℕ, Bool, true, false, not, ◌&&◌, ◌==◌, List, ◌++◌, length, map, filter, codes, Option, Some, None, is_some, refl, ap, ◌∙◌, if◌then◌else◌}
+use Rattle.std.proofs.Common.{◌≡◌, ℕ, Bool, not, ◌&&◌, ◌==◌, List, ◌++◌, length, map, filter, codes, Option, Some, None, refl, ap, ◌∙◌, if◌then◌else◌}
 use Rattle.std.proofs.Math.Path.{fun_ext}
 use Rattle.std.specs.Option.{option_map}
 use Rattle.chess_base.specs.declared.man.CastlingSide.{CastlingSide}
-use Rattle.chess_base.specs.declared.man.CastlingSide.TheVariants.{KingSide, QueenSide}
-use Rattle.chess_base.specs.declared.man.Colour.{Colour}
-use Rattle.chess_base.specs.declared.man.Kind.TheVariants.{King}
 use Rattle.chess_base.specs.declared.man.Man.{Man}
 use Rattle.chess_base.specs.declared.man.Move.{Move}
 use Rattle.chess_base.specs.declared.man.Variant.TheVariants.{Normal}
 use Rattle.chess_base.specs.declared.setup.Setup.{Setup}
 use Rattle.chess_base.specs.Attacks.{is_in_check}
 use Rattle.chess_base.specs.Coordinates.{coordinate, optional}
-use Rattle.chess_base.specs.Castling.{castling, is_castling_to, right_of, home_square, king_home_file, castled_king_file}
-use Rattle.chess_base.specs.shared.Splits.{names_castling}
-use Rattle.chess_base.specs.Men.{man_at, is_man, same_kind}
+use Rattle.chess_base.specs.Castling.{castling}
+use Rattle.chess_base.specs.Men.{man_at, same_kind}
 use Rattle.chess_base.specs.Moves.{after}
 use Rattle.chess_base.specs.MoveList.{all_moves, moves}
-use Rattle.chess_base.specs.laws.Normal.{normal_says_castling, normal_castling, normal_after}
-use Rattle.chess_base.proofs.shared.Normal.{normal_kept as rules_kept}
+use Rattle.chess_base.specs.laws.Normal.{normal_after}
+use Rattle.chess_base.proofs.shared.Normal.{normal_kept as rules_kept, castling_kept}
 use Rattle.chess_text.specs.declared.described.Described.{Described}
 use Rattle.chess_text.specs.declared.reading.Reading.TheVariants.{NotAMove}
 use Rattle.chess_text.specs.Moves.{described, captures, passes, shape, denotes, denotes_described, one_of, reading}
-use Rattle.chess_text.specs.Parts.{when}
+use Rattle.chess_base.specs.Options.{list_if}
 use Rattle.chess_text.specs.San.{is_rival, rival_starts, check_mark, san, unmarked_san, shown_as, shown_move}
 use Rattle.chess_text.specs.laws.Normal.{NormalIsKept, normal_moves, normal_described, normal_denotes, normal_reading, normal_is_rival, normal_rival_starts, normal_check_mark, normal_san}
 
 pub moves_kept : (p : Setup) → p.variant ≡ Normal → moves p ≡ normal_moves p
 unfolding moves normal_moves
 moves_kept p e = ap (λ (test : Move → Bool). filter test all_moves) (fun_ext (rules_kept p e).legal)
-
--- ---- castling
-
-in_turn : (a b c : Bool) → (a && (b && c)) ≡ (true && a && b && c)
-in_turn true true c = refl
-in_turn true false c = refl
-in_turn false b c = refl
-
-never : (a b c : Bool) → (a && false) ≡ (false && a && b && c)
-never true b c = refl
-never false b c = refl
-
-says_by : (c : Colour) (m : Move) (w : CastlingSide) (king : Bool) (o : Option ℕ)
-    → (king && names_castling Normal c m w o)
-    ≡ (is_some o && king && (m.from == home_square c king_home_file)
-    && (m.to == home_square c (castled_king_file w)))
-says_by c m w king None = never king (m.from == home_square c king_home_file)
-    (m.to == home_square c (castled_king_file w))
-says_by c m w king (Some rook) = in_turn king (m.from == home_square c king_home_file)
-    (m.to == home_square c (castled_king_file w))
-
-says_kept : (p : Setup) → p.variant ≡ Normal → (m : Move) (w : CastlingSide)
-    → is_castling_to p m w ≡ normal_says_castling p m w
-unfolding is_castling_to normal_says_castling
-says_kept p e m w = rw e (says_by p.side m w (is_man p.side King (man_at p.men m.from)) (right_of p.rights p.side w))
-
-castling_kept : (p : Setup) → p.variant ≡ Normal → (m : Move) → castling p m ≡ normal_castling p m
-unfolding castling normal_castling
-castling_kept p e m = rw (says_kept p e m KingSide, says_kept p e m QueenSide) refl
 
 -- ---- read
 
@@ -105,7 +72,7 @@ rivals_kept p e d =
 mark_kept : (p : Setup) → p.variant ≡ Normal → check_mark p ≡ normal_check_mark p
 unfolding check_mark normal_check_mark
 mark_kept p e =
-    ap (λ (ms : List Move). when (is_in_check p.men p.side) (if length ms == 0 then codes "#" else codes "+"))
+    ap (λ (ms : List Move). list_if (is_in_check p.men p.side) (if length ms == 0 then codes "#" else codes "+"))
     (moves_kept p e)
 
 -- what a move leaves is of the variant of the position before it

@@ -21,9 +21,9 @@ use Rattle.chess_text.specs.ties.Forms.{same_side}
 use Rattle.chess_text.proofs.AllMoves.{only-move}
 use Rattle.chess_text.proofs.CastlingTexts.{IsCastling, names_side, castling_from_name}
 use Rattle.chess_text.proofs.FormFacts.{has-read, denoted_castling as castling_denoted}
-use Rattle.chess_text.proofs.SameKinds.{same_kind-self, same_kind-true}
-use Rattle.chess_text.proofs.ShapeByForm.{shape_is}
-use Rattle.chess_text.proofs.Denotations.{denotes_is}
+use Rattle.chess_base.proofs.shared.Men.{same_kind-self, same_kind-true}
+use Rattle.chess_text.proofs.ShapeByForm.{castling_has, shape_is}
+use Rattle.chess_text.proofs.Denotations.{denotes_is, passing}
 use Rattle.chess_text.proofs.Grammar.{denoted-parts, parts-denoted}
 use Rattle.chess_text.proofs.Legal.{IsMove, described_as, described_is}
 
@@ -116,18 +116,6 @@ promotes-same equals small None (Some k) e = absurd cc
 promotes-same equals small (Some k) None e = absurd cc
 promotes-same equals small (Some k) (Some l) e = ap Some (sym (same_kind-true k l e))
 
--- ---- what a text denotes, with no list of parts
-
-pub castled : (test : CastlingSide → Bool) (o : Option CastlingSide) → passes test o ≡ true → (w : CastlingSide)
-    × (o ≡ Some w) × (test w ≡ true)
-castled test None e = absurd cc
-castled test (Some w) e = (w, refl, e)
-
-of_parts : (test : Parts → Bool) (o : Option Parts) → passes test o ≡ true → (q : Parts) × (o ≡ Some q)
-    × (test q ≡ true)
-of_parts test None e = absurd cc
-of_parts test (Some q) e = (q, refl, e)
-
 -- ---- which texts have a move's shape, with no list of parts
 
 either_side : (text : List ℕ) → (is_castling_text text KingSide || is_castling_text text QueenSide) ≡ true
@@ -144,22 +132,13 @@ is_formed_so text e =
     elim (or_cases (is_castling_text text KingSide || is_castling_text text QueenSide) (has_parts is_form text) e) [
       | inl h ↦ inl (either_side text h)
       | inr h ↦
-          let of = of_parts is_form (parts_at (unmarked text)) (sym (has-read is_form text) ∙ h) in
+          let of = passing is_form (parts_at (unmarked text)) (sym (has-read is_form text) ∙ h) in
           let is = denoted-parts (unmarked text) of.0 of.1 in
           inr (of.0, is.0, is.1, of.2)
     ]
 
-castling_shapes : (text : List ℕ) (w : CastlingSide) → is_castling_text text w ≡ true → has_form text ≡ true
-unfolding has_form
-castling_shapes text KingSide h = rw h refl
-castling_shapes text QueenSide h = rw h (by_king (is_castling_text text KingSide))
-  where
-    by_king : (b : Bool) → ((b || true) || has_parts is_form text) ≡ true
-    by_king true = refl
-    by_king false = refl
-
 shaped_so : (text : List ℕ) → IsShaped text → shape text ≡ true
-shaped_so text (inl h) = shape_is text ∙ castling_shapes text h.0 h.1
+shaped_so text (inl h) = shape_is text ∙ castling_has text h.0 h.1
 shaped_so text (inr h) = shape_parts text h.0 h.2 h.1 h.3
 
 pub shaped_by_text : (text : List ℕ) → IsTrue (shape text) ↔ IsShaped text

@@ -27,7 +27,7 @@ use Rattle.chess_text.specs.declared.reading.Reading.TheVariants as reads
 use Rattle.chess_text.specs.Moves.{one_of, described, passes}
 use Rattle.chess_text.specs.ties.Fitting.{names, admits, is_by_squares, is_by_letter, is_straight, is_by_file, parts_fit}
 use Rattle.chess_text.specs.ties.Forms.{same_side, form_fits, is_denoted, end_square, denoted_with, with_move, with_moves, named_square, IsStart}
-use Rattle.chess_text.proofs.OneMoveFits.{castled}
+use Rattle.chess_text.proofs.Denotations.{passing}
 use Rattle.chess_text.proofs.AllMoves.{none-kept}
 use Rattle.chess_text.proofs.Legal.{described_by, castling_says, legal_move, IsMove, described_as, described_is}
 use Rattle.chess_text.proofs.DenotedMoves.{denoted_ends, all_denoted}
@@ -174,7 +174,7 @@ by_pawn p q w at square origins = λ m denoted legal.
 king_by : (v : CastlingSide) (p : Setup) (m : Move) (o : Option Man)
     → passes (form_fits (Castling v)) (described_by p m o) ≡ true → is_man p.side King (man_at p.men m.from) ≡ true
 king_by v p m None h = cc
-king_by v p m (Some x) h = let c = castled (same_side v) _ h in (castling_says p m c.0 c.1).0
+king_by v p m (Some x) h = let c = passing (same_side v) _ h in (castling_says p m c.0 c.1).0
 
 king_denoted : (v : CastlingSide) (p : Setup) (m : Move) → is_denoted (Castling v) p m ≡ true
     → is_man p.side King (man_at p.men m.from) ≡ true

@@ -11,7 +11,8 @@ use Rattle.chess_base.specs.Squares.{file, rank}
 use Rattle.chess_text.specs.declared.described.Described.{Described}
 use Rattle.chess_text.specs.declared.parts.Promotion.{Promotion}
 use Rattle.chess_text.specs.declared.writing.Disambiguation.{Disambiguation}
-use Rattle.chess_text.specs.Parts.{when, kind_text, file_text, rank_text}
+use Rattle.chess_base.specs.Options.{list_if}
+use Rattle.chess_text.specs.Parts.{kind_text, file_text, rank_text}
 use Rattle.chess_text.specs.ties.Fitting.{promotion_text, parts_text}
 use Rattle.chess_text.specs.San.{start_text, piece_text}
 use Rattle.chess_text.specs.ties.SanParts.{some_on_file, some_on_rank, distinction, disambiguate, if_written, pawn_parts, lettered_parts, piece_parts}
@@ -51,21 +52,22 @@ start_is from (o ∷ os) rest = by_tests (some_on_file (file from) (o ∷ os)) (
 -- ---- the text
 
 abbrev tail_text : Described → List ℕ
-tail_text d = when d.captures (byte "x" ∷ [])
+tail_text d = list_if d.captures (byte "x" ∷ [])
     ++ (square_text d.to ++ optional (λ k. byte "=" ∷ kind_text k) d.promotion)
 
 abbrev tail_parts : Described → List ℕ
-tail_parts d = when d.captures (byte "x" ∷ []) ++ (square_text d.to ++ optional promotion_text (as_promotion d.promotion))
+tail_parts d = list_if d.captures (byte "x" ∷ []) ++
+    (square_text d.to ++ optional promotion_text (as_promotion d.promotion))
 
 tail_is : (d : Described) → tail_text d ≡ tail_parts d
-tail_is d = ap (λ v. when d.captures (byte "x" ∷ []) ++ (square_text d.to ++ v)) (promotion_is d.promotion)
+tail_is d = ap (λ v. list_if d.captures (byte "x" ∷ []) ++ (square_text d.to ++ v)) (promotion_is d.promotion)
 
 pawn_start : (c : Bool) (f : ℕ) (rest : List ℕ)
-    → when c (file_text f) ++ rest ≡ optional file_text (if_written c f) ++ rest
+    → list_if c (file_text f) ++ rest ≡ optional file_text (if_written c f) ++ rest
 pawn_start true f rest = refl
 pawn_start false f rest = refl
 
-pawn_written : (d : Described) → when d.captures (file_text (file d.from)) ++ tail_text d ≡ parts_text (pawn_parts d)
+pawn_written : (d : Described) → list_if d.captures (file_text (file d.from)) ++ tail_text d ≡ parts_text (pawn_parts d)
 pawn_written d = pawn_start d.captures (file d.from) (tail_text d)
     ∙ ap (λ v. optional file_text (if_written d.captures (file d.from)) ++ v) (tail_is d)
 
@@ -78,7 +80,7 @@ lettered_written others d =
 
 abbrev by_kind : Bool → List ℕ → Described → List ℕ
 by_kind pawn others d =
-    (if pawn then when d.captures (file_text (file d.from)) else kind_text d.man ++ start_text d.from others)
+    (if pawn then list_if d.captures (file_text (file d.from)) else kind_text d.man ++ start_text d.from others)
     ++ tail_text d
 
 pub piece_written : (others : List ℕ) (d : Described) → piece_text others d ≡ parts_text (piece_parts others d)

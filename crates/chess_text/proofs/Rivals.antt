@@ -5,15 +5,13 @@ use Rattle.std.proofs.Common.{◌≡◌, ◌≢◌, ℕ, zero, suc, ◌<◌, ◌
 use Rattle.std.proofs.lemmas.Bool.{cases_Bool, and_parts, false_from_ne_true, eqb-true, eq-eqb}
 use Rattle.std.proofs.lemmas.List.{map-append}
 use Rattle.std.specs.List.{filter, flat_map, list_any, range_with_len}
-use Rattle.chess_base.specs.declared.man.Colour.{Colour}
-use Rattle.chess_base.specs.declared.man.Colour.TheVariants.{White, Black}
 use Rattle.chess_base.specs.declared.man.Kind.{Kind}
 use Rattle.chess_base.specs.declared.man.Kind.TheVariants.{King, Queen, Rook, Bishop, Knight, Pawn}
 use Rattle.chess_base.specs.declared.man.Move.{Move}
 use Rattle.chess_base.specs.declared.setup.Setup.{Setup}
 use Rattle.chess_base.specs.Squares.{file, rank, some_square}
 use Rattle.chess_base.proofs.shared.Squares.{some_square-none}
-use Rattle.chess_base.specs.Men.{man_at, is_man, same_kind, same_colour}
+use Rattle.chess_base.specs.Men.{man_at, is_man, same_kind}
 use Rattle.chess_base.specs.Moves.{is_legal}
 use Rattle.chess_base.specs.MoveList.{promotions, move_of, squares, all_moves, moves}
 use Rattle.chess_moves.specs.Sets.{contains, members, HasLegalStarts}
@@ -24,7 +22,7 @@ use Rattle.chess_text.specs.declared.described.Described.{Described}
 use Rattle.chess_text.specs.Moves.{described, passes}
 use Rattle.chess_text.specs.San.{is_rival, rival_starts}
 use Rattle.chess_text.specs.ties.SanParts.{distinction, some_on_file, some_on_rank, disambiguate}
-use Rattle.chess_text.proofs.SameKinds.{same_kind-self, same_kind-true}
+use Rattle.chess_base.proofs.shared.Men.{same_kind-self, same_kind-true, same_colour-self}
 use Rattle.chess_text.proofs.AllMoves.{filter-both, none-kept, kept, alone-square}
 use Rattle.chess_text.proofs.Legal.{IsMove, legal_move, described_is}
 use Rattle.chess_text.proofs.MovesFromStarts.{unpromoted, one_kept}
@@ -99,14 +97,10 @@ is_start p d a =
       | inr off ↦ rw (off, and-false (is_man p.side d.man (man_at p.men a))) refl
       | inl legal ↦
           let h = legal_move p (move_of a d.to None) legal in
-          rw (legal, of_move p d (move_of a d.to None) h, h.at_from, eq-eqb d.to d.to refl, own p.side)
+          rw (legal, of_move p d (move_of a d.to None) h, h.at_from, eq-eqb d.to d.to refl, same_colour-self p.side)
           (by_kinds (not (a == d.from)) h.man d.man)
     ]
   where
-    own : (c : Colour) → same_colour c c ≡ true
-    own White = refl
-    own Black = refl
-
     by_kinds : (t : Bool) (j k : Kind) → (t && same_kind j k) ≡ ((same_kind k j && true) && t)
     by_kinds t j k = grind (arith)
 

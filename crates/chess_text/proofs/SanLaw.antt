@@ -24,7 +24,7 @@ use Rattle.chess_text.specs.declared.parts.Parts.{Parts}
 use Rattle.chess_text.specs.declared.parts.Promotion.{Promotion}
 use Rattle.chess_text.specs.declared.reading.Reading.TheVariants as reads
 use mathlib.Core.Bool.{not-or_self}
-use Rattle.chess_base.proofs.shared.Men.{is_none-None}
+use Rattle.chess_base.proofs.shared.Men.{is_none-None, same_kind-self, same_kind-true}
 use Rattle.chess_moves.proofs.shared.AnyMove.{any-filter}
 use Rattle.chess_text.specs.declared.writing.Disambiguation.{Disambiguation}
 use Rattle.chess_text.specs.laws.Laws.{DenotesAlone, is_san_byte, begins_with_letter, AreParts, HasLetter, CanPromote}
@@ -35,7 +35,6 @@ use Rattle.chess_text.specs.ties.Forms.{same_side}
 use Rattle.chess_text.specs.San.{castling_text, is_rival, rival_starts, piece_text, unmarked_san, check_mark, san}
 use Rattle.chess_text.specs.ties.SanParts.{disambiguate, if_written, pawn_parts, lettered_parts, piece_parts}
 use Rattle.chess_text.proofs.OneMoveFits.{read_alone, denoted_parts, shape_parts, denoted_castling, shape_castling, denotes_move, move_is, written, promotes-self, promotes-same}
-use Rattle.chess_text.proofs.SameKinds.{same_kind-self, same_kind-true}
 use Rattle.chess_text.proofs.AllMoves.{any-move}
 use Rattle.chess_text.proofs.Lists.{any-map}
 use Rattle.chess_text.proofs.CastlingTexts.{IsCastling, letters_kingside, letters_queenside}

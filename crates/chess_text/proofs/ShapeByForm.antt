@@ -19,9 +19,9 @@ use Rattle.chess_text.specs.ties.Fitting.{parts_text, admits, promotes_so, is_by
 use Rattle.chess_text.specs.ties.Reader.{parts_at}
 use Rattle.chess_text.specs.laws.Laws.{CanPromote, AreParts, IsDenoted}
 use Rattle.chess_text.proofs.Grammar.{denoted-parts, parts-denoted}
-use Rattle.chess_text.proofs.SameKinds.{same_kind-self}
+use Rattle.chess_base.proofs.shared.Men.{same_kind-self}
 use Rattle.chess_text.proofs.Lists.{IsIn, Each, here, later, in-flat_map, in-one, in-below, each-nil, each-cons, each-flat_map, each-one, each-below}
-use Rattle.chess_text.proofs.Denotations.{of, fit_letter, fit_straight, fit_file, by_letter_fits, straight_fits, file_fits, castled, of_parts, bool_same, denoted_so, denotes_is}
+use Rattle.chess_text.proofs.Denotations.{of, fit_letter, fit_straight, fit_file, by_letter_fits, straight_fits, file_fits, passing, bool_same, denoted_so, denotes_is}
 
 -- ---- all descriptions
 
@@ -259,7 +259,7 @@ fits_by None None None false to p h form =
 
 -- ---- the shape
 
-castling_has : (text : List ℕ) (w : CastlingSide) → is_castling_text text w ≡ true → has_form text ≡ true
+pub castling_has : (text : List ℕ) (w : CastlingSide) → is_castling_text text w ≡ true → has_form text ≡ true
 unfolding has_form
 castling_has text KingSide h = rw h refl
 castling_has text QueenSide h = rw h (by_king (is_castling_text text KingSide))
@@ -280,9 +280,9 @@ form_so : (text : List ℕ) (d : Described) → fits_text text d ≡ true → ha
 unfolding fits_text has_parts
 form_so text d e =
     elim (or_cases (passes (is_castling_text text) d.castles) (passes (λ r. parts_fit r d) (parts_at (unmarked text))) e) [
-      | inl h ↦ let c = castled (is_castling_text text) d.castles h in castling_has text c.0 c.2
+      | inl h ↦ let c = passing (is_castling_text text) d.castles h in castling_has text c.0 c.2
       | inr h ↦
-          let of = of_parts (λ r. parts_fit r d) (parts_at (unmarked text)) h in
+          let of = passing (λ r. parts_fit r d) (parts_at (unmarked text)) h in
           let is = denoted-parts (unmarked text) of.0 of.1 in
           parts_have text of.0 is.0 is.1 (fit_form of.0 d of.2)
     ]
@@ -321,7 +321,7 @@ shape_so text e =
         | inr g ↦ castling_shape text QueenSide g
       ]
       | inr h ↦
-          let of = of_parts is_form (parts_at (unmarked text)) h in
+          let of = passing is_form (parts_at (unmarked text)) h in
           let is = denoted-parts (unmarked text) of.0 of.1 in
           parts_shape text of.0 is.0 is.1 of.2
     ]

@@ -14,7 +14,8 @@ use Rattle.chess_base.specs.MoveList.{moves}
 use Rattle.chess_base.specs.Squares.{file, rank}
 use Rattle.chess_text.specs.declared.parts.Parts.{Parts}
 use Rattle.chess_text.specs.declared.parts.Promotion.{Promotion}
-use Rattle.chess_text.specs.Parts.{is_mark, unmarked, when, kind_text, file_text, rank_text}
+use Rattle.chess_base.specs.Options.{list_if}
+use Rattle.chess_text.specs.Parts.{is_mark, unmarked, kind_text, file_text, rank_text}
 use Rattle.chess_text.specs.ties.Fitting.{promotion_letter, promotion_text, end_text, parts_text}
 use Rattle.chess_text.specs.San.{castling_text, check_mark}
 use Rattle.chess_text.proofs.Marks.{unmarked-solid, unmarked-marked}
@@ -64,7 +65,7 @@ solid_end s None h = record { front = (97 + file s) ∷ []; last = 49 + rank s; 
 solid_end s (Some p) h =
     solid-append (square_text s) (promotion_text p)
     (record {
-      front = when p.equals (61 ∷ []);
+      front = list_if p.equals (61 ∷ []);
       last = promotion_letter p;
       split = refl;
       plain = letter_no_mark p.small p.kind;
@@ -76,14 +77,14 @@ bare_parts q h =
     (solid-append (optional kind_text q.letter) _
     (solid-append (optional file_text q.file) _
     (solid-append (optional rank_text q.rank) _
-    (solid-append (when q.takes (120 ∷ [])) (end_text q.end) (solid_end q.end.to q.end.promotion h)))))
+    (solid-append (list_if q.takes (120 ∷ [])) (end_text q.end) (solid_end q.end.to q.end.promotion h)))))
 
 pub bare_castling : (w : CastlingSide) → unmarked (castling_text w) ≡ castling_text w
 bare_castling KingSide = unmarked-solid (79 ∷ 45 ∷ []) 79 refl
 bare_castling QueenSide = unmarked-solid (79 ∷ 45 ∷ 79 ∷ 45 ∷ []) 79 refl
 
 marked_by : (text : List ℕ) (a b : Bool) → unmarked text ≡ text
-    → unmarked (text ++ when a (if b then 35 ∷ [] else 43 ∷ [])) ≡ text
+    → unmarked (text ++ list_if a (if b then 35 ∷ [] else 43 ∷ [])) ≡ text
 marked_by text false b e = ap unmarked (append-nil text) ∙ e
 marked_by text true true e = unmarked-marked text 35 refl ∙ e
 marked_by text true false e = unmarked-marked text 43 refl ∙ e

@@ -12,7 +12,8 @@ use Rattle.chess_base.proofs.shared.Choices.{chosen}
 use Rattle.chess_text.specs.declared.form.Form.TheVariants.{Piece}
 use Rattle.chess_text.specs.declared.parts.Parts.{Parts}
 use Rattle.chess_text.specs.laws.Laws.{HasLetter, AreParts}
-use Rattle.chess_text.specs.Parts.{is_mark, unmarked, when, kind_text, file_text}
+use Rattle.chess_base.specs.Options.{list_if}
+use Rattle.chess_text.specs.Parts.{is_mark, unmarked, kind_text, file_text}
 use Rattle.chess_text.specs.ties.Fitting.{parts_text, is_form}
 use Rattle.chess_text.specs.ties.Forms.{castling_named, form_of_parts, form_at, form_of, one_kind}
 use Rattle.chess_text.specs.ties.Reader.{kind_from, lettered_kinds, parts_at}
@@ -58,12 +59,13 @@ kind_told (Some Pawn) file takes f r h = absurd h
 -- a square is named, after these parts
 to_square : (letter : Option Kind) (file : Option ℕ) (takes : Bool) (f r : ℕ) → names_square f r ≡ true
     → IfSome letter HasLetter → IfSome file (λ n. n < 8) → is_form (parts_to letter file takes f r) ≡ true
-    → IsUsual (optional kind_text letter ++ (optional file_text file ++ (when takes (120 ∷ []) ++ (f ∷ r ∷ []))))
+    → IsUsual (optional kind_text letter ++ (optional file_text file ++ (list_if takes (120 ∷ []) ++ (f ∷ r ∷ []))))
     (parts_to letter file takes f r)
 to_square letter file takes f r square lettered named form =
     let end = denoted-end (f ∷ r ∷ []) (record { to = 8 * (r - 49) + (f - 97); promotion = None }) (rw square refl) in
     record {
-      text_is = ap (λ xs. optional kind_text letter ++ (optional file_text file ++ (when takes (120 ∷ []) ++ xs))) end.0;
+      text_is = ap
+          (λ xs. optional kind_text letter ++ (optional file_text file ++ (list_if takes (120 ∷ []) ++ xs))) end.0;
       are_parts = record { letter_is = lettered; file_is = named; rank_is = tt; to_is = end.1; promotion_is = tt };
       form_is = form;
       kind_is = kind_told letter file takes f r lettered;
@@ -72,19 +74,19 @@ to_square letter file takes f r square lettered named form =
 -- the same, after a piece's letter
 lettered_square : (c : ℕ) (file : Option ℕ) (takes : Bool) (f r : ℕ) (q : Parts) → names_square f r ≡ true
     → lettered_to c file takes f r ≡ Some q → IfSome file (λ n. n < 8)
-    → IsUsual (c ∷ (optional file_text file ++ (when takes (120 ∷ []) ++ (f ∷ r ∷ [])))) q
+    → IsUsual (c ∷ (optional file_text file ++ (list_if takes (120 ∷ []) ++ (f ∷ r ∷ [])))) q
 unfolding is_form
 lettered_square c file takes f r q square e named = by_kind (kind_from lettered_kinds c) refl e
   where
     by_kind : (o : Option Kind) → kind_from lettered_kinds c ≡ o
         → option_map (λ k. parts_to (Some k) file takes f r) o ≡ Some q
-        → IsUsual (c ∷ (optional file_text file ++ (when takes (120 ∷ []) ++ (f ∷ r ∷ [])))) q
+        → IsUsual (c ∷ (optional file_text file ++ (list_if takes (120 ∷ []) ++ (f ∷ r ∷ [])))) q
     by_kind None is h = absurd cc
     by_kind (Some k) is h =
         let letter = found lettered_kinds c k is in
         let same : parts_to (Some k) file takes f r ≡ q = cc in
-        subst (IsUsual (c ∷ (optional file_text file ++ (when takes (120 ∷ []) ++ (f ∷ r ∷ []))))) same
-        (subst (λ d. IsUsual (d ∷ (optional file_text file ++ (when takes (120 ∷ []) ++ (f ∷ r ∷ []))))
+        subst (IsUsual (c ∷ (optional file_text file ++ (list_if takes (120 ∷ []) ++ (f ∷ r ∷ []))))) same
+        (subst (λ d. IsUsual (d ∷ (optional file_text file ++ (list_if takes (120 ∷ []) ++ (f ∷ r ∷ []))))
         (parts_to (Some k) file takes f r)) letter (to_square (Some k) file takes f r square
         (lettered_is k (ap (kind_from lettered_kinds) letter ∙ is)) named refl))
 

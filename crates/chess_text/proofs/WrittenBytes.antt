@@ -17,7 +17,8 @@ use Rattle.chess_base.specs.Squares.{file, rank}
 use Rattle.chess_text.specs.declared.parts.Parts.{Parts}
 use Rattle.chess_text.specs.declared.parts.Promotion.{Promotion}
 use Rattle.chess_text.specs.laws.Laws.{is_san_byte, begins_with_letter, AreParts}
-use Rattle.chess_text.specs.Parts.{when, kind_text, file_text, rank_text}
+use Rattle.chess_base.specs.Options.{list_if}
+use Rattle.chess_text.specs.Parts.{kind_text, file_text, rank_text}
 use Rattle.chess_text.specs.ties.Fitting.{promotion_letter, promotion_text, parts_text}
 use Rattle.chess_text.specs.San.{castling_text, check_mark}
 
@@ -92,11 +93,11 @@ rank_bytes : (o : Option ℕ) → IfSome o (λ r. r < 8) → AreBytes (optional 
 rank_bytes None h = refl
 rank_bytes (Some r) h = one-byte (49 + r) (digit_byte r h)
 
-takes_bytes : (b : Bool) → AreBytes (when b (120 ∷ []))
+takes_bytes : (b : Bool) → AreBytes (list_if b (120 ∷ []))
 takes_bytes true = refl
 takes_bytes false = refl
 
-equals_bytes : (b : Bool) → AreBytes (when b (61 ∷ []))
+equals_bytes : (b : Bool) → AreBytes (list_if b (61 ∷ []))
 equals_bytes true = refl
 equals_bytes false = refl
 
@@ -116,7 +117,7 @@ letter_bytes false Pawn = refl
 
 promotion_bytes : (o : Option Promotion) → AreBytes (optional promotion_text o)
 promotion_bytes None = refl
-promotion_bytes (Some p) = bytes-append (when p.equals (61 ∷ [])) (promotion_letter p ∷ []) (equals_bytes p.equals)
+promotion_bytes (Some p) = bytes-append (list_if p.equals (61 ∷ [])) (promotion_letter p ∷ []) (equals_bytes p.equals)
     (letter_bytes p.small p.kind)
 
 square_bytes : (s : ℕ) → s < 64 → AreBytes (square_text s)
@@ -130,7 +131,7 @@ parts_bytes q h =
     bytes-append (optional kind_text q.letter) _ (kind_bytes q.letter)
     (bytes-append (optional file_text q.file) _ (file_bytes q.file h.file_is)
     (bytes-append (optional rank_text q.rank) _ (rank_bytes q.rank h.rank_is)
-    (bytes-append (when q.takes (120 ∷ [])) _ (takes_bytes q.takes)
+    (bytes-append (list_if q.takes (120 ∷ [])) _ (takes_bytes q.takes)
     (bytes-append (square_text q.end.to) (optional promotion_text q.end.promotion) (square_bytes q.end.to h.to_is)
     (promotion_bytes q.end.promotion)))))
 
@@ -161,7 +162,7 @@ with_mark text mark few all h k =
     }
 
 marked_by : (text : List ℕ) (a b : Bool) → IsWord text → AreBytes text
-    → Word (text ++ when a (if b then 35 ∷ [] else 43 ∷ []))
+    → Word (text ++ list_if a (if b then 35 ∷ [] else 43 ∷ []))
 marked_by text false b h k = with_mark text [] (omega arith) refl h k
 marked_by text true true h k = with_mark text (35 ∷ []) (omega arith) refl h k
 marked_by text true false h k = with_mark text (43 ∷ []) (omega arith) refl h k

@@ -1,5 +1,5 @@
 -- Texts of moves, piece by piece, and the marks at their end.
-use Rattle.std.specs.Prelude.{ℕ, ◌+◌, ◌-◌, ◌==◌, Bool, ◌||◌, if◌then◌else◌, List, [], ◌∷◌, length, take, flat_map}
+use Rattle.std.specs.Prelude.{ℕ, ◌+◌, ◌-◌, ◌==◌, Bool, ◌||◌, List, [], ◌∷◌, length, take, flat_map}
 use Rattle.std.specs.List.{suffix_len}
 use Rattle.chess_base.specs.declared.man.Kind.{Kind}
 use Rattle.chess_base.specs.Letters.{byte, white_letter}
@@ -11,10 +11,6 @@ is_mark c = (c == byte "+") || (c == byte "#") || (c == byte "!") || (c == byte 
 -- a text without the run of marks at its end: Qh4 for Qh4#
 unfoldable pub unmarked : List ℕ → List ℕ
 unmarked text = take (length text - suffix_len is_mark text) text
-
--- the text if b is true, else the empty text
-abbrev pub when : Bool → List ℕ → List ℕ
-when b text = if b then text else []
 
 -- the capital letter of a kind of piece, as text
 abbrev pub kind_text : Kind → List ℕ

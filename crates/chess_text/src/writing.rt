@@ -9,7 +9,7 @@ ghost use Rattle.chess_base.specs.MoveList.{moves};
 ghost use Rattle.chess_base.specs.Moves.{is_legal, after};
 ghost use Rattle.chess_moves.specs.Made.{WasMade};
 ghost use Rattle.chess_moves.specs.Sets.{members};
-ghost use Rattle.chess_text.specs.Parts.{when};
+ghost use Rattle.chess_base.specs.Options.{list_if};
 ghost use Rattle.chess_text.specs.ties.Fitting.{parts_text};
 ghost use Rattle.chess_text.specs.San.{castling_text, rival_starts, unmarked_san, check_mark, san};
 ghost use Rattle.chess_text.specs.ties.Forms.{promotes_as_a_pawn};
@@ -93,7 +93,7 @@ fn rival_starts<B: Board>(board: &B, d: &Described) -> SquareSet
 // Appends a byte to the text if `is_written`, else nothing.
 fn push_if(text: &mut SanText, is_written: bool, byte: u8)
     requires room { array_vec_len text.old < 7 }
-    ensures text { text.new.items ≡ text.old.items ++ when is_written (byte ∷ []) }
+    ensures text { text.new.items ≡ text.old.items ++ list_if is_written (byte ∷ []) }
     ensures len { array_vec_len text.new ≤ array_vec_len text.old + 1 }
 {
     if is_written {

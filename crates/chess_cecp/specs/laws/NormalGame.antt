@@ -57,15 +57,15 @@ normal_current s = normal_last s.start s.moves
 -- ---- repetition
 
 -- the en passant square of the position `p`, if some legal move captures there; for normal chess alone
-unfoldable pub normal_live_target : Setup → Option ℕ
-normal_live_target p = if list_any (λ m. is_en_passant p m) (normal_moves p) then p.target else None
+unfoldable pub normal_legal_en_passant_square : Setup → Option ℕ
+normal_legal_en_passant_square p = if list_any (λ m. is_en_passant p m) (normal_moves p) then p.target else None
 
 -- whether two positions are the same (Laws, article 9.2.3): side to move, pieces, rights to castle, en passant capture;
 -- for normal chess alone
 unfoldable pub normal_same : Setup → Setup → Bool
 normal_same p q =
     same_colour p.side q.side && same_men p.men q.men && same_rights p.rights q.rights
-    && same_square (normal_live_target p) (normal_live_target q)
+    && same_square (normal_legal_en_passant_square p) (normal_legal_en_passant_square q)
 
 -- how often the position after the moves `ms` occurred in the game from `start` on, itself included; for normal chess
 -- alone

@@ -10,7 +10,7 @@ use Rattle.chess_base.specs.declared.setup.Setup.{Setup}
 use Rattle.chess_base.specs.Men.{Men}
 use Rattle.chess_moves.specs.Made.{WasMade}
 use Rattle.chess_game.specs.Line.{position_after}
-use Rattle.chess_game.specs.Same.{live_target}
+use Rattle.chess_game.specs.Same.{legal_en_passant_square}
 use Rattle.chess_game.specs.Ends.{verdict}
 use Rattle.chess_game.specs.declared.repetition.Hashed.{Hashed}
 use Rattle.chess_game.specs.declared.game.PlayedMove.{PlayedMove}
@@ -20,10 +20,10 @@ use Rattle.chess_game.specs.declared.game.TheConstants.{MOST_MOVES}
 abbrev pub moves_of : List PlayedMove → List Move
 moves_of played_moves = map (λ x. x.made) played_moves
 
--- the live target that is kept with a position (its en passant target, if a legal move captures on it) is that of the
+-- the legal en passant square that is kept with a position (its target, if a legal move captures on it) is that of the
 -- position
 abbrev pub IsKnown : Hashed → Type 0
-IsKnown k = k.live_target ≡ live_target k.position
+IsKnown k = k.legal_en_passant_square ≡ legal_en_passant_square k.position
 
 -- the type of a definition of position hashes: a number from pieces, side on move and castling rights
 abbrev pub Hashing : Type 0

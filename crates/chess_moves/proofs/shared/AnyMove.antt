@@ -112,10 +112,7 @@ between p t to w a all =
     (by_one (is_legal p (move_of a to None)) (t (move_of a to None)))
   where
     by_one : (x y : Bool) → ((x && y) || false) ≡ (y && x)
-    by_one true true = refl
-    by_one true false = refl
-    by_one false true = refl
-    by_one false false = refl
+    by_one x y = grind arith
 
 none_elsewhere : (p : Setup) (t : Move → Bool) (to w a b : ℕ) → AllFound p t to w → b ≢ to
     → list_any (found p t) (map (move_of a b) promotions) ≡ false

@@ -1,5 +1,5 @@
 -- For boards: what follows from a move that was made for the position before it.
-use Rattle.std.proofs.Common.{◌≡◌, ℕ, ◌<◌, length, arith, IsTrue}
+use Rattle.std.proofs.Common.{◌≡◌, ℕ, ◌<◌, arith, IsTrue}
 use Rattle.chess_base.specs.declared.man.Colour.{Colour}
 use Rattle.chess_base.specs.declared.man.Colour.TheVariants.{White, Black}
 use Rattle.chess_base.specs.declared.man.Move.{Move}
@@ -37,6 +37,3 @@ captured_in_board q m s h at =
     let at' = rw h.1.saved at at in
     let there = at_target p m.to h.1.sound.target at' in
     rw (h.1.left, other-other) (one_rank_back_in_board p.side m.to there.0)
-
-pub IsMade-board : (q : Setup) (m : Move) (s : Saved) → IsMade q m s → length q.men ≡ 64
-IsMade-board q m s h = (WasMade-sound h.0 m s q h.1).board

@@ -14,7 +14,7 @@ use Rattle.chess_text.specs.declared.described.Described.{Described}
 use Rattle.chess_text.specs.declared.reading.Reading.{Reading}
 use Rattle.chess_text.specs.declared.reading.Reading.TheVariants.{NotAMove}
 use Rattle.chess_text.specs.Moves.{captures, passes, shape, denotes_described, one_of, reading}
-use Rattle.chess_text.specs.Parts.{when}
+use Rattle.chess_base.specs.Options.{list_if}
 use Rattle.chess_text.specs.San.{unmarked_san, san, shown_move}
 
 -- all legal moves of position p, rising by start square, end square and promotion
@@ -61,7 +61,7 @@ normal_rival_starts p d = map (λ m. m.from) (filter (λ m. normal_is_rival p d 
 -- the mark for the position p that a move leads to: `#` for mate, `+` for check, else nothing
 unfoldable pub normal_check_mark : Setup → List ℕ
 normal_check_mark p =
-    when (is_in_check p.men p.side) (if length (normal_moves p) == 0 then codes "#" else codes "+")
+    list_if (is_in_check p.men p.side) (if length (normal_moves p) == 0 then codes "#" else codes "+")
 
 -- the SAN of legal move m in position p of normal chess, with `+` or `#` at its end if it gives check or mate
 unfoldable pub normal_san : Setup → Move → List ℕ

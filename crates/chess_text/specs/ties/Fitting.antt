@@ -12,7 +12,8 @@ use Rattle.chess_text.specs.declared.described.Described.{Described}
 use Rattle.chess_text.specs.declared.parts.End.{End}
 use Rattle.chess_text.specs.declared.parts.Parts.{Parts}
 use Rattle.chess_text.specs.declared.parts.Promotion.{Promotion}
-use Rattle.chess_text.specs.Parts.{unmarked, when, kind_text, file_text, rank_text}
+use Rattle.chess_base.specs.Options.{list_if}
+use Rattle.chess_text.specs.Parts.{unmarked, kind_text, file_text, rank_text}
 use Rattle.chess_text.specs.Moves.{is_castling_text, passes}
 use Rattle.chess_text.specs.ties.Reader.{parts_at}
 
@@ -24,7 +25,7 @@ promotion_letter p = if p.small then white_letter p.kind + 32 else white_letter 
 
 -- a promotion as text: the letter of what the pawn becomes, after `=` if it is written with that: =Q, Q or q
 abbrev pub promotion_text : Promotion → List ℕ
-promotion_text p = when p.equals (byte "=" ∷ []) ++ promotion_letter p ∷ []
+promotion_text p = list_if p.equals (byte "=" ∷ []) ++ promotion_letter p ∷ []
 
 -- the end of a move's text: the end square, and the promotion if there is one: e8=Q
 abbrev pub end_text : End → List ℕ
@@ -33,7 +34,7 @@ end_text e = square_text e.to ++ optional promotion_text e.promotion
 -- the text of the parts that are there, in the order letter, file, rank, `x`, end square, promotion: Ng1xf3, e8=Q
 abbrev pub parts_text : Parts → List ℕ
 parts_text q = optional kind_text q.letter
-    ++ (optional file_text q.file ++ (optional rank_text q.rank ++ (when q.takes (byte "x" ∷ []) ++ end_text q.end)))
+    ++ (optional file_text q.file ++ (optional rank_text q.rank ++ (list_if q.takes (byte "x" ∷ []) ++ end_text q.end)))
 
 -- ---- the forms
 
