@@ -1,5 +1,6 @@
 -- Who attacks a square, seen from that square.
-use Rattle.std.proofs.Common.{◌≡◌, ℕ, zero, suc, ◌<◌, Bool, true, false, not, ◌&&◌, ◌||◌, ◌==◌, refl, ◌∙◌, ap, arith, Option, Some, None, is_none}
+use Rattle.chess_base.proofs.shared.Squares.{each_square_same, some_square_same}
+use Rattle.std.proofs.Common.{◌≡◌, ℕ, ◌<◌, Bool, true, false, not, ◌&&◌, ◌||◌, ◌==◌, refl, ◌∙◌, ap, arith, Option, Some, None, is_none}
 use Rattle.std.proofs.lemmas.Bool.{eqb-true}
 use Rattle.std.proofs.lemmas.Bool.Decides.{nat_tests}
 use Rattle.std.specs.Int.{abs_diff}
@@ -8,7 +9,7 @@ use Rattle.chess_base.specs.declared.man.Colour.TheVariants.{White, Black}
 use Rattle.chess_base.specs.declared.man.Kind.{Kind}
 use Rattle.chess_base.specs.declared.man.Kind.TheVariants.{King, Queen, Rook, Bishop, Knight, Pawn}
 use Rattle.chess_base.specs.declared.man.Man.{Man}
-use Rattle.chess_base.specs.Squares.{file, rank, is_strictly_between, share_rank_or_file, share_diagonal, is_between, is_between_on_file, is_between_on_rank, is_between_on_diagonal, each_below, each_square, some_below, some_square}
+use Rattle.chess_base.specs.Squares.{file, rank, is_strictly_between, share_rank_or_file, share_diagonal, is_between, is_between_on_file, is_between_on_rank, is_between_on_diagonal, some_square}
 use Rattle.chess_base.specs.Men.{Men, man_at, other, same_colour, same_kind, is_of, is_man}
 use Rattle.chess_base.specs.Attacks.{is_clear, could_capture, attacks, is_attacked}
 use Rattle.chess_base.specs.shared.Splits.{could_capture_as}
@@ -36,14 +37,6 @@ pub on_diagonals : (a b : ℕ) (o : Bool)
 on_diagonals a b true = grind (arith, nat_tests)
 on_diagonals a b false = grind (arith, nat_tests)
 
-pub each_below_same : (n : ℕ) (p q : ℕ → Bool) → ((k : ℕ) → k < n → p k ≡ q k) → each_below n p ≡ each_below n q
-each_below_same zero p q h = refl
-each_below_same (suc n) p q h = rw (each_below_same n p q (λ k l. h k (omega arith)), h n (omega arith)) refl
-
-pub each_square_same : (p q : ℕ → Bool) → ((k : ℕ) → k < 64 → p k ≡ q k) → each_square p ≡ each_square q
-unfolding each_square
-each_square_same p q h = each_below_same 64 p q h
-
 pub gap_back : (m n : ℕ) → abs_diff m n ≡ abs_diff n m
 gap_back m n = omega arith
 
@@ -54,10 +47,7 @@ inside_back : (m n x : ℕ) → is_strictly_between m n x ≡ is_strictly_betwee
 inside_back m n x = grind (arith, nat_tests)
 
 swap_first : (p q r : Bool) → (p && q && r) ≡ (q && p && r)
-swap_first true true r = refl
-swap_first true false r = refl
-swap_first false true r = refl
-swap_first false false r = refl
+swap_first p q r = grind arith
 
 back_on_file : (a b x : ℕ) → is_between_on_file a b x ≡ is_between_on_file b a x
 unfolding is_between_on_file
@@ -84,9 +74,7 @@ unfolding is_between
 between_back a b x = rw (back_on_file a b x, back_on_rank a b x, back_on_diagonal a b x) refl
 
 pub de_morgan : (p q : Bool) → not (p && not q) ≡ (not p || q)
-de_morgan true true = refl
-de_morgan true false = refl
-de_morgan false q = refl
+de_morgan p q = grind arith
 
 -- what is clear on the board is open in the set of its pieces, seen from the other end
 pub open_is_clear : (w : ℕ) (men : Men) (a b : ℕ) → IsOccupied w men → is_open w b a ≡ is_clear men a b
@@ -174,14 +162,6 @@ attackers_are men c a b None = seen_kind men c a b false King
 attackers_are men c a b (Some x) = seen_kind men c a b (same_colour c x.colour) x.kind
     ∙ own_reach men c x.colour x.kind a b
 
-some_below_same : (n : ℕ) (p q : ℕ → Bool) → ((k : ℕ) → k < n → p k ≡ q k) → some_below n p ≡ some_below n q
-some_below_same zero p q h = refl
-some_below_same (suc n) p q h = rw (some_below_same n p q (λ k l. h k (omega arith)), h n (omega arith)) refl
-
-pub some_square_same : (p q : ℕ → Bool) → ((k : ℕ) → k < 64 → p k ≡ q k) → some_square p ≡ some_square q
-unfolding some_square
-some_square_same p q h = some_below_same 64 p q h
-
 -- a square is attacked where its set of attackers is not empty
 pub attacked_is : (w : ℕ) (men : Men) (b : ℕ) (c : Colour)
     → ((k : ℕ) → k < 64 → contains w k ≡ (is_of c (man_at men k) && attacks men k b))
@@ -194,9 +174,3 @@ attacked_is w men b c h =
 -- where a set is empty, no piece is met
 pub none_there : (w k : ℕ) → (w == 0) ≡ true → contains w k ≡ false
 none_there w k e = let empty : w ≡ 0 = eqb-true w 0 e in rw empty (has_zero k)
-
-pub none_met : (a s o m : Bool) → ((a && s) && m) ≡ false → ((a && s && o) && m) ≡ false
-none_met true true true m h = h
-none_met true true false m h = refl
-none_met true false o m h = refl
-none_met false s o m h = refl

@@ -1,4 +1,5 @@
 -- The squares between two squares of one line.
+use Rattle.chess_base.proofs.shared.Squares.{each_square_same}
 use Rattle.std.proofs.Common.{◌≡◌, ℕ, zero, suc, ◌+◌, ◌*◌, ◌/◌, ◌%◌, ◌<◌, ◌≤◌, inl, inr, Bool, true, false, not, ◌&&◌, ◌||◌, refl, sym, ap, ◌∙◌, arith, List, length, get_or, set, get_or-set_same, get_or-set_other}
 use Rattle.std.proofs.lemmas.Bool.Decides.{nat_tests}
 use Rattle.std.proofs.lemmas.Bool.{cases_Bool, cases_eq, or_cases}
@@ -7,7 +8,7 @@ use Rattle.chess_base.specs.declared.line.Line.{Line}
 use Rattle.chess_base.specs.declared.line.Line.TheVariants.{Rank, File, Diagonal, Antidiagonal}
 use Rattle.chess_base.specs.shared.Lines.{line_number, same_line}
 use Rattle.chess_bits.specs.ties.Rays.{is_on_ray, is_open}
-use Rattle.chess_bits.proofs.Attackers.{each_square_same, eq_back}
+use Rattle.chess_bits.proofs.Attackers.{eq_back}
 use Rattle.chess_bits.proofs.Geometry.{between_on_line, share_diagonal_is}
 use Rattle.chess_moves.specs.Sets.{contains}
 
@@ -22,58 +23,15 @@ one_line l a b k low =
       | inr apart ↦ rw apart (grind (arith, nat_tests, apart))
     ]
 
--- the test of one line among those of four
-abbrev pub of_line : Bool → Bool → Bool → Bool → Line → Bool
-of_line r f d a Rank = r
-of_line r f d a File = f
-of_line r f d a Diagonal = d
-of_line r f d a Antidiagonal = a
+some_holds : (r f d a t : Bool) → (r || f || d || a) ≡ true → (((r && t) || (f && t)) || ((d && t) || (a && t))) ≡ t
+some_holds r f d a t h = grind (arith, h)
 
-some_holds : (r f d a t : Bool) (l : Line) → of_line r f d a l ≡ true
-    → (((r && t) || (f && t)) || ((d && t) || (a && t))) ≡ t
-some_holds r f d a false l e = none r f d a
-  where
-    none : (r f d a : Bool) → (((r && false) || (f && false)) || ((d && false) || (a && false))) ≡ false
-    none true true true true = refl
-    none true true true false = refl
-    none true true false true = refl
-    none true true false false = refl
-    none true false true true = refl
-    none true false true false = refl
-    none true false false true = refl
-    none true false false false = refl
-    none false true true true = refl
-    none false true true false = refl
-    none false true false true = refl
-    none false true false false = refl
-    none false false true true = refl
-    none false false true false = refl
-    none false false false true = refl
-    none false false false false = refl
-some_holds r f d a true Rank e = rw e refl
-some_holds r f d a true File e = rw e (last (r && true))
-  where
-    last : (x : Bool) → ((x || true) || ((d && true) || (a && true))) ≡ true
-    last true = refl
-    last false = refl
-some_holds r f d a true Diagonal e = rw e (last ((r && true) || (f && true)))
-  where
-    last : (x : Bool) → (x || (true || (a && true))) ≡ true
-    last true = refl
-    last false = refl
-some_holds r f d a true Antidiagonal e = rw e (last ((r && true) || (f && true)) (d && true))
-  where
-    last : (x y : Bool) → (x || (y || true)) ≡ true
-    last true y = refl
-    last false true = refl
-    last false false = refl
-
-same_on : (l : Line) (a b : ℕ) → same_line l a b ≡ true
-    → of_line (same_line Rank a b) (same_line File a b) (same_line Diagonal a b) (same_line Antidiagonal a b) l ≡ true
-same_on Rank a b e = e
-same_on File a b e = e
-same_on Diagonal a b e = e
-same_on Antidiagonal a b e = e
+some_line : (l : Line) (a b : ℕ) → same_line l a b ≡ true
+    → (same_line Rank a b || same_line File a b || same_line Diagonal a b || same_line Antidiagonal a b) ≡ true
+some_line Rank a b e = grind (arith, e)
+some_line File a b e = grind (arith, e)
+some_line Diagonal a b e = grind (arith, e)
+some_line Antidiagonal a b e = grind (arith, e)
 
 -- the four kinds of lines together
 pub on_some_line : (l : Line) (a b k : ℕ) → a ≤ b → same_line l a b ≡ true
@@ -84,7 +42,7 @@ pub on_some_line : (l : Line) (a b k : ℕ) → a ≤ b → same_line l a b ≡ 
 on_some_line l a b k low same =
     rw (one_line Rank a b k low, one_line File a b k low, one_line Diagonal a b k low, one_line Antidiagonal a b k low)
     (some_holds (same_line Rank a b) (same_line File a b) (same_line Diagonal a b) (same_line Antidiagonal a b)
-    (is_between a b k) l (same_on l a b same))
+    (is_between a b k) (some_line l a b same))
 
 -- ---- the table
 
@@ -111,14 +69,13 @@ paired_more sets i v x y inside ex ey made before l a b k la lb low same lk =
 -- ---- open lines
 
 neither : (x y : Bool) → not (x || y) ≡ (not x && not y)
-neither true y = refl
-neither false y = refl
+neither x y = grind arith
 
 none_below : (n : ℕ) (p : ℕ → Bool) → not (some_below n p) ≡ each_below n (λ k. not (p k))
 none_below zero p = refl
 none_below (suc n) p = neither (some_below n p) (p n) ∙ ap (λ t. t && not (p n)) (none_below n p)
 
-none_square : (p : ℕ → Bool) → not (some_square p) ≡ each_square (λ k. not (p k))
+pub none_square : (p : ℕ → Bool) → not (some_square p) ≡ each_square (λ k. not (p k))
 unfolding some_square each_square
 none_square p = none_below 64 p
 
@@ -157,17 +114,4 @@ open_between w a b u v t la lb on made met none =
 
 -- a set of squares on lines of one is those that are seen from there
 pub seen_on : (n s m o t : Bool) → t ≡ (((n && s) && m) && o) → t ≡ ((n && s && o) && m)
-seen_on n s true o t e = e ∙ joined n s o
-  where
-    joined : (x y z : Bool) → (((x && y) && true) && z) ≡ ((x && y && z) && true)
-    joined true true true = refl
-    joined true true false = refl
-    joined true false z = refl
-    joined false y z = refl
-seen_on n s false o t e = e ∙ joined n s o
-  where
-    joined : (x y z : Bool) → (((x && y) && false) && z) ≡ ((x && y && z) && false)
-    joined true true true = refl
-    joined true true false = refl
-    joined true false z = refl
-    joined false y z = refl
+seen_on n s m o t e = grind (arith, e)

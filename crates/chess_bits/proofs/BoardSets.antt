@@ -9,7 +9,7 @@ use Rattle.chess_base.specs.declared.man.Man.{Man}
 use Rattle.chess_base.specs.Men.{Men, man_at, is_of, is_man, other, kind_number}
 use Rattle.chess_moves.specs.Sets.{contains}
 use Rattle.std.proofs.lemmas.List.{set-get_or}
-use Rattle.chess_base.proofs.shared.Men.{is_man-none}
+use Rattle.chess_base.proofs.shared.Men.{is_man-none, is_of-none}
 use Rattle.chess_bits.specs.ties.KindSets.{IsKinds}
 
 -- the sets of a colour none of whose pieces came or went
@@ -73,10 +73,6 @@ unfolding is_of
 own_of White m e = rw e refl
 own_of Black m e = rw e refl
 
-none_of : (c : Colour) → is_of c None ≡ false
-unfolding is_of
-none_of c = refl
-
 pub as_own : (d : Colour) (m : Man) → m.colour ≡ d → Some m ≡ Some (record { colour = d; kind = m.kind })
 as_own d m e = ap (λ (c : Colour). let man : Man = record { colour = c; kind = m.kind } in Some man) e
 
@@ -94,12 +90,12 @@ theirs_put sets men d s m all ls e at h = kinds_kept sets men (other d) s (Some 
 pub all_theirs_lifted : (w : ℕ) (men : Men) (d : Colour) (s : ℕ) (m : Man) → length men ≡ 64 → s < 64 → m.colour ≡ d
     → man_at men s ≡ Some m → IsAll w (other d) men → IsAll w (other d) (set men s None)
 all_theirs_lifted w men d s m all ls e at h =
-    all_kept w men (other d) s None all ls (ap (is_of (other d)) at ∙ theirs_of d m e ∙ sym (none_of (other d))) h
+    all_kept w men (other d) s None all ls (ap (is_of (other d)) at ∙ theirs_of d m e ∙ sym (is_of-none (other d) None refl)) h
 
 pub all_theirs_put : (w : ℕ) (men : Men) (d : Colour) (s : ℕ) (m : Man) → length men ≡ 64 → s < 64 → m.colour ≡ d
     → man_at men s ≡ None → IsAll w (other d) men → IsAll w (other d) (set men s (Some m))
 all_theirs_put w men d s m all ls e at h = all_kept w men (other d) s (Some m) all ls
-    (ap (is_of (other d)) at ∙ none_of (other d) ∙ sym (theirs_of d m e)) h
+    (ap (is_of (other d)) at ∙ is_of-none (other d) None refl ∙ sym (theirs_of d m e)) h
 
 -- ---- one square
 

@@ -4,7 +4,6 @@ use Rattle.std.proofs.Common.{◌≡◌, ℕ, ◌<◌, inl, inr, Bool, true, fal
 use Rattle.std.specs.Option.{is_some}
 use Rattle.std.proofs.lemmas.Bool.{and_parts, and_from, and_left, and_right, cases_Bool, eq-eqb, eqb-true, not-true, or_parts}
 use Rattle.chess_base.specs.declared.castling.Castle.{Castle}
-use Rattle.chess_base.specs.declared.man.CastlingSide.TheVariants.{KingSide, QueenSide}
 use Rattle.chess_base.specs.declared.man.Colour.{Colour}
 use Rattle.chess_base.specs.declared.man.Kind.{Kind}
 use Rattle.chess_base.specs.declared.man.Kind.TheVariants.{King, Queen, Rook, Bishop, Knight, Pawn}
@@ -25,7 +24,7 @@ use Rattle.chess_bits.specs.ties.Changes.{StepsPlainly}
 use Rattle.chess_bits.specs.ties.Goes.{goes, legal_or, IsOfficer}
 use Rattle.chess_bits.proofs.OriginsOf.{back, officer_attacks}
 use Rattle.chess_bits.proofs.Patterns.{fits_low, not_fitting, not_promoting, officer_goes, pattern_by, pawn_goes}
-use Rattle.chess_bits.proofs.TargetsOf.{man_told, no_king_says, none_castles, steps_of_man}
+use Rattle.chess_bits.proofs.TargetsOf.{man_told, steps_of_man, no_king_castles}
 
 -- a piece other than a pawn has the pattern of a move where it moves or castles
 pub man_pattern : (p : Setup) (kind : Kind) (a b : ℕ) → is_man p.side kind (man_at p.men a) ≡ true
@@ -46,8 +45,7 @@ officer_pattern p kind a b h low high =
     let parts = or_parts (same_kind King kind) (same_kind Pawn kind) h.officer in
     let off : is_man p.side King (man_at p.men a) ≡ false =
     is_man-kind p.side p.side kind King (man_at p.men a) parts.0 h.man in
-    let none : castle_of p (move_of a b None) ≡ None = none_castles p (move_of a b None)
-    (no_king_says p (move_of a b None) KingSide off) (no_king_says p (move_of a b None) QueenSide off) in
+    let none : castle_of p (move_of a b None) ≡ None = no_king_castles p (move_of a b None) off in
     sym (steps_of_man p a b _ at refl)
     ∙ sym (ap (castles_or_moves p (move_of a b None)) none)
     ∙ man_pattern p kind a b h.man parts.1 low high
@@ -189,14 +187,6 @@ pawn_left Bishop h g = cc
 pawn_left Knight h g = cc
 
 -- ---- the king
-
-pub king_from_same : (kind : Kind) → same_kind King kind ≡ true → kind ≡ King
-king_from_same King h = refl
-king_from_same Queen h = cc
-king_from_same Rook h = cc
-king_from_same Bishop h = cc
-king_from_same Knight h = cc
-king_from_same Pawn h = cc
 
 -- where the king has no step to a square it goes there by castling alone
 pub king_otherwise : (p : Setup) (a b : ℕ) → is_man p.side King (man_at p.men a) ≡ true → a < 64 → b < 64

@@ -1,4 +1,5 @@
 -- Castling in normal chess: where its right is available, the king is at home.
+use Rattle.chess_base.proofs.shared.Kings.{one_king_of}
 use Rattle.std.proofs.Common.{◌≡◌, ℕ, ◌<◌, true, false, ◌&&◌, ◌==◌, Option, Some, None, refl, sym, ap, ◌∙◌}
 use Rattle.std.proofs.lemmas.Bool.{and_parts, and_from, and_right, eqb-true, eq-eqb}
 use Rattle.chess_base.specs.declared.man.CastlingSide.{CastlingSide}
@@ -17,7 +18,7 @@ use Rattle.chess_base.specs.Sound.{IsSound}
 use Rattle.chess_base.proofs.shared.Castling.{right_is_sound_of, placed_for_right}
 use Rattle.chess_base.specs.declared.man.Variant.{Variant}
 use Rattle.chess_bits.specs.ties.Goes.{castling_end}
-use Rattle.chess_bits.proofs.OneKing.{alone, has_king}
+use Rattle.chess_bits.proofs.OneKing.{alone}
 
 stands : (p : Setup) (w : CastlingSide) (rook : ℕ) → IsSound p → p.variant ≡ Normal
     → right_of p.rights p.side w ≡ Some rook → are_placed_for_castling Normal p.men p.side w rook ≡ true
@@ -38,7 +39,7 @@ at_home p w a rook sound normal right king low =
     let home = (and_parts (rook == home_square p.side (rook_file w))
     (is_man p.side King (man_at p.men (home_square p.side king_home_file))) there.0).1 in
     eqb-true a (home_square p.side king_home_file)
-    (sym (alone p.men p.side (home_square p.side king_home_file) sound.board (has_king p p.side sound) home a low)
+    (sym (alone p.men p.side (home_square p.side king_home_file) sound.board (one_king_of p sound p.side) home a low)
     ∙ king)
 
 -- the end square of one side doesn't name castling to the other

@@ -1,6 +1,7 @@
 -- Castling by sets: its squares are on one rank, and its ways are sets.
+use Rattle.chess_base.proofs.shared.Squares.{each_square_same}
 use mathlib.Core.Bool.{and-true}
-use Rattle.std.proofs.Common.{◌≡◌, ℕ, zero, suc, ◌<◌, Bool, true, false, not, ◌&&◌, ◌||◌, ◌==◌, Option, Some, None, is_none, refl, sym, ap, subst, ◌∙◌, arith}
+use Rattle.std.proofs.Common.{◌≡◌, ℕ, ◌<◌, Bool, true, false, not, ◌&&◌, ◌||◌, ◌==◌, Option, Some, None, is_none, refl, sym, ap, subst, ◌∙◌, arith}
 use Rattle.std.proofs.lemmas.Bool.{and_parts, eqb-true}
 use Rattle.chess_base.specs.declared.castling.Castle.{Castle}
 use Rattle.chess_base.specs.declared.man.CastlingSide.{CastlingSide}
@@ -19,7 +20,7 @@ use Rattle.chess_base.specs.MoveList.{move_of}
 use Rattle.chess_base.specs.Moves.{is_pseudo_legal, is_legal, promotion_fits, arriving_man, second_square_emptied, steps_of}
 use Rattle.chess_base.specs.shared.Splits.{castles_or_moves}
 use Rattle.chess_base.specs.Sound.{IsSound}
-use Rattle.chess_base.specs.Squares.{rank, each_below, some_below, each_square, some_square}
+use Rattle.chess_base.specs.Squares.{rank, each_square, some_square}
 use Rattle.chess_base.proofs.shared.Castling.{right_is_sound_of, placed_for_right, says_from_castling, castling_says, castle_there, no_castle}
 use Rattle.chess_base.proofs.shared.Changes.{no_en_passant}
 use Rattle.chess_base.proofs.shared.Men.{in_board, is_man-kind}
@@ -27,7 +28,7 @@ use Rattle.chess_moves.specs.Promoting.{would_promote}
 use Rattle.chess_bits.specs.ties.Goes.{goes}
 use Rattle.chess_bits.proofs.Patterns.{pattern_by, officer_goes, not_promoting}
 use Rattle.chess_bits.proofs.TargetsOf.{man_told}
-use Rattle.chess_bits.proofs.Attackers.{each_below_same}
+use Rattle.chess_bits.proofs.BetweenSquares.{none_square}
 
 -- ---- the squares of a castling are on one rank
 
@@ -101,30 +102,11 @@ on_rank p m k sound e = on_rank_by p m k sound e (castling p m) refl
 
 -- ---- each square
 
-each_not_below : (n : ℕ) (p q : ℕ → Bool) → ((k : ℕ) → k < n → p k ≡ not (q k)) → each_below n p ≡ not (some_below n q)
-each_not_below zero p q h = refl
-each_not_below (suc n) p q h = rw (each_not_below n p q (λ k l. h k (omega arith)), h n (omega arith))
-    (by (some_below n q) (q n))
-  where
-    by : (x y : Bool) → (not x && not y) ≡ not (x || y)
-    by true y = refl
-    by false y = refl
-
 pub each_not : (p q : ℕ → Bool) → ((k : ℕ) → k < 64 → p k ≡ not (q k)) → each_square p ≡ not (some_square q)
-unfolding each_square some_square
-each_not p q h = each_not_below 64 p q h
+each_not p q h = each_square_same p (λ k. not (q k)) h ∙ sym (none_square q)
 
 crossed : (x y z u v : Bool) → (not ((x || y) && not z && not u) || v) ≡ not ((((x || y) && not z) && not u) && not v)
-crossed x y z u true = by (((x || y) && not z) && not u)
-  where
-    by : (t : Bool) → (not t || true) ≡ not (t && false)
-    by true = refl
-    by false = refl
-crossed x y z u false = by (((x || y) && not z) && not u)
-  where
-    by : (t : Bool) → (not t || false) ≡ not (t && true)
-    by true = refl
-    by false = refl
+crossed x y z u v = grind arith
 
 -- no piece is met on the ways
 pub way_is_empty : (men : Men) (k : Castle) (met : ℕ → Bool)
@@ -142,8 +124,8 @@ way_is_empty men k met h =
 pub way_is_safe : (men : Men) (c : Colour) (k : Castle) (way : ℕ → Bool)
     → ((x : ℕ) → x < 64 → way x ≡ is_on_way k.king_from k.king_to x)
     → each_square (λ x. not (way x) || not (is_attacked men x (other c))) ≡ castling_way_is_safe men c k
-unfolding each_square castling_way_is_safe
-way_is_safe men c k way h = each_below_same 64 _ _
+unfolding castling_way_is_safe
+way_is_safe men c k way h = each_square_same _ _
     (λ x low. ap (λ t. not t || not (is_attacked men x (other c))) (h x low))
 
 -- ---- the pattern of castling

@@ -33,16 +33,6 @@ one_counted p a b e = sym (ap length (one_between p a b e) ∙ by (is_legal p (m
     by true = refl
     by false = refl
 
--- the moves of the next piece are counted with those before
-pub count_fits : (p : Setup) (n : ℕ) (ms : List ℕ) (s : ℕ) (ns : List ℕ) → IsSound p → ms ≡ s ∷ ns
-    → n + length (flat_map (λ a. moves_from p a) ms) ≡ length (moves p)
-    → n + length (moves_from p s) ≤ 896
-count_fits p n ms s ns sound e h =
-    let fits = moves_fit p sound in
-    let parts = length-append (moves_from p s) (flat_map (λ a. moves_from p a) ns) in
-    let all : n + length (flat_map (λ a. moves_from p a) (s ∷ ns)) ≡ length (moves p) = rw e at h in
-    omega (arith, fits, parts, all)
-
 -- before the first
 pub none_counted : {m n : ℕ} → m ≡ n → 0 + m ≡ n
 none_counted e = omega (arith, e)

@@ -4,7 +4,6 @@ use Rattle.std.proofs.lemmas.List.{length-map}
 use Rattle.std.proofs.lemmas.Bool.{and_parts, and_from, false_from_ne_true, and_right, or_cases, or_parts, eqb-true, eq-eqb, ne_eqb, both_ways, cases_Bool, and_left}
 use Rattle.chess_base.specs.declared.man.Colour.{Colour}
 use Rattle.chess_base.specs.declared.man.Colour.TheVariants.{White, Black}
-use Rattle.chess_base.specs.declared.man.CastlingSide.TheVariants.{KingSide, QueenSide}
 use Rattle.chess_base.specs.declared.man.Kind.{Kind}
 use Rattle.chess_base.specs.declared.man.Kind.TheVariants.{King, Queen, Rook, Bishop, Knight, Pawn}
 use Rattle.chess_base.specs.declared.man.Man.{Man}
@@ -34,7 +33,7 @@ use Rattle.chess_bits.proofs.OriginsOf.{off_lowest}
 use Rattle.chess_bits.proofs.Patterns.{pawn_goes}
 use Rattle.chess_bits.proofs.Quiet.{IsPlain, lands_same, stays_safe}
 use Rattle.chess_bits.proofs.Reached.{pawn_from}
-use Rattle.chess_bits.proofs.TargetsOf.{man_told, no_king_says, none_castles}
+use Rattle.chess_bits.proofs.TargetsOf.{man_told, no_king_castles}
 
 -- ---- the king stays safe
 
@@ -48,8 +47,7 @@ free_is_legal p a b king sound free low there one go stays no_passing =
     let pattern : is_pseudo_legal p m ≡ true = pattern_of p a b None go (rw stays refl) in
     let here : is_man p.side King (man_at p.men king) ≡ true = one king there ∙ eq-eqb king king refl in
     let no_king : is_man p.side King (man_at p.men a) ≡ false = one a low ∙ free.apart king there here in
-    let no_castle : castle_of p m ≡ None = none_castles p m (no_king_says p m KingSide no_king)
-    (no_king_says p m QueenSide no_king) in
+    let no_castle : castle_of p m ≡ None = no_king_castles p m no_king in
     let plain : IsPlain p m = record {
       also = rw (no_passing, no_castle) refl;
       rook = rw no_castle refl;

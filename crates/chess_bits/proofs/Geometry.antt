@@ -3,13 +3,10 @@ use Rattle.std.proofs.Common.{◌≡◌, ℕ, ◌<◌, ◌*◌, ◌+◌, nat_lt,
 use Rattle.std.proofs.lemmas.Bool.Decides.{nat_tests}
 use Rattle.std.proofs.lemmas.Bool.{cases_order}
 use Rattle.std.specs.Int.{abs_diff}
-use Rattle.chess_base.specs.Squares.{file, rank, is_strictly_between, share_rank_or_file, share_diagonal, is_between, is_between_on_file, is_between_on_rank, is_between_on_diagonal}
+use Rattle.chess_base.specs.Squares.{file, rank, is_strictly_between, share_diagonal, is_between, is_between_on_file, is_between_on_rank, is_between_on_diagonal}
 use Rattle.chess_base.specs.declared.line.Line.{Line}
 use Rattle.chess_base.specs.declared.line.Line.TheVariants.{Rank, File, Diagonal, Antidiagonal}
 use Rattle.chess_base.specs.shared.Lines.{same_line}
-
-pub share_rank_or_file_is : (a b : ℕ) → share_rank_or_file a b ≡ (same_line File a b || same_line Rank a b)
-share_rank_or_file_is a b = refl
 
 pub share_diagonal_is : (a b : ℕ) → a < 64 → b < 64
     → share_diagonal a b ≡ (same_line Diagonal a b || same_line Antidiagonal a b)

@@ -1,7 +1,7 @@
 -- The moves of free pieces of a kind, counted together.
-use Rattle.std.proofs.Common.{◌≡◌, ℕ, zero, suc, ◌+◌, ◌<◌, ◌≤◌, inl, inr, Bool, true, false, Some, not, ◌&&◌, ◌||◌, ◌==◌, List, ◌∷◌, length, length-append, refl, sym, ap, ◌∙◌, arith}
+use Rattle.std.proofs.Common.{◌≡◌, ℕ, zero, suc, ◌+◌, ◌<◌, ◌≤◌, inl, inr, Bool, true, false, not, ◌&&◌, ◌||◌, ◌==◌, List, length, length-append, refl, ap, ◌∙◌, arith}
 use Rattle.std.specs.List.{filter, flat_map, range_with_len}
-use Rattle.std.proofs.lemmas.Bool.{and_parts, and_right, or_parts, cases_Bool}
+use Rattle.std.proofs.lemmas.Bool.{or_parts, cases_Bool}
 use Rattle.chess_base.specs.declared.man.Kind.{Kind}
 use Rattle.chess_base.specs.declared.man.Kind.TheVariants.{King, Pawn}
 use Rattle.chess_base.specs.declared.setup.Setup.{Setup}
@@ -9,10 +9,10 @@ use Rattle.chess_base.specs.Attacks.{could_capture}
 use Rattle.chess_base.specs.Men.{man_at, is_of, is_man, same_kind}
 use Rattle.chess_base.specs.MoveList.{squares}
 use Rattle.chess_base.specs.Sound.{IsSound}
-use Rattle.chess_base.proofs.shared.Men.{is_of-from_is_man}
+use Rattle.chess_base.proofs.shared.Men.{is_of-from_is_man, is_man-kind}
 use Rattle.chess_moves.specs.shared.MovesBySquares.{moves_from}
 use Rattle.chess_moves.specs.Sets.{contains, members}
-use Rattle.chess_bits.specs.ties.Goes.{man_goes, IsFree, AreFree}
+use Rattle.chess_bits.specs.ties.Goes.{man_goes, IsFree}
 use Rattle.chess_bits.proofs.Freely.{no_pawn_ordinary, free_counted}
 use Rattle.chess_bits.proofs.TargetsOf.{man_told, officer_is, man_set_sound, man_set_complete}
 
@@ -55,38 +55,7 @@ unfolding members squares
 split g w c u v hu hv = split_range g (λ k. contains w k) (λ k. contains c k) (λ k. contains u k) (λ k. contains v k) 64 0 (omega arith)
     (λ k l. hu k) hv
 
--- the pieces chosen are free, and of the kind
-pub chosen_free : (p : Setup) (kind : Kind) (sets : List ℕ) (free chosen w taken kinds : ℕ)
-    → ((k : ℕ) → k < 64 → contains free k ≡ true → IsFree p k)
-    → ((k : ℕ) → k < 64 → contains kinds k ≡ is_man p.side kind (man_at p.men k))
-    → ((k : ℕ) → contains chosen k ≡ (contains kinds k && contains free k)) → ((k : ℕ) → contains taken k ≡ (contains w k && contains chosen k))
-    → AreFree p kind taken
-chosen_free p kind sets free chosen w taken kinds are of_kind both some = λ k low h.
-    let two = and_parts (contains kinds k) (contains free k)
-    (sym (both k) ∙ (and_parts (contains w k) (contains chosen k) (sym (some k) ∙ h)).1) in
-    (sym (of_kind k low) ∙ two.0, are k low two.1)
-
--- what is left in the sum is no more than all
-pub count_next : {A : Type 0} (g : ℕ → List A) (n whole : ℕ) (ms : List ℕ) (s : ℕ) (ns : List ℕ) → ms ≡ s ∷ ns
-    → n + length (flat_map g ms) ≡ whole
-    → (n + length (g s)) + length (flat_map g ns) ≡ whole
-count_next g n whole ms s ns e h =
-    let parts = length-append (g s) (flat_map g ns) in
-    let all : n + length (flat_map g (s ∷ ns)) ≡ whole = rw e at h in
-    omega (arith, parts, all)
-
-pub count_bound : {A : Type 0} (g : ℕ → List A) (n whole : ℕ) (ms : List ℕ) (s : ℕ) (ns : List ℕ) → ms ≡ s ∷ ns
-    → n + length (flat_map g ms) ≡ whole → n + length (g s) ≤ whole
-count_bound g n whole ms s ns e h =
-    let next = count_next g n whole ms s ns e h in
-    omega (arith, next)
-
 -- ---- the moves of one
-
-other_kind : (p : Setup) (a : ℕ) (kind other : Kind) → man_at p.men a ≡ Some (record { colour = p.side; kind = kind })
-    → same_kind other kind ≡ false → is_man p.side other (man_at p.men a) ≡ false
-unfolding is_man
-other_kind p a kind other at off = rw (at, off) (and_right _ false refl)
 
 pub officer_counted : (p : Setup) (a king w : ℕ) (kind : Kind) → IsSound p → IsFree p a
     → is_man p.side kind (man_at p.men a) ≡ true → (same_kind King kind || same_kind Pawn kind) ≡ false → a < 64
@@ -98,7 +67,7 @@ officer_counted p a king w kind sound free man kinds low there one set =
     let at = man_told p.side kind (man_at p.men a) man in
     let neither = or_parts (same_kind King kind) (same_kind Pawn kind) kinds in
     let own = is_of-from_is_man p.side kind (man_at p.men a) man in
-    let no_pawn = other_kind p a kind Pawn at neither.1 in
+    let no_pawn = is_man-kind p.side p.side kind Pawn (man_at p.men a) neither.1 man in
     let goes_so : (k : ℕ) → k < 64 → contains w k ≡ man_goes p a k = λ k l. set k l ∙ officer_is p a k _ at own neither.0 in
     free_counted p a king w sound free (no_pawn_ordinary p a no_pawn) low there one
     (man_set_sound p a w own no_pawn low goes_so) (man_set_complete p a w own no_pawn low goes_so)

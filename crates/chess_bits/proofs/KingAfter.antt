@@ -1,4 +1,6 @@
 -- The square of the king of the side on move after a move, and when it is attacked there.
+use Rattle.chess_base.proofs.shared.Kings.{one_king_of}
+use Rattle.chess_base.proofs.shared.Men.{is_man-none}
 use Rattle.std.proofs.Common.{◌≡◌, ℕ, ◌<◌, inl, inr, Bool, true, false, not, ◌||◌, ◌==◌, cond, count_by, Option, Some, None, is_none, refl, ap, ◌∙◌, arith}
 use Rattle.std.proofs.lemmas.Bool.{cases_Bool, eqb-true}
 use Rattle.chess_base.specs.declared.man.Colour.{Colour}
@@ -19,7 +21,7 @@ use Rattle.chess_base.proofs.shared.MenAfter.{man_after, man_at-men_after, lengt
 use Rattle.chess_base.proofs.shared.MoveKinds.{moves_from_pattern}
 use Rattle.chess_bits.proofs.AfterSets.{check_is}
 use Rattle.chess_bits.proofs.BoardSets.{theirs_of}
-use Rattle.chess_bits.proofs.OneKing.{none_counted, alone, has_king}
+use Rattle.chess_bits.proofs.OneKing.{none_counted, alone}
 
 -- ---- the mover arrives
 
@@ -48,15 +50,11 @@ unfolding is_man
 rook_is_no_king White = refl
 rook_is_no_king Black = refl
 
-no_king_here : (c : Colour) → is_man c King None ≡ false
-unfolding is_man
-no_king_here c = refl
-
 king_only : (t r l : Bool) (a o : Option Man) (c : Colour) → is_man c King a ≡ false → is_man c King o ≡ false
     → is_man c King (cond t a (cond r (Some (record { colour = c; kind = Rook })) (cond l None o))) ≡ false
 king_only true r l a o c h g = h
 king_only false true l a o c h g = rook_is_no_king c
-king_only false false true a o c h g = no_king_here c
+king_only false false true a o c h g = is_man-none c King None refl
 king_only false false false a o c h g = g
 
 -- no king comes to another square
@@ -72,7 +70,7 @@ elsewhere p m k mover none low =
 
 one_after : (p : Setup) (m : Move) → IsSound p → is_pseudo_legal p m ≡ true → has_one_king (men_after p m) p.side ≡ true
 one_after p m sound pattern = one_king_after p m p.side sound.board (change_of p m sound pattern)
-    (has_king p p.side sound)
+    (one_king_of p sound p.side)
 
 -- a king that does not move stays
 pub king_stays : (p : Setup) (m : Move) (king : ℕ) → IsSound p → is_pseudo_legal p m ≡ true

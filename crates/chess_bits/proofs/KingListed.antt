@@ -1,6 +1,6 @@
 -- The king's legal moves, listed.
 use mathlib.Core.Bool.{or-false}
-use Rattle.std.proofs.Common.{◌≡◌, ℕ, ◌<◌, inl, inr, Bool, true, false, ◌&&◌, ◌||◌, Option, Some, None, cond, [], ◌∷◌, length, map, refl, sym, ap, ◌∙◌}
+use Rattle.std.proofs.Common.{◌≡◌, ℕ, ◌<◌, inl, inr, Bool, true, false, ◌&&◌, ◌||◌, Option, Some, None, cond, [], ◌∷◌, length, map, refl, sym, ap, ◌∙◌, arith}
 use Rattle.std.proofs.lemmas.List.{length-map}
 use Rattle.std.proofs.lemmas.Bool.{cases_Bool}
 use Rattle.chess_base.specs.declared.castling.Castle.{Castle}
@@ -35,11 +35,7 @@ steps_or_castles p a b end step king low high ends steps =
     either : (o : Option Castle) (t : Bool) → t ≡ is_legal p (move_of a b None)
         → (legal_or p (move_of a b None) o false || (true && t)) ≡ t
     either None t e = refl
-    either (Some castle) t e = rw (← e) (same t)
-      where
-        same : (s : Bool) → (s || s) ≡ s
-        same true = refl
-        same false = refl
+    either (Some castle) t e = rw (← e) (grind arith)
 
 king_stays_king : (p : Setup) (a b : ℕ) → is_man p.side King (man_at p.men a) ≡ true → would_promote p a b ≡ false
 king_stays_king p a b king = not_promoting p a b _ (man_told p.side King (man_at p.men a) king) refl

@@ -1,4 +1,5 @@
 -- Where a king steps, and when it is safe there.
+use Rattle.chess_base.proofs.shared.Squares.{each_square_same, some_square_same}
 use Rattle.std.proofs.Common.{◌≡◌, ℕ, ◌<◌, inl, inr, Bool, true, false, not, ◌&&◌, ◌==◌, Option, Some, None, refl, sym, ap, ◌∙◌, arith}
 use Rattle.std.proofs.lemmas.Bool.{and_parts, and_right, both_ways, cases_Bool, eqb-true, eq-eqb, false_from_ne_true}
 use Rattle.std.proofs.lemmas.Bool.Decides.{nat_tests}
@@ -23,10 +24,10 @@ use Rattle.chess_base.specs.Moves.{is_pseudo_legal, is_legal, is_en_passant, man
 use Rattle.chess_base.specs.Sound.{IsSound}
 use Rattle.chess_base.specs.Squares.{file, rank, is_between, is_between_on_file, is_between_on_rank, is_between_on_diagonal}
 use Rattle.chess_base.proofs.shared.Castling.{right_is_sound_of, castling_rook_is_there}
-use Rattle.chess_base.proofs.shared.Men.{is_of-from_is_man}
+use Rattle.chess_base.proofs.shared.Men.{is_of-from_is_man, is_man-kind}
 use Rattle.chess_moves.specs.Promoting.{would_promote}
 use Rattle.chess_bits.specs.ties.Goes.{goes, legal_or, lifted}
-use Rattle.chess_bits.proofs.Attackers.{each_square_same, some_square_same, eq_back}
+use Rattle.chess_bits.proofs.Attackers.{eq_back}
 use Rattle.chess_bits.proofs.KingAfter.{mover_some, mover_own, king_lands, check_after, legal_is}
 use Rattle.chess_bits.proofs.Lifted.{lifted_at}
 use Rattle.chess_bits.proofs.Listed.{pattern_of}
@@ -160,11 +161,6 @@ step_no_castling p a b sound king moves =
 
 -- ---- a step is legal where the square isn't attacked once the king has left his own
 
-no_pawn_there : (p : Setup) (a : ℕ) (x : Man) → man_at p.men a ≡ Some x → x.kind ≡ King
-    → is_man p.side Pawn (man_at p.men a) ≡ false
-unfolding is_man
-no_pawn_there p a x at king = rw (at, king) (and_right _ false refl)
-
 pub step_is : (p : Setup) (a b : ℕ) → IsSound p → is_man p.side King (man_at p.men a) ≡ true
     → man_moves p (move_of a b None) ≡ true → a < 64 → b < 64
     → not (is_attacked (lifted p.men a) b (other p.side)) ≡ is_legal p (move_of a b None)
@@ -181,7 +177,7 @@ step_is p a b sound king moves low high =
     let there : is_man p.side King (man_at (men_after p m) b) ≡ true =
     king_lands p m b (sym lands) high (ap (λ o. is_man p.side King o) (lands_same (man_at p.men a)) ∙ king) in
     let no_passing : is_en_passant p m ≡ false =
-    not_passing p m (rw (no_pawn_there p a _ at refl) refl) in
+    not_passing p m (rw (is_man-kind p.side p.side King Pawn (man_at p.men a) refl king) refl) in
     let plain : IsPlain p m = record {
       also = rw (no_passing, none) refl;
       rook = rw none refl;

@@ -22,7 +22,6 @@ mod CastlingBySets
 mod Freely
 mod Lifted
 mod KingSteps
-mod AnyMember
 mod Starts
 mod ByKind
 mod Shields

@@ -1,5 +1,6 @@
 -- The pieces, but for one.
-use Rattle.std.proofs.Common.{◌≡◌, ℕ, ◌<◌, inl, inr, Bool, true, false, not, ◌&&◌, ◌==◌, cond, List, Option, Some, None, is_none, length, get_or-set_same, get_or-set_other, refl, sym, ap, ◌∙◌, arith}
+use mathlib.Core.Bool.{and-false, and-true}
+use Rattle.std.proofs.Common.{◌≡◌, ℕ, ◌<◌, inl, inr, Bool, true, false, not, ◌&&◌, ◌==◌, cond, List, Option, None, is_none, length, get_or-set_same, get_or-set_other, refl, sym, ap, ◌∙◌, arith}
 use Rattle.std.proofs.lemmas.Bool.{cases_eq, eq-eqb, ne_eqb}
 use Rattle.chess_base.specs.declared.man.Colour.{Colour}
 use Rattle.chess_base.specs.declared.man.Man.{Man}
@@ -47,7 +48,5 @@ lifted_occupied w v men a all low stood h = record {
 }
   where
     by : (t : Bool) (o : Option Man) → (not (is_none o) && not t) ≡ not (is_none (cond t None o))
-    by true None = refl
-    by true (Some x) = refl
-    by false None = refl
-    by false (Some x) = refl
+    by true o = and-false (not (is_none o))
+    by false o = and-true (not (is_none o))

@@ -1,9 +1,7 @@
 -- The list of legal moves, over the members of sets.
-use Rattle.std.proofs.Common.{◌≡◌, ℕ, zero, suc, ◌+◌, ◌<◌, ◌≤◌, inl, inr, Bool, true, false, Option, Some, None, List, [], ◌∷◌, ◌++◌, length, map, take, cond, refl, sym, ap, subst, ◌∙◌, arith, append_assoc, append-nil, length-append, nat_lt}
+use Rattle.std.proofs.Common.{◌≡◌, ℕ, zero, suc, ◌+◌, ◌<◌, ◌≤◌, inl, inr, Bool, true, false, Option, Some, None, List, [], ◌∷◌, ◌++◌, length, map, take, cond, refl, sym, ap, subst, ◌∙◌, arith, length-append}
 use Rattle.std.specs.List.{filter, flat_map, range_with_len}
 use Rattle.std.proofs.lemmas.Bool.{cases_Bool, and_from, false_from_ne_true, both_ways}
-use Rattle.std.proofs.lemmas.Bool.Decides.{nat_tests}
-use Rattle.std.proofs.lemmas.Grind.{common_steps}
 use Rattle.chess_base.specs.declared.man.Kind.{Kind}
 use Rattle.chess_base.specs.declared.man.Kind.TheVariants.{Queen, Rook, Bishop, Knight}
 use Rattle.chess_base.specs.declared.man.Move.{Move}
@@ -44,20 +42,7 @@ each_member w P h = each_filter (λ k. contains w k) P 64 0 (omega arith) h
 pub each_first : (P : ℕ → Type 0) (ms : List ℕ) (s : ℕ) (ns : List ℕ) → ms ≡ s ∷ ns → Each P ms → P s
 each_first P ms s ns e h = (subst (Each P) e h).0
 
-pub each_rest : (P : ℕ → Type 0) (ms : List ℕ) (s : ℕ) (ns : List ℕ) → ms ≡ s ∷ ns → Each P ms → Each P ns
-each_rest P ms s ns e h = (subst (Each P) e h).1
-
 -- ---- what is gathered and what is left
-
--- one member more
-pub gathered : {A : Type 0} (g : ℕ → List A) (now next whole : List A) (ms : List ℕ) (s : ℕ) (ns : List ℕ) → ms ≡ s ∷ ns
-    → now ++ flat_map g ms ≡ whole → next ≡ now ++ g s → next ++ flat_map g ns ≡ whole
-gathered g now next whole ms s ns e h n = rw n (append_assoc now (g s) (flat_map g ns) ∙ (rw e at h))
-
--- no member is left
-pub all_gathered : {A : Type 0} (g : ℕ → List A) (now whole : List A) (ms : List ℕ) → ms ≡ []
-    → now ++ flat_map g ms ≡ whole → now ≡ whole
-all_gathered g now whole ms e h = sym (append-nil now) ∙ (rw e at h)
 
 -- where each gives one, these are all
 pub all_ones : {A : Type 0} (g : ℕ → List A) (f : ℕ → A) (ms : List ℕ) → Each (λ b. g b ≡ f b ∷ []) ms
@@ -155,31 +140,6 @@ from_men p w own = flat_map_members (λ a. moves_from p a) w (λ a low out. none
     ∙ sym (moves-by_start p)
 
 -- ---- whether there is one
-
-positive : (n : ℕ) → 0 < n → true ≡ nat_lt 0 n
-positive n h = grind (arith, common_steps)
-
-pub some_found : {A : Type 0} (g : ℕ → List A) (whole : List A) (ms : List ℕ) (s : ℕ) (ns : List ℕ) → ms ≡ s ∷ ns
-    → flat_map g ms ≡ whole → nat_lt 0 (length (g s)) ≡ true → true ≡ nat_lt 0 (length whole)
-some_found g whole ms s ns e h some =
-    let long : length (g s) + length (flat_map g ns) ≡ length whole = sym (length-append (g s) (flat_map g ns))
-    ∙ ap length (rw e at h) in
-    let more : 0 < length (g s) = grind (arith, nat_tests, some) in
-    positive (length whole) (omega (arith, long, more))
-
-empty_list : {A : Type 0} (xs : List A) → length xs ≡ 0 → xs ≡ []
-empty_list [] h = refl
-empty_list (x ∷ xs) h = absurd (omega (arith, h))
-
-pub none_yet : {A : Type 0} (g : ℕ → List A) (whole : List A) (ms : List ℕ) (s : ℕ) (ns : List ℕ) → ms ≡ s ∷ ns
-    → flat_map g ms ≡ whole → nat_lt 0 (length (g s)) ≡ false → flat_map g ns ≡ whole
-none_yet g whole ms s ns e h none =
-    let empty : g s ≡ [] = empty_list (g s) (grind (arith, nat_tests, none)) in
-    ap (λ xs. xs ++ flat_map g ns) (sym empty) ∙ (rw e at h)
-
-pub none_at_all : {A : Type 0} (g : ℕ → List A) (whole : List A) (ms : List ℕ) → ms ≡ [] → flat_map g ms ≡ whole
-    → false ≡ nat_lt 0 (length whole)
-none_at_all g whole ms e h = let none : [] ≡ whole = rw e at h in rw (← none) refl
 
 pub fits_from : (p : Setup) (now : List Move) (ms : List ℕ) (s : ℕ) (ns : List ℕ) → IsSound p → ms ≡ s ∷ ns
     → now ++ flat_map (λ a. moves_from p a) ms ≡ moves p → length now + length (moves_from p s) ≤ 896

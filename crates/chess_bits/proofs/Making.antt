@@ -1,7 +1,7 @@
 -- Moves made by cheaper means than their definitions give.
 use mathlib.Core.Bool.{and-false}
 use Rattle.std.proofs.Common.{◌≡◌, ◌≢◌, ℕ, true, false, not, ◌&&◌, Bool, length, set, refl, sym, ap, ◌∙◌, ◌||◌, ◌==◌, Option, Some, None, is_none, if◌then◌else◌}
-use Rattle.std.proofs.lemmas.Bool.{and_parts, and_left, and_right, both_ways, ne_eqb, not-true}
+use Rattle.std.proofs.lemmas.Bool.{and_parts, and_left, and_right, both_ways, ne_eqb, not-true, or_parts}
 use Rattle.std.proofs.lemmas.List.{set_comm}
 use Rattle.std.specs.Option.{is_some}
 use Rattle.chess_base.specs.declared.man.CastlingSide.{CastlingSide}
@@ -28,18 +28,15 @@ use Rattle.chess_base.specs.Moves.{after, captured_square, fullmove_after, halfm
 use Rattle.chess_base.proofs.shared.LegalMoves.{change_of}
 use Rattle.chess_base.proofs.shared.Captures.{resets_clock_is}
 use Rattle.chess_base.proofs.shared.Changes.{Change, Rest, Alone, WithCapture, WithRook}
+use Rattle.chess_base.proofs.shared.Men.{is_none-None}
 use Rattle.chess_base.proofs.shared.MoveKinds.{is_of-mover}
 use Rattle.chess_base.proofs.shared.Writes.{men_after-written}
 use Rattle.chess_bits.specs.ties.Changes.{clock_left, goes_plainly, has_no_right, is_king_or_rook, shifted, shifts, IsPlainly}
 use Rattle.chess_bits.proofs.BoardSets.{set_twice}
 use Rattle.chess_bits.proofs.Quiet.{not_passing}
-use Rattle.chess_bits.proofs.TargetsOf.{no_king_says, none_castles}
+use Rattle.chess_bits.proofs.TargetsOf.{none_castles, no_king_castles, other_man}
 
 -- ---- rights
-
-is_none_none : {A : Type 0} (o : Option A) → is_none o ≡ true → o ≡ None
-is_none_none None e = refl
-is_none_none (Some x) e = cc
 
 -- no right is there
 pub record NoRight (r : Rights) : Type 0 where
@@ -55,10 +52,10 @@ no_right r h =
     let b = and_parts (is_none r.white.king_side && is_none r.white.queen_side) (is_none r.black.king_side) a.0 in
     let c = and_parts (is_none r.white.king_side) (is_none r.white.queen_side) b.0 in
     record {
-      white_king_side = is_none_none r.white.king_side c.0;
-      white_queen_side = is_none_none r.white.queen_side c.1;
-      black_king_side = is_none_none r.black.king_side b.1;
-      black_queen_side = is_none_none r.black.queen_side a.1;
+      white_king_side = is_none-None r.white.king_side c.0;
+      white_queen_side = is_none-None r.white.queen_side c.1;
+      black_king_side = is_none-None r.black.king_side b.1;
+      black_queen_side = is_none-None r.black.queen_side a.1;
     }
 
 pub none_lost : (p : Setup) (m : Move) → has_no_right p.rights ≡ true → p.rights ≡ rights_after p m
@@ -67,22 +64,17 @@ none_lost p m h =
     let none = no_right p.rights h in
     rw (none.white_king_side, none.white_queen_side, none.black_king_side, none.black_queen_side) refl
 
-neither : (a b : Bool) → (a || b) ≡ false → (a ≡ false) × (b ≡ false)
-neither false false e = (refl, refl)
-neither false true e = cc
-neither true b e = cc
-
 no_king : (c : Colour) (o : Option Man) → is_king_or_rook o ≡ false → is_man c King o ≡ false
 unfolding is_man
 no_king c None e = refl
 no_king c (Some x) e = and_right (same_colour c x.colour) (same_kind King x.kind)
-    (neither (same_kind King x.kind) (same_kind Rook x.kind) e).0
+    (or_parts (same_kind King x.kind) (same_kind Rook x.kind) e).0
 
 no_rook : (c : Colour) (o : Option Man) → is_king_or_rook o ≡ false → is_man c Rook o ≡ false
 unfolding is_man
 no_rook c None e = refl
 no_rook c (Some x) e = and_right (same_colour c x.colour) (same_kind Rook x.kind)
-    (neither (same_kind King x.kind) (same_kind Rook x.kind) e).1
+    (or_parts (same_kind King x.kind) (same_kind Rook x.kind) e).1
 
 -- the rook of a right is on its square
 rook_there : (v : Variant) (men : Men) (c : Colour) (w : CastlingSide) (s : ℕ) → are_placed_for_castling v men c w s ≡ true
@@ -115,7 +107,7 @@ rights_kept_at : (p : Setup) (m : Move) → IsSound p
     → p.rights ≡ rights_after p m
 unfolding rights_after
 rights_kept_at p m sound h =
-    let none = neither (is_king_or_rook (man_at p.men m.from)) (is_king_or_rook (man_at p.men m.to)) h in
+    let none = or_parts (is_king_or_rook (man_at p.men m.from)) (is_king_or_rook (man_at p.men m.to)) h in
     rw (
       right_kept p m White KingSide p.rights.white.king_side none.0 none.1
           (stands_at p White KingSide sound.white_king_side),
@@ -146,7 +138,7 @@ no_right_says p m w h = rw (none_of p.rights p.side w (no_right p.rights h)) (an
 no_king_plainly : (p : Setup) (m : Move) → is_man p.side King (man_at p.men m.from) ≡ false
     → (is_man p.side Pawn (man_at p.men m.from) && is_square p.target m.to) ≡ false → IsPlainly p m
 no_king_plainly p m no_king no_passing = record {
-  no_castle = none_castles p m (no_king_says p m KingSide no_king) (no_king_says p m QueenSide no_king);
+  no_castle = no_king_castles p m no_king;
   no_passing = not_passing p m no_passing;
 }
 
@@ -173,33 +165,28 @@ plainly_written p m all h =
 
 -- ---- a piece that goes from one square to another, and changes no more than that
 
-no_man : (c : Colour) (k : Kind) (o : Option Man) (x : Man) → o ≡ Some x → same_kind k x.kind ≡ false
-    → is_man c k o ≡ false
-unfolding is_man
-no_man c k o x at off = rw (at, off) (and-false _)
-
 plainly_by : (p : Setup) (m : Move) (x : Man) → man_at p.men m.from ≡ Some x → (k : Kind) → x.kind ≡ k
     → goes_plainly p m k ≡ true → IsPlainly p m
 plainly_by p m x at King e h = record {
   no_castle = none_castles p m (no_right_says p m KingSide h) (no_right_says p m QueenSide h);
   no_passing = not_passing p m
-      (and_left _ _ (no_man p.side Pawn (man_at p.men m.from) x at (ap (λ k. same_kind Pawn k) e)));
+      (and_left _ _ (other_man p.side Pawn (man_at p.men m.from) x at (ap (λ k. same_kind Pawn k) e)));
 }
 plainly_by p m x at Pawn e h = no_king_plainly p m
-    (no_man p.side King (man_at p.men m.from) x at (ap (λ k. same_kind King k) e))
+    (other_man p.side King (man_at p.men m.from) x at (ap (λ k. same_kind King k) e))
     (and_right _ _ (not-true (is_square p.target m.to) h))
 plainly_by p m x at Queen e h = officer_plainly p m
-    (no_man p.side King (man_at p.men m.from) x at (ap (λ k. same_kind King k) e))
-    (no_man p.side Pawn (man_at p.men m.from) x at (ap (λ k. same_kind Pawn k) e))
+    (other_man p.side King (man_at p.men m.from) x at (ap (λ k. same_kind King k) e))
+    (other_man p.side Pawn (man_at p.men m.from) x at (ap (λ k. same_kind Pawn k) e))
 plainly_by p m x at Rook e h = officer_plainly p m
-    (no_man p.side King (man_at p.men m.from) x at (ap (λ k. same_kind King k) e))
-    (no_man p.side Pawn (man_at p.men m.from) x at (ap (λ k. same_kind Pawn k) e))
+    (other_man p.side King (man_at p.men m.from) x at (ap (λ k. same_kind King k) e))
+    (other_man p.side Pawn (man_at p.men m.from) x at (ap (λ k. same_kind Pawn k) e))
 plainly_by p m x at Bishop e h = officer_plainly p m
-    (no_man p.side King (man_at p.men m.from) x at (ap (λ k. same_kind King k) e))
-    (no_man p.side Pawn (man_at p.men m.from) x at (ap (λ k. same_kind Pawn k) e))
+    (other_man p.side King (man_at p.men m.from) x at (ap (λ k. same_kind King k) e))
+    (other_man p.side Pawn (man_at p.men m.from) x at (ap (λ k. same_kind Pawn k) e))
 plainly_by p m x at Knight e h = officer_plainly p m
-    (no_man p.side King (man_at p.men m.from) x at (ap (λ k. same_kind King k) e))
-    (no_man p.side Pawn (man_at p.men m.from) x at (ap (λ k. same_kind Pawn k) e))
+    (other_man p.side King (man_at p.men m.from) x at (ap (λ k. same_kind King k) e))
+    (other_man p.side Pawn (man_at p.men m.from) x at (ap (λ k. same_kind Pawn k) e))
 
 pub record Shifts (p : Setup) (m : Move) (x : Man) : Type 0 where
   pub mover : man_at p.men m.from ≡ Some x
@@ -217,7 +204,7 @@ shifts_by p m x (Some y) at e = by (shifts p m y.kind) refl e
         let both = and_parts (is_none m.promotion) (goes_plainly p m y.kind) h in
         record {
           mover = at ∙ f;
-          unpromoted = is_none_none m.promotion both.0;
+          unpromoted = is_none-None m.promotion both.0;
           plainly = plainly_by p m y at y.kind refl both.1;
         }
 
@@ -284,7 +271,7 @@ saved_shifting p m x sound legal h =
 pub officer_leaves_no_target : (p : Setup) (m : Move) (x : Man) → man_at p.men m.from ≡ Some x
     → same_kind Pawn x.kind ≡ false → None ≡ target_after p m
 unfolding target_after is_double_advance
-officer_leaves_no_target p m x at off = rw (no_man p.side Pawn (man_at p.men m.from) x at off) refl
+officer_leaves_no_target p m x at off = rw (other_man p.side Pawn (man_at p.men m.from) x at off) refl
 
 pawn_is : (c : Colour) (o : Option Man) (x : Man) → o ≡ Some x → is_of c o ≡ true
     → is_man c Pawn o ≡ same_kind Pawn x.kind

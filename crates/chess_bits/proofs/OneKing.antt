@@ -4,11 +4,9 @@ use Rattle.std.proofs.lemmas.Bool.{cases_Bool, eqb-true, eq-eqb, false_from_ne_t
 use Rattle.std.proofs.lemmas.List.Sums.{sum_by-cons}
 use Rattle.chess_base.specs.declared.man.Colour.{Colour}
 use Rattle.chess_base.specs.declared.man.Kind.TheVariants.{King}
-use Rattle.chess_base.specs.declared.setup.Setup.{Setup}
 use Rattle.chess_base.specs.Men.{Men, man_at, is_man}
-use Rattle.chess_base.specs.Sound.{IsSound, has_one_king}
+use Rattle.chess_base.specs.Sound.{has_one_king}
 use Rattle.chess_base.proofs.shared.Kings.{one_king}
-use Rattle.chess_base.specs.declared.man.Colour.TheVariants.{White, Black}
 use Rattle.chess_moves.specs.Sets.{contains}
 use Rattle.chess_moves.proofs.shared.Members.{has_zero}
 
@@ -45,7 +43,3 @@ alone men c f all one here k low =
       | inl king ↦ king ∙ sym (eq-eqb k f (one_king men c k f all one king here))
       | inr other ↦ other ∙ sym (false_from_ne_true (k == f) (λ e. apart men c f k here other e))
     ]
-
-pub has_king : (p : Setup) (c : Colour) → IsSound p → has_one_king p.men c ≡ true
-has_king p White sound = sound.white_king
-has_king p Black sound = sound.black_king

@@ -1,4 +1,5 @@
 -- From where pawns go to a square, and officers: from where pieces like them would be attacked from that square.
+use Rattle.chess_base.proofs.shared.Squares.{each_square_same}
 use Rattle.std.proofs.Common.{◌≡◌, ℕ, ◌<◌, ◌≤◌, Bool, true, false, not, ◌&&◌, ◌||◌, ◌==◌, None, refl, sym, ap, ◌∙◌, arith}
 use Rattle.std.proofs.lemmas.Bool.{and_parts, and_from, not-true}
 use Rattle.std.proofs.lemmas.Bool.Decides.{nat_tests}
@@ -19,7 +20,7 @@ use Rattle.chess_base.proofs.shared.Men.{is_of-from_is_man}
 use Rattle.chess_moves.specs.Sets.{contains, HasOrigins}
 use Rattle.chess_moves.proofs.shared.Origins.{begins_below}
 use Rattle.chess_bits.specs.ties.Goes.{man_goes}
-use Rattle.chess_bits.proofs.Attackers.{each_square_same, between_back, eq_back, gap_back, diagonal_back}
+use Rattle.chess_bits.proofs.Attackers.{between_back, eq_back, gap_back, diagonal_back}
 use Rattle.chess_bits.proofs.Patterns.{man_complete, pawn_goes, legal_goes}
 use Rattle.chess_bits.proofs.Reached.{line_back}
 use Rattle.chess_bits.proofs.TargetsOf.{man_told, officer_is, ends_below}

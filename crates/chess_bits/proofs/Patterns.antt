@@ -1,6 +1,6 @@
 -- The patterns of moves, by start and end square.
 use mathlib.Core.Bool.{and-true, and-false, and_comm}
-use Rattle.std.proofs.Common.{◌≡◌, ℕ, ◌<◌, Bool, true, false, not, ◌&&◌, ◌||◌, ◌==◌, cond, Option, Some, None, refl, sym, ap, ◌∙◌, nat_lt}
+use Rattle.std.proofs.Common.{◌≡◌, ℕ, ◌<◌, Bool, true, false, not, ◌&&◌, ◌||◌, ◌==◌, cond, Option, Some, None, refl, sym, ap, ◌∙◌, nat_lt, arith}
 use Rattle.std.specs.Prelude.{if◌then◌else◌}
 use Rattle.std.proofs.lemmas.Bool.{and_parts, and_from, lt-ltb, both_ways, false_from_ne_true}
 use Rattle.chess_base.specs.declared.castling.Castle.{Castle}
@@ -11,7 +11,7 @@ use Rattle.chess_base.specs.declared.man.Move.{Move}
 use Rattle.chess_base.specs.declared.setup.Setup.{Setup}
 use Rattle.chess_base.specs.Attacks.{is_in_check}
 use Rattle.chess_base.specs.Castling.{castle_of, castles}
-use Rattle.chess_base.specs.Men.{man_at, other, same_colour, same_kind, is_man, is_of, first_rank}
+use Rattle.chess_base.specs.Men.{man_at, other, same_colour, same_kind, is_man, first_rank}
 use Rattle.chess_base.specs.MoveList.{move_of}
 use Rattle.chess_base.specs.Moves.{is_pseudo_legal, is_legal, after, moves_as, man_moves, pawn_moves, pawn_advances, pawn_captures, is_double_advance, promotion_fits}
 use Rattle.chess_base.specs.shared.Splits.{castles_or_moves}
@@ -79,8 +79,7 @@ by_man p a b k None at = refl
 by_man p a b k (Some x) at = rw at (by_kind p a b k (same_colour p.side x.colour) (same_kind Pawn x.kind))
 
 and_joined : (x y z : Bool) → (x && (y && z)) ≡ ((x && y) && z)
-and_joined true y z = refl
-and_joined false y z = refl
+and_joined x y z = grind arith
 
 pub pattern_by : (p : Setup) (a b : ℕ) (k : Option Kind)
     → is_pseudo_legal p (move_of a b k) ≡ (goes p a b && promotion_fits (would_promote p a b) k)
@@ -101,16 +100,6 @@ goes_as : (p : Setup) (a b : ℕ) (o : Option Man) → man_at p.men a ≡ o → 
     → goes p a b ≡ moves_as p (move_of a b (tried_promotion p a b)) o
 unfolding goes is_pseudo_legal
 goes_as p a b o at low high = rw (lt-ltb a 64 low, lt-ltb b 64 high, at) refl
-
--- no piece, or an enemy, goes nowhere
-pub no_man_goes : (p : Setup) (a b : ℕ) → is_of p.side (man_at p.men a) ≡ false → goes p a b ≡ false
-unfolding goes is_pseudo_legal is_of
-no_man_goes p a b h =
-    ap (λ v. (nat_lt a 64 && nat_lt b 64) && v) (by (man_at p.men a) h) ∙ and-false (nat_lt a 64 && nat_lt b 64)
-  where
-    by : (o : Option Man) → is_of p.side o ≡ false → moves_as p (move_of a b (tried_promotion p a b)) o ≡ false
-    by None e = refl
-    by (Some x) e = rw e refl
 
 moves_pawn : (p : Setup) (m : Move) (x : Man) → x.colour ≡ p.side → same_kind Pawn x.kind ≡ true
     → moves_as p m (Some x) ≡ pawn_moves p m
@@ -151,8 +140,7 @@ not_promoting p a b x at no_pawn =
     rw (at, no_pawn) (by (same_colour p.side x.colour) (rank b == first_rank (other p.side)))
   where
     by : (s t : Bool) → ((s && false) && t) ≡ false
-    by true t = refl
-    by false t = refl
+    by s t = grind arith
 
 moves_officer : (p : Setup) (m : Move) (x : Man) → x.colour ≡ p.side → same_kind Pawn x.kind ≡ false
     → moves_as p m (Some x) ≡ castles_or_moves p m (castle_of p m)

@@ -1,5 +1,5 @@
 -- From where pawns go to a square, by sets.
-use mathlib.Core.Bool.{not-not}
+use mathlib.Core.Bool.{and_comm, not-not}
 use Rattle.std.proofs.Common.{◌≡◌, ℕ, ◌<◌, ◌≤◌, inl, inr, Bool, true, false, not, ◌&&◌, ◌||◌, ◌==◌, None, is_none, refl, sym, ap, ◌∙◌, arith}
 use Rattle.std.proofs.lemmas.Bool.{and_from, and_left, and_parts, and_right, cases_Bool, eqb-true}
 use Rattle.chess_base.specs.declared.man.Colour.{Colour}
@@ -60,15 +60,10 @@ advances_are p to k one once crossed twice home all occupied high low past pawn 
     ])
   where
     same : (x y z : Bool) → (x || ((y && z) && true)) ≡ (true && (x || ((true && true && y) && z)))
-    same true y z = refl
-    same false true true = refl
-    same false true false = refl
-    same false false z = refl
+    same x y z = grind arith
 
     none : (x t y z : Bool) → (x || (t && false)) ≡ (true && (x || ((true && false && y) && z)))
-    none true t y z = refl
-    none false true y z = refl
-    none false false y z = refl
+    none x t y z = grind arith
 
 pub none_onto : (p : Setup) (to k : ℕ) → is_none (man_at p.men to) ≡ false → false ≡ pawn_advances p (move_of k to None)
 unfolding pawn_advances
@@ -76,17 +71,11 @@ none_onto p to k full = sym (and_left (is_none (man_at p.men to)) _ full)
 
 -- ---- by a capture
 
-swapped : (x y : Bool) → (x && y) ≡ (y && x)
-swapped true true = refl
-swapped true false = refl
-swapped false true = refl
-swapped false false = refl
-
 pub captures_are : (p : Setup) (k to : ℕ) → is_man p.side Pawn (man_at p.men k) ≡ true
     → ((is_of (other p.side) (man_at p.men to) || is_square p.target to) && in_shape (shape.Pawn (other p.side)) to k)
     ≡ pawn_captures p (move_of k to None)
 captures_are p k to pawn =
-    swapped (is_of (other p.side) (man_at p.men to) || is_square p.target to) (in_shape (shape.Pawn (other p.side)) to k)
+    and_comm (is_of (other p.side) (man_at p.men to) || is_square p.target to) (in_shape (shape.Pawn (other p.side)) to k)
     ∙ ap (λ t. t && (is_of (other p.side) (man_at p.men to) || is_square p.target to)) (pawn_back p.men p.side k to)
     ∙ captures_is p k to pawn
 
@@ -110,9 +99,7 @@ goes_so p k to off high low pawn =
     ∙ pawn_pattern p k to pawn low high
   where
     kept : (x w : Bool) → w ≡ false → x ≡ (x && not w)
-    kept true false e = refl
-    kept false false e = refl
-    kept x true e = cc
+    kept x w e = rw e (grind arith)
 
 -- a pawn that goes to a square off its last rank has the pattern of a move
 pub pawn_patterns : (p : Setup) (to w : ℕ) → to < 64 → (rank to == first_rank (other p.side)) ≡ false

@@ -1,5 +1,5 @@
 -- The moves of free pawns that neither promote nor take en passant, counted together: by the ways that are open to each.
-use mathlib.Core.Bool.{not-not}
+use mathlib.Core.Bool.{not-not, or-false}
 use Rattle.std.proofs.Common.{◌≡◌, ℕ, zero, suc, ◌+◌, ◌-◌, ◌/◌, ◌<◌, ◌≤◌, ◌⊎◌, inl, inr, Bool, true, false, not, ◌&&◌, ◌||◌, ◌==◌, cond, Option, Some, None, is_none, List, [], ◌∷◌, length, length-append, refl, sym, ap, ◌∙◌, arith}
 use Rattle.std.specs.List.{filter, flat_map, range_with_len}
 use Rattle.std.proofs.lemmas.Bool.{and_parts, and_from, and_right, or_cases, or_parts, or_left, or_right, cases_Bool, eqb-true, eq-eqb, ne_eqb, both_ways, false_from_ne_true, not-true}
@@ -252,20 +252,15 @@ aims_back c k t = pawn_back [] c k t ∙ sym (pawn_from [] c k t)
 -- a pawn that does not attack the target captures enemies alone
 no_target : (men : Men) (c : Colour) (o : Option ℕ) (a b : ℕ) (e : Bool) → aims_at o c a ≡ false
     → (could_capture men c Pawn a b && (e || is_square o b)) ≡ (could_capture men c Pawn a b && e)
-no_target men c None a b true off = refl
-no_target men c None a b false off = refl
+no_target men c None a b e off = ap (λ t. could_capture men c Pawn a b && t) (or-false e)
 no_target men c (Some t) a b e off =
     elim (cases_Bool (t == b)) [
       | inl same ↦
           let miss : could_capture men c Pawn a b ≡ false =
           ap (λ s. could_capture men c Pawn a s) (sym (eqb-true t b same)) ∙ sym (pawn_from men c a t) ∙ off in
           rw miss refl
-      | inr other ↦ rw other (by e)
+      | inr other ↦ rw other (ap (λ t. could_capture men c Pawn a b && t) (or-false e))
     ]
-  where
-    by : (x : Bool) → (could_capture men c Pawn a b && (x || false)) ≡ (could_capture men c Pawn a b && x)
-    by true = refl
-    by false = refl
 
 on_each : (f g x y e l r : Bool) → (x ≡ true → e ≡ l) → (y ≡ true → e ≡ r)
     → (((f && x) || (g && y)) && e) ≡ (((f && l) && x) || ((g && r) && y))

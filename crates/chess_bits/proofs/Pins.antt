@@ -1,9 +1,10 @@
 -- Where pieces may go that shield their king, or whose king is in check: on the way between the king and the piece that
 -- would attack it, or to that piece.
+use Rattle.chess_base.proofs.shared.Changes.{at_target}
+use Rattle.chess_bits.proofs.TargetsOf.{no_king_castles}
 use Rattle.std.proofs.Common.{◌≡◌, ℕ, ◌<◌, ◌⊎◌, inl, inr, Bool, true, false, not, ◌&&◌, ◌||◌, ◌==◌, cond, Option, Some, None, is_none, length, refl, sym, ap, ◌∙◌, arith}
 use Rattle.std.proofs.lemmas.Bool.Decides.{nat_tests}
-use Rattle.std.proofs.lemmas.Bool.{and_parts, and_from, and_right, or_parts, or_cases, or_left, or_right, both_ways, cases_Bool, eqb-true, eq-eqb, false_from_ne_true, not-true, not-false}
-use Rattle.chess_base.specs.declared.man.CastlingSide.TheVariants.{KingSide, QueenSide}
+use Rattle.std.proofs.lemmas.Bool.{and_parts, and_from, and_right, or_parts, or_cases, or_left, or_right, both_ways, cases_Bool, eqb-true, eq-eqb, false_from_ne_true, not-true}
 use Rattle.chess_base.specs.declared.man.Colour.{Colour}
 use Rattle.chess_base.specs.declared.man.Colour.TheVariants.{White, Black}
 use Rattle.chess_base.specs.declared.man.Kind.{Kind}
@@ -13,9 +14,9 @@ use Rattle.chess_base.specs.declared.man.Move.{Move}
 use Rattle.chess_base.specs.declared.setup.Setup.{Setup}
 use Rattle.chess_base.specs.Attacks.{is_clear, could_capture, attacks, is_attacked, is_in_check}
 use Rattle.chess_base.specs.Castling.{castle_of, castle_from, mover_end, castling_rook_to}
-use Rattle.chess_base.specs.Men.{Men, man_at, other, is_man, is_of, same_kind, same_colour, first_rank, crossed_rank, forward}
+use Rattle.chess_base.specs.Men.{Men, man_at, other, is_man, is_of, same_kind, same_colour, first_rank, crossed_rank}
 use Rattle.chess_base.specs.Moves.{is_pseudo_legal, is_legal, after, arriving_man, man_moves, men_after, second_square_emptied, promotion_fits}
-use Rattle.chess_base.specs.Sound.{IsSound, target_is_sound, target_is_sound_at}
+use Rattle.chess_base.specs.Sound.{IsSound}
 use Rattle.chess_base.specs.Squares.{file, rank, is_between, is_between_on_file, is_between_on_rank, is_between_on_diagonal, is_strictly_between, is_square, share_rank_or_file, share_diagonal}
 use Rattle.chess_base.specs.shared.Splits.{could_capture_as}
 use Rattle.chess_base.proofs.shared.Men.{is_none-None}
@@ -26,9 +27,8 @@ use Rattle.chess_bits.specs.ties.Pins.{aims_from, IsShield}
 use Rattle.chess_bits.specs.ties.Goes.{lifted}
 use Rattle.chess_base.specs.declared.line.Line.{Line}
 use Rattle.chess_base.specs.declared.line.Line.TheVariants.{Rank, File, Diagonal, Antidiagonal}
-use Rattle.chess_bits.specs.ties.Occupancy.{IsOccupied}
 use Rattle.chess_base.specs.shared.Lines.{line_number, same_line}
-use Rattle.chess_bits.proofs.Attackers.{between_back, eq_back}
+use Rattle.chess_bits.proofs.Attackers.{between_back, de_morgan, eq_back}
 use Rattle.chess_bits.proofs.BetweenSquares.{are_on_line}
 use Rattle.chess_bits.proofs.BoardSets.{own_of, theirs_of}
 use Rattle.chess_bits.proofs.Freely.{from_not}
@@ -36,7 +36,6 @@ use Rattle.chess_bits.proofs.Geometry.{share_diagonal_is}
 use Rattle.chess_bits.proofs.KingAfter.{mover_some, mover_own, king_stays, check_after, legal_is}
 use Rattle.chess_bits.proofs.Lifted.{lifted_at}
 use Rattle.chess_bits.proofs.Quiet.{IsPlain, lands_over, lands_same, not_passing, could_capture_as_clear}
-use Rattle.chess_bits.proofs.TargetsOf.{no_king_says, none_castles}
 
 -- ---- no king arrives but one that leaves
 
@@ -69,43 +68,15 @@ no_king_arrives p m h (Castles w r e right way) =
 no_king_arrives p m h (PawnMoves pawn fits kind) =
     promoted (man_at p.men m.from) p.side m.promotion (rank m.to == first_rank (other p.side)) h fits
 
--- a pawn is no king
-pub pawn_no_king : (c : Colour) (o : Option Man) → is_man c Pawn o ≡ true → is_man c King o ≡ false
-unfolding is_man
-pawn_no_king c None h = refl
-pawn_no_king c (Some x) h = by (same_colour c x.colour) x.kind h
-  where
-    by : (s : Bool) (k : Kind) → (s && same_kind Pawn k) ≡ true → (s && same_kind King k) ≡ false
-    by false k e = refl
-    by true King e = cc
-    by true Queen e = refl
-    by true Rook e = refl
-    by true Bishop e = refl
-    by true Knight e = refl
-    by true Pawn e = refl
-
 -- the en passant target is not on the last rank
 apart : (c : Colour) (s : ℕ) → rank s ≡ crossed_rank (other c) → rank s ≡ first_rank (other c) → ⊥
 apart White s e f = omega (arith, e, f)
 apart Black s e f = omega (arith, e, f)
 
-target_apart : (men : Men) (c : Colour) (o : Option ℕ) (b : ℕ) → target_is_sound_at men c o ≡ true
-    → rank b ≡ first_rank (other c) → is_square o b ≡ false
-target_apart men c None b sound last = refl
-target_apart men c (Some t) b sound last =
-    let three = and_parts ((rank t == crossed_rank (other c)) && is_none (man_at men t)
-    && is_man (other c) Pawn (man_at men (forward (other c) t))) (is_none (man_at men (forward c t))) sound in
-    let two = and_parts ((rank t == crossed_rank (other c)) && is_none (man_at men t))
-    (is_man (other c) Pawn (man_at men (forward (other c) t))) three.0 in
-    let one = and_parts (rank t == crossed_rank (other c)) (is_none (man_at men t)) two.0 in
-    false_from_ne_true (t == b)
-    (λ same.
-    apart c b (sym (ap (λ s. rank s) (eqb-true t b same)) ∙ eqb-true (rank t) (crossed_rank (other c)) one.0) last)
-
 pub no_target_there : (p : Setup) (b : ℕ) → IsSound p → rank b ≡ first_rank (other p.side)
     → is_square p.target b ≡ false
-unfolding target_is_sound
-no_target_there p b sound last = target_apart p.men p.side p.target b sound.target last
+no_target_there p b sound last =
+    false_from_ne_true _ (λ on. apart p.side b (at_target p b sound.target on).0 last)
 
 -- ---- a piece taken off
 
@@ -181,7 +152,7 @@ must_end p m king b sound legal there one no_king low theirs hits no_target =
     pattern = (and_parts (is_pseudo_legal p m) (not (is_in_check (after p m).men p.side)) legal).0
 
     no_castle : castle_of p m ≡ None
-    no_castle = none_castles p m (no_king_says p m KingSide no_king) (no_king_says p m QueenSide no_king)
+    no_castle = no_king_castles p m no_king
 
     plain : IsPlain p m
     plain =
@@ -278,26 +249,9 @@ aims_by false c k men a b h clear = cc
 aims_by true c King men a b h clear = cc
 aims_by true c Knight men a b h clear = cc
 aims_by true c Pawn men a b h clear = cc
-aims_by true c Queen men a b h clear =
-    (refl, rw clear (queen (not (a == b)) (share_rank_or_file a b) (share_diagonal a b) h))
-  where
-    queen : (n r d : Bool) → ((n && r) || (n && d)) ≡ true → (n && (r || d) && true) ≡ true
-    queen true true d e = refl
-    queen true false true e = refl
-    queen true false false e = cc
-    queen false r d e = cc
-aims_by true c Rook men a b h clear = (refl, rw clear (rook (not (a == b)) (share_rank_or_file a b) h))
-  where
-    rook : (n r : Bool) → ((n && r) || false) ≡ true → (n && r && true) ≡ true
-    rook true true e = refl
-    rook true false e = cc
-    rook false r e = cc
-aims_by true c Bishop men a b h clear = (refl, rw clear (bishop (not (a == b)) (share_diagonal a b) h))
-  where
-    bishop : (n d : Bool) → (n && d) ≡ true → (n && d && true) ≡ true
-    bishop true true e = refl
-    bishop true false e = cc
-    bishop false d e = cc
+aims_by true c Queen men a b h clear = (refl, rw clear (grind (arith, h)))
+aims_by true c Rook men a b h clear = (refl, rw clear (grind (arith, h)))
+aims_by true c Bishop men a b h clear = (refl, rw clear (grind (arith, h)))
 
 aims_as : (c : Colour) (o : Option Man) (men : Men) (a b : ℕ)
     → (((is_man c Rook o || is_man c Queen o) && (not (a == b) && share_rank_or_file a b))
@@ -320,42 +274,27 @@ aims_on_line p b k h =
     (share_rank_or_file b k) (share_diagonal b k) h
   where
     on : (x y n r d : Bool) → ((x && (n && r)) || (y && (n && d))) ≡ true → (r || d) ≡ true
-    on x y n true d e = refl
-    on x y n false true e = refl
-    on true true true false false e = cc
-    on true true false false false e = cc
-    on true false true false false e = cc
-    on true false false false false e = cc
-    on false true true false false e = cc
-    on false true false false false e = cc
-    on false false true false false e = cc
-    on false false false false false e = cc
+    on x y n r d e = grind (arith, e)
 
 -- ---- what hides it
 
 -- nothing
-pub none_hides : (men : Men) (w h b k : ℕ) → IsOccupied w men
-    → ((x : ℕ) → x < 64 → contains h x ≡ (is_between k b x && contains w x)) → ((x : ℕ) → x < 64 → contains h x ≡ false)
-    → is_clear men b k ≡ true
+pub none_hides : (men : Men) (h b k : ℕ)
+    → ((x : ℕ) → x < 64 → contains h x ≡ (is_between k b x && not (is_none (man_at men x))))
+    → ((x : ℕ) → x < 64 → contains h x ≡ false) → is_clear men b k ≡ true
 unfolding is_clear
-none_hides men w h b k stood hides none =
+none_hides men h b k hides none =
     each_square-all _
-    (λ x l.
-    elim (cases_Bool (is_between b k x)) [
-      | inr out ↦ rw out refl
-      | inl inside ↦
-          let off : contains w x ≡ false =
-          sym (ap (λ t. t && contains w x) (between_back k b x ∙ inside)) ∙ sym (hides x l) ∙ none x l in
-          rw inside (from_not _ (sym (stood.of_men x l) ∙ off))
-    ])
+    (λ x l. rw (between_back b k x)
+    (sym (de_morgan (is_between k b x) (is_none (man_at men x))) ∙ ap not (sym (hides x l) ∙ none x l)))
 
 -- one piece
-pub one_hides : (p : Setup) (w h r s b k : ℕ) → length p.men ≡ 64 → s < 64 → IsOccupied w p.men
-    → ((x : ℕ) → x < 64 → contains h x ≡ (is_between k b x && contains w x)) → contains h s ≡ true
+pub one_hides : (p : Setup) (h r s b k : ℕ) → length p.men ≡ 64 → s < 64
+    → ((x : ℕ) → x < 64 → contains h x ≡ (is_between k b x && not (is_none (man_at p.men x)))) → contains h s ≡ true
     → ((x : ℕ) → x < 64 → contains r x ≡ (contains h x && not (x == s))) → ((x : ℕ) → x < 64 → contains r x ≡ false)
     → IsShield p s b k
 unfolding is_clear
-one_hides p w h r s b k all low stood hides here others none = record {
+one_hides p h r s b k all low hides here others none = record {
   low = low;
   opens = each_square-all _
       (λ x l.
@@ -364,30 +303,28 @@ one_hides p w h r s b k all low stood hides here others none = record {
         | inl inside ↦ rw inside (ap is_none (lifted_at p.men s x all low) ∙ empty x l inside (x == s) refl)
       ]);
   alone = λ a high apart clear.
-      let both = and_parts (is_between k b s) (contains w s) (sym (hides s low) ∙ here) in
-      absurd (closed_by p.men a b k s all high low (between_back b k s ∙ both.0)
-      (not-true _ (sym (stood.of_men s low) ∙ both.1)) (eq_back s a ∙ apart) clear);
+      let both = and_parts (is_between k b s) (not (is_none (man_at p.men s))) (sym (hides s low) ∙ here) in
+      absurd (closed_by p.men a b k s all high low (between_back b k s ∙ both.0) (not-true _ both.1)
+      (eq_back s a ∙ apart) clear);
 }
   where
     from_without : (c t : Bool) → t ≡ false → (c && not t) ≡ false → c ≡ false
-    from_without true t e f = absurd (both_ways t e (not-false t f))
-    from_without false t e f = refl
+    from_without c t e f = grind (arith, e, f)
 
     empty : (x : ℕ) → x < 64 → is_between b k x ≡ true → (t : Bool) → (x == s) ≡ t
         → is_none (cond t None (man_at p.men x)) ≡ true
     empty x l inside true e = refl
     empty x l inside false e =
         let away : contains h x ≡ false = from_without (contains h x) (x == s) e (sym (others x l) ∙ none x l) in
-        let off : contains w x ≡ false =
-        sym (ap (λ t. t && contains w x) (between_back k b x ∙ inside)) ∙ sym (hides x l) ∙ away in
-        from_not _ (sym (stood.of_men x l) ∙ off)
+        from_not _ (sym (ap (λ t. t && not (is_none (man_at p.men x))) (between_back k b x ∙ inside)) ∙ sym (hides x l)
+        ∙ away)
 
 -- more than one
-pub many_hide : (p : Setup) (w h r s a b k : ℕ) → length p.men ≡ 64 → s < 64 → a < 64 → IsOccupied w p.men
-    → ((x : ℕ) → x < 64 → contains h x ≡ (is_between k b x && contains w x)) → contains h s ≡ true
+pub many_hide : (p : Setup) (h r s a b k : ℕ) → length p.men ≡ 64 → s < 64 → a < 64
+    → ((x : ℕ) → x < 64 → contains h x ≡ (is_between k b x && not (is_none (man_at p.men x)))) → contains h s ≡ true
     → ((x : ℕ) → x < 64 → contains r x ≡ (contains h x && not (x == s)))
     → is_clear (lifted p.men a) b k ≡ true → (x : ℕ) → x < 64 → contains r x ≡ false
-many_hide p w h r s a b k all low high stood hides here others clear x l =
+many_hide p h r s a b k all low high hides here others clear x l =
     others x l
     ∙ elim (cases_Bool (contains h x)) [
       | inr away ↦ rw away refl
@@ -398,9 +335,8 @@ many_hide p w h r s a b k all low high stood hides here others clear x l =
   where
     only : (y : ℕ) → y < 64 → contains h y ≡ true → y ≡ a
     only y m g =
-        let both = and_parts (is_between k b y) (contains w y) (sym (hides y m) ∙ g) in
-        only_there p.men a b k y all high m (between_back b k y ∙ both.0)
-        (not-true _ (sym (stood.of_men y m) ∙ both.1)) clear
+        let both = and_parts (is_between k b y) (not (is_none (man_at p.men y))) (sym (hides y m) ∙ g) in
+        only_there p.men a b k y all high m (between_back b k y ∙ both.0) (not-true _ both.1) clear
 
 -- ---- what has squares between it is on one line
 

@@ -1,8 +1,8 @@
 -- A move that changes only its two squares leaves the king as safe as it was with the mover taken off.
+use Rattle.chess_bits.proofs.TargetsOf.{no_king_castles}
 use mathlib.Core.Bool.{or-false}
-use Rattle.std.proofs.Common.{◌≡◌, ℕ, ◌<◌, inl, inr, Bool, true, false, not, ◌&&◌, ◌||◌, ◌==◌, cond, length, refl, sym, ap, ◌∙◌, Option, Some, None, is_none}
+use Rattle.std.proofs.Common.{◌≡◌, ℕ, ◌<◌, inl, inr, Bool, true, false, not, ◌&&◌, ◌||◌, ◌==◌, cond, length, refl, sym, ap, ◌∙◌, Option, Some, None, is_none, arith}
 use Rattle.std.proofs.lemmas.Bool.{and_parts, and_from, cases_Bool, both_ways, false_from_ne_true}
-use Rattle.chess_base.specs.declared.man.CastlingSide.TheVariants.{KingSide, QueenSide}
 use Rattle.chess_base.specs.declared.man.Colour.{Colour}
 use Rattle.chess_base.specs.declared.man.Kind.{Kind}
 use Rattle.chess_base.specs.declared.man.Kind.TheVariants.{King, Queen, Rook, Bishop, Knight, Pawn}
@@ -22,7 +22,6 @@ use Rattle.chess_bits.specs.ties.Changes.{is_changed, is_filled}
 use Rattle.chess_bits.specs.ties.Goes.{lifted}
 use Rattle.chess_bits.proofs.Attackers.{eq_back}
 use Rattle.chess_bits.proofs.Lifted.{lifted_at}
-use Rattle.chess_bits.proofs.TargetsOf.{no_king_says, none_castles}
 
 last_of_three : (p q r s : Bool) → (r ≡ true → s ≡ true) → (p && q && r) ≡ true → (p && q && s) ≡ true
 last_of_three true true r s h e = h e
@@ -130,9 +129,7 @@ not_passing p m h = out (is_man p.side Pawn (man_at p.men m.from)) (attacks p.me
     h
   where
     out : (a b c : Bool) → (a && c) ≡ false → ((a && b) && c) ≡ false
-    out true true c e = e
-    out true false c e = refl
-    out false b c e = refl
+    out a b c e = grind (arith, e)
 
 pub plain_steps : (p : Setup) (m : Move) → is_man p.side King (man_at p.men m.from) ≡ false
     → (is_man p.side Pawn (man_at p.men m.from) && is_square p.target m.to) ≡ false
@@ -148,8 +145,7 @@ pub plain_steps : (p : Setup) (m : Move) → is_man p.side King (man_at p.men m.
 unfolding second_square_emptied castling_rook_to mover_end
 plain_steps p m no_king no_passing =
     let still = not_passing p m no_passing in
-    let no_castle : castle_of p m ≡ None = none_castles p m (no_king_says p m KingSide no_king)
-    (no_king_says p m QueenSide no_king) in
+    let no_castle : castle_of p m ≡ None = no_king_castles p m no_king in
     rw (still, no_castle) refl
 
 pub lands_same : (o : Option Man) → arriving_man o None ≡ o

@@ -1,5 +1,6 @@
 -- Where a piece other than a pawn may go, seen from its square.
-use Rattle.std.proofs.Common.{◌≡◌, ℕ, Bool, true, false, not, ◌&&◌, ◌||◌, ◌==◌, refl, ap, ◌∙◌, is_none}
+use Rattle.chess_base.proofs.shared.Squares.{each_square_same}
+use Rattle.std.proofs.Common.{◌≡◌, ℕ, Bool, not, ◌&&◌, ◌||◌, ◌==◌, refl, ap, ◌∙◌, is_none, arith}
 use Rattle.chess_base.specs.declared.man.Colour.{Colour}
 use Rattle.chess_base.specs.declared.man.Kind.TheVariants.{King, Queen, Rook, Bishop, Knight, Pawn}
 use Rattle.chess_base.specs.Squares.{file, rank, is_between, share_rank_or_file, share_diagonal}
@@ -9,7 +10,7 @@ use Rattle.chess_bits.specs.declared.table.Shape.TheVariants as shape
 use Rattle.chess_bits.specs.ties.Rays.{is_open}
 use Rattle.chess_bits.specs.ties.Shapes.{in_shape}
 use Rattle.chess_bits.specs.ties.Occupancy.{IsOccupied}
-use Rattle.chess_bits.proofs.Attackers.{each_square_same, de_morgan, eq_back, diagonal_back, queen_parts}
+use Rattle.chess_bits.proofs.Attackers.{de_morgan, eq_back, diagonal_back, queen_parts}
 
 pub knight_from : (men : Men) (c : Colour) (a b : ℕ) → in_shape shape.Knight a b ≡ could_capture men c Knight a b
 unfolding in_shape could_capture
@@ -54,11 +55,7 @@ queen_met w men c a b m h =
     ∙ ap (λ t. t && m) (queen_from w men c a b h)
   where
     both : (x y z : Bool) → ((x && z) || (y && z)) ≡ ((x || y) && z)
-    both true true true = refl
-    both true true false = refl
-    both true false true = refl
-    both true false false = refl
-    both false y z = refl
+    both x y z = grind arith
 
 pub pawn_from : (men : Men) (c : Colour) (a b : ℕ) → in_shape (shape.Pawn c) a b ≡ could_capture men c Pawn a b
 unfolding in_shape could_capture

@@ -1,15 +1,16 @@
 -- Sets of the pieces on the board, and of none.
-use Rattle.std.proofs.Common.{◌≡◌, ◌≢◌, ◌⊎◌, ℕ, ◌<◌, inl, inr, Bool, true, false, not, ◌||◌, refl, sym, ◌∙◌, ap, arith, subst, Option, Some, None, is_none, List, [], ◌∷◌, length, length-set, set, get_or-set_same, get_or-set_other}
+use Rattle.chess_base.proofs.shared.Men.{is_man-none, is_of-none}
+use Rattle.std.proofs.Common.{◌≡◌, ◌≢◌, ◌⊎◌, ℕ, ◌<◌, inl, inr, Bool, true, false, not, ◌||◌, refl, sym, ◌∙◌, ap, arith, subst, Option, Some, None, is_none, [], ◌∷◌, length, length-set, set, get_or-set_same, get_or-set_other}
 use Rattle.chess_base.specs.declared.man.Colour.{Colour}
 use Rattle.chess_base.specs.declared.man.Colour.TheVariants.{White, Black}
 use Rattle.chess_base.specs.declared.man.Kind.{Kind}
 use Rattle.chess_base.specs.declared.man.Kind.TheVariants.{King, Queen, Rook, Bishop, Knight, Pawn}
 use Rattle.chess_base.specs.declared.man.Man.{Man}
 use Rattle.std.specs.Prelude.{slice_index, cond}
-use Rattle.chess_base.specs.Men.{Men, man_at, is_of, is_man, kind_number}
-use Rattle.chess_moves.specs.PositionHash.{square_keys, xor_of}
+use Rattle.chess_base.specs.Men.{Men, man_at, is_of, kind_number}
+use Rattle.chess_moves.specs.PositionHash.{xor_of}
 use Rattle.chess_moves.specs.Sets.{contains, members}
-use Rattle.chess_moves.proofs.shared.PositionHash.{no_men_keys, same_men_keys}
+use Rattle.chess_moves.proofs.shared.PositionHash.{no_men_keys}
 use Rattle.chess_bits.specs.ties.Occupancy.{IsOccupied}
 use Rattle.chess_bits.specs.declared.sets.Sets.{Sets}
 use Rattle.chess_bits.specs.ties.KindSets.{IsKinds}
@@ -18,29 +19,7 @@ use Rattle.chess_bits.proofs.BoardSets.{set_twice, same_written}
 use Rattle.chess_bits.proofs.Starts.{first_gone, taken_first, none_left}
 use Rattle.std.proofs.lemmas.Bool.{cases_eq, eq-eqb, ne_eqb}
 
-pub kinds_same : (sets : List ℕ) (c : Colour) (a b : Men) → ((k : ℕ) → k < 64 → man_at a k ≡ man_at b k)
-    → IsKinds sets c a → IsKinds sets c b
-kinds_same sets c a b same h = record { of_kind = λ kind k low. h.of_kind kind k low ∙ ap (is_man c kind) (same k low) }
-
--- the sets of the same pieces on the same squares
-pub sets_same : (s : Sets) (a b : Men) → ((k : ℕ) → k < 64 → man_at a k ≡ man_at b k) → IsSets s a → IsSets s b
-sets_same s a b same h = record {
-  of_white = kinds_same s.white.sets _ a b same h.of_white;
-  of_black = kinds_same s.black.sets _ a b same h.of_black;
-  all_white = λ k low. h.all_white k low ∙ ap (is_of _) (same k low);
-  all_black = λ k low. h.all_black k low ∙ ap (is_of _) (same k low);
-  men_word = h.men_word ∙ ap (λ ns. xor_of ns) (same_men_keys b a (λ k low. ap (λ v. square_keys k v) (same k low)));
-}
-
 -- ---- none
-
-no_man : (c : Colour) (kind : Kind) (o : Option Man) → o ≡ None → is_man c kind o ≡ false
-unfolding is_man
-no_man c kind o e = rw e refl
-
-none_of : (c : Colour) (o : Option Man) → o ≡ None → is_of c o ≡ false
-unfolding is_of
-none_of c o e = rw e refl
 
 six : (e : ℕ) (kind : Kind) → slice_index (e ∷ e ∷ e ∷ e ∷ e ∷ e ∷ []) (kind_number kind) ≡ e
 six e King = refl
@@ -54,7 +33,7 @@ pub no_kinds : (e : ℕ) (c : Colour) (men : Men) → ((k : ℕ) → contains e 
     → IsKinds (e ∷ e ∷ e ∷ e ∷ e ∷ e ∷ []) c men
 no_kinds e c men empty none = record {
   of_kind = λ kind k low. ap (λ w. contains w k) (six e kind) ∙ empty k
-      ∙ sym (no_man c kind (man_at men k) (none k low));
+      ∙ sym (is_man-none c kind (man_at men k) (ap (λ o. is_none o) (none k low)));
 }
 
 pub no_sets : (s : Sets) (men : Men) → ((k : ℕ) → k < 64 → man_at men k ≡ None) → IsKinds s.white.sets White men
@@ -63,8 +42,8 @@ pub no_sets : (s : Sets) (men : Men) → ((k : ℕ) → k < 64 → man_at men k 
 no_sets s men none white black all_white all_black word = record {
   of_white = white;
   of_black = black;
-  all_white = λ k low. all_white k ∙ sym (none_of White (man_at men k) (none k low));
-  all_black = λ k low. all_black k ∙ sym (none_of Black (man_at men k) (none k low));
+  all_white = λ k low. all_white k ∙ sym (is_of-none White (man_at men k) (ap (λ o. is_none o) (none k low)));
+  all_black = λ k low. all_black k ∙ sym (is_of-none Black (man_at men k) (ap (λ o. is_none o) (none k low)));
   men_word = word ∙ ap (λ ns. xor_of ns) (sym (no_men_keys men none));
 }
 

@@ -1,6 +1,7 @@
 -- Where each kind of piece goes, as its sets say.
+use Rattle.chess_base.proofs.shared.Changes.{no_castling}
 use mathlib.Core.Bool.{or-false}
-use Rattle.std.proofs.Common.{◌≡◌, ℕ, zero, suc, ◌<◌, ◌≤◌, Bool, true, false, not, ◌&&◌, ◌||◌, ◌==◌, Option, Some, None, is_none, refl, sym, ap, subst, ◌∙◌, arith}
+use Rattle.std.proofs.Common.{◌≡◌, ℕ, ◌<◌, ◌≤◌, Bool, true, false, not, ◌&&◌, ◌||◌, ◌==◌, Option, Some, None, is_none, refl, sym, ap, subst, ◌∙◌, arith, get_or, [], ◌∷◌}
 use Rattle.std.specs.Prelude.{if◌then◌else◌}
 use Rattle.std.specs.Option.{is_some}
 use Rattle.std.proofs.lemmas.Bool.Decides.{nat_tests}
@@ -28,7 +29,7 @@ use Rattle.chess_base.proofs.shared.Castling.{no_castle}
 use Rattle.chess_base.proofs.shared.Men.{same_colour-self, same_colour-true}
 use Rattle.chess_moves.specs.Sets.{contains}
 use Rattle.chess_moves.proofs.shared.LegalMoves.{own_man_moves}
-use Rattle.chess_bits.specs.ties.Goes.{goes, names_end, castling_end, legal_or, castling_or, man_goes}
+use Rattle.chess_bits.specs.ties.Goes.{goes, names_end, legal_or, castling_or, man_goes}
 use Rattle.chess_bits.proofs.Patterns.{pawn_goes, legal_goes, man_sound, man_complete}
 
 -- ---- officers
@@ -45,10 +46,8 @@ steps_of_man p a b x at own =
     ap (λ o. could_capture_as p.men o a b && not (is_of p.side (man_at p.men b))) at ∙ ap (λ c.
     could_capture p.men c x.kind a b && not (is_of p.side (man_at p.men b))) own
 
-pub no_king_says : (p : Setup) (m : Move) (w : CastlingSide) → is_man p.side King (man_at p.men m.from) ≡ false
-    → is_castling_to p m w ≡ false
-unfolding is_castling_to
-no_king_says p m w h = rw h refl
+pub no_king_castles : (p : Setup) (m : Move) → is_man p.side King (man_at p.men m.from) ≡ false → castle_of p m ≡ None
+no_king_castles p m h = no_castle p m (no_castling p m h)
 
 neither : (p : Setup) (m : Move) → is_castling_to p m KingSide ≡ false → is_castling_to p m QueenSide ≡ false
     → castling p m ≡ None
@@ -59,18 +58,17 @@ pub none_castles : (p : Setup) (m : Move) → is_castling_to p m KingSide ≡ fa
     → castle_of p m ≡ None
 none_castles p m k q = no_castle p m (neither p m k q)
 
-no_king_kind : (p : Setup) (a : ℕ) (x : Man) → man_at p.men a ≡ Some x → same_kind King x.kind ≡ false
-    → is_man p.side King (man_at p.men a) ≡ false
+pub other_man : (c : Colour) (k : Kind) (o : Option Man) (x : Man) → o ≡ Some x → same_kind k x.kind ≡ false
+    → is_man c k o ≡ false
 unfolding is_man
-no_king_kind p a x at no_king = rw at (and_right (same_colour p.side x.colour) (same_kind King x.kind) no_king)
+other_man c k o x at off = rw (at, off) (and_right (same_colour c x.colour) false refl)
 
 pub officer_is : (p : Setup) (a b : ℕ) (x : Man) → man_at p.men a ≡ Some x → is_of p.side (man_at p.men a) ≡ true
     → same_kind King x.kind ≡ false
     → (could_capture p.men p.side x.kind a b && not (is_of p.side (man_at p.men b))) ≡ man_goes p a b
 officer_is p a b x at own no_king =
-    let off = no_king_kind p a x at no_king in
-    let none = none_castles p (move_of a b None) (no_king_says p (move_of a b None) KingSide off)
-    (no_king_says p (move_of a b None) QueenSide off) in
+    let off = other_man p.side King (man_at p.men a) x at no_king in
+    let none = no_king_castles p (move_of a b None) off in
     sym (ap (λ o. legal_or p (move_of a b None) o (man_moves p (move_of a b None))) none
     ∙ steps_of_man p a b x at (own_colour p.side x (man_at p.men a) at own))
 
@@ -126,75 +124,21 @@ ends_are p a b z f t none far near =
     (names_end p.variant p.side QueenSide (right_of p.rights p.side QueenSide) b) false
     (λ k q. none_castles p (move_of a b None) (not_said p a b KingSide k) (not_said p a b QueenSide q))
 
--- what `with_castling` answers
-pub no_right : (p : Setup) (w : CastlingSide) (a b : ℕ) (s : Bool) → right_of p.rights p.side w ≡ None
-    → s ≡ castling_or p w a b s
-no_right p w a b s e = rw e refl
-
-named : (v : Variant) (c : Colour) (w : CastlingSide) (rook b : ℕ)
-    → names_end v c w (Some rook) b ≡ (b == castling_end v c w rook)
-named Normal c w rook b = refl
-named Fischerandom c w rook b = refl
-
-by_end : (p : Setup) (w : CastlingSide) (a b rook to : ℕ) (s : Bool) → right_of p.rights p.side w ≡ Some rook
-    → to ≡ castling_end p.variant p.side w rook
-    → castling_or p w a b s ≡ (if b == to then legal_or p (move_of a b None) (castle_of p (move_of a b None)) s else s)
-by_end p w a b rook to s right end =
-    ap (λ t. if t then legal_or p (move_of a b None) (castle_of p (move_of a b None)) s else s)
-    (ap (λ o. names_end p.variant p.side w o b) right ∙ named p.variant p.side w rook b ∙ ap (λ e. b == e) (sym end))
-
-pub no_castle_named : (p : Setup) (w : CastlingSide) (a b rook to : ℕ) (s : Bool)
-    → right_of p.rights p.side w ≡ Some rook → to ≡ castling_end p.variant p.side w rook
-    → is_none (castle_of p (move_of a to None)) ≡ true → s ≡ castling_or p w a b s
-no_castle_named p w a b rook to s right end none =
-    sym (by_end p w a b rook to s right end ∙ by (b == to) refl)
-  where
-    empty : (o : Option Castle) → is_none o ≡ true → o ≡ None
-    empty None e = refl
-    empty (Some x) e = cc
-
-    by : (t : Bool) → (b == to) ≡ t → (if t then legal_or p (move_of a b None) (castle_of p (move_of a b None)) s else s)
-        ≡ s
-    by false e = refl
-    by true e = ap (λ o. legal_or p (move_of a b None) o s)
-        (ap (λ n. castle_of p (move_of a n None)) (eqb-true b to e) ∙ empty (castle_of p (move_of a to None)) none)
-
-pub castle_named : (p : Setup) (w : CastlingSide) (a b rook to : ℕ) (s l : Bool)
-    → right_of p.rights p.side w ≡ Some rook → to ≡ castling_end p.variant p.side w rook
-    → is_none (castle_of p (move_of a to None)) ≡ false → l ≡ is_legal p (move_of a to None)
-    → (if b == to then l else s) ≡ castling_or p w a b s
-castle_named p w a b rook to s l right end some legal =
-    sym (by_end p w a b rook to s right end ∙ by (b == to) refl)
-  where
-    there : (o : Option Castle) (m : Move) → is_none o ≡ false → legal_or p m o s ≡ is_legal p m
-    there None m e = cc
-    there (Some x) m e = refl
-
-    by : (t : Bool) → (b == to) ≡ t → (if t then legal_or p (move_of a b None) (castle_of p (move_of a b None)) s else s)
-        ≡ (if t then l else s)
-    by false e = refl
-    by true e =
-        ap (λ n. legal_or p (move_of a n None) (castle_of p (move_of a n None)) s) (eqb-true b to e)
-        ∙ there (castle_of p (move_of a to None)) (move_of a to None) some ∙ sym legal
-
 -- ---- pawns
 
-kind_at : ℕ → Kind
-kind_at zero = King
-kind_at (suc zero) = Queen
-kind_at (suc (suc zero)) = Rook
-kind_at (suc (suc (suc zero))) = Bishop
-kind_at (suc (suc (suc (suc zero)))) = Knight
-kind_at (suc (suc (suc (suc (suc n))))) = Pawn
+abbrev kind_at : ℕ → Kind
+kind_at n = get_or (King ∷ Queen ∷ Rook ∷ Bishop ∷ Knight ∷ Pawn ∷ []) n King
 
 kind_back : (k : Kind) → kind_at (kind_number k) ≡ k
-unfolding kind_at
 kind_back King = refl
 kind_back Queen = refl
 kind_back Rook = refl
 kind_back Bishop = refl
 kind_back Knight = refl
 kind_back Pawn = refl
+
+pub same_kind-true : (k l : Kind) → same_kind k l ≡ true → l ≡ k
+same_kind-true k l h = sym (kind_back l) ∙ ap kind_at (sym (eqb-true (kind_number k) (kind_number l) h)) ∙ kind_back k
 
 -- the piece that passes a test
 pub man_told : (c : Colour) (k : Kind) (o : Option Man) → is_man c k o ≡ true
@@ -203,11 +147,9 @@ unfolding is_man
 man_told c k None h = cc
 man_told c k (Some x) h =
     let both = and_parts (same_colour c x.colour) (same_kind k x.kind) h in
-    let colour : x.colour ≡ c = sym (same_colour-true c x.colour both.0) in
-    let numbers : kind_number k ≡ kind_number x.kind = eqb-true (kind_number k) (kind_number x.kind) both.1 in
-    let kind : x.kind ≡ k = sym (kind_back x.kind) ∙ ap kind_at (sym numbers) ∙ kind_back k in
-    ap (λ (d : Colour). let y : Man = record { colour = d; kind = x.kind } in Some y) colour
-    ∙ ap (λ (l : Kind). let y : Man = record { colour = c; kind = l } in Some y) kind
+    ap (λ (d : Colour). let y : Man = record { colour = d; kind = x.kind } in Some y)
+    (sym (same_colour-true c x.colour both.0))
+    ∙ ap (λ (l : Kind). let y : Man = record { colour = c; kind = l } in Some y) (same_kind-true k x.kind both.1)
 
 pub captures_is : (p : Setup) (a b : ℕ) → is_man p.side Pawn (man_at p.men a) ≡ true
     → (could_capture p.men p.side Pawn a b && (is_of (other p.side) (man_at p.men b) || is_square p.target b))
@@ -217,32 +159,9 @@ captures_is p a b pawn = let at = man_told p.side Pawn (man_at p.men a) pawn in 
 
 advanced : (n t r i : Bool) (en et : Bool) → (n ≡ true → i ≡ en) → (t ≡ true → i ≡ et)
     → (i && (n || ((r && t) && en))) ≡ ((en && n) || ((en && r) && (et && t)))
-advanced true t r i true et h g = rw (h refl) refl
-advanced true t r i false et h g = rw (h refl) refl
-advanced false true r i en et h g = rw (g refl) (turn et r en)
-  where
-    turn : (x y z : Bool) → (x && ((y && true) && z)) ≡ ((z && false) || ((z && y) && (x && true)))
-    turn true true true = refl
-    turn true true false = refl
-    turn true false true = refl
-    turn true false false = refl
-    turn false true true = refl
-    turn false true false = refl
-    turn false false true = refl
-    turn false false false = refl
-advanced false false r i en et h g = turn i r en et
-  where
-    turn : (w x y z : Bool) → (w && ((x && false) && y)) ≡ ((y && false) || ((y && x) && (z && false)))
-    turn true true true true = refl
-    turn true true true false = refl
-    turn true true false z = refl
-    turn true false true z = refl
-    turn true false false z = refl
-    turn false true true true = refl
-    turn false true true false = refl
-    turn false true false z = refl
-    turn false false true z = refl
-    turn false false false z = refl
+advanced true t r i en et h g = rw (h refl) (grind arith)
+advanced false true r i en et h g = rw (g refl) (grind arith)
+advanced false false r i en et h g = grind arith
 
 -- by what is one and two squares ahead
 pub advances_is : (p : Setup) (a b n t : ℕ) → is_man p.side Pawn (man_at p.men a) ≡ true → n ≡ forward p.side a
@@ -329,12 +248,7 @@ past_too White a low past = omega (arith, past)
 past_too Black a low past = absurd (omega (arith, low, past))
 
 neither_square : (x y z : Bool) → ((x && false) || (y && (z && false))) ≡ false
-neither_square true true true = refl
-neither_square true true false = refl
-neither_square true false z = refl
-neither_square false true true = refl
-neither_square false true false = refl
-neither_square false false z = refl
+neither_square x y z = grind arith
 
 pub off_board : (p : Setup) (a k : ℕ) → is_man p.side Pawn (man_at p.men a) ≡ true → a < 64 → 64 ≤ forward p.side a
     → k < 64 → false ≡ pawn_advances p (move_of a k None)
@@ -364,8 +278,7 @@ one_only p a n k pawn one free away =
     (or-false (k == n)))
 
 second : (r x y : Bool) → (x || (r && (false && y))) ≡ x
-second true x y = or-false x
-second false x y = or-false x
+second r x y = grind arith
 
 pub second_blocked : (p : Setup) (a n t k : ℕ) → is_man p.side Pawn (man_at p.men a) ≡ true → n ≡ forward p.side a
     → t ≡ forward p.side n → is_some (man_at p.men n) ≡ false → is_some (man_at p.men t) ≡ true

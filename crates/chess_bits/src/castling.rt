@@ -9,6 +9,7 @@ ghost use Rattle.chess_base.specs.Squares.{rank, each_square};
 ghost use Rattle.chess_moves.specs.Sets.{contains};
 
 use crate::bits::Bits;
+use crate::filter::filter;
 use chess_base::rules::{Castle, Steps};
 use chess_base::{Kind, Man, Move, Square, Variant};
 use chess_moves::{Board, SquareSet};
@@ -29,22 +30,16 @@ impl Bits<'_> {
             (λ x. not (contains way x) || not (is_attacked (self.now).men x (other (self.now).side))) }
     {
         let by = self.setup.side.other();
-        let mut rest = way;
-        while let Some(x) = rest.take_first() {
-            if self.is_attacked(x, by) {
-                return false;
-            }
-        }
-        true
+        let attacked = filter(way, |x| self.is_attacked(x, by));
+        attacked.is_empty()
     }
 
-    // Whether nothing prevents the castling with these squares: those that king and rook cross or end on are empty, but
-    // for these two, and those of the king are not attacked.
-    fn castles(&self, castle: &Castle) -> bool
+    // Whether the squares that king and rook cross or end on in this castling are empty, but for the two on which they
+    // stand.
+    fn is_way_empty(&self, castle: &Castle) -> bool
         requires kings { rank castle.now.king_from ≡ rank castle.now.king_to }
         requires rooks { rank castle.now.rook_from ≡ rank castle.now.rook_to }
-        ensures { result ≡ (castling_way_is_empty (self.now).men castle.now
-            && castling_way_is_safe (self.now).men (self.now).side castle.now) }
+        ensures { result ≡ castling_way_is_empty (self.now).men castle.now }
     {
         let walk = self.way(castle.king_from, castle.king_to);
         let ride = self.way(castle.rook_from, castle.rook_to);
@@ -53,13 +48,26 @@ impl Bits<'_> {
             .without(SquareSet::single(castle.king_from))
             .without(SquareSet::single(castle.rook_from));
         let met = crossed.intersection(self.sets.occupied());
-        if !met.is_empty() {
+        met.is_empty()
+    }
+
+    // Whether nothing prevents the castling with these squares: its way is empty, and no square of the king's part of it
+    // is attacked.
+    fn castles(&self, castle: &Castle) -> bool
+        requires kings { rank castle.now.king_from ≡ rank castle.now.king_to }
+        requires rooks { rank castle.now.rook_from ≡ rank castle.now.rook_to }
+        ensures { result ≡ (castling_way_is_empty (self.now).men castle.now
+            && castling_way_is_safe (self.now).men (self.now).side castle.now) }
+    {
+        if !self.is_way_empty(castle) {
             return false;
         }
+        let walk = self.way(castle.king_from, castle.king_to);
         self.is_safe_way(walk)
     }
 
     // Whether the move `m`, which is the castling with these squares, is legal.
+    #[tactic(auto, using(crate::proofs::CastlingBySets::castle_pattern, crate::proofs::CastlingBySets::not_castling, crate::proofs::CastlingSafely::castles_safely))]
     pub(crate) fn castles_legally(&self, m: &Move, castle: &Castle) -> bool
         requires castle { castle_of self.now m.now ≡ Some castle.now }
         requires none { m.now.promotion ≡ None }
@@ -79,6 +87,7 @@ impl Bits<'_> {
 
     // Whether the king is not attacked after the move `m`, which is the castling with these squares and which nothing
     // prevents: in Chess960 the rook, now gone, may have been between it and an attacker.
+    #[tactic(auto, using(crate::proofs::CastlingBySets::castle_steps))]
     fn is_safe_castled(&self, m: &Move, castle: &Castle) -> bool
         requires castle { castle_of self.now m.now ≡ Some castle.now }
         requires none { m.now.promotion ≡ None }

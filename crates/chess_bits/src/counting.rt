@@ -30,6 +30,7 @@ impl Bits<'_> {
     }
 
     // How many legal moves there are from `from` to `to`: a promotion counts once for each kind.
+    #[tactic(auto, using(crate::proofs::Counted::one_counted, crate::proofs::Listed::unpromoted))]
     fn count_between(&self, from: Square, to: Square) -> usize
         requires { goes self.now from to ≡ true }
         ensures { result ≡ length (moves_between self.now from to) }
@@ -73,6 +74,7 @@ impl Bits<'_> {
     }
 
     // How many legal moves the king on the square `king` has: one to each square where it may go.
+    #[tactic(auto, using(crate::proofs::KingListed::king_counted))]
     fn count_king(&self, king: Square) -> usize
         requires { is_man (self.now).side King (man_at (self.now).men king) ≡ true }
         ensures { result ≡ length (moves_from self.now king) }

@@ -20,6 +20,7 @@ use chess_base::{Kind, Move, Square};
 use chess_moves::SquareSet;
 
 // The set of the given square alone; the empty set if none is given.
+#[tactic(auto, using(crate::proofs::Attackers::eq_back))]
 pub(crate) fn set_of(square: Option<Square>) -> SquareSet
     ensures { (k : ℕ) → contains result k ≡ is_square square k }
 {
@@ -109,7 +110,9 @@ impl Bits<'_> {
         self.castling_ends(king).union(safe)
     }
 
-    // Whether a pseudo-legal move is legal: the mover's king is not attacked after it.
+    // Whether a pseudo-legal move is legal: the mover's king is not attacked after it. As calls, this and `is_safe_by` made
+    // the workload boards 4 % slower.
+    #[inline(always)]
     pub(crate) fn is_safe_after(&self, m: &Move) -> bool
         ensures { is_pseudo_legal self.now m.now ≡ true → result ≡ is_legal self.now m.now }
     {
@@ -118,6 +121,7 @@ impl Bits<'_> {
     }
 
     // Whether a pseudo-legal move, which makes these steps, is legal: the mover's king is not attacked after it.
+    #[inline(always)]
     pub(crate) fn is_safe_by(&self, steps: &Steps) -> bool
         ensures { (m : Move) → is_pseudo_legal self.now m ≡ true → steps.now ≡ steps_of self.now m
             → result ≡ is_legal self.now m }

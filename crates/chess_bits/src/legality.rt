@@ -30,6 +30,7 @@ fn is_officer(kind: Kind) -> bool
 // The kind of the piece `man`, a square's content, if it is a queen, rook, bishop or knight of this colour; else
 // `None`.
 #[inline(always)]
+#[tactic(auto, using(crate::proofs::ByKind::officer_told))]
 fn officer_of(colour: Colour, man: Option<Man>) -> Option<Kind>
     ensures { MatchOption result (true ≡ true) (λ kind. IsOfficer colour kind man) }
 {
@@ -48,6 +49,7 @@ fn officer_of(colour: Colour, man: Option<Man>) -> Option<Kind>
 impl Bits<'_> {
     // Whether the piece on `from`, a queen, rook, bishop or knight of this kind, may legally go to `to`.
     #[inline(always)]
+    #[tactic(auto, using(crate::proofs::ByKind::officer_pattern, crate::proofs::ByKind::no_pattern, crate::proofs::ByKind::officer_plain))]
     fn goes_legally(&self, kind: Kind, from: Square, to: Square) -> bool
         requires { IsOfficer (self.now).side kind (man_at (self.now).men from) }
         ensures { result ≡ is_legal self.now (move_of from to None) }
@@ -63,6 +65,7 @@ impl Bits<'_> {
 
     // Whether the move `m` is legal; the piece on its start square is a queen, rook, bishop or knight of this kind.
     #[inline(always)]
+    #[tactic(auto, using(crate::proofs::ByKind::promotes_not, crate::proofs::ByKind::as_triple))]
     fn is_officer_legal(&self, kind: Kind, m: &Move) -> bool
         requires { IsOfficer (self.now).side kind (man_at (self.now).men m.now.from) }
         ensures { result ≡ is_legal self.now m.now }
@@ -75,6 +78,7 @@ impl Bits<'_> {
 
     // Whether the move `m` of any piece is legal: its end square is among those of its piece, its promotion fits, and
     // its king is safe after it.
+    #[tactic(auto, using(crate::proofs::Patterns::not_target, crate::proofs::Patterns::not_fitting, crate::proofs::Patterns::pattern_from))]
     fn is_legal_by_targets(&self, m: &Move) -> bool
         ensures { result ≡ is_legal self.now m.now }
     {
@@ -146,6 +150,7 @@ impl Bits<'_> {
     }
 
     // Whether the king on `king` may legally go to `to`: by an ordinary move, or by castling.
+    #[tactic(auto, using(crate::proofs::KingSteps::steps_are, crate::proofs::ByKind::king_otherwise))]
     fn king_goes_legally(&self, king: Square, to: Square) -> bool
         requires { is_man (self.now).side King (man_at (self.now).men king) ≡ true }
         ensures { result ≡ is_legal self.now (move_of king to None) }
@@ -180,6 +185,7 @@ impl Bits<'_> {
     }
 
     // The squares from which pawns of the side on move may legally go to `to` without a promotion.
+    #[tactic(auto, using(crate::proofs::PawnStarts::none_on_last, crate::proofs::PawnStarts::pawn_patterns, crate::proofs::PawnStarts::pawn_starts_are))]
     fn legal_pawn_starts(&self, to: Square) -> SquareSet
         ensures { HasLegalStarts self.now Pawn to result }
     {

@@ -1,6 +1,6 @@
 //! Pins and checks: which own pieces are free to go anywhere, and where the others may go.
 
-ghost use Rattle.std.specs.Prelude.{◌≡◌, ◌<◌, ◌==◌, ◌||◌, ℕ, true, false, MatchOption};
+ghost use Rattle.std.specs.Prelude.{◌≡◌, ◌<◌, ◌==◌, ◌&&◌, ◌||◌, not, is_none, ℕ, true, false, MatchOption};
 ghost use Rattle.chess_base.specs.Attacks.{is_in_check};
 ghost use Rattle.chess_base.specs.Men.{man_at, is_man};
 ghost use Rattle.chess_base.specs.Squares.{is_between, is_square};
@@ -27,6 +27,20 @@ pub(crate) struct Pins {
 }
 
 impl Bits<'_> {
+    // The occupied squares between the king on `king` and the enemy piece on `from`, which are on one line.
+    #[inline(always)]
+    fn hiding(&self, king: Square, from: Square) -> SquareSet
+        requires { aims_from self.now from king ≡ true }
+        ensures { (k : ℕ) → k < 64
+            → contains result k ≡ (is_between king from k && not (is_none (man_at (self.now).men k))) }
+    {
+        // The prover wants these facts: the numbers of both squares are below 64.
+        let _king = king.number();
+        let _from = from.number();
+        let between = self.tables.between(king, from);
+        between.intersection(self.sets.occupied())
+    }
+
     // The square that alone is occupied between the enemy piece on `from` and the king on `king`, which are on one
     // line; `None` if none is, or more than one.
     #[inline(always)]
@@ -35,11 +49,9 @@ impl Bits<'_> {
         ensures { MatchOption result ((a : ℕ) → a < 64 → KeepsClosed self.now a from king)
             (λ s. IsShield self.now s from king) }
     {
-        // The prover wants these facts: the numbers of both squares are below 64.
-        let _king = king.number();
-        let _from = from.number();
-        let between = self.tables.between(king, from);
-        let hiding = between.intersection(self.sets.occupied());
+        // The prover wants this fact: the position is sound.
+        let _sound = self.setup();
+        let hiding = self.hiding(king, from);
         if hiding.is_empty() {
             return None;
         }

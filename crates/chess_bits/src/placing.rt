@@ -212,6 +212,7 @@ fn shifted(setup: &Setup, m: &Move) -> Option<Man>
 
 // The en passant target after the move `m` of the piece `man`; none unless it is a pawn's double advance.
 #[inline(always)]
+#[tactic(auto, using(crate::proofs::Making::officer_leaves_no_target))]
 fn target_left(setup: &Setup, m: &Move, man: Man) -> Option<Square>
     requires { man_at setup.now.men m.now.from ≡ Some man }
     ensures { result ≡ target_after setup.now m.now }

@@ -153,6 +153,7 @@ impl Bits<'_> {
     }
 
     // The squares, one or two, to which the pawn on `from` may go straight ahead.
+    #[tactic(auto, using(crate::proofs::TargetsOf::off_board, crate::proofs::TargetsOf::blocked, crate::proofs::TargetsOf::one_only, crate::proofs::TargetsOf::second_blocked, crate::proofs::TargetsOf::both_squares))]
     fn advances(&self, from: Square) -> SquareSet
         requires { is_man (self.now).side Pawn (man_at (self.now).men from) ≡ true }
         ensures { (k : ℕ) → k < 64 → contains result k ≡ pawn_advances self.now (move_of from k None) }
@@ -225,6 +226,7 @@ impl Bits<'_> {
 
     // The end squares of the piece on `from`, if it is of the side on move (else none): those of its legal moves are
     // among them, and each is that of a pseudo-legal move.
+    #[tactic(auto, using(crate::proofs::TargetsOf::none_begin, crate::proofs::TargetsOf::pawn_sound, crate::proofs::TargetsOf::pawn_complete, crate::proofs::TargetsOf::man_set_sound, crate::proofs::TargetsOf::man_set_complete))]
     pub(crate) fn targets(&self, from: Square) -> SquareSet
         ensures sound { (k : ℕ) → k < 64 → contains result k ≡ true → goes self.now from k ≡ true }
         ensures complete { (m : Move) → is_legal self.now m ≡ true → m.from ≡ from → contains result m.to ≡ true }

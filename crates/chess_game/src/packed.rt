@@ -1,7 +1,7 @@
 //! Positions whose pieces are packed into sets of squares: seven numbers in place of 64 squares.
 
 ghost use Rattle.std.specs.Prelude.{◌≡◌, ℕ, ◌<◌, ◌&&◌, ◌||◌, not, length};
-ghost use Rattle.chess_base.specs.Men.{is_of, man_at};
+ghost use Rattle.chess_base.specs.Men.{is_man, man_at};
 ghost use Rattle.chess_base.specs.Sound.{IsSound};
 ghost use Rattle.chess_base.specs.declared.man.Colour.TheVariants.{White};
 ghost use Rattle.chess_moves.specs.Sets.{contains};
@@ -26,35 +26,22 @@ pub(crate) struct PackedMen {
     pawns: SquareSet,
 }
 
-// The squares of the board's pieces of this kind, of both colours.
+// The squares of the board's pieces of this kind, of both colours; `white` has those of White's.
 #[tactic(auto, using(crate::proofs::SomeKind::of_colours))]
+#[inline(always)]
+fn with_black<B: Board>(board: &B, kind: Kind, white: SquareSet) -> SquareSet
+    requires { (k : ℕ) → k < 64 → contains white k ≡ is_man White kind (man_at (B.position board.now).men k) }
+    ensures { (k : ℕ) → k < 64 → contains result k ≡ is_kind kind (man_at (B.position board.now).men k) }
+{
+    white.union(board.men_of(Colour::Black, kind))
+}
+
+// The squares of the board's pieces of this kind, of both colours.
 #[inline(always)]
 pub(crate) fn squares_of<B: Board>(board: &B, kind: Kind) -> SquareSet
     ensures { (k : ℕ) → k < 64 → contains result k ≡ is_kind kind (man_at (B.position board.now).men k) }
 {
-    let white = board.men_of(Colour::White, kind);
-    let black = board.men_of(Colour::Black, kind);
-    white.union(black)
-}
-
-// The squares of White's pieces on the board.
-#[tactic(auto, using(crate::proofs::AsSets::white_kinds))]
-#[inline(always)]
-fn white_squares<B: Board>(board: &B) -> SquareSet
-    ensures { (k : ℕ) → k < 64 → contains result k ≡ is_of White (man_at (B.position board.now).men k) }
-{
-    let kings = board.men_of(Colour::White, Kind::King);
-    let queens = board.men_of(Colour::White, Kind::Queen);
-    let rooks = board.men_of(Colour::White, Kind::Rook);
-    let bishops = board.men_of(Colour::White, Kind::Bishop);
-    let knights = board.men_of(Colour::White, Kind::Knight);
-    let pawns = board.men_of(Colour::White, Kind::Pawn);
-    kings
-        .union(queens)
-        .union(rooks)
-        .union(bishops)
-        .union(knights)
-        .union(pawns)
+    with_black(board, kind, board.men_of(Colour::White, kind))
 }
 
 // The squares that are in exactly one of the two sets.
@@ -67,19 +54,33 @@ fn difference(these: SquareSet, those: SquareSet) -> SquareSet
 }
 
 impl PackedMen {
-    // The pieces of the board's position, as sets of squares.
+    // The pieces of the board's position, as sets of squares. Each of White's is asked for once, since a plain board goes
+    // over its 64 squares each time.
+    #[tactic(auto, using(crate::proofs::AsSets::white_kinds))]
     #[inline(always)]
     fn of<B: Board>(board: &B) -> Self
         ensures { ArePacked result (B.position board.now).men }
     {
+        let kings = board.men_of(Colour::White, Kind::King);
+        let queens = board.men_of(Colour::White, Kind::Queen);
+        let rooks = board.men_of(Colour::White, Kind::Rook);
+        let bishops = board.men_of(Colour::White, Kind::Bishop);
+        let knights = board.men_of(Colour::White, Kind::Knight);
+        let pawns = board.men_of(Colour::White, Kind::Pawn);
+        let white = kings
+            .union(queens)
+            .union(rooks)
+            .union(bishops)
+            .union(knights)
+            .union(pawns);
         PackedMen {
-            white: white_squares(board),
-            kings: squares_of(board, Kind::King),
-            queens: squares_of(board, Kind::Queen),
-            rooks: squares_of(board, Kind::Rook),
-            bishops: squares_of(board, Kind::Bishop),
-            knights: squares_of(board, Kind::Knight),
-            pawns: squares_of(board, Kind::Pawn),
+            white,
+            kings: with_black(board, Kind::King, kings),
+            queens: with_black(board, Kind::Queen, queens),
+            rooks: with_black(board, Kind::Rook, rooks),
+            bishops: with_black(board, Kind::Bishop, bishops),
+            knights: with_black(board, Kind::Knight, knights),
+            pawns: with_black(board, Kind::Pawn, pawns),
         }
     }
 

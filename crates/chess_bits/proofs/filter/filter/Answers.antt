@@ -1,5 +1,6 @@
 -- The first square that is left is of the set, and what the test says of it is whether it is chosen; nothing changes for
 -- the others.
+use mathlib.Core.Bool.{and-false, and-true, or-false}
 use Rattle.std.proofs.Common.{◌≡◌, ℕ, ◌<◌, ◌==◌, ◌&&◌, ◌||◌, Bool, inl, inr, true, false, refl, sym, ap, subst, ◌∙◌}
 use Rattle.std.proofs.lemmas.Bool.{both_ways, cases_Bool, eq-eqb, eqb-true, false_from_ne_true, or_right}
 use Rattle.chess_moves.specs.Sets.{contains}
@@ -17,12 +18,7 @@ test-passed-requires g c =
 -- whether square k is chosen after square s was tested
 chosen_next : (before now : ℕ) (t : Bool) (s k : ℕ) → contains now k ≡ (contains before k || (t && (k == s)))
     → (k == s) ≡ false → contains now k ≡ contains before k
-chosen_next before now t s k e apart = e ∙ rw apart (by (contains before k) t)
-  where
-    by : (x u : Bool) → (x || (u && false)) ≡ x
-    by true u = refl
-    by false true = refl
-    by false false = refl
+chosen_next before now t s k e apart = e ∙ rw (apart, and-false t) (or-false (contains before k))
 
 pub loop-square-preserved : goal.loop-square-preserved
 loop-square-preserved g c =
@@ -40,7 +36,7 @@ loop-square-preserved g c =
     let same : (k : ℕ) → (k == s) ≡ false → contains c.union-chosen.result k ≡ contains c.loop-square.chosen k =
     λ k. chosen_next c.loop-square.chosen c.union-chosen.result c.test-passed.result s k (all k) in
     let value : contains c.union-chosen.result s ≡ c.test-passed.result =
-    all s ∙ rw (inv.left s here.0 here.1, eq-eqb s s refl) (with_true c.test-passed.result) in
+    all s ∙ rw (inv.left s here.0 here.1, eq-eqb s s refl) (and-true c.test-passed.result) in
     record {
       within = λ k low h. inv.within k low (rest k low ∙ or_right (s == k) (contains left k) h);
       left = λ k low h.
@@ -64,10 +60,6 @@ loop-square-preserved g c =
           (ap (λ j. contains c.args.set j) (eqb-true k s e) ∙ inv.within s here.0 here.1)))
           ∙ inv.outside k low off;
     }
-  where
-    with_true : (t : Bool) → (false || (t && true)) ≡ t
-    with_true true = refl
-    with_true false = refl
 
 pub returns-clause-inside : goal.returns-clause-inside
 returns-clause-inside g c = λ k low on.

@@ -1,20 +1,15 @@
 -- A pawn that promotes has the four promotions there and no other move, and all or none are legal (promotions_between of
 -- Listed); elsewhere a piece has one move at most (one_between).
-use Rattle.std.proofs.Common.{◌≡◌, ◌++◌, [], List, length, true, false, lit<, sym, ap, ◌∙◌, append-nil, arith}
+use Rattle.std.proofs.Common.{◌≡◌, ◌++◌, [], List, length, true, false, lit<, sym, ap, ◌∙◌, append-nil, arith, rules}
 use Rattle.chess_base.specs.declared.man.Move.{Move}
 use Rattle.chess_moves.specs.shared.MovesBySquares.{moves_between}
 use Rattle.chess_moves.specs.Promoting.{would_promote}
 use Rattle.chess_bits.proofs.Listed.{promotions_between, one_between, unpromoted}
 use Rattle.chess_bits.proofs.bits.Bits.add_moves_between.Goals as goal
 
-pub promotes_legally-requires-clause-promotes : goal.promotes_legally-requires-clause-promotes
-promotes_legally-requires-clause-promotes c = rw (← c.self.view_is)
-    (sym c.would_promote.ensures ∙ c.if-would_promote.true)
-
 pub add_promotions-requires : goal.add_promotions-requires
 add_promotions-requires c =
-    let promotes : would_promote c.args.self.now c.args.from c.args.to ≡ true =
-    rw (← c.self.view_is) (sym c.would_promote.ensures ∙ c.if-would_promote.true) in
+    let promotes : would_promote c.args.self.now c.args.from c.args.to ≡ true = search rules in
     let all = rw c.if-promotes_legally.true at
     (promotions_between c.args.self.now c.args.from c.args.to c.promotes_legally.result promotes
     c.promotes_legally.ensures) in
@@ -23,8 +18,7 @@ add_promotions-requires c =
 
 pub returns-then-promotes_legally : goal.returns-then-promotes_legally
 returns-then-promotes_legally c =
-    let promotes : would_promote c.args.self.now c.args.from c.args.to ≡ true =
-    rw (← c.self.view_is) (sym c.would_promote.ensures ∙ c.if-would_promote.true) in
+    let promotes : would_promote c.args.self.now c.args.from c.args.to ≡ true = search rules in
     let all = rw c.if-promotes_legally.true at
     (promotions_between c.args.self.now c.args.from c.args.to c.promotes_legally.result promotes
     c.promotes_legally.ensures) in
@@ -33,8 +27,7 @@ returns-then-promotes_legally c =
 
 pub returns-else-promotes_legally : goal.returns-else-promotes_legally
 returns-else-promotes_legally c =
-    let promotes : would_promote c.args.self.now c.args.from c.args.to ≡ true =
-    rw (← c.self.view_is) (sym c.would_promote.ensures ∙ c.if-would_promote.true) in
+    let promotes : would_promote c.args.self.now c.args.from c.args.to ≡ true = search rules in
     let none : moves_between c.args.self.now c.args.from c.args.to ≡ [] = rw c.if-promotes_legally.false at
     (promotions_between c.args.self.now c.args.from c.args.to c.promotes_legally.result promotes
     c.promotes_legally.ensures) in
@@ -42,8 +35,7 @@ returns-else-promotes_legally c =
 
 pub push-requires : goal.push-requires
 push-requires c =
-    let stays : would_promote c.args.self.now c.args.from c.args.to ≡ false =
-    rw (← c.self.view_is) (sym c.would_promote.ensures ∙ c.if-would_promote.false) in
+    let stays : would_promote c.args.self.now c.args.from c.args.to ≡ false = search rules in
     let pattern = unpromoted c.args.self.now c.args.from c.args.to c.requires.goes stays in
     let one = rw (sym (c.is_safe_after.ensures pattern) ∙ c.if-is_safe_after.true) at
     (one_between c.args.self.now c.args.from c.args.to stays) in
@@ -52,8 +44,7 @@ push-requires c =
 
 pub returns-then-is_safe_after : goal.returns-then-is_safe_after
 returns-then-is_safe_after c =
-    let stays : would_promote c.args.self.now c.args.from c.args.to ≡ false =
-    rw (← c.self.view_is) (sym c.would_promote.ensures ∙ c.if-would_promote.false) in
+    let stays : would_promote c.args.self.now c.args.from c.args.to ≡ false = search rules in
     let pattern = unpromoted c.args.self.now c.args.from c.args.to c.requires.goes stays in
     let one = rw (sym (c.is_safe_after.ensures pattern) ∙ c.if-is_safe_after.true) at
     (one_between c.args.self.now c.args.from c.args.to stays) in
@@ -61,8 +52,7 @@ returns-then-is_safe_after c =
 
 pub returns-else-is_safe_after : goal.returns-else-is_safe_after
 returns-else-is_safe_after c =
-    let stays : would_promote c.args.self.now c.args.from c.args.to ≡ false =
-    rw (← c.self.view_is) (sym c.would_promote.ensures ∙ c.if-would_promote.false) in
+    let stays : would_promote c.args.self.now c.args.from c.args.to ≡ false = search rules in
     let pattern = unpromoted c.args.self.now c.args.from c.args.to c.requires.goes stays in
     let none : moves_between c.args.self.now c.args.from c.args.to ≡ [] =
     rw (sym (c.is_safe_after.ensures pattern) ∙ c.if-is_safe_after.false) at

@@ -1,5 +1,6 @@
 -- The shield goes nowhere but where it still shields, or to the piece that it shields from (answered of Pins); the
 -- others go where they went.
+use Rattle.chess_base.proofs.shared.Kings.{one_king_of}
 use Rattle.std.proofs.Common.{◌≡◌, ◌<◌, inl, inr, true, sym, subst, ap, ◌∙◌}
 use Rattle.std.proofs.lemmas.Bool.{eqb-true, or_left, or_right}
 use Rattle.chess_base.specs.Attacks.{is_clear}
@@ -9,7 +10,7 @@ use Rattle.chess_bits.specs.ties.Pins.{aims_from}
 use Rattle.chess_bits.specs.ties.Goes.{lifted}
 use Rattle.chess_moves.specs.Sets.{contains}
 use Rattle.chess_bits.proofs.Pins.{aims_hit, answered, taken_out, to_in}
-use Rattle.chess_bits.proofs.OneKing.{alone, has_king}
+use Rattle.chess_bits.proofs.OneKing.{alone}
 use Rattle.chess_bits.proofs.bits.Bits.add_pin.Goals as goal
 
 pub returns-in-Some-clause-evasions : goal.returns-in-Some-clause-evasions
@@ -23,7 +24,7 @@ returns-in-Some-clause-evasions c =
     let aims : aims_from p c.args.from c.args.king ≡ true = rw c.self.view_is c.requires.aims in
     let shields = rw (← c.self.view_is) at c.in-Some.ensures in
     let evasions = rw (← c.self.view_is) at c.evasions.ensures in
-    let one = alone p.men p.side c.args.king c.self.invariant.0.board (has_king p p.side c.self.invariant.0) here in
+    let one = alone p.men p.side c.args.king c.self.invariant.0.board (one_king_of p c.self.invariant.0 p.side) here in
     rw (← c.self.view_is)
     (λ before a low no_king outside m legal at.
     elim (taken_out (contains c.args.pins.now.free a) (contains c.without-pins.result a) (contains c.single.result a)

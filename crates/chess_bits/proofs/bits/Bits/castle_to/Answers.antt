@@ -1,12 +1,11 @@
 -- In normal chess king and rook of an available right are at home, so these are the squares of its castling
--- (castle_told of CastlingAtHome); a piece that is no king never castles (none_castles).
+-- (castle_told of CastlingAtHome); a piece that is no king never castles (no_king_castles).
+use Rattle.chess_bits.proofs.TargetsOf.{no_king_castles}
 use Rattle.std.proofs.Common.{rules, ◌≡◌, ◌<◌, true, false, sym, ap, subst, ◌∙◌}
-use Rattle.chess_base.specs.declared.man.CastlingSide.TheVariants.{KingSide, QueenSide}
 use Rattle.chess_base.specs.declared.man.Kind.TheVariants.{King}
 use Rattle.chess_base.specs.Castling.{home_square, castled_rook_file}
 use Rattle.chess_base.specs.Men.{man_at, is_man}
 use Rattle.chess_bits.proofs.CastlingAtHome.{castle_told}
-use Rattle.chess_bits.proofs.TargetsOf.{no_king_says, none_castles}
 use Rattle.chess_bits.proofs.bits.Bits.castle_to.Goals as goal
 
 pub returns-then-not-is_man : goal.returns-then-not-is_man
@@ -14,7 +13,7 @@ returns-then-not-is_man c =
     let p = c.args.self.now in
     let m = c.args.m.now in
     let off : is_man c.args.self.now.side King (man_at c.args.self.now.men c.args.m.now.from) ≡ false = search rules in
-    sym (none_castles p m (no_king_says p m KingSide off) (no_king_says p m QueenSide off))
+    sym (no_king_castles p m off)
 
 pub returns-in-Normal : goal.returns-in-Normal
 returns-in-Normal c =

@@ -1,75 +1,34 @@
 -- Each call counts the moves of the pieces that it takes out of the set, and leaves the others to the next. So the sum
 -- is that of all own pieces, which have all legal moves (from_men of Listed), 896 at most (some_fit of Counted).
-use Rattle.std.proofs.Common.{◌≡◌, ◌+◌, ◌<◌, ◌≤◌, ℕ, length, ap, ◌∙◌, arith}
+use Rattle.std.proofs.Common.{◌≡◌, ◌<◌, ℕ, length, ap, arith}
 use Rattle.chess_base.specs.Men.{man_at, is_of}
 use Rattle.chess_moves.specs.Sets.{contains}
 use Rattle.chess_bits.proofs.Counted.{some_fit}
 use Rattle.chess_bits.proofs.Listed.{from_men}
 use Rattle.chess_bits.proofs.bits.Bits.count.Goals as goal
 
--- the sum of what six calls count, each of what the one before leaves
-sums : (a r b s c t d u e v f o : ℕ) → r + b ≡ a → s + c ≡ b → t + d ≡ c → u + e ≡ d → v + f ≡ e → o ≡ f → a ≤ 896
-    → (r + s ≤ 896) × (r + s + t ≤ 896) × (r + s + t + u ≤ 896) × (r + s + t + u + v ≤ 896)
-    × (r + s + t + u + v + o ≤ 896) × (r + s + t + u + v + o ≡ a)
-sums a r b s c t d u e v f o one two three four five six few = (
-  omega (arith, one, two, few),
-  omega (arith, one, two, three, few),
-  omega (arith, one, two, three, four, few),
-  omega (arith, one, two, three, four, five, few),
-  omega (arith, one, two, three, four, five, six, few),
-  omega (arith, one, two, three, four, five, six),
-)
-
 pub count_pinned-others-requires-clause-few : goal.count_pinned-others-requires-clause-few
 count_pinned-others-requires-clause-few c = some_fit c.args.self.now c.count_kind-queens.new.men
     c.setup-sound.ensures.sound
 
 pub overflow_add-result : goal.overflow_add-result
-overflow_add-result c =
-    let few = some_fit c.args.self.now c.all-men.result c.setup-sound.ensures.sound in
-    let all = sums _ _ _ _ _ _ _ _ _ _ _ _ c.count_kind-pawns.ensures c.count_kind-knights.ensures
-    c.count_kind-bishops.ensures c.count_kind-rooks.ensures c.count_kind-queens.ensures c.count_pinned-others.ensures few
-    in
-    omega (arith, all.0)
+overflow_add-result c = omega (arith, some_fit c.args.self.now c.all-men.result c.setup-sound.ensures.sound)
 
 pub overflow_add-result-2 : goal.overflow_add-result-2
-overflow_add-result-2 c =
-    let few = some_fit c.args.self.now c.all-men.result c.setup-sound.ensures.sound in
-    let all = sums _ _ _ _ _ _ _ _ _ _ _ _ c.count_kind-pawns.ensures c.count_kind-knights.ensures
-    c.count_kind-bishops.ensures c.count_kind-rooks.ensures c.count_kind-queens.ensures c.count_pinned-others.ensures few
-    in
-    omega (arith, all.1)
+overflow_add-result-2 c = omega (arith, some_fit c.args.self.now c.all-men.result c.setup-sound.ensures.sound)
 
 pub overflow_add-result-3 : goal.overflow_add-result-3
-overflow_add-result-3 c =
-    let few = some_fit c.args.self.now c.all-men.result c.setup-sound.ensures.sound in
-    let all = sums _ _ _ _ _ _ _ _ _ _ _ _ c.count_kind-pawns.ensures c.count_kind-knights.ensures
-    c.count_kind-bishops.ensures c.count_kind-rooks.ensures c.count_kind-queens.ensures c.count_pinned-others.ensures few
-    in
-    omega (arith, all.2)
+overflow_add-result-3 c = omega (arith, some_fit c.args.self.now c.all-men.result c.setup-sound.ensures.sound)
 
 pub overflow_add-result-4 : goal.overflow_add-result-4
-overflow_add-result-4 c =
-    let few = some_fit c.args.self.now c.all-men.result c.setup-sound.ensures.sound in
-    let all = sums _ _ _ _ _ _ _ _ _ _ _ _ c.count_kind-pawns.ensures c.count_kind-knights.ensures
-    c.count_kind-bishops.ensures c.count_kind-rooks.ensures c.count_kind-queens.ensures c.count_pinned-others.ensures few
-    in
-    omega (arith, all.3)
+overflow_add-result-4 c = omega (arith, some_fit c.args.self.now c.all-men.result c.setup-sound.ensures.sound)
 
 pub overflow_add-result-5 : goal.overflow_add-result-5
-overflow_add-result-5 c =
-    let few = some_fit c.args.self.now c.all-men.result c.setup-sound.ensures.sound in
-    let all = sums _ _ _ _ _ _ _ _ _ _ _ _ c.count_kind-pawns.ensures c.count_kind-knights.ensures
-    c.count_kind-bishops.ensures c.count_kind-rooks.ensures c.count_kind-queens.ensures c.count_pinned-others.ensures few
-    in
-    omega (arith, all.4)
+overflow_add-result-5 c = omega (arith, some_fit c.args.self.now c.all-men.result c.setup-sound.ensures.sound)
 
 pub returns : goal.returns
 returns c =
-    let few = some_fit c.args.self.now c.all-men.result c.setup-sound.ensures.sound in
     let own : (k : ℕ) → k < 64 → contains c.all-men.result k ≡ is_of c.args.self.now.side (man_at c.args.self.now.men k) =
     rw (← c.self.view_is) (c.all-men.ensures c.self.inside.setup.men c.self.invariant.1) in
-    let all = sums _ _ _ _ _ _ _ _ _ _ _ _ c.count_kind-pawns.ensures c.count_kind-knights.ensures
-    c.count_kind-bishops.ensures c.count_kind-rooks.ensures c.count_kind-queens.ensures c.count_pinned-others.ensures few
-    in
-    all.5 ∙ ap length (from_men c.args.self.now c.all-men.result own)
+    let all = ap length (from_men c.args.self.now c.all-men.result own) in
+    omega (arith, all)

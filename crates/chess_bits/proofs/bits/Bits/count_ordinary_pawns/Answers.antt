@@ -1,10 +1,10 @@
 -- Each pawn has as many legal moves as ways are open to it (pawns_counted of PawnsCounted), and the sets computed are
 -- those of the pawns to which each way is open (ways_are).
-use Rattle.std.proofs.Common.{◌≡◌, ◌<◌, ◌==◌, ℕ, true, false, length, ap, ◌∙◌, arith}
+use Rattle.std.proofs.Common.{◌≡◌, ◌<◌, ◌==◌, ℕ, true, false, ap, ◌∙◌, arith}
 use Rattle.chess_base.specs.declared.man.Kind.TheVariants.{Pawn}
 use Rattle.chess_base.specs.Men.{man_at, is_of}
 use Rattle.chess_base.specs.Squares.{rank}
-use Rattle.chess_moves.specs.Sets.{contains, members}
+use Rattle.chess_moves.specs.Sets.{contains}
 use Rattle.chess_bits.specs.ties.Goes.{goes_specially, AreFree}
 use Rattle.chess_bits.proofs.PawnsCounted.{AreSets, members_fit, summed, ways_are, pawns_counted}
 use Rattle.chess_bits.proofs.bits.Bits.count_ordinary_pawns.Goals as goal
@@ -41,31 +41,10 @@ returns c =
     alone free ordinary ways)
 
 pub overflow_add-result : goal.overflow_add-result
-overflow_add-result c =
-    let q : c.len.result ≡ length (members c.without-once.result) = c.len.ensures in
-    let r : c.len-2.result ≡ length (members c.without-twice.result) = c.len-2.ensures in
-    let q-fits = members_fit c.without-once.result in
-    let r-fits = members_fit c.without-twice.result in
-    omega (arith, q, r, q-fits, r-fits)
+overflow_add-result c = omega (arith, members_fit)
 
 pub overflow_add-result-2 : goal.overflow_add-result-2
-overflow_add-result-2 c =
-    let q : c.len.result ≡ length (members c.without-once.result) = c.len.ensures in
-    let r : c.len-2.result ≡ length (members c.without-twice.result) = c.len-2.ensures in
-    let s : c.len-3.result ≡ length (members c.intersection-left.result) = c.len-3.ensures in
-    let q-fits = members_fit c.without-once.result in
-    let r-fits = members_fit c.without-twice.result in
-    let s-fits = members_fit c.intersection-left.result in
-    omega (arith, q, r, s, q-fits, r-fits, s-fits)
+overflow_add-result-2 c = omega (arith, members_fit)
 
 pub overflow_add-result-3 : goal.overflow_add-result-3
-overflow_add-result-3 c =
-    let q : c.len.result ≡ length (members c.without-once.result) = c.len.ensures in
-    let r : c.len-2.result ≡ length (members c.without-twice.result) = c.len-2.ensures in
-    let s : c.len-3.result ≡ length (members c.intersection-left.result) = c.len-3.ensures in
-    let t : c.len-4.result ≡ length (members c.intersection-right.result) = c.len-4.ensures in
-    let q-fits = members_fit c.without-once.result in
-    let r-fits = members_fit c.without-twice.result in
-    let s-fits = members_fit c.intersection-left.result in
-    let t-fits = members_fit c.intersection-right.result in
-    omega (arith, q, r, s, t, q-fits, r-fits, s-fits, t-fits)
+overflow_add-result-3 c = omega (arith, members_fit)

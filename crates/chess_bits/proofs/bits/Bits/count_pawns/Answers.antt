@@ -1,10 +1,9 @@
 -- The pawns fall into those that may promote or take en passant and the others, and their legal moves fall so too (split
 -- of KindsCounted).
-use Rattle.std.proofs.Common.{◌≡◌, length, not, sym, ◌∙◌, arith}
-use Rattle.std.specs.List.{flat_map}
+use Rattle.std.proofs.Common.{not, sym, ◌∙◌, arith}
 use Rattle.std.proofs.lemmas.Bool.{and_parts, not-true}
 use Rattle.chess_moves.specs.shared.MovesBySquares.{moves_from}
-use Rattle.chess_moves.specs.Sets.{contains, members}
+use Rattle.chess_moves.specs.Sets.{contains}
 use Rattle.chess_bits.proofs.Counted.{some_fit}
 use Rattle.chess_bits.proofs.KindsCounted.{split}
 use Rattle.chess_bits.proofs.bits.Bits.count_pawns.Goals as goal
@@ -28,22 +27,10 @@ overflow_add-result c =
     let few = some_fit c.args.self.now c.args.men c.setup-sound.ensures.sound in
     let parts = split (λ a. moves_from c.args.self.now a) c.args.men c.special_squares-squares.result
     c.intersection-special.result c.without-ordinary.result c.intersection-special.ensures c.without-ordinary.ensures in
-    let ordinary : c.count_ordinary_pawns.result
-    ≡ length (flat_map (λ a. moves_from c.args.self.now a) (members c.without-ordinary.result)) =
-    c.count_ordinary_pawns.ensures in
-    let others : c.count_each.result
-    ≡ length (flat_map (λ a. moves_from c.args.self.now a) (members c.intersection-special.result)) =
-    c.count_each.ensures in
-    omega (arith, few, parts, ordinary, others)
+    omega (arith, few, parts)
 
 pub returns : goal.returns
 returns c =
     let parts = split (λ a. moves_from c.args.self.now a) c.args.men c.special_squares-squares.result
     c.intersection-special.result c.without-ordinary.result c.intersection-special.ensures c.without-ordinary.ensures in
-    let ordinary : c.count_ordinary_pawns.result
-    ≡ length (flat_map (λ a. moves_from c.args.self.now a) (members c.without-ordinary.result)) =
-    c.count_ordinary_pawns.ensures in
-    let others : c.count_each.result
-    ≡ length (flat_map (λ a. moves_from c.args.self.now a) (members c.intersection-special.result)) =
-    c.count_each.ensures in
-    omega (arith, parts, ordinary, others)
+    omega (arith, parts)

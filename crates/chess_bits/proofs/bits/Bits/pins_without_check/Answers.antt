@@ -1,6 +1,7 @@
 -- All own pieces but the king are free at first, and no way is looked at. Each step takes a shield out of them, if there
 -- is one (add_pin). With all ways looked at, the pieces that are left open none to the king, so they are free (freed of
 -- Freely).
+use Rattle.chess_base.proofs.shared.Kings.{one_king_of}
 use Rattle.std.proofs.Common.{◌≡◌, ◌<◌, ◌==◌, ◌&&◌, ◌||◌, ℕ, inl, inr, not, false, true, sym, ap, refl, subst, ◌∙◌}
 use Rattle.std.proofs.lemmas.Bool.{and_parts, and_from, or_left, or_right, cases_Bool, both_ways, eqb-true, not-true}
 use Rattle.chess_base.specs.Attacks.{is_in_check}
@@ -12,7 +13,7 @@ use Rattle.chess_moves.specs.Sets.{contains}
 use Rattle.chess_bits.proofs.Pins.{mover_told}
 use Rattle.chess_bits.proofs.Freely.{freed}
 use Rattle.chess_bits.proofs.Listed.{each_member, each_first}
-use Rattle.chess_bits.proofs.OneKing.{alone, has_king}
+use Rattle.chess_bits.proofs.OneKing.{alone}
 use Rattle.chess_bits.proofs.Starts.{taken_first, none_left}
 use Rattle.chess_bits.proofs.bits.Bits.pins_without_check.Goals as goal
 
@@ -21,7 +22,7 @@ loop-from-init c =
     let p = c.self.inside.setup in
     let king = c.args.king in
     let here : is_man p.side King (man_at p.men king) ≡ true = rw c.self.view_is c.requires.king in
-    let one = alone p.men p.side king c.self.invariant.0.board (has_king p p.side c.self.invariant.0) here in
+    let one = alone p.men p.side king c.self.invariant.0.board (one_king_of p c.self.invariant.0 p.side) here in
     let own : (a : ℕ) → a < 64 → contains c.without.result a ≡ (is_of p.side (man_at p.men a) && not (a == king)) =
     λ a low. c.without.ensures a low ∙ rw (c.all.ensures p.men c.self.invariant.1 a low, c.single.ensures.value a) refl
     in
@@ -72,7 +73,7 @@ returns-clause-free c =
     let there : king < 64 = subst (λ n. n < 64) c.number-king.ensures.value c.number-king.ensures.in_range in
     let here : is_man p.side King (man_at p.men king) ≡ true = rw c.self.view_is c.requires.king in
     let calm : is_in_check p.men p.side ≡ false = rw c.self.view_is c.requires.calm in
-    let one = alone p.men p.side king c.self.invariant.0.board (has_king p p.side c.self.invariant.0) here in
+    let one = alone p.men p.side king c.self.invariant.0.board (one_king_of p c.self.invariant.0 p.side) here in
     let own = rw (← c.self.view_is) at c.loop-from.invariant.own in
     let closed = rw (← c.self.view_is) at c.loop-from.invariant.closed in
     rw (← c.self.view_is)

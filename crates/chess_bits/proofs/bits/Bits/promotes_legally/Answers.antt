@@ -1,14 +1,15 @@
 -- A promotion has the pattern of a move with each kind that fits (pattern_of of Listed), and is neither the king's nor en
 -- passant, since the target is not on the last rank (no_target_there of Pins).
-use Rattle.std.proofs.Common.{◌≡◌, ◌==◌, true, Some, sym, subst}
+use Rattle.chess_base.proofs.shared.Men.{is_man-kind}
+use Rattle.std.proofs.Common.{◌≡◌, ◌==◌, true, Some, sym, subst, refl}
 use Rattle.std.proofs.lemmas.Bool.{and_parts, and_right, eqb-true}
-use Rattle.chess_base.specs.declared.man.Kind.TheVariants.{Pawn}
+use Rattle.chess_base.specs.declared.man.Kind.TheVariants.{Pawn, King}
 use Rattle.chess_base.specs.Men.{first_rank, man_at, is_man, other}
 use Rattle.chess_base.specs.Moves.{promotion_fits}
 use Rattle.chess_base.specs.Squares.{is_square, rank}
 use Rattle.chess_moves.specs.Promoting.{would_promote}
 use Rattle.chess_bits.specs.ties.Goes.{goes}
-use Rattle.chess_bits.proofs.Pins.{no_target_there, pawn_no_king}
+use Rattle.chess_bits.proofs.Pins.{no_target_there}
 use Rattle.chess_bits.proofs.Listed.{pattern_of}
 use Rattle.chess_bits.proofs.bits.Bits.promotes_legally.Goals as goal
 
@@ -27,6 +28,6 @@ returns c =
     (λ kind fits.
     safe (Some kind) (record {
       pattern = pattern_of p a b (Some kind) go (subst (λ t. promotion_fits t (Some kind) ≡ true) (sym last) fits);
-      no_king = pawn_no_king p.side (man_at p.men a) both.0;
+      no_king = is_man-kind p.side p.side Pawn King (man_at p.men a) refl both.0;
       no_passing = and_right (is_man p.side Pawn (man_at p.men a)) (is_square p.target b) off;
     }))
