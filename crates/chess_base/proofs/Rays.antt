@@ -177,14 +177,6 @@ pub record HasRisen (men : Men) (l : Line) (b end n : ℕ) : Type 0 where
   pub on : same_line l n end ≡ true
   pub empty : (k : ℕ) → b < k → k ≤ n → same_line l b k ≡ true → is_none (man_at men k) ≡ true
 
-pub rise_begins : (men : Men) (l : Line) (b end : ℕ) → b ≤ end → same_line l b end ≡ true → HasRisen men l b end b
-rise_begins men l b end h on = record {
-  begun = omega arith;
-  fits = h;
-  on = on;
-  empty = λ k above below e. absurd (omega (arith, above, below));
-}
-
 -- b and n are on one line
 line_of_rise : (men : Men) (l : Line) (b end n : ℕ) → same_line l b end ≡ true → HasRisen men l b end n
     → same_line l b n ≡ true
@@ -204,18 +196,6 @@ before_next men l b end n on w more in_board k above below e =
                 absurd (none_between l n k past below (omega (arith, fit))
                 (line_on l n b k (line_back l b n (line_of_rise men l b end n on w)) e))
           ]
-    ]
-
-before_or_there : (k x : ℕ) → k ≤ x → (k < x) ⊎ (k ≡ x)
-before_or_there k x h = grind arith
-
-up_to_next : (men : Men) (l : Line) (b end n : ℕ) → same_line l b end ≡ true → HasRisen men l b end n → n < end
-    → end < 64 → is_none (man_at men (n + step_of l)) ≡ true → (k : ℕ) → b < k → k ≤ n + step_of l
-    → same_line l b k ≡ true → is_none (man_at men k) ≡ true
-up_to_next men l b end n on w more in_board empty k above below e =
-    elim (before_or_there k (n + step_of l) below) [
-      | inl less ↦ before_next men l b end n on w more in_board k above less e
-      | inr same ↦ rw same empty
     ]
 
 inside_falling : (k b x : ℕ) → b < x → x < k → is_strictly_between k b x ≡ true
@@ -295,14 +275,6 @@ pub record HasFallen (men : Men) (l : Line) (b end n : ℕ) : Type 0 where
   pub on : same_line l end n ≡ true
   pub empty : (k : ℕ) → k < b → n ≤ k → same_line l b k ≡ true → is_none (man_at men k) ≡ true
 
-pub fall_begins : (men : Men) (l : Line) (b end : ℕ) → end ≤ b → same_line l b end ≡ true → HasFallen men l b end b
-fall_begins men l b end h on = record {
-  begun = omega arith;
-  fits = h;
-  on = line_back l b end on;
-  empty = λ k below above e. absurd (omega (arith, above, below));
-}
-
 -- the square before one that is above `end` is on the line
 step_back_stays : (l : Line) (e x : ℕ) → e < x → x < 64 → same_line l e x ≡ true → same_line l e (x - step_of l) ≡ true
 step_back_stays Rank e x h low on =
@@ -333,15 +305,6 @@ above_next men l b end n in_board on w k below above e =
                 (line_on l k b n (line_back l b k e) (line_of_fall men l b end n on w)))
             | inr past ↦ w.empty k below (omega (arith, past)) e
           ]
-    ]
-
-down_to_next : (men : Men) (l : Line) (b end n x : ℕ) → b < 64 → same_line l b end ≡ true → HasFallen men l b end n
-    → x + step_of l ≡ n → is_none (man_at men x) ≡ true → (k : ℕ) → k < b → x ≤ k
-    → same_line l b k ≡ true → is_none (man_at men k) ≡ true
-down_to_next men l b end n x in_board on w next empty k below above e =
-    elim (before_or_there x k above) [
-      | inl less ↦ above_next men l b end n in_board on w k below (omega (arith, less, next)) e
-      | inr same ↦ rw (sym same) empty
     ]
 
 pub fall_fits : (men : Men) (l : Line) (b end n : ℕ) → b < 64 → HasFallen men l b end n → end < n → end + step_of l ≤ n
