@@ -172,8 +172,9 @@ fn returning_man(colour: Colour, saved: &Saved, castle: &Option<Castle>) -> Opti
     }
 }
 
-/// What taking the move back changes on the board, from the position after it (`setup`) and what was saved. If the move
-/// ends on the saved target, the square one rank back must be on the board, as it is after a legal move.
+/// What taking the move back changes on the board, from the position after it (`setup`) and what was saved. A move that
+/// ended on the saved target may have been en passant. Its pawn then returns one rank behind that square, as the mover
+/// sees it, so that square must be on the board (it is after a legal move).
 #[tactic(auto, unfolding(crate::specs::Before::steps_back))]
 pub fn steps_back(setup: &Setup, m: &Move, saved: &Saved) -> Steps
     requires { IsTrue (is_square saved.now.target m.now.to) → one_rank_back (other setup.now.side) m.now.to < 64 }

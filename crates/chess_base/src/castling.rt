@@ -37,7 +37,8 @@ pub(crate) fn king_home_file() -> u8
     4
 }
 
-/// The file on which this side's rook begins in normal chess (Laws of Chess 2023, article 2.3).
+/// The file (0 for a) on which the rook for castling to that side starts in normal chess (Laws of Chess 2023, article
+/// 2.3).
 pub fn rook_file(castling_side: CastlingSide) -> u8
     ensures value { result ≡ rook_file castling_side }
     ensures in_range { result < 8 }
@@ -48,7 +49,7 @@ pub fn rook_file(castling_side: CastlingSide) -> u8
     }
 }
 
-/// The file to which castling on that side takes the king (Laws of Chess 2023, article 3.8.2).
+/// The file (0 for a) to which castling to that side takes the king (Laws of Chess 2023, article 3.8.2).
 pub fn castled_king_file(castling_side: CastlingSide) -> u8
     ensures value { result ≡ castled_king_file castling_side }
     ensures in_range { result < 8 }
@@ -59,7 +60,7 @@ pub fn castled_king_file(castling_side: CastlingSide) -> u8
     }
 }
 
-/// The file to which castling on that side takes the rook (Laws of Chess 2023, article 3.8.2).
+/// The file (0 for a) to which castling to that side takes the rook (Laws of Chess 2023, article 3.8.2).
 pub fn castled_rook_file(castling_side: CastlingSide) -> u8
     ensures value { result ≡ castled_rook_file castling_side }
     ensures in_range { result < 8 }

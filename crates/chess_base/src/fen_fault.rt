@@ -3,9 +3,10 @@
 ghost use Rattle.std.specs.Prelude.{◌≡◌, ◌≤◌, length};
 ghost use Rattle.chess_base.specs.Faults.{fen_fault_name};
 
-/// Why a text is no FEN of a position, or a `Setup` is no `Position`: the first fault in this order: number of fields,
-/// placement, side, form of the castling rights, form of the en passant target, counters, kings, pawns, number of
-/// pieces, king and rook of each right, pieces around the target, check.
+/// Why a text is no FEN of a position, or a `Setup` is no `Position`. The first fault is reported. First those of the
+/// text, in this order: number of fields, placement, side, form of the castling rights, form of the en passant target,
+/// counters. Then those of the position: kings, pawns, number of pieces, king and rook of each right, pieces around the
+/// target, check. So `Castling` and `EnPassant` can come from either part.
 #[derive(Clone, Copy, Debug, PartialEq, Eq, thiserror::Error)]
 pub enum FenFault {
     /// The first field is not eight ranks of eight squares.

@@ -33,7 +33,7 @@ pub fn pawn_rank(colour: Colour) -> u8
     }
 }
 
-/// The promotions that a pawn's move may name, in the order in which moves are listed.
+/// The promotions that a pawn's move may name, each as in `Move::promotion`, in the order in which moves are listed.
 pub const PROMOTIONS: [Option<Kind>; 4] = [
     Some(Kind::Queen),
     Some(Kind::Rook),
@@ -41,8 +41,8 @@ pub const PROMOTIONS: [Option<Kind>; 4] = [
     Some(Kind::Knight),
 ];
 
-/// Whether a pawn's move names a promotion to a queen, rook, bishop or knight if it ends on its last rank (`last`), and
-/// none otherwise (Laws of Chess 2023, article 3.7.3.3).
+/// Whether a pawn's move may have this promotion: a queen, rook, bishop or knight if it ends on the pawn's last rank
+/// (`last`), and `None` if it doesn't (Laws of Chess 2023, article 3.7.3.3).
 pub fn promotion_fits(last: bool, promotion: Option<Kind>) -> bool
     ensures { result ≡ promotion_fits last promotion }
 {

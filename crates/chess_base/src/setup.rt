@@ -6,7 +6,8 @@ use crate::square::Square;
 /// The largest halfmove clock and fullmove number; both stop there.
 pub const COUNTER_LIMIT: u32 = 999_999;
 
-/// The most half-moves that a game can be opened for. It is here for crates that know no games, such as cecp_engine.
+/// The greatest limit, in half-moves, that a game can be opened with. It is here for crates that don't use chess_game,
+/// such as cecp_engine.
 pub const MOST_MOVES: u32 = 20_000;
 
 /// What a position holds (the six fields of FEN, PGN standard of 1994, section 16.1, and the variant), sound or not.

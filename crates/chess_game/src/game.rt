@@ -28,7 +28,7 @@ use std::alloc::{AllocError, Global};
 use std::fmt;
 use std::marker::Model;
 
-/// The most half-moves that a game can be opened for.
+/// The greatest limit, in half-moves, that a game can be opened with.
 pub const MOST_MOVES: u32 = chess_base::MOST_MOVES;
 
 /// Why a move is refused; the first reason in this order.
@@ -287,7 +287,8 @@ impl<B: Board> Game<B> {
         }
     }
 
-    /// Declares a result, as after a resignation, in place of what was declared before.
+    /// Declares a result, as after a resignation, in place of what was declared before. The game is then over, even if
+    /// the outcome is `Unfinished`.
     ///
     /// # Errors
     /// If there is a verdict with another outcome. The game stays as it was.
@@ -312,7 +313,7 @@ impl<B: Board> Game<B> {
         Ok(())
     }
 
-    /// Declares a result in a game that is known to have no verdict, in place of what was declared before.
+    /// Like `declare`, but for a game that is known to have no verdict: it doesn't look for one, and can't fail.
     pub fn declare_open(&mut self, outcome: Outcome, comment: Comment)
         requires { verdict_now self.old.state ≡ None }
         ensures { self.new
@@ -441,16 +442,16 @@ impl<B: Board> Game<B> {
         }
     }
 
-    /// Why the game is over by its position and its moves (mate, stalemate, bare material, fivefold repetition, 75
-    /// moves), if it is.
+    /// Why the game is over by its position and its moves (mate, stalemate, insufficient material, fivefold repetition,
+    /// 75 moves), if it is.
     pub fn verdict(&self) -> Option<Verdict>
         ensures { result ≡ verdict_now self.now.state }
     {
         verdict_on(&self.board, self.played_moves.as_slice())
     }
 
-    /// The verdict on the game as it is. `m`, a legal move of the present position, is not played: it only shows that
-    /// neither mate nor stalemate has to be looked for.
+    /// The same as `verdict`, but faster, for a caller that has a legal move of the present position, `m`: so the game
+    /// is neither mate nor stalemate. `m` is not played.
     #[inline(always)]
     pub fn verdict_of_moving(&self, m: &Move) -> Option<Verdict>
         requires { IsTrue (is_legal (current self.now.state) m.now) }
@@ -501,8 +502,8 @@ impl<B: Board> Game<B> {
         }
     }
 
-    /// Why no move at all is played: the game is over, or else it has as many half-moves as its limit allows; `None` if
-    /// a move may be played.
+    /// Why the game takes no more moves: it is over, or else it has as many half-moves as its limit allows; `None` if a
+    /// move may be played.
     pub fn refusal(&self) -> Option<PlayRefusal>
         ensures value { result ≡ refusal_now self.now }
         ensures possible { result ≢ Some PlayRefusal.Illegal }
@@ -510,8 +511,8 @@ impl<B: Board> Game<B> {
         self.refusal_by(self.is_over())
     }
 
-    /// Why no move at all is played: the game is over, or it is full; `None` if a move may be played. `m`, a legal move
-    /// of the present position, is not played: it only shows that neither mate nor stalemate has to be looked for.
+    /// The same as `refusal`, but faster, for a caller that has a legal move of the present position, `m`: so the game
+    /// is neither mate nor stalemate. `m` is not played.
     #[inline(always)]
     pub fn refusal_of_moving(&self, m: &Move) -> Option<PlayRefusal>
         requires { IsTrue (is_legal (current self.now.state) m.now) }

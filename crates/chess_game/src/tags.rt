@@ -10,7 +10,8 @@ use std::marker::Model;
 // The most bytes of a tag's text.
 const TAG_LEN: usize = 60;
 
-/// The text of a tag: at most 60 printable bytes of ASCII. In contracts it is the list of its bytes.
+/// The value of a PGN tag, such as a player's name: at most 60 printable bytes of ASCII. In contracts it is the list of
+/// its bytes.
 #[derive(Drop)]
 pub struct TagText {
     text: ArrayVec<u8, 60>,
@@ -65,7 +66,7 @@ fn tag_bytes(bytes: &[u8]) -> ArrayVec<u8, 60>
     kept
 }
 
-/// How a game that is over ended (PGN standard of 1994, section 9.8.1).
+/// How a game ended, for the PGN tag Termination (PGN standard of 1994, section 9.8.1).
 #[derive(Clone, Copy, Debug, PartialEq, Eq)]
 pub enum HowEnded {
     /// On the board, or by agreement or resignation.

@@ -60,7 +60,7 @@ impl Verdict {
         }
     }
 
-    /// The comment on the verdict as bytes, as in the braces of `1-0 {White mates}`.
+    /// The verdict as bytes: the comment in the braces of `1-0 {White mates}`.
     pub fn comment(self) -> &'static [u8]
         ensures value { result.now ≡ verdict_comment self }
         ensures short { length result.now ≤ 60 }

@@ -9,7 +9,7 @@ use arrayvec::ArrayVec;
 use chess_base::rules::castling;
 use chess_base::{CastlingSide, Move, Position, Variant};
 
-/// The text of a move by its squares: four or five bytes, as `e2e4` or `e7e8q`.
+/// A move's text as `coordinate` or `move_text` writes it: three to five bytes, such as `e2e4`, `e7e8q` or `O-O`.
 pub type CoordinateText = ArrayVec<u8, 5>;
 
 // The text of castling to this side: `O-O` or `O-O-O`.
@@ -26,8 +26,8 @@ fn castling_name(castling_side: CastlingSide) -> CoordinateText
     text
 }
 
-/// The text of a move in CECP, in lists of legal moves and to an engine: its coordinate text, such as `e2e4`, but `O-O`
-/// or `O-O-O` for castling in Chess960.
+/// The text of a move as CECP writes it, both to engines and in lists of legal moves: its coordinate text, such as
+/// `e2e4`, but `O-O` or `O-O-O` for castling in Chess960.
 #[tactic(auto, unfolding(crate::specs::San::shown_move))]
 pub fn move_text(position: &Position, m: Move) -> CoordinateText
     ensures text { result.items ≡ shown_move position.now m }
@@ -44,8 +44,9 @@ pub fn move_text(position: &Position, m: Move) -> CoordinateText
     }
 }
 
-/// The coordinate text of a move, as CECP has it: its start square, its end square, and for a promotion one letter of
-/// `qrbn`, as `e7e8q`. Castling is written by the king's squares, in Chess960 by the king's and the rook's.
+/// The coordinate text of a move: its start square, its end square, and for a promotion one letter of `qrbn`, as in
+/// `e7e8q`. Castling is written by the king's squares, in Chess960 by the king's and the rook's; for CECP use
+/// `move_text`.
 pub fn coordinate(m: Move) -> CoordinateText
     ensures text { result.items ≡ coordinate m }
     ensures len { array_vec_len result ≤ 5 }

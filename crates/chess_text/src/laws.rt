@@ -44,9 +44,9 @@ pub fn move_text_denotes_its_move()
     ensures read_back { ShownMoveIsReadBack }
 {}
 
-/// A law: the contract says it, and the function does nothing. A text is read as some parts exactly if these parts,
-/// written out as `[letter][file][rank][x]square[[=]promotion]`, give the text. So the search through the list of all
-/// parts, by which reading is defined, misses none and adds none.
+/// A law: the contract says it, and the function does nothing. Splitting a text gives certain parts exactly if writing
+/// those parts out, as `[letter][file][rank][x]square[[=]promotion]`, gives the text. So which texts denote a move, and
+/// which have the shape of one, can be said by parts, without a list of all texts.
 pub fn texts_have_parts()
     ensures read { PartsAreTheTexts }
     ensures written { PartsAreRead }
@@ -54,8 +54,8 @@ pub fn texts_have_parts()
     ensures shaped { ShapedByText }
 {}
 
-/// A law: the contract says it, and the function does nothing. On positions of normal chess the legal moves, the move
-/// that a text is read as, SAN, and how lists show a move are those defined for normal chess alone.
+/// A law: the contract says it, and the function does nothing. On positions of normal chess the legal moves,
+/// `read_move` and `san` agree with definitions for normal chess alone, and `move_text` is `coordinate`.
 pub fn normal_is_kept()
     ensures { (p : Setup) → p.variant ≡ Normal → NormalIsKept p }
 {}

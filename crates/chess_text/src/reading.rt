@@ -113,8 +113,8 @@ fn form_origins<B: Board>(board: &B, form: &Form, to: Square) -> SquareSet
     }
 }
 
-// What a text is read as after one more legal move `m` that it denotes, from the reading so far (`found`): `m` if it
-// was `NoSuch`, `Ambiguous` if there was a move already.
+// The reading after one more legal move `m` that the text denotes, given the reading so far (`found`): `m` if there was
+// no move yet, `Ambiguous` if there was one. `NotAMove` stays: such a text denotes no move.
 fn with_move(found: Reading, m: Move) -> Reading
     ensures { result ≡ with_move found m }
 {
@@ -366,7 +366,8 @@ fn read_any_move<B: Board>(board: &B, text: &[u8]) -> Reading
 }
 
 /// Reads a text as a move of the board's position: a legal move if the text denotes exactly one, else why it doesn't.
-/// Whether a mark `+` or `#` is true isn't asked; en passant is a capture.
+/// An `x` may be left out, and may be there only if the move captures (en passant does); the marks `+` and `#` are not
+/// checked.
 #[inline(always)]
 pub fn read_move<B: Board>(board: &B, text: &[u8]) -> Reading
     ensures value { result ≡ reading (B.position board.now) text.now }

@@ -56,7 +56,7 @@ fn some_on_rank(rank: u8, squares: SquareSet) -> bool
     false
 }
 
-// What SAN writes of the start square: its file if `file`, its rank if `rank`.
+// Shorthand for a `Disambiguation`: whether SAN writes the file of the start square, and whether its rank.
 fn distinction(file: bool, rank: bool) -> Disambiguation
     ensures { result ≡ distinction file rank }
 {
