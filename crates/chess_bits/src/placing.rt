@@ -4,7 +4,7 @@ ghost use Rattle.std.specs.Prelude.{◌≡◌, ℕ, ◌==◌, ◌&&◌, ◌||◌
 ghost use Rattle.chess_base.specs.Before.{before, saved_of};
 ghost use Rattle.chess_base.specs.Men.{man_at};
 ghost use Rattle.chess_base.specs.shared.OneSquare.{with_man};
-ghost use Rattle.chess_base.specs.Moves.{after, is_legal, rights_after, steps_of, target_after};
+ghost use Rattle.chess_base.specs.Moves.{after, is_legal, rights_after, target_after};
 ghost use Rattle.chess_base.specs.Sound.{IsSound};
 ghost use Rattle.chess_base.specs.Squares.{is_square};
 ghost use Rattle.chess_base.specs.Steps.{men_stepped};
@@ -19,8 +19,8 @@ use crate::keys::KeyTable;
 use crate::sets::Sets;
 use crate::targets::is_pawn;
 use chess_base::rules::{
-    Steps, arriving_man, fullmove_after, halfmove_after, is_man, rights_after, saved_of,
-    steps_back, steps_of, target_after,
+    Steps, fullmove_after, halfmove_after, is_man, rights_after, saved_of, steps_back, steps_of,
+    target_after,
 };
 use chess_base::{COUNTER_LIMIT, Kind, Man, Move, Rights, Saved, Setup, Square};
 use chess_moves::SquareSet;
@@ -93,35 +93,6 @@ pub(crate) fn is_target(setup: &Setup, square: Square) -> bool
     match setup.target {
         None => false,
         Some(target) => target == square,
-    }
-}
-
-/// The steps of a move: which pieces leave which squares, and which arrive. It looks at more than the move's two
-/// squares only for a king's move, or a pawn's move to the en passant target.
-#[tactic(auto, using(crate::proofs::Quiet::plain_steps))]
-#[inline(always)]
-pub(crate) fn fast_steps_of(setup: &Setup, m: &Move) -> Steps
-    requires { IsSound setup.now }
-    ensures { result ≡ steps_of setup.now m.now }
-{
-    let side = setup.side;
-    let man = setup.men[m.from.index()];
-    if is_man(side, Kind::King, man) {
-        return steps_of(setup, m);
-    }
-    if is_man(side, Kind::Pawn, man) && is_target(setup, m.to) {
-        return steps_of(setup, m);
-    }
-    Steps {
-        from: m.from,
-        second_from: None,
-        second_to: None,
-        second: Some(Man {
-            colour: side,
-            kind: Kind::Rook,
-        }),
-        to: m.to,
-        mover: arriving_man(man, m.promotion),
     }
 }
 
