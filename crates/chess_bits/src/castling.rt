@@ -51,8 +51,8 @@ impl Bits<'_> {
         met.is_empty()
     }
 
-    // Whether nothing prevents the castling with these squares: its way is empty, and no square of the king's part of it
-    // is attacked.
+    // Whether nothing prevents the castling with these squares: its way is empty, and no square of the king's part of
+    // it is attacked.
     fn castles(&self, castle: &Castle) -> bool
         requires kings { rank castle.now.king_from ≡ rank castle.now.king_to }
         requires rooks { rank castle.now.rook_from ≡ rank castle.now.rook_to }

@@ -97,8 +97,8 @@ impl Bits<'_> {
         !self.sets.of(by).attacks(self.tables, by, to, left)
     }
 
-    // The end squares of the legal moves of the king on `king`, by a step or by castling. With the general test for each
-    // move, lists of moves in late endings took 13 % longer.
+    // The end squares of the legal moves of the king on `king`, by a step or by castling. With the general test for
+    // each move, lists of moves in late endings took 13 % longer.
     pub(crate) fn king_ends(&self, king: Square) -> SquareSet
         requires { is_man (self.now).side King (man_at (self.now).men king) ≡ true }
         ensures { (k : ℕ) → k < 64 → contains result k ≡ is_legal self.now (move_of king k None) }
@@ -110,8 +110,8 @@ impl Bits<'_> {
         self.castling_ends(king).union(safe)
     }
 
-    // Whether the move `m` is neither the king's nor a pawn's to the en passant target: so only its two squares change, and
-    // the king stays.
+    // Whether the move `m` is neither the king's nor a pawn's to the en passant target: so only its two squares change,
+    // and the king stays.
     #[inline(always)]
     fn steps_plainly(&self, m: &Move) -> bool
         ensures { result ≡ (not (is_man (self.now).side King (man_at (self.now).men m.now.from))
@@ -134,8 +134,8 @@ impl Bits<'_> {
         self.is_safe_by(&steps_of(&self.setup, m))
     }
 
-    // Whether a pseudo-legal move, which makes these steps, is legal: the mover's king is not attacked after it. Only en
-    // passant and castling in Chess960 need it, so it is kept out of the common way.
+    // Whether a pseudo-legal move, which makes these steps, is legal: the mover's king is not attacked after it. Only
+    // en passant and castling in Chess960 need it, so it is kept out of the common way.
     #[inline(never)]
     pub(crate) fn is_safe_by(&self, steps: &Steps) -> bool
         ensures { (m : Move) → is_pseudo_legal self.now m ≡ true → steps.now ≡ steps_of self.now m
@@ -147,8 +147,8 @@ impl Bits<'_> {
         self.is_safe_at(king, filled, changed)
     }
 
-    // Whether a pseudo-legal move from `from` to `to` is legal. It is not the king's and not en passant, so only its two
-    // squares change, and it does not matter what the piece becomes.
+    // Whether a pseudo-legal move from `from` to `to` is legal. It is not the king's and not en passant, so only its
+    // two squares change, and it does not matter what the piece becomes.
     #[inline(always)]
     pub(crate) fn is_safe_plain(&self, from: Square, to: Square) -> bool
         ensures { (promotion : Option ManKind) → StepsPlainly self.now (move_of from to promotion)

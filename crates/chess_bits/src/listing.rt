@@ -156,8 +156,8 @@ impl Bits<'_> {
         }
     }
 
-    // Appends to `list`, which is empty, all legal moves, rising by start square, end square and promotion. It fills the
-    // caller's list, since a list of its own (3,592 bytes) would be copied on its way out.
+    // Appends to `list`, which is empty, all legal moves, rising by start square, end square and promotion. It fills
+    // the caller's list, since a list of its own (3,592 bytes) would be copied on its way out.
     #[inline(always)]
     pub(crate) fn add_moves(&self, list: &mut MoveList)
         requires { list.old.items ≡ [] }

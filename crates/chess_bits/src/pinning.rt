@@ -137,8 +137,8 @@ impl Bits<'_> {
         pins
     }
 
-    // The pins of the side on move. In check no piece is free, and each but the king has to meet the first checker. With
-    // each move in check, or with a pin, judged alone, the workload boards took 19 % longer.
+    // The pins of the side on move. In check no piece is free, and each but the king has to meet the first checker.
+    // With each move in check, or with a pin, judged alone, the workload boards took 19 % longer.
     #[inline(always)]
     pub(crate) fn pins(&self) -> Pins
         ensures free { (k : ℕ) → k < 64 → contains result.free k ≡ true → IsFree self.now k }
@@ -158,8 +158,8 @@ impl Bits<'_> {
         }
     }
 
-    // The squares of a set that has the ends of the legal moves of the piece on `from`, which is no king, given where the
-    // pieces may go. For each of them some move of the piece there is pseudo-legal.
+    // The squares of a set that has the ends of the legal moves of the piece on `from`, which is no king, given where
+    // the pieces may go. For each of them some move of the piece there is pseudo-legal.
     #[inline(always)]
     pub(crate) fn allowed_targets(&self, from: Square, pins: &Pins) -> SquareSet
         requires no_king { is_man (self.now).side King (man_at (self.now).men from) ≡ false }

@@ -1,7 +1,7 @@
 //! One game: the current moves, and the positions that they gave.
 //!
-//! `play_legal` and `refusal_of_moving` are inlined with what they call, since chess_pgn plays the moves of a game in one
-//! loop over its words. What that gains was not measured apart.
+//! `play_legal` and `refusal_of_moving` are inlined with what they call, since chess_pgn plays the moves of a game in
+//! one loop over its words. What that gains was not measured apart.
 
 ghost use Rattle.std.specs.Prelude.{false, ◌≡◌, ◌≢◌, ◌≤◌, ◌<◌, ◌+◌, ◌↔◌, IsTrue, IsFalse, IsNone, IsOk, IsErr, IfOk, OnOk, OnErr, Err, None, Some, [], ◌∷◌, ◌++◌, length, take, slice_get, nat_le, nat_lt};
 ghost use Rattle.chess_base.specs.MoveList.{moves};

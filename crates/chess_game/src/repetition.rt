@@ -22,8 +22,8 @@ pub(crate) struct Hashed {
 }
 
 impl Hashed {
-    // The board's present position, packed, with its hash and its legal en passant square. It is packed last: so nothing
-    // has to be kept through the search for a capture on the target, which there rarely is.
+    // The board's present position, packed, with its hash and its legal en passant square. It is packed last: so
+    // nothing has to be kept through the search for a capture on the target, which there rarely is.
     #[inline(always)]
     pub(crate) fn on<B: Board>(board: &B) -> Self
         ensures position { result.position ≡ B.position board.now }
