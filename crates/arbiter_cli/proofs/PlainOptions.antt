@@ -1,5 +1,5 @@
 -- The options of `verify` and `match` as the walk meets them.
-use Rattle.std.proofs.Common.{◌≡◌, ◌∙◌, ◌++◌, ◌<◌, ◌≤◌, ◌^◌, ℕ, Bor, Bool, true, false, List, [], ◌∷◌, Some, None, codes, map, refl, sym, subst, ap, inl, inr, arith}
+use Rattle.std.proofs.Common.{◌≡◌, ◌∙◌, ◌++◌, ◌<◌, ◌≤◌, ◌^◌, ℕ, Bor, Bool, true, false, List, [], ◌∷◌, codes, refl, sym, subst, ap, inl, inr, arith}
 use Rattle.std.specs.Prelude.{if◌then◌else◌, bytes_eq}
 use Rattle.std.specs.List.{list_any}
 use Rattle.std.specs.Str.Parse.{digits_value, without_leading_plus}
@@ -7,7 +7,7 @@ use Rattle.clap.specs.Faults.{repeat_fault}
 use Rattle.clap.specs.Kinds.{or_else}
 use Rattle.clap.specs.Simple.{Shape, filled_from, help_rule, new_shape}
 use Rattle.clap.specs.ValueTests.{accepts}
-use Rattle.clap.specs.Walk.{Row, Rule, Text, walked}
+use Rattle.clap.specs.Walk.{Rule, Text, walked}
 use Rattle.clap.specs.declared.builder.value_parser.ValueParser.TheVariants as vp
 use Rattle.clap.specs.declared.error.kind.ErrorKind.TheVariants as kind
 use Rattle.clap.proofs.ValueTestLemmas.{Accepts-accepts}
@@ -177,5 +177,31 @@ of_match names are (valued name text) (plain, inr (inr (inr (inr (inr (inr (e, i
     subst (λ n. TakesValue (match_shape names) n text) (sym e) (variant names text plain are is)
 
 pub match_fine : (names : Lent) → AllFine (match_shape names).rules
-match_fine names = (inl refl, (inl refl, (inl refl, (inl refl, (inl refl, (inl refl, (inl refl, (inr refl, (inl refl,
-    tt)))))))))
+match_fine names = (
+  inl refl,
+  (
+    inl refl,
+    (
+      inl refl,
+      (
+        inl refl,
+        (
+          inl refl,
+          (
+            inl refl,
+            (
+              inl refl,
+              (
+                inr refl,
+                (
+                  inl refl,
+                  tt,
+                ),
+              ),
+            ),
+          ),
+        ),
+      ),
+    ),
+  ),
+)

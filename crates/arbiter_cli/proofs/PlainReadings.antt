@@ -1,9 +1,9 @@
 -- Plain arguments are read as what they say.
-use Rattle.std.proofs.Common.{◌≡◌, ◌∙◌, ◌<◌, ◌||◌, ◌&&◌, Bool, true, false, not, List, [], ◌∷◌, length, Option, Some, None, IsSome, Result, Ok, Err, codes, find, fold, flat_map, is_some, option_map, refl, sym, subst, ap, ap₂, lit<, arith}
+use Rattle.std.proofs.Common.{◌≡◌, ◌∙◌, ◌<◌, ◌||◌, Bool, true, false, not, List, [], ◌∷◌, length, Option, Some, None, Result, Ok, Err, codes, find, fold, flat_map, is_some, option_map, refl, sym, subst, ap, ap₂, lit<, arith}
 use Rattle.std.specs.Prelude.{if◌then◌else◌, unwrap_or}
 use Rattle.std.specs.Option.{option_map_or, option_or}
 use Rattle.std.specs.Str.{bytes_eq}
-use Rattle.clap.specs.Words.{IsAmong, Kinds, Row, Text, all_of, first_of, kind_of}
+use Rattle.clap.specs.Words.{IsAmong, Kinds, Row, Text, kind_of}
 use Rattle.clap.specs.Faults.{check_fault, defaults_fault, entered_fault, level_fault, settle_fault, turn_fault, walk_fault}
 use Rattle.clap.specs.Kinds.{check_kinds, or_else}
 use Rattle.clap.specs.Simple.{App, Shape, built, entered, label_of, names_of, rows_at}
@@ -11,7 +11,6 @@ use Rattle.clap.specs.Walk.{Walk, answers_to, finished, nothing_held, rows_after
 use Rattle.clap.proofs.FaultLemmas.{stopped_fault}
 use Rattle.clap.proofs.WalkLemmas.{walk_stopped}
 use Rattle.arbiter_grammar.specs.Grammar.{AreVariants, Lent, arbiter_app, asked, faults_in}
-use Rattle.chess_base.specs.declared.man.Variant.{Variant}
 use Rattle.chess_base.specs.declared.man.Variant.TheVariants.{Normal, Fischerandom}
 use Rattle.arbiter_cli.specs.Plans.{IsMatchPlan, IsReadAs, IsReadBy, Said, Values, date_asked, games_in, is_date, is_set, level_and_start, matched, said_by, start_asked, text_or, variant_in, verify_plan_of}
 use Rattle.arbiter_cli.specs.declared.plan.Plan.{Plan}

@@ -1,8 +1,8 @@
 -- `clap`'s walk over options that are each given once: a lemma for one option more (`step`), and then all of them
 -- (`steps`).
-use Rattle.std.proofs.Common.{◌≡◌, ◌≢◌, ◌∙◌, ◌<◌, ◌++◌, ◌&&◌, ◌||◌, ◌==◌, ℕ, suc, Bool, true, false, not, List, [], ◌∷◌, length, Option, Some, None, All, AllPairs, cond, fold, flat_map, map, option_and_then, bytes_eq, codes, is_some, refl, sym, subst, ap, ap₂, arith}
-use Rattle.std.specs.Prelude.{if◌then◌else◌, nat_eq, slice_index_or}
-use Rattle.std.specs.List.{AllByRecursion, list_any}
+use Rattle.std.proofs.Common.{◌≡◌, ◌≢◌, ◌∙◌, ◌<◌, ◌++◌, ◌&&◌, ◌||◌, suc, Bool, false, not, List, [], ◌∷◌, length, Option, Some, None, All, AllPairs, fold, flat_map, map, option_and_then, bytes_eq, codes, refl, sym, subst, ap, ap₂, arith}
+use Rattle.std.specs.Prelude.{if◌then◌else◌, slice_index_or}
+use Rattle.std.specs.List.{AllByRecursion}
 use Rattle.std.specs.Option.{option_map_or}
 use Rattle.std.proofs.lemmas.Bool.{false_from_ne_true}
 use Rattle.std.proofs.lemmas.List.{append-nil, append_assoc}
@@ -12,9 +12,9 @@ use Rattle.clap.specs.Faults.{bundle_fault, check_fault, defaults_fault, flag_wo
 use Rattle.clap.specs.Kinds.{Kinds, or_else}
 use Rattle.clap.specs.Lexer.{long_of, long_of_rest, short_of, short_of_rest, strip_byte}
 use Rattle.clap.specs.Simple.{Shape}
-use Rattle.clap.specs.Walk.{Held, Row, Rule, Step, Text, Waiting, Walk, after_step, finished, has_row, idle, long_or_other, next, nothing_held, option, plain_word, rows_after, settled, settled_rows, short_or_plain, trailing, walk, walk_from, walked, with_default, word_met}
+use Rattle.clap.specs.Walk.{Held, Row, Step, Text, Walk, after_step, finished, has_row, idle, long_or_other, next, nothing_held, option, plain_word, rows_after, settled, settled_rows, short_or_plain, trailing, walk, walk_from, walked, with_default, word_met}
 use Rattle.clap.specs.declared.error.kind.ErrorKind.TheVariants as kind
-use Rattle.arbiter_cli.specs.laws.Plain.{Given, flag, has_hyphen, name_of, valued, value_of, written}
+use Rattle.arbiter_cli.specs.laws.Plain.{Given, flag, has_hyphen, name_of, valued, written}
 use Rattle.arbiter_cli.proofs.PlainRows.{AllFine, added, added_is, defaults_fine, row_for}
 
 abbrev pub held : List Row → Option (Text × List Text) → Held

@@ -1,6 +1,6 @@
 -- Plain arguments, and what they say, without the grammar: a subcommand and then its options, in any order and each at
 -- most once. A value is an argument of its own and begins with no hyphen.
-use Rattle.std.specs.Prelude.{◌≡◌, ◌≢◌, ◌≤◌, ◌==◌, ◌⊎◌, ℕ, Bool, false, List, [], ◌∷◌, ◌++◌, codes, Option, None, find, flat_map, option_map, AllPairs, IsSome, Result, ⊤}
+use Rattle.std.specs.Prelude.{◌≡◌, ◌≢◌, ◌≤◌, ◌==◌, ◌⊎◌, Bool, false, List, [], ◌∷◌, ◌++◌, codes, None, find, flat_map, option_map, AllPairs, IsSome, Result, ⊤}
 use Rattle.std.specs.List.{AllByRecursion}
 use Rattle.std.specs.Str.{bytes_eq}
 use Rattle.std.specs.Str.Parse.{IsNumeral, digits_value, without_leading_plus}
