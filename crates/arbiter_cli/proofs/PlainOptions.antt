@@ -14,7 +14,6 @@ use Rattle.clap.proofs.ValueTestLemmas.{Accepts-accepts}
 use Rattle.clap.proofs.WalkLemmas.{list_any-map}
 use Rattle.arbiter_grammar.specs.Grammar.{AreVariants, Lent, match_app, stub_app, verify_app}
 use Rattle.arbiter_cli.specs.laws.Plain.{Given, IsGames, IsOfMatch, IsOfVerify, IsVariant, flag, has_hyphen, valued}
-use Rattle.arbiter_cli.proofs.PlainRows.{AllFine}
 use Rattle.arbiter_cli.proofs.PlainWalk.{IsFlag, Known, TakesValue}
 
 -- a subcommand as `build` leaves it, with these rules
@@ -48,9 +47,6 @@ of_verify (flag name) (inr (inr (inl e))) = subst (IsFlag verify_shape) (sym e)
     (record { first = λ rows p. refl; first_fault = λ rows p. refl })
 of_verify (flag name) (inr (inr (inr e))) = subst (IsFlag verify_shape) (sym e)
     (record { first = λ rows p. refl; first_fault = λ rows p. refl })
-
-pub verify_fine : AllFine verify_shape.rules
-verify_fine = (inr refl, (inr refl, (inr refl, (inr refl, (inl refl, tt)))))
 
 -- ---- match
 
@@ -175,33 +171,3 @@ of_match names are (valued name text) (plain, inr (inr (inr (inr (inr (inl (e, n
     subst (λ n. TakesValue (match_shape names) n text) (sym e) (games names text plain number)
 of_match names are (valued name text) (plain, inr (inr (inr (inr (inr (inr (e, is))))))) =
     subst (λ n. TakesValue (match_shape names) n text) (sym e) (variant names text plain are is)
-
-pub match_fine : (names : Lent) → AllFine (match_shape names).rules
-match_fine names = (
-  inl refl,
-  (
-    inl refl,
-    (
-      inl refl,
-      (
-        inl refl,
-        (
-          inl refl,
-          (
-            inl refl,
-            (
-              inl refl,
-              (
-                inr refl,
-                (
-                  inl refl,
-                  tt,
-                ),
-              ),
-            ),
-          ),
-        ),
-      ),
-    ),
-  ),
-)

@@ -23,7 +23,7 @@ use Rattle.arbiter_cli.specs.laws.Plain.{Given, IsOfMatch, IsOfVerify, IsPlain, 
 use Rattle.arbiter_cli.specs.ties.Requests.{start_of}
 use Rattle.cecp_engine.specs.Levels.{level_of}
 use Rattle.arbiter_cli.proofs.Literals as literals
-use Rattle.arbiter_cli.proofs.PlainOptions.{match_fine, match_shape, of_match, of_verify, stub_shape, verify_fine, verify_shape}
+use Rattle.arbiter_cli.proofs.PlainOptions.{match_shape, of_match, of_verify, stub_shape, verify_shape}
 use Rattle.arbiter_cli.proofs.PlainRows.{default_in, value_found, value_given}
 use Rattle.arbiter_cli.proofs.PlainStub.{replies_are, replies_pass}
 use Rattle.arbiter_cli.proofs.PlainWalk.{all_known, rows_of_given, takes_options}
@@ -252,8 +252,8 @@ says_it names are session plain = record {
 }
 says_it names are (verify options) plain =
     let rest = flat_map written options in
-    let takes = takes_options verify_shape options (all_known verify_shape IsOfVerify options of_verify plain.0) plain.1
-    verify_fine refl in
+    let known = all_known verify_shape IsOfVerify options of_verify plain.0 in
+    let takes = takes_options verify_shape options known plain.1 refl refl in
     let is = asked_is names (codes "verify") verify_shape rest refl refl refl
     ∙ ap (with_name (codes "verify")) takes.rows in
     record {
@@ -275,8 +275,8 @@ says_it names are (match options) plain =
     let black = value_given (codes "black") options s.rules plain.2 in
     let check : check_fault s (rows_of_given s options) false ≡ [] =
     ap₂ (λ (w b : Bool). check_kinds false false (not w || (not b || false))) white black in
-    let takes = takes_options s options (all_known s IsOfMatch options (of_match names are) plain.0.0) plain.0.1
-    (match_fine names) check in
+    let known = all_known s IsOfMatch options (of_match names are) plain.0.0 in
+    let takes = takes_options s options known plain.0.1 refl check in
     let is = asked_is names (codes "match") s rest refl refl refl
     ∙ ap (with_name (codes "match")) takes.rows in
     record {

@@ -1,7 +1,7 @@
 -- The rows of options that were each given once, and the defaults of the others.
-use Rattle.std.proofs.Common.{◌≡◌, ◌∙◌, ◌++◌, ◌||◌, ◌⊎◌, Bool, true, false, true≢false, List, [], ◌∷◌, Option, Some, None, IsSome, cond, find, fold, map, option_map, option_and_then, bytes_eq, refl, sym, subst, ap, ap₂, inl, inr, slice_get}
+use Rattle.std.proofs.Common.{◌≡◌, ◌∙◌, ◌++◌, ◌||◌, Bool, true, false, true≢false, List, [], ◌∷◌, Option, Some, None, IsSome, cond, find, fold, map, option_map, option_and_then, bytes_eq, refl, sym, subst, ap, ap₂, slice_get}
 use Rattle.std.specs.Prelude.{if◌then◌else◌}
-use Rattle.std.specs.List.{list_any}
+use Rattle.std.specs.List.{list_all, list_any}
 use Rattle.std.specs.Option.{option_map_or, option_or}
 use Rattle.std.proofs.lemmas.Bool.{or_parts}
 use Rattle.std.proofs.lemmas.List.{append-nil}
@@ -16,7 +16,8 @@ use Rattle.clap.specs.declared.builder.value_parser.Reading.{Reading}
 use Rattle.clap.specs.declared.builder.value_parser.Reading.TheVariants as reading
 use Rattle.clap.specs.declared.parser.matches.ValueSource.{ValueSource}
 use Rattle.clap.specs.declared.parser.matches.ValueSource.TheVariants.{CommandLine, DefaultValue}
-use Rattle.clap.proofs.WalkLemmas.{find-map}
+use Rattle.clap.proofs.SimpleLemmas.{is_nil}
+use Rattle.clap.proofs.WalkLemmas.{both, find-map}
 use Rattle.arbiter_cli.specs.laws.Plain.{Given, name_of, value_of, values_in}
 
 -- the row of a value, of which there is none yet
@@ -88,26 +89,32 @@ none_any p (r ∷ rs) e any = none_of (p r) (find p rs) e (list_any p rs) any (n
 module _ (name : Text) (a : Rule) (c : List Rule) (rows : List Row) (none : find (λ r. bytes_eq r.id name) rows ≡ None)
     (later : (now : List Row) → find (λ r. bytes_eq r.id name) now ≡ None
     → first_of name (fold with_default now c) ≡ default_in name c) where
+  -- the row of a default is the first with this name where it has the name
+  new_row : (same : Bool) (v : Text) (vs : List Text) → bytes_eq a.id name ≡ same → has_row a.id rows ≡ false
+      → find (λ r. bytes_eq r.id name) (default_rows a.id (reading_by a) (v ∷ vs) rows)
+      ≡ cond same (Some (row_with a.id (reading_by a) DefaultValue (v ∷ vs))) None
+  new_row same v vs is there =
+      let row : Row = row_with a.id (reading_by a) DefaultValue (v ∷ vs) in
+      let p : Row → Bool = λ r. bytes_eq r.id name in
+      ap (find p) (absent a.id (more_values DefaultValue (v ∷ vs)) (row ∷ []) rows there)
+      ∙ find-append p rows (row ∷ [])
+      ∙ ap₂ (λ (o : Option Row) (b : Bool). option_or o (cond b (Some row) None)) none is
+
   default_one : (same has : Bool) (values : List Text) → bytes_eq a.id name ≡ same → has_row a.id rows ≡ has
       → first_of name (fold with_default (if has then rows else default_rows a.id (reading_by a) values rows) c)
       ≡ (if same then option_or (slice_get values 0) (default_in name c) else default_in name c)
   default_one false true values is there = later rows none
   default_one false false [] is there = later rows none
   default_one false false (v ∷ vs) is there =
-      let row : Row = row_with a.id (reading_by a) DefaultValue (v ∷ vs) in
-      let p : Row → Bool = λ r. bytes_eq r.id name in
-      later (default_rows a.id (reading_by a) (v ∷ vs) rows) (ap (find p) (absent a.id (more_values DefaultValue (v ∷ vs)) (row ∷ []) rows there)
-      ∙ find-append p rows (row ∷ []) ∙ ap₂ (λ (o : Option Row) (b : Bool). option_or o (cond b (Some row) None)) none is)
+      later (default_rows a.id (reading_by a) (v ∷ vs) rows) (new_row false v vs is there)
   default_one true true values is there =
       let same : a.id ≡ name = (bytes_eq-Decides a.id name).0 is in
       absurd (none_any (λ r. bytes_eq r.id name) rows none (subst (λ (id : Text). has_row id rows ≡ true) same there))
   default_one true false [] is there = later rows none
   default_one true false (v ∷ vs) is there =
-      let row : Row = row_with a.id (reading_by a) DefaultValue (v ∷ vs) in
-      let p : Row → Bool = λ r. bytes_eq r.id name in
-      ap (option_and_then (λ (r : Row). slice_get r.values 0)) (kept p c (default_rows a.id (reading_by a) (v ∷ vs) rows) row
-      (ap (find p) (absent a.id (more_values DefaultValue (v ∷ vs)) (row ∷ []) rows there)
-      ∙ find-append p rows (row ∷ []) ∙ ap₂ (λ (o : Option Row) (b : Bool). option_or o (cond b (Some row) None)) none is))
+      ap (option_and_then (λ (r : Row). slice_get r.values 0))
+      (kept (λ r. bytes_eq r.id name) c (default_rows a.id (reading_by a) (v ∷ vs) rows)
+      (row_with a.id (reading_by a) DefaultValue (v ∷ vs)) (new_row true v vs is there))
 
 missing : (name : Text) (c : List Rule) (rows : List Row) → find (λ r. bytes_eq r.id name) rows ≡ None
     → first_of name (fold with_default rows c) ≡ default_in name c
@@ -126,7 +133,8 @@ module _ (name : Text) (options : List Given) (c : List Rule) where
   found_row o e = sym (find-map has_name row_for options) ∙ ap (option_map row_for) e
 
   found_as : (o : Option Given) → find (λ g. bytes_eq (name_of g) name) options ≡ o
-      → first_of name (fold with_default (map row_for options) c) ≡ option_or (option_map value_of o) (default_in name c)
+      → first_of name (fold with_default (map row_for options) c)
+      ≡ option_or (option_map value_of o) (default_in name c)
   found_as None e = missing name c (map row_for options) (found_row None e)
   found_as (Some g) e = ap (option_and_then (λ (r : Row). slice_get r.values 0))
       (kept has_name c (map row_for options) (row_for g) (found_row (Some g) e))
@@ -147,20 +155,20 @@ module _ (name : Text) (options : List Given) (c : List Rule) where
 
 -- ---- defaults pass
 
--- the default values of each option are accepted
-abbrev pub AllFine : List Rule → Type 0
-AllFine [] = Unit {0}
-AllFine (a ∷ c) = ((is_empty a.defaults ≡ true) ⊎ (given_default_fault a a.defaults ≡ [])) × AllFine c
+-- the default values of the option are accepted
+abbrev pub is_fine : Rule → Bool
+is_fine a = is_empty a.defaults || is_empty (given_default_fault a a.defaults)
 
-fine_one : (has none : Bool) (kinds : Kinds) → (none ≡ true) ⊎ (kinds ≡ []) → (if has || none then [] else kinds) ≡ []
-fine_one true none kinds h = refl
-fine_one false true kinds h = refl
-fine_one false false kinds (inl e) = absurd (true≢false (sym e))
-fine_one false false kinds (inr e) = e
+fine_one : (has none : Bool) (kinds : Kinds) → (none || is_empty kinds) ≡ true
+    → (if has || none then [] else kinds) ≡ []
+fine_one true none kinds fine = refl
+fine_one false true kinds fine = refl
+fine_one false false kinds fine = is_nil kinds fine
 
-pub defaults_fine : (c : List Rule) (rows : List Row) → AllFine c → defaults_fault rows c ≡ []
+pub defaults_fine : (c : List Rule) (rows : List Row) → list_all is_fine c ≡ true → defaults_fault rows c ≡ []
 unfolding defaults_fault
 defaults_fine [] rows fine = refl
-defaults_fine (a ∷ c) rows fine = ap₂ or_else
-    (fine_one (has_row a.id rows) (is_empty a.defaults) (given_default_fault a a.defaults) fine.0)
-    (defaults_fine c (with_default rows a) fine.1)
+defaults_fine (a ∷ c) rows fine =
+    let parts = both (is_fine a) (list_all is_fine c) fine in
+    ap₂ or_else (fine_one (has_row a.id rows) (is_empty a.defaults) (given_default_fault a a.defaults) parts.0)
+    (defaults_fine c (with_default rows a) parts.1)

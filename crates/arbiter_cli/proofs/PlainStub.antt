@@ -1,5 +1,5 @@
 -- `clap`'s walk over what a stub plays: each argument is one more value of its rule `words`.
-use Rattle.std.proofs.Common.{◌≡◌, ◌∙◌, ◌++◌, Bool, false, List, [], ◌∷◌, Option, Some, None, fold, codes, refl, subst, ap, ap₂, inl}
+use Rattle.std.proofs.Common.{◌≡◌, ◌∙◌, ◌++◌, Bool, false, List, [], ◌∷◌, Option, Some, None, fold, codes, refl, subst, ap, ap₂}
 use Rattle.std.specs.Prelude.{if◌then◌else◌, unwrap_or}
 use Rattle.std.specs.List.{AllByRecursion}
 use Rattle.std.specs.Option.{option_map_or}
@@ -11,7 +11,7 @@ use Rattle.clap.specs.declared.builder.value_parser.Reading.TheVariants as readi
 use Rattle.clap.specs.declared.parser.matches.ValueSource.TheVariants.{CommandLine}
 use Rattle.arbiter_cli.specs.laws.Plain.{has_hyphen}
 use Rattle.arbiter_cli.proofs.PlainOptions.{stub_shape}
-use Rattle.arbiter_cli.proofs.PlainRows.{AllFine, defaults_fine}
+use Rattle.arbiter_cli.proofs.PlainRows.{defaults_fine}
 use Rattle.arbiter_cli.proofs.PlainWalk.{held, no_dashes, no_long, no_short}
 
 -- the rows of these words
@@ -136,9 +136,6 @@ plays [] plain = record { rows = refl; settles = refl; passes = refl }
 plays (x ∷ xs) plain = one_more (walk_from nothing_held) (after_one [] x) x xs (x ∷ xs) (first_walked x plain.0)
     (first_passes x plain.0) (plays_on xs [] x plain.1)
 
-stub_fine : AllFine stub_shape.rules
-stub_fine = (inl refl, (inl refl, tt))
-
 words_there : (replies : List Text)
     → unwrap_or (all_of (codes "words") (fold with_default (words_rows replies) stub_shape.rules)) [] ≡ replies
 words_there [] = refl
@@ -160,4 +157,4 @@ replies_pass replies plain =
     ap₂ (λ (x y : Kinds). or_else x (or_else y (or_else (defaults_fault now stub_shape.rules)
     (check_fault stub_shape (finished stub_shape.rules end) false)))) all.passes all.settles
     ∙ ap (λ (x : Kinds). or_else x (check_fault stub_shape (finished stub_shape.rules end) false))
-    (defaults_fine stub_shape.rules now stub_fine)
+    (defaults_fine stub_shape.rules now refl)

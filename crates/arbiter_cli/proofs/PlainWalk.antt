@@ -1,8 +1,8 @@
 -- `clap`'s walk over options that are each given once: a lemma for one option more (`step`), and then all of them
 -- (`steps`).
-use Rattle.std.proofs.Common.{◌≡◌, ◌≢◌, ◌∙◌, ◌<◌, ◌++◌, ◌&&◌, ◌||◌, suc, Bool, false, not, List, [], ◌∷◌, length, Option, Some, None, All, AllPairs, fold, flat_map, map, option_and_then, bytes_eq, codes, refl, sym, subst, ap, ap₂, arith}
+use Rattle.std.proofs.Common.{◌≡◌, ◌≢◌, ◌∙◌, ◌<◌, ◌++◌, ◌&&◌, ◌||◌, suc, Bool, true, false, not, List, [], ◌∷◌, length, Option, Some, None, All, AllPairs, fold, flat_map, map, option_and_then, bytes_eq, codes, refl, sym, subst, ap, ap₂, arith}
 use Rattle.std.specs.Prelude.{if◌then◌else◌, slice_index_or}
-use Rattle.std.specs.List.{AllByRecursion}
+use Rattle.std.specs.List.{AllByRecursion, list_all}
 use Rattle.std.specs.Option.{option_map_or}
 use Rattle.std.proofs.lemmas.Bool.{false_from_ne_true}
 use Rattle.std.proofs.lemmas.List.{append-nil, append_assoc}
@@ -15,7 +15,7 @@ use Rattle.clap.specs.Simple.{Shape}
 use Rattle.clap.specs.Walk.{Held, Row, Step, Text, Walk, after_step, finished, has_row, idle, long_or_other, next, nothing_held, option, plain_word, rows_after, settled, settled_rows, short_or_plain, trailing, walk, walk_from, walked, with_default, word_met}
 use Rattle.clap.specs.declared.error.kind.ErrorKind.TheVariants as kind
 use Rattle.arbiter_cli.specs.laws.Plain.{Given, flag, has_hyphen, name_of, valued, written}
-use Rattle.arbiter_cli.proofs.PlainRows.{AllFine, added, added_is, defaults_fine, row_for}
+use Rattle.arbiter_cli.proofs.PlainRows.{added, added_is, defaults_fine, is_fine, row_for}
 
 abbrev pub held : List Row → Option (Text × List Text) → Held
 held rows pending = record { rows = rows; pending = pending; skip = 0 }
@@ -100,16 +100,16 @@ record GoesOn (s : Shape) (from : Walk) (words : List Text) (to : Walk) : Type 0
   walks : (rest : List Text) → fold (walked s.rules []) from (words ++ rest) ≡ fold (walked s.rules []) to rest
   passes : (rest : List Text) → walk_fault s [] from (words ++ rest) ≡ walk_fault s [] to rest
 
-one_word : (s : Shape) (from to : Walk) (word : Text) → turn_fault s [] from word ≡ [] → walked s.rules [] from word ≡ to
-    → GoesOn s from (word ∷ []) to
+one_word : (s : Shape) (from to : Walk) (word : Text) → turn_fault s [] from word ≡ []
+    → walked s.rules [] from word ≡ to → GoesOn s from (word ∷ []) to
 unfolding walk_fault
 one_word s from to word passes is = record {
   walks = λ rest. ap (λ (w : Walk). fold (walked s.rules []) w rest) is;
   passes = λ rest. ap₂ (λ (k : Kinds) (w : Walk). or_else k (walk_fault s [] w rest)) passes is;
 }
 
-two_words : (s : Shape) (from mid to : Walk) (one two : Text) → GoesOn s from (one ∷ []) mid → GoesOn s mid (two ∷ []) to
-    → GoesOn s from (one ∷ two ∷ []) to
+two_words : (s : Shape) (from mid to : Walk) (one two : Text) → GoesOn s from (one ∷ []) mid
+    → GoesOn s mid (two ∷ []) to → GoesOn s from (one ∷ two ∷ []) to
 two_words s from mid to one two g h = record {
   walks = λ rest. g.walks (two ∷ rest) ∙ h.walks rest;
   passes = λ rest. g.passes (two ∷ rest) ∙ h.passes rest;
@@ -164,7 +164,8 @@ step s (valued name text) rows p all k ready none = record {
     settles = k.uses all ∙ added_is (valued name text) all none;
     passes = k.passes all ∙ no_repeat name all none;
   };
-  goes = two_words s (between rows p) (awaiting name all) (between all (Some (name, text ∷ []))) (codes "--" ++ name) text
+  goes = two_words s (between rows p) (awaiting name all) (between all (Some (name, text ∷ [])))
+      (codes "--" ++ name) text
       (one_word s (between rows p) (awaiting name all) (codes "--" ++ name)
       (k.first_fault rows p ∙ ap (λ (x : Kinds). or_else x []) ready.passes)
       (k.first rows p ∙ ap (awaiting name) ready.settles))
@@ -240,8 +241,8 @@ pub record TakesOptions (s : Shape) (options : List Given) : Type 0 where
   pub rows : rows_after s.rules [] (flat_map written options) ≡ rows_of_given s options
   pub passes : level_fault s [] nothing_held (flat_map written options) false [] ≡ []
 
-pub takes_options : (s : Shape) (options : List Given) → AllByRecursion (Known s) options → AreApart options → AllFine s.rules
-    → check_fault s (rows_of_given s options) false ≡ [] → TakesOptions s options
+pub takes_options : (s : Shape) (options : List Given) → AllByRecursion (Known s) options → AreApart options
+    → list_all is_fine s.rules ≡ true → check_fault s (rows_of_given s options) false ≡ [] → TakesOptions s options
 takes_options s options known apart fine check =
     let words = flat_map written options in
     let end = steps s options [] None [] known apart (λ k d lt. refl) (record { settles = refl; passes = refl }) in
@@ -249,7 +250,8 @@ takes_options s options known apart fine check =
     ap (λ (w : Walk). w.held) end.walks in
     record {
       rows = ap (finished s.rules) stands ∙ ap (λ (rows : List Row). fold with_default rows s.rules) end.ready.settles;
-      passes = ap₂ (λ (x : Kinds) (h : Held). or_else x (or_else [] (or_else (settle_fault s.rules s.args_override_self h)
+      passes = ap₂ (λ (x : Kinds) (h : Held). or_else x (or_else []
+          (or_else (settle_fault s.rules s.args_override_self h)
           (or_else (defaults_fault (settled s.rules h).rows s.rules) (check_fault s (finished s.rules h) false)))))
           end.passes stands
           ∙ ap₂ (λ (x : Kinds) (rows : List Row). or_else x
