@@ -33,7 +33,7 @@ abbrev pub added : Given → List Row → List Row
 added g rows =
     with_values (name_of g) reading.AsWritten CommandLine (value_of g ∷ []) (without (name_of g) rows)
 
--- where no row has the id, the new rows stand at the end
+-- where no row has the id, the new rows come last
 absent : (id : Text) (change : Row → List Row) (missing rows : List Row) → has_row id rows ≡ false
     → at_row id change missing rows ≡ rows ++ missing
 absent id change missing [] none = refl

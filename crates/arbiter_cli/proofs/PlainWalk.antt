@@ -95,7 +95,7 @@ pub record Ready (s : Shape) (rows : List Row) (pending : Option (Text × List T
   pub settles : settled_rows s.rules pending rows ≡ all
   pub passes : settle_fault s.rules s.args_override_self (held rows pending) ≡ []
 
--- the walk takes the words, and stands there
+-- the walk takes the words, and is then there
 record GoesOn (s : Shape) (from : Walk) (words : List Text) (to : Walk) : Type 0 where
   walks : (rest : List Text) → fold (walked s.rules []) from (words ++ rest) ≡ fold (walked s.rules []) to rest
   passes : (rest : List Text) → walk_fault s [] from (words ++ rest) ≡ walk_fault s [] to rest
@@ -140,7 +140,7 @@ value_word s name text rows k =
     (ap₂ (λ (x : Kinds) (m : Held × Step). or_else x (step_fault s 1 m.0 m.1)) (value_fault s name text h k.plain) met)
     (ap (λ (m : Held × Step). after_step s.rules text (awaiting name rows) m.0 m.1) met)
 
--- where the walk stands after words that it takes, with all rows so far
+-- where the walk is after words that it takes, with all rows so far
 pub record Ends (s : Shape) (from : Walk) (words : List Text) (all : List Row) : Type 0 where
   pub rows : List Row
   pub pending : Option (Text × List Text)
@@ -192,7 +192,7 @@ AreApart options = AllPairs (λ g h. name_of g ≢ name_of h) options
 abbrev AreFresh : List Given → List Row → Type 0
 AreFresh options rows = All (λ g. has_row (name_of g) rows ≡ false) options
 
--- what stands later has no row after the first one has its own
+-- the later options have no row after the first one has its own
 still_fresh : (g : Given) (gs : List Given) (rows : List Row) → AreApart (g ∷ gs) → AreFresh (g ∷ gs) rows
     → AreFresh gs (rows ++ row_for g ∷ [])
 still_fresh g gs rows apart fresh k d lt =

@@ -14,8 +14,8 @@ use arbiter_cli::{
 };
 
 /// States a law and does nothing: whenever the program runs with plain arguments, it does what they say. These are
-/// none; `session`; `verify` and `match` with their options, in any order and each at most once; and `stub` with what it
-/// plays.
+/// none; `session`; `verify` and `match` with their options, in any order and each at most once; and `stub` with what
+/// it plays.
 pub fn plain_arguments_are_followed()
     ensures { PlainArgumentsAreFollowed }
 {
