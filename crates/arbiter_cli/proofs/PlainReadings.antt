@@ -19,7 +19,7 @@ use Rattle.arbiter_cli.specs.declared.plan.MatchPlan.{MatchPlan}
 use Rattle.arbiter_cli.specs.declared.plan.VerifyPlan.{VerifyPlan}
 use Rattle.arbiter_cli.specs.declared.fault.WordsFault.{WordsFault}
 use Rattle.arbiter_cli.specs.declared.fault.WordsFault.TheVariants.{Words, NoMemory, BadLevel, BadFen, BadDate}
-use Rattle.arbiter_cli.specs.laws.Plain.{Given, IsOfMatch, IsOfVerify, IsPlain, Line, PlainArgumentsAreRead, arguments_of, empty, match, said_in, session, stub, values_in, verify, written}
+use Rattle.arbiter_cli.specs.laws.Plain.{CommandLine, Given, IsOfMatch, IsOfVerify, IsPlain, PlainArgumentsAreRead, arguments_of, empty, match, said_in, session, stub, values_in, verify, written}
 use Rattle.arbiter_cli.specs.ties.Requests.{start_of}
 use Rattle.cecp_engine.specs.Levels.{level_of}
 use Rattle.arbiter_cli.proofs.Literals as literals
@@ -151,7 +151,7 @@ read_as_asked names arguments none (Err BadDate) is = is.1
 
 -- ---- each kind of line
 
-record SaysIt (names : Lent) (line : Line) : Type 0 where
+record SaysIt (names : Lent) (line : CommandLine) : Type 0 where
   passes : faults_in names (arguments_of line) ≡ []
   says : SaysTheSame (said_by (asked names (arguments_of line))) (said_in line)
 
@@ -240,7 +240,7 @@ of_match_only a b e f same = record {
   on_match = λ is. same;
 }
 
-says_it : (names : Lent) → AreVariants names → (line : Line) → IsPlain line → SaysIt names line
+says_it : (names : Lent) → AreVariants names → (line : CommandLine) → IsPlain line → SaysIt names line
 unfolding walked
 says_it names are empty plain = record {
   passes = literals.none_asked.taken names;

@@ -33,24 +33,24 @@ written (flag name) = (codes "--" ++ name) ∷ []
 abbrev pub values_in : List Given → Values
 values_in options = λ name. option_map value_of (find (λ g. bytes_eq (name_of g) name) options)
 
--- plain arguments: none; `session`; `verify` and `match`, each with its options; or `stub` with what it plays
-pub data Line : Type 0 where
-  empty : Line
-  session : Line
-  verify : List Given → Line
-  stub : List Text → Line
-  match : List Given → Line
+-- a command line: no arguments; `session`; `verify` or `match` with options; or `stub` with what it plays
+pub data CommandLine : Type 0 where
+  empty : CommandLine
+  session : CommandLine
+  verify : List Given → CommandLine
+  stub : List Text → CommandLine
+  match : List Given → CommandLine
 
--- the arguments themselves
-abbrev pub arguments_of : Line → List Text
+-- its arguments
+abbrev pub arguments_of : CommandLine → List Text
 arguments_of empty = []
 arguments_of session = codes "session" ∷ []
 arguments_of (verify options) = codes "verify" ∷ flat_map written options
 arguments_of (stub replies) = codes "stub" ∷ replies
 arguments_of (match options) = codes "match" ∷ flat_map written options
 
--- what they say; no arguments say what `session` does
-abbrev pub said_in : Line → Said
+-- what it says; no arguments say what `session` does
+abbrev pub said_in : CommandLine → Said
 said_in empty = record { command = codes "session"; value = λ name. None; replies = [] }
 said_in session = record { command = codes "session"; value = λ name. None; replies = [] }
 said_in (verify options) = record { command = codes "verify"; value = values_in options; replies = [] }
@@ -89,8 +89,9 @@ IsOfMatch (flag name) = name ≡ codes "log"
 abbrev pub EachOnce : (Given → Type 0) → List Given → Type 0
 EachOnce IsOf options = AllByRecursion IsOf options × AllPairs (λ g h. name_of g ≢ name_of h) options
 
--- the subcommand has these options, each given at most once; both engines of a match are named
-abbrev pub IsPlain : Line → Type 0
+-- the command line is plain: its subcommand has these options, each given at most once; a match names both engines; and
+-- nothing that a stub plays begins with a hyphen
+abbrev pub IsPlain : CommandLine → Type 0
 IsPlain empty = ⊤
 IsPlain session = ⊤
 IsPlain (verify options) = EachOnce IsOfVerify options
@@ -101,5 +102,5 @@ IsPlain (match options) = EachOnce IsOfMatch options × IsSome (values_in option
 -- whatever reading plain arguments returns is right by what they say: the grammar is met only as the premise that they
 -- were read
 abbrev pub PlainArgumentsAreRead : Type 0
-PlainArgumentsAreRead = (line : Line) (r : Result Plan WordsFault) → IsPlain line → IsReading (arguments_of line) r
-    → IsReadAs (said_in line) r
+PlainArgumentsAreRead = (line : CommandLine) (r : Result Plan WordsFault) → IsPlain line
+    → IsReading (arguments_of line) r → IsReadAs (said_in line) r

@@ -5,7 +5,7 @@ use Rattle.arbiter_cli.specs.Plans.{IsReadAs, Said}
 use Rattle.arbiter_cli.specs.declared.plan.Plan.{Plan}
 use Rattle.arbiter_cli.specs.declared.fault.WordsFault.{WordsFault}
 use Rattle.arbiter_cli.specs.laws.Laws.{bare_plan}
-use Rattle.arbiter_cli.specs.laws.Plain.{IsPlain, Line, arguments_of, said_in}
+use Rattle.arbiter_cli.specs.laws.Plain.{CommandLine, IsPlain, arguments_of, said_in}
 use Rattle.chess_arbiter.specs.Program.{Does, World, RanProgram, RunsSession, VerifiesInput, WritesHelp}
 
 -- the program did what its arguments say, or reported a fault of a match's level, FEN or date, or that memory ran out;
@@ -15,7 +15,7 @@ DidAsSaid said d d' status = (read : Result Plan WordsFault) × IsReadAs said re
 
 -- whenever the program runs with plain arguments, it does what they say
 abbrev pub PlainArgumentsAreFollowed : Type 0
-PlainArgumentsAreFollowed = (line : Line) (d d' : World) (status : ℕ) → IsPlain line
+PlainArgumentsAreFollowed = (line : CommandLine) (d d' : World) (status : ℕ) → IsPlain line
     → RanProgram (arguments_of line) d d' status → DidAsSaid (said_in line) d d' status
 
 -- whenever a program runs with these arguments, it runs a session on its input and output, and has its exit status
