@@ -5,6 +5,7 @@ specs/laws/, specs/shared/ or specs/ties/ is not. A function reaches the definit
 arguments, and what these name in turn. A definition's lines are counted without comments, imports and empty lines. Names are
 resolved by the imports of their file; no prover is asked."""
 
+import copy
 import re
 
 from declared import Types
@@ -20,6 +21,9 @@ HEADLINES = [
     "Board::legal_moves", "Board::make", "Board::take_back", "make_then_take_back",
     "put", "Input::read", "Output::write",
 ]
+
+# What is believed of plain arguments: the law says what they are read as, so a reader need not know what `IsReading` means.
+PLAIN, CLOSED = ["run_program", "plain_arguments_are_followed"], "IsReading"
 
 # The crates of the toolchain that together are std.
 STD = {"core", "std", "std_alloc", "std_collections", "std_io"}
@@ -41,6 +45,13 @@ class Reach:
         self.order = reading_order(read("docs/DEFINITIONS.md"))
         self.types = Types(TOP / "crates", used_crates(), self.sources.models)
         self.toolchain = Toolchain(guides()) if guides() else None
+        self.closed = frozenset()
+
+    def closing(self, name):
+        """The same, without the definitions of that name and what only these reach."""
+        other = copy.copy(self)
+        other.closed = frozenset(key for key in self.specs.definitions if key.name == name)
+        return other
 
     def functions(self, name):
         """The public functions of that name; of methods the ones of the type itself."""
@@ -52,7 +63,7 @@ class Reach:
         roots = set()
         for f in functions:
             roots |= self.sources.names_in(self.specs, f)
-        return self.specs.reached(roots)
+        return self.specs.reached(roots, self.closed)
 
     def places(self, functions):
         """The (crate, module, name) of all that the contracts of functions, and the definitions that they reach, name."""
@@ -167,8 +178,15 @@ def table(reach):
 
 
 def table_besides(reach, version):
-    """The table of docs/claims/README.md on what run_program's contract rests on in all."""
-    functions = reach.functions("run_program")
-    rows = [("definitions of this repository", *reach.specs.count(reach.of(functions))[:2]), *reach.besides(functions)]
-    head = [f"| with {version} | how many | lines |", "|---|---:|---:|"]
-    return "\n".join(head + [f"| {what} | {count} | {lines} |" for what, count, lines in rows])
+    """The table of docs/claims/README.md on what run_program's contract rests on in all, and on what for plain arguments."""
+    columns = [believed(reach, ["run_program"]), believed(reach.closing(CLOSED), PLAIN)]
+    head = [f"| with {version} | how many | lines | for plain arguments | lines |", "|---|---:|---:|---:|---:|"]
+    rows = [" | ".join([what, *(f"{count} | {lines}" for count, lines in (c.get(what, (0, 0)) for c in columns))]) for what in columns[0]]
+    return "\n".join(head + [f"| {row} |" for row in rows])
+
+
+def believed(reach, names):
+    """What the contracts of the functions with these names rest on, and how many and how many lines of it."""
+    functions = [f for name in names for f in reach.functions(name)]
+    besides = {what: (count, lines) for what, count, lines in reach.besides(functions)}
+    return {"definitions of this repository": reach.specs.count(reach.of(functions))[:2], **besides}

@@ -282,11 +282,12 @@ class Specs:
             found.add(names["◌>>=◌"])
         return found
 
-    def reached(self, roots):
+    def reached(self, roots, closed=frozenset()):
+        """What these definitions reach, but for the closed ones and what only these reach."""
         seen, left = set(), list(roots)
         while left:
             key = left.pop()
-            if key not in seen:
+            if key not in seen and key not in closed:
                 seen.add(key)
                 left += self.references(key)
         return seen

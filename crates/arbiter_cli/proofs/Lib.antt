@@ -1,4 +1,9 @@
 mod FoundTexts
 mod Literals
 mod Names
+mod PlainOptions
+mod PlainReadings
+mod PlainRows
+mod PlainStub
+mod PlainWalk
 mod Readings

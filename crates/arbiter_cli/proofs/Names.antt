@@ -3,11 +3,11 @@ use Rattle.arbiter_cli.specs.laws.Laws.{PlansAreNamed, VerifyIsAsAsked}
 use Rattle.arbiter_cli.specs.declared.plan.Plan.TheVariants.{Session, Verify, Stub, Match}
 
 pub plan_named : PlansAreNamed
-plan_named p Session is = is
-plan_named p (Verify v) is = is.0
-plan_named p (Stub arguments) is = is.0
-plan_named p (Match plan) is = is.0
+plan_named said Session is = is
+plan_named said (Verify v) is = is.0
+plan_named said (Stub arguments) is = is.0
+plan_named said (Match plan) is = is.0
 
 -- a plan to verify has the flags that the arguments set
 pub verify_denoted : VerifyIsAsAsked
-verify_denoted p v is = is.1
+verify_denoted said v is = is.1

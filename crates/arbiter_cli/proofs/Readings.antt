@@ -4,7 +4,7 @@ use Rattle.clap.specs.Words.{HasKind, IsAmong, Kinds, Row, Text, found_of, kind_
 use Rattle.clap.specs.declared.error.Error.{Error}
 use Rattle.clap.specs.declared.parser.matches.ArgMatches.{ArgMatches}
 use Rattle.arbiter_grammar.specs.Grammar.{AreVariants, IsComplete, IsParsed, Lent, arbiter_app, asked, faults_in}
-use Rattle.arbiter_cli.specs.Plans.{IsMatchPlan, IsPlanOf, IsReadBy, IsReading, date_asked, is_date, level_and_start, start_asked, text_or}
+use Rattle.arbiter_cli.specs.Plans.{IsMatchPlan, IsPlanOf, IsReadBy, IsReading, Said, Values, date_asked, is_date, level_and_start, matched, said_by, start_asked, text_or}
 use Rattle.arbiter_cli.specs.ties.Requests.{IsJudged, IsJudgedFault, IsMatchOf, IsPlanFault, IsPlanned, IsRequestOf, Refuses, start_of}
 use Rattle.chess_base.specs.declared.fen_fault.FenFault.{FenFault}
 use Rattle.chess_base.specs.declared.setup.Setup.{Setup}
@@ -54,27 +54,27 @@ in_turn level start is_good =
     ok_or level BadLevel >>= λ l. result_map_both (λ setup. setup) BadFen start >>= λ s.
     if is_good then Ok (l, s) else Err BadDate
 
-read_as : (rows : List Row) (level : Option LevelSeen) (start : Result Setup FenFault) (is_good : Bool)
-    → level_of (text_or (codes "level") rows (codes "40 5 0")) ≡ level → start_asked rows ≡ start
-    → is_date (date_asked rows) ≡ is_good → level_and_start rows ≡ in_turn level start is_good
-read_as rows level start is_good l s d =
-    ap (λ v. in_turn v (start_asked rows) (is_date (date_asked rows))) l
-    ∙ ap (λ v. in_turn level v (is_date (date_asked rows))) s
+pub read_as : (value : Values) (level : Option LevelSeen) (start : Result Setup FenFault) (is_good : Bool)
+    → level_of (text_or (codes "level") value (codes "40 5 0")) ≡ level → start_asked value ≡ start
+    → is_date (date_asked value) ≡ is_good → level_and_start value ≡ in_turn level start is_good
+read_as value level start is_good l s d =
+    ap (λ v. in_turn v (start_asked value) (is_date (date_asked value))) l
+    ∙ ap (λ v. in_turn level v (is_date (date_asked value))) s
     ∙ ap (in_turn level start) d
 
 -- a match that was taken as written and then judged is played by what its options denote
-module _ (rows : List Row) (m : MatchRequest) (is : IsMatchOf rows m) where
-  level_is : level_of (text_or (codes "level") rows (codes "40 5 0")) ≡ level_of m.level.now
+module _ (value : Values) (m : MatchRequest) (is : IsMatchOf value m) where
+  level_is : level_of (text_or (codes "level") value (codes "40 5 0")) ≡ level_of m.level.now
   level_is = ap level_of (sym is.level)
 
-  start_is : start_asked rows ≡ start_of m.variant (option_map (λ t. t.now) m.fen)
+  start_is : start_asked value ≡ start_of m.variant (option_map (λ t. t.now) m.fen)
   start_is = ap₂ start_of (sym is.variant) (sym is.fen)
 
-  match_judged : (plan : MatchPlan) → IsJudged m plan → IsMatchPlan rows plan
+  match_judged : (plan : MatchPlan) → IsJudged m plan → IsMatchPlan value plan
   match_judged plan validate = record {
     white = is.white ∙ ap (λ (t : Bor Text). Some t.now) (sym validate.white);
     black = is.black ∙ ap (λ (t : Bor Text). Some t.now) (sym validate.black);
-    read = read_as rows (Some plan.level) (Ok plan.start) true (level_is ∙ validate.level) (start_is ∙ validate.start)
+    read = read_as value (Some plan.level) (Ok plan.start) true (level_is ∙ validate.level) (start_is ∙ validate.start)
         (ap is_date (sym is.date) ∙ validate.good_date);
     games = validate.games ∙ is.games;
     games_range = subst (λ n. (1 ≤ n) × (n ≤ 1000)) (sym validate.games) is.games_range;
@@ -82,33 +82,33 @@ module _ (rows : List Row) (m : MatchRequest) (is : IsMatchOf rows m) where
     log = validate.log ∙ is.log;
   }
 
-  judged_fault : (f : WordsFault) → IsJudgedFault m f → level_and_start rows ≡ Err f
+  judged_fault : (f : WordsFault) → IsJudgedFault m f → level_and_start value ≡ Err f
   judged_fault (Words x) h = absurd h
   judged_fault NoMemory h = absurd h
-  judged_fault BadLevel h = read_as rows None (start_asked rows) (is_date (date_asked rows)) (level_is ∙ h) refl refl
+  judged_fault BadLevel h = read_as value None (start_asked value) (is_date (date_asked value)) (level_is ∙ h) refl refl
   judged_fault (BadFen x) (l, level, start) =
-      read_as rows (Some l) (Err x) (is_date (date_asked rows)) (level_is ∙ level) (start_is ∙ start) refl
+      read_as value (Some l) (Err x) (is_date (date_asked value)) (level_is ∙ level) (start_is ∙ start) refl
   judged_fault BadDate (l, p, level, start, date) =
-      read_as rows (Some l) (Ok p) false (level_is ∙ level) (start_is ∙ start) (ap is_date (sym is.date) ∙ date)
+      read_as value (Some l) (Ok p) false (level_is ∙ level) (start_is ∙ start) (ap is_date (sym is.date) ∙ date)
 
 match_fault : (names : Lent) (texts : List Text) (f : WordsFault) → faults_in names texts ≡ []
-    → (asked names texts).0 ≡ codes "match" → (m : MatchRequest) → IsMatchOf (asked names texts).1 m
+    → (asked names texts).0 ≡ codes "match" → (m : MatchRequest) → IsMatchOf (matched (asked names texts).1) m
     → IsJudgedFault m f → IsReadBy names texts (Err f)
 match_fault names texts (Words x) none name m is h = absurd h
 match_fault names texts NoMemory none name m is h = absurd h
-match_fault names texts BadLevel none name m is h = (none, name, judged_fault _ m is BadLevel h)
-match_fault names texts (BadFen x) none name m is h = (none, name, judged_fault _ m is (BadFen x) h)
-match_fault names texts BadDate none name m is h = (none, name, judged_fault _ m is BadDate h)
+match_fault names texts BadLevel none name m is h = (none, (name, judged_fault _ m is BadLevel h))
+match_fault names texts (BadFen x) none name m is h = (none, (name, judged_fault _ m is (BadFen x) h))
+match_fault names texts BadDate none name m is h = (none, (name, judged_fault _ m is BadDate h))
 
-planned_plan : (p : Text × List Row) (s : Request) (plan : Plan) → IsRequestOf p s → IsPlanned s plan → IsPlanOf p plan
-planned_plan p request.Session plan is e = subst (IsPlanOf p) (sym e) is
-planned_plan p (request.Verify v) plan is e = subst (IsPlanOf p) (sym e) is
-planned_plan p (request.Stub arguments) plan is e = subst (IsPlanOf p) (sym e) is
-planned_plan p (request.Match m) plan is e =
-    subst (IsPlanOf p) (sym e.1) (is.0, match_judged p.1 m is.1 e.0 e.2)
+planned_plan : (said : Said) (s : Request) (plan : Plan) → IsRequestOf said s → IsPlanned s plan → IsPlanOf said plan
+planned_plan said request.Session plan is e = subst (IsPlanOf said) (sym e) is
+planned_plan said (request.Verify v) plan is e = subst (IsPlanOf said) (sym e) is
+planned_plan said (request.Stub arguments) plan is e = subst (IsPlanOf said) (sym e) is
+planned_plan said (request.Match m) plan is e =
+    subst (IsPlanOf said) (sym e.1) (is.0, match_judged said.value m is.1 e.0 e.2)
 
 plan_fault : (names : Lent) (texts : List Text) (s : Request) (f : WordsFault) → faults_in names texts ≡ []
-    → IsRequestOf (asked names texts) s → IsPlanFault s f → IsReadBy names texts (Err f)
+    → IsRequestOf (said_by (asked names texts)) s → IsPlanFault s f → IsReadBy names texts (Err f)
 plan_fault names texts request.Session f none is h = absurd h
 plan_fault names texts (request.Verify v) f none is h = absurd h
 plan_fault names texts (request.Stub arguments) f none is h = absurd h
@@ -117,10 +117,10 @@ plan_fault names texts (request.Match m) f none is h =
 
 -- what was taken as written was planned
 pub planned_reading : (names : Lent) (texts : List Text) → AreVariants names → faults_in names texts ≡ []
-    → (s : Request) → IsRequestOf (asked names texts) s
+    → (s : Request) → IsRequestOf (said_by (asked names texts)) s
     → (r : Result Plan WordsFault) → IfOk r (IsPlanned s) → IfErr r (IsPlanFault s) → IsReading texts r
 planned_reading names texts are none s is (Ok plan) p f =
-    (names, are, (none, planned_plan (asked names texts) s plan is p))
+    (names, are, (none, planned_plan (said_by (asked names texts)) s plan is p))
 planned_reading names texts are none s is (Err e) p f = (names, are, plan_fault names texts s e none is f)
 
 -- ---- the command that was entered

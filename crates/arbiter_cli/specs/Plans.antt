@@ -1,5 +1,5 @@
 -- What a plan has to do with the arguments.
-use Rattle.std.specs.Prelude.{◌≡◌, ◌≤◌, ◌&&◌, ℕ, Bool, List, [], codes, length, map, nat_le, if◌then◌else◌, Some, Result, Ok, Err, unwrap_or, ok_or, ⊤}
+use Rattle.std.specs.Prelude.{◌≡◌, ◌≤◌, ◌&&◌, ℕ, Bool, List, [], codes, length, map, nat_le, if◌then◌else◌, Option, Some, Result, Ok, Err, unwrap_or, ok_or, ⊤}
 use Rattle.std.specs.List.{list_all}
 use Rattle.std.specs.Option.{option_map_or}
 use Rattle.std.specs.Result.{result_map_both}
@@ -21,88 +21,109 @@ use Rattle.chess_base.specs.declared.man.Variant.TheVariants.{Normal, Fischerand
 use Rattle.chess_base.specs.declared.setup.Setup.{Setup}
 use Rattle.cecp_engine.specs.Levels.{LevelSeen, level_of}
 
--- ---- what is asked for, as written
+-- ---- what arguments say
 
--- the value that the option `name` was given, else `default`. `rows` are the options, each with its values, as `clap`
--- matched them
-abbrev pub text_or : Text → List Row → Text → Text
-text_or name rows default = unwrap_or (first_of name rows) default
+-- the value that an option was given, by its name; that of a flag is `true` where it was given
+abbrev pub Values : Type 0
+Values = Text → Option Text
 
--- the value of `--games` in the options as matched (`rows`); 1 if it was not given
-abbrev pub games_in : List Row → ℕ
-games_in rows = option_map_or (λ t. digits_value 10 (without_leading_plus t)) (first_of (codes "games") rows) 1
+-- what arguments say: the subcommand, what its options were given, and the arguments that `stub` plays
+pub record Said : Type 0 where
+  pub command : Text
+  pub value : Values
+  pub replies : List Text
 
--- the variant that `--variant` asks for: Chess960 for `fischerandom`, normal chess for any other name or none; `rows`
--- are the options as matched
-abbrev pub variant_in : List Row → Variant
-variant_in rows =
-    if bytes_eq (text_or (codes "variant") rows (codes "normal")) (codes "fischerandom") then Fischerandom else Normal
+-- the value that the option `name` was given, else `default`
+abbrev pub text_or : Text → Values → Text → Text
+text_or name value default = unwrap_or (value name) default
 
--- whether the flag `name`, such as `--quiet`, was given; `rows` are the options as matched
-abbrev pub is_set : Text → List Row → Bool
-is_set name rows = bytes_eq (text_or name rows (codes "false")) (codes "true")
+-- the value of `--games`; 1 if it was not given
+abbrev pub games_in : Values → ℕ
+games_in value = option_map_or (λ t. digits_value 10 (without_leading_plus t)) (value (codes "games")) 1
 
--- what the flags of `verify` ask for; `rows` are the flags as matched
-abbrev pub verify_plan_of : List Row → VerifyPlan
-verify_plan_of rows = record {
-  keep_going = is_set (codes "keep-going") rows;
-  quiet = is_set (codes "quiet") rows;
-  strict = is_set (codes "strict") rows;
-  explain = is_set (codes "explain") rows;
+-- the variant that `--variant` asks for: Chess960 for `fischerandom`, normal chess for any other name or none
+abbrev pub variant_in : Values → Variant
+variant_in value =
+    if bytes_eq (text_or (codes "variant") value (codes "normal")) (codes "fischerandom") then Fischerandom else Normal
+
+-- whether the flag `name`, such as `--quiet`, was given
+abbrev pub is_set : Text → Values → Bool
+is_set name value = bytes_eq (text_or name value (codes "false")) (codes "true")
+
+-- what the flags of `verify` ask for
+abbrev pub verify_plan_of : Values → VerifyPlan
+verify_plan_of value = record {
+  keep_going = is_set (codes "keep-going") value;
+  quiet = is_set (codes "quiet") value;
+  strict = is_set (codes "strict") value;
+  explain = is_set (codes "explain") value;
 }
 
 -- ---- what it means
 
--- the value of `--date`, `????.??.??` if it was not given; `rows` are the options as matched
-abbrev pub date_asked : List Row → Text
-date_asked rows = text_or (codes "date") rows (codes "????.??.??")
+-- the value of `--date`, `????.??.??` if it was not given
+abbrev pub date_asked : Values → Text
+date_asked value = text_or (codes "date") value (codes "????.??.??")
 
--- the position that a match starts in: what the FEN of `--fen` denotes, or else the initial one of the variant; `rows`
--- are the options as matched
-abbrev pub start_asked : List Row → Result Setup FenFault
-start_asked rows = let v = variant_in rows in
-    option_map_or (fen_reading_as v) (first_of (codes "fen") rows) (Ok (initial_setup_of v))
+-- the position that a match starts in: what the FEN of `--fen` denotes, or else the initial one of the variant
+abbrev pub start_asked : Values → Result Setup FenFault
+start_asked value = let v = variant_in value in
+    option_map_or (fen_reading_as v) (value (codes "fen")) (Ok (initial_setup_of v))
 
 -- whether a text can be the tag Date: at most 60 bytes of printable ASCII (it need not be a date)
 abbrev pub is_date : Text → Bool
 is_date text = nat_le (length text) 60 && list_all (λ b. nat_le 32 b && nat_le b 126) text
 
--- the time control of a match and its start; or else the fault of the first of level, FEN and date that is invalid.
--- `rows` are the options as matched
-abbrev pub level_and_start : List Row → Result (LevelSeen × Setup) WordsFault
-level_and_start rows = do
-  level ← ok_or (level_of (text_or (codes "level") rows (codes "40 5 0"))) BadLevel
-  start ← result_map_both (λ setup. setup) BadFen (start_asked rows)
-  if is_date (date_asked rows) then Ok (level, start) else Err BadDate
+-- the time control of a match and its start; or else the fault of the first of level, FEN and date that is invalid
+abbrev pub level_and_start : Values → Result (LevelSeen × Setup) WordsFault
+level_and_start value = do
+  level ← ok_or (level_of (text_or (codes "level") value (codes "40 5 0"))) BadLevel
+  start ← result_map_both (λ setup. setup) BadFen (start_asked value)
+  if is_date (date_asked value) then Ok (level, start) else Err BadDate
 
--- the plan of a match is what its options say, each as given or by default; `rows` are the options as matched
-pub record IsMatchPlan (rows : List Row) (plan : MatchPlan) : Type 0 where
-  pub white : first_of (codes "white") rows ≡ Some plan.white.now
-  pub black : first_of (codes "black") rows ≡ Some plan.black.now
-  pub read : level_and_start rows ≡ Ok (plan.level, plan.start)
-  pub games : plan.games ≡ games_in rows
+-- the plan of a match is what its options say, each as given or by default
+pub record IsMatchPlan (value : Values) (plan : MatchPlan) : Type 0 where
+  pub white : value (codes "white") ≡ Some plan.white.now
+  pub black : value (codes "black") ≡ Some plan.black.now
+  pub read : level_and_start value ≡ Ok (plan.level, plan.start)
+  pub games : plan.games ≡ games_in value
   pub games_range : (1 ≤ plan.games) × (plan.games ≤ 1000)
-  pub date : plan.date.now ≡ date_asked rows
-  pub log : plan.log ≡ is_set (codes "log") rows
+  pub date : plan.date.now ≡ date_asked value
+  pub log : plan.log ≡ is_set (codes "log") value
 
--- the plan is what the arguments ask for: it is that of their subcommand, with the options given after it; `p` is the
--- subcommand's name and its options as matched
-abbrev pub IsPlanOf : Text × List Row → Plan → Type 0
-IsPlanOf p Session = p.0 ≡ codes "session"
-IsPlanOf p (Verify v) = (p.0 ≡ codes "verify") × (v ≡ verify_plan_of p.1)
-IsPlanOf p (Stub arguments) = (p.0 ≡ codes "stub")
-    × (map (λ w. w.now) arguments.items ≡ unwrap_or (all_of (codes "words") p.1) [])
-IsPlanOf p (Match plan) = (p.0 ≡ codes "match") × IsMatchPlan p.1 plan
+-- the plan is what the arguments ask for: it is that of their subcommand, with what its options were given
+abbrev pub IsPlanOf : Said → Plan → Type 0
+IsPlanOf said Session = said.command ≡ codes "session"
+IsPlanOf said (Verify v) = (said.command ≡ codes "verify") × (v ≡ verify_plan_of said.value)
+IsPlanOf said (Stub arguments) = (said.command ≡ codes "stub") × (map (λ w. w.now) arguments.items ≡ said.replies)
+IsPlanOf said (Match plan) = (said.command ≡ codes "match") × IsMatchPlan said.value plan
 
--- the result of reading these arguments is right. A plan is returned only if `clap` finds no fault in them, and
--- so is a fault of level, FEN or date, which only a match has; else one of the faults that `clap` may find. Out of
--- memory may be reported for any arguments. `names` are those that `--variant` takes
+-- arguments that are taken and say this are read as their plan, or as a fault of level, FEN or date, which only a match
+-- has; out of memory may be reported for any
+abbrev pub IsReadAs : Said → Result Plan WordsFault → Type 0
+IsReadAs said (Ok plan) = IsPlanOf said plan
+IsReadAs said (Err (Words e)) = ⊥
+IsReadAs said (Err NoMemory) = ⊤
+IsReadAs said (Err f) = (said.command ≡ codes "match") × (level_and_start said.value ≡ Err f)
+
+-- ---- by the grammar
+
+-- the value that each option was given; `rows` are the options as `clap` matched them
+abbrev pub matched : List Row → Values
+matched rows = λ name. first_of name rows
+
+-- what arguments say; `p` is the subcommand's name and its options as `clap` matched them
+abbrev pub said_by : Text × List Row → Said
+said_by p =
+    record { command = p.0; value = matched p.1; replies = unwrap_or (all_of (codes "words") p.1) [] }
+
+-- the result of reading these arguments is right. If `clap` finds no fault in them, they are read as what they say;
+-- else one of the faults that it may find is returned. Out of memory may be reported for any arguments. `names` are
+-- those that `--variant` takes
 abbrev pub IsReadBy : Lent → List Text → Result Plan WordsFault → Type 0
-IsReadBy names arguments (Ok plan) = (faults_in names arguments ≡ []) × IsPlanOf (asked names arguments) plan
 IsReadBy names arguments (Err (Words e)) = IsAmong (kind_of e) (faults_in names arguments)
 IsReadBy names arguments (Err NoMemory) = ⊤
-IsReadBy names arguments (Err f) = (faults_in names arguments ≡ []) × ((asked names arguments).0 ≡ codes "match")
-    × (level_and_start (asked names arguments).1 ≡ Err f)
+IsReadBy names arguments r = (faults_in names arguments ≡ []) × IsReadAs (said_by (asked names arguments)) r
 
 -- the result of reading these arguments is right by the grammar of the command line, wherever in memory its names
 -- of variants are

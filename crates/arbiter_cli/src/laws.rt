@@ -3,6 +3,13 @@
 ghost use Rattle.std.specs.Prelude.{[], ◌∷◌, codes};
 ghost use Rattle.clap.specs.declared.error.kind.ErrorKind.TheVariants.{DisplayHelp, DisplayVersion, MissingRequiredArgument};
 ghost use Rattle.arbiter_cli.specs.laws.Laws.{AreRefused, AskFor, PlansAreNamed, VerifyAsBare, VerifyIsAsAsked};
+ghost use Rattle.arbiter_cli.specs.laws.Plain.{PlainArgumentsAreRead};
+
+/// States a law and does nothing: plain arguments are read as what they say. These are none; `session`; `verify` and
+/// `match` with their options, in any order and each at most once; and `stub` with what it plays.
+pub fn plain_arguments_are_read()
+    ensures { PlainArgumentsAreRead }
+{}
 
 /// States a law and does nothing: `clap` accepts no arguments, `session` alone and `verify` alone; they ask for a
 /// session or, without flags, to verify.

@@ -3,7 +3,7 @@
 ghost use Rattle.std.specs.Prelude.{◌≡◌, ◌≤◌, [], IfOk, IfSome, IsSome, true, codes, is_some, map, option_map, unwrap_or};
 ghost use Rattle.clap.specs.Words.{all_of, first_of, found_of, rows_of, subcommand_rows_of};
 ghost use Rattle.arbiter_grammar.specs.Grammar.{HasGames, IsCommand, NamesBoth};
-ghost use Rattle.arbiter_cli.specs.Plans.{games_in, is_set, text_or, variant_in, verify_plan_of};
+ghost use Rattle.arbiter_cli.specs.Plans.{games_in, is_set, matched, said_by, text_or, variant_in, verify_plan_of};
 ghost use Rattle.arbiter_cli.specs.ties.Requests.{IsMatchOf, IsRequestOf};
 
 use crate::plan::VerifyPlan;
@@ -35,7 +35,7 @@ pub(crate) enum Request<'a> {
 
 // The value that the option `name` was given, else its default; `found` are the options as matched.
 fn text_or<'a>(found: &ArgMatches<'a>, name: &str, default: &'a str) -> &'a str
-    ensures { result.now ≡ text_or name.now (rows_of (found_of found.now)) default.entry.now }
+    ensures { result.now ≡ text_or name.now (matched (rows_of (found_of found.now))) default.entry.now }
 {
     match found.get_str(name) {
         Some(text) => text,
@@ -45,14 +45,14 @@ fn text_or<'a>(found: &ArgMatches<'a>, name: &str, default: &'a str) -> &'a str
 
 // Whether the flag `name`, such as `--quiet`, was given; `found` are the options as matched.
 fn is_set(found: &ArgMatches<'_>, name: &str) -> bool
-    ensures { result ≡ is_set name.now (rows_of (found_of found.now)) }
+    ensures { result ≡ is_set name.now (matched (rows_of (found_of found.now))) }
 {
     text_or(found, name, "false") == "true"
 }
 
 // What the flags of `verify` ask for; `found` are the flags as matched.
 fn verify_plan(found: &ArgMatches<'_>) -> VerifyPlan
-    ensures { result ≡ verify_plan_of (rows_of (found_of found.now)) }
+    ensures { result ≡ verify_plan_of (matched (rows_of (found_of found.now))) }
 {
     VerifyPlan {
         keep_going: is_set(found, "keep-going"),
@@ -76,7 +76,7 @@ fn stub_arguments<'a>(alloc: Global, found: &ArgMatches<'a>) -> Result<Vec<&'a s
 // The value of `--games`, 1 if it was not given; `found` are the options as matched.
 fn games_of(found: &ArgMatches<'_>) -> u16
     requires { HasGames (rows_of (found_of found.now)) }
-    ensures value { result ≡ games_in (rows_of (found_of found.now)) }
+    ensures value { result ≡ games_in (matched (rows_of (found_of found.now))) }
     ensures range { (1 ≤ result) × (result ≤ 1000) }
 {
     match found.get_str("games") {
@@ -90,7 +90,7 @@ fn games_of(found: &ArgMatches<'_>) -> u16
 
 // The variant that `--variant` asks for, normal chess if it was not given; `found` are the options as matched.
 fn variant_of(found: &ArgMatches<'_>) -> Variant
-    ensures { result ≡ variant_in (rows_of (found_of found.now)) }
+    ensures { result ≡ variant_in (matched (rows_of (found_of found.now))) }
 {
     if text_or(found, "variant", "normal") == "fischerandom" {
         Variant::Fischerandom
@@ -103,7 +103,7 @@ fn variant_of(found: &ArgMatches<'_>) -> Variant
 // options as matched.
 fn match_request<'a>(found: &ArgMatches<'a>) -> Option<MatchRequest<'a>>
     requires { HasGames (rows_of (found_of found.now)) }
-    ensures given { IfSome result (IsMatchOf (rows_of (found_of found.now))) }
+    ensures given { IfSome result (IsMatchOf (matched (rows_of (found_of found.now)))) }
     ensures needed { (is_some (first_of (codes "white") (rows_of (found_of found.now))) ≡ true)
         → (is_some (first_of (codes "black") (rows_of (found_of found.now))) ≡ true) → IsSome result }
 {
@@ -130,7 +130,7 @@ pub(crate) fn request_in<'a>(
     requires known { IsCommand name.now }
     requires both { NamesBoth (name.now, rows_of (found_of found.now)) }
     requires games { HasGames (rows_of (found_of found.now)) }
-    ensures { IfOk result (IsRequestOf (name.now, rows_of (found_of found.now))) }
+    ensures { IfOk result (IsRequestOf (said_by (name.now, rows_of (found_of found.now)))) }
 {
     if name == "verify" {
         return Ok(Request::Verify(verify_plan(found)));

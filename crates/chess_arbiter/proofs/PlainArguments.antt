@@ -2,8 +2,9 @@
 use Rattle.std.proofs.Common.{◌≡◌, ◌∙◌, ◌<◌, ℕ, List, [], length, lit<, codes, Result, Ok, Err, refl, sym, ap, subst, inr, false, arith}
 use Rattle.clap.specs.Words.{IsAmong, Text, kind_of}
 use Rattle.arbiter_grammar.specs.Grammar.{asked}
-use Rattle.arbiter_cli.specs.Plans.{IsReading}
+use Rattle.arbiter_cli.specs.Plans.{IsReading, said_by}
 use Rattle.arbiter_cli.specs.laws.Laws.{AskFor, PlansAreNamed, VerifyAsBare, VerifyIsAsAsked, bare_plan, command_name}
+use Rattle.arbiter_cli.specs.laws.Plain.{PlainArgumentsAreRead}
 use Rattle.arbiter_cli.specs.declared.fault.WordsFault.{WordsFault}
 use Rattle.arbiter_cli.specs.declared.fault.WordsFault.TheVariants as faults
 use Rattle.arbiter_cli.specs.declared.plan.Plan.{Plan}
@@ -13,7 +14,7 @@ use Rattle.byte_devices.specs.Devices.{InputState}
 use Rattle.byte_devices.specs.Transfers.{Devices, InputGave, Ran, nothing}
 use Rattle.byte_devices.proofs.shared.Transfers.{came, took_nothing}
 use Rattle.byte_devices.proofs.shared.Devices.{consumes_none}
-use Rattle.chess_arbiter.specs.laws.Laws.{ServesSession, VerifiesGames}
+use Rattle.chess_arbiter.specs.laws.Laws.{PlainArgumentsAreFollowed, ServesSession, VerifiesGames}
 use Rattle.chess_arbiter.specs.Program.{World, Does, RunsSession, VerifiesInput, options_of}
 use Rattle.pgn_verifier.specs.Verify.{Verifies}
 use Rattle.pgn_verifier.specs.declared.options.VerifyOptions.{VerifyOptions}
@@ -22,11 +23,15 @@ use Rattle.pgn_verifier.specs.declared.fault.VerifyFault.TheVariants as verifyin
 shorter : (xs ys : Text) → length xs < length ys → xs ≡ ys → ⊥
 shorter xs ys lt e = let same : length xs ≡ length ys = ap length e in absurd (omega arith)
 
+-- what was read is what was done
+pub as_followed : PlainArgumentsAreRead → PlainArgumentsAreFollowed
+as_followed law line d d' status plain (read, is, ran) = (read, law line read plain is, ran)
+
 -- a plan that was read of arguments that ask for that command
 read_argument : PlansAreNamed → (arguments : List Text) (name : Text) (plan : Plan) → AskFor arguments name
     → IsReading arguments (Ok plan) → name ≡ command_name plan
 read_argument named arguments name plan a (names, are, (none, is)) = sym (a.named names)
-    ∙ named (asked names arguments) plan is
+    ∙ named (said_by (asked names arguments)) plan is
 
 -- arguments that are taken and ask for no match are refused for being out of memory alone
 abbrev IsWant : WordsFault → Type 0
@@ -38,11 +43,11 @@ refused_argument : (arguments : List Text) (name : Text) (fault : WordsFault) �
 refused_argument ws name (faults.Words e) a other (names, are, among) =
     absurd (subst (IsAmong (kind_of e)) (a.taken names) among)
 refused_argument ws name faults.NoMemory a other is = tt
-refused_argument ws name faults.BadLevel a other (names, are, (none, named, h)) =
+refused_argument ws name faults.BadLevel a other (names, are, (none, (named, h))) =
     absurd (other (sym (a.named names) ∙ named))
-refused_argument ws name (faults.BadFen f) a other (names, are, (none, named, h)) =
+refused_argument ws name (faults.BadFen f) a other (names, are, (none, (named, h))) =
     absurd (other (sym (a.named names) ∙ named))
-refused_argument ws name faults.BadDate a other (names, are, (none, named, h)) =
+refused_argument ws name faults.BadDate a other (names, are, (none, (named, h))) =
     absurd (other (sym (a.named names) ∙ named))
 
 no_match_by_session : codes "session" ≡ codes "match" → ⊥
@@ -116,7 +121,7 @@ serves named ws a (Err fault) is d d' status ran =
 -- `verify` alone sets none of its flags
 without_flags : VerifyIsAsAsked → (arguments : List Text) (v : VerifyPlan) → VerifyAsBare arguments
     → IsReading arguments (Ok (Verify v)) → v ≡ bare_plan
-without_flags denoted ws v bare (names, are, (none, is)) = denoted (asked names ws) v is ∙ bare names
+without_flags denoted ws v bare (names, are, (none, is)) = denoted (said_by (asked names ws)) v is ∙ bare names
 
 verifies : PlansAreNamed → VerifyIsAsAsked → (arguments : List Text) → AskFor arguments (codes "verify")
     → VerifyAsBare arguments → (read : Result Plan WordsFault) → IsReading arguments read

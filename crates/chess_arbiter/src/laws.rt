@@ -6,11 +6,22 @@ ghost use Rattle.chess_game.specs.declared.game.TheConstants.{MOST_MOVES};
 ghost use Rattle.chess_cecp.specs.declared.session.TheConstants.{COMMAND_LEN};
 ghost use Rattle.chess_match.specs.declared.run.TheConstants.{ENGINE_LINE_LEN};
 ghost use Rattle.pgn_pieces.specs.declared.pieces.TheConstants.{PIECE_LEN};
-ghost use Rattle.chess_arbiter.specs.laws.Laws.{RefusesArguments, ServesSession, ShowsHelp, VerifiesGames};
+ghost use Rattle.chess_arbiter.specs.laws.Laws.{PlainArgumentsAreFollowed, RefusesArguments, ServesSession, ShowsHelp, VerifiesGames};
 
 use arbiter_cli::{
-    plain_arguments_are_refused, plain_arguments_are_taken, plans_are_named, verify_is_as_asked,
+    plain_arguments_are_read, plain_arguments_are_refused, plain_arguments_are_taken,
+    plans_are_named, verify_is_as_asked,
 };
+
+/// States a law and does nothing: whenever the program runs with plain arguments, it does what they say. These are
+/// none; `session`; `verify` and `match` with their options, in any order and each at most once; and `stub` with what
+/// it plays.
+pub fn plain_arguments_are_followed()
+    ensures { PlainArgumentsAreFollowed }
+{
+    // The prover wants this law of the arguments: what they are read as.
+    plain_arguments_are_read();
+}
 
 /// States a law and does nothing: whenever the program runs without arguments or with `session` alone, it runs a
 /// session; with `verify` alone it verifies games. The grammar never refuses such arguments.

@@ -15,7 +15,8 @@ mod program;
 
 pub use fault::ProgramFault;
 pub use laws::{
-    limits_are_as_stated, plain_arguments_do_what_they_say, refused_arguments_are_reported,
+    limits_are_as_stated, plain_arguments_are_followed, plain_arguments_do_what_they_say,
+    refused_arguments_are_reported,
 };
 pub use match_runner::{Log, SinceStart, run_match_logged};
 pub use process::run;

@@ -1,13 +1,13 @@
 -- What arguments ask for, and which of them are refused.
 use Rattle.std.specs.Prelude.{◌≡◌, List, [], codes, false}
 use Rattle.std.specs.List.{list_any}
-use Rattle.clap.specs.Words.{Kinds, Row, Text}
+use Rattle.clap.specs.Words.{Kinds, Text}
 use Rattle.clap.specs.Facts.{explicit_source}
 use Rattle.arbiter_grammar.specs.Grammar.{Lent, asked, faults_in}
 use Rattle.arbiter_cli.specs.declared.plan.Plan.{Plan}
 use Rattle.arbiter_cli.specs.declared.plan.Plan.TheVariants.{Session, Verify, Stub, Match}
 use Rattle.arbiter_cli.specs.declared.plan.VerifyPlan.{VerifyPlan}
-use Rattle.arbiter_cli.specs.Plans.{verify_plan_of, IsPlanOf}
+use Rattle.arbiter_cli.specs.Plans.{IsPlanOf, Said, matched, verify_plan_of}
 
 -- the name of the subcommand that asks for this plan
 abbrev pub command_name : Plan → Text
@@ -16,15 +16,13 @@ command_name (Verify v) = codes "verify"
 command_name (Stub arguments) = codes "stub"
 command_name (Match plan) = codes "match"
 
--- each plan is asked for by the subcommand of its kind (`session`, `verify`, `stub` or `match`); `p` is the
--- subcommand's name and its options as matched
+-- each plan is asked for by the subcommand of its kind (`session`, `verify`, `stub` or `match`)
 abbrev pub PlansAreNamed : Type 0
-PlansAreNamed = (p : Text × List Row) (plan : Plan) → IsPlanOf p plan → p.0 ≡ command_name plan
+PlansAreNamed = (said : Said) (plan : Plan) → IsPlanOf said plan → said.command ≡ command_name plan
 
--- whenever arguments ask for verifying, the plan has just the flags that were given; `p` is the subcommand's name and
--- its options as matched
+-- whenever arguments ask for verifying, the plan has just the flags that were given
 abbrev pub VerifyIsAsAsked : Type 0
-VerifyIsAsAsked = (p : Text × List Row) (v : VerifyPlan) → IsPlanOf p (Verify v) → v ≡ verify_plan_of p.1
+VerifyIsAsAsked = (said : Said) (v : VerifyPlan) → IsPlanOf said (Verify v) → v ≡ verify_plan_of said.value
 
 -- `clap` accepts these arguments, and they ask for the subcommand `name` with no options given
 pub record AskFor (arguments : List Text) (name : Text) : Type 0 where
@@ -42,4 +40,4 @@ bare_plan = record { keep_going = false; quiet = false; strict = false; explain 
 
 -- the options of these arguments make the plan of `verify` without flags
 abbrev pub VerifyAsBare : List Text → Type 0
-VerifyAsBare arguments = (names : Lent) → verify_plan_of (asked names arguments).1 ≡ bare_plan
+VerifyAsBare arguments = (names : Lent) → verify_plan_of (matched (asked names arguments).1) ≡ bare_plan

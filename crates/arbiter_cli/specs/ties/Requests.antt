@@ -1,7 +1,7 @@
 -- What the arguments ask for as they are written, on the way to a plan.
-use Rattle.std.specs.Prelude.{◌≡◌, ◌≤◌, List, [], codes, map, option_map, Option, Some, None, Result, Ok, Err, true, false, unwrap_or, ◌≢◌}
+use Rattle.std.specs.Prelude.{◌≡◌, ◌≤◌, codes, map, option_map, Option, Some, None, Result, Ok, Err, true, false, ◌≢◌}
 use Rattle.std.specs.Option.{option_map_or}
-use Rattle.clap.specs.Words.{Row, Text, all_of, first_of, kind_of}
+use Rattle.clap.specs.Words.{Text, kind_of}
 use Rattle.arbiter_cli.specs.declared.plan.Plan.{Plan}
 use Rattle.arbiter_cli.specs.declared.plan.Plan.TheVariants.{Session, Verify, Stub, Match}
 use Rattle.arbiter_cli.specs.declared.plan.MatchPlan.{MatchPlan}
@@ -16,7 +16,7 @@ use Rattle.chess_base.specs.declared.man.Variant.{Variant}
 use Rattle.chess_base.specs.declared.setup.Setup.{Setup}
 use Rattle.chess_fen.specs.Reading.{fen_reading_as}
 use Rattle.cecp_engine.specs.Levels.{LevelSeen, level_of}
-use Rattle.arbiter_cli.specs.Plans.{date_asked, games_in, is_date, is_set, text_or, variant_in, verify_plan_of}
+use Rattle.arbiter_cli.specs.Plans.{Said, Values, date_asked, games_in, is_date, is_set, text_or, variant_in, verify_plan_of}
 use Rattle.clap.specs.declared.error.Error.{Error}
 use Rattle.clap.specs.declared.error.kind.ErrorKind.TheVariants.{OutOfMemory}
 
@@ -24,27 +24,25 @@ use Rattle.clap.specs.declared.error.kind.ErrorKind.TheVariants.{OutOfMemory}
 abbrev pub start_of : Variant → Option Text → Result Setup FenFault
 start_of v fen = option_map_or (fen_reading_as v) fen (Ok (initial_setup_of v))
 
--- the request `m` has the options of `match` (`rows`, as matched), each as given or by default; level, FEN and date are
--- still texts
-pub record IsMatchOf (rows : List Row) (m : MatchRequest) : Type 0 where
-  pub white : first_of (codes "white") rows ≡ Some m.white.now
-  pub black : first_of (codes "black") rows ≡ Some m.black.now
-  pub level : m.level.now ≡ text_or (codes "level") rows (codes "40 5 0")
-  pub fen : option_map (λ t. t.now) m.fen ≡ first_of (codes "fen") rows
-  pub games : m.games ≡ games_in rows
+-- the request `m` has what the options of `match` were given, or their defaults; level, FEN and date are still texts
+pub record IsMatchOf (value : Values) (m : MatchRequest) : Type 0 where
+  pub white : value (codes "white") ≡ Some m.white.now
+  pub black : value (codes "black") ≡ Some m.black.now
+  pub level : m.level.now ≡ text_or (codes "level") value (codes "40 5 0")
+  pub fen : option_map (λ t. t.now) m.fen ≡ value (codes "fen")
+  pub games : m.games ≡ games_in value
   pub games_range : (1 ≤ m.games) × (m.games ≤ 1000)
-  pub date : m.date.now ≡ date_asked rows
-  pub variant : m.variant ≡ variant_in rows
-  pub log : m.log ≡ is_set (codes "log") rows
+  pub date : m.date.now ≡ date_asked value
+  pub variant : m.variant ≡ variant_in value
+  pub log : m.log ≡ is_set (codes "log") value
 
--- the request is what the arguments ask for, with level, FEN and date of a match still as texts; `p` is the
--- subcommand's name and its options as matched
-abbrev pub IsRequestOf : Text × List Row → Request → Type 0
-IsRequestOf p request.Session = p.0 ≡ codes "session"
-IsRequestOf p (request.Verify v) = (p.0 ≡ codes "verify") × (v ≡ verify_plan_of p.1)
-IsRequestOf p (request.Stub arguments) = (p.0 ≡ codes "stub")
-    × (map (λ w. w.now) arguments.items ≡ unwrap_or (all_of (codes "words") p.1) [])
-IsRequestOf p (request.Match m) = (p.0 ≡ codes "match") × IsMatchOf p.1 m
+-- the request is what the arguments ask for, with level, FEN and date of a match still as texts
+abbrev pub IsRequestOf : Said → Request → Type 0
+IsRequestOf said request.Session = said.command ≡ codes "session"
+IsRequestOf said (request.Verify v) = (said.command ≡ codes "verify") × (v ≡ verify_plan_of said.value)
+IsRequestOf said (request.Stub arguments) = (said.command ≡ codes "stub")
+    × (map (λ w. w.now) arguments.items ≡ said.replies)
+IsRequestOf said (request.Match m) = (said.command ≡ codes "match") × IsMatchOf said.value m
 
 -- the plan of a match is what the request `m` asks for: level and FEN as what they denote, a date that can be a tag,
 -- all else as it is

@@ -1,8 +1,22 @@
 -- What arguments do.
-use Rattle.std.specs.Prelude.{◌≡◌, ◌⊎◌, ℕ, List}
+use Rattle.std.specs.Prelude.{◌≡◌, ◌⊎◌, ℕ, List, Result}
 use Rattle.clap.specs.Words.{Text}
+use Rattle.arbiter_cli.specs.Plans.{IsReadAs, Said}
+use Rattle.arbiter_cli.specs.declared.plan.Plan.{Plan}
+use Rattle.arbiter_cli.specs.declared.fault.WordsFault.{WordsFault}
 use Rattle.arbiter_cli.specs.laws.Laws.{bare_plan}
-use Rattle.chess_arbiter.specs.Program.{World, RanProgram, RunsSession, VerifiesInput, WritesHelp}
+use Rattle.arbiter_cli.specs.laws.Plain.{CommandLine, IsPlain, arguments_of, said_in}
+use Rattle.chess_arbiter.specs.Program.{Does, World, RanProgram, RunsSession, VerifiesInput, WritesHelp}
+
+-- the program did what its arguments say, or reported a fault of a match's level, FEN or date, or that memory ran out;
+-- `status` is its exit status
+abbrev pub DidAsSaid : Said → World → World → ℕ → Type 0
+DidAsSaid said d d' status = (read : Result Plan WordsFault) × IsReadAs said read × Does read d d' status
+
+-- whenever the program runs with plain arguments, it does what they say
+abbrev pub PlainArgumentsAreFollowed : Type 0
+PlainArgumentsAreFollowed = (line : CommandLine) (d d' : World) (status : ℕ) → IsPlain line
+    → RanProgram (arguments_of line) d d' status → DidAsSaid (said_in line) d d' status
 
 -- whenever a program runs with these arguments, it runs a session on its input and output, and has its exit status
 abbrev pub ServesSession : List Text → Type 0
