@@ -21,7 +21,9 @@ use Rattle.chess_base.specs.declared.setup.Setup.{Setup}
 use Rattle.chess_base.specs.Letters.{white_letter, letter, letter_by}
 use Rattle.chess_base.specs.Sound.{IsSound}
 use Rattle.chess_fen.specs.RightNames.{right_letter}
-use Rattle.chess_fen.specs.Writing.{run_text, row_text, fen_rank, ranks_down, placement_text, side_text, right_text, or_dash, rights_text, target_text, fen}
+use Rattle.chess_fen.specs.Writing.{fen_rank, ranks_down, placement_text, side_text, right_text, or_dash, rights_text, target_text, fen}
+use Rattle.chess_fen.specs.ties.Loops.{run_text, row_text}
+use Rattle.chess_fen.proofs.WrittenRanks.{row_is}
 use Rattle.chess_fen.proofs.RoundTrip.{DigitBytes, own_bytes, target_fits}
 
 -- each byte is below 128
@@ -76,10 +78,9 @@ row_low (Some man ∷ squares) n h = run_low n (letter man ∷ row_text 0 square
 
 rows_low : (n : ℕ) (men : List (Option Man)) → AllByRecursion Low (map fen_rank (ranks_down n men))
 rows_low zero men = tt
-rows_low (suc n) men = (
-  row_low (take 8 (drop (8 * n) men)) 0 (omega (arith, length-take 8 (drop (8 * n) men))),
-  rows_low n men,
-)
+rows_low (suc n) men =
+    let row : List (Option Man) = take 8 (drop (8 * n) men) in
+    (subst Low (row_is row 0) (row_low row 0 (omega (arith, length-take 8 (drop (8 * n) men)))), rows_low n men)
 
 placement_low : (men : List (Option Man)) → Low (placement_text men)
 unfolding placement_text

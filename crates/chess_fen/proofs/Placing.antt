@@ -8,8 +8,10 @@ use Rattle.std.proofs.lemmas.List.{take-replicate, drop-replicate, length-replic
 use Rattle.std.proofs.lemmas.List.Splits.{length-slice_split}
 use Rattle.chess_base.specs.declared.man.Man.{Man}
 use Rattle.chess_base.specs.Letters.{man_with_letter}
-use Rattle.chess_fen.specs.Texts.{squares_of, rank_after, squares_by_ranks, placement_of}
+use Rattle.chess_fen.specs.Texts.{squares_of, placement_of}
+use Rattle.chess_fen.specs.ties.Reader.{rank_after, squares_by_ranks}
 use Rattle.chess_fen.specs.ties.Runs.{at_lower, last_rank, placing, from_space, NoRankIsRead, RankIsPlaced, SlashIsRead, NoSlashIsRead, Ends, PlacementIsRead}
+use Rattle.chess_fen.proofs.FieldsRead.{placements_are}
 use Rattle.chess_fen.proofs.RankBytes.{no_man, all_none, placing_over}
 
 abbrev no_board : Option (List (Option Man))
@@ -155,7 +157,9 @@ placing-parts left row above (c ∷ cs) = by_space (λ left row above. placing-p
     by_space on false t = by_stroke on (eqb c 47) t refl
 
 pub placing-read : (text : List ℕ) → placing 7 [] [] text ≡ placement_of (before_first (λ b. eqb b 32) text)
-placing-read text = placing-parts 7 [] [] text ∙ by_list (parted text) (some_parts text)
+placing-read text =
+    placing-parts 7 [] [] text ∙ by_list (parted text) (some_parts text)
+    ∙ sym (placements_are (before_first (λ b. eqb b 32) text))
   where
     by_list : (parts : List (List ℕ)) → 0 < length parts
         → by_parts 7 [] [] parts ≡ cond (eqb (length parts) 8) (squares_by_ranks [] parts) None

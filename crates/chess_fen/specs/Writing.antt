@@ -1,6 +1,6 @@
 -- The one FEN that is written for a position (PGN standard of 1994, section 16.1). The target is written as the
 -- position holds it, whether or not it can be captured on; numbers have no leading zeros.
-use Rattle.std.specs.Prelude.{ℕ, Bool, zero, suc, ◌+◌, ◌*◌, List, [], ◌∷◌, ◌++◌, map, take, drop, Option, Some, None, decimal, codes}
+use Rattle.std.specs.Prelude.{ℕ, Bool, zero, suc, ◌*◌, List, [], ◌∷◌, ◌++◌, map, take, drop, Option, Some, None, decimal, codes}
 use Rattle.std.specs.List.{join_with_byte}
 use Rattle.std.specs.Option.{option_map_or}
 use Rattle.chess_base.specs.declared.man.Man.{Man}
@@ -17,21 +17,18 @@ use Rattle.chess_base.specs.Letters.{byte, space, square_text, letter}
 use Rattle.chess_base.specs.Initial.{initial_setup}
 use Rattle.std.specs.Str.{bytes_eq}
 
--- a run of n empty squares as text: the digit n, or nothing for n = 0
-abbrev pub run_text : ℕ → List ℕ
-run_text zero = []
-run_text (suc n) = (byte "0" + suc n) ∷ []
+-- the text with its first byte raised by one: "3p" for "2p"
+abbrev pub raised : List ℕ → List ℕ
+raised [] = []
+raised (c ∷ cs) = suc c ∷ cs
 
--- the text of the rest of a rank, after `empty` empty squares that are not yet written: with 2 of them before a white
--- pawn it begins "2P"
-abbrev pub row_text : ℕ → List (Option Man) → List ℕ
-row_text empty [] = run_text empty
-row_text empty (None ∷ row) = row_text (suc empty) row
-row_text empty (Some man ∷ row) = run_text empty ++ letter man ∷ row_text 0 row
-
--- the text of a rank's eight squares, from file a to file h, as "4P3"
+-- the text of squares of one rank, from file a on, as "4P3": a piece's letter for each piece, and for empty squares side
+-- by side the digit that counts them
 abbrev pub fen_rank : List (Option Man) → List ℕ
-fen_rank row = row_text 0 row
+fen_rank [] = []
+fen_rank (Some man ∷ row) = letter man ∷ fen_rank row
+fen_rank (None ∷ None ∷ row) = raised (fen_rank (None ∷ row))
+fen_rank (None ∷ row) = byte "1" ∷ fen_rank row
 
 -- the n lowest ranks of the board (the first argument is n), each as its eight squares, the highest of them first
 abbrev pub ranks_down : ℕ → List (Option Man) → List (List (Option Man))
