@@ -11,6 +11,7 @@ mod RookAmong
 mod RightsBack
 mod NamedRooks
 mod Joined
+mod FenBytes
 mod DenotedFields
 mod RoundTrip
 mod Steps
@@ -18,7 +19,6 @@ mod DenotedFen
 mod NormalWritten
 mod NormalRead
 mod WrittenFen
-mod Ascii
 mod FieldsRead
 mod OneRankText
 mod RightsAlike

@@ -1,5 +1,5 @@
 -- A FEN is read as normal chess as it is defined for normal chess alone.
-use Rattle.std.proofs.Common.{◌≡◌, ℕ, Bool, true, false, not, ◌&&◌, List, [], ◌∷◌, Option, Some, None, Result, Ok, Err, refl, ap, if◌then◌else◌}
+use Rattle.std.proofs.Common.{◌≡◌, ℕ, Bool, true, false, not, ◌&&◌, List, [], ◌∷◌, Option, Some, None, Result, Ok, Err, refl, ap, subst, if◌then◌else◌}
 use Rattle.std.specs.Prelude.{codes, max, IfOk}
 use Rattle.std.specs.Option.{ok_or}
 use Rattle.chess_base.specs.declared.fen_fault.FenFault.{FenFault}
@@ -7,6 +7,7 @@ use Rattle.chess_base.specs.declared.fen_fault.FenFault.TheVariants as faults
 use Rattle.chess_base.specs.declared.man.Colour.{Colour}
 use Rattle.chess_base.specs.declared.man.Colour.TheVariants.{White, Black}
 use Rattle.chess_base.specs.declared.man.CastlingSide.TheVariants.{KingSide, QueenSide}
+use Rattle.chess_base.specs.declared.man.Variant.{Variant}
 use Rattle.chess_base.specs.declared.man.Variant.TheVariants.{Normal}
 use Rattle.chess_base.specs.declared.setup.Setup.{Setup}
 use Rattle.chess_base.specs.Attacks.{is_in_check}
@@ -14,9 +15,9 @@ use Rattle.chess_base.specs.Faults.{counters_fit, rights_are_sound, first_failin
 use Rattle.chess_base.specs.Men.{Men, other}
 use Rattle.chess_base.specs.Sound.{has_one_king, no_pawn_on_end_ranks, has_at_most_16, target_is_sound}
 use Rattle.chess_base.proofs.shared.Normal.{normal_kept}
-use Rattle.chess_fen.specs.Reading.{◌>>=◌, side_of, denoted_by, denoted_in, unless_fault, sound_setup_of, fen_reading_as}
+use Rattle.chess_fen.specs.Reading.{◌>>=◌, Denoted, side_of, denoted_by, denoted_in, setup_of, conditions_of, unless_fault, sound_setup_of, fen_reading_as}
 use Rattle.chess_fen.specs.Texts.{may_name_right, placement_of, target_of, number_of, fields_of, is_castling}
-use Rattle.chess_fen.specs.laws.Normal.{normal_rights_of, normal_rights_named, normal_setup_by, normal_setup_in, normal_rights_are_sound, normal_fault, normal_sound, normal_fen_reading}
+use Rattle.chess_fen.specs.laws.Normal.{normal_rights_named, normal_setup_by, normal_setup_in, normal_rights_are_sound, normal_fault, normal_sound, normal_fen_reading}
 use Rattle.chess_fen.proofs.Steps.{steps}
 
 stand_kept : (p : Setup) → p.variant ≡ Normal → rights_are_sound p ≡ normal_rights_are_sound p
@@ -110,42 +111,19 @@ reading_kept text = by_fields (fields_of text)
     by_fields (a ∷ b ∷ c ∷ d ∷ e ∷ f ∷ []) = fields_kept a b c d e f
     by_fields (a ∷ b ∷ c ∷ d ∷ e ∷ f ∷ g ∷ more) = refl
 
--- ---- what is read is of normal chess
+-- ---- what is read is of the variant
 
-abbrev IsNormal : Result Setup FenFault → Type 0
-IsNormal r = IfOk r (λ p. p.variant ≡ Normal)
+pub reading_in_variant : (v : Variant) (text : List ℕ) → IfOk (fen_reading_as v text) (λ p. p.variant ≡ v)
+reading_in_variant v text = by_fields (denoted_in v (fields_of text))
+  where
+    by_fault : (d : Denoted) (o : Option FenFault) → IfOk (unless_fault (setup_of v d) o) (λ p. p.variant ≡ v)
+    by_fault d None = refl
+    by_fault d (Some f) = tt
 
-step : {A : Type 0} (o : Option A) (f : FenFault) (g : A → Result Setup FenFault) → ((a : A) → IsNormal (g a))
-    → IsNormal (ok_or o f >>= g)
-step None f g h = tt
-step (Some a) f g h = h a
-
-fields_are_normal : (a b c d h f : List ℕ) → IsNormal (normal_setup_by a b c d h f)
-fields_are_normal a b c d h f =
-    step (placement_of a) faults.Placement _ (λ men.
-    step (side_of b) faults.Side _ (λ colour.
-    step (normal_rights_of c) faults.Castling _ (λ rights.
-    step (target_of d) faults.EnPassant _ (λ passed.
-    step (number_of h) faults.Counters _ (λ clock.
-    step (number_of f) faults.Counters _ (λ number. refl))))))
-
-in_normal : (fields : List (List ℕ)) → IsNormal (normal_setup_in fields)
-in_normal [] = tt
-in_normal (a ∷ []) = tt
-in_normal (a ∷ b ∷ []) = tt
-in_normal (a ∷ b ∷ c ∷ []) = tt
-in_normal (a ∷ b ∷ c ∷ d ∷ []) = fields_are_normal a b c d (codes "0") (codes "1")
-in_normal (a ∷ b ∷ c ∷ d ∷ e ∷ []) = tt
-in_normal (a ∷ b ∷ c ∷ d ∷ e ∷ f ∷ []) = fields_are_normal a b c d e f
-in_normal (a ∷ b ∷ c ∷ d ∷ e ∷ f ∷ g ∷ more) = tt
-
-unless_normal : (p : Setup) → p.variant ≡ Normal → (o : Option FenFault) → IsNormal (unless_fault p o)
-unless_normal p e None = e
-unless_normal p e (Some f) = tt
-
-sound_is_normal : (r : Result Setup FenFault) → IsNormal r → IsNormal (r >>= normal_sound)
-sound_is_normal (Ok p) e = unless_normal p e (normal_fault p)
-sound_is_normal (Err f) e = tt
+    by_fields : (r : Result Denoted FenFault) → IfOk (r >>= sound_setup_of v) (λ p. p.variant ≡ v)
+    by_fields (Ok d) = by_fault d (first_failing (conditions_of v d))
+    by_fields (Err f) = tt
 
 pub reading_is_normal : (text : List ℕ) → IfOk (normal_fen_reading text) (λ p. p.variant ≡ Normal)
-reading_is_normal text = sound_is_normal (normal_setup_in (fields_of text)) (in_normal (fields_of text))
+reading_is_normal text = subst (λ r. IfOk r (λ p. p.variant ≡ Normal)) (reading_kept text)
+    (reading_in_variant Normal text)

@@ -1,14 +1,13 @@
 -- What is written for a position is read as that position.
-use Rattle.std.proofs.Common.{◌≡◌, ℕ, zero, suc, ◌+◌, ◌*◌, ◌/◌, ◌<◌, ◌≤◌, ◌⊎◌, inl, inr, true, cond, eqb, leb, ltb, List, [], ◌∷◌, ◌++◌, length, take, drop, map, Option, Some, None, refl, sym, ap, subst, ◌∙◌, arith, rules}
-use Rattle.std.specs.Prelude.{replicate, decimal, IfSome, is_some, is_none, Ok, max, ◌&&◌}
-use Rattle.std.specs.List.{AllByRecursion, AllZip, list_all, slice_split}
+use Rattle.std.proofs.Common.{◌≡◌, ℕ, zero, suc, ◌+◌, ◌*◌, ◌<◌, ◌≤◌, inl, inr, true, cond, eqb, leb, ltb, List, [], ◌∷◌, ◌++◌, length, take, drop, map, Option, Some, None, refl, sym, ap, subst, ◌∙◌, arith, rules}
+use Rattle.std.specs.Prelude.{replicate, decimal, is_some, Ok, max, ◌&&◌}
+use Rattle.std.specs.List.{AllZip, list_all, slice_split}
 use Rattle.std.proofs.lemmas.Bool.Decides.{nat_tests}
 use Rattle.std.proofs.lemmas.List.{append-nil, length-take, length-drop, take_all, length-append}
 use Rattle.std.proofs.lemmas.Fmt.{digits_decimal, decimal_is_IsNumeral, decimal_nonempty}
-use Rattle.std.proofs.lemmas.Str.Parse.{IsNumeralModel, IsDigitsTest, numerals_by_fold}
+use Rattle.std.proofs.lemmas.Str.Parse.{IsNumeralModel, numerals_by_fold}
 use Rattle.chess_base.specs.declared.man.Man.{Man}
-use Rattle.chess_base.specs.declared.man.Kind.{Kind}
-use Rattle.chess_base.specs.declared.man.Kind.TheVariants.{Pawn, Knight, Bishop, Rook, Queen, King}
+use Rattle.chess_base.specs.declared.man.Kind.TheVariants.{Rook, King}
 use Rattle.chess_base.specs.declared.man.Colour.{Colour}
 use Rattle.chess_base.specs.declared.man.Colour.TheVariants.{White, Black}
 use Rattle.chess_base.specs.declared.man.CastlingSide.{CastlingSide}
@@ -17,15 +16,15 @@ use Rattle.chess_base.specs.declared.man.Rights.{Rights}
 use Rattle.chess_base.specs.declared.man.Variant.{Variant}
 use Rattle.chess_base.specs.declared.man.Variant.TheVariants.{Normal, Fischerandom}
 use Rattle.chess_base.specs.declared.setup.Setup.{Setup}
-use Rattle.chess_base.specs.Letters.{white_letter, byte, is_digit, value_after, letter, letter_by}
-use Rattle.chess_base.specs.Men.{Men, man_at, is_man, other, forward, crossed_rank}
-use Rattle.chess_base.specs.Sound.{IsSound, target_is_sound_at, target_is_sound}
+use Rattle.chess_base.specs.Letters.{byte, is_digit, value_after, letter}
+use Rattle.chess_base.specs.Men.{Men, man_at, is_man}
+use Rattle.chess_base.specs.Sound.{IsSound}
 use Rattle.chess_base.specs.Castling.{home_square, rook_file, right_of, right_is_sound}
 use Rattle.chess_base.specs.shared.Splits.{right_is_sound_at}
 use Rattle.chess_base.proofs.shared.Castling.{right_is_sound_of}
 use Rattle.std.proofs.lemmas.Bool.{and_parts, eqb-true}
 use Rattle.std.proofs.Math.Seq.{take-add}
-use Rattle.chess_fen.specs.RightNames.{side_letter, right_letter, right_named, right_in, names_well}
+use Rattle.chess_fen.specs.RightNames.{side_letter, right_named, right_in, names_well}
 use Rattle.chess_fen.specs.Texts.{number_of, from_top, placement_of, occurs, may_name_right, is_castling, fields_of}
 use Rattle.chess_fen.specs.Writing.{fen_rank, ranks_down, placement_text, side_text, right_text, or_dash, rights_text, target_text, fen}
 use Rattle.chess_fen.specs.Reading.{Denoted, denoted_in, setup_of}
@@ -35,29 +34,13 @@ use Rattle.chess_fen.proofs.DenotedFields.{placement-denoted, side-text, target-
 use Rattle.chess_fen.proofs.RightsBack.{Stand, right_back, text_is_castling}
 use Rattle.chess_fen.proofs.WrittenRanks.{moved, row_is}
 use Rattle.chess_fen.proofs.Lengths.{short_decimal}
-use Rattle.chess_fen.proofs.Joined.{From, From-append, From-weaker, From-join, slice_split-join, fields_of-join}
+use Rattle.chess_fen.proofs.FenBytes.{target_fits, rows_plain, fields, fields_plain}
+use Rattle.chess_fen.proofs.Joined.{each_weaker, slice_split-join, fields_of-join}
 
 -- ---- numbers
 
 pub own : IsNumeralModel (λ ds. list_all is_digit ds ≡ true) (value_after 0)
 own = numerals_by_fold _ (search rules) value_after (search rules)
-
-abbrev pub DigitBytes : List ℕ → Type 0
-DigitBytes ds = AllByRecursion (λ c. (48 ≤ c) × (c ≤ 57)) ds
-
-says_bytes : IsDigitsTest DigitBytes
-says_bytes = record { empty = tt; parts = λ c cs p. (search rules, p.1); more = λ c cs d p. (search rules, p) }
-
-pub own_bytes : IsNumeralModel DigitBytes (value_after 0)
-own_bytes = numerals_by_fold _ says_bytes value_after (search rules)
-
-digits_from : (ds : List ℕ) → DigitBytes ds → From 48 ds
-digits_from [] p = tt
-digits_from (c ∷ cs) p = (p.0.0, digits_from cs p.1)
-
-pub decimal_from : (n : ℕ) → n < 1000000 → From 33 (decimal n)
-decimal_from n h = From-weaker 33 48 (decimal n) (omega arith)
-    (digits_from (decimal n) (digits_decimal own_bytes n (omega arith)))
 
 pub number-decimal : (n : ℕ) → n < 1000000 → number_of (decimal n) ≡ Some n
 number-decimal n h =
@@ -147,26 +130,6 @@ read_back : (p : Setup) → IsSound p → ReadBack p.variant p.men p.rights
 unfolding right_is_sound
 read_back p h = are_read p.variant p.men p.rights (λ c w. right_is_sound_of p h c w)
 
--- a target has rank 3 or 6
-target_rank : (men : Men) (c : Colour) (target : Option ℕ) → target_is_sound_at men c target ≡ true
-    → IfSome target (λ square. (square / 8 ≡ 2) ⊎ (square / 8 ≡ 5))
-target_rank men c None e = tt
-target_rank men c (Some t) e = by_colour c
-    (and_parts (eqb (t / 8) (crossed_rank (other c))) (is_none (man_at men t))
-    (and_parts (eqb (t / 8) (crossed_rank (other c)) && is_none (man_at men t))
-    (is_man (other c) Pawn (man_at men (forward (other c) t)))
-    (and_parts (eqb (t / 8) (crossed_rank (other c)) && is_none (man_at men t)
-    && is_man (other c) Pawn (man_at men (forward (other c) t))) (is_none (man_at men (forward c t)))
-    e).0).0).0
-  where
-    by_colour : (d : Colour) → eqb (t / 8) (crossed_rank (other d)) ≡ true → (t / 8 ≡ 2) ⊎ (t / 8 ≡ 5)
-    by_colour White h = inr (eqb-true (t / 8) 5 h)
-    by_colour Black h = inl (eqb-true (t / 8) 2 h)
-
-pub target_fits : (p : Setup) → IsSound p → IfSome p.target (λ square. (square / 8 ≡ 2) ⊎ (square / 8 ≡ 5))
-unfolding target_is_sound
-target_fits p h = target_rank p.men p.side p.target h.target
-
 -- ---- ranks
 
 -- a run of empty squares in front of others
@@ -199,34 +162,6 @@ rank_denotes row h = subst (λ text. DenotesSquares text row) (row_is row 0) (ro
 
 -- ---- placement
 
-run_from : (n : ℕ) (rest : List ℕ) → From 48 rest → From 48 (run_text n ++ rest)
-run_from zero rest p = p
-run_from (suc n) rest p = (omega arith, p)
-
-white_from : (kind : Kind) → 48 ≤ white_letter kind
-white_from Pawn = omega arith
-white_from Knight = omega arith
-white_from Bishop = omega arith
-white_from Rook = omega arith
-white_from Queen = omega arith
-white_from King = omega arith
-
-letter_from : (colour : Colour) (kind : Kind) → 48 ≤ letter_by colour kind
-letter_from White kind = white_from kind
-letter_from Black kind = omega (arith, white_from kind)
-
-row_from : (squares : List (Option Man)) (n : ℕ) → From 48 (row_text n squares)
-row_from [] n = subst (From 48) (append-nil (run_text n)) (run_from n [] tt)
-row_from (None ∷ squares) n = row_from squares (suc n)
-row_from (Some man ∷ squares) n = run_from n (letter man ∷ row_text 0 squares)
-    (letter_from man.colour man.kind, row_from squares 0)
-
-rows_from : (n : ℕ) (men : List (Option Man)) → AllByRecursion (From 48) (map fen_rank (ranks_down n men))
-rows_from zero men = tt
-rows_from (suc n) men =
-    let row : List (Option Man) = take 8 (drop (8 * n) men) in
-    (subst (From 48) (row_is row 0) (row_from row 0), rows_from n men)
-
 ranks_denote : (n : ℕ) (men : List (Option Man)) → 8 * n ≤ length men
     → AllZip DenotesRank (map fen_rank (ranks_down n men)) (ranks_down n men)
 ranks_denote zero men h = tt
@@ -246,7 +181,7 @@ placement-text : (men : List (Option Man)) → length men ≡ 64 → placement_o
 unfolding placement_text
 placement-text men all =
     let parts : slice_split (λ c. eqb c 47) (ranks_text 8 men) ≡ map fen_rank (ranks_down 8 men) =
-    slice_split-join 47 (fen_rank (take 8 (drop 56 men))) (map fen_rank (ranks_down 7 men)) (rows_from 8 men) in
+    slice_split-join 47 (fen_rank (take 8 (drop 56 men))) (map fen_rank (ranks_down 7 men)) (rows_plain 8 men) in
     placement-denoted (placement_text men) men (
       ranks_down 8 men,
       refl,
@@ -254,71 +189,25 @@ placement-text men all =
       sym (stacked 8 men ∙ take_all 64 men (omega arith)),
     )
 
-placement_from : (men : List (Option Man)) → From 33 (placement_text men)
-unfolding placement_text
-placement_from men = From-weaker 33 47 (ranks_text 8 men) (omega arith)
-    (From-join 47 47 (map fen_rank (ranks_down 8 men)) (omega arith)
-    (weaker (map fen_rank (ranks_down 8 men)) (rows_from 8 men)))
-  where
-    weaker : (texts : List (List ℕ)) → AllByRecursion (From 48) texts → AllByRecursion (From 47) texts
-    weaker [] p = tt
-    weaker (x ∷ xs) p = (From-weaker 47 48 x (omega arith) p.0, weaker xs p.1)
-
 placement_some : (men : List (Option Man)) → 0 < length (placement_text men)
 unfolding placement_text
 placement_some men = omega (arith, length-append (fen_rank (take 8 (drop 56 men))) (47 ∷ ranks_text 7 men))
 
 -- ---- the fields
 
-side_from : (colour : Colour) → From 33 (side_text colour)
-side_from White = (omega arith, tt)
-side_from Black = (omega arith, tt)
-
 side_some : (colour : Colour) → 0 < length (side_text colour)
 side_some White = omega arith
 side_some Black = omega arith
 
-letter_high : (v : Variant) (c : Colour) (w : CastlingSide) (s : ℕ) → 33 ≤ right_letter v c w s
-letter_high Normal White KingSide s = omega arith
-letter_high Normal White QueenSide s = omega arith
-letter_high Normal Black KingSide s = omega arith
-letter_high Normal Black QueenSide s = omega arith
-letter_high Fischerandom White w s = omega arith
-letter_high Fischerandom Black w s = omega arith
-
-right_from : (v : Variant) (c : Colour) (w : CastlingSide) (right : Option ℕ) → From 33 (right_text v c w right)
-right_from v c w (Some s) = (letter_high v c w s, tt)
-right_from v c w None = tt
-
-dash_from : (text : List ℕ) → From 33 text → From 33 (or_dash text)
-dash_from [] p = (omega arith, tt)
-dash_from (c ∷ cs) p = p
-
 dash_some : (text : List ℕ) → 0 < length (or_dash text)
 dash_some [] = omega arith
 dash_some (c ∷ cs) = omega arith
-
-rights_from : (v : Variant) (r : Rights) → From 33 (rights_text v r)
-rights_from v r =
-    let a = right_text v White KingSide r.white.king_side in
-    let b = right_text v White QueenSide r.white.queen_side in
-    let c = right_text v Black KingSide r.black.king_side in
-    let d = right_text v Black QueenSide r.black.queen_side in
-    dash_from (((a ++ b) ++ c) ++ d)
-    (From-append 33 ((a ++ b) ++ c) d
-    (From-append 33 (a ++ b) c (From-append 33 a b (right_from v White KingSide r.white.king_side)
-    (right_from v White QueenSide r.white.queen_side)) (right_from v Black KingSide r.black.king_side))
-    (right_from v Black QueenSide r.black.queen_side))
 
 rights_some : (v : Variant) (r : Rights) → 0 < length (rights_text v r)
 rights_some v r =
     dash_some
     (((right_text v White KingSide r.white.king_side ++ right_text v White QueenSide r.white.queen_side)
     ++ right_text v Black KingSide r.black.king_side) ++ right_text v Black QueenSide r.black.queen_side)
-
-target_from : (target : Option ℕ) → From 33 (target_text target)
-target_from None = (omega arith, tt)
-target_from (Some t) = (omega arith, (omega arith, tt))
 
 target_some : (target : Option ℕ) → 0 < length (target_text target)
 target_some None = omega arith
@@ -327,26 +216,12 @@ target_some (Some t) = omega arith
 -- ---- the text
 
 -- the fields of a position's FEN
-pub fen_fields : (p : Setup) → IsSound p
-    → fields_of (fen p) ≡ placement_text p.men ∷ side_text p.side ∷ rights_text p.variant p.rights ∷ target_text
-    p.target ∷ decimal p.halfmove ∷ decimal p.fullmove ∷ []
+pub fen_fields : (p : Setup) → IsSound p → fields_of (fen p) ≡ fields p
 fen_fields p h =
     let halfmove : p.halfmove < 1000000 = let e = h.halfmove in grind (arith, nat_tests, e) in
     let fullmove : p.fullmove < 1000000 = let e = h.fullmove_high in grind (arith, nat_tests, e) in
-    fields_of-join (placement_text p.men) (side_text p.side ∷ rights_text p.variant p.rights ∷ target_text p.target ∷
-    decimal p.halfmove ∷ decimal p.fullmove ∷ []) (
-      placement_from p.men,
-      (
-        side_from p.side,
-        (
-          rights_from p.variant p.rights,
-          (
-            target_from p.target,
-            (decimal_from p.halfmove halfmove, (decimal_from p.fullmove fullmove, tt)),
-          ),
-        ),
-      ),
-    ) (
+    fields_of-join (placement_text p.men) (side_text p.side ∷ rights_text p.variant p.rights ∷ target_text p.target
+    ∷ decimal p.halfmove ∷ decimal p.fullmove ∷ []) (each_weaker 33 45 (fields p) (omega arith) (fields_plain p h)) (
       placement_some p.men,
       (
         side_some p.side,

@@ -48,7 +48,8 @@ pub fn a_rank_has_one_text()
 {}
 
 /// A law: the contract says it, and the function does nothing. Small texts worked out: what six fields denote, and
-/// the position that they give; a rank's text; and how letters name rights of Chess960, where White's king is on c1 and White's rooks are on b1, f1 and h1.
+/// the position that they give; a rank's text; and how letters name rights of Chess960, where White's king is on c1 and
+/// White's rooks are on b1, f1 and h1.
 pub fn fens_are_worked_out()
     ensures fields { denoted_in Normal (fields_of (codes "4k3/8/8/8/8/8/4P3/4K3 b - - 5 39"))
         ≡ Ok kings_and_pawn }
