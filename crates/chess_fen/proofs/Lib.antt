@@ -19,7 +19,6 @@ mod DenotedFen
 mod NormalWritten
 mod NormalRead
 mod WrittenFen
-mod FieldsRead
 mod OneRankText
 mod RightsAlike
 mod OneInitial

@@ -1,10 +1,11 @@
 -- What is written for a position is read as that position.
-use Rattle.std.proofs.Common.{◌≡◌, ℕ, zero, suc, ◌+◌, ◌*◌, ◌<◌, ◌≤◌, inl, inr, true, cond, eqb, leb, ltb, List, [], ◌∷◌, ◌++◌, length, take, drop, map, Option, Some, None, refl, sym, ap, subst, ◌∙◌, arith, rules}
+use Rattle.std.proofs.Common.{◌≡◌, ℕ, zero, suc, ◌+◌, ◌*◌, ◌<◌, ◌≤◌, inl, inr, Bool, true, false, cond, eqb, leb, ltb, List, [], ◌∷◌, ◌++◌, length, take, drop, map, Option, Some, None, refl, sym, ap, subst, ◌∙◌, arith, rules}
 use Rattle.std.specs.Prelude.{replicate, decimal, is_some, Ok, max, ◌&&◌}
 use Rattle.std.specs.List.{AllZip, list_all, slice_split}
 use Rattle.std.proofs.lemmas.Bool.Decides.{nat_tests}
 use Rattle.std.proofs.lemmas.List.{append-nil, length-take, length-drop, take_all, length-append}
 use Rattle.std.proofs.lemmas.Fmt.{digits_decimal, decimal_is_IsNumeral, decimal_nonempty}
+use Rattle.std.specs.Str.Parse.{digits_value}
 use Rattle.std.proofs.lemmas.Str.Parse.{IsNumeralModel, numerals_by_fold}
 use Rattle.chess_base.specs.declared.man.Man.{Man}
 use Rattle.chess_base.specs.declared.man.Kind.TheVariants.{Rook, King}
@@ -24,6 +25,7 @@ use Rattle.chess_base.specs.shared.Splits.{right_is_sound_at}
 use Rattle.chess_base.proofs.shared.Castling.{right_is_sound_of}
 use Rattle.std.proofs.lemmas.Bool.{and_parts, eqb-true}
 use Rattle.std.proofs.Math.Seq.{take-add}
+use Rattle.text_lines.specs.Words.{short_number}
 use Rattle.chess_fen.specs.RightNames.{side_letter, right_named, right_in, names_well}
 use Rattle.chess_fen.specs.Texts.{number_of, from_top, placement_of, occurs, may_name_right, is_castling, fields_of}
 use Rattle.chess_fen.specs.Writing.{fen_rank, ranks_down, placement_text, side_text, right_text, or_dash, rights_text, target_text, fen}
@@ -50,6 +52,16 @@ number-decimal n h =
     let t1 : leb (length (decimal n)) 6 ≡ true = grind (arith, nat_tests) in
     let t2 = digits_decimal own n (omega arith) in
     rw (t0, t1, t2, (decimal_is_IsNumeral n (omega arith)).1) refl
+
+pub numbers_are : (text : List ℕ) → number_of text ≡ short_number 6 text
+numbers_are text = by_tests (ltb 0 (length text)) (leb (length text) 6) (list_all is_digit text) refl
+  where
+    by_tests : (a b d : Bool) → list_all is_digit text ≡ d
+        → cond (a && b && d) (Some (digits_value 10 text)) None ≡ cond (a && b && d) (Some (value_after 0 text)) None
+    by_tests true true true e = ap Some (sym (own.same text (own.to text e)))
+    by_tests true true false e = refl
+    by_tests true false d e = refl
+    by_tests false b d e = refl
 
 -- ---- rights and target
 

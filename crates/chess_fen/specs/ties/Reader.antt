@@ -1,9 +1,8 @@
--- How code reads a FEN: rank by rank and letter by letter. A right that is named wrongly is kept as one whose rook is on
+-- How code reads the castling rights of a FEN, letter by letter. A right that is named wrongly is kept as one whose rook is on
 -- a square where no rook can have it, so that the position is refused as unsound.
-use Rattle.std.specs.Prelude.{ℕ, max, codes, ◌-◌, ◌==◌, ◌&&◌, List, [], ◌∷◌, ◌++◌, length, map, find, Option, Some, None, Result, Ok, Err, unwrap_or, if◌then◌else◌, option_and_then}
-use Rattle.std.specs.List.{slice_split, fold}
+use Rattle.std.specs.Prelude.{ℕ, max, codes, ◌-◌, ◌==◌, ◌&&◌, List, [], ◌∷◌, map, find, Option, Some, None, Result, Ok, Err, unwrap_or, if◌then◌else◌}
+use Rattle.std.specs.List.{fold}
 use Rattle.std.specs.Option.{ok_or}
-use Rattle.chess_base.specs.declared.man.Man.{Man}
 use Rattle.chess_base.specs.declared.man.Kind.TheVariants.{Rook}
 use Rattle.chess_base.specs.declared.man.Colour.{Colour}
 use Rattle.chess_base.specs.declared.man.CastlingSide.{CastlingSide}
@@ -17,28 +16,7 @@ use Rattle.chess_base.specs.Men.{Men, man_at, is_man}
 use Rattle.chess_base.specs.Castling.{home_square, king_square, rook_file, rights_by}
 use Rattle.chess_fen.specs.Reading.{◌>>=◌, side_of}
 use Rattle.chess_fen.specs.RightNames.{side_letter, right_named, from_edge, is_towards}
-use Rattle.chess_fen.specs.Texts.{squares_of, stroke, placement_of, first_letter, names_file, is_castling, target_of, number_of}
-
--- ---- placement
-
--- the eight squares of a rank: `row`, those read so far, and then those that the rest of its text denotes; none if a
--- byte denotes nothing, or if they are not eight
-abbrev pub rank_after : List (Option Man) → List ℕ → Option (List (Option Man))
-rank_after row [] = if length row == 8 then Some row else None
-rank_after row (c ∷ cs) = option_and_then (λ squares. rank_after (row ++ squares) cs) (squares_of c)
-
--- squares from a1 on, by the texts of ranks, the highest first: each rank's squares are put in front of `above`, those
--- of the higher ranks read so far; none if a text is not that of a rank
-abbrev pub squares_by_ranks : List (Option Man) → List (List ℕ) → Option (List (Option Man))
-squares_by_ranks above [] = Some above
-squares_by_ranks above (text ∷ texts) = option_and_then (λ row. squares_by_ranks (row ++ above) texts)
-    (rank_after [] text)
-
--- the pieces that a FEN's first field denotes, read rank by rank
-abbrev pub placement_read : List ℕ → Option (List (Option Man))
-placement_read text = let ranks = slice_split (λ c. c == stroke) text in if length ranks == 8
-    then squares_by_ranks [] ranks else
-    None
+use Rattle.chess_fen.specs.Texts.{placement_of, first_letter, names_file, is_castling, target_of, number_of}
 
 -- ---- castling in Chess960
 

@@ -1,5 +1,5 @@
 use Rattle.std.proofs.Common.{sym, ◌∙◌}
-use Rattle.chess_fen.proofs.FieldsRead.{numbers_are}
+use Rattle.chess_fen.proofs.RoundTrip.{numbers_are}
 use Rattle.chess_fen.proofs.number.read_number.Goals as goal
 
 pub returns : goal.returns
