@@ -1,7 +1,8 @@
 -- A text is read exactly where it denotes a position, and what its first fault says.
 use Rattle.std.proofs.Common.{◌≡◌, ◌≢◌, ℕ, ◌⊎◌, inl, inr, Bool, true, false, List, [], ◌∷◌, ◌++◌, length, take, drop, Option, Some, None, Result, Ok, Err, refl, sym, ap, subst, ◌∙◌, arith}
-use Rattle.std.specs.Prelude.{codes, max}
+use Rattle.std.specs.Prelude.{codes, max, IfOk}
 use Rattle.chess_base.specs.declared.man.Colour.{Colour}
+use Rattle.chess_base.specs.declared.man.Rights.{Rights}
 use Rattle.chess_base.specs.declared.man.Variant.{Variant}
 use Rattle.chess_base.specs.declared.setup.Setup.{Setup}
 use Rattle.chess_base.specs.Men.{Men}
@@ -12,11 +13,11 @@ use Rattle.chess_base.specs.declared.fen_fault.FenFault.{FenFault}
 use Rattle.chess_base.specs.declared.fen_fault.FenFault.TheVariants as faults
 use Rattle.chess_fen.specs.RightNames.{names_well}
 use Rattle.chess_fen.specs.Texts.{number_of, placement_of, is_castling, target_of, fields_of}
-use Rattle.chess_fen.specs.Reading.{◌>>=◌, Denoted, side_of, denoted_by, denoted_in, setup_of, conditions_of, unless_fault, sound_setup_of, fen_reading_as}
+use Rattle.chess_fen.specs.Reading.{◌>>=◌, side_of, denoted_by, denoted_in, castling_field, conditions_of, unless_fault, fen_reading_as}
 use Rattle.chess_fen.specs.Denotation.{DenotesCounters, DenotesFields, DenotesText, DenotesFenAs}
 use Rattle.chess_fen.specs.FenFaults.{IsFieldFault, HasWrongFieldCount, IsMalformed, IsFaultAs}
 use Rattle.chess_fen.proofs.DenotedFields.{denoted-placement, placement-denoted, denoted-side, side-denoted, denoted-target, target-denoted}
-use Rattle.chess_fen.proofs.Steps.{steps}
+use Rattle.chess_fen.proofs.Steps.{steps, if_fit}
 
 -- ---- counters
 
@@ -38,8 +39,8 @@ given h f = record { read = λ n k p q. (p, (k, q, refl)); denoted = λ n m s. (
 -- ---- the fields in turn
 
 -- either the fields denote what is read, or the first that denotes nothing is the fault
-abbrev Outcome : Variant → List ℕ → List ℕ → List ℕ → List ℕ → List (List ℕ) → Result Denoted FenFault → Type 0
-Outcome v a b c d more (Ok x) = DenotesFields v a b c d more x
+abbrev Outcome : Variant → List ℕ → List ℕ → List ℕ → List ℕ → List (List ℕ) → Result Setup FenFault → Type 0
+Outcome v a b c d more (Ok p) = DenotesFields v a b c d more p
 Outcome v a b c d more (Err f) = IsFieldFault v a b c d more f
 
 some_impossible : {A : Type 0} (o : Option A) (x : A) → o ≡ None → o ≡ Some x → ⊥
@@ -54,7 +55,7 @@ outcome v a b c d h f more counters =
     by_steps : (men : Option Men) → placement_of a ≡ men → (side : Option Colour) → side_of b ≡ side
         → (fits : Bool) → is_castling v c ≡ fits → (target : Option (Option ℕ)) → target_of d ≡ target
         → (n : Option ℕ) → number_of h ≡ n → (k : Option ℕ) → number_of f ≡ k
-        → Outcome v a b c d more (steps c men side fits target n k)
+        → Outcome v a b c d more (steps v c men side fits target n k)
     by_steps None e0 side e1 fits e2 target e3 n e4 k e5 =
         λ men s. some_impossible (placement_of a) men e0 (placement-denoted a men s)
     by_steps (Some men) e0 None e1 fits e2 target e3 n e4 k e5 = (
@@ -87,10 +88,11 @@ outcome v a b c d h f more counters =
       λ n m s. (let k = counters.denoted n m s in some_impossible (number_of f) k.0 e5 k.2),
     )
     by_steps (Some men) e0 (Some colour) e1 true e2 (Some target) e3 (Some n) e4 (Some k) e5 = record {
+      variant = refl;
       men = denoted-placement a men e0;
       side = denoted-side b colour e1;
       castling = e2;
-      letters = refl;
+      rights = refl;
       target = denoted-target d target e3;
       counters = counters.read n k e4 e5;
     }
@@ -98,14 +100,14 @@ outcome v a b c d h f more counters =
 -- ---- the text
 
 -- what the fields of a text say of it
-abbrev pub TextOutcome : Variant → List ℕ → Result Denoted FenFault → Type 0
-TextOutcome v text (Ok x) = DenotesText v text x
+abbrev pub TextOutcome : Variant → List ℕ → Result Setup FenFault → Type 0
+TextOutcome v text (Ok p) = DenotesText v text p
 TextOutcome v text (Err f) = HasWrongFieldCount text f ⊎ IsMalformed v text f
 
 of_fields : (v : Variant) (text : List ℕ) (a b c d : List ℕ) (more : List (List ℕ))
-    → fields_of text ≡ a ∷ b ∷ c ∷ d ∷ more → (length more ≡ 0) ⊎ (length more ≡ 2) → (r : Result Denoted FenFault)
+    → fields_of text ≡ a ∷ b ∷ c ∷ d ∷ more → (length more ≡ 0) ⊎ (length more ≡ 2) → (r : Result Setup FenFault)
     → Outcome v a b c d more r → TextOutcome v text r
-of_fields v text a b c d more are count (Ok x) s = (a, b, c, d, more, are, s)
+of_fields v text a b c d more are count (Ok p) s = (a, b, c, d, more, are, s)
 of_fields v text a b c d more are count (Err f) s = inr (a, b, c, d, more, are, count, s)
 
 fieldless : (v : Variant) (text : List ℕ) (n : ℕ) → length (fields_of text) ≡ n → n ≢ 4 → n ≢ 6
@@ -136,51 +138,53 @@ text_outcome v text = text_outcome_by v text (fields_of text) refl
 
 -- ---- and back
 
-abbrev with_text : Denoted → List ℕ → ℕ → Denoted
-with_text x letters fullmove = record {
-  men = x.men;
-  side = x.side;
-  letters = letters;
-  target = x.target;
-  halfmove = x.halfmove;
+abbrev with_facts : Setup → Variant → Rights → ℕ → Setup
+with_facts p v rights fullmove = record {
+  variant = v;
+  men = p.men;
+  side = p.side;
+  rights = rights;
+  target = p.target;
+  halfmove = p.halfmove;
   fullmove = fullmove;
 }
 
-fields-denoted : (v : Variant) (a b c d h f : List ℕ) (more : List (List ℕ)) (x : Denoted) → AreCounters more h f
-    → DenotesFields v a b c d more x → denoted_by v a b c d h f ≡ Ok x
-fields-denoted v a b c d h f more x counters s =
-    let k = counters.denoted x.halfmove x.fullmove s.counters in
+fields-denoted : (v : Variant) (a b c d h f : List ℕ) (more : List (List ℕ)) (p : Setup) → AreCounters more h f
+    → DenotesFields v a b c d more p → denoted_by v a b c d h f ≡ Ok p
+fields-denoted v a b c d h f more p counters s =
+    let k = counters.denoted p.halfmove p.fullmove s.counters in
     let fits : is_castling v c ≡ true = s.castling in
     rw (
-      placement-denoted a x.men s.men,
-      side-denoted b x.side s.side,
+      placement-denoted a p.men s.men,
+      side-denoted b p.side s.side,
       fits,
-      target-denoted d x.target s.target,
+      target-denoted d p.target s.target,
       k.1,
       k.2,
     )
-    (ap (λ (letters : List ℕ). Ok (with_text x letters (max k.0 1))) (sym s.letters)
-    ∙ ap (λ (n : ℕ). Ok (with_text x x.letters n)) (sym k.3))
+    (ap (λ (r : Rights). Ok (with_facts p v r (max k.0 1))) (sym s.rights)
+    ∙ ap (λ (n : ℕ). Ok (with_facts p v p.rights n)) (sym k.3)
+    ∙ ap (λ (u : Variant). Ok (with_facts p u p.rights p.fullmove)) (sym s.variant))
 
-in_fields : (v : Variant) (a b c d : List ℕ) (more : List (List ℕ)) (x : Denoted) → DenotesFields v a b c d more x
-    → denoted_in v (a ∷ b ∷ c ∷ d ∷ more) ≡ Ok x
-in_fields v a b c d [] x s = fields-denoted v a b c d (codes "0") (codes "1") [] x left_out s
-in_fields v a b c d (f ∷ []) x s = absurd s.counters
-in_fields v a b c d (f ∷ g ∷ []) x s = fields-denoted v a b c d f g (f ∷ g ∷ []) x (given f g) s
-in_fields v a b c d (f ∷ g ∷ h ∷ more) x s = absurd s.counters
+in_fields : (v : Variant) (a b c d : List ℕ) (more : List (List ℕ)) (p : Setup) → DenotesFields v a b c d more p
+    → denoted_in v (a ∷ b ∷ c ∷ d ∷ more) ≡ Ok p
+in_fields v a b c d [] p s = fields-denoted v a b c d (codes "0") (codes "1") [] p left_out s
+in_fields v a b c d (f ∷ []) p s = absurd s.counters
+in_fields v a b c d (f ∷ g ∷ []) p s = fields-denoted v a b c d f g (f ∷ g ∷ []) p (given f g) s
+in_fields v a b c d (f ∷ g ∷ h ∷ more) p s = absurd s.counters
 
-pub text-denoted : (v : Variant) (text : List ℕ) (x : Denoted) → DenotesText v text x
-    → denoted_in v (fields_of text) ≡ Ok x
-text-denoted v text x s = ap (denoted_in v) s.5 ∙ in_fields v s.0 s.1 s.2 s.3 s.4 x s.6
+pub text-denoted : (v : Variant) (text : List ℕ) (p : Setup) → DenotesText v text p
+    → denoted_in v (fields_of text) ≡ Ok p
+text-denoted v text p s = ap (denoted_in v) s.5 ∙ in_fields v s.0 s.1 s.2 s.3 s.4 p s.6
 
 -- ---- the position
 
 -- where the rights are named rightly, the conditions are those of soundness
-pub named-fault : (v : Variant) (x : Denoted) → names_well v x.men x.letters ≡ true
-    → first_failing (conditions_of v x) ≡ setup_fault (setup_of v x)
+named-fault : (letters : List ℕ) (p : Setup) → names_well p.variant p.men letters ≡ true
+    → first_failing (conditions_of letters p) ≡ setup_fault p
 unfolding setup_fault
-named-fault v x e = ap (λ b. first_failing (take 4 (conditions (setup_of v x)) ++ ((faults.Castling, b) ∷ drop 4
-    (conditions (setup_of v x))))) e
+named-fault letters p e =
+    ap (λ b. first_failing (take 4 (conditions p) ++ ((faults.Castling, b) ∷ drop 4 (conditions p)))) e
 
 -- where no condition fails, a condition among them holds
 holds : (xs : List (FenFault × Bool)) (f : FenFault) (b : Bool) (ys : List (FenFault × Bool))
@@ -193,11 +197,9 @@ holds ((g, false) ∷ xs) f b ys e = absurd cc
 pub reading-denoted : (v : Variant) (text : List ℕ) (p : Setup) → DenotesFenAs v text p → IsSound p
     → fen_reading_as v text ≡ Ok p
 reading-denoted v text p s h =
-    let x = s.0 in
-    let none : first_failing (conditions_of v x) ≡ None =
-    named-fault v x s.2 ∙ ap setup_fault (sym s.3) ∙ no_fault_from_IsSound p h in
-    ap (λ r. r >>= sound_setup_of v) (text-denoted v text x s.1) ∙ ap (unless_fault (setup_of v x)) none
-    ∙ ap Ok (sym s.3)
+    let letters = castling_field text in
+    ap (λ r. r >>= if_fit letters) (text-denoted v text p s.0)
+    ∙ ap (unless_fault p) (named-fault letters p s.1 ∙ no_fault_from_IsSound p h)
 
 -- the text denotes what is read, and the fault is true
 abbrev ReadingOutcome : Variant → List ℕ → Result Setup FenFault → Type 0
@@ -207,24 +209,31 @@ ReadingOutcome v text (Err f) = IsFaultAs v text f
 reading_outcome : (v : Variant) (text : List ℕ) → ReadingOutcome v text (fen_reading_as v text)
 reading_outcome v text = by_fields (denoted_in v (fields_of text)) (text_outcome v text)
   where
-    by_conditions : (x : Denoted) → DenotesText v text x → (o : Option FenFault) → first_failing (conditions_of v x) ≡ o
-        → ReadingOutcome v text (unless_fault (setup_of v x) o)
-    by_conditions x s None e = (
-      x,
+    by_conditions : (p : Setup) → DenotesText v text p → (o : Option FenFault)
+        → first_failing (conditions_of (castling_field text) p) ≡ o → ReadingOutcome v text (unless_fault p o)
+    by_conditions p s None e = (
       s,
-      holds (take 4 (conditions (setup_of v x))) faults.Castling (names_well v x.men x.letters)
-          (drop 4 (conditions (setup_of v x))) e,
-      refl,
+      holds (take 4 (conditions p)) faults.Castling (names_well p.variant p.men (castling_field text))
+          (drop 4 (conditions p)) e,
     )
-    by_conditions x s (Some f) e = inr (inr (x, s, e))
+    by_conditions p s (Some f) e = inr (inr (p, s, e))
 
     first_two : (f : FenFault) → HasWrongFieldCount text f ⊎ IsMalformed v text f → IsFaultAs v text f
     first_two f (inl h) = inl h
     first_two f (inr h) = inr (inl h)
 
-    by_fields : (r : Result Denoted FenFault) → TextOutcome v text r → ReadingOutcome v text (r >>= sound_setup_of v)
-    by_fields (Ok x) s = by_conditions x s (first_failing (conditions_of v x)) refl
+    by_fields : (r : Result Setup FenFault) → TextOutcome v text r
+        → ReadingOutcome v text (r >>= if_fit (castling_field text))
+    by_fields (Ok p) s = by_conditions p s (first_failing (conditions_of (castling_field text) p)) refl
     by_fields (Err f) s = first_two f s
+
+-- what is read is of the variant
+pub reading_in_variant : (v : Variant) (text : List ℕ) → IfOk (fen_reading_as v text) (λ p. p.variant ≡ v)
+reading_in_variant v text = by_result (fen_reading_as v text) (reading_outcome v text)
+  where
+    by_result : (r : Result Setup FenFault) → ReadingOutcome v text r → IfOk r (λ p. p.variant ≡ v)
+    by_result (Ok p) s = s.0.6.variant
+    by_result (Err f) s = tt
 
 pub found : (v : Variant) (text : List ℕ) (p : Setup) → fen_reading_as v text ≡ Ok p → DenotesFenAs v text p
 found v text p e = subst (ReadingOutcome v text) e (reading_outcome v text)
@@ -239,13 +248,13 @@ none_if None h = refl
 none_if (Some x) h = absurd (h x refl)
 
 -- with no counters the steps end with their fault
-unnumbered : (c : List ℕ) (men : Men) (colour : Colour) (target : Option ℕ) (h f : List ℕ) (more : List (List ℕ))
+unnumbered : (v : Variant) (c : List ℕ) (men : Men) (colour : Colour) (target : Option ℕ) (h f : List ℕ) (more : List (List ℕ))
     → AreCounters more h f → ((n m : ℕ) → DenotesCounters more n m → ⊥)
-    → steps c (Some men) (Some colour) true (Some target) (number_of h) (number_of f) ≡ Err faults.Counters
-unnumbered c men colour target h f more counters none = by_numbers (number_of h) refl (number_of f) refl
+    → steps v c (Some men) (Some colour) true (Some target) (number_of h) (number_of f) ≡ Err faults.Counters
+unnumbered v c men colour target h f more counters none = by_numbers (number_of h) refl (number_of f) refl
   where
     by_numbers : (o : Option ℕ) → number_of h ≡ o → (u : Option ℕ) → number_of f ≡ u
-        → steps c (Some men) (Some colour) true (Some target) o u ≡ Err faults.Counters
+        → steps v c (Some men) (Some colour) true (Some target) o u ≡ Err faults.Counters
     by_numbers None e u i = refl
     by_numbers (Some n) e None i = refl
     by_numbers (Some n) e (Some k) i = absurd (none n (max k 1) (counters.read n k e i))
@@ -276,7 +285,7 @@ misread v a b c d h f more faults.Counters n s =
       fits,
       target-denoted d s.3.0 s.3.1,
     )
-    (unnumbered c s.0.0 s.1.0 s.3.0 h f more n s.4)
+    (unnumbered v c s.0.0 s.1.0 s.3.0 h f more n s.4)
 misread v a b c d h f more faults.Fields n s = absurd s
 misread v a b c d h f more faults.Kings n s = absurd s
 misread v a b c d h f more faults.Pawns n s = absurd s
@@ -306,8 +315,8 @@ uncounted v (a ∷ b ∷ c ∷ d ∷ f ∷ g ∷ h ∷ more) four six = refl
 
 pub fault-read : (v : Variant) (text : List ℕ) (f : FenFault) → IsFaultAs v text f → fen_reading_as v text ≡ Err f
 fault-read v text f (inl h) =
-    ap (λ r. r >>= sound_setup_of v) (uncounted v (fields_of text) h.1 h.2) ∙ ap Err (sym h.0)
-fault-read v text f (inr (inl h)) = ap (λ r. r >>= sound_setup_of v)
+    ap (λ r. r >>= if_fit (castling_field text)) (uncounted v (fields_of text) h.1 h.2) ∙ ap Err (sym h.0)
+fault-read v text f (inr (inl h)) = ap (λ r. r >>= if_fit (castling_field text))
     (ap (denoted_in v) h.5 ∙ misread_in v h.0 h.1 h.2 h.3 h.4 f h.6 h.7)
-fault-read v text f (inr (inr h)) = ap (λ r. r >>= sound_setup_of v) (text-denoted v text h.0 h.1)
-    ∙ ap (unless_fault (setup_of v h.0)) h.2
+fault-read v text f (inr (inr h)) = ap (λ r. r >>= if_fit (castling_field text)) (text-denoted v text h.0 h.1)
+    ∙ ap (unless_fault h.0) h.2

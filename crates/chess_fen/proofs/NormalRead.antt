@@ -1,5 +1,5 @@
 -- A FEN is read as normal chess as it is defined for normal chess alone.
-use Rattle.std.proofs.Common.{◌≡◌, ℕ, Bool, true, false, not, ◌&&◌, List, [], ◌∷◌, Option, Some, None, Result, Ok, Err, refl, ap, subst, if◌then◌else◌}
+use Rattle.std.proofs.Common.{◌≡◌, ℕ, Bool, true, false, not, ◌&&◌, List, [], ◌∷◌, get_or, Option, Some, None, Result, Ok, Err, refl, ap, subst, if◌then◌else◌}
 use Rattle.std.specs.Prelude.{codes, max, IfOk}
 use Rattle.std.specs.Option.{ok_or}
 use Rattle.chess_base.specs.declared.fen_fault.FenFault.{FenFault}
@@ -7,7 +7,6 @@ use Rattle.chess_base.specs.declared.fen_fault.FenFault.TheVariants as faults
 use Rattle.chess_base.specs.declared.man.Colour.{Colour}
 use Rattle.chess_base.specs.declared.man.Colour.TheVariants.{White, Black}
 use Rattle.chess_base.specs.declared.man.CastlingSide.TheVariants.{KingSide, QueenSide}
-use Rattle.chess_base.specs.declared.man.Variant.{Variant}
 use Rattle.chess_base.specs.declared.man.Variant.TheVariants.{Normal}
 use Rattle.chess_base.specs.declared.setup.Setup.{Setup}
 use Rattle.chess_base.specs.Attacks.{is_in_check}
@@ -15,10 +14,11 @@ use Rattle.chess_base.specs.Faults.{counters_fit, rights_are_sound, first_failin
 use Rattle.chess_base.specs.Men.{Men, other}
 use Rattle.chess_base.specs.Sound.{has_one_king, no_pawn_on_end_ranks, has_at_most_16, target_is_sound}
 use Rattle.chess_base.proofs.shared.Normal.{normal_kept}
-use Rattle.chess_fen.specs.Reading.{◌>>=◌, Denoted, side_of, denoted_by, denoted_in, setup_of, conditions_of, unless_fault, sound_setup_of, fen_reading_as}
+use Rattle.chess_fen.specs.Reading.{◌>>=◌, side_of, denoted_by, denoted_in, unless_fault, fen_reading_as}
 use Rattle.chess_fen.specs.Texts.{may_name_right, placement_of, target_of, number_of, fields_of, is_castling}
 use Rattle.chess_fen.specs.laws.Normal.{normal_rights_named, normal_setup_by, normal_setup_in, normal_rights_are_sound, normal_fault, normal_sound, normal_fen_reading}
-use Rattle.chess_fen.proofs.Steps.{steps}
+use Rattle.chess_fen.proofs.DenotedFen.{reading_in_variant}
+use Rattle.chess_fen.proofs.Steps.{steps, if_fit}
 
 stand_kept : (p : Setup) → p.variant ≡ Normal → rights_are_sound p ≡ normal_rights_are_sound p
 unfolding rights_are_sound
@@ -70,7 +70,7 @@ normal_steps castling men side fits target halfmove fullmove = do
 
 steps_kept : (c : List ℕ) (men : Option Men) (side : Option Colour) (fits : Bool) (target : Option (Option ℕ))
     (halfmove fullmove : Option ℕ)
-    → (steps c men side fits target halfmove fullmove >>= sound_setup_of Normal)
+    → (steps Normal c men side fits target halfmove fullmove >>= if_fit c)
     ≡ (normal_steps c men side fits target halfmove fullmove >>= normal_sound)
 unfolding setup_fault
 steps_kept c None side fits target halfmove fullmove = refl
@@ -92,7 +92,7 @@ steps_kept c (Some men) (Some colour) true (Some target) (Some halfmove) (Some f
     ap (unless_fault p) (fault_kept p refl)
 
 fields_kept : (a b c d h f : List ℕ)
-    → (denoted_by Normal a b c d h f >>= sound_setup_of Normal) ≡ (normal_setup_by a b c d h f >>= normal_sound)
+    → (denoted_by Normal a b c d h f >>= if_fit c) ≡ (normal_setup_by a b c d h f >>= normal_sound)
 unfolding may_name_right
 fields_kept a b c d h f =
     steps_kept c (placement_of a) (side_of b) (is_castling Normal c) (target_of d) (number_of h) (number_of f)
@@ -101,7 +101,7 @@ pub reading_kept : (text : List ℕ) → fen_reading_as Normal text ≡ normal_f
 reading_kept text = by_fields (fields_of text)
   where
     by_fields : (fields : List (List ℕ))
-        → (denoted_in Normal fields >>= sound_setup_of Normal) ≡ (normal_setup_in fields >>= normal_sound)
+        → (denoted_in Normal fields >>= if_fit (get_or fields 2 [])) ≡ (normal_setup_in fields >>= normal_sound)
     by_fields [] = refl
     by_fields (a ∷ []) = refl
     by_fields (a ∷ b ∷ []) = refl
@@ -110,19 +110,6 @@ reading_kept text = by_fields (fields_of text)
     by_fields (a ∷ b ∷ c ∷ d ∷ e ∷ []) = refl
     by_fields (a ∷ b ∷ c ∷ d ∷ e ∷ f ∷ []) = fields_kept a b c d e f
     by_fields (a ∷ b ∷ c ∷ d ∷ e ∷ f ∷ g ∷ more) = refl
-
--- ---- what is read is of the variant
-
-pub reading_in_variant : (v : Variant) (text : List ℕ) → IfOk (fen_reading_as v text) (λ p. p.variant ≡ v)
-reading_in_variant v text = by_fields (denoted_in v (fields_of text))
-  where
-    by_fault : (d : Denoted) (o : Option FenFault) → IfOk (unless_fault (setup_of v d) o) (λ p. p.variant ≡ v)
-    by_fault d None = refl
-    by_fault d (Some f) = tt
-
-    by_fields : (r : Result Denoted FenFault) → IfOk (r >>= sound_setup_of v) (λ p. p.variant ≡ v)
-    by_fields (Ok d) = by_fault d (first_failing (conditions_of v d))
-    by_fields (Err f) = tt
 
 pub reading_is_normal : (text : List ℕ) → IfOk (normal_fen_reading text) (λ p. p.variant ≡ Normal)
 reading_is_normal text = subst (λ r. IfOk r (λ p. p.variant ≡ Normal)) (reading_kept text)

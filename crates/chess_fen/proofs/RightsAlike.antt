@@ -1,6 +1,6 @@
 -- A FEN is read as it denotes. Rights that are named wrongly are refused by both: by the definition with a condition of
 -- their own, by the reader as rights whose rook is on a square that is no rook's.
-use Rattle.std.proofs.Common.{◌≡◌, ℕ, ◌⊎◌, inl, inr, Bool, true, false, cond, List, [], ◌∷◌, ◌++◌, map, take, drop, Option, Some, None, Result, Ok, Err, refl, sym, ap, ◌∙◌}
+use Rattle.std.proofs.Common.{◌≡◌, ℕ, ◌⊎◌, inl, inr, Bool, true, false, cond, List, [], ◌∷◌, ◌++◌, map, get_or, take, drop, Option, Some, None, Result, Ok, Err, refl, sym, ap, ◌∙◌}
 use Rattle.std.specs.Prelude.{option_and_then, find, ◌&&◌, ◌||◌, is_some, ◌==◌, max, codes, ◌-◌, IsOk, IfOk, IfErr, ◌↔◌}
 use Rattle.std.specs.List.{filter, fold}
 use Rattle.std.specs.Option.{option_map_or, ok_or, unwrap_or}
@@ -24,9 +24,9 @@ use Rattle.chess_base.specs.Sound.{IsSound}
 use Rattle.chess_base.proofs.shared.Sound.{no_fault_from_IsSound}
 use Rattle.chess_fen.specs.Texts.{first_letter, names_file, placement_of, number_of, is_castling, target_of, fields_of}
 use Rattle.chess_fen.specs.RightNames.{side_letter, from_edge, is_towards, names_right, rook_named, right_by, right_in, names_well, rights_in}
-use Rattle.chess_fen.specs.Reading.{◌>>=◌, side_of, denoted_by, denoted_in, unless_fault, sound_setup_of, fen_reading_as}
+use Rattle.chess_fen.specs.Reading.{◌>>=◌, side_of, denoted_by, denoted_in, unless_fault, fen_reading_as}
 use Rattle.chess_fen.specs.ties.Reader.{nowhere, outer_rook, named_square, one_or_nowhere, right_by_letters, setup_by, setup_in}
-use Rattle.chess_fen.proofs.Steps.{steps}
+use Rattle.chess_fen.proofs.Steps.{steps, if_fit}
 
 -- a right that is named wrongly as a right whose rook is nowhere
 abbrev sentinel : Option (Option ℕ) → Option ℕ
@@ -230,7 +230,7 @@ abbrev if_sound : Setup → Result Setup FenFault
 if_sound p = unless_fault p (setup_fault p)
 
 fields_are : (v : Variant) (a b c d h f : List ℕ)
-    → (denoted_by v a b c d h f >>= sound_setup_of v) ≡ (setup_by v a b c d h f >>= if_sound)
+    → (denoted_by v a b c d h f >>= if_fit c) ≡ (setup_by v a b c d h f >>= if_sound)
 fields_are v a b c d h f =
     by_steps (placement_of a) (side_of b) (is_castling v c) (target_of d) (number_of h) (number_of f)
   where
@@ -246,7 +246,7 @@ fields_are v a b c d h f =
 
     by_steps : (men : Option Men) (side : Option Colour) (fits : Bool) (target : Option (Option ℕ))
         (halfmove fullmove : Option ℕ)
-        → (steps c men side fits target halfmove fullmove >>= sound_setup_of v)
+        → (steps v c men side fits target halfmove fullmove >>= if_fit c)
         ≡ (read_by men side fits target halfmove fullmove >>= if_sound)
     by_steps None side fits target halfmove fullmove = refl
     by_steps (Some men) None fits target halfmove fullmove = refl
@@ -261,7 +261,7 @@ fens_are : (v : Variant) (text : List ℕ) → fen_reading_as v text ≡ (setup_
 fens_are v text = by_fields (fields_of text)
   where
     by_fields : (fields : List (List ℕ))
-        → (denoted_in v fields >>= sound_setup_of v) ≡ (setup_in v fields >>= if_sound)
+        → (denoted_in v fields >>= if_fit (get_or fields 2 [])) ≡ (setup_in v fields >>= if_sound)
     by_fields [] = refl
     by_fields (a ∷ []) = refl
     by_fields (a ∷ b ∷ []) = refl

@@ -1,5 +1,5 @@
 -- What is written for a position is read as that position.
-use Rattle.std.proofs.Common.{◌≡◌, ℕ, zero, suc, ◌+◌, ◌*◌, ◌<◌, ◌≤◌, inl, inr, Bool, true, false, cond, eqb, leb, ltb, List, [], ◌∷◌, ◌++◌, length, take, drop, map, Option, Some, None, refl, sym, ap, subst, ◌∙◌, arith, rules}
+use Rattle.std.proofs.Common.{◌≡◌, ℕ, zero, suc, ◌+◌, ◌*◌, ◌<◌, ◌≤◌, inl, inr, Bool, true, false, cond, eqb, leb, ltb, List, [], ◌∷◌, ◌++◌, length, get_or, take, drop, map, Option, Some, None, refl, sym, ap, subst, ◌∙◌, arith, rules}
 use Rattle.std.specs.Prelude.{replicate, decimal, is_some, Ok, max, ◌&&◌}
 use Rattle.std.specs.List.{AllZip, list_all, slice_split}
 use Rattle.std.proofs.lemmas.Bool.Decides.{nat_tests}
@@ -29,7 +29,7 @@ use Rattle.text_lines.specs.Words.{short_number}
 use Rattle.chess_fen.specs.RightNames.{side_letter, right_named, right_in, names_well}
 use Rattle.chess_fen.specs.Texts.{number_of, from_top, placement_of, occurs, may_name_right, is_castling, fields_of}
 use Rattle.chess_fen.specs.Writing.{fen_rank, ranks_down, placement_text, side_text, right_text, or_dash, rights_text, target_text, fen}
-use Rattle.chess_fen.specs.Reading.{Denoted, denoted_in, setup_of}
+use Rattle.chess_fen.specs.Reading.{denoted_in, castling_field}
 use Rattle.chess_fen.specs.Denotation.{DenotesSquares, DenotesRank}
 use Rattle.chess_fen.specs.ties.Loops.{run_text, row_text, ranks_text}
 use Rattle.chess_fen.proofs.DenotedFields.{placement-denoted, side-text, target-denoted}
@@ -250,24 +250,14 @@ fen_fields p h =
       ),
     )
 
--- what the FEN of a position denotes
-abbrev pub written : Setup → Denoted
-written p = record {
-  men = p.men;
-  side = p.side;
-  letters = rights_text p.variant p.rights;
-  target = p.target;
-  halfmove = p.halfmove;
-  fullmove = p.fullmove;
-}
-
-pub written-fen : (p : Setup) → IsSound p → denoted_in p.variant (fields_of (fen p)) ≡ Ok (written p)
+pub written-fen : (p : Setup) → IsSound p → denoted_in p.variant (fields_of (fen p)) ≡ Ok p
 written-fen p h =
     let halfmove : p.halfmove < 1000000 = let e = h.halfmove in grind (arith, nat_tests, e) in
     let fullmove : p.fullmove < 1000000 = let e = h.fullmove_high in grind (arith, nat_tests, e) in
     let some : 0 < p.fullmove = let e = h.fullmove_low in grind (arith, nat_tests, e) in
     let counted : max p.fullmove 1 ≡ p.fullmove = omega (arith, some) in
     let back = read_back p h in
+    let t = back.rights in
     ap (denoted_in p.variant) (fen_fields p h) ∙ rw (
       placement-text p.men h.board,
       side-text p.side,
@@ -276,14 +266,15 @@ written-fen p h =
       number-decimal p.halfmove halfmove,
       number-decimal p.fullmove fullmove,
       counted,
+      t White KingSide,
+      t White QueenSide,
+      t Black KingSide,
+      t Black QueenSide,
     ) refl
 
-pub written-well : (p : Setup) → IsSound p → names_well p.variant p.men (rights_text p.variant p.rights) ≡ true
+pub written-well : (p : Setup) → IsSound p → names_well p.variant p.men (castling_field (fen p)) ≡ true
 written-well p h =
     let t = (read_back p h).rights in
-    rw (t White KingSide, t White QueenSide, t Black KingSide, t Black QueenSide) refl
-
-pub written-setup : (p : Setup) → IsSound p → setup_of p.variant (written p) ≡ p
-written-setup p h =
-    let t = (read_back p h).rights in
-    rw (t White KingSide, t White QueenSide, t Black KingSide, t Black QueenSide) refl
+    let well : names_well p.variant p.men (rights_text p.variant p.rights) ≡ true =
+    rw (t White KingSide, t White QueenSide, t Black KingSide, t Black QueenSide) refl in
+    ap (λ fields. names_well p.variant p.men (get_or fields 2 [])) (fen_fields p h) ∙ well

@@ -8,8 +8,8 @@ use Rattle.chess_base.specs.declared.man.Variant.TheVariants.{Normal}
 use Rattle.chess_base.specs.Squares.{rank}
 use Rattle.chess_base.specs.declared.setup.Setup.{Setup}
 use Rattle.chess_base.specs.Letters.{byte, letter}
-use Rattle.chess_fen.specs.RightNames.{names_well}
-use Rattle.chess_fen.specs.Reading.{Denoted, setup_of}
+use Rattle.chess_fen.specs.RightNames.{names_well, rights_in}
+use Rattle.chess_fen.specs.Reading.{castling_field}
 use Rattle.chess_fen.specs.Texts.{stroke, from_top, number_of, is_castling, fields_of}
 use Rattle.chess_fen.specs.Writing.{side_text, target_text}
 
@@ -48,26 +48,25 @@ DenotesCounters (a ∷ b ∷ []) halfmove fullmove =
     (number_of a ≡ Some halfmove) × ((n : ℕ) × (number_of b ≡ Some n) × (fullmove ≡ max n 1))
 DenotesCounters (a ∷ b ∷ c ∷ more) halfmove fullmove = ⊥
 
--- the fields of a FEN of variant v denote d: a the pieces, b the side on move, c the letters of rights or a dash, t the
--- en passant target, and `counters_text` the two counters (or none of them)
-pub record DenotesFields (v : Variant) (a b c t : List ℕ) (counters_text : List (List ℕ)) (d : Denoted) : Type 0 where
-  pub men : DenotesPlacement a d.men
-  pub side : b ≡ side_text d.side
+-- the fields of a FEN of variant v denote position p, sound or not: a the pieces, b the side on move, c the castling
+-- rights, d the en passant target, and `counters_text` the two counters (or none of them)
+pub record DenotesFields (v : Variant) (a b c d : List ℕ) (counters_text : List (List ℕ)) (p : Setup) : Type 0 where
+  pub variant : p.variant ≡ v
+  pub men : DenotesPlacement a p.men
+  pub side : b ≡ side_text p.side
   pub castling : IsTrue (is_castling v c)
-  pub letters : d.letters ≡ c
-  pub target : DenotesTarget t d.target
-  pub counters : DenotesCounters counters_text d.halfmove d.fullmove
+  pub rights : p.rights ≡ rights_in v p.men c
+  pub target : DenotesTarget d p.target
+  pub counters : DenotesCounters counters_text p.halfmove p.fullmove
 
--- the text has four fields or six, and as those of a FEN of variant v they denote d
-abbrev pub DenotesText : Variant → List ℕ → Denoted → Type 0
-DenotesText v text d = (a : List ℕ) × (b : List ℕ) × (c : List ℕ) × (t : List ℕ) × (more : List (List ℕ))
-    × (fields_of text ≡ a ∷ b ∷ c ∷ t ∷ more) × DenotesFields v a b c t more d
+-- the text has four fields or six, and as those of a FEN of variant v they denote position p, sound or not
+abbrev pub DenotesText : Variant → List ℕ → Setup → Type 0
+DenotesText v text p = (a : List ℕ) × (b : List ℕ) × (c : List ℕ) × (d : List ℕ) × (more : List (List ℕ))
+    × (fields_of text ≡ a ∷ b ∷ c ∷ d ∷ more) × DenotesFields v a b c d more p
 
--- the text denotes position p as a FEN of variant v: each castling right is named rightly, and p is the position that
--- the fields denote
+-- the text denotes position p as a FEN of variant v: its fields denote p, and name each castling right rightly
 abbrev pub DenotesFenAs : Variant → List ℕ → Setup → Type 0
-DenotesFenAs v text p = (d : Denoted) × DenotesText v text d × IsTrue (names_well v d.men d.letters)
-    × (p ≡ setup_of v d)
+DenotesFenAs v text p = DenotesText v text p × IsTrue (names_well p.variant p.men (castling_field text))
 
 -- the text denotes position p as a FEN of normal chess
 abbrev pub DenotesFen : List ℕ → Setup → Type 0

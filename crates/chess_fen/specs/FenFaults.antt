@@ -4,13 +4,14 @@ use Rattle.std.specs.Prelude.{◌≡◌, ◌≢◌, ◌⊎◌, ℕ, false, List,
 use Rattle.chess_base.specs.declared.man.Colour.{Colour}
 use Rattle.chess_base.specs.declared.man.Variant.{Variant}
 use Rattle.chess_base.specs.declared.man.Variant.TheVariants.{Normal}
+use Rattle.chess_base.specs.declared.setup.Setup.{Setup}
 use Rattle.chess_base.specs.Men.{Men}
 use Rattle.chess_base.specs.Faults.{first_failing}
 use Rattle.chess_base.specs.declared.fen_fault.FenFault.{FenFault}
 use Rattle.chess_base.specs.declared.fen_fault.FenFault.TheVariants.{Fields, Placement, Side, Castling, EnPassant, Counters}
 use Rattle.chess_fen.specs.Texts.{is_castling, fields_of}
 use Rattle.chess_fen.specs.Writing.{side_text}
-use Rattle.chess_fen.specs.Reading.{Denoted, conditions_of}
+use Rattle.chess_fen.specs.Reading.{castling_field, conditions_of}
 use Rattle.chess_fen.specs.Denotation.{DenotesPlacement, DenotesTarget, DenotesCounters, DenotesText}
 
 -- the text, a FEN's first field, denotes the pieces of a board
@@ -50,10 +51,11 @@ IsMalformed v text f =
     × ((length more ≡ 0) ⊎ (length more ≡ 2))
     × IsFieldFault v a b c d more f
 
--- each field of the text denotes something, but together they give no sound position, or a castling right is named
+-- each field of the text denotes something, but together they give an unsound position, or a castling right is named
 -- wrongly: f reports the first condition that fails
 abbrev pub IsUnsound : Variant → List ℕ → FenFault → Type 0
-IsUnsound v text f = (d : Denoted) × DenotesText v text d × (first_failing (conditions_of v d) ≡ Some f)
+IsUnsound v text f = (p : Setup) × DenotesText v text p
+    × (first_failing (conditions_of (castling_field text) p) ≡ Some f)
 
 -- f is the fault of a text that is read as a FEN of variant v: a wrong number of fields, or else a field that denotes
 -- nothing, or else a condition that fails

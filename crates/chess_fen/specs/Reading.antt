@@ -1,14 +1,13 @@
 -- The position that a text denotes, field by field, or its first fault. This project's additions to the standard: the
 -- counters may be left out, and a fullmove number of 0 is read as 1. Denotation and FenFaults say the same as
 -- relations; that both agree is proved by the clauses `found`, `only`, `fault` and `refused` of `read_fen_as`.
-use Rattle.std.specs.Prelude.{ℕ, max, codes, Bool, List, [], ◌∷◌, ◌++◌, take, drop, Option, Some, None, Result, Ok, Err, ◌==◌, if◌then◌else◌}
+use Rattle.std.specs.Prelude.{ℕ, max, codes, Bool, List, [], ◌∷◌, ◌++◌, take, drop, slice_index_or, Option, Some, None, Result, Ok, Err, ◌==◌, if◌then◌else◌}
 use Rattle.std.specs.Option.{ok_or, option_map_or}
 use Rattle.chess_base.specs.declared.man.Colour.{Colour}
 use Rattle.chess_base.specs.declared.man.Colour.TheVariants.{White, Black}
 use Rattle.chess_base.specs.declared.man.Variant.{Variant}
 use Rattle.chess_base.specs.declared.man.Variant.TheVariants.{Normal}
 use Rattle.chess_base.specs.declared.setup.Setup.{Setup}
-use Rattle.chess_base.specs.Men.{Men}
 use Rattle.chess_base.specs.Faults.{conditions, first_failing}
 use Rattle.chess_base.specs.declared.fen_fault.FenFault.{FenFault}
 use Rattle.chess_base.specs.declared.fen_fault.FenFault.TheVariants as faults
@@ -22,77 +21,57 @@ abbrev pub ◌>>=◌ : {A B E : Type 0} → Result A E → (A → Result B E) �
 (Ok x) >>= f = f x
 (Err e) >>= f = Err e
 
--- what the fields of a FEN denote. The third is kept as text, a dash or the letters of castling rights, since it
--- depends on the pieces which rooks they name
-pub record Denoted : Type 0 where
-  pub men : Men
-  pub side : Colour
-  pub letters : List ℕ
-  pub target : Option ℕ
-  pub halfmove : ℕ
-  pub fullmove : ℕ
-
 -- the side that a FEN's second field denotes, by w or b; none for any other text
 abbrev pub side_of : List ℕ → Option Colour
 side_of (c ∷ []) = if c == byte "w" then Some White else (if c == byte "b" then Some Black else None)
 side_of _ = None
 
--- what the six fields of a FEN denote, from left to right; or the fault of the first that denotes nothing. A fullmove
--- number of 0 is read as 1
-abbrev pub denoted_by : Variant → List ℕ → List ℕ → List ℕ → List ℕ → List ℕ → List ℕ → Result Denoted FenFault
+-- the position that the six fields of a FEN denote, from left to right, sound or not; or the fault of the first field
+-- that denotes nothing. A castling right that is named wrongly is not there, and a fullmove number of 0 is read as 1
+abbrev pub denoted_by : Variant → List ℕ → List ℕ → List ℕ → List ℕ → List ℕ → List ℕ → Result Setup FenFault
 denoted_by v placement side castling target halfmove fullmove = do
   pieces ← ok_or (placement_of placement) faults.Placement
   colour ← ok_or (side_of side) faults.Side
-  named ← if is_castling v castling then Ok castling else Err faults.Castling
+  named ← if is_castling v castling then Ok (rights_in v pieces castling) else Err faults.Castling
   passed ← ok_or (target_of target) faults.EnPassant
   clock ← ok_or (number_of halfmove) faults.Counters
   number ← ok_or (number_of fullmove) faults.Counters
   Ok (record {
+    variant = v;
     men = pieces;
     side = colour;
-    letters = named;
+    rights = named;
     target = passed;
     halfmove = clock;
     fullmove = max number 1;
   })
 
--- what a list of a FEN's fields denotes: six fields, or four, and then the counters are 0 and 1; any other number of
--- fields is a fault
-abbrev pub denoted_in : Variant → List (List ℕ) → Result Denoted FenFault
+-- the position that a list of a FEN's fields denotes: six fields, or four, and then the counters are 0 and 1; any other
+-- number of fields is a fault
+abbrev pub denoted_in : Variant → List (List ℕ) → Result Setup FenFault
 denoted_in v (a ∷ b ∷ c ∷ d ∷ []) = denoted_by v a b c d (codes "0") (codes "1")
 denoted_in v (a ∷ b ∷ c ∷ d ∷ e ∷ f ∷ []) = denoted_by v a b c d e f
 denoted_in v _ = Err faults.Fields
 
--- the position of variant v that the fields denote, sound or not: a castling right that is named wrongly is not there
-abbrev pub setup_of : Variant → Denoted → Setup
-setup_of v d = record {
-  variant = v;
-  men = d.men;
-  side = d.side;
-  rights = rights_in v d.men d.letters;
-  target = d.target;
-  halfmove = d.halfmove;
-  fullmove = d.fullmove;
-}
+-- a text's third field, which has the letters of a FEN's castling rights; empty if there are fewer fields
+abbrev pub castling_field : List ℕ → List ℕ
+castling_field text = slice_index_or (fields_of text) 2 []
 
 -- each fault with the condition whose failure it reports, in the order in which they are checked: the conditions of
--- soundness, and after four of them, before that of castling rights, that each right is named rightly
-abbrev pub conditions_of : Variant → Denoted → List (FenFault × Bool)
-conditions_of v d = let sound = conditions (setup_of v d) in
-    take 4 sound ++ ((faults.Castling, names_well v d.men d.letters) ∷ drop 4 sound)
+-- soundness, and after four of them, before that of castling rights, that the letters name each right rightly
+abbrev pub conditions_of : List ℕ → Setup → List (FenFault × Bool)
+conditions_of letters p =
+    take 4 (conditions p) ++ ((faults.Castling, names_well p.variant p.men letters) ∷ drop 4 (conditions p))
 
 -- `Ok p` if the optional fault is none, else that fault as an error
 abbrev pub unless_fault : Setup → Option FenFault → Result Setup FenFault
 unless_fault p fault = option_map_or Err fault (Ok p)
 
--- the position of variant v that the fields denote; or the fault of the first condition that fails
-abbrev pub sound_setup_of : Variant → Denoted → Result Setup FenFault
-sound_setup_of v d = unless_fault (setup_of v d) (first_failing (conditions_of v d))
-
 -- the sound position that a text denotes as a FEN of variant v; or the fault: of the first wrong field, or of the first
 -- condition that fails
 abbrev pub fen_reading_as : Variant → List ℕ → Result Setup FenFault
-fen_reading_as v text = denoted_in v (fields_of text) >>= sound_setup_of v
+fen_reading_as v text = denoted_in v (fields_of text)
+    >>= λ p. unless_fault p (first_failing (conditions_of (castling_field text) p))
 
 -- the sound position that a text denotes as a FEN of normal chess; or the fault: of the first wrong field, or of the
 -- first condition that fails

@@ -8,11 +8,11 @@ ghost use Rattle.chess_base.specs.declared.man.Man.{Man};
 ghost use Rattle.chess_base.specs.declared.man.Variant.TheVariants.{Normal, Fischerandom};
 ghost use Rattle.chess_base.specs.declared.setup.Setup.{Setup};
 ghost use Rattle.chess_base.specs.Initial.{man_of};
-ghost use Rattle.chess_fen.specs.Reading.{denoted_in, setup_of, fen_reading_as};
+ghost use Rattle.chess_fen.specs.Reading.{denoted_in, fen_reading_as};
 ghost use Rattle.chess_fen.specs.RightNames.{right_in};
 ghost use Rattle.chess_fen.specs.Texts.{fields_of};
 ghost use Rattle.chess_fen.specs.Writing.{fen, fen_rank};
-ghost use Rattle.chess_fen.specs.laws.Examples.{kings_and_pawn, kings_and_pawn_setup, three_rooks};
+ghost use Rattle.chess_fen.specs.laws.Examples.{kings_and_pawn, three_rooks};
 ghost use Rattle.chess_fen.specs.laws.Normal.{normal_fen, normal_fen_reading};
 ghost use Rattle.chess_fen.specs.laws.Laws.{WrittenIsDenoted, WrittenDenotesNoOther, WrittenIsReadBack, RightsAreNamed};
 ghost use Rattle.chess_fen.specs.laws.RankTexts.{IsRankText};
@@ -47,13 +47,11 @@ pub fn a_rank_has_one_text()
     ensures no_other { (row : List (Option Man)) → (text : List ℕ) → IsRankText row text → text ≡ fen_rank row }
 {}
 
-/// A law: the contract says it, and the function does nothing. Small texts worked out: what six fields denote, and
-/// the position that they give; a rank's text; and how letters name rights of Chess960, where White's king is on c1 and
-/// White's rooks are on b1, f1 and h1.
+/// A law: the contract says it, and the function does nothing. Small texts worked out: what six fields denote; a rank's
+/// text; and how letters name rights of Chess960, where White's king is on c1 and White's rooks are on b1, f1 and h1.
 pub fn fens_are_worked_out()
     ensures fields { denoted_in Normal (fields_of (codes "4k3/8/8/8/8/8/4P3/4K3 b - - 5 39"))
         ≡ Ok kings_and_pawn }
-    ensures position { setup_of Normal kings_and_pawn ≡ kings_and_pawn_setup }
     ensures rank { IsRankText (replicate 4 None ++ (man_of White Pawn ∷ replicate 3 None)) (codes "4P3") }
     // The outermost rook on the king's side is on h1, the only one on the queen's side on b1.
     ensures side { right_in Fischerandom three_rooks (codes "KQ") White KingSide ≡ Some (Some 7) }

@@ -13,9 +13,6 @@ pub returns-clause-fields : goal.returns-clause-fields
 unfolding may_name_right
 returns-clause-fields c = refl
 
-pub returns-clause-position : goal.returns-clause-position
-returns-clause-position c = refl
-
 pub returns-clause-rank : goal.returns-clause-rank
 returns-clause-rank c = rank_text_is (replicate 4 None ++ (man_of White Pawn ∷ replicate 3 None)) refl
 
