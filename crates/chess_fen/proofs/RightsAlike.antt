@@ -150,7 +150,7 @@ module _ (men : Men) (colour : Colour) (target : Option ℕ) (halfmove fullmove 
   flat o = option_and_then (λ right. right) o
 
   abbrev four_some : Option (Option ℕ) → Option (Option ℕ) → Option (Option ℕ) → Option (Option ℕ) → Bool
-  four_some a b c d = is_some a && is_some b && is_some c && is_some d
+  four_some a b c d = (is_some a && is_some b) && ((is_some c && is_some d) && true)
 
   abbrev said : Variant → Rights → Bool → Result Setup FenFault
   said v rights well = unless_fault (setup_with v rights)

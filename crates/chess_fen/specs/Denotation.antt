@@ -10,7 +10,7 @@ use Rattle.chess_base.specs.declared.setup.Setup.{Setup}
 use Rattle.chess_base.specs.Letters.{byte, letter}
 use Rattle.chess_fen.specs.RightNames.{names_well, rights_in}
 use Rattle.chess_fen.specs.Reading.{castling_field}
-use Rattle.chess_fen.specs.Texts.{stroke, from_top, number_of, is_castling, fields_of}
+use Rattle.chess_fen.specs.Texts.{from_top, number_of, is_castling, fields_of}
 use Rattle.chess_fen.specs.Writing.{side_text, target_text}
 
 -- one byte of a rank's text denotes these squares: a piece's letter one square with that piece, a digit n from 1 to 8 n
@@ -31,7 +31,7 @@ DenotesRank text row = DenotesSquares text row × (length row ≡ 8)
 -- the text, a FEN's first field, denotes these pieces: eight ranks, rank 8 first, with a slash between them
 abbrev pub DenotesPlacement : List ℕ → List (Option Man) → Type 0
 DenotesPlacement text men = (rows : List (List (Option Man))) × (length rows ≡ 8)
-    × AllZip DenotesRank (slice_split (λ c. c == stroke) text) rows × (men ≡ from_top rows)
+    × AllZip DenotesRank (slice_split (λ c. c == byte "/") text) rows × (men ≡ from_top rows)
 
 -- the text, a FEN's fourth field, denotes this en passant target: a dash for none, else the name of a square on rank 3
 -- or 6

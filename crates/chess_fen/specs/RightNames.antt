@@ -1,7 +1,7 @@
 -- Which rights the letters of a FEN name: in normal chess K, Q, k and q (PGN standard of 1994, section 16.1.3.3); in
 -- Chess960 a rook by its file (Shredder-FEN), or the outermost one by its side (X-FEN).
 use Rattle.std.specs.Prelude.{ℕ, ◌+◌, ◌-◌, ◌==◌, nat_lt, Bool, false, not, ◌&&◌, ◌||◌, List, [], ◌∷◌, map, find, Option, Some, None, is_some, if◌then◌else◌, option_and_then}
-use Rattle.std.specs.List.{filter}
+use Rattle.std.specs.List.{list_all, filter}
 use Rattle.std.specs.Option.{option_map_or}
 use Rattle.chess_base.specs.declared.man.Colour.{Colour}
 use Rattle.chess_base.specs.declared.man.Colour.TheVariants.{White, Black}
@@ -84,9 +84,9 @@ right_in Fischerandom men letters c w = right_by (map (rook_named men c w) (filt
 
 -- whether each of the four rights is named rightly
 abbrev pub names_well : Variant → Men → List ℕ → Bool
-names_well v men letters =
-    is_some (right_in v men letters White KingSide) && is_some (right_in v men letters White QueenSide)
-    && is_some (right_in v men letters Black KingSide) && is_some (right_in v men letters Black QueenSide)
+names_well v men letters = list_all
+    (λ c. is_some (right_in v men letters c KingSide) && is_some (right_in v men letters c QueenSide))
+    (White ∷ Black ∷ [])
 
 -- the rights that the letters name, without those that are named wrongly
 abbrev pub rights_in : Variant → Men → List ℕ → Rights

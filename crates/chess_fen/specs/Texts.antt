@@ -41,10 +41,6 @@ rank_of text = option_and_then (λ row. if length row == 8 then Some row else No
 
 -- ---- placement
 
--- the slash, which is between the ranks of a placement
-abbrev pub stroke : ℕ
-stroke = byte "/"
-
 -- the squares of ranks that are given from the highest down, as one list from the lowest up (a1 to h8)
 abbrev pub from_top : List (List (Option Man)) → List (Option Man)
 from_top [] = []
@@ -53,7 +49,7 @@ from_top (row ∷ rows) = from_top rows ++ row
 -- the pieces that a FEN's first field denotes: eight ranks, rank 8 first, with a slash between them; none for any other
 -- text
 abbrev pub placement_of : List ℕ → Option (List (Option Man))
-placement_of text = let ranks = slice_split (λ c. c == stroke) text in
+placement_of text = let ranks = slice_split (λ c. c == byte "/") text in
     if length ranks == 8 then option_map from_top (all_there (map rank_of ranks)) else None
 
 -- ---- castling

@@ -12,7 +12,6 @@ use Rattle.chess_base.specs.declared.man.CastlingSide.{CastlingSide}
 use Rattle.chess_base.specs.declared.man.Rights.{Rights}
 use Rattle.chess_fen.specs.RightNames.{right_letter}
 use Rattle.chess_base.specs.declared.setup.Setup.{Setup}
-use Rattle.chess_fen.specs.Texts.{stroke}
 use Rattle.chess_base.specs.Letters.{byte, space, square_text, letter}
 use Rattle.chess_base.specs.Initial.{initial_setup}
 use Rattle.std.specs.Str.{bytes_eq}
@@ -37,7 +36,7 @@ ranks_down (suc rank) men = take 8 (drop (8 * rank) men) ∷ ranks_down rank men
 
 -- a FEN's first field: the text of all eight ranks, rank 8 first, with a slash between them
 unfoldable pub placement_text : List (Option Man) → List ℕ
-placement_text men = join_with_byte stroke (map fen_rank (ranks_down 8 men))
+placement_text men = join_with_byte (byte "/") (map fen_rank (ranks_down 8 men))
 
 -- a FEN's second field: w or b for the side on move
 abbrev pub side_text : Colour → List ℕ
@@ -47,8 +46,7 @@ side_text Black = codes "b"
 -- the letter of a castling right, given as its rook's square: K, Q, k or q, in Chess960 that of the rook's file
 -- (Shredder-FEN); nothing if there is no right
 abbrev pub right_text : Variant → Colour → CastlingSide → Option ℕ → List ℕ
-right_text v c w None = []
-right_text v c w (Some s) = right_letter v c w s ∷ []
+right_text v c w right = option_map_or (λ s. right_letter v c w s ∷ []) right []
 
 -- the text, or a dash if it is empty
 abbrev pub or_dash : List ℕ → List ℕ

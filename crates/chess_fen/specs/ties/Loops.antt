@@ -9,7 +9,6 @@ use Rattle.chess_base.specs.declared.man.Kind.TheVariants.{Rook}
 use Rattle.chess_base.specs.Men.{Men, man_at, is_man}
 use Rattle.chess_base.specs.Castling.{home_square}
 use Rattle.chess_base.specs.Letters.{byte, letter}
-use Rattle.chess_fen.specs.Texts.{stroke}
 use Rattle.chess_fen.specs.ties.Reader.{nowhere}
 use Rattle.chess_fen.specs.Writing.{fen_rank, ranks_down}
 
@@ -40,4 +39,4 @@ row_text empty (Some man ∷ row) = run_text empty ++ letter man ∷ row_text 0 
 
 -- the text of the n lowest ranks, the highest first, with a slash between them
 abbrev pub ranks_text : ℕ → List (Option Man) → List ℕ
-ranks_text n men = join_with_byte stroke (map fen_rank (ranks_down n men))
+ranks_text n men = join_with_byte (byte "/") (map fen_rank (ranks_down n men))
