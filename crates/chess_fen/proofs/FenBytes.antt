@@ -24,8 +24,8 @@ use Rattle.chess_base.specs.Letters.{white_letter, value_after, letter, letter_b
 use Rattle.chess_base.specs.Men.{Men, man_at, is_man, other, forward, crossed_rank}
 use Rattle.chess_base.specs.Sound.{IsSound, target_is_sound_at, target_is_sound}
 use Rattle.chess_fen.specs.RightNames.{right_letter}
-use Rattle.chess_fen.specs.Writing.{fen_rank, ranks_down, placement_text, side_text, right_text, or_dash, rights_text, target_text, fen}
-use Rattle.chess_fen.specs.ties.Loops.{run_text, row_text}
+use Rattle.chess_fen.specs.Writing.{fen_rank, placement_text, side_text, right_text, or_dash, rights_text, target_text, fen}
+use Rattle.chess_fen.specs.ties.Loops.{ranks_down, run_text, row_text}
 use Rattle.chess_fen.proofs.Joined.{IsPlain, Plain, Plain-append, each_weaker, Plain-join}
 use Rattle.chess_fen.proofs.WrittenRanks.{row_is}
 
@@ -59,7 +59,7 @@ decimal_plain n h = digits_plain (decimal n) (digits_decimal own_bytes n (omega 
 
 -- ---- placement
 
-white_range : (kind : Kind) → (66 ≤ white_letter kind) × (white_letter kind ≤ 82)
+pub white_range : (kind : Kind) → (66 ≤ white_letter kind) × (white_letter kind ≤ 82)
 white_range Pawn = (omega arith, omega arith)
 white_range Knight = (omega arith, omega arith)
 white_range Bishop = (omega arith, omega arith)

@@ -26,10 +26,8 @@ use Rattle.chess_fen.proofs.RightsBack.{Beside, beside, no_side_letter, own_file
 -- ---- the outermost rook
 
 home_rank : (c : Colour) (w : CastlingSide) (k : ℕ) → k < 8 → rank (home_square c (edge_file w k)) ≡ first_rank c
-home_rank White KingSide k h = omega (arith, h)
-home_rank White QueenSide k h = omega (arith, h)
-home_rank Black KingSide k h = omega (arith, h)
-home_rank Black QueenSide k h = omega (arith, h)
+home_rank c KingSide k h = omega (arith, h)
+home_rank c QueenSide k h = omega (arith, h)
 
 -- how many files are left towards the other edge
 abbrev files_left : CastlingSide → ℕ → ℕ
@@ -42,27 +40,23 @@ left_few QueenSide t = omega arith
 
 from_left : (c : Colour) (w : CastlingSide) (t : ℕ) → rank t ≡ first_rank c
     → home_square c (edge_file w (files_left w t)) ≡ t
-from_left White KingSide t h = omega (arith, h)
-from_left White QueenSide t h = omega (arith, h)
-from_left Black KingSide t h = omega (arith, h)
-from_left Black QueenSide t h = omega (arith, h)
+from_left c KingSide t h = omega (arith, h)
+from_left c QueenSide t h = omega (arith, h)
 
 -- what is further out than a file has more files left
 further : (c : Colour) (w : CastlingSide) (k t : ℕ) → k < 8 → rank t ≡ first_rank c
     → is_to_side w (home_square c (edge_file w k)) t ≡ true → k < files_left w t
-further White KingSide k t l h e = let o : 8 * 0 + k < t = ltb-true (8 * 0 + k) t e in omega (arith, l, h, o)
-further White QueenSide k t l h e = let o : t < 8 * 0 + (7 - k) =
-    ltb-true t (8 * 0 + (7 - k)) e in omega (arith, l, h, o)
-further Black KingSide k t l h e = let o : 8 * 7 + k < t = ltb-true (8 * 7 + k) t e in omega (arith, l, h, o)
-further Black QueenSide k t l h e = let o : t < 8 * 7 + (7 - k) =
-    ltb-true t (8 * 7 + (7 - k)) e in omega (arith, l, h, o)
+further c KingSide k t l h e = let o : 8 * first_rank c + k < t =
+    ltb-true (8 * first_rank c + k) t e in omega (arith, l, h, o)
+further c QueenSide k t l h e = let o : t < 8 * first_rank c + (7 - k) =
+    ltb-true t (8 * first_rank c + (7 - k)) e in omega (arith, l, h, o)
 
 nearer : (c : Colour) (w : CastlingSide) (k s : ℕ) → k < 8 → rank s ≡ first_rank c → files_left w s < k
     → is_to_side w s (home_square c (edge_file w k)) ≡ true
-nearer White KingSide k s l h e = let o : s < 8 * 0 + k = omega (arith, l, h, e) in lt-ltb s (8 * 0 + k) o
-nearer White QueenSide k s l h e = let o : 8 * 0 + (7 - k) < s = omega (arith, l, h, e) in lt-ltb (8 * 0 + (7 - k)) s o
-nearer Black KingSide k s l h e = let o : s < 8 * 7 + k = omega (arith, l, h, e) in lt-ltb s (8 * 7 + k) o
-nearer Black QueenSide k s l h e = let o : 8 * 7 + (7 - k) < s = omega (arith, l, h, e) in lt-ltb (8 * 7 + (7 - k)) s o
+nearer c KingSide k s l h e = let o : s < 8 * first_rank c + k =
+    omega (arith, l, h, e) in lt-ltb s (8 * first_rank c + k) o
+nearer c QueenSide k s l h e = let o : 8 * first_rank c + (7 - k) < s =
+    omega (arith, l, h, e) in lt-ltb (8 * first_rank c + (7 - k)) s o
 
 abbrev RookLeft : Men → Colour → CastlingSide → ℕ → Bool
 RookLeft men c w k = is_man c Rook (man_at men (home_square c (edge_file w k)))
@@ -124,22 +118,17 @@ outer_is men c w s o = outer_among men c w ∙ found_from men c w s o 8 (omega a
 -- ---- what one letter says
 
 file_of : (c : Colour) (l : ℕ) → names_file c l ≡ true → l ≡ first_letter c + file (home_square c (l - first_letter c))
-file_of White l e =
-    let p = and_parts (leb 65 l) (ltb l 73) e in
-    let a : 65 ≤ l = leb-true 65 l p.0 in
-    let b : l < 73 = ltb-true l 73 p.1 in
-    omega (arith, a, b)
-file_of Black l e =
-    let p = and_parts (leb 97 l) (ltb l 105) e in
-    let a : 97 ≤ l = leb-true 97 l p.0 in
-    let b : l < 105 = ltb-true l 105 p.1 in
+file_of c l e =
+    let p = and_parts (leb (first_letter c) l) (ltb l (first_letter c + 8)) e in
+    let a : first_letter c ≤ l = leb-true (first_letter c) l p.0 in
+    let b : l < first_letter c + 8 = ltb-true l (first_letter c + 8) p.1 in
     omega (arith, a, b)
 
 file_home : (c : Colour) (l : ℕ) → names_file c l ≡ true → rank (home_square c (l - first_letter c)) ≡ first_rank c
-file_home White l e = let p = and_parts (leb 65 l) (ltb l 73) e in let b : l < 73 =
-    ltb-true l 73 p.1 in omega (arith, b)
-file_home Black l e = let p = and_parts (leb 97 l) (ltb l 105) e in let b : l < 105 =
-    ltb-true l 105 p.1 in omega (arith, b)
+file_home c l e =
+    let p = and_parts (leb (first_letter c) l) (ltb l (first_letter c + 8)) e in
+    let b : l < first_letter c + 8 = ltb-true l (first_letter c + 8) p.1 in
+    omega (arith, b)
 
 -- the letter is that of a file on that side of the king
 abbrev IsFileTowards : Men → Colour → CastlingSide → ℕ → Bool

@@ -6,7 +6,6 @@ use Rattle.std.proofs.lemmas.Bool.{and_parts}
 use Rattle.std.proofs.lemmas.Bool.Decides.{nat_tests}
 use Rattle.chess_base.specs.declared.man.Man.{Man}
 use Rattle.chess_base.specs.declared.man.Kind.{Kind}
-use Rattle.chess_base.specs.declared.man.Kind.TheVariants.{Pawn, Knight, Bishop, Rook, Queen, King}
 use Rattle.chess_base.specs.declared.man.Colour.{Colour}
 use Rattle.chess_base.specs.declared.man.Colour.TheVariants.{White, Black}
 use Rattle.chess_base.specs.Letters.{is_digit}
@@ -15,26 +14,17 @@ use Rattle.chess_fen.specs.Denotation.{StandsFor}
 use Rattle.chess_fen.specs.Writing.{fen_rank}
 use Rattle.chess_fen.specs.ties.Loops.{run_text, row_text}
 use Rattle.chess_fen.proofs.DenotedRanks.{joined}
+use Rattle.chess_fen.proofs.FenBytes.{white_range}
 use Rattle.chess_fen.proofs.RoundTrip.{rank_denotes}
 use Rattle.chess_fen.proofs.WrittenRanks.{row_is}
 use Rattle.chess_fen.specs.laws.RankTexts.{digits_apart, IsRankText}
 
-letter_by_no_digit : (c : Colour) (k : Kind) → is_digit (letter_by c k) ≡ false
-letter_by_no_digit White Pawn = refl
-letter_by_no_digit White Knight = refl
-letter_by_no_digit White Bishop = refl
-letter_by_no_digit White Rook = refl
-letter_by_no_digit White Queen = refl
-letter_by_no_digit White King = refl
-letter_by_no_digit Black Pawn = refl
-letter_by_no_digit Black Knight = refl
-letter_by_no_digit Black Bishop = refl
-letter_by_no_digit Black Rook = refl
-letter_by_no_digit Black Queen = refl
-letter_by_no_digit Black King = refl
+no_digit_by : (c : Colour) (k : Kind) → is_digit (letter_by c k) ≡ false
+no_digit_by White k = let range = white_range k in grind (arith, nat_tests, range.0)
+no_digit_by Black k = let range = white_range k in grind (arith, nat_tests, range.0)
 
 no_digit : (man : Man) → is_digit (letter man) ≡ false
-no_digit man = letter_by_no_digit man.colour man.kind
+no_digit man = no_digit_by man.colour man.kind
 
 empty_run : (n m : ℕ) (row : List (Option Man)) → row_text m (replicate n None ++ row) ≡ row_text (n + m) row
 empty_run zero m row = ap (λ k. row_text k row) (omega arith)

@@ -20,8 +20,9 @@ use Rattle.chess_base.specs.Squares.{file, rank}
 use Rattle.chess_base.specs.Men.{Men, man_at, is_man, other, first_rank}
 use Rattle.chess_base.specs.Castling.{home_square, king_square, is_to_side, is_beside, right_of}
 use Rattle.chess_base.specs.shared.Splits.{right_is_sound_at}
-use Rattle.chess_fen.specs.Texts.{times, first_letter, names_file, may_name_right, names_once, are_right_letters, is_castling}
+use Rattle.chess_fen.specs.Texts.{times, first_letter, names_file, may_name_right, are_right_letters, is_castling}
 use Rattle.chess_fen.specs.RightNames.{side_letter, is_towards, names_right, rook_named, right_by, right_in}
+use Rattle.chess_fen.specs.ties.Reader.{names_once}
 use Rattle.chess_fen.specs.Writing.{right_text, or_dash, rights_text}
 
 -- what an available right says of king and rook
@@ -69,8 +70,7 @@ no_side_letter Black Black KingSide f h = grind (arith, nat_tests)
 no_side_letter Black Black QueenSide f h = grind (arith, nat_tests)
 
 pub own_file : (c : Colour) (f : ℕ) → f < 8 → names_file c (first_letter c + f) ≡ true
-own_file White f h = grind (arith, nat_tests)
-own_file Black f h = grind (arith, nat_tests)
+own_file c f h = grind (arith, nat_tests)
 
 other_file : (c : Colour) (f : ℕ) → f < 8 → names_file (other c) (first_letter c + f) ≡ false
 other_file White f h = grind (arith, nat_tests)
@@ -78,8 +78,7 @@ other_file Black f h = grind (arith, nat_tests)
 
 pub file_back : (c : Colour) (s : ℕ) → rank s ≡ first_rank c
     → home_square c ((first_letter c + file s) - first_letter c) ≡ s
-file_back White s e = omega arith
-file_back Black s e = omega arith
+file_back c s e = omega arith
 
 towards_own : (w : CastlingSide) (k s : ℕ) → is_to_side w k s ≡ true → is_towards w (Some k) s ≡ true
 towards_own KingSide k s e = grind (arith, nat_tests, e)

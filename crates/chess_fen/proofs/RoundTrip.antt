@@ -28,10 +28,10 @@ use Rattle.std.proofs.Math.Seq.{take-add}
 use Rattle.text_lines.specs.Words.{short_number}
 use Rattle.chess_fen.specs.RightNames.{side_letter, right_named, right_in, names_well}
 use Rattle.chess_fen.specs.Texts.{number_of, from_top, placement_of, occurs, may_name_right, is_castling, fields_of}
-use Rattle.chess_fen.specs.Writing.{fen_rank, ranks_down, placement_text, side_text, right_text, or_dash, rights_text, target_text, fen}
+use Rattle.chess_fen.specs.Writing.{fen_rank, placement_text, side_text, right_text, or_dash, rights_text, target_text, fen}
 use Rattle.chess_fen.specs.Reading.{denoted_in, castling_field}
 use Rattle.chess_fen.specs.Denotation.{DenotesSquares, DenotesRank}
-use Rattle.chess_fen.specs.ties.Loops.{run_text, row_text, ranks_text}
+use Rattle.chess_fen.specs.ties.Loops.{ranks_down, run_text, row_text, ranks_text}
 use Rattle.chess_fen.proofs.DenotedFields.{placement-denoted, side-text, target-denoted}
 use Rattle.chess_fen.proofs.RightsBack.{Stand, right_back, text_is_castling}
 use Rattle.chess_fen.proofs.WrittenRanks.{moved, row_is}

@@ -76,14 +76,10 @@ unfoldable pub may_name_right : Variant → ℕ → Bool
 may_name_right Normal letter = occurs letter (codes "KQkq")
 may_name_right Fischerandom letter = occurs letter (codes "KQkq") || names_file White letter || names_file Black letter
 
--- the byte c may name a castling right, and occurs once in the text
-abbrev pub names_once : Variant → List ℕ → ℕ → Bool
-names_once v text c = may_name_right v c && (times c text == 1)
-
 -- the text is one to four letters, each of which may name a right and occurs once
 abbrev pub are_right_letters : Variant → List ℕ → Bool
 are_right_letters v text =
-    nat_lt 0 (length text) && nat_le (length text) 4 && list_all (names_once v text) text
+    nat_lt 0 (length text) && nat_le (length text) 4 && list_all (λ c. may_name_right v c && (times c text == 1)) text
 
 -- the text has the form of a castling field: a dash, or letters that name rights
 abbrev pub is_castling : Variant → List ℕ → Bool

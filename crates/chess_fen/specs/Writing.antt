@@ -1,6 +1,6 @@
 -- The one FEN that is written for a position (PGN standard of 1994, section 16.1). The target is written as the
 -- position holds it, whether or not it can be captured on; numbers have no leading zeros.
-use Rattle.std.specs.Prelude.{ℕ, Bool, zero, suc, ◌*◌, List, [], ◌∷◌, ◌++◌, map, take, drop, Option, Some, None, decimal, codes}
+use Rattle.std.specs.Prelude.{ℕ, Bool, suc, ◌*◌, List, [], ◌∷◌, ◌++◌, map, take, drop, Option, Some, None, decimal, codes}
 use Rattle.std.specs.List.{join_with_byte}
 use Rattle.std.specs.Option.{option_map_or}
 use Rattle.chess_base.specs.declared.man.Man.{Man}
@@ -29,14 +29,10 @@ fen_rank (Some man ∷ row) = letter man ∷ fen_rank row
 fen_rank (None ∷ None ∷ row) = raised (fen_rank (None ∷ row))
 fen_rank (None ∷ row) = byte "1" ∷ fen_rank row
 
--- the n lowest ranks of the board (the first argument is n), each as its eight squares, the highest of them first
-abbrev pub ranks_down : ℕ → List (Option Man) → List (List (Option Man))
-ranks_down zero men = []
-ranks_down (suc rank) men = take 8 (drop (8 * rank) men) ∷ ranks_down rank men
-
 -- a FEN's first field: the text of all eight ranks, rank 8 first, with a slash between them
 unfoldable pub placement_text : List (Option Man) → List ℕ
-placement_text men = join_with_byte (byte "/") (map fen_rank (ranks_down 8 men))
+placement_text men = join_with_byte (byte "/")
+    (map (λ rank. fen_rank (take 8 (drop (8 * rank) men))) (7 ∷ 6 ∷ 5 ∷ 4 ∷ 3 ∷ 2 ∷ 1 ∷ 0 ∷ []))
 
 -- a FEN's second field: w or b for the side on move
 abbrev pub side_text : Colour → List ℕ

@@ -1,5 +1,5 @@
 -- The definitions that loops compute, from any step of the loop on.
-use Rattle.std.specs.Prelude.{ℕ, zero, suc, ◌+◌, ◌-◌, List, [], ◌∷◌, ◌++◌, map, Option, Some, None, if◌then◌else◌}
+use Rattle.std.specs.Prelude.{ℕ, zero, suc, ◌+◌, ◌-◌, ◌*◌, List, [], ◌∷◌, ◌++◌, map, take, drop, Option, Some, None, if◌then◌else◌}
 use Rattle.std.specs.List.{join_with_byte}
 use Rattle.chess_base.specs.declared.man.Colour.{Colour}
 use Rattle.chess_base.specs.declared.man.CastlingSide.{CastlingSide}
@@ -10,7 +10,7 @@ use Rattle.chess_base.specs.Men.{Men, man_at, is_man}
 use Rattle.chess_base.specs.Castling.{home_square}
 use Rattle.chess_base.specs.Letters.{byte, letter}
 use Rattle.chess_fen.specs.ties.Reader.{nowhere}
-use Rattle.chess_fen.specs.Writing.{fen_rank, ranks_down}
+use Rattle.chess_fen.specs.Writing.{fen_rank}
 
 -- the next file in a search from the board's edge on that side, where k more files are left after it: file k from the
 -- h-file, 7 - k from the a-file
@@ -36,6 +36,11 @@ abbrev pub row_text : ℕ → List (Option Man) → List ℕ
 row_text empty [] = run_text empty
 row_text empty (None ∷ row) = row_text (suc empty) row
 row_text empty (Some man ∷ row) = run_text empty ++ letter man ∷ row_text 0 row
+
+-- the n lowest ranks of the board (the first argument is n), each as its eight squares, the highest of them first
+abbrev pub ranks_down : ℕ → List (Option Man) → List (List (Option Man))
+ranks_down zero men = []
+ranks_down (suc rank) men = take 8 (drop (8 * rank) men) ∷ ranks_down rank men
 
 -- the text of the n lowest ranks, the highest first, with a slash between them
 abbrev pub ranks_text : ℕ → List (Option Man) → List ℕ

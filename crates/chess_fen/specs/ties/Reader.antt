@@ -1,6 +1,6 @@
 -- How code reads the castling rights of a FEN, letter by letter. A right that is named wrongly is kept as one whose rook
 -- is on a square where no rook can have it, so that the position is refused as unsound.
-use Rattle.std.specs.Prelude.{ℕ, max, codes, ◌-◌, ◌==◌, ◌&&◌, List, [], ◌∷◌, map, find, Option, Some, None, Result, Ok, Err, unwrap_or, if◌then◌else◌}
+use Rattle.std.specs.Prelude.{ℕ, max, codes, ◌-◌, ◌==◌, Bool, ◌&&◌, List, [], ◌∷◌, map, find, Option, Some, None, Result, Ok, Err, unwrap_or, if◌then◌else◌}
 use Rattle.std.specs.List.{fold}
 use Rattle.std.specs.Option.{ok_or}
 use Rattle.chess_base.specs.declared.man.Kind.TheVariants.{Rook}
@@ -16,7 +16,13 @@ use Rattle.chess_base.specs.Men.{Men, man_at, is_man}
 use Rattle.chess_base.specs.Castling.{home_square, king_square, rook_file, rights_by}
 use Rattle.chess_fen.specs.Reading.{◌>>=◌, side_of}
 use Rattle.chess_fen.specs.RightNames.{side_letter, right_named, from_edge, is_towards}
-use Rattle.chess_fen.specs.Texts.{placement_of, first_letter, names_file, is_castling, target_of, number_of}
+use Rattle.chess_fen.specs.Texts.{placement_of, times, first_letter, names_file, may_name_right, is_castling, target_of, number_of}
+
+-- ---- the letters
+
+-- the byte c may name a castling right, and occurs once in the text
+abbrev pub names_once : Variant → List ℕ → ℕ → Bool
+names_once v text c = may_name_right v c && (times c text == 1)
 
 -- ---- castling in Chess960
 
