@@ -1,17 +1,18 @@
 -- A rank is read exactly where it is well written.
-use Rattle.std.proofs.Common.{◌≡◌, ℕ, ◌-◌, ◌≤◌, inl, inr, Bool, true, false, cond, eqb, leb, ◌&&◌, List, [], ◌∷◌, ◌++◌, length, Option, Some, None, refl, sym, ap, subst, ◌∙◌, append_assoc, arith}
+use Rattle.std.proofs.Common.{◌≡◌, ℕ, suc, ◌-◌, ◌≤◌, inl, inr, Bool, true, false, cond, eqb, leb, ◌&&◌, List, [], ◌∷◌, length, map, Option, Some, None, refl, sym, ap, subst, ◌∙◌, arith}
 use Rattle.std.specs.Prelude.{replicate, option_and_then, find}
+use Rattle.std.specs.List.{AllZip, flat_map}
 use Rattle.std.specs.Option.{option_map}
 use Rattle.std.proofs.lemmas.Bool.Decides.{nat_tests}
-use Rattle.std.proofs.lemmas.List.{append-nil}
+use Rattle.chess_base.proofs.shared.Choices.{chosen}
 use Rattle.chess_base.specs.declared.man.Man.{Man}
 use Rattle.chess_base.specs.declared.man.Kind.{Kind}
 use Rattle.chess_base.specs.declared.man.Kind.TheVariants.{Pawn, Knight, Bishop, Rook, Queen, King}
 use Rattle.chess_base.specs.declared.man.Colour.{Colour}
 use Rattle.chess_base.specs.declared.man.Colour.TheVariants.{White, Black}
 use Rattle.chess_base.specs.Letters.{letter, letter_by, man_with_letter, all_men}
-use Rattle.chess_fen.specs.Texts.{squares_of, rank_after, rank_of}
-use Rattle.chess_fen.specs.Denotation.{StandsFor, DenotesSquares, DenotesRank}
+use Rattle.chess_fen.specs.Texts.{squares_of, all_there, rank_of}
+use Rattle.chess_fen.specs.Denotation.{StandsFor, DenotesRank}
 use Rattle.chess_fen.proofs.RankBytes.{squares-digit}
 
 -- a piece's letter is read as the piece
@@ -71,61 +72,61 @@ squares-denoted c squares (inr d) = squares-digit c (omega (arith, d.1, d.3)) (o
     digits : c - 48 ≡ d.0 → Some (replicate (c - 48) None) ≡ Some squares
     digits e = ap (λ k. Some (replicate k None)) e ∙ ap Some (sym d.4)
 
+-- ---- values that are all there
+
+pub there-zip : {A B : Type 0} (f : A → Option B) (P : A → B → Type 0) → ((x : A) (y : B) → f x ≡ Some y → P x y)
+    → (xs : List A) (ys : List B) → all_there (map f xs) ≡ Some ys → AllZip P xs ys
+there-zip f P each [] [] e = tt
+there-zip f P each [] (y ∷ ys) e = absurd cc
+there-zip {A} {B} f P each (x ∷ xs) ys e =
+    by_first (f x) refl (all_there (map f xs)) (λ zs is. there-zip f P each xs zs is) e
+  where
+    by_first : (o : Option B) → f x ≡ o → (p : Option (List B)) → ((zs : List B) → p ≡ Some zs → AllZip P xs zs)
+        → option_and_then (λ z. option_map (λ zs. z ∷ zs) p) o ≡ Some ys → AllZip P (x ∷ xs) ys
+    by_first None is p later e = absurd cc
+    by_first (Some y) is None later e = absurd cc
+    by_first (Some y) is (Some zs) later e =
+        let whole : y ∷ zs ≡ ys = cc in subst (AllZip P (x ∷ xs)) whole (each x y is, later zs refl)
+
+pub zip-there : {A B : Type 0} (f : A → Option B) (P : A → B → Type 0) → ((x : A) (y : B) → P x y → f x ≡ Some y)
+    → (xs : List A) (ys : List B) → AllZip P xs ys → all_there (map f xs) ≡ Some ys
+zip-there f P each [] [] h = refl
+zip-there f P each [] (y ∷ ys) h = absurd h
+zip-there f P each (x ∷ xs) [] h = absurd h
+zip-there f P each (x ∷ xs) (y ∷ ys) h =
+    ap (option_and_then (λ z. option_map (λ zs. z ∷ zs) (all_there (map f xs)))) (each x y h.0)
+    ∙ ap (option_map (λ zs. y ∷ zs)) (zip-there f P each xs ys h.1)
+
+pub zip-length : {A B : Type 0} (P : A → B → Type 0) (xs : List A) (ys : List B) → AllZip P xs ys
+    → length xs ≡ length ys
+zip-length P [] [] h = refl
+zip-length P [] (y ∷ ys) h = absurd h
+zip-length P (x ∷ xs) [] h = absurd h
+zip-length P (x ∷ xs) (y ∷ ys) h = ap suc (zip-length P xs ys h.1)
+
 -- ---- a rank
 
-pub rank-denoted : (text : List ℕ) (before row : List (Option Man)) → DenotesSquares text row
-    → rank_after before text ≡ rank_after (before ++ row) []
-rank-denoted [] before row s = ap (λ r. rank_after r []) (sym (ap (λ r. before ++ r) s ∙ append-nil before))
-rank-denoted (c ∷ cs) before row s =
-    ap (option_and_then (λ squares. rank_after (before ++ squares) cs)) (squares-denoted c s.0 s.2)
-    ∙ rank-denoted cs (before ++ s.0) s.1 s.3
-    ∙ ap (λ r. rank_after r []) (append_assoc before s.0 s.1 ∙ ap (λ r. before ++ r) (sym s.4))
+abbrev pub joined : List (List (Option Man)) → List (Option Man)
+joined parts = flat_map (λ part. part) parts
 
--- ---- and back
-
--- a rank that is read after some squares
-pub record ReadAfter (text : List ℕ) (before whole : List (Option Man)) : Type 0 where
-  pub row : List (Option Man)
-  pub denotes : DenotesSquares text row
-  pub parts : whole ≡ before ++ row
-  pub eight : length whole ≡ 8
-
-read_after : (text : List ℕ) (before whole : List (Option Man)) → rank_after before text ≡ Some whole
-    → ReadAfter text before whole
-read_after [] before whole e = by_test (eqb (length before) 8) refl e
-  where
-    by_test : (b : Bool) → eqb (length before) 8 ≡ b → cond b (Some before) None ≡ Some whole
-        → ReadAfter [] before whole
-    by_test true t e =
-        let same : before ≡ whole = cc in
-        let eight : length before ≡ 8 = grind (arith, nat_tests) in
-        record {
-          row = [];
-          denotes = refl;
-          parts = sym same ∙ sym (append-nil before);
-          eight = ap length (sym same) ∙ eight;
-        }
-    by_test false t e = absurd cc
-read_after (c ∷ cs) before whole e = by_squares (λ first h. read_after cs (before ++ first) whole h) (squares_of c)
-    refl e
-  where
-    by_squares : ((first : List (Option Man)) → rank_after (before ++ first) cs ≡ Some whole
-        → ReadAfter cs (before ++ first) whole) → (o : Option (List (Option Man))) → squares_of c ≡ o
-        → option_and_then (λ squares. rank_after (before ++ squares) cs) o ≡ Some whole
-        → ReadAfter (c ∷ cs) before whole
-    by_squares later None is e = absurd cc
-    by_squares later (Some first) is e =
-        let r = later first e in
-        record {
-          row = first ++ r.row;
-          denotes = (first, r.row, denoted_squares c first is, r.denotes, refl);
-          parts = r.parts ∙ append_assoc before first r.row;
-          eight = r.eight;
-        }
+abbrev pub eight : Option (List (Option Man)) → Option (List (Option Man))
+eight o = option_and_then (λ (row : List (Option Man)). cond (eqb (length row) 8) (Some row) None) o
 
 pub denoted-rank : (text : List ℕ) (row : List (Option Man)) → rank_of text ≡ Some row → DenotesRank text row
-denoted-rank text row e = let r = read_after text [] row
-    e in (subst (DenotesSquares text) (sym r.parts) r.denotes, r.eight)
+denoted-rank text row e = by_parts (all_there (map squares_of text)) refl e
+  where
+    by_parts : (o : Option (List (List (Option Man)))) → all_there (map squares_of text) ≡ o
+        → eight (option_map joined o) ≡ Some row → DenotesRank text row
+    by_parts None is e = absurd cc
+    by_parts (Some parts) is e =
+        let h = chosen (eqb (length (joined parts)) 8) (Some (joined parts)) row e in
+        let whole : joined parts ≡ row = cc in
+        let count : length (joined parts) ≡ 8 = grind (arith, nat_tests, h.0) in (
+          (parts, there-zip squares_of StandsFor denoted_squares text parts is, sym whole),
+          ap length (sym whole) ∙ count,
+        )
 
 pub rank-of_denoted : (text : List ℕ) (row : List (Option Man)) → DenotesRank text row → rank_of text ≡ Some row
-rank-of_denoted text row s = rank-denoted text [] row s.0 ∙ ap (λ n. cond (eqb n 8) (Some row) None) s.1
+rank-of_denoted text row s =
+    ap (λ o. eight (option_map joined o)) (zip-there squares_of StandsFor squares-denoted text s.0.0 s.0.1)
+    ∙ ap (λ r. eight (Some r)) (sym s.0.2) ∙ ap (λ n. cond (eqb n 8) (Some row) None) s.1

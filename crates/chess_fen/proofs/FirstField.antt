@@ -6,7 +6,7 @@ use Rattle.std.proofs.lemmas.List.{nil_from_length}
 use Rattle.chess_base.specs.declared.fen_fault.FenFault.TheVariants as faults
 use Rattle.chess_base.specs.declared.man.Man.{Man}
 use Rattle.chess_base.specs.declared.man.Variant.{Variant}
-use Rattle.chess_fen.specs.Reading.{setup_with, setup_by}
+use Rattle.chess_fen.specs.ties.Reader.{setup_with, setup_by}
 use Rattle.chess_fen.specs.Texts.{placement_of, fields_of}
 use Rattle.chess_fen.specs.ties.Runs.{PlacementIsRead, from_space}
 use Rattle.chess_fen.proofs.CutFields.{no_fields, next_fields}

@@ -1,44 +1,55 @@
--- Pieces that are joined by a byte are cut there again.
-use Rattle.std.proofs.Common.{◌≡◌, ℕ, suc, ◌<◌, ◌≤◌, true, false, eqb, ltb, List, [], ◌∷◌, ◌++◌, length, refl, ap, ◌∙◌, arith}
+-- Plain texts, and texts that are joined by a byte, cut there again.
+use Rattle.std.proofs.Common.{◌≡◌, ◌≢◌, ℕ, suc, ◌<◌, ◌≤◌, true, false, eqb, ltb, List, [], ◌∷◌, ◌++◌, length, refl, ap, ◌∙◌, arith}
 use Rattle.std.specs.List.{slice_split, join_with_byte, AllByRecursion, filter}
 use Rattle.std.proofs.lemmas.Bool.Decides.{nat_tests}
 use Rattle.chess_fen.specs.Texts.{fields_of}
 
--- each byte is at least k
-abbrev pub From : ℕ → List ℕ → Type 0
-From k text = AllByRecursion (λ b. k ≤ b) text
+-- the byte is ASCII from k on, other than the quote and the backslash
+abbrev pub IsPlain : ℕ → ℕ → Type 0
+IsPlain k b = (k ≤ b) × (b < 128) × (b ≢ 34) × (b ≢ 92)
 
-pub From-append : (k : ℕ) (xs ys : List ℕ) → From k xs → From k ys → From k (xs ++ ys)
-From-append k [] ys p q = q
-From-append k (x ∷ xs) ys p q = (p.0, From-append k xs ys p.1 q)
+-- each byte is so
+abbrev pub Plain : ℕ → List ℕ → Type 0
+Plain k text = AllByRecursion (IsPlain k) text
 
-pub From-weaker : (j k : ℕ) (xs : List ℕ) → j ≤ k → From k xs → From j xs
-From-weaker j k [] h p = tt
-From-weaker j k (x ∷ xs) h p = let at : k ≤ x = p.0 in (omega arith, From-weaker j k xs h p.1)
+pub Plain-append : (k : ℕ) (xs ys : List ℕ) → Plain k xs → Plain k ys → Plain k (xs ++ ys)
+Plain-append k [] ys p q = q
+Plain-append k (x ∷ xs) ys p q = (p.0, Plain-append k xs ys p.1 q)
 
-pub From-join : (c k : ℕ) (texts : List (List ℕ)) → k ≤ c → AllByRecursion (From k) texts
-    → From k (join_with_byte c texts)
-From-join c k [] h p = tt
-From-join c k (x ∷ []) h p = p.0
-From-join c k (x ∷ y ∷ texts) h p = From-append k x (c ∷ join_with_byte c (y ∷ texts)) p.0
-    (h, From-join c k (y ∷ texts) h p.1)
+pub Plain-weaker : (j k : ℕ) (xs : List ℕ) → j ≤ k → Plain k xs → Plain j xs
+Plain-weaker j k [] h p = tt
+Plain-weaker j k (x ∷ xs) h p =
+    let at : k ≤ x = p.0.0 in
+    ((omega arith, p.0.1, p.0.2, p.0.3), Plain-weaker j k xs h p.1)
 
-split_whole : (c : ℕ) (text : List ℕ) → From (suc c) text → slice_split (λ b. eqb b c) text ≡ text ∷ []
+pub each_weaker : (j k : ℕ) (texts : List (List ℕ)) → j ≤ k → AllByRecursion (Plain k) texts
+    → AllByRecursion (Plain j) texts
+each_weaker j k [] h p = tt
+each_weaker j k (x ∷ xs) h p = (Plain-weaker j k x h p.0, each_weaker j k xs h p.1)
+
+pub Plain-join : (c k : ℕ) (texts : List (List ℕ)) → IsPlain k c → AllByRecursion (Plain k) texts
+    → Plain k (join_with_byte c texts)
+Plain-join c k [] h p = tt
+Plain-join c k (x ∷ []) h p = p.0
+Plain-join c k (x ∷ y ∷ texts) h p = Plain-append k x (c ∷ join_with_byte c (y ∷ texts)) p.0
+    (h, Plain-join c k (y ∷ texts) h p.1)
+
+split_whole : (c : ℕ) (text : List ℕ) → Plain (suc c) text → slice_split (λ b. eqb b c) text ≡ text ∷ []
 split_whole c [] p = refl
 split_whole c (x ∷ xs) p =
-    let at : c < x = p.0 in
+    let at : c < x = p.0.0 in
     let other : eqb x c ≡ false = grind (arith, nat_tests) in
     rw (other, split_whole c xs p.1) refl
 
-split_first : (c : ℕ) (text rest : List ℕ) → From (suc c) text → slice_split (λ b. eqb b c) (text ++ c ∷ rest)
+split_first : (c : ℕ) (text rest : List ℕ) → Plain (suc c) text → slice_split (λ b. eqb b c) (text ++ c ∷ rest)
     ≡ text ∷ slice_split (λ b. eqb b c) rest
 split_first c [] rest p = let same : eqb c c ≡ true = grind (arith, nat_tests) in rw same refl
 split_first c (x ∷ xs) rest p =
-    let at : c < x = p.0 in
+    let at : c < x = p.0.0 in
     let other : eqb x c ≡ false = grind (arith, nat_tests) in
     rw (other, split_first c xs rest p.1) refl
 
-pub slice_split-join : (c : ℕ) (x : List ℕ) (texts : List (List ℕ)) → AllByRecursion (From (suc c)) (x ∷ texts)
+pub slice_split-join : (c : ℕ) (x : List ℕ) (texts : List (List ℕ)) → AllByRecursion (Plain (suc c)) (x ∷ texts)
     → slice_split (λ b. eqb b c) (join_with_byte c (x ∷ texts)) ≡ x ∷ texts
 slice_split-join c x [] p = split_whole c x p.0
 slice_split-join c x (y ∷ texts) p = split_first c x (join_with_byte c (y ∷ texts)) p.0
@@ -53,7 +64,7 @@ keep_all (x ∷ xs) p =
     rw (yes, keep_all xs p.1) refl
 
 -- fields that are joined by spaces are those fields
-pub fields_of-join : (x : List ℕ) (texts : List (List ℕ)) → AllByRecursion (From 33) (x ∷ texts)
+pub fields_of-join : (x : List ℕ) (texts : List (List ℕ)) → AllByRecursion (Plain 33) (x ∷ texts)
     → AllByRecursion (λ text. 0 < length text) (x ∷ texts) → fields_of (join_with_byte 32 (x ∷ texts)) ≡ x ∷ texts
 fields_of-join x texts p q = ap (filter (λ text. ltb 0 (length text))) (slice_split-join 32 x texts p)
     ∙ keep_all (x ∷ texts) q

@@ -1,12 +1,12 @@
 -- A FEN is read as normal chess as it is defined for normal chess alone.
-use Rattle.std.proofs.Common.{◌≡◌, ℕ, not, ◌&&◌, List, [], ◌∷◌, Option, Some, None, Result, Ok, Err, refl, ap, ◌∙◌, if◌then◌else◌}
+use Rattle.std.proofs.Common.{◌≡◌, ℕ, Bool, true, false, not, ◌&&◌, List, [], ◌∷◌, get_or, Option, Some, None, Result, Ok, refl, ap, subst, if◌then◌else◌}
 use Rattle.std.specs.Prelude.{codes, max, IfOk}
 use Rattle.std.specs.Option.{ok_or}
 use Rattle.chess_base.specs.declared.fen_fault.FenFault.{FenFault}
 use Rattle.chess_base.specs.declared.fen_fault.FenFault.TheVariants as faults
+use Rattle.chess_base.specs.declared.man.Colour.{Colour}
 use Rattle.chess_base.specs.declared.man.Colour.TheVariants.{White, Black}
 use Rattle.chess_base.specs.declared.man.CastlingSide.TheVariants.{KingSide, QueenSide}
-use Rattle.chess_base.specs.declared.man.Rights.{Rights}
 use Rattle.chess_base.specs.declared.man.Variant.TheVariants.{Normal}
 use Rattle.chess_base.specs.declared.setup.Setup.{Setup}
 use Rattle.chess_base.specs.Attacks.{is_in_check}
@@ -14,16 +14,11 @@ use Rattle.chess_base.specs.Faults.{counters_fit, rights_are_sound, first_failin
 use Rattle.chess_base.specs.Men.{Men, other}
 use Rattle.chess_base.specs.Sound.{has_one_king, no_pawn_on_end_ranks, has_at_most_16, target_is_sound}
 use Rattle.chess_base.proofs.shared.Normal.{normal_kept}
-use Rattle.chess_fen.specs.Reading.{◌>>=◌, side_of, rights_of, unless_fault, setup_by, setup_in, fen_reading_as}
+use Rattle.chess_fen.specs.Reading.{◌>>=◌, side_of, denoted_by, denoted_in, unless_fault, fen_reading_as}
 use Rattle.chess_fen.specs.Texts.{may_name_right, placement_of, target_of, number_of, fields_of, is_castling}
-use Rattle.chess_fen.specs.laws.Normal.{normal_is_castling, normal_rights_of, normal_rights_named, normal_setup_by, normal_setup_in, normal_rights_are_sound, normal_fault, normal_sound, normal_fen_reading}
-
-castling_kept : (text : List ℕ) → is_castling Normal text ≡ normal_is_castling text
-unfolding may_name_right
-castling_kept text = refl
-
-rights_kept : (men : Men) (text : List ℕ) → rights_of Normal men text ≡ normal_rights_of text
-rights_kept men text = ap (λ b. if b then Some (normal_rights_named text) else None) (castling_kept text)
+use Rattle.chess_fen.specs.laws.Normal.{normal_rights_named, normal_setup_by, normal_setup_in, normal_rights_are_sound, normal_fault, normal_sound, normal_fen_reading}
+use Rattle.chess_fen.proofs.DenotedFen.{reading_in_variant}
+use Rattle.chess_fen.proofs.Steps.{steps, if_fit}
 
 stand_kept : (p : Setup) → p.variant ≡ Normal → rights_are_sound p ≡ normal_rights_are_sound p
 unfolding rights_are_sound
@@ -52,17 +47,20 @@ fault_kept p e =
 
 -- ---- the fields
 
--- what is left of the steps, after pieces and rights
-abbrev with_rights : Men → Option Rights → List ℕ → List ℕ → List ℕ → List ℕ → Result Setup FenFault
-with_rights men o side target halfmove fullmove = do
-  colour ← ok_or (side_of side) faults.Side
-  rights ← ok_or o faults.Castling
-  passed ← ok_or (target_of target) faults.EnPassant
-  clock ← ok_or (number_of halfmove) faults.Counters
-  number ← ok_or (number_of fullmove) faults.Counters
+-- the position of normal chess by what each of its fields denotes; `fits` is whether the third, `castling`, has the form
+-- of one
+abbrev normal_steps : List ℕ → Option Men → Option Colour → Bool → Option (Option ℕ) → Option ℕ → Option ℕ
+    → Result Setup FenFault
+normal_steps castling men side fits target halfmove fullmove = do
+  pieces ← ok_or men faults.Placement
+  colour ← ok_or side faults.Side
+  rights ← ok_or (if fits then Some (normal_rights_named castling) else None) faults.Castling
+  passed ← ok_or target faults.EnPassant
+  clock ← ok_or halfmove faults.Counters
+  number ← ok_or fullmove faults.Counters
   Ok (record {
     variant = Normal;
-    men = men;
+    men = pieces;
     side = colour;
     rights = rights;
     target = passed;
@@ -70,74 +68,49 @@ with_rights men o side target halfmove fullmove = do
     fullmove = max number 1;
   })
 
-setup_kept : (a b c d h f : List ℕ) → setup_by Normal a b c d h f ≡ normal_setup_by a b c d h f
-setup_kept a b c d h f = by_men (placement_of a)
-  where
-    by_men : (o : Option Men) → (ok_or o faults.Placement >>= λ men. with_rights men (rights_of Normal men c) b d h f)
-        ≡ (ok_or o faults.Placement >>= λ men. with_rights men (normal_rights_of c) b d h f)
-    by_men None = refl
-    by_men (Some men) = ap (λ o. with_rights men o b d h f) (rights_kept men c)
+steps_kept : (c : List ℕ) (men : Option Men) (side : Option Colour) (fits : Bool) (target : Option (Option ℕ))
+    (halfmove fullmove : Option ℕ)
+    → (steps Normal c men side fits target halfmove fullmove >>= if_fit c)
+    ≡ (normal_steps c men side fits target halfmove fullmove >>= normal_sound)
+unfolding setup_fault
+steps_kept c None side fits target halfmove fullmove = refl
+steps_kept c (Some men) None fits target halfmove fullmove = refl
+steps_kept c (Some men) (Some colour) false target halfmove fullmove = refl
+steps_kept c (Some men) (Some colour) true None halfmove fullmove = refl
+steps_kept c (Some men) (Some colour) true (Some target) None fullmove = refl
+steps_kept c (Some men) (Some colour) true (Some target) (Some halfmove) None = refl
+steps_kept c (Some men) (Some colour) true (Some target) (Some halfmove) (Some fullmove) =
+    let p : Setup = record {
+      variant = Normal;
+      men = men;
+      side = colour;
+      rights = normal_rights_named c;
+      target = target;
+      halfmove = halfmove;
+      fullmove = max fullmove 1;
+    } in
+    ap (unless_fault p) (fault_kept p refl)
 
-in_kept : (fields : List (List ℕ)) → setup_in Normal fields ≡ normal_setup_in fields
-in_kept [] = refl
-in_kept (a ∷ []) = refl
-in_kept (a ∷ b ∷ []) = refl
-in_kept (a ∷ b ∷ c ∷ []) = refl
-in_kept (a ∷ b ∷ c ∷ d ∷ []) = setup_kept a b c d (codes "0") (codes "1")
-in_kept (a ∷ b ∷ c ∷ d ∷ e ∷ []) = refl
-in_kept (a ∷ b ∷ c ∷ d ∷ e ∷ f ∷ []) = setup_kept a b c d e f
-in_kept (a ∷ b ∷ c ∷ d ∷ e ∷ f ∷ g ∷ more) = refl
-
--- ---- what is read is of normal chess
-
-abbrev IsNormal : Result Setup FenFault → Type 0
-IsNormal r = IfOk r (λ p. p.variant ≡ Normal)
-
-step : {A : Type 0} (o : Option A) (f : FenFault) (g : A → Result Setup FenFault) → ((a : A) → IsNormal (g a))
-    → IsNormal (ok_or o f >>= g)
-step None f g h = tt
-step (Some a) f g h = h a
-
-fields_are_normal : (a b c d h f : List ℕ) → IsNormal (normal_setup_by a b c d h f)
-fields_are_normal a b c d h f =
-    step (placement_of a) faults.Placement _ (λ men.
-    step (side_of b) faults.Side _ (λ colour.
-    step (normal_rights_of c) faults.Castling _ (λ rights.
-    step (target_of d) faults.EnPassant _ (λ passed.
-    step (number_of h) faults.Counters _ (λ clock.
-    step (number_of f) faults.Counters _ (λ number. refl))))))
-
-in_normal : (fields : List (List ℕ)) → IsNormal (normal_setup_in fields)
-in_normal [] = tt
-in_normal (a ∷ []) = tt
-in_normal (a ∷ b ∷ []) = tt
-in_normal (a ∷ b ∷ c ∷ []) = tt
-in_normal (a ∷ b ∷ c ∷ d ∷ []) = fields_are_normal a b c d (codes "0") (codes "1")
-in_normal (a ∷ b ∷ c ∷ d ∷ e ∷ []) = tt
-in_normal (a ∷ b ∷ c ∷ d ∷ e ∷ f ∷ []) = fields_are_normal a b c d e f
-in_normal (a ∷ b ∷ c ∷ d ∷ e ∷ f ∷ g ∷ more) = tt
-
--- ---- and it is judged so
-
--- the position, if it is sound
-abbrev if_sound : Setup → Result Setup FenFault
-if_sound p = unless_fault p (setup_fault p)
-
-judged : (r : Result Setup FenFault) → IsNormal r → (r >>= if_sound) ≡ (r >>= normal_sound)
-judged (Ok p) e = ap (unless_fault p) (fault_kept p e)
-judged (Err f) e = refl
+fields_kept : (a b c d h f : List ℕ)
+    → (denoted_by Normal a b c d h f >>= if_fit c) ≡ (normal_setup_by a b c d h f >>= normal_sound)
+unfolding may_name_right
+fields_kept a b c d h f =
+    steps_kept c (placement_of a) (side_of b) (is_castling Normal c) (target_of d) (number_of h) (number_of f)
 
 pub reading_kept : (text : List ℕ) → fen_reading_as Normal text ≡ normal_fen_reading text
-reading_kept text = ap (λ r. r >>= if_sound) (in_kept (fields_of text))
-    ∙ judged (normal_setup_in (fields_of text)) (in_normal (fields_of text))
-
-unless_normal : (p : Setup) → p.variant ≡ Normal → (o : Option FenFault) → IsNormal (unless_fault p o)
-unless_normal p e None = e
-unless_normal p e (Some f) = tt
-
-sound_is_normal : (r : Result Setup FenFault) → IsNormal r → IsNormal (r >>= normal_sound)
-sound_is_normal (Ok p) e = unless_normal p e (normal_fault p)
-sound_is_normal (Err f) e = tt
+reading_kept text = by_fields (fields_of text)
+  where
+    by_fields : (fields : List (List ℕ))
+        → (denoted_in Normal fields >>= if_fit (get_or fields 2 [])) ≡ (normal_setup_in fields >>= normal_sound)
+    by_fields [] = refl
+    by_fields (a ∷ []) = refl
+    by_fields (a ∷ b ∷ []) = refl
+    by_fields (a ∷ b ∷ c ∷ []) = refl
+    by_fields (a ∷ b ∷ c ∷ d ∷ []) = fields_kept a b c d (codes "0") (codes "1")
+    by_fields (a ∷ b ∷ c ∷ d ∷ e ∷ []) = refl
+    by_fields (a ∷ b ∷ c ∷ d ∷ e ∷ f ∷ []) = fields_kept a b c d e f
+    by_fields (a ∷ b ∷ c ∷ d ∷ e ∷ f ∷ g ∷ more) = refl
 
 pub reading_is_normal : (text : List ℕ) → IfOk (normal_fen_reading text) (λ p. p.variant ≡ Normal)
-reading_is_normal text = sound_is_normal (normal_setup_in (fields_of text)) (in_normal (fields_of text))
+reading_is_normal text = subst (λ r. IfOk r (λ p. p.variant ≡ Normal)) (reading_kept text)
+    (reading_in_variant Normal text)

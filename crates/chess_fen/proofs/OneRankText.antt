@@ -1,37 +1,30 @@
 -- A rank has one text in which no two digits are side by side: the one that is written.
-use Rattle.std.proofs.Common.{◌≡◌, ℕ, zero, suc, ◌+◌, ◌<◌, ◌≤◌, Bool, true, false, not, List, [], ◌∷◌, ◌++◌, length, Option, Some, None, refl, sym, ap, ◌∙◌, inl, inr, arith}
+use Rattle.std.proofs.Common.{◌≡◌, ℕ, zero, suc, ◌+◌, ◌<◌, ◌≤◌, Bool, true, false, not, List, [], ◌∷◌, ◌++◌, length, Option, Some, None, refl, sym, ap, subst, ◌∙◌, inl, inr, arith}
 use Rattle.std.specs.Prelude.{◌&&◌, replicate, nat_le}
+use Rattle.std.specs.List.{AllZip}
 use Rattle.std.proofs.lemmas.Bool.{and_parts}
 use Rattle.std.proofs.lemmas.Bool.Decides.{nat_tests}
 use Rattle.chess_base.specs.declared.man.Man.{Man}
 use Rattle.chess_base.specs.declared.man.Kind.{Kind}
-use Rattle.chess_base.specs.declared.man.Kind.TheVariants.{Pawn, Knight, Bishop, Rook, Queen, King}
 use Rattle.chess_base.specs.declared.man.Colour.{Colour}
 use Rattle.chess_base.specs.declared.man.Colour.TheVariants.{White, Black}
 use Rattle.chess_base.specs.Letters.{is_digit}
 use Rattle.chess_base.specs.Letters.{letter, letter_by}
-use Rattle.chess_fen.specs.Denotation.{StandsFor, DenotesSquares}
-use Rattle.chess_fen.specs.Writing.{run_text, row_text, fen_rank}
-use Rattle.chess_fen.proofs.DenotedRanks.{denoted-rank}
-use Rattle.chess_fen.proofs.RoundTrip.{rank-text}
+use Rattle.chess_fen.specs.Denotation.{StandsFor}
+use Rattle.chess_fen.specs.Writing.{fen_rank}
+use Rattle.chess_fen.specs.ties.Loops.{run_text, row_text}
+use Rattle.chess_fen.proofs.DenotedRanks.{joined}
+use Rattle.chess_fen.proofs.FenBytes.{white_range}
+use Rattle.chess_fen.proofs.RoundTrip.{rank_denotes}
+use Rattle.chess_fen.proofs.WrittenRanks.{row_is}
 use Rattle.chess_fen.specs.laws.RankTexts.{digits_apart, IsRankText}
 
-letter_by_no_digit : (c : Colour) (k : Kind) → is_digit (letter_by c k) ≡ false
-letter_by_no_digit White Pawn = refl
-letter_by_no_digit White Knight = refl
-letter_by_no_digit White Bishop = refl
-letter_by_no_digit White Rook = refl
-letter_by_no_digit White Queen = refl
-letter_by_no_digit White King = refl
-letter_by_no_digit Black Pawn = refl
-letter_by_no_digit Black Knight = refl
-letter_by_no_digit Black Bishop = refl
-letter_by_no_digit Black Rook = refl
-letter_by_no_digit Black Queen = refl
-letter_by_no_digit Black King = refl
+no_digit_by : (c : Colour) (k : Kind) → is_digit (letter_by c k) ≡ false
+no_digit_by White k = let range = white_range k in grind (arith, nat_tests, range.0)
+no_digit_by Black k = let range = white_range k in grind (arith, nat_tests, range.0)
 
 no_digit : (man : Man) → is_digit (letter man) ≡ false
-no_digit man = letter_by_no_digit man.colour man.kind
+no_digit man = no_digit_by man.colour man.kind
 
 empty_run : (n m : ℕ) (row : List (Option Man)) → row_text m (replicate n None ++ row) ≡ row_text (n + m) row
 empty_run zero m row = ap (λ k. row_text k row) (omega arith)
@@ -55,24 +48,27 @@ apart_tail c (d ∷ cs) h = (and_parts (not (is_digit c && is_digit d)) (digits_
 
 -- ---- only one text
 
-pub only_text : (text : List ℕ) (row : List (Option Man)) → DenotesSquares text row → digits_apart text ≡ true
-    → text ≡ row_text 0 row
-only_text [] row h apart = ap (row_text 0) (sym h)
-only_text (c ∷ cs) row (first, others, stands, more, is) apart =
-    by_stands stands (only_text cs others more (apart_tail c cs apart))
+only_text : (text : List ℕ) (parts : List (List (Option Man))) → AllZip StandsFor text parts → digits_apart text ≡ true
+    → text ≡ row_text 0 (joined parts)
+only_text [] [] h apart = refl
+only_text [] (part ∷ parts) h apart = absurd h
+only_text (c ∷ cs) [] h apart = absurd h
+only_text (c ∷ cs) (first ∷ parts) h apart =
+    by_stands h.0 (only_text cs parts h.1 (apart_tail c cs apart))
   where
-    by_next : (n : ℕ) → 0 < n → n ≤ 8 → c ≡ 48 + n → (cs : List ℕ) (others : List (Option Man))
-        → DenotesSquares cs others → digits_apart (c ∷ cs) ≡ true → cs ≡ row_text 0 others
-        → c ∷ cs ≡ row_text n others
-    by_next n some few digit [] others none apart same =
-        ap (λ k. k ∷ []) digit ∙ sym (run_is n some) ∙ ap (row_text n) (sym none)
-    by_next n some few digit (d ∷ ds) others (second, rest, inl m, more, whole) apart same =
-        let rest_is : others ≡ Some m.0 ∷ rest = whole ∙ ap (λ xs. xs ++ rest) m.2 in
-        let tail : d ∷ ds ≡ letter m.0 ∷ row_text 0 rest = same ∙ ap (row_text 0) rest_is in
+    by_next : (n : ℕ) → 0 < n → n ≤ 8 → c ≡ 48 + n → (cs : List ℕ) (parts : List (List (Option Man)))
+        → AllZip StandsFor cs parts → digits_apart (c ∷ cs) ≡ true → cs ≡ row_text 0 (joined parts)
+        → c ∷ cs ≡ row_text n (joined parts)
+    by_next n some few digit [] [] none apart same = ap (λ k. k ∷ []) digit ∙ sym (run_is n some)
+    by_next n some few digit [] (part ∷ parts) stand apart same = absurd stand
+    by_next n some few digit (d ∷ ds) [] stand apart same = absurd stand
+    by_next n some few digit (d ∷ ds) (second ∷ parts) (inl m, more) apart same =
+        let rest_is : joined (second ∷ parts) ≡ Some m.0 ∷ joined parts = ap (λ xs. xs ++ joined parts) m.2 in
+        let tail : d ∷ ds ≡ letter m.0 ∷ row_text 0 (joined parts) = same ∙ ap (row_text 0) rest_is in
         ap (λ k. k ∷ d ∷ ds) digit ∙ ap (λ xs. (48 + n) ∷ xs) tail
-        ∙ ap (λ xs. xs ++ letter m.0 ∷ row_text 0 rest) (sym (run_is n some))
+        ∙ ap (λ xs. xs ++ letter m.0 ∷ row_text 0 (joined parts)) (sym (run_is n some))
         ∙ ap (row_text n) (sym rest_is)
-    by_next n some few digit (d ∷ ds) others (second, rest, inr e, more, whole) apart same =
+    by_next n some few digit (d ∷ ds) (second ∷ parts) (inr e, more) apart same =
         let one : is_digit c ≡ true = ap is_digit digit ∙ digit_is n few in
         let two : is_digit d ≡ true = ap is_digit e.3 ∙ digit_is e.0 e.2 in
         let no = (and_parts (not (is_digit c && is_digit d)) (digits_apart (d ∷ ds)) apart).0 in
@@ -80,16 +76,16 @@ only_text (c ∷ cs) row (first, others, stands, more, is) apart =
         (ap (λ t. not (t && is_digit d)) one ∙ ap (λ t. not (true && t)) two) ∙ no in
         absurd (cc)
 
-    by_stands : StandsFor c first → cs ≡ row_text 0 others → c ∷ cs ≡ row_text 0 row
+    by_stands : StandsFor c first → cs ≡ row_text 0 (joined parts) → c ∷ cs ≡ row_text 0 (joined (first ∷ parts))
     by_stands (inl m) same =
         ap (λ k. k ∷ cs) m.1 ∙ ap (λ xs. letter m.0 ∷ xs) same
-        ∙ ap (row_text 0) (sym (is ∙ ap (λ xs. xs ++ others) m.2))
+        ∙ ap (row_text 0) (sym (ap (λ xs. xs ++ joined parts) m.2))
     by_stands (inr e) same =
         let sum : e.0 + 0 ≡ e.0 = omega arith in
-        by_next e.0 e.1 e.2 e.3 cs others more apart same
-        ∙ ap (λ k. row_text k others) (sym sum)
-        ∙ sym (empty_run e.0 0 others)
-        ∙ ap (row_text 0) (sym (is ∙ ap (λ xs. xs ++ others) e.4))
+        by_next e.0 e.1 e.2 e.3 cs parts h.1 apart same
+        ∙ ap (λ k. row_text k (joined parts)) (sym sum)
+        ∙ sym (empty_run e.0 0 (joined parts))
+        ∙ ap (row_text 0) (sym (ap (λ xs. xs ++ joined parts) e.4))
 
 -- ---- and it is one
 
@@ -115,9 +111,10 @@ apart_row (suc n) (Some man ∷ row) =
 
 pub rank_text_is : (row : List (Option Man)) → length row ≡ 8 → IsRankText row (fen_rank row)
 rank_text_is row h = record {
-  denotes = (denoted-rank (fen_rank row) row (rank-text row h)).0;
-  apart = apart_row 0 row;
+  denotes = rank_denotes row h;
+  apart = subst (λ text. digits_apart text ≡ true) (row_is row 0) (apart_row 0 row);
 }
 
 pub only_rank_text : (row : List (Option Man)) (text : List ℕ) → IsRankText row text → text ≡ fen_rank row
-only_rank_text row text h = only_text text row h.denotes h.apart
+only_rank_text row text h = only_text text h.denotes.0 h.denotes.1 h.apart ∙ ap (row_text 0) (sym h.denotes.2)
+    ∙ row_is row 0

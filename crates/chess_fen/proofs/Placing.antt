@@ -1,5 +1,5 @@
 -- Reading a placement byte by byte, up to the first space.
-use Rattle.std.proofs.Common.{◌≡◌, ℕ, zero, suc, ◌+◌, ◌-◌, ◌*◌, ◌<◌, ◌≤◌, Bool, true, false, cond, eqb, leb, ◌&&◌, List, [], ◌∷◌, ◌++◌, length, get_or, take, drop, Option, Some, None, refl, sym, ap, ◌∙◌, ◌≢◌, arith, length-append}
+use Rattle.std.proofs.Common.{◌≡◌, ℕ, zero, suc, ◌+◌, ◌-◌, ◌*◌, ◌<◌, ◌≤◌, Bool, true, false, cond, eqb, leb, ◌&&◌, List, [], ◌∷◌, ◌++◌, length, map, get_or, take, drop, Option, Some, None, refl, sym, ap, ◌∙◌, ◌≢◌, append_assoc, append-nil, arith, length-append}
 use Rattle.std.specs.Prelude.{replicate, option_and_then}
 use Rattle.std.specs.Option.{option_map}
 use Rattle.std.specs.List.{slice_split, onto_first, position_or_len, before_first}
@@ -8,8 +8,9 @@ use Rattle.std.proofs.lemmas.List.{take-replicate, drop-replicate, length-replic
 use Rattle.std.proofs.lemmas.List.Splits.{length-slice_split}
 use Rattle.chess_base.specs.declared.man.Man.{Man}
 use Rattle.chess_base.specs.Letters.{man_with_letter}
-use Rattle.chess_fen.specs.Texts.{squares_of, rank_after, squares_by_ranks, placement_of}
+use Rattle.chess_fen.specs.Texts.{squares_of, all_there, rank_of, from_top, placement_of}
 use Rattle.chess_fen.specs.ties.Runs.{at_lower, last_rank, placing, from_space, NoRankIsRead, RankIsPlaced, SlashIsRead, NoSlashIsRead, Ends, PlacementIsRead}
+use Rattle.chess_fen.proofs.DenotedRanks.{joined, eight}
 use Rattle.chess_fen.proofs.RankBytes.{no_man, all_none, placing_over}
 
 abbrev no_board : Option (List (Option Man))
@@ -71,22 +72,48 @@ ends_at (c ∷ cs) h = by_test (eqb c 32) refl
 abbrev parted : List ℕ → List (List ℕ)
 parted text = slice_split (λ c. eqb c 47) (before_first (λ b. eqb b 32) text)
 
+-- the eight squares of a rank, of which `row` are read and `part` is the text that is left
+abbrev begun : List (Option Man) → List ℕ → Option (List (Option Man))
+begun row part = eight (option_map (λ squares. row ++ joined squares) (all_there (map squares_of part)))
+
+-- the squares of whole ranks, and then those above them
+abbrev below : List (Option Man) → List (List ℕ) → Option (List (Option Man))
+below above parts = option_map (λ rows. from_top rows ++ above) (all_there (map rank_of parts))
+
 -- the squares by the parts still to be read, the first of them begun
 abbrev by_parts : ℕ → List (Option Man) → List (Option Man) → List (List ℕ) → Option (List (Option Man))
 by_parts left row above [] = None
 by_parts left row above (part ∷ parts) =
-    cond (eqb (length parts) left)
-    (option_and_then (λ r. squares_by_ranks (r ++ above) parts) (rank_after row part)) None
+    cond (eqb (length parts) left) (option_and_then (λ r. below (r ++ above) parts) (begun row part)) None
+
+one_more : (above : List (Option Man)) (part : List ℕ) (parts : List (List ℕ))
+    → below above (part ∷ parts) ≡ option_and_then (λ r. below (r ++ above) parts) (rank_of part)
+one_more above part parts = by_row (rank_of part)
+  where
+    by_rest : (row : List (Option Man)) (o : Option (List (List (Option Man))))
+        → option_map (λ rows. from_top rows ++ above) (option_map (λ rows. row ∷ rows) o)
+        ≡ option_map (λ rows. from_top rows ++ (row ++ above)) o
+    by_rest row None = refl
+    by_rest row (Some rows) = ap Some (append_assoc (from_top rows) row above)
+
+    by_row : (o : Option (List (Option Man)))
+        → option_map (λ rows. from_top rows ++ above)
+        (option_and_then (λ r. option_map (λ rows. r ∷ rows) (all_there (map rank_of parts))) o)
+        ≡ option_and_then (λ r. below (r ++ above) parts) o
+    by_row None = refl
+    by_row (Some row) = by_rest row (all_there (map rank_of parts))
 
 none_either : (b : Bool) → cond b no_board no_board ≡ None
 none_either true = refl
 none_either false = refl
 
 last_part : (left : ℕ) (row above : List (Option Man)) → last_rank left row above ≡ by_parts left row above ([] ∷ [])
-last_part zero row above = by_test (eqb (length row) 8)
+last_part zero row above =
+    by_test (eqb (length row) 8)
+    ∙ ap (λ squares. option_and_then (λ r. below (r ++ above) []) (eight (Some squares))) (sym (append-nil row))
   where
     by_test : (b : Bool) → cond b (Some (row ++ above)) None
-        ≡ option_and_then (λ r. squares_by_ranks (r ++ above) []) (cond b (Some row) None)
+        ≡ option_and_then (λ r. below (r ++ above) []) (cond b (Some row) None)
     by_test true = refl
     by_test false = refl
 last_part (suc lower) row above = let e : eqb 0 (suc lower) ≡ false = grind (arith, nat_tests) in rw e refl
@@ -104,12 +131,17 @@ next_part : (left : ℕ) (row above : List (Option Man)) (parts : List (List ℕ
 next_part left row above [] f some on = absurd (omega (arith, some))
 next_part zero row above (part ∷ parts) f some on =
     let e : eqb (suc (length parts)) 0 ≡ false = grind (arith, nat_tests) in rw e refl
-next_part (suc lower) row above (part ∷ parts) f some on = by_test (eqb (length row) 8)
+next_part (suc lower) row above (part ∷ parts) f some on =
+    by_test (eqb (length row) 8)
+    ∙ ap (λ squares. cond (eqb (suc (length parts)) (suc lower))
+    (option_and_then (λ r. below (r ++ above) (part ∷ parts)) (eight (Some squares))) None) (sym (append-nil row))
   where
     by_test : (b : Bool) → cond b (f lower) None
         ≡ cond (eqb (suc (length parts)) (suc lower))
-        (option_and_then (λ r. squares_by_ranks (r ++ above) (part ∷ parts)) (cond b (Some row) None)) None
-    by_test true = rw (eqb-suc (length parts) lower) (on lower)
+        (option_and_then (λ r. below (r ++ above) (part ∷ parts)) (cond b (Some row) None)) None
+    by_test true =
+        rw (eqb-suc (length parts) lower)
+        (on lower ∙ ap (λ o. cond (eqb (length parts) lower) o None) (sym (one_more (row ++ above) part parts)))
     by_test false = sym (none_either (eqb (suc (length parts)) (suc lower)))
 
 same_part : (left : ℕ) (row above : List (Option Man)) (c : ℕ) (cs : List ℕ) (parts : List (List ℕ))
@@ -119,11 +151,21 @@ same_part : (left : ℕ) (row above : List (Option Man)) (c : ℕ) (cs : List �
 same_part left row above c cs [] some on = absurd (omega (arith, some))
 same_part left row above c cs (part ∷ parts) some on = by_squares (squares_of c)
   where
+    by_rest : (s : List (Option Man)) (o : Option (List (List (Option Man))))
+        → option_map (λ squares. (row ++ s) ++ joined squares) o
+        ≡ option_map (λ squares. row ++ joined squares) (option_map (λ squares. s ∷ squares) o)
+    by_rest s None = refl
+    by_rest s (Some squares) = ap Some (append_assoc row s (joined squares))
+
     by_squares : (o : Option (List (Option Man))) → option_and_then (λ s. placing left (row ++ s) above cs) o
-        ≡ cond (eqb (length parts) left) (option_and_then (λ r. squares_by_ranks (r ++ above) parts)
-        (option_and_then (λ s. rank_after (row ++ s) part) o)) None
+        ≡ cond (eqb (length parts) left) (option_and_then (λ r. below (r ++ above) parts)
+        (eight (option_map (λ squares. row ++ joined squares)
+        (option_and_then (λ s. option_map (λ squares. s ∷ squares) (all_there (map squares_of part))) o)))) None
     by_squares None = sym (none_either (eqb (length parts) left))
-    by_squares (Some s) = on (row ++ s)
+    by_squares (Some s) =
+        on (row ++ s)
+        ∙ ap (λ o. cond (eqb (length parts) left) (option_and_then (λ r. below (r ++ above) parts) (eight o)) None)
+        (by_rest s (all_there (map squares_of part)))
 
 some_parts : (text : List ℕ) → 0 < length (parted text)
 some_parts text = omega (arith, length-slice_split (λ c. eqb c 47) (before_first (λ b. eqb b 32) text))
@@ -157,10 +199,17 @@ placing-parts left row above (c ∷ cs) = by_space (λ left row above. placing-p
 pub placing-read : (text : List ℕ) → placing 7 [] [] text ≡ placement_of (before_first (λ b. eqb b 32) text)
 placing-read text = placing-parts 7 [] [] text ∙ by_list (parted text) (some_parts text)
   where
+    on_nothing : (o : Option (List (List (Option Man))))
+        → option_map (λ rows. from_top rows ++ []) o ≡ option_map from_top o
+    on_nothing None = refl
+    on_nothing (Some rows) = ap Some (append-nil (from_top rows))
+
     by_list : (parts : List (List ℕ)) → 0 < length parts
-        → by_parts 7 [] [] parts ≡ cond (eqb (length parts) 8) (squares_by_ranks [] parts) None
+        → by_parts 7 [] [] parts ≡ cond (eqb (length parts) 8) (option_map from_top (all_there (map rank_of parts))) None
     by_list [] some = absurd (omega (arith, some))
-    by_list (part ∷ parts) some = rw (eqb-suc (length parts) 7) refl
+    by_list (part ∷ parts) some =
+        rw (eqb-suc (length parts) 7) (ap (λ o. cond (eqb (length parts) 7) o None)
+        (sym (one_more [] part parts) ∙ on_nothing (all_there (map rank_of (part ∷ parts)))))
 
 -- What is left of the text gives the same board, on top of which the ranks so far are; so many ranks are left, and
 -- their squares are still empty

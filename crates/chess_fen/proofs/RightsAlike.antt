@@ -1,7 +1,7 @@
--- A FEN denotes what is read of it. Rights that are named wrongly are refused by both: by the definition with a
--- condition of their own, by the reader as rights whose rook is on a square that is no rook's.
-use Rattle.std.proofs.Common.{◌≡◌, ℕ, Bool, true, false, cond, not, List, [], ◌∷◌, map, Option, Some, None, Result, Ok, Err, refl, sym, ap, ◌∙◌}
-use Rattle.std.specs.Prelude.{option_and_then, find, ◌&&◌, ◌||◌, is_some, ◌==◌, max, codes, ◌-◌}
+-- A FEN is read as it denotes. Rights that are named wrongly are refused by both: by the definition with a condition of
+-- their own, by the reader as rights whose rook is on a square that is no rook's.
+use Rattle.std.proofs.Common.{◌≡◌, ℕ, ◌⊎◌, inl, inr, Bool, true, false, cond, List, [], ◌∷◌, ◌++◌, map, get_or, take, drop, Option, Some, None, Result, Ok, Err, refl, sym, ap, ◌∙◌}
+use Rattle.std.specs.Prelude.{option_and_then, find, ◌&&◌, ◌||◌, is_some, ◌==◌, max, codes, ◌-◌, IsOk, IfOk, IfErr, ◌↔◌}
 use Rattle.std.specs.List.{filter, fold}
 use Rattle.std.specs.Option.{option_map_or, ok_or, unwrap_or}
 use Rattle.chess_base.specs.declared.man.Kind.TheVariants.{Rook}
@@ -16,20 +16,17 @@ use Rattle.chess_base.specs.declared.setup.Setup.{Setup}
 use Rattle.chess_base.specs.declared.fen_fault.FenFault.{FenFault}
 use Rattle.chess_base.specs.declared.fen_fault.FenFault.TheVariants as faults
 use Rattle.chess_base.specs.Squares.{rank}
-use Rattle.chess_base.specs.Men.{Men, man_at, is_man, other, first_rank}
-use Rattle.chess_base.specs.Castling.{right_of, home_square, king_square, is_beside, are_placed_for_castling, right_is_sound, is_to_side}
-use Rattle.chess_base.specs.Faults.{rights_are_sound, first_failing, setup_fault}
+use Rattle.chess_base.specs.Men.{Men, man_at, is_man, first_rank}
+use Rattle.chess_base.specs.Castling.{home_square, king_square, is_beside, are_placed_for_castling, right_is_sound, is_to_side, rights_by}
+use Rattle.chess_base.specs.Faults.{conditions, rights_are_sound, first_failing, setup_fault}
 use Rattle.chess_base.specs.Faults as base
-use Rattle.chess_base.specs.Sound.{has_one_king, no_pawn_on_end_ranks, has_at_most_16, target_is_sound}
-use Rattle.chess_base.specs.Attacks.{is_in_check}
-use Rattle.chess_fen.specs.Texts.{first_letter, names_file, is_castling, target_of, fields_of}
-use Rattle.chess_fen.specs.RightNames.{side_letter, from_edge, is_towards, nowhere, outer_rook, named_square, one_or_nowhere, right_by_letters}
-use Rattle.chess_fen.specs.Reading.{◌>>=◌, side_of, unless_fault}
-use Rattle.chess_fen.specs.Reading as reads
-use Rattle.chess_fen.specs.Texts as texts
-use Rattle.chess_base.specs.Castling.{rights_by}
-use Rattle.chess_fen.specs.laws.FenTexts.{number_denoted, names_right, rook_named, right_by, right_in, names_well, rights_in, Denoted, denoted_by, denoted_in, conditions_of, fen_denoted_as}
-use Rattle.chess_fen.proofs.FieldsDenoted.{placements_are, numbers_are}
+use Rattle.chess_base.specs.Sound.{IsSound}
+use Rattle.chess_base.proofs.shared.Sound.{no_fault_from_IsSound}
+use Rattle.chess_fen.specs.Texts.{first_letter, names_file, placement_of, number_of, is_castling, target_of, fields_of}
+use Rattle.chess_fen.specs.RightNames.{side_letter, from_edge, is_towards, names_right, rook_named, right_by, right_in, names_well, rights_in}
+use Rattle.chess_fen.specs.Reading.{◌>>=◌, side_of, denoted_by, denoted_in, unless_fault, fen_reading_as}
+use Rattle.chess_fen.specs.ties.Reader.{nowhere, outer_rook, named_square, one_or_nowhere, right_by_letters, setup_by, setup_in}
+use Rattle.chess_fen.proofs.Steps.{steps, if_fit}
 
 -- a right that is named wrongly as a right whose rook is nowhere
 abbrev sentinel : Option (Option ℕ) → Option ℕ
@@ -89,10 +86,9 @@ by_rooks (None ∷ []) = refl
 by_rooks (Some s ∷ p ∷ os) = stays os
 by_rooks (None ∷ p ∷ os) = stays os
 
-right_is : (v : Variant) (men : Men) (letters : List ℕ) (c : Colour) (w : CastlingSide)
-    → right_by_letters v men letters c w ≡ sentinel (right_in v men letters c w)
-right_is Normal men letters c w = refl
-right_is Fischerandom men letters c w =
+right_is : (men : Men) (letters : List ℕ) (c : Colour) (w : CastlingSide)
+    → right_by_letters Fischerandom men letters c w ≡ sentinel (right_in Fischerandom men letters c w)
+right_is men letters c w =
     only_named men c w None letters ∙ by_rooks (map (rook_named men c w) (filter (names_right men c w) letters))
 
 -- ---- nowhere is no rook's square
@@ -126,17 +122,17 @@ four_are a e b f c g d h p q r s =
     ap (λ x. rights_of_four x b c d) p ∙ ap (λ x. rights_of_four e x c d) q
     ∙ ap (λ x. rights_of_four e f x d) r ∙ ap (λ x. rights_of_four e f g x) s
 
--- where the fifth condition fails nothing but the first four counts
-blocked : (p q : Setup) (a b c d e f : Bool) (more others : List (FenFault × Bool)) → e ≡ false → f ≡ false
-    → unless_fault p (first_failing ((faults.Counters, a) ∷ (faults.Kings, b) ∷ (faults.Pawns, c) ∷ (faults.Men, d)
-    ∷ (faults.Castling, e) ∷ more))
-    ≡ unless_fault q (first_failing ((faults.Counters, a) ∷ (faults.Kings, b) ∷ (faults.Pawns, c) ∷ (faults.Men, d)
-    ∷ (faults.Castling, f) ∷ others))
-blocked p q false b c d e f more others h k = refl
-blocked p q true false c d e f more others h k = refl
-blocked p q true true false d e f more others h k = refl
-blocked p q true true true false e f more others h k = refl
-blocked p q true true true true e f more others h k = rw (h, k) refl
+-- where a condition fails nothing but those before it counts
+blocked : (p q : Setup) (xs : List (FenFault × Bool)) (f : FenFault) (ys zs : List (FenFault × Bool))
+    → unless_fault p (first_failing (xs ++ ((f, false) ∷ ys)))
+    ≡ unless_fault q (first_failing (xs ++ ((f, false) ∷ zs)))
+blocked p q [] f ys zs = refl
+blocked p q ((g, true) ∷ xs) f ys zs = blocked p q xs f ys zs
+blocked p q ((g, false) ∷ xs) f ys zs = refl
+
+and_no : (b : Bool) → (b && false) ≡ false
+and_no true = refl
+and_no false = refl
 
 module _ (men : Men) (colour : Colour) (target : Option ℕ) (halfmove fullmove : ℕ) where
   abbrev setup_with : Variant → Rights → Setup
@@ -154,185 +150,118 @@ module _ (men : Men) (colour : Colour) (target : Option ℕ) (halfmove fullmove 
   flat o = option_and_then (λ right. right) o
 
   abbrev four_some : Option (Option ℕ) → Option (Option ℕ) → Option (Option ℕ) → Option (Option ℕ) → Bool
-  four_some a b c d = is_some a && is_some b && is_some c && is_some d
+  four_some a b c d = (is_some a && is_some b) && ((is_some c && is_some d) && true)
 
   abbrev said : Variant → Rights → Bool → Result Setup FenFault
   said v rights well = unless_fault (setup_with v rights)
-      (first_failing (conditions_of (record { position = setup_with v rights; names_rights = well })))
+      (first_failing (take 4 (conditions (setup_with v rights))
+      ++ ((faults.Castling, well) ∷ drop 4 (conditions (setup_with v rights)))))
 
   abbrev read : Variant → Rights → Result Setup FenFault
   read v rights = unless_fault (setup_with v rights) (setup_fault (setup_with v rights))
 
-  blocked_by : (v : Variant) (r t : Rights) (well : Bool)
-      → (well && rights_are_sound (setup_with v r)) ≡ false → rights_are_sound (setup_with v t) ≡ false
-      → said v r well ≡ read v t
+  blocked_by : (v : Variant) (r t : Rights) → rights_are_sound (setup_with v t) ≡ false
+      → said v r false ≡ read v t
   unfolding setup_fault base.counters_fit
-  blocked_by v r t well h k =
-      blocked (setup_with v r) (setup_with v t) (base.counters_fit (setup_with v t))
-      (has_one_king men White && has_one_king men Black) (no_pawn_on_end_ranks men)
-      (has_at_most_16 men White && has_at_most_16 men Black)
-      (well && rights_are_sound (setup_with v r)) (rights_are_sound (setup_with v t))
-      ((faults.EnPassant, target_is_sound (setup_with v r)) ∷ (faults.Check, not (is_in_check men (other colour))) ∷ [])
-      ((faults.EnPassant, target_is_sound (setup_with v t)) ∷ (faults.Check, not (is_in_check men (other colour))) ∷ [])
-      h k
+  blocked_by v r t e =
+      blocked (setup_with v r) (setup_with v t) (take 4 (conditions (setup_with v t))) faults.Castling
+      (drop 4 (conditions (setup_with v r))) (drop 5 (conditions (setup_with v t)))
+      ∙ ap (λ b. unless_fault (setup_with v t) (first_failing (take 4 (conditions (setup_with v t))
+      ++ ((faults.Castling, b) ∷ drop 5 (conditions (setup_with v t)))))) (sym e)
+
+  -- whether a right is sound
+  abbrev placed : Colour → CastlingSide → Option ℕ → Bool
+  placed c w right = option_map_or (are_placed_for_castling Fischerandom men c w) right true
 
   -- one of the four rights is nowhere
-  first_fails : (a b c d : Bool) → (a ≡ false) → (a && b && c && d) ≡ false
-  first_fails a b c d e = rw e refl
-
-  second_fails : (a b c d : Bool) → (b ≡ false) → (a && b && c && d) ≡ false
-  second_fails true b c d e = rw e refl
-  second_fails false b c d e = refl
-
-  third_fails : (a b c d : Bool) → (c ≡ false) → (a && b && c && d) ≡ false
-  third_fails true true c d e = rw e refl
-  third_fails true false c d e = refl
-  third_fails false b c d e = refl
-
-  fourth_fails : (a b c d : Bool) → (d ≡ false) → (a && b && c && d) ≡ false
-  fourth_fails true true true d e = e
-  fourth_fails true true false d e = refl
-  fourth_fails true false c d e = refl
-  fourth_fails false b c d e = refl
-
-  white_king : (t : Rights) → right_is_sound (setup_with Fischerandom t) White KingSide ≡ false
-      → rights_are_sound (setup_with Fischerandom t) ≡ false
-  unfolding rights_are_sound
-  white_king t e = first_fails (right_is_sound (setup_with Fischerandom t) White KingSide)
-      (right_is_sound (setup_with Fischerandom t) White QueenSide)
-      (right_is_sound (setup_with Fischerandom t) Black KingSide)
-      (right_is_sound (setup_with Fischerandom t) Black QueenSide) e
-
-  white_queen : (t : Rights) → right_is_sound (setup_with Fischerandom t) White QueenSide ≡ false
-      → rights_are_sound (setup_with Fischerandom t) ≡ false
-  unfolding rights_are_sound
-  white_queen t e = second_fails (right_is_sound (setup_with Fischerandom t) White KingSide)
-      (right_is_sound (setup_with Fischerandom t) White QueenSide)
-      (right_is_sound (setup_with Fischerandom t) Black KingSide)
-      (right_is_sound (setup_with Fischerandom t) Black QueenSide) e
-
-  black_king : (t : Rights) → right_is_sound (setup_with Fischerandom t) Black KingSide ≡ false
-      → rights_are_sound (setup_with Fischerandom t) ≡ false
-  unfolding rights_are_sound
-  black_king t e = third_fails (right_is_sound (setup_with Fischerandom t) White KingSide)
-      (right_is_sound (setup_with Fischerandom t) White QueenSide)
-      (right_is_sound (setup_with Fischerandom t) Black KingSide)
-      (right_is_sound (setup_with Fischerandom t) Black QueenSide) e
-
-  black_queen : (t : Rights) → right_is_sound (setup_with Fischerandom t) Black QueenSide ≡ false
-      → rights_are_sound (setup_with Fischerandom t) ≡ false
-  unfolding rights_are_sound
-  black_queen t e = fourth_fails (right_is_sound (setup_with Fischerandom t) White KingSide)
-      (right_is_sound (setup_with Fischerandom t) White QueenSide)
-      (right_is_sound (setup_with Fischerandom t) Black KingSide)
-      (right_is_sound (setup_with Fischerandom t) Black QueenSide) e
+  one_nowhere : (a b c d : Option ℕ)
+      → (placed White KingSide a ≡ false) ⊎ (placed White QueenSide b ≡ false) ⊎ (placed Black KingSide c ≡ false)
+      ⊎ (placed Black QueenSide d ≡ false) → rights_are_sound (setup_with Fischerandom (rights_of_four a b c d)) ≡ false
+  unfolding rights_are_sound right_is_sound
+  one_nowhere a b c d (inl e) =
+      ap (λ t. ((t && placed White QueenSide b) && placed Black KingSide c) && placed Black QueenSide d) e
+  one_nowhere a b c d (inr (inl e)) =
+      ap (λ t. ((placed White KingSide a && t) && placed Black KingSide c) && placed Black QueenSide d) e
+      ∙ ap (λ t. (t && placed Black KingSide c) && placed Black QueenSide d) (and_no (placed White KingSide a))
+  one_nowhere a b c d (inr (inr (inl e))) =
+      let whites = placed White KingSide a && placed White QueenSide b in
+      ap (λ t. (whites && t) && placed Black QueenSide d) e
+      ∙ ap (λ t. t && placed Black QueenSide d) (and_no whites)
+  one_nowhere a b c d (inr (inr (inr e))) =
+      let three = (placed White KingSide a && placed White QueenSide b) && placed Black KingSide c in
+      ap (λ t. three && t) e ∙ and_no three
 
   named_alike : (a b c d : Option (Option ℕ))
       → said Fischerandom (rights_of_four (flat a) (flat b) (flat c) (flat d)) (four_some a b c d)
       ≡ read Fischerandom (rights_of_four (sentinel a) (sentinel b) (sentinel c) (sentinel d))
-  unfolding setup_fault rights_are_sound right_is_sound
+  unfolding setup_fault
   named_alike None b c d =
       blocked_by Fischerandom (rights_of_four None (flat b) (flat c) (flat d))
-      (rights_of_four (Some nowhere) (sentinel b) (sentinel c) (sentinel d)) (four_some None b c d) refl
-      (white_king (rights_of_four (Some nowhere) (sentinel b) (sentinel c) (sentinel d)) (no_rook men White KingSide))
+      (rights_of_four (Some nowhere) (sentinel b) (sentinel c) (sentinel d))
+      (one_nowhere (Some nowhere) (sentinel b) (sentinel c) (sentinel d) (inl (no_rook men White KingSide)))
   named_alike (Some a) None c d =
       blocked_by Fischerandom (rights_of_four a None (flat c) (flat d))
-      (rights_of_four a (Some nowhere) (sentinel c) (sentinel d)) (four_some (Some a) None c d) refl
-      (white_queen (rights_of_four a (Some nowhere) (sentinel c) (sentinel d)) (no_rook men White QueenSide))
+      (rights_of_four a (Some nowhere) (sentinel c) (sentinel d))
+      (one_nowhere a (Some nowhere) (sentinel c) (sentinel d) (inr (inl (no_rook men White QueenSide))))
   named_alike (Some a) (Some b) None d =
-      blocked_by Fischerandom (rights_of_four a b None (flat d))
-      (rights_of_four a b (Some nowhere) (sentinel d)) (four_some (Some a) (Some b) None d) refl
-      (black_king (rights_of_four a b (Some nowhere) (sentinel d)) (no_rook men Black KingSide))
+      blocked_by Fischerandom (rights_of_four a b None (flat d)) (rights_of_four a b (Some nowhere) (sentinel d))
+      (one_nowhere a b (Some nowhere) (sentinel d) (inr (inr (inl (no_rook men Black KingSide)))))
   named_alike (Some a) (Some b) (Some c) None =
-      blocked_by Fischerandom (rights_of_four a b c None)
-      (rights_of_four a b c (Some nowhere)) (four_some (Some a) (Some b) (Some c) None) refl
-      (black_queen (rights_of_four a b c (Some nowhere)) (no_rook men Black QueenSide))
+      blocked_by Fischerandom (rights_of_four a b c None) (rights_of_four a b c (Some nowhere))
+      (one_nowhere a b c (Some nowhere) (inr (inr (inr (no_rook men Black QueenSide)))))
   named_alike (Some a) (Some b) (Some c) (Some d) = refl
 
-  leaf : (v : Variant) (letters : List ℕ)
+  alike : (v : Variant) (letters : List ℕ)
       → said v (rights_in v men letters) (names_well v men letters)
-      ≡ read v (rights_of_four (sentinel (right_in v men letters White KingSide))
-      (sentinel (right_in v men letters White QueenSide)) (sentinel (right_in v men letters Black KingSide))
-      (sentinel (right_in v men letters Black QueenSide)))
+      ≡ read v (rights_by (right_by_letters v men letters))
   unfolding setup_fault
-  leaf Normal letters = refl
-  leaf Fischerandom letters =
+  alike Normal letters = refl
+  alike Fischerandom letters =
       named_alike (right_in Fischerandom men letters White KingSide) (right_in Fischerandom men letters White QueenSide)
       (right_in Fischerandom men letters Black KingSide) (right_in Fischerandom men letters Black QueenSide)
-
-  leaf_read : (v : Variant) (letters : List ℕ)
-      → said v (rights_in v men letters) (names_well v men letters)
-      ≡ read v (rights_of_four (right_by_letters v men letters White KingSide)
-      (right_by_letters v men letters White QueenSide) (right_by_letters v men letters Black KingSide)
-      (right_by_letters v men letters Black QueenSide))
-  leaf_read v letters =
-      leaf v letters
-      ∙ ap (read v) (sym (four_are _ _ _ _ _ _ _ _ (right_is v men letters White KingSide)
-      (right_is v men letters White QueenSide) (right_is v men letters Black KingSide)
-      (right_is v men letters Black QueenSide)))
+      ∙ ap (read Fischerandom) (sym (four_are _ _ _ _ _ _ _ _ (right_is men letters White KingSide)
+      (right_is men letters White QueenSide) (right_is men letters Black KingSide)
+      (right_is men letters Black QueenSide)))
 
 -- ---- the fields
 
-fields_are : (v : Variant) (placement side castling target halfmove fullmove : List ℕ)
-    → (denoted_by v placement side castling target halfmove fullmove
-    >>= λ d. unless_fault d.position (first_failing (conditions_of d)))
-    ≡ (reads.setup_by v placement side castling target halfmove fullmove >>= λ p. unless_fault p (setup_fault p))
-fields_are v placement side castling target halfmove fullmove =
-    ap (λ o. (by_new o (number_denoted halfmove) (number_denoted fullmove))) (placements_are placement)
-    ∙ ap (λ o. by_new (texts.placement_of placement) o (number_denoted fullmove)) (numbers_are halfmove)
-    ∙ ap (λ o. by_new (texts.placement_of placement) (texts.number_of halfmove) o) (numbers_are fullmove)
-    ∙ by_cases (texts.placement_of placement) (side_of side) (is_castling v castling) (target_of target)
-    (texts.number_of halfmove) (texts.number_of fullmove)
+-- the position, if it is sound
+abbrev if_sound : Setup → Result Setup FenFault
+if_sound p = unless_fault p (setup_fault p)
+
+fields_are : (v : Variant) (a b c d h f : List ℕ)
+    → (denoted_by v a b c d h f >>= if_fit c) ≡ (setup_by v a b c d h f >>= if_sound)
+fields_are v a b c d h f =
+    by_steps (placement_of a) (side_of b) (is_castling v c) (target_of d) (number_of h) (number_of f)
   where
-    denoted_of : Option Men → Option Colour → Bool → Option (Option ℕ) → Option ℕ → Option ℕ → Result Denoted FenFault
-    denoted_of men colour fine passed clock number = do
+    read_by : Option Men → Option Colour → Bool → Option (Option ℕ) → Option ℕ → Option ℕ → Result Setup FenFault
+    read_by men side fits target halfmove fullmove = do
       pieces ← ok_or men faults.Placement
-      mover ← ok_or colour faults.Side
-      letters ← cond fine (Ok castling) (Err faults.Castling)
-      square ← ok_or passed faults.EnPassant
-      plies ← ok_or clock faults.Counters
-      count ← ok_or number faults.Counters
-      Ok (record {
-        position = setup_with pieces mover square plies (max count 1) v (rights_in v pieces letters);
-        names_rights = names_well v pieces letters;
-      })
+      mover ← ok_or side faults.Side
+      rights ← ok_or (cond fits (Some (rights_by (right_by_letters v pieces c))) None) faults.Castling
+      square ← ok_or target faults.EnPassant
+      clock ← ok_or halfmove faults.Counters
+      number ← ok_or fullmove faults.Counters
+      Ok (setup_with pieces mover square clock (max number 1) v rights)
 
-    by_new : Option Men → Option ℕ → Option ℕ → Result Setup FenFault
-    by_new men clock number =
-        denoted_of men (side_of side) (is_castling v castling) (target_of target) clock number
-        >>= λ d. unless_fault d.position (first_failing (conditions_of d))
+    by_steps : (men : Option Men) (side : Option Colour) (fits : Bool) (target : Option (Option ℕ))
+        (halfmove fullmove : Option ℕ)
+        → (steps v c men side fits target halfmove fullmove >>= if_fit c)
+        ≡ (read_by men side fits target halfmove fullmove >>= if_sound)
+    by_steps None side fits target halfmove fullmove = refl
+    by_steps (Some men) None fits target halfmove fullmove = refl
+    by_steps (Some men) (Some colour) false target halfmove fullmove = refl
+    by_steps (Some men) (Some colour) true None halfmove fullmove = refl
+    by_steps (Some men) (Some colour) true (Some target) None fullmove = refl
+    by_steps (Some men) (Some colour) true (Some target) (Some halfmove) None = refl
+    by_steps (Some men) (Some colour) true (Some target) (Some halfmove) (Some fullmove) =
+        alike men colour target halfmove (max fullmove 1) v c
 
-    setup_of : Option Men → Option Colour → Bool → Option (Option ℕ) → Option ℕ → Option ℕ → Result Setup FenFault
-    setup_of men colour fine passed clock number = do
-      pieces ← ok_or men faults.Placement
-      mover ← ok_or colour faults.Side
-      rights ← ok_or (cond fine (Some (rights_by (right_by_letters v pieces castling))) None) faults.Castling
-      square ← ok_or passed faults.EnPassant
-      plies ← ok_or clock faults.Counters
-      count ← ok_or number faults.Counters
-      Ok (setup_with pieces mover square plies (max count 1) v rights)
-
-    by_cases : (men : Option Men) (colour : Option Colour) (fine : Bool) (passed : Option (Option ℕ))
-        (clock number : Option ℕ)
-        → (denoted_of men colour fine passed clock number >>= λ d. unless_fault d.position
-        (first_failing (conditions_of d)))
-        ≡ (setup_of men colour fine passed clock number >>= λ p. unless_fault p (setup_fault p))
-    by_cases None colour fine passed clock number = refl
-    by_cases (Some men) None fine passed clock number = refl
-    by_cases (Some men) (Some colour) false passed clock number = refl
-    by_cases (Some men) (Some colour) true None clock number = refl
-    by_cases (Some men) (Some colour) true (Some passed) None number = refl
-    by_cases (Some men) (Some colour) true (Some passed) (Some clock) None = refl
-    by_cases (Some men) (Some colour) true (Some passed) (Some clock) (Some number) =
-        leaf_read men colour passed clock (max number 1) v castling
-
--- what a FEN denotes, or its fault, is what is read of it
-pub fens_are : (v : Variant) (text : List ℕ) → fen_denoted_as v text ≡ reads.fen_reading_as v text
+fens_are : (v : Variant) (text : List ℕ) → fen_reading_as v text ≡ (setup_in v (fields_of text) >>= if_sound)
 fens_are v text = by_fields (fields_of text)
   where
     by_fields : (fields : List (List ℕ))
-        → (denoted_in v fields >>= λ d. unless_fault d.position (first_failing (conditions_of d)))
-        ≡ (reads.setup_in v fields >>= λ p. unless_fault p (setup_fault p))
+        → (denoted_in v fields >>= if_fit (get_or fields 2 [])) ≡ (setup_in v fields >>= if_sound)
     by_fields [] = refl
     by_fields (a ∷ []) = refl
     by_fields (a ∷ b ∷ []) = refl
@@ -342,29 +271,21 @@ fens_are v text = by_fields (fields_of text)
     by_fields (a ∷ b ∷ c ∷ d ∷ e ∷ f ∷ []) = fields_are v a b c d e f
     by_fields (a ∷ b ∷ c ∷ d ∷ e ∷ f ∷ g ∷ rest) = refl
 
--- ---- a right that is sound is held by the same letters
+-- ---- what code reads
 
-sound_right : (v : Variant) (men : Men) (c : Colour) (w : CastlingSide) (right : Option ℕ) (o : Option (Option ℕ))
-    → v ≡ Fischerandom → option_map_or (are_placed_for_castling v men c w) right true ≡ true → right ≡ sentinel o
-    → o ≡ Some right
-sound_right v men c w right (Some r) of sound is = ap Some (sym is)
-sound_right v men c w right None of sound is =
-    let not_placed : option_map_or (are_placed_for_castling v men c w) right true ≡ false =
-    ap (option_map_or (are_placed_for_castling v men c w) right) refl
-    ∙ ap (λ r. option_map_or (are_placed_for_castling v men c w) r true) is
-    ∙ ap (λ u. are_placed_for_castling u men c w nowhere) of
-    ∙ no_rook men c w in
-    absurd (cc)
+-- what a setup is judged to be
+judged : (setup : Setup) (r : Result Setup FenFault) → (IsOk r ↔ IsSound setup) → IfOk r (λ p. p ≡ setup)
+    → IfErr r (λ f. Some f ≡ setup_fault setup) → r ≡ if_sound setup
+judged setup (Ok p) sound value fault = ap Ok value
+    ∙ sym (ap (unless_fault setup) (no_fault_from_IsSound setup (sound.0 refl)))
+judged setup (Err f) sound value fault = ap (unless_fault setup) fault
 
-pub held_alike : (p : Setup) (text : List ℕ) (c : Colour) (w : CastlingSide) → p.variant ≡ Fischerandom
-    → right_is_sound p c w ≡ true → right_of p.rights c w ≡ right_by_letters Fischerandom p.men text c w
-    → right_in Fischerandom p.men text c w ≡ Some (right_of p.rights c w)
-unfolding right_is_sound
-held_alike p text c w of sound is =
-    sound_right p.variant p.men c w (right_of p.rights c w) (right_in Fischerandom p.men text c w) of sound
-    (is ∙ right_is Fischerandom p.men text c w)
+pub judged-read : (v : Variant) (text : List ℕ) (setup : Setup) (r : Result Setup FenFault)
+    → Ok setup ≡ setup_in v (fields_of text) → (IsOk r ↔ IsSound setup) → IfOk r (λ p. p ≡ setup)
+    → IfErr r (λ f. Some f ≡ setup_fault setup) → r ≡ fen_reading_as v text
+judged-read v text setup r is sound value fault =
+    judged setup r sound value fault ∙ ap (λ o. o >>= if_sound) is ∙ sym (fens_are v text)
 
-pub held_back : (p : Setup) (text : List ℕ) (c : Colour) (w : CastlingSide)
-    → right_in Fischerandom p.men text c w ≡ Some (right_of p.rights c w)
-    → right_of p.rights c w ≡ right_by_letters Fischerandom p.men text c w
-held_back p text c w is = sym (right_is Fischerandom p.men text c w ∙ ap sentinel is)
+pub refused-read : (v : Variant) (text : List ℕ) (f : FenFault) → Err f ≡ setup_in v (fields_of text)
+    → Err f ≡ fen_reading_as v text
+refused-read v text f is = ap (λ o. o >>= if_sound) is ∙ sym (fens_are v text)

@@ -1,28 +1,29 @@
 -- In Chess960, the letters that are written for available rights name them.
-use Rattle.std.proofs.Common.{◌≡◌, ℕ, ◌+◌, ◌-◌, ◌%◌, ◌<◌, ◌≤◌, ◌⊎◌, inl, inr, Bool, true, false, cond, eqb, ◌&&◌, List, [], ◌∷◌, ◌++◌, length, Option, Some, None, refl, sym, ap, ◌∙◌, arith}
-use Rattle.std.specs.Prelude.{IsTrue}
-use Rattle.std.specs.List.{AllByRecursion}
-use Rattle.std.proofs.lemmas.Bool.{and_parts, eqb-true, ltb-true, or_left, or_right}
+use Rattle.std.proofs.Common.{◌≡◌, ℕ, ◌+◌, ◌-◌, ◌%◌, ◌<◌, ◌≤◌, ◌⊎◌, inl, inr, Bool, true, false, cond, eqb, leb, ltb, ◌&&◌, List, [], ◌∷◌, ◌++◌, length, map, Option, Some, None, refl, sym, ap, ◌∙◌, append-nil, arith}
+use Rattle.std.specs.Prelude.{IsTrue, codes}
+use Rattle.std.specs.List.{AllByRecursion, filter, list_all}
+use Rattle.std.specs.Str.{bytes_eq}
+use Rattle.std.proofs.lemmas.Bool.{and_parts, and_from, eqb-true, ltb-true, or_left, or_right}
 use Rattle.std.proofs.lemmas.Bool.Decides.{nat_tests}
 use Rattle.std.proofs.lemmas.List.{length-append}
-use Rattle.std.proofs.lemmas.List.Sums.{sum_by-append}
+use Rattle.std.proofs.lemmas.List.Elements.{filter-append}
+use Rattle.std.proofs.lemmas.List.Sums.{sum_by-append, sum_by-cons}
 use Rattle.chess_base.specs.declared.man.Colour.{Colour}
 use Rattle.chess_base.specs.declared.man.Colour.TheVariants.{White, Black}
 use Rattle.chess_base.specs.declared.man.CastlingSide.{CastlingSide}
 use Rattle.chess_base.specs.declared.man.CastlingSide.TheVariants.{KingSide, QueenSide}
 use Rattle.chess_base.specs.declared.man.Kind.TheVariants.{Rook}
 use Rattle.chess_base.specs.declared.man.Rights.{Rights}
+use Rattle.chess_base.specs.declared.man.Variant.{Variant}
 use Rattle.chess_base.specs.declared.man.Variant.TheVariants.{Fischerandom}
 use Rattle.chess_base.specs.Squares.{file, rank}
 use Rattle.chess_base.specs.Men.{Men, man_at, is_man, other, first_rank}
 use Rattle.chess_base.specs.Castling.{home_square, king_square, is_to_side, is_beside, right_of}
 use Rattle.chess_base.specs.shared.Splits.{right_is_sound_at}
-use Rattle.chess_fen.specs.Texts.{times, first_letter, names_file, may_name_right}
-use Rattle.chess_fen.specs.RightNames.{side_letter, is_towards, named_square, one_or_nowhere}
-use Rattle.chess_fen.specs.ties.Loops.{right_after_letters}
+use Rattle.chess_fen.specs.Texts.{times, first_letter, names_file, may_name_right, are_right_letters, is_castling}
+use Rattle.chess_fen.specs.RightNames.{side_letter, is_towards, names_right, rook_named, right_by, right_in}
+use Rattle.chess_fen.specs.ties.Reader.{names_once}
 use Rattle.chess_fen.specs.Writing.{right_text, or_dash, rights_text}
-use Rattle.chess_fen.specs.Denotation.{IsCastling}
-use Rattle.chess_fen.proofs.DenotedRights.{times-cons}
 
 -- what an available right says of king and rook
 pub record Beside (men : Men) (c : Colour) (w : CastlingSide) (s : ℕ) : Type 0 where
@@ -69,8 +70,7 @@ no_side_letter Black Black KingSide f h = grind (arith, nat_tests)
 no_side_letter Black Black QueenSide f h = grind (arith, nat_tests)
 
 pub own_file : (c : Colour) (f : ℕ) → f < 8 → names_file c (first_letter c + f) ≡ true
-own_file White f h = grind (arith, nat_tests)
-own_file Black f h = grind (arith, nat_tests)
+own_file c f h = grind (arith, nat_tests)
 
 other_file : (c : Colour) (f : ℕ) → f < 8 → names_file (other c) (first_letter c + f) ≡ false
 other_file White f h = grind (arith, nat_tests)
@@ -78,8 +78,7 @@ other_file Black f h = grind (arith, nat_tests)
 
 pub file_back : (c : Colour) (s : ℕ) → rank s ≡ first_rank c
     → home_square c ((first_letter c + file s) - first_letter c) ≡ s
-file_back White s e = omega arith
-file_back Black s e = omega arith
+file_back c s e = omega arith
 
 towards_own : (w : CastlingSide) (k s : ℕ) → is_to_side w k s ≡ true → is_towards w (Some k) s ≡ true
 towards_own KingSide k s e = grind (arith, nat_tests, e)
@@ -94,15 +93,15 @@ file_in s = omega arith
 
 -- ---- which right it names
 
-pub named_own : (men : Men) (c : Colour) (w : CastlingSide) (s : ℕ) → Beside men c w s
-    → named_square men c w (first_letter c + file s) ≡ Some s
-named_own men c w s b =
+pub names_own : (men : Men) (c : Colour) (w : CastlingSide) (s : ℕ) → Beside men c w s
+    → names_right men c w (first_letter c + file s) ≡ true
+names_own men c w s b =
     let t : is_towards w (king_square men c) s ≡ true = rw b.at (towards_own w b.king s b.side) in
     rw (no_side_letter c c w (file s) (file_in s), own_file c (file s) (file_in s), file_back c s b.rook_rank, t) refl
 
-named_other_side : (men : Men) (c : Colour) (w : CastlingSide) (s : ℕ) → Beside men c w s
-    → named_square men c (other_side w) (first_letter c + file s) ≡ None
-named_other_side men c w s b =
+names_other_side : (men : Men) (c : Colour) (w : CastlingSide) (s : ℕ) → Beside men c w s
+    → names_right men c (other_side w) (first_letter c + file s) ≡ false
+names_other_side men c w s b =
     let t : is_towards (other_side w) (king_square men c) s ≡ false = rw b.at (towards_other w b.king s b.side) in
     rw (
       no_side_letter c c (other_side w) (file s) (file_in s),
@@ -111,53 +110,46 @@ named_other_side men c w s b =
       t,
     ) refl
 
-named_other_colour : (men : Men) (c : Colour) (w : CastlingSide) (s : ℕ)
-    → named_square men (other c) w (first_letter c + file s) ≡ None
-named_other_colour men c w s = rw (no_side_letter c (other c) w (file s) (file_in s), other_file c (file s) (file_in s))
+names_other_colour : (men : Men) (c : Colour) (w : CastlingSide) (s : ℕ)
+    → names_right men (other c) w (first_letter c + file s) ≡ false
+names_other_colour men c w s = rw (no_side_letter c (other c) w (file s) (file_in s), other_file c (file s) (file_in s))
     refl
 
-pub only-none : (o : Option ℕ) → one_or_nowhere o None ≡ o
-only-none None = refl
-only-none (Some s) = refl
+pub rook_own : (men : Men) (c : Colour) (w : CastlingSide) (s : ℕ) → rank s ≡ first_rank c
+    → rook_named men c w (first_letter c + file s) ≡ Some s
+rook_own men c w s home = rw (no_side_letter c c w (file s) (file_in s), file_back c s home) refl
 
--- what a written right adds to what was found
+-- ---- of what is written, the letters for one right
+
+-- the rights are available
+abbrev pub Stand : Variant → Men → Rights → Type 0
+Stand v men r = (c : Colour) (w : CastlingSide) → right_is_sound_at v men c w (right_of r c w) ≡ true
+
 own_text : (men : Men) (c : Colour) (w : CastlingSide) (o : Option ℕ) → right_is_sound_at Fischerandom men c w o ≡ true
-    → right_after_letters men c w None (right_text Fischerandom c w o) ≡ o
+    → filter (names_right men c w) (right_text Fischerandom c w o) ≡ right_text Fischerandom c w o
 own_text men c w None e = refl
-own_text men c w (Some s) e = named_own men c w s (beside men c w s e)
+own_text men c w (Some s) e =
+    ap (λ b. cond b ((first_letter c + file s) ∷ []) []) (names_own men c w s (beside men c w s e))
 
-side_text : (men : Men) (c : Colour) (w : CastlingSide) (found o : Option ℕ)
+side_text : (men : Men) (c : Colour) (w : CastlingSide) (o : Option ℕ)
     → right_is_sound_at Fischerandom men c w o ≡ true
-    → right_after_letters men c (other_side w) found (right_text Fischerandom c w o) ≡ found
-side_text men c w found None e = refl
-side_text men c w found (Some s) e = ap (one_or_nowhere found) (named_other_side men c w s (beside men c w s e))
-    ∙ only-none found
+    → filter (names_right men c (other_side w)) (right_text Fischerandom c w o) ≡ []
+side_text men c w None e = refl
+side_text men c w (Some s) e =
+    ap (λ b. cond b ((first_letter c + file s) ∷ []) []) (names_other_side men c w s (beside men c w s e))
 
-colour_text : (men : Men) (c : Colour) (w u : CastlingSide) (found o : Option ℕ)
-    → right_after_letters men (other c) u found (right_text Fischerandom c w o) ≡ found
-colour_text men c w u found None = refl
-colour_text men c w u found (Some s) = ap (one_or_nowhere found) (named_other_colour men c u s) ∙ only-none found
-
-pub after-append : (men : Men) (c : Colour) (w : CastlingSide) (found : Option ℕ) (xs ys : List ℕ)
-    → right_after_letters men c w found (xs ++ ys)
-    ≡ right_after_letters men c w (right_after_letters men c w found xs) ys
-after-append men c w found [] ys = refl
-after-append men c w found (x ∷ xs) ys = after-append men c w (one_or_nowhere found (named_square men c w x)) xs ys
+colour_text : (men : Men) (c : Colour) (w u : CastlingSide) (o : Option ℕ)
+    → filter (names_right men (other c) u) (right_text Fischerandom c w o) ≡ []
+colour_text men c w u None = refl
+colour_text men c w u (Some s) = ap (λ b. cond b ((first_letter c + file s) ∷ []) []) (names_other_colour men c u s)
 
 after-dash : (men : Men) (c : Colour) (w : CastlingSide) (xs : List ℕ)
-    → right_after_letters men c w None (or_dash xs) ≡ right_after_letters men c w None xs
+    → filter (names_right men c w) (or_dash xs) ≡ filter (names_right men c w) xs
 after-dash men White KingSide [] = refl
 after-dash men White QueenSide [] = refl
 after-dash men Black KingSide [] = refl
 after-dash men Black QueenSide [] = refl
 after-dash men c w (x ∷ xs) = refl
-
--- the rights are available
-pub record Stand (men : Men) (r : Rights) : Type 0 where
-  pub a : right_is_sound_at Fischerandom men White KingSide r.white.king_side ≡ true
-  pub b : right_is_sound_at Fischerandom men White QueenSide r.white.queen_side ≡ true
-  pub c : right_is_sound_at Fischerandom men Black KingSide r.black.king_side ≡ true
-  pub d : right_is_sound_at Fischerandom men Black QueenSide r.black.queen_side ≡ true
 
 abbrev A : Rights → List ℕ
 A r = right_text Fischerandom White KingSide r.white.king_side
@@ -172,49 +164,64 @@ abbrev D : Rights → List ℕ
 D r = right_text Fischerandom Black QueenSide r.black.queen_side
 
 in_turn : (men : Men) (r : Rights) (c : Colour) (w : CastlingSide)
-    → right_after_letters men c w None (rights_text Fischerandom r)
-    ≡ right_after_letters men c w (right_after_letters men c w
-    (right_after_letters men c w (right_after_letters men c w None (A r)) (B r)) (C r)) (D r)
+    → filter (names_right men c w) (rights_text Fischerandom r)
+    ≡ ((filter (names_right men c w) (A r) ++ filter (names_right men c w) (B r)) ++ filter (names_right men c w) (C r))
+    ++ filter (names_right men c w) (D r)
 in_turn men r c w =
-    after-dash men c w (((A r ++ B r) ++ C r) ++ D r) ∙ after-append men c w None ((A r ++ B r) ++ C r) (D r)
-    ∙ ap (λ o. right_after_letters men c w o (D r))
-    (after-append men c w None (A r ++ B r) (C r)
-    ∙ ap (λ o. right_after_letters men c w o (C r)) (after-append men c w None (A r) (B r)))
+    let names : ℕ → Bool = names_right men c w in
+    after-dash men c w (((A r ++ B r) ++ C r) ++ D r) ∙ filter-append names ((A r ++ B r) ++ C r) (D r)
+    ∙ ap (λ xs. xs ++ filter names (D r))
+    (filter-append names (A r ++ B r) (C r) ∙ ap (λ xs. xs ++ filter names (C r)) (filter-append names (A r) (B r)))
 
-pub right_back : (men : Men) (r : Rights) (c : Colour) (w : CastlingSide) → Stand men r
-    → right_after_letters men c w None (rights_text Fischerandom r) ≡ right_of r c w
-right_back men r White KingSide s =
+own_letters : (men : Men) (r : Rights) (c : Colour) (w : CastlingSide) → Stand Fischerandom men r
+    → filter (names_right men c w) (rights_text Fischerandom r) ≡ right_text Fischerandom c w (right_of r c w)
+own_letters men r White KingSide s =
     in_turn men r White KingSide
     ∙ rw (
-      own_text men White KingSide r.white.king_side s.a,
-      side_text men White QueenSide r.white.king_side r.white.queen_side s.b,
-      colour_text men Black KingSide KingSide r.white.king_side r.black.king_side,
-      colour_text men Black QueenSide KingSide r.white.king_side r.black.queen_side,
-    ) refl
-right_back men r White QueenSide s =
+      own_text men White KingSide r.white.king_side (s White KingSide),
+      side_text men White QueenSide r.white.queen_side (s White QueenSide),
+      colour_text men Black KingSide KingSide r.black.king_side,
+      colour_text men Black QueenSide KingSide r.black.queen_side,
+    )
+    (append-nil ((A r ++ []) ++ []) ∙ append-nil (A r ++ []) ∙ append-nil (A r))
+own_letters men r White QueenSide s =
     in_turn men r White QueenSide
     ∙ rw (
-      side_text men White KingSide None r.white.king_side s.a,
-      own_text men White QueenSide r.white.queen_side s.b,
-      colour_text men Black KingSide QueenSide r.white.queen_side r.black.king_side,
-      colour_text men Black QueenSide QueenSide r.white.queen_side r.black.queen_side,
-    ) refl
-right_back men r Black KingSide s =
+      side_text men White KingSide r.white.king_side (s White KingSide),
+      own_text men White QueenSide r.white.queen_side (s White QueenSide),
+      colour_text men Black KingSide QueenSide r.black.king_side,
+      colour_text men Black QueenSide QueenSide r.black.queen_side,
+    )
+    (append-nil (B r ++ []) ∙ append-nil (B r))
+own_letters men r Black KingSide s =
     in_turn men r Black KingSide
     ∙ rw (
-      colour_text men White KingSide KingSide None r.white.king_side,
-      colour_text men White QueenSide KingSide None r.white.queen_side,
-      own_text men Black KingSide r.black.king_side s.c,
-      side_text men Black QueenSide r.black.king_side r.black.queen_side s.d,
-    ) refl
-right_back men r Black QueenSide s =
+      colour_text men White KingSide KingSide r.white.king_side,
+      colour_text men White QueenSide KingSide r.white.queen_side,
+      own_text men Black KingSide r.black.king_side (s Black KingSide),
+      side_text men Black QueenSide r.black.queen_side (s Black QueenSide),
+    )
+    (append-nil (C r))
+own_letters men r Black QueenSide s =
     in_turn men r Black QueenSide
     ∙ rw (
-      colour_text men White KingSide QueenSide None r.white.king_side,
-      colour_text men White QueenSide QueenSide None r.white.queen_side,
-      side_text men Black KingSide None r.black.king_side s.c,
-      own_text men Black QueenSide r.black.queen_side s.d,
+      colour_text men White KingSide QueenSide r.white.king_side,
+      colour_text men White QueenSide QueenSide r.white.queen_side,
+      side_text men Black KingSide r.black.king_side (s Black KingSide),
+      own_text men Black QueenSide r.black.queen_side (s Black QueenSide),
     ) refl
+
+one_right : (men : Men) (c : Colour) (w : CastlingSide) (o : Option ℕ) → right_is_sound_at Fischerandom men c w o ≡ true
+    → right_by (map (rook_named men c w) (right_text Fischerandom c w o)) ≡ Some o
+one_right men c w None e = refl
+one_right men c w (Some s) e =
+    ap (λ rook. right_by (rook ∷ [])) (rook_own men c w s (beside men c w s e).rook_rank)
+
+pub right_back : (men : Men) (r : Rights) (c : Colour) (w : CastlingSide) → Stand Fischerandom men r
+    → right_in Fischerandom men (rights_text Fischerandom r) c w ≡ Some (right_of r c w)
+right_back men r c w s =
+    ap (λ letters. right_by (map (rook_named men c w) letters)) (own_letters men r c w s)
+    ∙ one_right men c w (right_of r c w) (s c w)
 
 -- ---- they are letters of rights, none twice
 
@@ -246,38 +253,25 @@ record Placed (men : Men) (c : Colour) (w : CastlingSide) (n : ℕ) : Type 0 whe
 
 placed : (men : Men) (c : Colour) (w : CastlingSide) (s : ℕ) → Beside men c w s
     → Placed men c w (first_letter c + file s)
-placed men White KingSide s b = record {
+placed men c KingSide s b = record {
   king = b.king;
   at = b.at;
   low = omega arith;
   high = omega arith;
-  side = (let e = b.side in let l = ltb-true b.king s e in let t : 65 + b.king % 8 < 65
-      + s % 8 = omega (arith, b.king_rank, b.rook_rank, l) in grind (arith, nat_tests, t));
+  side = (let l = ltb-true b.king s b.side in let t : first_letter c + b.king % 8 < first_letter c + s % 8 =
+      omega (arith, b.king_rank, b.rook_rank, l) in grind (arith, nat_tests, t));
 }
-placed men White QueenSide s b = record {
+placed men c QueenSide s b = record {
   king = b.king;
   at = b.at;
   low = omega arith;
   high = omega arith;
-  side = (let e = b.side in let l = ltb-true s b.king e in let t : 65 + s % 8 < 65
-      + b.king % 8 = omega (arith, b.king_rank, b.rook_rank, l) in grind (arith, nat_tests, t));
+  side = (let l = ltb-true s b.king b.side in let t : first_letter c + s % 8 < first_letter c + b.king % 8 =
+      omega (arith, b.king_rank, b.rook_rank, l) in grind (arith, nat_tests, t));
 }
-placed men Black KingSide s b = record {
-  king = b.king;
-  at = b.at;
-  low = omega arith;
-  high = omega arith;
-  side = (let e = b.side in let l = ltb-true b.king s e in let t : 97 + b.king % 8 < 97
-      + s % 8 = omega (arith, b.king_rank, b.rook_rank, l) in grind (arith, nat_tests, t));
-}
-placed men Black QueenSide s b = record {
-  king = b.king;
-  at = b.at;
-  low = omega arith;
-  high = omega arith;
-  side = (let e = b.side in let l = ltb-true s b.king e in let t : 97 + s % 8 < 97
-      + b.king % 8 = omega (arith, b.king_rank, b.rook_rank, l) in grind (arith, nat_tests, t));
-}
+
+times-cons : (c x : ℕ) (xs : List ℕ) → times c (x ∷ xs) ≡ cond (eqb x c) 1 0 + times c xs
+times-cons c x xs = sum_by-cons (λ b. cond (eqb b c) 1 0) x xs
 
 Occurs : Men → Colour → CastlingSide → ℕ → ℕ → Type 0
 Occurs men c w n t = (t ≡ 0) ⊎ ((t ≡ 1) × Placed men c w n)
@@ -326,14 +320,14 @@ of_both n t u (inr e) (inr f) = absurd (omega (arith, e.2, f.1))
 times-append : (n : ℕ) (xs ys : List ℕ) → times n (xs ++ ys) ≡ times n xs + times n ys
 times-append n xs ys = sum_by-append (λ b. cond (eqb b n) 1 0) xs ys
 
-none_twice : (men : Men) (r : Rights) (n : ℕ) → Stand men r → times n (((A r ++ B r) ++ C r) ++ D r) ≤ 1
+none_twice : (men : Men) (r : Rights) (n : ℕ) → Stand Fischerandom men r → times n (((A r ++ B r) ++ C r) ++ D r) ≤ 1
 none_twice men r n s =
     let white = of_colour men White n (times n (A r)) (times n (B r))
-    (occurrence men White KingSide r.white.king_side n s.a)
-    (occurrence men White QueenSide r.white.queen_side n s.b) in
+    (occurrence men White KingSide r.white.king_side n (s White KingSide))
+    (occurrence men White QueenSide r.white.queen_side n (s White QueenSide)) in
     let black = of_colour men Black n (times n (C r)) (times n (D r))
-    (occurrence men Black KingSide r.black.king_side n s.c)
-    (occurrence men Black QueenSide r.black.queen_side n s.d) in
+    (occurrence men Black KingSide r.black.king_side n (s Black KingSide))
+    (occurrence men Black QueenSide r.black.queen_side n (s Black QueenSide)) in
     let all = of_both n (times n (A r) + times n (B r)) (times n (C r) + times n (D r)) white black in
     omega (
       arith,
@@ -343,13 +337,37 @@ none_twice men r n s =
       times-append n (A r) (B r),
     )
 
-castling_or_dash : (text : List ℕ) → length text ≤ 4 → AllByRecursion (λ l. IsTrue (may_name_right Fischerandom l)) text
-    → ((n : ℕ) → times n text ≤ 1) → IsCastling Fischerandom (or_dash text)
-castling_or_dash [] few each distinct = inl refl
-castling_or_dash (x ∷ xs) few each distinct =
-    inr (record { some = omega arith; few = few; each = each; distinct = distinct })
+-- ---- the letters, each of which is there once
 
-pub text_is_castling : (men : Men) (r : Rights) → Stand men r → IsCastling Fischerandom (rights_text Fischerandom r)
+each_once : (whole text : List ℕ) → ((c : ℕ) → times c text ≤ times c whole) → ((c : ℕ) → times c whole ≤ 1)
+    → AllByRecursion (λ l. IsTrue (may_name_right Fischerandom l)) text
+    → list_all (names_once Fischerandom whole) text ≡ true
+each_once whole [] within one p = refl
+each_once whole (x ∷ xs) within one p =
+    let here : eqb x x ≡ true = grind (arith, nat_tests) in
+    let count : times x (x ∷ xs) ≡ 1 + times x xs = times-cons x x xs ∙ ap (λ b. cond b 1 0 + times x xs) here in
+    let is : times x whole ≡ 1 = omega (arith, within x, one x, count) in
+    let t : eqb (times x whole) 1 ≡ true = grind (arith, nat_tests, is) in
+    and_from (names_once Fischerandom whole x) (list_all (names_once Fischerandom whole) xs)
+    (and_from (may_name_right Fischerandom x) (eqb (times x whole) 1) p.0 t)
+    (each_once whole xs (λ c. omega (arith, within c, times-cons c x xs)) one p.1)
+
+castling_or_dash : (text : List ℕ) → length text ≤ 4 → AllByRecursion (λ l. IsTrue (may_name_right Fischerandom l)) text
+    → ((n : ℕ) → times n text ≤ 1) → is_castling Fischerandom (or_dash text) ≡ true
+castling_or_dash [] few each distinct = refl
+castling_or_dash (x ∷ xs) few each distinct =
+    let short : leb (length (x ∷ xs)) 4 ≡ true = grind (arith, nat_tests, few) in
+    or_right (bytes_eq (x ∷ xs) (codes "-")) (are_right_letters Fischerandom (x ∷ xs))
+    (and_from (ltb 0 (length (x ∷ xs)) && leb (length (x ∷ xs)) 4)
+    (list_all (names_once Fischerandom (x ∷ xs)) (x ∷ xs))
+    (and_from (ltb 0 (length (x ∷ xs))) (leb (length (x ∷ xs)) 4) some short)
+    (each_once (x ∷ xs) (x ∷ xs) (λ c. omega arith) distinct each))
+  where
+    some : ltb 0 (length (x ∷ xs)) ≡ true
+    some = grind (arith, nat_tests)
+
+pub text_is_castling : (men : Men) (r : Rights) → Stand Fischerandom men r
+    → is_castling Fischerandom (rights_text Fischerandom r) ≡ true
 text_is_castling men r s =
     let P = λ (l : ℕ). IsTrue (may_name_right Fischerandom l) in
     let a = one_at_most White KingSide r.white.king_side in

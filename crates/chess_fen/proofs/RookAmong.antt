@@ -7,7 +7,7 @@ use Rattle.chess_base.specs.declared.man.CastlingSide.TheVariants.{KingSide, Que
 use Rattle.chess_base.specs.declared.man.Kind.TheVariants.{Rook}
 use Rattle.chess_base.specs.Men.{Men, man_at, is_man}
 use Rattle.chess_base.specs.Castling.{home_square}
-use Rattle.chess_fen.specs.RightNames.{nowhere, outer_rook}
+use Rattle.chess_fen.specs.ties.Reader.{nowhere, outer_rook}
 use Rattle.chess_fen.specs.ties.Loops.{edge_file, rook_among}
 
 pub rook_here : (men : Men) (c : Colour) (w : CastlingSide) (left k : ℕ) → k + 1 ≡ left

@@ -1,64 +1,48 @@
 -- What is written for a position is read as that position.
-use Rattle.std.proofs.Common.{◌≡◌, ℕ, zero, suc, ◌+◌, ◌-◌, ◌*◌, ◌/◌, ◌%◌, ◌<◌, ◌≤◌, ◌⊎◌, inl, inr, true, cond, eqb, leb, ltb, List, [], ◌∷◌, ◌++◌, length, take, drop, map, Option, Some, None, refl, sym, ap, subst, ◌∙◌, append_assoc, arith, rules}
-use Rattle.std.specs.Prelude.{replicate, option_and_then, decimal, IfSome, is_some, is_none, Ok, max, ◌&&◌}
-use Rattle.std.specs.List.{AllByRecursion, list_all, slice_split}
+use Rattle.std.proofs.Common.{◌≡◌, ℕ, zero, suc, ◌+◌, ◌*◌, ◌<◌, ◌≤◌, inl, inr, Bool, true, false, cond, eqb, leb, ltb, List, [], ◌∷◌, ◌++◌, length, get_or, take, drop, map, Option, Some, None, refl, sym, ap, subst, ◌∙◌, arith, rules}
+use Rattle.std.specs.Prelude.{replicate, decimal, is_some, Ok, max, ◌&&◌}
+use Rattle.std.specs.List.{AllZip, list_all, slice_split}
 use Rattle.std.proofs.lemmas.Bool.Decides.{nat_tests}
 use Rattle.std.proofs.lemmas.List.{append-nil, length-take, length-drop, take_all, length-append}
-use Rattle.std.proofs.lemmas.Fmt.{digits_decimal, digits_value-decimal, decimal_nonempty}
-use Rattle.std.proofs.lemmas.Str.Parse.{IsNumeralModel, IsDigitsTest, numerals_by_value}
-use Rattle.std.proofs.lemmas.Grind.{replicate_next}
+use Rattle.std.proofs.lemmas.Fmt.{digits_decimal, decimal_is_IsNumeral, decimal_nonempty}
 use Rattle.std.specs.Str.Parse.{digits_value}
+use Rattle.std.proofs.lemmas.Str.Parse.{IsNumeralModel, numerals_by_value}
 use Rattle.chess_base.specs.declared.man.Man.{Man}
-use Rattle.chess_base.specs.declared.man.Kind.{Kind}
-use Rattle.chess_base.specs.declared.man.Kind.TheVariants.{Pawn, Knight, Bishop, Rook, Queen, King}
+use Rattle.chess_base.specs.declared.man.Kind.TheVariants.{Rook, King}
 use Rattle.chess_base.specs.declared.man.Colour.{Colour}
 use Rattle.chess_base.specs.declared.man.Colour.TheVariants.{White, Black}
+use Rattle.chess_base.specs.declared.man.CastlingSide.{CastlingSide}
+use Rattle.chess_base.specs.declared.man.CastlingSide.TheVariants.{KingSide, QueenSide}
 use Rattle.chess_base.specs.declared.man.Rights.{Rights}
 use Rattle.chess_base.specs.declared.man.Variant.{Variant}
 use Rattle.chess_base.specs.declared.man.Variant.TheVariants.{Normal, Fischerandom}
-use Rattle.chess_fen.specs.RightNames.{right_letter, right_by_letters}
-use Rattle.chess_fen.proofs.RightsBack.{Stand, right_back, text_is_castling}
-use Rattle.chess_fen.proofs.DenotedRights.{castling-denoted}
 use Rattle.chess_base.specs.declared.setup.Setup.{Setup}
-use Rattle.chess_base.specs.Letters.{white_letter, byte, is_digit, letter, letter_by}
-use Rattle.chess_fen.specs.Texts.{number_of, rank_after, rank_of, squares_by_ranks, placement_of, occurs, may_name_right, is_castling, target_of, fields_of}
-use Rattle.chess_fen.specs.Writing.{run_text, row_text, fen_rank, ranks_down, placement_text, side_text, right_text, or_dash, rights_text, target_text, fen}
-use Rattle.chess_fen.specs.ties.Loops.{ranks_text}
-use Rattle.chess_base.specs.declared.man.CastlingSide.{CastlingSide}
-use Rattle.chess_base.specs.declared.man.CastlingSide.TheVariants.{KingSide, QueenSide}
-use Rattle.chess_base.specs.Men.{Men, man_at, is_man, other, forward, crossed_rank}
-use Rattle.chess_base.specs.Sound.{IsSound, target_is_sound_at, target_is_sound}
+use Rattle.chess_base.specs.Letters.{byte, is_digit, letter}
+use Rattle.chess_base.specs.Men.{Men, man_at, is_man}
+use Rattle.chess_base.specs.Sound.{IsSound}
 use Rattle.chess_base.specs.Castling.{home_square, rook_file, right_of, right_is_sound}
 use Rattle.chess_base.specs.shared.Splits.{right_is_sound_at}
+use Rattle.chess_base.proofs.shared.Castling.{right_is_sound_of}
 use Rattle.std.proofs.lemmas.Bool.{and_parts, eqb-true}
 use Rattle.std.proofs.Math.Seq.{take-add}
-use Rattle.chess_fen.specs.Reading.{side_of, rights_of, setup_in}
-use Rattle.chess_fen.proofs.RankBytes.{squares-digit}
-use Rattle.chess_fen.proofs.DenotedRanks.{squares-letter}
+use Rattle.text_lines.specs.Words.{short_number}
+use Rattle.chess_fen.specs.RightNames.{side_letter, right_named, right_in, names_well}
+use Rattle.chess_fen.specs.Texts.{number_of, from_top, placement_of, occurs, may_name_right, is_castling, fields_of}
+use Rattle.chess_fen.specs.Writing.{fen_rank, placement_text, side_text, right_text, or_dash, rights_text, target_text, fen}
+use Rattle.chess_fen.specs.Reading.{denoted_in, castling_field}
+use Rattle.chess_fen.specs.Denotation.{DenotesSquares, DenotesRank}
+use Rattle.chess_fen.specs.ties.Loops.{ranks_down, run_text, row_text, ranks_text}
+use Rattle.chess_fen.proofs.DenotedFields.{placement-denoted, side-text, target-denoted}
+use Rattle.chess_fen.proofs.RightsBack.{Stand, right_back, text_is_castling}
+use Rattle.chess_fen.proofs.WrittenRanks.{moved, row_is}
 use Rattle.chess_fen.proofs.Lengths.{short_decimal}
-use Rattle.chess_fen.proofs.Joined.{From, From-append, From-weaker, From-join, slice_split-join, fields_of-join}
+use Rattle.chess_fen.proofs.FenBytes.{target_fits, rows_plain, fields, fields_plain}
+use Rattle.chess_fen.proofs.Joined.{each_weaker, slice_split-join, fields_of-join}
 
 -- ---- numbers
 
-own : IsNumeralModel (λ ds. list_all is_digit ds ≡ true) (digits_value 10)
+pub own : IsNumeralModel (λ ds. list_all is_digit ds ≡ true) (digits_value 10)
 own = numerals_by_value _ (search rules)
-
-abbrev pub DigitBytes : List ℕ → Type 0
-DigitBytes ds = AllByRecursion (λ c. (48 ≤ c) × (c ≤ 57)) ds
-
-says_bytes : IsDigitsTest DigitBytes
-says_bytes = record { empty = tt; parts = λ c cs p. (search rules, p.1); more = λ c cs d p. (search rules, p) }
-
-pub own_bytes : IsNumeralModel DigitBytes (digits_value 10)
-own_bytes = numerals_by_value _ says_bytes
-
-digits_from : (ds : List ℕ) → DigitBytes ds → From 48 ds
-digits_from [] p = tt
-digits_from (c ∷ cs) p = (p.0.0, digits_from cs p.1)
-
-pub decimal_from : (n : ℕ) → n < 1000000 → From 33 (decimal n)
-decimal_from n h = From-weaker 33 48 (decimal n) (omega arith)
-    (digits_from (decimal n) (digits_decimal own_bytes n (omega arith)))
 
 pub number-decimal : (n : ℕ) → n < 1000000 → number_of (decimal n) ≡ Some n
 number-decimal n h =
@@ -67,65 +51,43 @@ number-decimal n h =
     let t0 : ltb 0 (length (decimal n)) ≡ true = grind (arith, nat_tests) in
     let t1 : leb (length (decimal n)) 6 ≡ true = grind (arith, nat_tests) in
     let t2 = digits_decimal own n (omega arith) in
-    rw (t0, t1, t2, digits_value-decimal own n (omega arith)) refl
+    rw (t0, t1, t2, (decimal_is_IsNumeral n (omega arith)).1) refl
 
--- ---- rights, side and target
+pub numbers_are : (text : List ℕ) → number_of text ≡ short_number 6 text
+numbers_are text = refl
+
+-- ---- rights and target
 
 abbrev text_by : Option ℕ → Option ℕ → Option ℕ → Option ℕ → List ℕ
 text_by a b c d =
     rights_text Normal
     (record { white = record { king_side = a; queen_side = b }; black = record { king_side = c; queen_side = d } })
 
-record Says (a b c d : Option ℕ) : Type 0 where
-  letters : is_castling Normal (text_by a b c d) ≡ true
-  first : occurs (byte "K") (text_by a b c d) ≡ is_some a
-  second : occurs (byte "Q") (text_by a b c d) ≡ is_some b
-  third : occurs (byte "k") (text_by a b c d) ≡ is_some c
-  fourth : occurs (byte "q") (text_by a b c d) ≡ is_some d
+-- what is written for the rights of normal chess has the form of a castling field, in which K, Q, k and q occur for the
+-- rights that are there
+abbrev Says : Option ℕ → Option ℕ → Option ℕ → Option ℕ → Type 0
+Says a b c d = (is_castling Normal (text_by a b c d) ≡ true) × (occurs (byte "K") (text_by a b c d) ≡ is_some a)
+    × (occurs (byte "Q") (text_by a b c d) ≡ is_some b) × (occurs (byte "k") (text_by a b c d) ≡ is_some c)
+    × (occurs (byte "q") (text_by a b c d) ≡ is_some d)
 
 says : (a b c d : Option ℕ) → Says a b c d
 unfolding may_name_right
-says (Some a) (Some b) (Some c) (Some d) =
-    record { letters = refl; first = refl; second = refl; third = refl; fourth = refl }
-says (Some a) (Some b) (Some c) None = record {
-  letters = refl;
-  first = refl;
-  second = refl;
-  third = refl;
-  fourth = refl;
-}
-says (Some a) (Some b) None (Some d) = record {
-  letters = refl;
-  first = refl;
-  second = refl;
-  third = refl;
-  fourth = refl;
-}
-says (Some a) (Some b) None None = record { letters = refl; first = refl; second = refl; third = refl; fourth = refl }
-says (Some a) None (Some c) (Some d) = record {
-  letters = refl;
-  first = refl;
-  second = refl;
-  third = refl;
-  fourth = refl;
-}
-says (Some a) None (Some c) None = record { letters = refl; first = refl; second = refl; third = refl; fourth = refl }
-says (Some a) None None (Some d) = record { letters = refl; first = refl; second = refl; third = refl; fourth = refl }
-says (Some a) None None None = record { letters = refl; first = refl; second = refl; third = refl; fourth = refl }
-says None (Some b) (Some c) (Some d) = record {
-  letters = refl;
-  first = refl;
-  second = refl;
-  third = refl;
-  fourth = refl;
-}
-says None (Some b) (Some c) None = record { letters = refl; first = refl; second = refl; third = refl; fourth = refl }
-says None (Some b) None (Some d) = record { letters = refl; first = refl; second = refl; third = refl; fourth = refl }
-says None (Some b) None None = record { letters = refl; first = refl; second = refl; third = refl; fourth = refl }
-says None None (Some c) (Some d) = record { letters = refl; first = refl; second = refl; third = refl; fourth = refl }
-says None None (Some c) None = record { letters = refl; first = refl; second = refl; third = refl; fourth = refl }
-says None None None (Some d) = record { letters = refl; first = refl; second = refl; third = refl; fourth = refl }
-says None None None None = record { letters = refl; first = refl; second = refl; third = refl; fourth = refl }
+says (Some a) (Some b) (Some c) (Some d) = (refl, refl, refl, refl, refl)
+says (Some a) (Some b) (Some c) None = (refl, refl, refl, refl, refl)
+says (Some a) (Some b) None (Some d) = (refl, refl, refl, refl, refl)
+says (Some a) (Some b) None None = (refl, refl, refl, refl, refl)
+says (Some a) None (Some c) (Some d) = (refl, refl, refl, refl, refl)
+says (Some a) None (Some c) None = (refl, refl, refl, refl, refl)
+says (Some a) None None (Some d) = (refl, refl, refl, refl, refl)
+says (Some a) None None None = (refl, refl, refl, refl, refl)
+says None (Some b) (Some c) (Some d) = (refl, refl, refl, refl, refl)
+says None (Some b) (Some c) None = (refl, refl, refl, refl, refl)
+says None (Some b) None (Some d) = (refl, refl, refl, refl, refl)
+says None (Some b) None None = (refl, refl, refl, refl, refl)
+says None None (Some c) (Some d) = (refl, refl, refl, refl, refl)
+says None None (Some c) None = (refl, refl, refl, refl, refl)
+says None None None (Some d) = (refl, refl, refl, refl, refl)
+says None None None None = (refl, refl, refl, refl, refl)
 
 -- an available right in normal chess has its rook on its corner
 on_corner : (men : Men) (c : Colour) (w : CastlingSide) (right : Option ℕ) → right_is_sound_at Normal men c w right
@@ -138,192 +100,99 @@ on_corner men c w (Some s) e =
     outer.0 in
     ap Some (sym (eqb-true s (home_square c (rook_file w)) inner.0))
 
--- what is written for the rights of a position is a text of rights, and denotes them
-record ReadBack (v : Variant) (men : Men) (r : Rights) : Type 0 where
-  letters : is_castling v (rights_text v r) ≡ true
-  rights : (c : Colour) (w : CastlingSide) → right_by_letters v men (rights_text v r) c w ≡ right_of r c w
-
-record AllStand (v : Variant) (men : Men) (r : Rights) : Type 0 where
-  a : right_is_sound_at v men White KingSide r.white.king_side ≡ true
-  b : right_is_sound_at v men White QueenSide r.white.queen_side ≡ true
-  c : right_is_sound_at v men Black KingSide r.black.king_side ≡ true
-  d : right_is_sound_at v men Black QueenSide r.black.queen_side ≡ true
-
-right_read : (men : Men) (r : Rights) → AllStand Normal men r → (c : Colour) (w : CastlingSide)
-    → right_by_letters Normal men (rights_text Normal r) c w ≡ right_of r c w
+right_read : (men : Men) (r : Rights) → Stand Normal men r → (c : Colour) (w : CastlingSide)
+    → right_named (rights_text Normal r) (side_letter c w) (home_square c (rook_file w)) ≡ right_of r c w
 right_read men r s White KingSide = ap (λ b. cond b (Some 7) None)
-    (says r.white.king_side r.white.queen_side r.black.king_side r.black.queen_side).first
-    ∙ on_corner men White KingSide r.white.king_side s.a
+    (says r.white.king_side r.white.queen_side r.black.king_side r.black.queen_side).1
+    ∙ on_corner men White KingSide r.white.king_side (s White KingSide)
 right_read men r s White QueenSide = ap (λ b. cond b (Some 0) None)
-    (says r.white.king_side r.white.queen_side r.black.king_side r.black.queen_side).second
-    ∙ on_corner men White QueenSide r.white.queen_side s.b
+    (says r.white.king_side r.white.queen_side r.black.king_side r.black.queen_side).2
+    ∙ on_corner men White QueenSide r.white.queen_side (s White QueenSide)
 right_read men r s Black KingSide = ap (λ b. cond b (Some 63) None)
-    (says r.white.king_side r.white.queen_side r.black.king_side r.black.queen_side).third
-    ∙ on_corner men Black KingSide r.black.king_side s.c
+    (says r.white.king_side r.white.queen_side r.black.king_side r.black.queen_side).3
+    ∙ on_corner men Black KingSide r.black.king_side (s Black KingSide)
 right_read men r s Black QueenSide = ap (λ b. cond b (Some 56) None)
-    (says r.white.king_side r.white.queen_side r.black.king_side r.black.queen_side).fourth
-    ∙ on_corner men Black QueenSide r.black.queen_side s.d
+    (says r.white.king_side r.white.queen_side r.black.king_side r.black.queen_side).4
+    ∙ on_corner men Black QueenSide r.black.queen_side (s Black QueenSide)
 
-are_read : (v : Variant) (men : Men) (r : Rights) → AllStand v men r → ReadBack v men r
+-- what is written for the rights of a position has the form of a castling field, and names them
+record ReadBack (v : Variant) (men : Men) (r : Rights) : Type 0 where
+  castling : is_castling v (rights_text v r) ≡ true
+  rights : (c : Colour) (w : CastlingSide) → right_in v men (rights_text v r) c w ≡ Some (right_of r c w)
+
+are_read : (v : Variant) (men : Men) (r : Rights) → Stand v men r → ReadBack v men r
 are_read Normal men r s =
     record {
-      letters = (says r.white.king_side r.white.queen_side r.black.king_side r.black.queen_side).letters;
-      rights = right_read men r s;
+      castling = (says r.white.king_side r.white.queen_side r.black.king_side r.black.queen_side).0;
+      rights = λ c w. ap Some (right_read men r s c w);
     }
-are_read Fischerandom men r s =
-    let stand : Stand men r = record { a = s.a; b = s.b; c = s.c; d = s.d } in
-    record {
-      letters = castling-denoted Fischerandom (rights_text Fischerandom r) (text_is_castling men r stand);
-      rights = λ c w. right_back men r c w stand;
-    }
+are_read Fischerandom men r s = record {
+  castling = text_is_castling men r s;
+  rights = λ c w. right_back men r c w s;
+}
 
 read_back : (p : Setup) → IsSound p → ReadBack p.variant p.men p.rights
 unfolding right_is_sound
-read_back p h = are_read p.variant p.men p.rights
-    (record { a = h.white_king_side; b = h.white_queen_side; c = h.black_king_side; d = h.black_queen_side })
-
-rights-text : (p : Setup) → IsSound p → rights_of p.variant p.men (rights_text p.variant p.rights) ≡ Some p.rights
-rights-text p h =
-    let back = read_back p h in
-    let t = back.rights in
-    rw (back.letters, t White KingSide, t White QueenSide, t Black KingSide, t Black QueenSide) refl
-
--- a target has rank 3 or 6
-target_rank : (men : Men) (c : Colour) (target : Option ℕ) → target_is_sound_at men c target ≡ true
-    → IfSome target (λ square. (square / 8 ≡ 2) ⊎ (square / 8 ≡ 5))
-target_rank men c None e = tt
-target_rank men c (Some t) e = by_colour c
-    (and_parts (eqb (t / 8) (crossed_rank (other c))) (is_none (man_at men t))
-    (and_parts (eqb (t / 8) (crossed_rank (other c)) && is_none (man_at men t))
-    (is_man (other c) Pawn (man_at men (forward (other c) t)))
-    (and_parts (eqb (t / 8) (crossed_rank (other c)) && is_none (man_at men t)
-    && is_man (other c) Pawn (man_at men (forward (other c) t))) (is_none (man_at men (forward c t)))
-    e).0).0).0
-  where
-    by_colour : (d : Colour) → eqb (t / 8) (crossed_rank (other d)) ≡ true → (t / 8 ≡ 2) ⊎ (t / 8 ≡ 5)
-    by_colour White h = inr (eqb-true (t / 8) 5 h)
-    by_colour Black h = inl (eqb-true (t / 8) 2 h)
-
-pub target_fits : (p : Setup) → IsSound p → IfSome p.target (λ square. (square / 8 ≡ 2) ⊎ (square / 8 ≡ 5))
-unfolding target_is_sound
-target_fits p h = target_rank p.men p.side p.target h.target
-
-pub side-text : (colour : Colour) → side_of (side_text colour) ≡ Some colour
-side-text White = refl
-side-text Black = refl
-
-target_read : (f r t : ℕ) → 97 ≤ f → f ≤ 104 → (r ≡ 51) ⊎ (r ≡ 54) → t ≡ 8 * (r - 49) + (f - 97)
-    → target_of (f ∷ r ∷ []) ≡ Some (Some t)
-target_read f r t low high rank is = by_rank rank
-  where
-    t0 : leb 97 f ≡ true
-    t0 = grind (arith, nat_tests)
-
-    t1 : leb f 104 ≡ true
-    t1 = grind (arith, nat_tests)
-
-    by_rank : (r ≡ 51) ⊎ (r ≡ 54) → target_of (f ∷ r ∷ []) ≡ Some (Some t)
-    by_rank (inl e) = rw (is, e, t0, t1) refl
-    by_rank (inr e) = rw (is, e, t0, t1) refl
-
-pub target-text : (target : Option ℕ) → IfSome target (λ square. (square / 8 ≡ 2) ⊎ (square / 8 ≡ 5))
-    → target_of (target_text target) ≡ Some target
-target-text None h = refl
-target-text (Some t) h = target_read (97 + t % 8) (49 + t / 8) t (omega arith) (omega arith) (ranks h) (omega arith)
-  where
-    ranks : (t / 8 ≡ 2) ⊎ (t / 8 ≡ 5) → (49 + t / 8 ≡ 51) ⊎ (49 + t / 8 ≡ 54)
-    ranks (inl e) = inl (omega arith)
-    ranks (inr e) = inr (omega arith)
+read_back p h = are_read p.variant p.men p.rights (λ c w. right_is_sound_of p h c w)
 
 -- ---- ranks
 
-run_read : (n : ℕ) (before : List (Option Man)) (rest : List ℕ) → n ≤ 8
-    → rank_after before (run_text n ++ rest) ≡ rank_after (before ++ replicate n None) rest
-run_read zero before rest h = ap (λ r. rank_after r rest) (sym (append-nil before))
-run_read (suc n) before rest h =
-    let k : (48 + suc n) - 48 ≡ suc n = omega arith in
-    ap (option_and_then (λ s. rank_after (before ++ s) rest))
-    (squares-digit (48 + suc n) (omega arith) (omega arith) ∙ ap (λ m. Some (replicate m None)) k)
+-- a run of empty squares in front of others
+run_denotes : (n : ℕ) (text : List ℕ) (squares : List (Option Man)) → n ≤ 8 → DenotesSquares text squares
+    → DenotesSquares (run_text n ++ text) (replicate n None ++ squares)
+run_denotes zero text squares h s = s
+run_denotes (suc n) text squares h s = (
+  replicate (suc n) None ∷ s.0,
+  (inr (suc n, omega arith, h, refl, refl), s.1),
+  ap (λ xs. replicate (suc n) None ++ xs) s.2,
+)
 
-row_read : (squares : List (Option Man)) (n : ℕ) (before : List (Option Man)) → n + length squares ≤ 8
-    → rank_after before (row_text n squares) ≡ rank_after ((before ++ replicate n None) ++ squares) []
-row_read [] n before h = ap (rank_after before) (sym (append-nil (run_text n))) ∙ run_read n before [] (omega arith)
-    ∙ ap (λ r. rank_after r []) (sym (append-nil (before ++ replicate n None)))
-row_read (None ∷ squares) n before h =
-    let k : suc n ≡ n + 1 = omega arith in
-    row_read squares (suc n) before (omega arith)
-    ∙ ap (λ r. rank_after r []) (ap (λ r. (before ++ r) ++ squares)
-    (ap (λ m. replicate m None) k ∙ replicate_next n None)
-    ∙ ap (λ r. r ++ squares) (sym (append_assoc before (replicate n None) (None ∷ [])))
-    ∙ append_assoc (before ++ replicate n None) (None ∷ []) squares)
-row_read (Some man ∷ squares) n before h =
-    run_read n before (letter man ∷ row_text 0 squares) (omega arith)
-    ∙ ap (option_and_then (λ s. rank_after ((before ++ replicate n None) ++ s) (row_text 0 squares)))
-    (squares-letter man)
-    ∙ row_read squares 0 ((before ++ replicate n None) ++ Some man ∷ []) (omega arith)
-    ∙ ap (λ r. rank_after r []) (ap (λ r. r ++ squares) (append-nil ((before ++ replicate n None) ++ Some man ∷ []))
-    ∙ append_assoc (before ++ replicate n None) (Some man ∷ []) squares)
+row_denotes : (squares : List (Option Man)) (n : ℕ) → n + length squares ≤ 8
+    → DenotesSquares (row_text n squares) (replicate n None ++ squares)
+row_denotes [] n h =
+    subst (λ text. DenotesSquares text (replicate n None ++ [])) (append-nil (run_text n))
+    (run_denotes n [] [] (omega arith) ([], tt, refl))
+row_denotes (None ∷ squares) n h =
+    subst (DenotesSquares (row_text (suc n) squares)) (moved n squares) (row_denotes squares (suc n) (omega arith))
+row_denotes (Some man ∷ squares) n h =
+    let s = row_denotes squares 0 (omega arith) in
+    run_denotes n (letter man ∷ row_text 0 squares) (Some man ∷ squares) (omega arith) (
+      (Some man ∷ []) ∷ s.0,
+      (inl (man, refl, refl), s.1),
+      ap (λ xs. Some man ∷ xs) s.2,
+    )
 
-pub rank-text : (squares : List (Option Man)) → length squares ≡ 8 → rank_of (fen_rank squares) ≡ Some squares
-rank-text squares eight = row_read squares 0 [] (omega arith) ∙ ap (λ n. cond (eqb n 8) (Some squares) None) eight
+pub rank_denotes : (row : List (Option Man)) → length row ≡ 8 → DenotesSquares (fen_rank row) row
+rank_denotes row h = subst (λ text. DenotesSquares text row) (row_is row 0) (row_denotes row 0 (omega arith))
 
 -- ---- placement
 
-run_from : (n : ℕ) (rest : List ℕ) → From 48 rest → From 48 (run_text n ++ rest)
-run_from zero rest p = p
-run_from (suc n) rest p = (omega arith, p)
+ranks_denote : (n : ℕ) (men : List (Option Man)) → 8 * n ≤ length men
+    → AllZip DenotesRank (map fen_rank (ranks_down n men)) (ranks_down n men)
+ranks_denote zero men h = tt
+ranks_denote (suc n) men h =
+    let row : List (Option Man) = take 8 (drop (8 * n) men) in
+    let eight : length row ≡ 8 = omega (arith, length-take 8 (drop (8 * n) men), length-drop (8 * n) men) in
+    ((rank_denotes row eight, eight), ranks_denote n men (omega arith))
 
-white_from : (kind : Kind) → 48 ≤ white_letter kind
-white_from Pawn = omega arith
-white_from Knight = omega arith
-white_from Bishop = omega arith
-white_from Rook = omega arith
-white_from Queen = omega arith
-white_from King = omega arith
-
-letter_from : (colour : Colour) (kind : Kind) → 48 ≤ letter_by colour kind
-letter_from White kind = white_from kind
-letter_from Black kind = omega (arith, white_from kind)
-
-row_from : (squares : List (Option Man)) (n : ℕ) → From 48 (row_text n squares)
-row_from [] n = subst (From 48) (append-nil (run_text n)) (run_from n [] tt)
-row_from (None ∷ squares) n = row_from squares (suc n)
-row_from (Some man ∷ squares) n = run_from n (letter man ∷ row_text 0 squares)
-    (letter_from man.colour man.kind, row_from squares 0)
-
-rows_from : (n : ℕ) (men : List (Option Man)) → AllByRecursion (From 48) (map fen_rank (ranks_down n men))
-rows_from zero men = tt
-rows_from (suc n) men = (row_from (take 8 (drop (8 * n) men)) 0, rows_from n men)
-
-ranks_read : (n : ℕ) (men above : List (Option Man)) → 8 * n ≤ length men
-    → squares_by_ranks above (map fen_rank (ranks_down n men)) ≡ Some (take (8 * n) men ++ above)
-ranks_read zero men above h = refl
-ranks_read (suc n) men above h =
-    let squares : List (Option Man) = take 8 (drop (8 * n) men) in
-    let eight : length squares ≡ 8 = omega (arith, length-take 8 (drop (8 * n) men), length-drop (8 * n) men) in
+stacked : (n : ℕ) (men : List (Option Man)) → from_top (ranks_down n men) ≡ take (8 * n) men
+stacked zero men = refl
+stacked (suc n) men =
     let at : 8 * suc n ≡ 8 * n + 8 = omega arith in
-    ap (option_and_then (λ r. squares_by_ranks (r ++ above) (map fen_rank (ranks_down n men))))
-    (rank-text squares eight) ∙ ranks_read n men (squares ++ above) (omega arith)
-    ∙ ap Some (sym (append_assoc (take (8 * n) men) squares above)
-    ∙ ap (λ r. r ++ above) (sym (ap (λ k. take k men) at ∙ take-add (8 * n) 8 men)))
+    ap (λ squares. squares ++ take 8 (drop (8 * n) men)) (stacked n men)
+    ∙ sym (ap (λ k. take k men) at ∙ take-add (8 * n) 8 men)
 
-pub placement-text : (men : List (Option Man)) → length men ≡ 64 → placement_of (placement_text men) ≡ Some men
+placement-text : (men : List (Option Man)) → length men ≡ 64 → placement_of (placement_text men) ≡ Some men
 unfolding placement_text
 placement-text men all =
     let parts : slice_split (λ c. eqb c 47) (ranks_text 8 men) ≡ map fen_rank (ranks_down 8 men) =
-    slice_split-join 47 (fen_rank (take 8 (drop 56 men))) (map fen_rank (ranks_down 7 men)) (rows_from 8 men) in
-    ap (λ ranks. cond (eqb (length ranks) 8) (squares_by_ranks [] ranks) None) parts ∙ ranks_read 8 men [] (omega arith)
-    ∙ ap Some (append-nil (take 64 men) ∙ take_all 64 men (omega arith))
-
-placement_from : (men : List (Option Man)) → From 33 (placement_text men)
-unfolding placement_text
-placement_from men = From-weaker 33 47 (ranks_text 8 men) (omega arith)
-    (From-join 47 47 (map fen_rank (ranks_down 8 men)) (omega arith)
-    (weaker (map fen_rank (ranks_down 8 men)) (rows_from 8 men)))
-  where
-    weaker : (texts : List (List ℕ)) → AllByRecursion (From 48) texts → AllByRecursion (From 47) texts
-    weaker [] p = tt
-    weaker (x ∷ xs) p = (From-weaker 47 48 x (omega arith) p.0, weaker xs p.1)
+    slice_split-join 47 (fen_rank (take 8 (drop 56 men))) (map fen_rank (ranks_down 7 men)) (rows_plain 8 men) in
+    placement-denoted (placement_text men) men (
+      ranks_down 8 men,
+      refl,
+      subst (λ texts. AllZip DenotesRank texts (ranks_down 8 men)) (sym parts) (ranks_denote 8 men (omega arith)),
+      sym (stacked 8 men ∙ take_all 64 men (omega arith)),
+    )
 
 placement_some : (men : List (Option Man)) → 0 < length (placement_text men)
 unfolding placement_text
@@ -331,55 +200,19 @@ placement_some men = omega (arith, length-append (fen_rank (take 8 (drop 56 men)
 
 -- ---- the fields
 
-side_from : (colour : Colour) → From 33 (side_text colour)
-side_from White = (omega arith, tt)
-side_from Black = (omega arith, tt)
-
 side_some : (colour : Colour) → 0 < length (side_text colour)
 side_some White = omega arith
 side_some Black = omega arith
 
-letter_high : (v : Variant) (c : Colour) (w : CastlingSide) (s : ℕ) → 33 ≤ right_letter v c w s
-letter_high Normal White KingSide s = omega arith
-letter_high Normal White QueenSide s = omega arith
-letter_high Normal Black KingSide s = omega arith
-letter_high Normal Black QueenSide s = omega arith
-letter_high Fischerandom White w s = omega arith
-letter_high Fischerandom Black w s = omega arith
-
-right_from : (v : Variant) (c : Colour) (w : CastlingSide) (right : Option ℕ) → From 33 (right_text v c w right)
-right_from v c w (Some s) = (letter_high v c w s, tt)
-right_from v c w None = tt
-
-dash_from : (text : List ℕ) → From 33 text → From 33 (or_dash text)
-dash_from [] p = (omega arith, tt)
-dash_from (c ∷ cs) p = p
-
 dash_some : (text : List ℕ) → 0 < length (or_dash text)
 dash_some [] = omega arith
 dash_some (c ∷ cs) = omega arith
-
-rights_from : (v : Variant) (r : Rights) → From 33 (rights_text v r)
-rights_from v r =
-    let a = right_text v White KingSide r.white.king_side in
-    let b = right_text v White QueenSide r.white.queen_side in
-    let c = right_text v Black KingSide r.black.king_side in
-    let d = right_text v Black QueenSide r.black.queen_side in
-    dash_from (((a ++ b) ++ c) ++ d)
-    (From-append 33 ((a ++ b) ++ c) d
-    (From-append 33 (a ++ b) c (From-append 33 a b (right_from v White KingSide r.white.king_side)
-    (right_from v White QueenSide r.white.queen_side)) (right_from v Black KingSide r.black.king_side))
-    (right_from v Black QueenSide r.black.queen_side))
 
 rights_some : (v : Variant) (r : Rights) → 0 < length (rights_text v r)
 rights_some v r =
     dash_some
     (((right_text v White KingSide r.white.king_side ++ right_text v White QueenSide r.white.queen_side)
     ++ right_text v Black KingSide r.black.king_side) ++ right_text v Black QueenSide r.black.queen_side)
-
-target_from : (target : Option ℕ) → From 33 (target_text target)
-target_from None = (omega arith, tt)
-target_from (Some t) = (omega arith, (omega arith, tt))
 
 target_some : (target : Option ℕ) → 0 < length (target_text target)
 target_some None = omega arith
@@ -388,26 +221,12 @@ target_some (Some t) = omega arith
 -- ---- the text
 
 -- the fields of a position's FEN
-pub fen_fields : (p : Setup) → IsSound p
-    → fields_of (fen p) ≡ placement_text p.men ∷ side_text p.side ∷ rights_text p.variant p.rights ∷ target_text
-    p.target ∷ decimal p.halfmove ∷ decimal p.fullmove ∷ []
+pub fen_fields : (p : Setup) → IsSound p → fields_of (fen p) ≡ fields p
 fen_fields p h =
     let halfmove : p.halfmove < 1000000 = let e = h.halfmove in grind (arith, nat_tests, e) in
     let fullmove : p.fullmove < 1000000 = let e = h.fullmove_high in grind (arith, nat_tests, e) in
-    fields_of-join (placement_text p.men) (side_text p.side ∷ rights_text p.variant p.rights ∷ target_text p.target ∷
-    decimal p.halfmove ∷ decimal p.fullmove ∷ []) (
-      placement_from p.men,
-      (
-        side_from p.side,
-        (
-          rights_from p.variant p.rights,
-          (
-            target_from p.target,
-            (decimal_from p.halfmove halfmove, (decimal_from p.fullmove fullmove, tt)),
-          ),
-        ),
-      ),
-    ) (
+    fields_of-join (placement_text p.men) (side_text p.side ∷ rights_text p.variant p.rights ∷ target_text p.target
+    ∷ decimal p.halfmove ∷ decimal p.fullmove ∷ []) (each_weaker 33 45 (fields p) (omega arith) (fields_plain p h)) (
       placement_some p.men,
       (
         side_some p.side,
@@ -424,18 +243,31 @@ fen_fields p h =
       ),
     )
 
-pub setup-fen : (p : Setup) → IsSound p → setup_in p.variant (fields_of (fen p)) ≡ Ok p
-setup-fen p h =
+pub written-fen : (p : Setup) → IsSound p → denoted_in p.variant (fields_of (fen p)) ≡ Ok p
+written-fen p h =
     let halfmove : p.halfmove < 1000000 = let e = h.halfmove in grind (arith, nat_tests, e) in
     let fullmove : p.fullmove < 1000000 = let e = h.fullmove_high in grind (arith, nat_tests, e) in
     let some : 0 < p.fullmove = let e = h.fullmove_low in grind (arith, nat_tests, e) in
     let counted : max p.fullmove 1 ≡ p.fullmove = omega (arith, some) in
-    ap (setup_in p.variant) (fen_fields p h) ∙ rw (
+    let back = read_back p h in
+    let t = back.rights in
+    ap (denoted_in p.variant) (fen_fields p h) ∙ rw (
       placement-text p.men h.board,
       side-text p.side,
-      rights-text p h,
-      target-text p.target (target_fits p h),
+      back.castling,
+      target-denoted (target_text p.target) p.target (refl, target_fits p h),
       number-decimal p.halfmove halfmove,
       number-decimal p.fullmove fullmove,
       counted,
+      t White KingSide,
+      t White QueenSide,
+      t Black KingSide,
+      t Black QueenSide,
     ) refl
+
+pub written-well : (p : Setup) → IsSound p → names_well p.variant p.men (castling_field (fen p)) ≡ true
+written-well p h =
+    let t = (read_back p h).rights in
+    let well : names_well p.variant p.men (rights_text p.variant p.rights) ≡ true =
+    rw (t White KingSide, t White QueenSide, t Black KingSide, t Black QueenSide) refl in
+    ap (λ fields. names_well p.variant p.men (get_or fields 2 [])) (fen_fields p h) ∙ well

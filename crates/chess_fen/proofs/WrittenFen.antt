@@ -4,11 +4,14 @@ use Rattle.chess_base.specs.declared.setup.Setup.{Setup}
 use Rattle.chess_base.specs.Sound.{IsSound}
 use Rattle.chess_fen.specs.Denotation.{DenotesFenAs}
 use Rattle.chess_fen.specs.Writing.{fen}
-use Rattle.chess_fen.proofs.RoundTrip.{setup-fen}
-use Rattle.chess_fen.proofs.DenotedFen.{TextOutcome, text_outcome, setup-denoted}
+use Rattle.chess_fen.proofs.RoundTrip.{written-fen, written-well}
+use Rattle.chess_fen.proofs.DenotedFen.{TextOutcome, text_outcome, text-denoted}
 
 pub fen-denoted : (p : Setup) → IsSound p → DenotesFenAs p.variant (fen p) p
-fen-denoted p h = subst (TextOutcome p.variant (fen p)) (setup-fen p h) (text_outcome p.variant (fen p))
+fen-denoted p h = (
+  subst (TextOutcome p.variant (fen p)) (written-fen p h) (text_outcome p.variant (fen p)),
+  written-well p h,
+)
 
 pub no_other : (p q : Setup) → IsSound p → DenotesFenAs p.variant (fen p) q → q ≡ p
-no_other p q h s = let e : Ok q ≡ Ok p = sym (setup-denoted p.variant (fen p) q s) ∙ setup-fen p h in cc
+no_other p q h s = let e : Ok q ≡ Ok p = sym (text-denoted p.variant (fen p) q s.0) ∙ written-fen p h in cc

@@ -1,17 +1,18 @@
 -- What the fault of a text says of the text, as a relation: a wrong number of fields; the first field that denotes
--- nothing; or, of what is denoted, the first condition of soundness that fails.
-use Rattle.std.specs.Prelude.{◌≡◌, ◌≢◌, ◌⊎◌, ℕ, List, ◌∷◌, length, Option, Some}
+-- nothing; or, of what is denoted, the first condition that fails.
+use Rattle.std.specs.Prelude.{◌≡◌, ◌≢◌, ◌⊎◌, ℕ, false, List, ◌∷◌, length, Option, Some, IsTrue}
 use Rattle.chess_base.specs.declared.man.Colour.{Colour}
 use Rattle.chess_base.specs.declared.man.Variant.{Variant}
 use Rattle.chess_base.specs.declared.man.Variant.TheVariants.{Normal}
 use Rattle.chess_base.specs.declared.setup.Setup.{Setup}
 use Rattle.chess_base.specs.Men.{Men}
-use Rattle.chess_base.specs.Faults.{setup_fault}
+use Rattle.chess_base.specs.Faults.{first_failing}
 use Rattle.chess_base.specs.declared.fen_fault.FenFault.{FenFault}
 use Rattle.chess_base.specs.declared.fen_fault.FenFault.TheVariants.{Fields, Placement, Side, Castling, EnPassant, Counters}
-use Rattle.chess_fen.specs.Texts.{fields_of}
+use Rattle.chess_fen.specs.Texts.{is_castling, fields_of}
 use Rattle.chess_fen.specs.Writing.{side_text}
-use Rattle.chess_fen.specs.Denotation.{DenotesPlacement, IsCastling, DenotesTarget, DenotesCounters, DenotesFenAs}
+use Rattle.chess_fen.specs.Reading.{castling_field, conditions_of}
+use Rattle.chess_fen.specs.Denotation.{DenotesPlacement, DenotesTarget, DenotesCounters, DenotesText}
 
 -- the text, a FEN's first field, denotes the pieces of a board
 abbrev pub DenotesSomeMen : List ℕ → Type 0
@@ -31,10 +32,10 @@ DenotesSomeTarget text = (target : Option ℕ) × DenotesTarget text target
 abbrev pub IsFieldFault : Variant → List ℕ → List ℕ → List ℕ → List ℕ → List (List ℕ) → FenFault → Type 0
 IsFieldFault v a b c d more Placement = (men : Men) → DenotesPlacement a men → ⊥
 IsFieldFault v a b c d more Side = DenotesSomeMen a × ((colour : Colour) → b ≢ side_text colour)
-IsFieldFault v a b c d more Castling = DenotesSomeMen a × DenotesSomeSide b × (IsCastling v c → ⊥)
-IsFieldFault v a b c d more EnPassant = DenotesSomeMen a × DenotesSomeSide b × IsCastling v c
+IsFieldFault v a b c d more Castling = DenotesSomeMen a × DenotesSomeSide b × (is_castling v c ≡ false)
+IsFieldFault v a b c d more EnPassant = DenotesSomeMen a × DenotesSomeSide b × IsTrue (is_castling v c)
     × ((target : Option ℕ) → DenotesTarget d target → ⊥)
-IsFieldFault v a b c d more Counters = DenotesSomeMen a × DenotesSomeSide b × IsCastling v c × DenotesSomeTarget d
+IsFieldFault v a b c d more Counters = DenotesSomeMen a × DenotesSomeSide b × IsTrue (is_castling v c) × DenotesSomeTarget d
     × ((halfmove fullmove : ℕ) → DenotesCounters more halfmove fullmove → ⊥)
 IsFieldFault v a b c d more f = ⊥
 
@@ -50,13 +51,14 @@ IsMalformed v text f =
     × ((length more ≡ 0) ⊎ (length more ≡ 2))
     × IsFieldFault v a b c d more f
 
--- each field of the text denotes something, but together they give an unsound position, and f is the first condition of
--- soundness that it fails
+-- each field of the text denotes something, but together they give an unsound position, or a castling right is named
+-- wrongly: f reports the first condition that fails
 abbrev pub IsUnsound : Variant → List ℕ → FenFault → Type 0
-IsUnsound v text f = (p : Setup) × DenotesFenAs v text p × (setup_fault p ≡ Some f)
+IsUnsound v text f = (p : Setup) × DenotesText v text p
+    × (first_failing (conditions_of (castling_field text) p) ≡ Some f)
 
 -- f is the fault of a text that is read as a FEN of variant v: a wrong number of fields, or else a field that denotes
--- nothing, or else an unsound position
+-- nothing, or else a condition that fails
 abbrev pub IsFaultAs : Variant → List ℕ → FenFault → Type 0
 IsFaultAs v text f = HasWrongFieldCount text f ⊎ IsMalformed v text f ⊎ IsUnsound v text f
 

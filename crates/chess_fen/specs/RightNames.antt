@@ -1,18 +1,19 @@
 -- Which rights the letters of a FEN name: in normal chess K, Q, k and q (PGN standard of 1994, section 16.1.3.3); in
--- Chess960 a rook by its file (Shredder-FEN), or the outermost one by its side (X-FEN). A text that names a right
--- wrongly denotes one that is not available.
-use Rattle.std.specs.Prelude.{ℕ, ◌+◌, ◌-◌, ◌==◌, nat_lt, Bool, false, not, ◌&&◌, List, [], ◌∷◌, map, find, Option, Some, None, unwrap_or, if◌then◌else◌}
-use Rattle.std.specs.List.{fold}
+-- Chess960 a rook by its file (Shredder-FEN), or the outermost one by its side (X-FEN).
+use Rattle.std.specs.Prelude.{ℕ, ◌+◌, ◌-◌, ◌==◌, nat_lt, Bool, false, not, ◌&&◌, ◌||◌, List, [], ◌∷◌, map, find, Option, Some, None, is_some, if◌then◌else◌, option_and_then}
+use Rattle.std.specs.List.{list_all, filter}
 use Rattle.std.specs.Option.{option_map_or}
 use Rattle.chess_base.specs.declared.man.Colour.{Colour}
+use Rattle.chess_base.specs.declared.man.Colour.TheVariants.{White, Black}
 use Rattle.chess_base.specs.declared.man.CastlingSide.{CastlingSide}
 use Rattle.chess_base.specs.declared.man.CastlingSide.TheVariants.{KingSide, QueenSide}
 use Rattle.chess_base.specs.declared.man.Kind.TheVariants.{King, Queen, Rook}
+use Rattle.chess_base.specs.declared.man.Rights.{Rights}
 use Rattle.chess_base.specs.declared.man.Variant.{Variant}
 use Rattle.chess_base.specs.declared.man.Variant.TheVariants.{Normal, Fischerandom}
 use Rattle.chess_base.specs.Squares.{file}
 use Rattle.chess_base.specs.Men.{Men, man_at, is_man}
-use Rattle.chess_base.specs.Castling.{home_square, king_square, rook_file}
+use Rattle.chess_base.specs.Castling.{home_square, king_square, rook_file, rights_by}
 use Rattle.chess_base.specs.Letters.{letter_by}
 use Rattle.chess_fen.specs.Texts.{occurs, first_letter, names_file}
 
@@ -37,21 +38,11 @@ right_named letters letter corner = if occurs letter letters then Some corner el
 
 -- ---- Chess960
 
--- a square off the first ranks (a4), taken as the rook's square of a right that is named wrongly: the position is then
--- unsound, so the text is refused
-abbrev pub nowhere : ℕ
-nowhere = 24
-
 -- the squares of colour c's first rank from the board's edge on that side to the other: for White's king side from h1
 -- to a1
 abbrev pub from_edge : Colour → CastlingSide → List ℕ
 from_edge c KingSide = map (home_square c) (7 ∷ 6 ∷ 5 ∷ 4 ∷ 3 ∷ 2 ∷ 1 ∷ 0 ∷ [])
 from_edge c QueenSide = map (home_square c) (0 ∷ 1 ∷ 2 ∷ 3 ∷ 4 ∷ 5 ∷ 6 ∷ 7 ∷ [])
-
--- the square of colour c's rook on its first rank that is nearest to the edge on side w, even if it is not on that side
--- of the king; `nowhere` if there is no rook
-unfoldable pub outer_rook : Men → Colour → CastlingSide → ℕ
-outer_rook men c w = unwrap_or (find (λ s. is_man c Rook (man_at men s)) (from_edge c w)) nowhere
 
 -- square s is nearer to the a-file than the king, both on one rank; false if there is no king (`None`)
 abbrev pub is_left_of : Option ℕ → ℕ → Bool
@@ -63,26 +54,40 @@ abbrev pub is_towards : CastlingSide → Option ℕ → ℕ → Bool
 is_towards KingSide king s = not (is_left_of king s)
 is_towards QueenSide king s = is_left_of king s
 
--- Chess960: the rook's square by which this letter names colour c's right on side w, or none if it names another right.
--- K, Q, k and q name the outermost rook (X-FEN), a file's letter names that file, if it is on side w of the king
-abbrev pub named_square : Men → Colour → CastlingSide → ℕ → Option ℕ
-named_square men c w letter =
-    let s = home_square c (letter - first_letter c) in
-    if letter == side_letter c w then Some (outer_rook men c w)
-    else if names_file c letter && is_towards w (king_square men c) s then Some s
-    else None
+-- the letter names colour c's right on side w: it is that side's (K, Q, k or q), or that of a file on that side of the
+-- king
+abbrev pub names_right : Men → Colour → CastlingSide → ℕ → Bool
+names_right men c w letter = letter == side_letter c w
+    || names_file c letter && is_towards w (king_square men c) (home_square c (letter - first_letter c))
 
--- of the rook's squares that two letters name for one right: the one that is named, if only one is; none if none is;
--- `nowhere` (then the position is unsound) if both are
-abbrev pub one_or_nowhere : Option ℕ → Option ℕ → Option ℕ
-one_or_nowhere None o = o
-one_or_nowhere (Some s) None = Some s
-one_or_nowhere (Some s) (Some t) = Some nowhere
+-- the square of the rook that such a letter names: by the side's letter that of the rook nearest to the edge on that
+-- side, if there is a rook on the first rank; by a file's letter the square on that file
+abbrev pub rook_named : Men → Colour → CastlingSide → ℕ → Option ℕ
+rook_named men c w letter =
+    if letter == side_letter c w then find (λ s. is_man c Rook (man_at men s)) (from_edge c w)
+    else Some (home_square c (letter - first_letter c))
+
+-- a right, as its rook's square, by the rooks that the letters for it name: there is no right (`Some None`) if there
+-- are no such letters. `None` if it is named wrongly: by two letters, or by one that names no rook
+abbrev pub right_by : List (Option ℕ) → Option (Option ℕ)
+right_by [] = Some None
+right_by (Some s ∷ []) = Some (Some s)
+right_by _ = None
 
 -- ---- both
 
--- colour c's castling right on side w that a castling field's letters name, as the square of its rook; none if they
--- don't name it
-abbrev pub right_by_letters : Variant → Men → List ℕ → Colour → CastlingSide → Option ℕ
-right_by_letters Normal men letters c w = right_named letters (side_letter c w) (home_square c (rook_file w))
-right_by_letters Fischerandom men letters c w = fold one_or_nowhere None (map (named_square men c w) letters)
+-- colour c's castling right on side w by the letters of a castling field: its rook's square, or that there is none;
+-- `None` if the letters name it wrongly
+abbrev pub right_in : Variant → Men → List ℕ → Colour → CastlingSide → Option (Option ℕ)
+right_in Normal men letters c w = Some (right_named letters (side_letter c w) (home_square c (rook_file w)))
+right_in Fischerandom men letters c w = right_by (map (rook_named men c w) (filter (names_right men c w) letters))
+
+-- whether each of the four rights is named rightly
+abbrev pub names_well : Variant → Men → List ℕ → Bool
+names_well v men letters = list_all
+    (λ c. is_some (right_in v men letters c KingSide) && is_some (right_in v men letters c QueenSide))
+    (White ∷ Black ∷ [])
+
+-- the rights that the letters name, without those that are named wrongly
+abbrev pub rights_in : Variant → Men → List ℕ → Rights
+rights_in v men letters = rights_by (λ c w. option_and_then (λ right. right) (right_in v men letters c w))

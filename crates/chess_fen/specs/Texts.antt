@@ -1,23 +1,24 @@
 -- What the fields of a FEN stand for (PGN standard of 1994, section 16.1.3). This project's additions to the standard:
 -- several spaces between fields and at both ends, digits of empty squares one after the other, letters of rights in any
 -- order, leading zeros.
-use Rattle.std.specs.Prelude.{ℕ, codes, count_by, ◌+◌, ◌-◌, ◌*◌, Bool, ◌&&◌, ◌||◌, List, [], ◌∷◌, ◌++◌, length, replicate, Option, Some, None, nat_lt, nat_le, ◌==◌, if◌then◌else◌, option_and_then}
-use Rattle.std.specs.List.{slice_split, list_all, list_any, filter}
+use Rattle.std.specs.Prelude.{ℕ, codes, count_by, ◌+◌, ◌-◌, ◌*◌, Bool, ◌&&◌, ◌||◌, List, [], ◌∷◌, ◌++◌, length, map, replicate, Option, Some, None, nat_lt, nat_le, ◌==◌, if◌then◌else◌, option_and_then}
+use Rattle.std.specs.List.{slice_split, list_all, list_any, flat_map, filter}
 use Rattle.std.specs.Option.{option_map}
 use Rattle.std.specs.Str.{bytes_eq}
+use Rattle.std.specs.Str.Parse.{digits_value}
 use Rattle.chess_base.specs.declared.man.Variant.{Variant}
 use Rattle.chess_base.specs.declared.man.Variant.TheVariants.{Normal, Fischerandom}
 use Rattle.chess_base.specs.declared.man.Colour.{Colour}
 use Rattle.chess_base.specs.declared.man.Colour.TheVariants.{White, Black}
 use Rattle.chess_base.specs.declared.man.Man.{Man}
-use Rattle.chess_base.specs.Letters.{byte, space, man_with_letter}
-use Rattle.text_lines.specs.Words.{short_number}
+use Rattle.chess_base.specs.Letters.{byte, space, is_digit, man_with_letter}
 
 -- ---- numbers
 
--- a FEN's counter: the number that one to six digits denote
+-- a FEN's counter: the number that one to six digits denote; none for any other text
 abbrev pub number_of : List ℕ → Option ℕ
-number_of text = short_number 6 text
+number_of text = if nat_lt 0 (length text) && nat_le (length text) 6 && list_all is_digit text
+    then Some (digits_value 10 text) else None
 
 -- ---- ranks
 
@@ -27,34 +28,29 @@ abbrev pub squares_of : ℕ → Option (List (Option Man))
 squares_of c = if nat_le (byte "1") c && nat_le c (byte "8") then Some (replicate (c - byte "0") None) else option_map
     (λ m. Some m ∷ []) (man_with_letter c)
 
--- the eight squares of a rank: `row`, those read so far, and then those that the rest of its text denotes; none if a
--- byte denotes nothing, or if they are not eight
-abbrev pub rank_after : List (Option Man) → List ℕ → Option (List (Option Man))
-rank_after row [] = if length row == 8 then Some row else None
-rank_after row (c ∷ cs) = option_and_then (λ squares. rank_after (row ++ squares) cs) (squares_of c)
+-- all these values, if none of them is missing
+abbrev pub all_there : {A : Type 0} → List (Option A) → Option (List A)
+all_there [] = Some []
+all_there (o ∷ os) = option_and_then (λ x. option_map (λ xs. x ∷ xs) (all_there os)) o
 
--- the eight squares that a rank's text denotes, from file a to file h, as by "4P3"; none if it denotes none
+-- the eight squares that a rank's text denotes, from file a to file h, as by "4P3": those of its bytes, one after
+-- another; none if a byte denotes nothing, or if they are not eight
 abbrev pub rank_of : List ℕ → Option (List (Option Man))
-rank_of text = rank_after [] text
+rank_of text = option_and_then (λ row. if length row == 8 then Some row else None)
+    (option_map (λ parts. flat_map (λ squares. squares) parts) (all_there (map squares_of text)))
 
 -- ---- placement
 
--- the slash, which is between the ranks of a placement
-abbrev pub stroke : ℕ
-stroke = byte "/"
-
--- squares from a1 on, by the texts of ranks, the highest first: each rank's squares are put in front of `above`, those
--- of the higher ranks read so far; none if a text is not that of a rank
-abbrev pub squares_by_ranks : List (Option Man) → List (List ℕ) → Option (List (Option Man))
-squares_by_ranks above [] = Some above
-squares_by_ranks above (text ∷ texts) = option_and_then (λ row. squares_by_ranks (row ++ above) texts) (rank_of text)
+-- the squares of ranks that are given from the highest down, as one list from the lowest up (a1 to h8)
+abbrev pub from_top : List (List (Option Man)) → List (Option Man)
+from_top [] = []
+from_top (row ∷ rows) = from_top rows ++ row
 
 -- the pieces that a FEN's first field denotes: eight ranks, rank 8 first, with a slash between them; none for any other
 -- text
 abbrev pub placement_of : List ℕ → Option (List (Option Man))
-placement_of text = let ranks = slice_split (λ c. c == stroke) text in if length ranks == 8
-    then squares_by_ranks [] ranks else
-    None
+placement_of text = let ranks = slice_split (λ c. c == byte "/") text in
+    if length ranks == 8 then option_map from_top (all_there (map rank_of ranks)) else None
 
 -- ---- castling
 
@@ -80,14 +76,10 @@ unfoldable pub may_name_right : Variant → ℕ → Bool
 may_name_right Normal letter = occurs letter (codes "KQkq")
 may_name_right Fischerandom letter = occurs letter (codes "KQkq") || names_file White letter || names_file Black letter
 
--- the byte c may name a castling right, and occurs once in the text
-abbrev pub names_once : Variant → List ℕ → ℕ → Bool
-names_once v text c = may_name_right v c && (times c text == 1)
-
 -- the text is one to four letters, each of which may name a right and occurs once
 abbrev pub are_right_letters : Variant → List ℕ → Bool
 are_right_letters v text =
-    nat_lt 0 (length text) && nat_le (length text) 4 && list_all (names_once v text) text
+    nat_lt 0 (length text) && nat_le (length text) 4 && list_all (λ c. may_name_right v c && (times c text == 1)) text
 
 -- the text has the form of a castling field: a dash, or letters that name rights
 abbrev pub is_castling : Variant → List ℕ → Bool

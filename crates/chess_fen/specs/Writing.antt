@@ -1,6 +1,6 @@
 -- The one FEN that is written for a position (PGN standard of 1994, section 16.1). The target is written as the
 -- position holds it, whether or not it can be captured on; numbers have no leading zeros.
-use Rattle.std.specs.Prelude.{ℕ, Bool, zero, suc, ◌+◌, ◌*◌, List, [], ◌∷◌, ◌++◌, map, take, drop, Option, Some, None, decimal, codes}
+use Rattle.std.specs.Prelude.{ℕ, Bool, suc, ◌*◌, List, [], ◌∷◌, ◌++◌, map, take, drop, Option, Some, None, decimal, codes}
 use Rattle.std.specs.List.{join_with_byte}
 use Rattle.std.specs.Option.{option_map_or}
 use Rattle.chess_base.specs.declared.man.Man.{Man}
@@ -12,35 +12,27 @@ use Rattle.chess_base.specs.declared.man.CastlingSide.{CastlingSide}
 use Rattle.chess_base.specs.declared.man.Rights.{Rights}
 use Rattle.chess_fen.specs.RightNames.{right_letter}
 use Rattle.chess_base.specs.declared.setup.Setup.{Setup}
-use Rattle.chess_fen.specs.Texts.{stroke}
 use Rattle.chess_base.specs.Letters.{byte, space, square_text, letter}
 use Rattle.chess_base.specs.Initial.{initial_setup}
 use Rattle.std.specs.Str.{bytes_eq}
 
--- a run of n empty squares as text: the digit n, or nothing for n = 0
-abbrev pub run_text : ℕ → List ℕ
-run_text zero = []
-run_text (suc n) = (byte "0" + suc n) ∷ []
+-- the text with its first byte raised by one: "3p" for "2p"
+abbrev pub raised : List ℕ → List ℕ
+raised [] = []
+raised (c ∷ cs) = suc c ∷ cs
 
--- the text of the rest of a rank, after `empty` empty squares that are not yet written: with 2 of them before a white
--- pawn it begins "2P"
-abbrev pub row_text : ℕ → List (Option Man) → List ℕ
-row_text empty [] = run_text empty
-row_text empty (None ∷ row) = row_text (suc empty) row
-row_text empty (Some man ∷ row) = run_text empty ++ letter man ∷ row_text 0 row
-
--- the text of a rank's eight squares, from file a to file h, as "4P3"
+-- the text of squares of one rank, from file a on, as "4P3": a piece's letter for each piece, and for empty squares side
+-- by side the digit that counts them
 abbrev pub fen_rank : List (Option Man) → List ℕ
-fen_rank row = row_text 0 row
-
--- the n lowest ranks of the board (the first argument is n), each as its eight squares, the highest of them first
-abbrev pub ranks_down : ℕ → List (Option Man) → List (List (Option Man))
-ranks_down zero men = []
-ranks_down (suc rank) men = take 8 (drop (8 * rank) men) ∷ ranks_down rank men
+fen_rank [] = []
+fen_rank (Some man ∷ row) = letter man ∷ fen_rank row
+fen_rank (None ∷ None ∷ row) = raised (fen_rank (None ∷ row))
+fen_rank (None ∷ row) = byte "1" ∷ fen_rank row
 
 -- a FEN's first field: the text of all eight ranks, rank 8 first, with a slash between them
 unfoldable pub placement_text : List (Option Man) → List ℕ
-placement_text men = join_with_byte stroke (map fen_rank (ranks_down 8 men))
+placement_text men = join_with_byte (byte "/")
+    (map (λ rank. fen_rank (take 8 (drop (8 * rank) men))) (7 ∷ 6 ∷ 5 ∷ 4 ∷ 3 ∷ 2 ∷ 1 ∷ 0 ∷ []))
 
 -- a FEN's second field: w or b for the side on move
 abbrev pub side_text : Colour → List ℕ
@@ -50,8 +42,7 @@ side_text Black = codes "b"
 -- the letter of a castling right, given as its rook's square: K, Q, k or q, in Chess960 that of the rook's file
 -- (Shredder-FEN); nothing if there is no right
 abbrev pub right_text : Variant → Colour → CastlingSide → Option ℕ → List ℕ
-right_text v c w None = []
-right_text v c w (Some s) = right_letter v c w s ∷ []
+right_text v c w right = option_map_or (λ s. right_letter v c w s ∷ []) right []
 
 -- the text, or a dash if it is empty
 abbrev pub or_dash : List ℕ → List ℕ

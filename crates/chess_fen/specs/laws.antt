@@ -2,6 +2,5 @@
 pub mod NamedRooks
 pub mod Laws
 pub mod Normal
-pub mod FenTexts
 pub mod Examples
 pub mod RankTexts

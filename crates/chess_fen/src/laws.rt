@@ -1,23 +1,18 @@
 //! Laws of FEN. A caller learns one by calling its function, which does nothing.
 
-ghost use Rattle.std.specs.Prelude.{◌≡◌, ◌∷◌, ◌++◌, ℕ, List, Option, Some, None, Ok, true, codes, length, replicate, ◌↔◌};
-ghost use Rattle.chess_base.specs.declared.man.CastlingSide.{CastlingSide};
+ghost use Rattle.std.specs.Prelude.{◌≡◌, ◌∷◌, ◌++◌, ℕ, List, Option, Some, None, Ok, codes, length, replicate};
 ghost use Rattle.chess_base.specs.declared.man.CastlingSide.TheVariants.{KingSide, QueenSide};
-ghost use Rattle.chess_base.specs.declared.man.Colour.{Colour};
 ghost use Rattle.chess_base.specs.declared.man.Colour.TheVariants.{White, Black};
 ghost use Rattle.chess_base.specs.declared.man.Kind.TheVariants.{Pawn};
 ghost use Rattle.chess_base.specs.declared.man.Man.{Man};
-ghost use Rattle.chess_base.specs.declared.man.Variant.{Variant};
 ghost use Rattle.chess_base.specs.declared.man.Variant.TheVariants.{Normal, Fischerandom};
 ghost use Rattle.chess_base.specs.declared.setup.Setup.{Setup};
-ghost use Rattle.chess_base.specs.Castling.{right_is_sound, right_of};
 ghost use Rattle.chess_base.specs.Initial.{man_of};
-ghost use Rattle.chess_fen.specs.Reading.{fen_reading_as};
-ghost use Rattle.chess_fen.specs.RightNames.{right_by_letters};
+ghost use Rattle.chess_fen.specs.Reading.{denoted_in, fen_reading_as};
+ghost use Rattle.chess_fen.specs.RightNames.{right_in};
 ghost use Rattle.chess_fen.specs.Texts.{fields_of};
 ghost use Rattle.chess_fen.specs.Writing.{fen, fen_rank};
-ghost use Rattle.chess_fen.specs.laws.Examples.{kings_and_pawn_denoted, three_rooks};
-ghost use Rattle.chess_fen.specs.laws.FenTexts.{denoted_in, fen_denoted_as, right_in};
+ghost use Rattle.chess_fen.specs.laws.Examples.{kings_and_pawn, three_rooks};
 ghost use Rattle.chess_fen.specs.laws.Normal.{normal_fen, normal_fen_reading};
 ghost use Rattle.chess_fen.specs.laws.Laws.{WrittenIsDenoted, WrittenDenotesNoOther, WrittenIsReadBack, RightsAreNamed};
 ghost use Rattle.chess_fen.specs.laws.RankTexts.{IsRankText};
@@ -45,13 +40,6 @@ pub fn normal_is_kept()
     ensures written { (p : Setup) → p.variant ≡ Normal → fen p ≡ normal_fen p }
 {}
 
-/// A law: the contract says it, and the function does nothing. Each text is read as the position or fault that its
-/// fields denote, defined with whole lists and with no reader: a rank by the squares of its bytes, a right of Chess960
-/// by the rooks that its letters name.
-pub fn fens_are_read_as_denoted()
-    ensures { (v : Variant) → (text : List ℕ) → fen_denoted_as v text ≡ fen_reading_as v text }
-{}
-
 /// A law: the contract says it, and the function does nothing. The text that is written for a rank denotes its squares
 /// and has no two digits side by side, and no other text does so.
 pub fn a_rank_has_one_text()
@@ -59,20 +47,11 @@ pub fn a_rank_has_one_text()
     ensures no_other { (row : List (Option Man)) → (text : List ℕ) → IsRankText row text → text ≡ fen_rank row }
 {}
 
-/// A law: the contract says it, and the function does nothing. A right of a sound position of Chess960 is the one that
-/// is read exactly if the letters name it, where letters that name a right wrongly name none.
-pub fn sound_rights_are_named_alike()
-    ensures { (p : Setup) → (text : List ℕ) → (c : Colour) → (w : CastlingSide) → p.variant ≡ Fischerandom
-        → right_is_sound p c w ≡ true
-        → ((right_of p.rights c w ≡ right_by_letters Fischerandom p.men text c w)
-        ↔ (right_in Fischerandom p.men text c w ≡ Some (right_of p.rights c w))) }
-{}
-
 /// A law: the contract says it, and the function does nothing. Small texts worked out: what six fields denote; a rank's
 /// text; and how letters name rights of Chess960, where White's king is on c1 and White's rooks are on b1, f1 and h1.
 pub fn fens_are_worked_out()
     ensures fields { denoted_in Normal (fields_of (codes "4k3/8/8/8/8/8/4P3/4K3 b - - 5 39"))
-        ≡ Ok kings_and_pawn_denoted }
+        ≡ Ok kings_and_pawn }
     ensures rank { IsRankText (replicate 4 None ++ (man_of White Pawn ∷ replicate 3 None)) (codes "4P3") }
     // The outermost rook on the king's side is on h1, the only one on the queen's side on b1.
     ensures side { right_in Fischerandom three_rooks (codes "KQ") White KingSide ≡ Some (Some 7) }

@@ -30,8 +30,7 @@ mod writing;
 pub use fen::Fen;
 pub use initial::is_initial;
 pub use laws::{
-    a_rank_has_one_text, fens_are_read_as_denoted, fens_are_worked_out, normal_is_kept,
-    rights_are_named, sound_rights_are_named_alike, written_is_denoted,
+    a_rank_has_one_text, fens_are_worked_out, normal_is_kept, rights_are_named, written_is_denoted,
 };
 pub use reading::{read_fen, read_fen_as};
 pub use writing::{FenText, write_fen};

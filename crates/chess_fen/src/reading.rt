@@ -7,7 +7,8 @@ ghost use Rattle.chess_base.specs.Sound.{IsSound};
 ghost use Rattle.chess_base.specs.declared.fen_fault.FenFault.{FenFault};
 ghost use Rattle.chess_fen.specs.FenFaults.{IsFault, IsFaultAs};
 ghost use Rattle.chess_fen.specs.Texts.{placement_of, fields_of};
-ghost use Rattle.chess_fen.specs.Reading.{side_of, rights_of, setup_with, setup_in, fen_reading, fen_reading_as};
+ghost use Rattle.chess_fen.specs.Reading.{side_of, fen_reading, fen_reading_as};
+ghost use Rattle.chess_fen.specs.ties.Reader.{rights_of, setup_with, setup_in};
 ghost use Rattle.chess_fen.specs.Denotation.{DenotesFen, DenotesFenAs};
 
 use crate::castling_rights::{are_right_letters, rights_by_letters};

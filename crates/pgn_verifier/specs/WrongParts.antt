@@ -6,7 +6,7 @@ use Rattle.std.specs.Option.{option_map_or}
 use Rattle.chess_base.specs.Letters.{byte, space}
 use Rattle.chess_base.specs.declared.fen_fault.FenFault.{FenFault}
 use Rattle.chess_base.specs.declared.fen_fault.FenFault.TheVariants.{Side, Castling, EnPassant, Counters}
-use Rattle.chess_fen.specs.Texts.{number_of}
+use Rattle.text_lines.specs.Words.{short_number}
 use Rattle.chess_pgn.specs.Tokens.{is_word_byte, after_gap, name_at, after_next, string_at}
 
 -- ---- the fields of a FEN
@@ -38,7 +38,7 @@ abbrev pub field_number : FenFault → List ℕ → ℕ
 field_number Side fen = 1
 field_number Castling fen = 2
 field_number EnPassant fen = 3
-field_number Counters fen = if is_some (number_of (field_at 4 fen)) then 5 else 4
+field_number Counters fen = if is_some (short_number 6 (field_at 4 fen)) then 5 else 4
 field_number _ fen = 0
 
 -- the field that a FEN's fault is about

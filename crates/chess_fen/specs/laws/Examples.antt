@@ -1,31 +1,29 @@
 -- Small positions by which the law `fens_are_worked_out` shows what the definitions of FEN mean.
-use Rattle.std.specs.Prelude.{◌∷◌, ◌++◌, replicate, None, true}
+use Rattle.std.specs.Prelude.{◌∷◌, ◌++◌, replicate, None}
 use Rattle.chess_base.specs.declared.man.Colour.TheVariants.{White, Black}
 use Rattle.chess_base.specs.declared.man.Kind.TheVariants.{Pawn, Rook, King}
 use Rattle.chess_base.specs.declared.man.Variant.TheVariants.{Normal}
+use Rattle.chess_base.specs.declared.setup.Setup.{Setup}
 use Rattle.chess_base.specs.Castling.{rights_by}
 use Rattle.chess_base.specs.Initial.{man_of}
 use Rattle.chess_base.specs.Men.{Men}
-use Rattle.chess_fen.specs.laws.FenTexts.{Denoted}
 
 -- White's king on e1 and pawn on e2, Black's king on e8
-abbrev pub kings_and_pawn : Men
-kings_and_pawn = replicate 4 None ++ (man_of White King ∷ (replicate 7 None ++ (man_of White Pawn ∷ (replicate 47 None
-    ++ (man_of Black King ∷ replicate 3 None)))))
+abbrev pub kings_and_pawn_men : Men
+kings_and_pawn_men = replicate 4 None ++ (man_of White King ∷ (replicate 7 None ++ (man_of White Pawn
+    ∷ (replicate 47 None ++ (man_of Black King ∷ replicate 3 None)))))
 
--- those pieces with Black on move, no right and no target, after 5 half-moves without capture or pawn move, in move 39
-abbrev pub kings_and_pawn_denoted : Denoted
-kings_and_pawn_denoted = record {
-  position = record {
-    variant = Normal;
-    men = kings_and_pawn;
-    side = Black;
-    rights = rights_by (λ c w. None);
-    target = None;
-    halfmove = 5;
-    fullmove = 39;
-  };
-  names_rights = true;
+-- the position of normal chess with those pieces, Black on move, no right and no target, after 5 half-moves without
+-- capture or pawn move, in move 39
+abbrev pub kings_and_pawn : Setup
+kings_and_pawn = record {
+  variant = Normal;
+  men = kings_and_pawn_men;
+  side = Black;
+  rights = rights_by (λ c w. None);
+  target = None;
+  halfmove = 5;
+  fullmove = 39;
 }
 
 -- White's king on c1 and rooks on b1, f1 and h1

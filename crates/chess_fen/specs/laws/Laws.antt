@@ -1,14 +1,15 @@
 -- The laws of FEN, each as one statement.
-use Rattle.std.specs.Prelude.{◌≡◌, ℕ, ◌↔◌, List, Ok}
+use Rattle.std.specs.Prelude.{◌≡◌, ℕ, true, ◌↔◌, List, Some, Ok}
 use Rattle.chess_base.specs.declared.man.CastlingSide.{CastlingSide}
 use Rattle.chess_base.specs.declared.man.Colour.{Colour}
 use Rattle.chess_base.specs.declared.man.Variant.TheVariants.{Fischerandom}
 use Rattle.chess_base.specs.declared.setup.Setup.{Setup}
-use Rattle.chess_base.specs.Castling.{right_of}
+use Rattle.chess_base.specs.Castling.{right_of, right_is_sound}
 use Rattle.chess_base.specs.Sound.{IsSound}
 use Rattle.chess_fen.specs.Writing.{fen}
 use Rattle.chess_fen.specs.Reading.{fen_reading_as}
-use Rattle.chess_fen.specs.Denotation.{DenotesFenAs, IsCastling, DenotesRights}
+use Rattle.chess_fen.specs.Denotation.{DenotesFenAs}
+use Rattle.chess_fen.specs.RightNames.{right_in}
 use Rattle.chess_fen.specs.laws.NamedRooks.{RightIsNamed}
 
 -- the FEN that is written for a sound position denotes that position, in its variant
@@ -23,12 +24,11 @@ WrittenDenotesNoOther = (p q : Setup) → IsSound p → DenotesFenAs p.variant (
 abbrev pub WrittenIsReadBack : Type 0
 WrittenIsReadBack = (p : Setup) → IsSound p → fen_reading_as p.variant (fen p) ≡ Ok p
 
--- in Chess960, a text denotes the castling rights of a sound position exactly if it has the form of a castling field,
--- and for each right one letter names its rook and no other letter names it, or there is no right and no letter names
--- it
+-- in Chess960, the letters of a castling field name a sound right if one letter names its rook and no other letter
+-- names it, or if there is no right and no letter names it; and only then
 abbrev pub RightsAreNamed : Type 0
 RightsAreNamed =
-    (text : List ℕ) → (p : Setup) → p.variant ≡ Fischerandom → IsSound p
-    → (DenotesRights text p ↔
-    (IsCastling Fischerandom text × ((c : Colour) → (w : CastlingSide)
-    → RightIsNamed text p.men c w (right_of p.rights c w))))
+    (text : List ℕ) → (p : Setup) → (c : Colour) → (w : CastlingSide)
+    → p.variant ≡ Fischerandom → right_is_sound p c w ≡ true
+    → ((right_in Fischerandom p.men text c w ≡ Some (right_of p.rights c w)) ↔
+    RightIsNamed text p.men c w (right_of p.rights c w))

@@ -3,7 +3,7 @@ use Rattle.std.specs.Prelude.{◌≡◌, List, ◌∷◌, ℕ, Option, Some, Non
 use Rattle.chess_base.specs.declared.fen_fault.FenFault.TheVariants as faults
 use Rattle.chess_base.specs.declared.man.Variant.{Variant}
 use Rattle.chess_fen.specs.declared.fields.Fields.{Fields}
-use Rattle.chess_fen.specs.Reading.{setup_by, setup_in}
+use Rattle.chess_fen.specs.ties.Reader.{setup_by, setup_in}
 
 -- the five fields f, which code cut out of a FEN after its first one, denote with any first field the same position
 -- (or fault) as `fields`, the list of all fields after the first; where code found none (`None`), that list has a

@@ -1,6 +1,6 @@
 -- The definitions that loops compute, from any step of the loop on.
-use Rattle.std.specs.Prelude.{ℕ, zero, suc, ◌-◌, List, map, Option, if◌then◌else◌}
-use Rattle.std.specs.List.{fold, join_with_byte}
+use Rattle.std.specs.Prelude.{ℕ, zero, suc, ◌+◌, ◌-◌, ◌*◌, List, [], ◌∷◌, ◌++◌, map, take, drop, Option, Some, None, if◌then◌else◌}
+use Rattle.std.specs.List.{join_with_byte}
 use Rattle.chess_base.specs.declared.man.Colour.{Colour}
 use Rattle.chess_base.specs.declared.man.CastlingSide.{CastlingSide}
 use Rattle.chess_base.specs.declared.man.Man.{Man}
@@ -8,9 +8,9 @@ use Rattle.chess_base.specs.declared.man.CastlingSide.TheVariants.{KingSide, Que
 use Rattle.chess_base.specs.declared.man.Kind.TheVariants.{Rook}
 use Rattle.chess_base.specs.Men.{Men, man_at, is_man}
 use Rattle.chess_base.specs.Castling.{home_square}
-use Rattle.chess_fen.specs.Texts.{stroke}
-use Rattle.chess_fen.specs.RightNames.{nowhere, named_square, one_or_nowhere}
-use Rattle.chess_fen.specs.Writing.{fen_rank, ranks_down}
+use Rattle.chess_base.specs.Letters.{byte, letter}
+use Rattle.chess_fen.specs.ties.Reader.{nowhere}
+use Rattle.chess_fen.specs.Writing.{fen_rank}
 
 -- the next file in a search from the board's edge on that side, where k more files are left after it: file k from the
 -- h-file, 7 - k from the a-file
@@ -25,11 +25,23 @@ rook_among men c w zero = nowhere
 rook_among men c w (suc k) = if is_man c Rook (man_at men (home_square c (edge_file w k))) then home_square c
     (edge_file w k) else rook_among men c w k
 
--- colour c's right on side w in Chess960, as its rook's square, after these further letters; `found` is the one that
--- the letters so far named, if any. Two letters for it give `nowhere`
-abbrev pub right_after_letters : Men → Colour → CastlingSide → Option ℕ → List ℕ → Option ℕ
-right_after_letters men c w found letters = fold one_or_nowhere found (map (named_square men c w) letters)
+-- a run of n empty squares as text: the digit n, or nothing for n = 0
+abbrev pub run_text : ℕ → List ℕ
+run_text zero = []
+run_text (suc n) = (byte "0" + suc n) ∷ []
+
+-- the text of the rest of a rank, after `empty` empty squares that are not yet written: with 2 of them before a white
+-- pawn it begins "2P"
+abbrev pub row_text : ℕ → List (Option Man) → List ℕ
+row_text empty [] = run_text empty
+row_text empty (None ∷ row) = row_text (suc empty) row
+row_text empty (Some man ∷ row) = run_text empty ++ letter man ∷ row_text 0 row
+
+-- the n lowest ranks of the board (the first argument is n), each as its eight squares, the highest of them first
+abbrev pub ranks_down : ℕ → List (Option Man) → List (List (Option Man))
+ranks_down zero men = []
+ranks_down (suc rank) men = take 8 (drop (8 * rank) men) ∷ ranks_down rank men
 
 -- the text of the n lowest ranks, the highest first, with a slash between them
 abbrev pub ranks_text : ℕ → List (Option Man) → List ℕ
-ranks_text n men = join_with_byte stroke (map fen_rank (ranks_down n men))
+ranks_text n men = join_with_byte (byte "/") (map fen_rank (ranks_down n men))

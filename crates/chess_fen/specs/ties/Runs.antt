@@ -2,9 +2,9 @@
 use Rattle.std.specs.Prelude.{◌≡◌, ℕ, zero, suc, ◌+◌, ◌-◌, ◌*◌, ◌==◌, nat_le, Bool, true, false, List, [], ◌∷◌, ◌++◌, length, take, drop, replicate, Option, Some, None, if◌then◌else◌, option_and_then}
 use Rattle.std.specs.List.{position_or_len, before_first}
 use Rattle.chess_base.specs.declared.man.Man.{Man}
-use Rattle.chess_base.specs.Letters.{space}
+use Rattle.chess_base.specs.Letters.{byte, space}
 use Rattle.chess_fen.specs.declared.letters.Run.{Run}
-use Rattle.chess_fen.specs.Texts.{squares_of, placement_of, stroke}
+use Rattle.chess_fen.specs.Texts.{squares_of, placement_of}
 
 -- the squares of a run, the first with its piece and the others empty; none if they are more than a rank has
 abbrev pub squares_in : Run → Option (List (Option Man))
@@ -27,7 +27,7 @@ abbrev pub placing : ℕ → List (Option Man) → List (Option Man) → List �
 placing left row above [] = last_rank left row above
 placing left row above (c ∷ cs) =
     if c == space then last_rank left row above
-    else if c == stroke then at_lower left (λ lower.
+    else if c == byte "/" then at_lower left (λ lower.
     if length row == 8 then placing lower [] (row ++ above) cs else None)
     else option_and_then (λ squares. placing left (row ++ squares) above cs) (squares_of c)
 

@@ -1,5 +1,5 @@
 use Rattle.std.proofs.Common.{◌≡◌, drop, None}
-use Rattle.chess_fen.specs.ties.Loops.{right_after_letters}
+use Rattle.chess_fen.specs.ties.Reader.{right_after_letters}
 use Rattle.chess_fen.proofs.castling_rights.right_of_letters.Given as goal
 
 -- what is left gives the whole

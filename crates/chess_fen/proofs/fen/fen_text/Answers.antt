@@ -1,7 +1,7 @@
--- The FEN of a sound position is ASCII (fen_is_utf8 of Ascii).
+-- The FEN of a sound position is ASCII (fen_is_utf8 of FenBytes).
 use Rattle.std.proofs.Common.{subst}
 use Rattle.chess_base.specs.Sound.{IsSound}
-use Rattle.chess_fen.proofs.Ascii.{fen_is_utf8}
+use Rattle.chess_fen.proofs.FenBytes.{fen_is_utf8}
 use Rattle.chess_fen.proofs.fen.fen_text.Goals as goal
 
 pub unreachable-requires : goal.unreachable-requires

@@ -2,7 +2,7 @@
 use Rattle.std.proofs.Common.{ap, sym, ◌∙◌}
 use Rattle.std.specs.Prelude.{◌==◌}
 use Rattle.std.specs.List.{before_first}
-use Rattle.chess_fen.specs.Reading.{setup_in}
+use Rattle.chess_fen.specs.ties.Reader.{setup_in}
 use Rattle.chess_fen.specs.Texts.{fields_of}
 use Rattle.chess_fen.proofs.FirstField.{first_is_menless, fields-read, setup-with}
 use Rattle.chess_fen.proofs.CutFields.{fields_of-skip}

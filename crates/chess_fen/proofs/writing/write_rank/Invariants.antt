@@ -1,13 +1,14 @@
 use Rattle.std.proofs.Common.{◌≡◌, ◌+◌, ◌≤◌, ◌++◌, drop}
 use Rattle.arrayvec.specs.ArrayVec.{array_vec_len}
-use Rattle.chess_fen.specs.Writing.{row_text}
+use Rattle.chess_fen.specs.Writing.{fen_rank}
+use Rattle.chess_fen.specs.ties.Loops.{row_text}
 use Rattle.chess_fen.proofs.writing.write_rank.Given as goal
 
 -- what is left completes the text
 abbrev pub invariant-loop-square : goal.invariant-loop-square
 invariant-loop-square l =
     record {
-      text : l.out.items ++ row_text l.empty (drop l.square-index l.row) ≡ l.fn.out.items ++ row_text 0 l.row;
+      text : l.out.items ++ row_text l.empty (drop l.square-index l.row) ≡ l.fn.out.items ++ fen_rank l.row;
       len : array_vec_len l.out + l.empty ≤ array_vec_len l.fn.out + l.square-index;
       few : l.empty ≤ l.square-index;
     }

@@ -1,0 +1,205 @@
+-- The bytes of a FEN that is written: no field has a space, and no rank a slash; all of them are ASCII.
+use Rattle.std.proofs.Common.{◌≡◌, ℕ, zero, suc, ◌+◌, ◌*◌, ◌/◌, ◌%◌, ◌<◌, ◌≤◌, ◌⊎◌, inl, inr, true, eqb, ◌&&◌, List, [], ◌∷◌, ◌++◌, length, take, drop, map, Option, Some, None, subst, arith, rules}
+use Rattle.std.specs.Prelude.{decimal, IfSome, is_none}
+use Rattle.std.specs.List.{AllByRecursion}
+use Rattle.std.specs.Str.{IsAscii, IsUtf8}
+use Rattle.std.proofs.lemmas.Bool.{and_parts, eqb-true}
+use Rattle.std.proofs.lemmas.Bool.Decides.{nat_tests}
+use Rattle.std.proofs.lemmas.List.{append-nil, length-take}
+use Rattle.std.proofs.lemmas.Fmt.{digits_decimal}
+use Rattle.std.proofs.lemmas.Str.{IsUtf8-from_ascii}
+use Rattle.std.specs.Str.Parse.{digits_value}
+use Rattle.std.proofs.lemmas.Str.Parse.{IsNumeralModel, IsDigitsTest, numerals_by_value}
+use Rattle.chess_base.specs.declared.man.Man.{Man}
+use Rattle.chess_base.specs.declared.man.Kind.{Kind}
+use Rattle.chess_base.specs.declared.man.Kind.TheVariants.{Pawn, Knight, Bishop, Rook, Queen, King}
+use Rattle.chess_base.specs.declared.man.Colour.{Colour}
+use Rattle.chess_base.specs.declared.man.Colour.TheVariants.{White, Black}
+use Rattle.chess_base.specs.declared.man.CastlingSide.{CastlingSide}
+use Rattle.chess_base.specs.declared.man.CastlingSide.TheVariants.{KingSide, QueenSide}
+use Rattle.chess_base.specs.declared.man.Rights.{Rights}
+use Rattle.chess_base.specs.declared.man.Variant.{Variant}
+use Rattle.chess_base.specs.declared.man.Variant.TheVariants.{Normal, Fischerandom}
+use Rattle.chess_base.specs.declared.setup.Setup.{Setup}
+use Rattle.chess_base.specs.Letters.{white_letter, letter, letter_by}
+use Rattle.chess_base.specs.Men.{Men, man_at, is_man, other, forward, crossed_rank}
+use Rattle.chess_base.specs.Sound.{IsSound, target_is_sound_at, target_is_sound}
+use Rattle.chess_fen.specs.RightNames.{right_letter}
+use Rattle.chess_fen.specs.Writing.{fen_rank, placement_text, side_text, right_text, or_dash, rights_text, target_text, fen}
+use Rattle.chess_fen.specs.ties.Loops.{ranks_down, run_text, row_text}
+use Rattle.chess_fen.proofs.Joined.{IsPlain, Plain, Plain-append, each_weaker, Plain-join}
+use Rattle.chess_fen.proofs.WrittenRanks.{row_is}
+
+-- bytes below the backslash, and above it
+low : (k b : ℕ) → k ≤ b → 34 < b → b < 92 → IsPlain k b
+low k b least over under = (least, omega arith, (λ e. omega (arith, e)), (λ e. omega (arith, e)))
+
+high : (k b : ℕ) → k ≤ b → 92 < b → b < 128 → IsPlain k b
+high k b least over under = (least, under, (λ e. omega (arith, e)), (λ e. omega (arith, e)))
+
+-- ---- numbers
+
+abbrev DigitBytes : List ℕ → Type 0
+DigitBytes ds = AllByRecursion (λ c. (48 ≤ c) × (c ≤ 57)) ds
+
+says_bytes : IsDigitsTest DigitBytes
+says_bytes = record { empty = tt; parts = λ c cs p. (search rules, p.1); more = λ c cs d p. (search rules, p) }
+
+own_bytes : IsNumeralModel DigitBytes (digits_value 10)
+own_bytes = numerals_by_value _ says_bytes
+
+digits_plain : (ds : List ℕ) → DigitBytes ds → Plain 45 ds
+digits_plain [] p = tt
+digits_plain (c ∷ cs) p =
+    let least : 48 ≤ c = p.0.0 in
+    let most : c ≤ 57 = p.0.1 in
+    (low 45 c (omega arith) (omega arith) (omega arith), digits_plain cs p.1)
+
+decimal_plain : (n : ℕ) → n < 1000000 → Plain 45 (decimal n)
+decimal_plain n h = digits_plain (decimal n) (digits_decimal own_bytes n (omega arith))
+
+-- ---- placement
+
+pub white_range : (kind : Kind) → (66 ≤ white_letter kind) × (white_letter kind ≤ 82)
+white_range Pawn = (omega arith, omega arith)
+white_range Knight = (omega arith, omega arith)
+white_range Bishop = (omega arith, omega arith)
+white_range Rook = (omega arith, omega arith)
+white_range Queen = (omega arith, omega arith)
+white_range King = (omega arith, omega arith)
+
+letter_plain : (colour : Colour) (kind : Kind) → IsPlain 48 (letter_by colour kind)
+letter_plain White kind =
+    let range = white_range kind in
+    low 48 (white_letter kind) (omega (arith, range)) (omega (arith, range)) (omega (arith, range))
+letter_plain Black kind =
+    let range = white_range kind in
+    high 48 (white_letter kind + 32) (omega (arith, range)) (omega (arith, range)) (omega (arith, range))
+
+run_plain : (n : ℕ) (rest : List ℕ) → n ≤ 8 → Plain 48 rest → Plain 48 (run_text n ++ rest)
+run_plain zero rest h p = p
+run_plain (suc n) rest h p = (low 48 (48 + suc n) (omega arith) (omega arith) (omega arith), p)
+
+row_plain : (squares : List (Option Man)) (n : ℕ) → n + length squares ≤ 8 → Plain 48 (row_text n squares)
+row_plain [] n h = subst (Plain 48) (append-nil (run_text n)) (run_plain n [] (omega arith) tt)
+row_plain (None ∷ squares) n h = row_plain squares (suc n) (omega arith)
+row_plain (Some man ∷ squares) n h = run_plain n (letter man ∷ row_text 0 squares) (omega arith)
+    (letter_plain man.colour man.kind, row_plain squares 0 (omega arith))
+
+pub rows_plain : (n : ℕ) (men : List (Option Man)) → AllByRecursion (Plain 48) (map fen_rank (ranks_down n men))
+rows_plain zero men = tt
+rows_plain (suc n) men =
+    let row : List (Option Man) = take 8 (drop (8 * n) men) in (
+      subst (Plain 48) (row_is row 0) (row_plain row 0 (omega (arith, length-take 8 (drop (8 * n) men)))),
+      rows_plain n men,
+    )
+
+placement_plain : (men : List (Option Man)) → Plain 45 (placement_text men)
+unfolding placement_text
+placement_plain men = Plain-join 47 45 (map fen_rank (ranks_down 8 men)) (low 45 47 (omega arith) (omega arith)
+    (omega arith)) (each_weaker 45 48 (map fen_rank (ranks_down 8 men)) (omega arith) (rows_plain 8 men))
+
+-- ---- side, rights and target
+
+side_plain : (colour : Colour) → Plain 45 (side_text colour)
+side_plain White = (high 45 119 (omega arith) (omega arith) (omega arith), tt)
+side_plain Black = (high 45 98 (omega arith) (omega arith) (omega arith), tt)
+
+right_letter_plain : (v : Variant) (c : Colour) (w : CastlingSide) (s : ℕ) → IsPlain 45 (right_letter v c w s)
+right_letter_plain Normal White KingSide s = low 45 75 (omega arith) (omega arith) (omega arith)
+right_letter_plain Normal White QueenSide s = low 45 81 (omega arith) (omega arith) (omega arith)
+right_letter_plain Normal Black KingSide s = high 45 107 (omega arith) (omega arith) (omega arith)
+right_letter_plain Normal Black QueenSide s = high 45 113 (omega arith) (omega arith) (omega arith)
+right_letter_plain Fischerandom White w s = low 45 (65 + s % 8) (omega arith) (omega arith) (omega arith)
+right_letter_plain Fischerandom Black w s = high 45 (97 + s % 8) (omega arith) (omega arith) (omega arith)
+
+right_plain : (v : Variant) (c : Colour) (w : CastlingSide) (right : Option ℕ) → Plain 45 (right_text v c w right)
+right_plain v c w (Some s) = (right_letter_plain v c w s, tt)
+right_plain v c w None = tt
+
+dash : Plain 45 (45 ∷ [])
+dash = (low 45 45 (omega arith) (omega arith) (omega arith), tt)
+
+dash_plain : (text : List ℕ) → Plain 45 text → Plain 45 (or_dash text)
+dash_plain [] p = dash
+dash_plain (c ∷ cs) p = p
+
+rights_plain : (v : Variant) (r : Rights) → Plain 45 (rights_text v r)
+rights_plain v r =
+    let a = right_text v White KingSide r.white.king_side in
+    let b = right_text v White QueenSide r.white.queen_side in
+    let c = right_text v Black KingSide r.black.king_side in
+    let d = right_text v Black QueenSide r.black.queen_side in
+    dash_plain (((a ++ b) ++ c) ++ d)
+    (Plain-append 45 ((a ++ b) ++ c) d
+    (Plain-append 45 (a ++ b) c (Plain-append 45 a b (right_plain v White KingSide r.white.king_side)
+    (right_plain v White QueenSide r.white.queen_side)) (right_plain v Black KingSide r.black.king_side))
+    (right_plain v Black QueenSide r.black.queen_side))
+
+-- a target has rank 3 or 6
+target_rank : (men : Men) (c : Colour) (target : Option ℕ) → target_is_sound_at men c target ≡ true
+    → IfSome target (λ square. (square / 8 ≡ 2) ⊎ (square / 8 ≡ 5))
+target_rank men c None e = tt
+target_rank men c (Some t) e = by_colour c
+    (and_parts (eqb (t / 8) (crossed_rank (other c))) (is_none (man_at men t))
+    (and_parts (eqb (t / 8) (crossed_rank (other c)) && is_none (man_at men t))
+    (is_man (other c) Pawn (man_at men (forward (other c) t)))
+    (and_parts (eqb (t / 8) (crossed_rank (other c)) && is_none (man_at men t)
+    && is_man (other c) Pawn (man_at men (forward (other c) t))) (is_none (man_at men (forward c t)))
+    e).0).0).0
+  where
+    by_colour : (d : Colour) → eqb (t / 8) (crossed_rank (other d)) ≡ true → (t / 8 ≡ 2) ⊎ (t / 8 ≡ 5)
+    by_colour White h = inr (eqb-true (t / 8) 5 h)
+    by_colour Black h = inl (eqb-true (t / 8) 2 h)
+
+pub target_fits : (p : Setup) → IsSound p → IfSome p.target (λ square. (square / 8 ≡ 2) ⊎ (square / 8 ≡ 5))
+unfolding target_is_sound
+target_fits p h = target_rank p.men p.side p.target h.target
+
+target_plain : (target : Option ℕ) → IfSome target (λ square. (square / 8 ≡ 2) ⊎ (square / 8 ≡ 5))
+    → Plain 45 (target_text target)
+target_plain None h = dash
+target_plain (Some t) h = (
+  high 45 (97 + t % 8) (omega arith) (omega arith) (omega arith),
+  (rank_plain h, tt),
+)
+  where
+    rank_plain : (t / 8 ≡ 2) ⊎ (t / 8 ≡ 5) → IsPlain 45 (49 + t / 8)
+    rank_plain (inl e) = low 45 (49 + t / 8) (omega arith) (omega arith) (omega arith)
+    rank_plain (inr e) = low 45 (49 + t / 8) (omega arith) (omega arith) (omega arith)
+
+-- ---- the text
+
+-- the fields of a position's FEN
+abbrev pub fields : Setup → List (List ℕ)
+fields p = placement_text p.men ∷ side_text p.side ∷ rights_text p.variant p.rights ∷ target_text p.target
+    ∷ decimal p.halfmove ∷ decimal p.fullmove ∷ []
+
+pub fields_plain : (p : Setup) → IsSound p → AllByRecursion (Plain 45) (fields p)
+fields_plain p h =
+    let halfmove : p.halfmove < 1000000 = let e = h.halfmove in grind (arith, nat_tests, e) in
+    let fullmove : p.fullmove < 1000000 = let e = h.fullmove_high in grind (arith, nat_tests, e) in (
+      placement_plain p.men,
+      (
+        side_plain p.side,
+        (
+          rights_plain p.variant p.rights,
+          (
+            target_plain p.target (target_fits p h),
+            (decimal_plain p.halfmove halfmove, (decimal_plain p.fullmove fullmove, tt)),
+          ),
+        ),
+      ),
+    )
+
+pub fen_plain : (p : Setup) → IsSound p → Plain 32 (fen p)
+fen_plain p h = Plain-join 32 32 (fields p) (omega arith, omega arith, (λ e. omega (arith, e)), (λ e. omega (arith, e)))
+    (each_weaker 32 45 (fields p) (omega arith) (fields_plain p h))
+
+ascii : (text : List ℕ) → Plain 32 text → IsAscii text
+ascii [] p i = omega arith
+ascii (c ∷ cs) p zero = p.0.1
+ascii (c ∷ cs) p (suc i) = ascii cs p.1 i
+
+pub fen_is_utf8 : (p : Setup) → IsSound p → IsUtf8 (fen p)
+fen_is_utf8 p h = IsUtf8-from_ascii (fen p) (ascii (fen p) (fen_plain p h))

@@ -1,0 +1,100 @@
+-- How code reads the castling rights of a FEN, letter by letter. A right that is named wrongly is kept as one whose rook
+-- is on a square where no rook can have it, so that the position is refused as unsound.
+use Rattle.std.specs.Prelude.{ℕ, max, codes, ◌-◌, ◌==◌, Bool, ◌&&◌, List, [], ◌∷◌, map, find, Option, Some, None, Result, Ok, Err, unwrap_or, if◌then◌else◌}
+use Rattle.std.specs.List.{fold}
+use Rattle.std.specs.Option.{ok_or}
+use Rattle.chess_base.specs.declared.man.Kind.TheVariants.{Rook}
+use Rattle.chess_base.specs.declared.man.Colour.{Colour}
+use Rattle.chess_base.specs.declared.man.CastlingSide.{CastlingSide}
+use Rattle.chess_base.specs.declared.man.Rights.{Rights}
+use Rattle.chess_base.specs.declared.man.Variant.{Variant}
+use Rattle.chess_base.specs.declared.man.Variant.TheVariants.{Normal, Fischerandom}
+use Rattle.chess_base.specs.declared.setup.Setup.{Setup}
+use Rattle.chess_base.specs.declared.fen_fault.FenFault.{FenFault}
+use Rattle.chess_base.specs.declared.fen_fault.FenFault.TheVariants as faults
+use Rattle.chess_base.specs.Men.{Men, man_at, is_man}
+use Rattle.chess_base.specs.Castling.{home_square, king_square, rook_file, rights_by}
+use Rattle.chess_fen.specs.Reading.{◌>>=◌, side_of}
+use Rattle.chess_fen.specs.RightNames.{side_letter, right_named, from_edge, is_towards}
+use Rattle.chess_fen.specs.Texts.{placement_of, times, first_letter, names_file, may_name_right, is_castling, target_of, number_of}
+
+-- ---- the letters
+
+-- the byte c may name a castling right, and occurs once in the text
+abbrev pub names_once : Variant → List ℕ → ℕ → Bool
+names_once v text c = may_name_right v c && (times c text == 1)
+
+-- ---- castling in Chess960
+
+-- a square off the first ranks (a4), taken as the rook's square of a right that is named wrongly
+abbrev pub nowhere : ℕ
+nowhere = 24
+
+-- the square of colour c's rook on its first rank that is nearest to the edge on side w, even if it is not on that side
+-- of the king; `nowhere` if there is no rook
+unfoldable pub outer_rook : Men → Colour → CastlingSide → ℕ
+outer_rook men c w = unwrap_or (find (λ s. is_man c Rook (man_at men s)) (from_edge c w)) nowhere
+
+-- the rook's square by which this letter names colour c's right on side w, or none if it names another right
+abbrev pub named_square : Men → Colour → CastlingSide → ℕ → Option ℕ
+named_square men c w letter =
+    let s = home_square c (letter - first_letter c) in
+    if letter == side_letter c w then Some (outer_rook men c w)
+    else if names_file c letter && is_towards w (king_square men c) s then Some s
+    else None
+
+-- of the rook's squares that two letters name for one right: the one that is named, if only one is; none if none is;
+-- `nowhere` if both are
+abbrev pub one_or_nowhere : Option ℕ → Option ℕ → Option ℕ
+one_or_nowhere None o = o
+one_or_nowhere (Some s) None = Some s
+one_or_nowhere (Some s) (Some t) = Some nowhere
+
+-- colour c's right on side w, as its rook's square, after these further letters; `found` is the one that the letters so
+-- far named, if any
+abbrev pub right_after_letters : Men → Colour → CastlingSide → Option ℕ → List ℕ → Option ℕ
+right_after_letters men c w found letters = fold one_or_nowhere found (map (named_square men c w) letters)
+
+-- ---- the fields
+
+-- colour c's castling right on side w that a castling field's letters name, as the square of its rook; none if they
+-- don't name it
+abbrev pub right_by_letters : Variant → Men → List ℕ → Colour → CastlingSide → Option ℕ
+right_by_letters Normal men letters c w = right_named letters (side_letter c w) (home_square c (rook_file w))
+right_by_letters Fischerandom men letters c w = right_after_letters men c w None letters
+
+-- the castling rights that a FEN's third field denotes in a position with these pieces; none if it is neither a dash
+-- nor letters that may name rights
+abbrev pub rights_of : Variant → Men → List ℕ → Option Rights
+rights_of v men text = if is_castling v text then Some (rights_by (right_by_letters v men text)) else None
+
+-- the position with these pieces that the five fields of a FEN after the first denote, or the fault of the first of
+-- them that denotes nothing
+abbrev pub setup_with : Variant → Men → List ℕ → List ℕ → List ℕ → List ℕ → List ℕ → Result Setup FenFault
+setup_with v men side castling target halfmove fullmove = do
+  colour ← ok_or (side_of side) faults.Side
+  rights ← ok_or (rights_of v men castling) faults.Castling
+  passed ← ok_or (target_of target) faults.EnPassant
+  clock ← ok_or (number_of halfmove) faults.Counters
+  number ← ok_or (number_of fullmove) faults.Counters
+  Ok (record {
+    variant = v;
+    men = men;
+    side = colour;
+    rights = rights;
+    target = passed;
+    halfmove = clock;
+    fullmove = max number 1;
+  })
+
+-- the position that the six fields of a FEN denote, or the fault of the first field that denotes nothing
+abbrev pub setup_by : Variant → List ℕ → List ℕ → List ℕ → List ℕ → List ℕ → List ℕ → Result Setup FenFault
+setup_by v placement side castling target halfmove fullmove = do
+  men ← ok_or (placement_of placement) faults.Placement
+  setup_with v men side castling target halfmove fullmove
+
+-- the position that a list of a FEN's fields denotes, of which there are six or four
+abbrev pub setup_in : Variant → List (List ℕ) → Result Setup FenFault
+setup_in v (a ∷ b ∷ c ∷ d ∷ []) = setup_by v a b c d (codes "0") (codes "1")
+setup_in v (a ∷ b ∷ c ∷ d ∷ e ∷ f ∷ []) = setup_by v a b c d e f
+setup_in v _ = Err faults.Fields
