@@ -7,8 +7,9 @@ use Rattle.chess_base.specs.declared.line.Line.{Line}
 use Rattle.chess_base.specs.declared.line.Line.TheVariants.{Rank, File, Diagonal, Antidiagonal}
 use Rattle.chess_base.specs.shared.Lines.{line_number, same_line}
 use Rattle.chess_bits.specs.ties.Rays.{is_on_ray, is_open}
-use Rattle.chess_bits.proofs.Attackers.{each_square_same, eq_back}
-use Rattle.chess_bits.proofs.Geometry.{between_on_line, share_diagonal_is}
+use Rattle.chess_bits.proofs.Attackers.{eq_back}
+use Rattle.chess_base.proofs.shared.Geometry.{between_on_line, share_diagonal_is}
+use Rattle.chess_base.proofs.shared.Squares.{each_square_same}
 use Rattle.chess_moves.specs.Sets.{contains}
 
 -- ---- on one line

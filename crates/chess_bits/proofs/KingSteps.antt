@@ -24,9 +24,10 @@ use Rattle.chess_base.specs.Sound.{IsSound}
 use Rattle.chess_base.specs.Squares.{file, rank, is_between, is_between_on_file, is_between_on_rank, is_between_on_diagonal}
 use Rattle.chess_base.proofs.shared.Castling.{right_is_sound_of, castling_rook_is_there}
 use Rattle.chess_base.proofs.shared.Men.{is_of-from_is_man}
+use Rattle.chess_base.proofs.shared.Squares.{each_square_same, some_square_same}
 use Rattle.chess_moves.specs.Promoting.{would_promote}
 use Rattle.chess_bits.specs.ties.Goes.{goes, legal_or, lifted}
-use Rattle.chess_bits.proofs.Attackers.{each_square_same, some_square_same, eq_back}
+use Rattle.chess_bits.proofs.Attackers.{eq_back}
 use Rattle.chess_bits.proofs.KingAfter.{mover_some, mover_own, king_lands, check_after, legal_is}
 use Rattle.chess_bits.proofs.Lifted.{lifted_at}
 use Rattle.chess_bits.proofs.Listed.{pattern_of}

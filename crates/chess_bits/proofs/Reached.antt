@@ -5,11 +5,13 @@ use Rattle.chess_base.specs.declared.man.Kind.TheVariants.{King, Queen, Rook, Bi
 use Rattle.chess_base.specs.Squares.{file, rank, is_between, share_rank_or_file, share_diagonal}
 use Rattle.chess_base.specs.Men.{Men, man_at}
 use Rattle.chess_base.specs.Attacks.{is_clear, could_capture}
+use Rattle.chess_base.proofs.shared.Squares.{each_square_same}
+use Rattle.chess_base.proofs.shared.Geometry.{diagonal_back}
 use Rattle.chess_bits.specs.declared.table.Shape.TheVariants as shape
 use Rattle.chess_bits.specs.ties.Rays.{is_open}
 use Rattle.chess_bits.specs.ties.Shapes.{in_shape}
 use Rattle.chess_bits.specs.ties.Occupancy.{IsOccupied}
-use Rattle.chess_bits.proofs.Attackers.{each_square_same, de_morgan, eq_back, diagonal_back, queen_parts}
+use Rattle.chess_bits.proofs.Attackers.{de_morgan, eq_back, queen_parts}
 
 pub knight_from : (men : Men) (c : Colour) (a b : ℕ) → in_shape shape.Knight a b ≡ could_capture men c Knight a b
 unfolding in_shape could_capture
