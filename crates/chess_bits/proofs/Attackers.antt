@@ -1,5 +1,4 @@
 -- Who attacks a square, seen from that square.
-use Rattle.chess_base.proofs.shared.Squares.{each_square_same, some_square_same}
 use Rattle.std.proofs.Common.{◌≡◌, ℕ, ◌<◌, Bool, true, false, not, ◌&&◌, ◌||◌, ◌==◌, refl, ◌∙◌, ap, arith, Option, Some, None, is_none}
 use Rattle.std.proofs.lemmas.Bool.{eqb-true}
 use Rattle.std.proofs.lemmas.Bool.Decides.{nat_tests}
@@ -9,11 +8,13 @@ use Rattle.chess_base.specs.declared.man.Colour.TheVariants.{White, Black}
 use Rattle.chess_base.specs.declared.man.Kind.{Kind}
 use Rattle.chess_base.specs.declared.man.Kind.TheVariants.{King, Queen, Rook, Bishop, Knight, Pawn}
 use Rattle.chess_base.specs.declared.man.Man.{Man}
-use Rattle.chess_base.specs.Squares.{file, rank, is_strictly_between, share_rank_or_file, share_diagonal, is_between, is_between_on_file, is_between_on_rank, is_between_on_diagonal, some_square}
+use Rattle.chess_base.specs.Squares.{file, rank, share_rank_or_file, share_diagonal, is_between, is_between_on_file, is_between_on_rank, is_between_on_diagonal, some_square}
 use Rattle.chess_base.specs.Men.{Men, man_at, other, same_colour, same_kind, is_of, is_man}
 use Rattle.chess_base.specs.Attacks.{is_clear, could_capture, attacks, is_attacked}
 use Rattle.chess_base.specs.shared.Splits.{could_capture_as}
 use Rattle.chess_base.specs.declared.line.Line.TheVariants.{Rank, File, Diagonal, Antidiagonal}
+use Rattle.chess_base.proofs.shared.Geometry.{abs_diff_back, between_back}
+use Rattle.chess_base.proofs.shared.Squares.{each_square_same, some_square_same}
 use Rattle.chess_bits.specs.declared.table.Shape.TheVariants as shape
 use mathlib.Core.Bool.{not-not}
 use Rattle.chess_moves.specs.Sets.{contains}
@@ -37,41 +38,8 @@ pub on_diagonals : (a b : ℕ) (o : Bool)
 on_diagonals a b true = grind (arith, nat_tests)
 on_diagonals a b false = grind (arith, nat_tests)
 
-pub gap_back : (m n : ℕ) → abs_diff m n ≡ abs_diff n m
-gap_back m n = omega arith
-
 pub eq_back : (m n : ℕ) → (m == n) ≡ (n == m)
 eq_back m n = grind (arith, nat_tests)
-
-inside_back : (m n x : ℕ) → is_strictly_between m n x ≡ is_strictly_between n m x
-inside_back m n x = grind (arith, nat_tests)
-
-swap_first : (p q r : Bool) → (p && q && r) ≡ (q && p && r)
-swap_first p q r = grind arith
-
-back_on_file : (a b x : ℕ) → is_between_on_file a b x ≡ is_between_on_file b a x
-unfolding is_between_on_file
-back_on_file a b x = rw (inside_back (rank a) (rank b) (rank x))
-    (swap_first (file x == file a) (file x == file b) (is_strictly_between (rank b) (rank a) (rank x)))
-
-back_on_rank : (a b x : ℕ) → is_between_on_rank a b x ≡ is_between_on_rank b a x
-unfolding is_between_on_rank
-back_on_rank a b x = rw (inside_back (file a) (file b) (file x))
-    (swap_first (rank x == rank a) (rank x == rank b) (is_strictly_between (file b) (file a) (file x)))
-
-pub diagonal_back : (a b : ℕ) → share_diagonal a b ≡ share_diagonal b a
-diagonal_back a b = rw (gap_back (file a) (file b), gap_back (rank a) (rank b)) refl
-
-back_on_diagonal : (a b x : ℕ) → is_between_on_diagonal a b x ≡ is_between_on_diagonal b a x
-unfolding is_between_on_diagonal
-back_on_diagonal a b x =
-    let e = inside_back (rank a) (rank b) (rank x) in
-    let f = inside_back (file a) (file b) (file x) in
-    grind (arith, e, f, diagonal_back a x, diagonal_back x b)
-
-pub between_back : (a b x : ℕ) → is_between a b x ≡ is_between b a x
-unfolding is_between
-between_back a b x = rw (back_on_file a b x, back_on_rank a b x, back_on_diagonal a b x) refl
 
 pub de_morgan : (p q : Bool) → not (p && not q) ≡ (not p || q)
 de_morgan p q = grind arith
@@ -85,16 +53,16 @@ open_is_clear w men a b h =
 
 king_back : (men : Men) (c : Colour) (a b : ℕ) → in_shape shape.King b a ≡ could_capture men c King a b
 unfolding in_shape could_capture
-king_back men c a b = rw (eq_back b a, gap_back (file b) (file a), gap_back (rank b) (rank a)) refl
+king_back men c a b = rw (eq_back b a, abs_diff_back (file b) (file a), abs_diff_back (rank b) (rank a)) refl
 
 knight_back : (men : Men) (c : Colour) (a b : ℕ) → in_shape shape.Knight b a ≡ could_capture men c Knight a b
 unfolding in_shape could_capture
-knight_back men c a b = rw (gap_back (file b) (file a), gap_back (rank b) (rank a)) refl
+knight_back men c a b = rw (abs_diff_back (file b) (file a), abs_diff_back (rank b) (rank a)) refl
 
 pub pawn_back : (men : Men) (c : Colour) (a b : ℕ) → in_shape (shape.Pawn (other c)) b a ≡ could_capture men c Pawn a b
 unfolding in_shape could_capture
-pawn_back men White a b = rw (gap_back (file b) (file a)) refl
-pawn_back men Black a b = rw (gap_back (file b) (file a)) refl
+pawn_back men White a b = rw (abs_diff_back (file b) (file a)) refl
+pawn_back men Black a b = rw (abs_diff_back (file b) (file a)) refl
 
 -- the answer of `attackers` at one square, from its five parts and the piece there
 abbrev pub hit : Bool → Bool → Bool → Bool → Bool → Bool → Kind → Bool

@@ -1,5 +1,4 @@
 -- The squares between two squares of one line.
-use Rattle.chess_base.proofs.shared.Squares.{each_square_same}
 use Rattle.std.proofs.Common.{◌≡◌, ℕ, zero, suc, ◌+◌, ◌*◌, ◌/◌, ◌%◌, ◌<◌, ◌≤◌, inl, inr, Bool, true, false, not, ◌&&◌, ◌||◌, refl, sym, ap, ◌∙◌, arith, List, length, get_or, set, get_or-set_same, get_or-set_other}
 use Rattle.std.proofs.lemmas.Bool.Decides.{nat_tests}
 use Rattle.std.proofs.lemmas.Bool.{cases_Bool, cases_eq, or_cases}
@@ -9,7 +8,8 @@ use Rattle.chess_base.specs.declared.line.Line.TheVariants.{Rank, File, Diagonal
 use Rattle.chess_base.specs.shared.Lines.{line_number, same_line}
 use Rattle.chess_bits.specs.ties.Rays.{is_on_ray, is_open}
 use Rattle.chess_bits.proofs.Attackers.{eq_back}
-use Rattle.chess_bits.proofs.Geometry.{between_on_line, share_diagonal_is}
+use Rattle.chess_base.proofs.shared.Geometry.{between_on_line, share_diagonal_is}
+use Rattle.chess_base.proofs.shared.Squares.{each_square_same}
 use Rattle.chess_moves.specs.Sets.{contains}
 
 -- ---- on one line

@@ -9,7 +9,7 @@ use Rattle.chess_moves.specs.Sets.{contains, is_beyond}
 use Rattle.chess_moves.proofs.shared.Members.{has_zero}
 use Rattle.chess_base.specs.shared.Lines.{same_line}
 use Rattle.chess_bits.specs.ties.Rays.{is_on_ray, is_open}
-use Rattle.chess_bits.proofs.Geometry.{between_on_line}
+use Rattle.chess_base.proofs.shared.Geometry.{between_on_line}
 use Rattle.chess_base.proofs.shared.Squares.{each_square-all, each_square-fails}
 
 -- what lies between a square and one on a ray from it lies on that ray, before that square

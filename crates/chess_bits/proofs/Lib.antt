@@ -1,4 +1,3 @@
-mod Geometry
 mod Blockers
 mod Attackers
 mod BetweenSquares

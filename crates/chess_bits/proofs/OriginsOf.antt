@@ -1,5 +1,4 @@
 -- From where pawns go to a square, and officers: from where pieces like them would be attacked from that square.
-use Rattle.chess_base.proofs.shared.Squares.{each_square_same}
 use Rattle.std.proofs.Common.{◌≡◌, ℕ, ◌<◌, ◌≤◌, Bool, true, false, not, ◌&&◌, ◌||◌, ◌==◌, None, refl, sym, ap, ◌∙◌, arith}
 use Rattle.std.proofs.lemmas.Bool.{and_parts, and_from, not-true}
 use Rattle.std.proofs.lemmas.Bool.Decides.{nat_tests}
@@ -17,27 +16,24 @@ use Rattle.chess_base.specs.Sound.{pawn_is_allowed}
 use Rattle.chess_base.specs.Squares.{file, rank}
 use Rattle.chess_base.proofs.shared.Changes.{pawn_from_same}
 use Rattle.chess_base.proofs.shared.Men.{is_of-from_is_man}
+use Rattle.chess_base.proofs.shared.Geometry.{abs_diff_back, diagonal_back, is_clear_back}
 use Rattle.chess_moves.specs.Sets.{contains, HasOrigins}
 use Rattle.chess_moves.proofs.shared.Origins.{begins_below}
 use Rattle.chess_bits.specs.ties.Goes.{man_goes}
-use Rattle.chess_bits.proofs.Attackers.{between_back, eq_back, gap_back, diagonal_back}
+use Rattle.chess_bits.proofs.Attackers.{eq_back}
 use Rattle.chess_bits.proofs.Patterns.{man_complete, pawn_goes, legal_goes}
 use Rattle.chess_bits.proofs.Reached.{line_back}
 use Rattle.chess_bits.proofs.TargetsOf.{man_told, officer_is, ends_below}
-
-clear_back : (men : Men) (a b : ℕ) → is_clear men a b ≡ is_clear men b a
-unfolding is_clear
-clear_back men a b = each_square_same _ _ (λ x l. rw (between_back a b x) refl)
 
 -- a piece other than a pawn attacks as it is attacked
 pub back : (men : Men) (c : Colour) (kind : Kind) (a b : ℕ) → same_kind Pawn kind ≡ false
     → could_capture men c kind a b ≡ could_capture men c kind b a
 unfolding could_capture
-back men c King a b h = rw (eq_back a b, gap_back (file a) (file b), gap_back (rank a) (rank b)) refl
-back men c Queen a b h = rw (eq_back a b, ← line_back a b, diagonal_back a b, clear_back men a b) refl
-back men c Rook a b h = rw (eq_back a b, ← line_back a b, clear_back men a b) refl
-back men c Bishop a b h = rw (eq_back a b, diagonal_back a b, clear_back men a b) refl
-back men c Knight a b h = rw (gap_back (file a) (file b), gap_back (rank a) (rank b)) refl
+back men c King a b h = rw (eq_back a b, abs_diff_back (file a) (file b), abs_diff_back (rank a) (rank b)) refl
+back men c Queen a b h = rw (eq_back a b, ← line_back a b, diagonal_back a b, is_clear_back men a b) refl
+back men c Rook a b h = rw (eq_back a b, ← line_back a b, is_clear_back men a b) refl
+back men c Bishop a b h = rw (eq_back a b, diagonal_back a b, is_clear_back men a b) refl
+back men c Knight a b h = rw (abs_diff_back (file a) (file b), abs_diff_back (rank a) (rank b)) refl
 back men c Pawn a b h = cc
 
 pub officer_attacks : (p : Setup) (kind : Kind) (m : Move) → same_kind Pawn kind ≡ false → same_kind King kind ≡ false

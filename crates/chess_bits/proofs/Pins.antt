@@ -28,11 +28,11 @@ use Rattle.chess_bits.specs.ties.Goes.{lifted}
 use Rattle.chess_base.specs.declared.line.Line.{Line}
 use Rattle.chess_base.specs.declared.line.Line.TheVariants.{Rank, File, Diagonal, Antidiagonal}
 use Rattle.chess_base.specs.shared.Lines.{line_number, same_line}
-use Rattle.chess_bits.proofs.Attackers.{between_back, de_morgan, eq_back}
+use Rattle.chess_bits.proofs.Attackers.{de_morgan, eq_back}
 use Rattle.chess_bits.proofs.BetweenSquares.{are_on_line}
 use Rattle.chess_bits.proofs.BoardSets.{own_of, theirs_of}
 use Rattle.chess_bits.proofs.Freely.{from_not}
-use Rattle.chess_bits.proofs.Geometry.{share_diagonal_is}
+use Rattle.chess_base.proofs.shared.Geometry.{share_diagonal_is, between_back}
 use Rattle.chess_bits.proofs.KingAfter.{mover_some, mover_own, king_stays, check_after, legal_is}
 use Rattle.chess_bits.proofs.Lifted.{lifted_at}
 use Rattle.chess_bits.proofs.Quiet.{IsPlain, lands_over, lands_same, not_passing, could_capture_as_clear}

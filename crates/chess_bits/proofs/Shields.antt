@@ -9,7 +9,7 @@ use Rattle.chess_base.specs.declared.line.Line.{Line}
 use Rattle.chess_base.specs.declared.line.Line.TheVariants.{Rank, File, Diagonal, Antidiagonal}
 use Rattle.chess_bits.specs.ties.Goes.{lifted}
 use Rattle.chess_base.specs.shared.Lines.{line_number, same_line}
-use Rattle.chess_bits.proofs.Geometry.{share_diagonal_is, between_on_line}
+use Rattle.chess_base.proofs.shared.Geometry.{share_diagonal_is, between_on_line}
 use Rattle.chess_bits.proofs.Lifted.{lifted_at}
 
 -- ---- three squares on a line

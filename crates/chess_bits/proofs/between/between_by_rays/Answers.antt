@@ -1,7 +1,8 @@
--- What lies between two squares lies between them the other way round (between_back of Attackers).
+-- What lies between two squares lies between them the other way round (between_back, of chess_base).
 use Rattle.std.proofs.Common.{◌∙◌}
-use Rattle.chess_bits.proofs.Attackers.{between_back, eq_back}
+use Rattle.chess_bits.proofs.Attackers.{eq_back}
 use Rattle.chess_base.specs.shared.Lines.{line_number}
+use Rattle.chess_base.proofs.shared.Geometry.{between_back}
 use Rattle.chess_bits.proofs.between.between_by_rays.Goals as goal
 
 pub returns : goal.returns
