@@ -27,7 +27,7 @@ use Rattle.chess_moves.specs.Promoting.{would_promote}
 use Rattle.chess_bits.specs.ties.Goes.{goes}
 use Rattle.chess_bits.proofs.Patterns.{pattern_by, officer_goes, not_promoting}
 use Rattle.chess_bits.proofs.TargetsOf.{man_told}
-use Rattle.chess_bits.proofs.Attackers.{each_below_same}
+use Rattle.chess_base.proofs.shared.Squares.{each_square_same}
 
 -- ---- the squares of a castling are on one rank
 
@@ -142,8 +142,8 @@ way_is_empty men k met h =
 pub way_is_safe : (men : Men) (c : Colour) (k : Castle) (way : ℕ → Bool)
     → ((x : ℕ) → x < 64 → way x ≡ is_on_way k.king_from k.king_to x)
     → each_square (λ x. not (way x) || not (is_attacked men x (other c))) ≡ castling_way_is_safe men c k
-unfolding each_square castling_way_is_safe
-way_is_safe men c k way h = each_below_same 64 _ _
+unfolding castling_way_is_safe
+way_is_safe men c k way h = each_square_same _ _
     (λ x low. ap (λ t. not t || not (is_attacked men x (other c))) (h x low))
 
 -- ---- the pattern of castling
