@@ -1,6 +1,6 @@
 -- The first half-moves follow from the start too (follows_take of Kept), and the last position of these is the one that
 -- they reach.
-use Rattle.std.proofs.Common.{◌≡◌, List, take, sym, ap, subst, ◌∙◌}
+use Rattle.std.proofs.Common.{List, take, sym, ap, subst, ◌∙◌}
 use Rattle.std.proofs.lemmas.List.{take-map}
 use Rattle.chess_game.specs.Line.{position_after}
 use Rattle.chess_game.specs.ties.PlayedMoves.{moves_of, Follows}
