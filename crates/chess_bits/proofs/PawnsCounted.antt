@@ -197,7 +197,7 @@ to_left : (men : Men) (c : Colour) (a b : ℕ) → Inside c a → (file a ≡ 0 
 unfolding could_capture
 to_left men White a b i off e =
     and_from (abs_diff (file a) (file b) == 1) (rank b == rank a + 1)
-        (eq-eqb (abs_diff (file a) (file b)) 1 (omega (arith, e, off)))
+    (eq-eqb (abs_diff (file a) (file b)) 1 (omega (arith, e, off)))
     (eq-eqb (rank b) (rank a + 1) (omega (arith, e, off)))
 to_left men Black a b i off e =
     and_from (abs_diff (file a) (file b) == 1) (rank a == rank b + 1)
@@ -209,7 +209,7 @@ to_right : (men : Men) (c : Colour) (a b : ℕ) → Inside c a → (file a ≡ 7
 unfolding could_capture
 to_right men White a b i off e =
     and_from (abs_diff (file a) (file b) == 1) (rank b == rank a + 1)
-        (eq-eqb (abs_diff (file a) (file b)) 1 (omega (arith, e, off)))
+    (eq-eqb (abs_diff (file a) (file b)) 1 (omega (arith, e, off)))
     (eq-eqb (rank b) (rank a + 1) (omega (arith, e, off)))
 to_right men Black a b i off e =
     and_from (abs_diff (file a) (file b) == 1) (rank a == rank b + 1)

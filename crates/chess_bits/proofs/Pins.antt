@@ -349,7 +349,7 @@ line_between a b x la lb lx h =
           elim (or_cases (is_between_on_file a b x) (is_between_on_rank a b x) straight) [
             | inl f ↦
                 let one = and_parts ((file x == file a) && (file x == file b))
-                    (is_strictly_between (rank a) (rank b) (rank x))
+                (is_strictly_between (rank a) (rank b) (rank x))
                 f in
                 let two = and_parts (file x == file a) (file x == file b) one.0 in (
                   File,
@@ -358,7 +358,7 @@ line_between a b x la lb lx h =
                 )
             | inr r ↦
                 let one = and_parts ((rank x == rank a) && (rank x == rank b))
-                    (is_strictly_between (file a) (file b) (file x))
+                (is_strictly_between (file a) (file b) (file x))
                 r in
                 let two = and_parts (rank x == rank a) (rank x == rank b) one.0 in (
                   Rank,
@@ -371,7 +371,7 @@ line_between a b x la lb lx h =
           ((share_diagonal a x && share_diagonal x b) && is_strictly_between (rank a) (rank b) (rank x))
           (is_strictly_between (file a) (file b) (file x)) d in
           let two = and_parts (share_diagonal a x && share_diagonal x b)
-              (is_strictly_between (rank a) (rank b) (rank x)) one.0
+          (is_strictly_between (rank a) (rank b) (rank x)) one.0
           in
           let both = and_parts (share_diagonal a x) (share_diagonal x b) two.0 in
           aslant (or_cases (same_line Diagonal a x) (same_line Antidiagonal a x)
