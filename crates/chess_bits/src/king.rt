@@ -84,7 +84,8 @@ impl Bits<'_> {
     }
 
     // Whether an ordinary move of the king, from `king` to `to`, is legal: nothing attacks `to` once the king has left
-    // its square.
+    // its square. As calls, this and `king_ends` made counting take a fifth more instructions.
+    #[inline(always)]
     pub(crate) fn is_safe_step(&self, king: Square, to: Square) -> bool
         ensures { is_man (self.now).side King (man_at (self.now).men king) ≡ true
             → man_moves self.now (move_of king to None) ≡ true → result ≡ is_legal self.now (move_of king to None) }
@@ -97,8 +98,14 @@ impl Bits<'_> {
         !self.sets.of(by).attacks(self.tables, by, to, left)
     }
 
+<<<<<<< HEAD
     // The end squares of the legal moves of the king on `king`, by a step or by castling. With the general test for
     // each move, lists of moves in late endings took 13 % longer.
+=======
+    // The end squares of the legal moves of the king on `king`, by a step or by castling. With the general test for
+    // each move, lists of moves in late endings took 13 % longer.
+    #[inline(always)]
+>>>>>>> e8907dddc0a9064a16c5c31ed559036318cd618d
     pub(crate) fn king_ends(&self, king: Square) -> SquareSet
         requires { is_man (self.now).side King (man_at (self.now).men king) ≡ true }
         ensures { (k : ℕ) → k < 64 → contains result k ≡ is_legal self.now (move_of king k None) }
@@ -123,7 +130,8 @@ impl Bits<'_> {
             && !(is_man(side, Kind::Pawn, man) && is_target(&self.setup, m.to))
     }
 
-    // Whether a pseudo-legal move is legal: the mover's king is not attacked after it.
+    // Whether a pseudo-legal move is legal: the mover's king is not attacked after it. As a call of one that makes the
+    // steps of each move, it made the workload boards 4 % slower.
     #[inline(always)]
     pub(crate) fn is_safe_after(&self, m: &Move) -> bool
         ensures { is_pseudo_legal self.now m.now ≡ true → result ≡ is_legal self.now m.now }

@@ -89,22 +89,21 @@ impl Bits<'_> {
         }
     }
 
-    // The set `targets` of end squares from `from`, corrected for castling to this side: if the king's move from `from`
-    // to the end square of that castling is castling, the result has this square exactly if the castling is legal.
-    fn with_castling(
+    // What `with_castling` gives where the right to castle to this side is there, with the rook on `rook`. In most
+    // positions of a game it is not, so only the test for it is inlined.
+    #[inline(never)]
+    fn with_right(
         &self,
         targets: SquareSet,
         from: Square,
         castling_side: CastlingSide,
+        rook: Square,
     ) -> SquareSet
+        requires { right_of (self.now).rights (self.now).side castling_side ≡ Some rook }
         ensures { (k : ℕ) → k < 64 → contains result k ≡ castling_or self.now castling_side from k (contains targets k) }
     {
-        let side = self.setup.side;
-        let Some(rook) = right_of(self.setup.rights, side, castling_side) else {
-            return targets;
-        };
         let to = match self.setup.variant {
-            Variant::Normal => home_square(side, castled_king_file(castling_side)),
+            Variant::Normal => home_square(self.setup.side, castled_king_file(castling_side)),
             Variant::Fischerandom => rook,
         };
         let m = Move {
@@ -121,6 +120,23 @@ impl Bits<'_> {
         } else {
             targets.without(end)
         }
+    }
+
+    // The set `targets` of end squares from `from`, corrected for castling to this side: if the king's move from `from`
+    // to the end square of that castling is castling, the result has this square exactly if the castling is legal.
+    #[inline(always)]
+    fn with_castling(
+        &self,
+        targets: SquareSet,
+        from: Square,
+        castling_side: CastlingSide,
+    ) -> SquareSet
+        ensures { (k : ℕ) → k < 64 → contains result k ≡ castling_or self.now castling_side from k (contains targets k) }
+    {
+        let Some(rook) = right_of(self.setup.rights, self.setup.side, castling_side) else {
+            return targets;
+        };
+        self.with_right(targets, from, castling_side, rook)
     }
 
     // The end squares of the legal castlings of the king on `king`: in normal chess where he arrives (g1), in Chess960
