@@ -98,14 +98,9 @@ impl Bits<'_> {
         !self.sets.of(by).attacks(self.tables, by, to, left)
     }
 
-<<<<<<< HEAD
-    // The end squares of the legal moves of the king on `king`, by a step or by castling. With the general test for
-    // each move, lists of moves in late endings took 13 % longer.
-=======
     // The end squares of the legal moves of the king on `king`, by a step or by castling. With the general test for
     // each move, lists of moves in late endings took 13 % longer.
     #[inline(always)]
->>>>>>> e8907dddc0a9064a16c5c31ed559036318cd618d
     pub(crate) fn king_ends(&self, king: Square) -> SquareSet
         requires { is_man (self.now).side King (man_at (self.now).men king) ≡ true }
         ensures { (k : ℕ) → k < 64 → contains result k ≡ is_legal self.now (move_of king k None) }
