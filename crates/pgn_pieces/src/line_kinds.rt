@@ -1,4 +1,5 @@
-//! Which kind of line a line of a collection is.
+//! Which kind of line a line of a collection is. All functions here are inlined, since `verify --keep-going` asks this
+//! of every line of a collection (the workload collections). What that gains was not measured apart.
 
 ghost use Rattle.std.specs.Prelude.{◌≡◌, ◌≤◌, true, false, length, take, drop, codes};
 ghost use Rattle.std.specs.Str.{bytes_eq};

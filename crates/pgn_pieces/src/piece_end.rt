@@ -1,4 +1,4 @@
-//! Where a piece ends.
+//! Where a piece ends. The functions of the search are inlined for the reason at the head of line_kinds.rt.
 
 ghost use Rattle.std.specs.Prelude.{◌≡◌, ◌<◌, ◌++◌, ◌∷◌, ◌&&◌, ◌||◌, List, ℕ, [], length, take, drop, true, false};
 ghost use Rattle.pgn_pieces.specs.ties.Held.{HasSeen, Steps, SeesWhole, Looks, has_line_end};
