@@ -112,8 +112,8 @@ impl Bits<'_> {
         self.castling_ends(king).union(safe)
     }
 
-    // Whether the move `m` is neither the king's nor a pawn's to the en passant target: so only its two squares change, and
-    // the king stays.
+    // Whether the move `m` is neither the king's nor a pawn's to the en passant target: so only its two squares change,
+    // and the king stays.
     #[inline(always)]
     fn steps_plainly(&self, m: &Move) -> bool
         ensures { result ≡ (not (is_man (self.now).side King (man_at (self.now).men m.now.from))
@@ -125,8 +125,8 @@ impl Bits<'_> {
             && !(is_man(side, Kind::Pawn, man) && is_target(&self.setup, m.to))
     }
 
-    // Whether a pseudo-legal move is legal: the mover's king is not attacked after it. As a call of one that makes the steps
-    // of each move, it made the workload boards 4 % slower.
+    // Whether a pseudo-legal move is legal: the mover's king is not attacked after it. As a call of one that makes the
+    // steps of each move, it made the workload boards 4 % slower.
     #[inline(always)]
     pub(crate) fn is_safe_after(&self, m: &Move) -> bool
         ensures { is_pseudo_legal self.now m.now ≡ true → result ≡ is_legal self.now m.now }

@@ -89,8 +89,8 @@ impl Bits<'_> {
         }
     }
 
-    // What `with_castling` gives where the right to castle to this side is there, with the rook on `rook`. In most positions
-    // of a game it is not, so only the test for it is inlined.
+    // What `with_castling` gives where the right to castle to this side is there, with the rook on `rook`. In most
+    // positions of a game it is not, so only the test for it is inlined.
     #[inline(never)]
     fn with_right(
         &self,

@@ -54,8 +54,8 @@ fn difference(these: SquareSet, those: SquareSet) -> SquareSet
 }
 
 impl PackedMen {
-    // The pieces of the board's position, as sets of squares. Each of White's is asked for once, since a plain board goes
-    // over its 64 squares each time.
+    // The pieces of the board's position, as sets of squares. Each of White's is asked for once, since a plain board
+    // goes over its 64 squares each time.
     #[tactic(auto, using(crate::proofs::AsSets::white_kinds))]
     #[inline(always)]
     fn of<B: Board>(board: &B) -> Self
