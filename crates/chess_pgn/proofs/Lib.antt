@@ -9,9 +9,7 @@ mod GameReads
 mod GameTexts
 mod LastTagReads
 mod LeftTokens
-mod MoveBytes
 mod NormalGames
-mod OfTokens
 mod PgnFen
 mod PgnMoves
 mod PgnPieces
@@ -21,6 +19,7 @@ mod PgnWords
 mod PlainBytes
 mod ShortTokens
 mod Skipped
+mod StepKinds
 mod SkippedTokens
 mod Strings
 mod TagLines

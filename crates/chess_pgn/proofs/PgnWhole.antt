@@ -29,7 +29,10 @@ use Rattle.chess_pgn.specs.laws.TokenByToken.{SoFar, game_of, nothing_read, toke
 use Rattle.chess_pgn.specs.GameText.{fen_lines, start_lines_in, last_lines, further_lines, tag_lines, move_tokens, game_tokens, pgn}
 use Rattle.chess_pgn.specs.laws.PgnLaw.{AreTagTexts, IsReadBack, PgnIsReadBack}
 use Rattle.chess_pgn.specs.Tokens.{after_byte_order_mark, begins_line, tokens_of, tokens_from}
-use Rattle.chess_pgn.specs.Written.{tag_line, ended, filled_from}
+use Rattle.chess_pgn.specs.Written.{tag_line, ended}
+use Rattle.chess_pgn.proofs.FilledLines.{AreShort, filled_from}
+use Rattle.chess_pgn.proofs.GameTexts.{pgn_filled}
+use Rattle.chess_pgn.proofs.ShortTokens.{game_is_short}
 use Rattle.chess_pgn.proofs.GamesByTags.{reads_alike}
 use Rattle.chess_pgn.proofs.PgnMoves.{outcome_some, filled_long, outcome_read, read_so_far, moves_read}
 use Rattle.chess_pgn.proofs.PgnPieces.{read_on, TakesLine, empty_line, tagged, ended_game, plain_tag, termination_tag, fen_tag}
@@ -185,14 +188,15 @@ module _ (limit total : ℕ) where
       ≡ ended_game (Some (termination_of tags.ended (outcome_now s)))
       (record { start = s.start; moves = s.moves; declared = None }) (outcome_now s)
       (total - length (outcome_text (outcome_now s) ++ 10 ∷ 10 ∷ rest) + length (outcome_text (outcome_now s)))
-  unfolding pgn
   text_read after_law law initial t texts s h begins rest =
       let o : Outcome = outcome_now s in
       let said : Option Termination = Some (termination_of t.ended o) in
       let moves : List ℕ = filled_from [] 0 (game_tokens s) in
       let r : GameRead = ended_game said (record { start = s.start; moves = s.moves; declared = None }) o
       (total - length (outcome_text o ++ 10 ∷ 10 ∷ rest) + length (outcome_text o)) in
-      ap (read_on limit total (nothing_read s.start.variant) begins)
+      ap (λ text. read_on limit total (nothing_read s.start.variant) begins (text ++ rest))
+      (pgn_filled [] t s (game_is_short (record { limit = limit; state = s }) h))
+      ∙ ap (read_on limit total (nothing_read s.start.variant) begins)
       (grouped (ended [] (tag_lines t s ++ [] ∷ [])) moves rest)
       ∙ tags_read law initial t texts s h.start begins (moves ++ 10 ∷ rest)
       ∙ moves_read limit total after_law said s.start s.moves (record { few = h.limit; unended = h.unended })
@@ -229,12 +233,12 @@ read_after limit before text v offset said =
     (sym (variants_are (tokens_of (length text) (begins_line whole (length before)) text)) ∙ said)
 
 -- the variant that a game's text names
-variant_is : (tags : Tags) → AreTagTexts tags → (s : State) → IsSound s.start → (begins : Bool) (rest : List ℕ)
-    → said_on Normal begins (pgn [] tags s ++ rest) ≡ s.start.variant
-unfolding pgn
-variant_is t texts s sound begins rest =
+variant_is : (tags : Tags) → AreTagTexts tags → (s : State) → IsSound s.start → AreShort (game_tokens s)
+    → (begins : Bool) (rest : List ℕ) → said_on Normal begins (pgn [] tags s ++ rest) ≡ s.start.variant
+variant_is t texts s sound short begins rest =
     let moves : List ℕ = filled_from [] 0 (game_tokens s) in
-    ap (said_on Normal begins) (grouped (ended [] (tag_lines t s ++ [] ∷ [])) moves rest)
+    ap (λ text. said_on Normal begins (text ++ rest)) (pgn_filled [] t s short)
+    ∙ ap (said_on Normal begins) (grouped (ended [] (tag_lines t s ++ [] ∷ [])) moves rest)
     ∙ tags_say t texts s sound begins (moves ++ 10 ∷ rest)
     ∙ moves_say s.start.variant s rest sound
 
@@ -245,12 +249,12 @@ first_bytes tags s = refl
 longer : (a b : List ℕ) (n : ℕ) → n < length b → n + 2 ≤ length (a ++ b ++ 10 ∷ [])
 longer a b n h = omega (arith, length-append (a ++ b) (10 ∷ []), length-append a b)
 
-pgn_long : (tags : Tags) (s : State) → length (outcome_text (outcome_now s)) + 2 ≤ length (pgn [] tags s)
-unfolding pgn
-pgn_long tags s =
+pgn_long : (tags : Tags) (s : State) → AreShort (game_tokens s)
+    → length (outcome_text (outcome_now s)) + 2 ≤ length (pgn [] tags s)
+pgn_long tags s short =
     let t : List ℕ = outcome_text (outcome_now s) in
-    longer (ended [] (tag_lines tags s ++ [] ∷ [])) (filled_from [] 0 (game_tokens s)) (length t)
-    (filled_long 0 (move_tokens true s.start s.moves) t (outcome_some (outcome_now s)))
+    rw (pgn_filled [] tags s short) (longer (ended [] (tag_lines tags s ++ [] ∷ [])) (filled_from [] 0 (game_tokens s)) (length t)
+    (filled_long 0 (move_tokens true s.start s.moves) t (outcome_some (outcome_now s))))
 
 -- ---- the law
 
@@ -274,6 +278,7 @@ pub pgn_law : AfterIsSound → WrittenIsReadBack → IsSound (initial_setup_of N
 pgn_law after_law law initial limit tags s before rest texts h =
     let written : List ℕ = pgn [] tags s in
     let o : List ℕ = outcome_text (outcome_now s) in
+    let short = game_is_short (record { limit = limit; state = s }) h in
     let total : ℕ = length (before ++ (written ++ rest)) in
     let offset : after_byte_order_mark (before ++ (written ++ rest)) (length before) ≡ length before =
     rw (first_bytes tags s) (no_mark before 91 (drop 1 written ++ rest) refl) in
@@ -283,7 +288,7 @@ pgn_law after_law law initial limit tags s before rest texts h =
     (total - length (o ++ 10 ∷ 10 ∷ rest) + length o) =
     ap (λ text. pgn_read limit text (length before)) (append_assoc before written rest)
     ∙ read_after limit before (written ++ rest) s.start.variant offset
-    (variant_is tags texts s h.start (begins_line (before ++ (written ++ rest)) (length before)) rest)
+    (variant_is tags texts s h.start short (begins_line (before ++ (written ++ rest)) (length before)) rest)
     ∙ text_read limit total after_law law initial tags texts s h
     (begins_line (before ++ (written ++ rest)) (length before)) rest in
     subst (IsReadBack s (termination_of tags.ended (outcome_now s)) (length (before ++ written))) (sym is) (record {
@@ -299,6 +304,6 @@ pgn_law after_law law initial limit tags s before rest texts h =
         length-append before
             written,
         length-append o (10 ∷ 10 ∷ rest),
-        pgn_long tags s,
+        pgn_long tags s short,
       );
     })

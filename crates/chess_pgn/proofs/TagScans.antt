@@ -6,7 +6,7 @@ use Rattle.std.specs.Prelude.{if◌then◌else◌, codes}
 use Rattle.chess_base.specs.declared.man.Variant.{Variant}
 use Rattle.chess_base.specs.declared.man.Variant.TheVariants.{Normal}
 use Rattle.chess_pgn.specs.GameRead.{variant_named, tagged_variant}
-use Rattle.chess_pgn.specs.LastTags.{may_precede_tags, named_tag}
+use Rattle.chess_pgn.specs.LastTags.{may_precede_tags, named_tag, own_tags}
 use Rattle.chess_pgn.specs.Tokens.{Token}
 
 -- the last tag of a name among tokens, or the one before them
@@ -72,5 +72,5 @@ variant_from_is before (t ∷ ts) =
         ap (λ v. variant_from v ts) (said_or (named_tag (codes "Variant") t.1) before) ∙ later
     by_test false later = refl
 
-pub variants_are : (ts : List (ℕ × Token)) → variant_from Normal ts ≡ tagged_variant ts
+pub variants_are : (ts : List (ℕ × Token)) → variant_from Normal ts ≡ tagged_variant (own_tags ts)
 variants_are ts = variant_from_is None ts

@@ -27,7 +27,9 @@ use Rattle.chess_text.specs.San.{san}
 use Rattle.chess_base.specs.Moves.{after}
 use Rattle.chess_pgn.specs.Tokens.{Token, Skip, Tag, Word, is_word_byte, token_at, tokens_of}
 use Rattle.chess_pgn.specs.Words.{word_kind}
-use Rattle.chess_pgn.specs.Written.{escaped, tag_line, ended, next_column, filled_from}
+use Rattle.chess_pgn.specs.Written.{escaped, tag_line, ended}
+use Rattle.chess_pgn.specs.ties.Lines.{next_column}
+use Rattle.chess_pgn.proofs.FilledLines.{filled_from}
 use Rattle.chess_pgn.proofs.PgnFen.{fen_bare}
 use Rattle.chess_pgn.proofs.PgnPieces.{termination_bare}
 use Rattle.chess_pgn.proofs.PgnTags.{is_in_line, bare_in_line, is_tag_name, tag_token, tag_line_bytes, tag_text_in_line}

@@ -28,7 +28,7 @@ use Rattle.chess_pgn.specs.declared.read.PgnFaultKind.{PgnFaultKind}
 use Rattle.chess_pgn.specs.declared.read.PgnFaultKind.TheVariants.{BadTag, BadFen, BadToken, IllegalMove, AmbiguousMove, AfterEnd, TooLong, UnclosedComment, UnclosedVariation, NoResult}
 use Rattle.chess_pgn.specs.declared.termination.Termination.{Termination}
 use Rattle.chess_pgn.specs.Terminations.{termination_named}
-use Rattle.chess_pgn.specs.LastTags.{last_tag, may_precede_tags, named_tag}
+use Rattle.chess_pgn.specs.LastTags.{own_tags, tags_named, last_tag}
 use Rattle.chess_pgn.specs.Tokens.{Token, Skip, Tag, Word, Bad_tag, Unclosed_comment, Unclosed_variation, Bad, after_byte_order_mark, tokens_from}
 use Rattle.chess_pgn.specs.Words.{outcome_of}
 
@@ -130,14 +130,9 @@ abbrev pub is_tag : ℕ × Token → Bool
 is_tag (to_end, Tag name string at_string) = true
 is_tag _ = false
 
--- the tags of this name, each as its text and how many bytes are left where that begins
-abbrev pub tags_named : List ℕ → List (ℕ × Token) → List (List ℕ × ℕ)
-tags_named name tags = filter_map (λ t. named_tag name t.1) tags
-
 -- what the last tag Termination names
 abbrev pub last_termination : List (ℕ × Token) → Option Termination
-last_termination tags =
-    option_and_then (λ tag. termination_named tag.0) (last_or None (tags_named (codes "Termination") tags))
+last_termination tags = option_and_then (λ tag. termination_named tag.0) (last_tag (codes "Termination") tags)
 
 -- what the tags FEN denote in the variant `v`, each with how many bytes are left where its text begins
 abbrev pub fens : Variant → List (ℕ × Token) → List (Result Setup FenFault × ℕ)
@@ -167,9 +162,9 @@ variant_named text =
     || str_eq_ignore_ascii_case text (codes "chess960") then Fischerandom
     else Normal
 
--- the variant that the last tag Variant among the game's own tags names; normal chess if there is no such tag
+-- the variant that the last tag Variant names; normal chess if there is no such tag
 abbrev pub tagged_variant : List (ℕ × Token) → Variant
-tagged_variant tokens = option_map_or (λ tag. variant_named tag.0) (last_tag (codes "Variant") tokens) Normal
+tagged_variant tags = option_map_or (λ tag. variant_named tag.0) (last_tag (codes "Variant") tags) Normal
 
 -- ---- the game
 
@@ -181,19 +176,15 @@ after_tags limit total termination s has_tags ((to_end, Bad_tag) ∷ rest) =
 after_tags limit total termination s false [] = record { state = s; answer = Ok None }
 after_tags limit total termination s has_tags rest = moves_read limit total termination s rest
 
--- what is read of a game of variant `v` with these tags and these tokens after them, in a text of `total` bytes: the
--- fault of a FEN, or else what is read after the tags from the start that they give
-abbrev pub game_read : ℕ → ℕ → Variant → List (ℕ × Token) → List (ℕ × Token) → GameRead
-game_read limit total v tags rest =
-    let s = from_start (last_start (initial_setup_of v) (fens v tags)) in
-    option_map_or (failed s) (first_bad_fen total (fens v tags))
-    (after_tags limit total (last_termination tags) s (list_any is_tag tags) rest)
-
--- what is read of these tokens, in a text of `total` bytes: of its tags, and then of the tokens after them
+-- what is read of these tokens, in a text of `total` bytes: the fault of a FEN, or else what is read after the tags from
+-- the start that they give, in the variant that they name
 abbrev pub read_of_split : ℕ → ℕ → List (ℕ × Token) → GameRead
 read_of_split limit total tokens =
-    let tags = take_while (λ t. may_precede_tags t.1) tokens in
-    game_read limit total (tagged_variant tokens) tags (drop (length tags) tokens)
+    let tags = own_tags tokens in
+    let v = tagged_variant tags in
+    let s = from_start (last_start (initial_setup_of v) (fens v tags)) in
+    option_map_or (failed s) (first_bad_fen total (fens v tags))
+    (after_tags limit total (last_termination tags) s (list_any is_tag tags) (drop (length tags) tokens))
 
 -- what is read of a text from the offset `at` on: the game up to its outcome mark and where it ended, or `None` if no
 -- game is left, or the first fault. `limit` is the most half-moves of a game

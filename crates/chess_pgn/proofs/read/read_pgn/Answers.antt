@@ -51,5 +51,7 @@ returns-in_err-further-in-Ok-Some-clause-undeclared g c =
     bare_at_fault c.loop-token.game.limit (length c.args.text.now)
     (so_far c.loop-token.game.state c.loop-token.progress) _ (token_seen c.in-Ok-Some.token)
     c.apply_token.new.game.state c.in_err-further-in-Ok-Some.field-0.0 c.from_residual.result
+    (token_within c.args.text.now c.loop-token.offset (token_seen c.in-Ok-Some.token) _ c.loop-token.invariant.offset
+    (rw c.in-Ok-Some.field-0-is at c.in-Ok-Some.ensures).0)
     c.loop-token.invariant.undeclared
     c.in_err-further-in-Ok-Some.ensures.step
