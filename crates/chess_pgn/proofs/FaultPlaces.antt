@@ -20,8 +20,8 @@ use Rattle.chess_pgn.proofs.StepKinds.{StepIs, passes, stays, plays, starts, sto
 use Rattle.chess_pgn.proofs.TokenPlaces.{within}
 use Rattle.chess_pgn.proofs.Walk.{shorter}
 
--- what was read from an offset on, with `done` half-moves before it and `moves` in the end: a fault is from there to the
--- offset `last`, and an end leaves a byte for each half-move
+-- what was read from an offset on, with `done` half-moves before it and `moves` in the end: a fault is from there to
+-- the offset `last`, and an end leaves a byte for each half-move
 abbrev InPlace : ℕ → ℕ → ℕ → ℕ → Result (Option PgnEnd) PgnFault → Type 0
 InPlace first last done moves (Ok None) = Unit {0}
 InPlace first last done moves (Ok (Some e)) = moves + first ≤ done + e.offset

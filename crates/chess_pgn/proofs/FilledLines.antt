@@ -15,8 +15,8 @@ AreShort tokens = AllByRecursion (λ t. (0 < length t) × (length t ≤ 79)) tok
 
 -- ---- as they are written
 
--- the text of these tokens, each line after `prefix`, where the line that is begun has `column` bytes so far (0: none is
--- begun)
+-- the text of these tokens, each line after `prefix`, where the line that is begun has `column` bytes so far (0: none
+-- is begun)
 abbrev pub filled_from : List ℕ → ℕ → List (List ℕ) → List ℕ
 filled_from prefix column [] = line_close column
 filled_from prefix column (t ∷ ts) = wrapped_token prefix column t ++ filled_from prefix (next_column column t) ts

@@ -11,7 +11,8 @@ use Rattle.chess_pgn.proofs.ShortTokens.{game_is_short}
 pub written : (prefix : List ℕ) (t : Tags) (limit : ℕ) (s : State)
     → IsPlayable (record { limit = limit; state = s }) → IsPgn prefix t s (pgn prefix t s)
 unfolding pgn
-written prefix t limit s playable = by_tokens (game_tokens s) refl (game_is_short (record { limit = limit; state = s }) playable)
+written prefix t limit s playable =
+    by_tokens (game_tokens s) refl (game_is_short (record { limit = limit; state = s }) playable)
   where
     by_tokens : (ts : List (List ℕ)) → ts ≡ game_tokens s → AreShort ts
         → IsPgn prefix t s (ended prefix (tag_lines t s ++ [] ∷ lines_of ts ++ [] ∷ []))

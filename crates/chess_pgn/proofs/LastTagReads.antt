@@ -19,7 +19,8 @@ InText total tag = IfSome tag (λ t. t.to_end ≤ total)
 pub record Reads (text name : List ℕ) (from : ℕ) (last : Option Tag) (here : ℕ) : Type 0 where
   pub offset : here ≤ length text
   pub within : InText (length text) last
-  pub whole : last_from name (found_seen last) (tokens_from text here) ≡ last_tag name (own_tags (tokens_from text from))
+  pub whole : last_from name (found_seen last) (tokens_from text here)
+      ≡ last_tag name (own_tags (tokens_from text from))
 
 pub begun : (text name : List ℕ) (from : ℕ) → from ≤ length text → Reads text name from None from
 begun text name from h = record { offset = h; within = tt; whole = refl }

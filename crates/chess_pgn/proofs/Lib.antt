@@ -26,7 +26,7 @@ mod TagLines
 mod TagParts
 mod TagScans
 mod TokenPlaces
-mod VariantSaid
+mod TagTexts
 mod Variations
 mod Walk
 mod ByteRuns

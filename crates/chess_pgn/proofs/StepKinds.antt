@@ -28,7 +28,8 @@ pub data StepIs (g : SoFar) (first last : ℕ) : Step → Type 0 where
   passes : StepIs g first last (On g)
   stays : (m b : Bool) (t : Option Termination)
       → StepIs g first last (On (record { state = g.state; is_met = m; is_begun = b; termination = t }))
-  plays : (m : Played) → StepIs g first last (On (record g { state = played g.state m; is_met = true; is_begun = true }))
+  plays : (m : Played)
+      → StepIs g first last (On (record g { state = played g.state m; is_met = true; is_begun = true }))
   starts : (p : Setup) → StepIs g first last (On (record g { state = from_start p; is_met = true }))
   stops : (kind : PgnFaultKind) (offset : ℕ) → first ≤ offset → offset ≤ last
       → StepIs g first last (fails g kind offset)

@@ -93,7 +93,8 @@ texts_are_read = record {
 lines_laid_out : (tags : List (List ℕ)) → ended (codes "# ") tags ++ codes "# \n# 1. e4 *\n# \n"
     ≡ ended (codes "# ") (tags ++ [] ∷ codes "1. e4 *" ∷ [] ++ [] ∷ [])
 lines_laid_out tags =
-    sym (flat_map-append (λ (line : List ℕ). codes "# " ++ line ++ 10 ∷ []) (tags ++ [] ∷ codes "1. e4 *" ∷ []) ([] ∷ [])
+    sym (flat_map-append (λ (line : List ℕ). codes "# " ++ line ++ 10 ∷ []) (tags ++ [] ∷ codes "1. e4 *" ∷ [])
+    ([] ∷ [])
     ∙ ap (λ xs. xs ++ codes "# \n")
     (flat_map-append (λ (line : List ℕ). codes "# " ++ line ++ 10 ∷ []) tags ([] ∷ codes "1. e4 *" ∷ []))
     ∙ append_assoc (ended (codes "# ") tags) (codes "# \n# 1. e4 *\n") (codes "# \n"))

@@ -176,8 +176,8 @@ after_tags limit total termination s has_tags ((to_end, Bad_tag) ∷ rest) =
 after_tags limit total termination s false [] = record { state = s; answer = Ok None }
 after_tags limit total termination s has_tags rest = moves_read limit total termination s rest
 
--- what is read of these tokens, in a text of `total` bytes: the fault of a FEN, or else what is read after the tags from
--- the start that they give, in the variant that they name
+-- what is read of these tokens, in a text of `total` bytes: the fault of a FEN, or else what is read after the tags
+-- from the start that they give, in the variant that they name
 abbrev pub read_of_split : ℕ → ℕ → List (ℕ × Token) → GameRead
 read_of_split limit total tokens =
     let tags = own_tags tokens in

@@ -11,7 +11,7 @@ ghost use Rattle.chess_pgn.specs.Tokens.{Token, after_byte_order_mark, tokens_fr
 ghost use Rattle.chess_pgn.specs.laws.Examples.{TextsAreLaidOut, TextsAreRead, TextsAreSplit};
 ghost use Rattle.chess_pgn.specs.laws.Normal.{NormalIsKept};
 ghost use Rattle.chess_pgn.specs.laws.Offsets.{FaultsHaveOffsets, HalfMovesHaveBytes};
-ghost use Rattle.chess_pgn.specs.laws.PgnLaw.{PgnIsReadBack};
+ghost use Rattle.chess_pgn.specs.laws.PgnLaw.{PgnIsReadBack, ResultIsWritten};
 ghost use Rattle.chess_pgn.specs.PgnText.{IsPgn};
 ghost use Rattle.chess_pgn.specs.Split.{IsSplit};
 
@@ -22,9 +22,11 @@ use chess_fen::written_is_denoted;
 /// comes before and after it. The start, the moves and the outcome are those of the game, and the offset returned is
 /// the one after its outcome.
 ///
-/// A result that was declared comes back without its comment, since the text holds none. The tags are not kept.
+/// A result that was declared comes back without its comment, since the text holds none. The tags are not kept; the tag
+/// `Result` names the game's outcome.
 pub fn pgn_is_read_back()
-    ensures { PgnIsReadBack }
+    ensures read { PgnIsReadBack }
+    ensures result { ResultIsWritten }
 {
     // The prover wants these laws: each position of a game is sound, and a FEN that was written is read back.
     after_is_sound();

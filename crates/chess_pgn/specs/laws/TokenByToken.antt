@@ -1,5 +1,5 @@
--- What is read of a game token after token, by a step for each. The law `a_game_is_tags_and_moves` says that this is what
--- the game's tags and then its moves say.
+-- What is read of a game token after token, by a step for each. The law `a_game_is_tags_and_moves` says that this is
+-- what the game's tags and then its moves say.
 use Rattle.std.specs.Prelude.{ℕ, ◌+◌, ◌-◌, nat_lt, Bool, true, false, if◌then◌else◌, List, [], ◌∷◌, length, Option, Some, None, is_some, Result, Ok, Err, codes}
 use Rattle.std.specs.Str.{bytes_eq}
 use Rattle.chess_base.specs.declared.fen_fault.FenFault.{FenFault}

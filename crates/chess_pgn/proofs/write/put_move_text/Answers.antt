@@ -22,7 +22,8 @@ returns-in_err-put_token-clause-added g c =
     adds_exit _ _ c.from_residual-in_err-put_token.result _ _ _
     (second_broke _ _ _ _ _ _ _ _ _
     (moves_are lines.prefix.now before.prefix.now c.text.result.now lines.column before.column _ c.args.game.now
-    c.in_ok-put_moves.ensures.playable c.requires.column c.in_ok-put_moves.ensures.prefix c.in_ok-put_moves.ensures.column
+    c.in_ok-put_moves.ensures.playable c.requires.column c.in_ok-put_moves.ensures.prefix
+    c.in_ok-put_moves.ensures.column
     (c.text.ensures.value ∙ ap outcome_text c.requires.outcome) refl)
     c.in_ok-put_moves.ensures.added c.in_err-put_token.ensures.added)
     c.from_residual-in_err-put_token.ensures.0

@@ -16,7 +16,8 @@ returns-clause-within g c =
 pub returns-clause-fault : goal.returns-clause-fault
 returns-clause-fault g c =
     let (tokens, split, is) = c.result_tag.ensures.tag in
+    let text = c.args.text.now in
     let tag : c.result_tag.result
-    ≡ result_tag_of (length c.args.text.now) (tokens_from c.args.text.now (after_byte_order_mark c.args.text.now c.args.at)) =
-    is ∙ ap (result_tag_of (length c.args.text.now)) (split_read c.args.text.now split) in
+    ≡ result_tag_of (length text) (tokens_from text (after_byte_order_mark text c.args.at)) =
+    is ∙ ap (result_tag_of (length text)) (split_read text split) in
     grind (arith, common_steps, tag)
