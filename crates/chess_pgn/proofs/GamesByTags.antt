@@ -15,7 +15,10 @@ use Rattle.chess_base.specs.declared.setup.Setup.{Setup}
 use Rattle.chess_base.specs.Letters.{byte, is_digit}
 use Rattle.chess_base.specs.Initial.{initial_setup_of}
 use Rattle.chess_fen.specs.Reading.{fen_reading_as}
-use Rattle.chess_game.specs.Game.{State, from_start, played, current, verdict_now}
+use Rattle.chess_game.specs.Game.{Seen, State, from_start, played, current, verdict_now}
+use Rattle.chess_game.specs.Game.{with_state as left_at}
+use Rattle.chess_pgn.specs.declared.read.PgnEnd.{PgnEnd}
+use Rattle.chess_pgn.specs.declared.read.PgnFault.{PgnFault}
 use Rattle.chess_game.specs.declared.results.Outcome.{Outcome}
 use Rattle.chess_text.specs.declared.reading.Reading.{Reading}
 use Rattle.chess_text.specs.declared.reading.Reading.TheVariants as reads
@@ -24,7 +27,7 @@ use Rattle.chess_pgn.specs.declared.termination.Termination.{Termination}
 use Rattle.chess_pgn.specs.Terminations.{termination_named}
 use Rattle.chess_pgn.specs.GameRead.{GameRead, tagged_variant, pgn_read, Passes, Ends, failed, move_row, row, after_row, moves_read, is_tag, fens, last_start, first_bad_fen, after_tags, read_of_split}
 use Rattle.chess_pgn.specs.laws.TokenByToken.{SoFar, Step, On, word_step, move_step, fen_step, step, read_rest_with, game_of, termination_after, tokens_read}
-use Rattle.chess_pgn.specs.laws.TagsAndMoves.{IsRead}
+use Rattle.chess_pgn.specs.GameRead.{IsRead}
 use Rattle.chess_pgn.specs.LastTags.{may_precede_tags, is_marks, own_tags, tags_named}
 use Rattle.chess_pgn.specs.declared.word_kind.WordKind.TheVariants.{End, Number, Marks, Move}
 use Rattle.chess_pgn.specs.Words.{outcome_of, word_kind}
@@ -350,3 +353,11 @@ pub only_read : (limit : ℕ) (text : List ℕ) (at : ℕ) (r : GameRead) → Is
 unfolding pgn_read
 only_read limit text at r h =
     h.is ∙ ap (read_of_split limit (length text)) (split_read text h.split)
+
+-- what was read is what the split of the text says
+pub as_said : (limit : ℕ) (text : List ℕ) (at : ℕ) (old new : Seen) (result : Result (Option PgnEnd) PgnFault)
+    → result ≡ (pgn_read limit text at).answer → new ≡ left_at old (pgn_read limit text at).state
+    → (r : GameRead) → IsRead limit text at r → (result ≡ r.answer) × (new ≡ left_at old r.state)
+as_said limit text at old new result answer state r is =
+    let same : pgn_read limit text at ≡ r = sym (only_read limit text at r is) in
+    (answer ∙ ap (λ (x : GameRead). x.answer) same, state ∙ ap (λ (x : GameRead). left_at old x.state) same)

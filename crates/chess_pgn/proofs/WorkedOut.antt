@@ -15,7 +15,7 @@ use Rattle.chess_text.specs.Moves.{reading}
 use Rattle.chess_pgn.specs.declared.read.PgnFaultKind.TheVariants.{AfterEnd, TooLong}
 use Rattle.chess_pgn.specs.declared.tags.Tags.{Tags}
 use Rattle.chess_pgn.specs.GameRead.{GameRead, Row, Plays, Fails, finished, move_row, after_row, moves_read, read_of_split}
-use Rattle.chess_pgn.specs.laws.TagsAndMoves.{IsRead}
+use Rattle.chess_pgn.specs.GameRead.{IsRead}
 use Rattle.chess_pgn.specs.GameText.{tag_lines, game_tokens}
 use Rattle.chess_pgn.specs.Tokens.{Token, Skip, Tag, Word, after_byte_order_mark, token_at, tokens_of, tokens_from}
 use Rattle.chess_pgn.specs.Written.{ended}

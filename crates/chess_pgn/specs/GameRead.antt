@@ -1,7 +1,7 @@
 -- What is read of a game's text (PGN standard of 1994, sections 7 to 9; which words are taken is this project's own): a
 -- game's tokens are its tags, and then its moves. The tags give the start, and each move's word denotes a move in the
 -- position reached by then. The first token that can't be taken is the fault.
-use Rattle.std.specs.Prelude.{ℕ, ◌+◌, ◌-◌, nat_lt, Bool, true, false, not, ◌||◌, if◌then◌else◌, List, [], ◌∷◌, length, drop, map, codes, slice_get, Option, Some, None, is_some, Result, Ok, Err, option_and_then, ◌==◌}
+use Rattle.std.specs.Prelude.{◌≡◌, ℕ, ◌+◌, ◌-◌, nat_lt, Bool, true, false, not, ◌||◌, if◌then◌else◌, List, [], ◌∷◌, length, drop, map, codes, slice_get, Option, Some, None, is_some, Result, Ok, Err, option_and_then, ◌==◌}
 use Rattle.std.specs.List.{list_all, list_any, filter_map, last_or, take_while}
 use Rattle.std.specs.Option.{option_map_or, unwrap_or}
 use Rattle.std.specs.Result.{is_ok, result_ok}
@@ -30,6 +30,7 @@ use Rattle.chess_pgn.specs.declared.termination.Termination.{Termination}
 use Rattle.chess_pgn.specs.Terminations.{termination_named}
 use Rattle.chess_pgn.specs.LastTags.{own_tags, tags_named, last_tag}
 use Rattle.chess_pgn.specs.Tokens.{Token, Skip, Tag, Word, Bad_tag, Unclosed_comment, Unclosed_variation, Bad, after_byte_order_mark, tokens_from}
+use Rattle.chess_pgn.specs.Split.{IsSplit}
 use Rattle.chess_pgn.specs.Words.{outcome_of}
 
 -- ---- what is read in the end
@@ -190,3 +191,10 @@ read_of_split limit total tokens =
 -- game is left, or the first fault. `limit` is the most half-moves of a game
 unfoldable pub pgn_read : ℕ → List ℕ → ℕ → GameRead
 pgn_read limit text at = read_of_split limit (length text) (tokens_from text (after_byte_order_mark text at))
+
+-- the same, with no reader of tokens: `r` is what is read of the text's split into tokens. By the law
+-- `a_game_is_tags_and_moves` there is one and only one such `r`
+pub record IsRead (limit : ℕ) (text : List ℕ) (at : ℕ) (r : GameRead) : Type 0 where
+  pub tokens : List (ℕ × Token)
+  pub split : IsSplit text (after_byte_order_mark text at) tokens
+  pub is : r ≡ read_of_split limit (length text) tokens

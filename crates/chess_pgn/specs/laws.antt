@@ -3,5 +3,4 @@ pub mod PgnLaw
 pub mod Offsets
 pub mod TokenByToken
 pub mod Normal
-pub mod TagsAndMoves
 pub mod Examples

@@ -4,7 +4,7 @@ ghost use Rattle.std.specs.Prelude.{◌≡◌, List, length, ℕ};
 ghost use Rattle.chess_game.specs.Game.{State, IsPlayable};
 ghost use Rattle.chess_pgn.specs.declared.tags.Tags.{Tags};
 ghost use Rattle.chess_pgn.specs.GameRead.{GameRead, pgn_read};
-ghost use Rattle.chess_pgn.specs.laws.TagsAndMoves.{IsRead};
+ghost use Rattle.chess_pgn.specs.GameRead.{IsRead};
 ghost use Rattle.chess_pgn.specs.laws.TokenByToken.{tokens_read};
 ghost use Rattle.chess_pgn.specs.GameText.{pgn};
 ghost use Rattle.chess_pgn.specs.Tokens.{Token, after_byte_order_mark, tokens_from};

@@ -17,7 +17,7 @@ use Rattle.chess_pgn.specs.Written.{ended}
 use Rattle.chess_pgn.specs.PgnText.{AreFullLines, IsPgn}
 use Rattle.chess_pgn.specs.Split.{IsSplit}
 use Rattle.chess_pgn.specs.GameRead.{failed, finished}
-use Rattle.chess_pgn.specs.laws.TagsAndMoves.{IsRead}
+use Rattle.chess_pgn.specs.GameRead.{IsRead}
 
 -- texts are split so
 pub record TextsAreSplit : Type 0 where
