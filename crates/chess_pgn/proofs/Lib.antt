@@ -36,3 +36,4 @@ mod TokenSplits
 mod GamesByTags
 mod LaidOut
 mod WorkedOut
+mod PlayedWords
