@@ -8,3 +8,4 @@ mod OwnRows
 mod Ends
 mod NormalGames
 mod NormalRows
+mod Accepted

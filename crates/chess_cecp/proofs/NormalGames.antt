@@ -33,7 +33,7 @@ use Rattle.chess_pgn.specs.declared.tags.Tags.{Tags}
 use Rattle.chess_pgn.specs.declared.termination.Termination.{Termination}
 use Rattle.chess_pgn.specs.GameText.{start_lines_in, last_lines, further_lines, roster_lines, tag_lines, number_token, move_tokens, game_tokens, pgn}
 use Rattle.chess_pgn.specs.Terminations.{termination_text, termination_of}
-use Rattle.chess_pgn.specs.Written.{tag_line, ended, move_text_of}
+use Rattle.chess_pgn.specs.Written.{tag_line, ended, lines_of}
 use Rattle.chess_cecp.specs.laws.NormalGame.{normal_initial, normal_line, normal_last, normal_legal_en_passant_square, normal_same, normal_rep, normal_verdict, normal_claims, normal_is_over, normal_outcome_now}
 use Rattle.chess_cecp.specs.laws.NormalPgn.{normal_is_initial, normal_start_lines, normal_further_lines, normal_tag_lines, normal_move_tokens, normal_game_tokens, normal_pgn}
 
@@ -179,7 +179,5 @@ pub pgn_kept : (prefix : List ℕ) (t : Tags) (s : State) → s.start.variant �
     → pgn prefix t s ≡ normal_pgn prefix t s
 unfolding pgn normal_pgn
 pgn_kept prefix t s e =
-    ap (λ tags. ended prefix (tags ++ [] ∷ []) ++ move_text_of prefix (game_tokens s) ++ ended prefix ([] ∷ []))
-    (tags_kept t s e)
-    ∙ ap (λ tokens. ended prefix (normal_tag_lines t s ++ [] ∷ []) ++ move_text_of prefix tokens
-    ++ ended prefix ([] ∷ [])) (tokens_kept s e)
+    ap (λ tags. ended prefix (tags ++ [] ∷ lines_of (game_tokens s) ++ [] ∷ [])) (tags_kept t s e)
+    ∙ ap (λ tokens. ended prefix (normal_tag_lines t s ++ [] ∷ lines_of tokens ++ [] ∷ [])) (tokens_kept s e)

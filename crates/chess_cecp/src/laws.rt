@@ -10,6 +10,7 @@ ghost use Rattle.chess_cecp.specs.Held.{SessionSeen};
 ghost use Rattle.text_lines.specs.Lines.{LineSeen};
 ghost use Rattle.chess_cecp.specs.declared.run.End.{End};
 ghost use Rattle.chess_cecp.specs.Served.{Served};
+ghost use Rattle.chess_cecp.specs.laws.Accepted.{ReadGamesAreAccepted};
 ghost use Rattle.chess_cecp.specs.laws.KnownInput.{AnswersInput, AreFirstLines};
 ghost use Rattle.chess_cecp.specs.laws.Normal.{normal_row_of, has_normal_row};
 ghost use Rattle.chess_cecp.specs.Session.{row, session_response, IsRefusal};
@@ -36,4 +37,11 @@ pub fn reads_change_no_answer()
     ensures lines { (d d2 : Devices) (i : FromInput) → InputGave d.input d2.input i → AreFirstLines d i }
     ensures answers { (s s2 : SessionSeen) (end : End) (d d2 : Devices)
         → Ran (Served session_response s s2 (Ok end)) d d2 → AnswersInput session_response s s2 d d2 }
+{}
+
+/// States a law and does nothing: the moves of a game whose text `read_pgn` of chess_pgn reads without a fault are
+/// accepted by a session that stands at the game's start and admits as many half-moves: sent one after another by
+/// `usermove`, each is played, whichever text denotes it.
+pub fn read_games_are_accepted()
+    ensures { ReadGamesAreAccepted }
 {}

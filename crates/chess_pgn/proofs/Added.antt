@@ -4,14 +4,10 @@ use Rattle.std.specs.List.{flat_map}
 use Rattle.std.proofs.lemmas.List.{take-append-drop}
 use Rattle.std.proofs.lemmas.List.Concat.{flat_map-append}
 use Rattle.byte_devices.specs.Devices.{OutputState, BreaksOff, Puts}
-use Rattle.byte_devices.proofs.shared.Devices.{took_none, took_more, breaks_more, breaks_longer, flat_more}
+use Rattle.byte_devices.proofs.shared.Devices.{took_more, breaks_more, breaks_longer, flat_more}
 use Rattle.chess_pgn.specs.ties.Waiting.{TookSome, Adds}
 
 -- ---- texts that are added
-
--- nothing was added yet
-pub added_none : (a : OutputState) (w : List ℕ) → TookSome a a w w []
-added_none a w = record { out = []; took = took_none a; is = append-nil w }
 
 -- a text, and another
 pub added_more : (a b c : OutputState) (w x y t u : List ℕ) → TookSome a b w x t → TookSome b c x y u

@@ -4,7 +4,7 @@ use Rattle.std.specs.List.{list_all, prefix_len}
 use Rattle.std.proofs.lemmas.Bool.{and_parts}
 use Rattle.std.proofs.lemmas.Bool.Decides.{nat_tests}
 use Rattle.chess_pgn.specs.Tokens.{after_brace}
-use Rattle.chess_pgn.specs.laws.Split.{lacks, IsLongest}
+use Rattle.chess_pgn.specs.Split.{lacks, IsLongest}
 
 pub differs : (p : ℕ → Bool) (c k : ℕ) → p c ≡ true → p k ≡ false → eqb c k ≡ false
 differs p c k h other = by_test (eqb c k) refl

@@ -1,37 +1,62 @@
--- Tokens in filled lines: the text from left to right has the property of lines, and no other text has it.
-use Rattle.std.proofs.Common.{◌≡◌, ℕ, suc, ◌+◌, ◌<◌, ◌≤◌, Bool, true, false, cond, eqb, leb, List, [], ◌∷◌, ◌++◌, length, refl, sym, ap, subst, ◌∙◌, append_assoc, arith}
-use Rattle.std.specs.List.{flat_map}
+-- Tokens in full lines. They are written by how many bytes the line that is begun has; that gives the lines of the
+-- definitions, which are full, and no other lines are.
+use Rattle.std.proofs.Common.{◌≡◌, ℕ, ◌+◌, ◌<◌, ◌≤◌, Bool, true, false, cond, eqb, leb, List, [], ◌∷◌, ◌++◌, length, map, refl, sym, ap, subst, ◌∙◌, append_assoc, arith}
+use Rattle.std.specs.List.{flat_map, AllByRecursion}
+use Rattle.std.proofs.lemmas.Bool.{leb-true, le-leb}
 use Rattle.std.proofs.lemmas.Bool.Decides.{nat_tests}
 use Rattle.std.proofs.lemmas.List.{append-nil, length-append}
-use Rattle.chess_pgn.specs.Written.{filled_from, move_text_of}
-use Rattle.chess_pgn.specs.laws.Layout.{line_text, AreFilled, AreShort, tokens_in, IsMoveText}
+use Rattle.chess_pgn.specs.Written.{ended, lines_from, lines_of}
+use Rattle.chess_pgn.specs.PgnText.{line_text, AreFullLines}
+use Rattle.chess_pgn.specs.ties.Lines.{line_close, wrapped_token, next_column}
 
--- what follows a line that has some bytes
-abbrev placed_after : List ℕ → ℕ → List (List ℕ) → List ℕ
-placed_after prefix column [] = 10 ∷ []
-placed_after prefix column (t ∷ ts) =
-    cond (leb (column + 1 + length t) 79) (32 ∷ t ++ placed_after prefix (column + 1 + length t) ts)
-    (10 ∷ prefix ++ t ++ placed_after prefix (length t) ts)
+-- each token fits into a line: it has 1 to 79 bytes
+abbrev pub AreShort : List (List ℕ) → Type 0
+AreShort tokens = AllByRecursion (λ t. (0 < length t) × (length t ≤ 79)) tokens
 
-placed_after_is : (prefix : List ℕ) (column : ℕ) (ts : List (List ℕ)) → 0 < column → AreShort ts
-    → filled_from prefix column ts ≡ placed_after prefix column ts
-placed_after_is prefix column [] some short = let e : eqb column 0 ≡ false = grind (arith, nat_tests) in rw e refl
-placed_after_is prefix column (t ∷ ts) some short =
-    let e : eqb column 0 ≡ false = grind (arith, nat_tests) in
-    rw e (by_test (leb (column + 1 + length t) 79) (placed_after_is prefix (column + 1 + length t) ts
-    (omega arith) short.1)
-    (placed_after_is prefix (length t) ts short.0.0 short.1))
+-- ---- as they are written
+
+-- the text of these tokens, each line after `prefix`, where the line that is begun has `column` bytes so far (0: none
+-- is begun)
+abbrev pub filled_from : List ℕ → ℕ → List (List ℕ) → List ℕ
+filled_from prefix column [] = line_close column
+filled_from prefix column (t ∷ ts) = wrapped_token prefix column t ++ filled_from prefix (next_column column t) ts
+
+line_filled : (prefix line : List ℕ) (ts : List (List ℕ)) → 0 < length line → AreShort ts
+    → prefix ++ (line ++ filled_from prefix (length line) ts) ≡ ended prefix (lines_from line ts)
+line_filled prefix line [] some short =
+    let e : eqb (length line) 0 ≡ false = grind (arith, nat_tests) in
+    rw e (sym (append_assoc prefix line (10 ∷ [])) ∙ sym (append-nil (prefix ++ line ++ 10 ∷ [])))
+line_filled prefix line (t ∷ ts) some short =
+    let e : eqb (length line) 0 ≡ false = grind (arith, nat_tests) in
+    let len : length (line ++ 32 ∷ t) ≡ length line + 1 + length t = omega (arith, length-append line (32 ∷ t)) in
+    rw (e, len) (by_test (leb (length line + 1 + length t) 79)
+    (ap (λ n. prefix ++ ((line ++ 32 ∷ t) ++ filled_from prefix n ts)) (sym len)
+    ∙ line_filled prefix (line ++ 32 ∷ t) ts (omega (arith, len)) short.1)
+    (line_filled prefix t ts short.0.0 short.1))
   where
-    by_test : (b : Bool) → filled_from prefix (column + 1 + length t) ts
-        ≡ placed_after prefix (column + 1 + length t) ts
-        → filled_from prefix (length t) ts ≡ placed_after prefix (length t) ts
-        → cond b (32 ∷ t) (10 ∷ prefix ++ t) ++ filled_from prefix (cond b (column + 1 + length t) (length t)) ts
-        ≡ cond b (32 ∷ t ++ placed_after prefix (column + 1 + length t) ts)
-        (10 ∷ prefix ++ t ++ placed_after prefix (length t) ts)
-    by_test true h k = ap (λ xs. 32 ∷ t ++ xs) h
-    by_test false h k = ap (λ xs. 10 ∷ prefix ++ t ++ xs) k
+    by_test : (b : Bool)
+        → prefix ++ ((line ++ 32 ∷ t) ++ filled_from prefix (length line + 1 + length t) ts)
+        ≡ ended prefix (lines_from (line ++ 32 ∷ t) ts)
+        → prefix ++ (t ++ filled_from prefix (length t) ts) ≡ ended prefix (lines_from t ts)
+        → prefix ++ (line ++ (cond b (32 ∷ t) (10 ∷ prefix ++ t)
+        ++ filled_from prefix (cond b (length line + 1 + length t) (length t)) ts))
+        ≡ ended prefix (cond b (lines_from (line ++ 32 ∷ t) ts) (line ∷ lines_from t ts))
+    by_test true here next =
+        ap (λ xs. prefix ++ xs) (sym (append_assoc line (32 ∷ t) (filled_from prefix (length line + 1 + length t) ts)))
+        ∙ here
+    by_test false here next =
+        let more : List ℕ = filled_from prefix (length t) ts in
+        let regroup : prefix ++ (line ++ ((10 ∷ prefix ++ t) ++ more))
+        ≡ (prefix ++ line ++ 10 ∷ []) ++ (prefix ++ (t ++ more)) = simp append_assoc in
+        regroup ∙ ap (λ xs. (prefix ++ line ++ 10 ∷ []) ++ xs) next
 
--- ---- it has the property
+pub all_filled : (prefix : List ℕ) (ts : List (List ℕ)) → AreShort ts
+    → filled_from prefix 0 ts ≡ ended prefix (lines_of ts)
+all_filled prefix [] short = refl
+all_filled prefix (t ∷ ts) short =
+    append_assoc prefix t (filled_from prefix (length t) ts) ∙ line_filled prefix t ts short.0.0 short.1
+
+-- ---- the lines as lists of tokens
 
 line_text-push : (t : List ℕ) (ts : List (List ℕ)) (u : List ℕ)
     → line_text (t ∷ ts ++ u ∷ []) ≡ line_text (t ∷ ts) ++ 32 ∷ u
@@ -39,113 +64,112 @@ line_text-push t [] u = refl
 line_text-push t (s ∷ ts) u = ap (λ text. t ++ 32 ∷ text) (line_text-push s ts u)
     ∙ sym (append_assoc t (32 ∷ line_text (s ∷ ts)) (32 ∷ u))
 
-abbrev ended : List ℕ → List (List ℕ) → List ℕ
-ended prefix line = prefix ++ line_text line ++ 10 ∷ []
+-- the line that is begun with these tokens, and the lines after it
+abbrev pub grouped : List (List ℕ) → List (List ℕ) → List (List (List ℕ))
+grouped line [] = line ∷ []
+grouped line (t ∷ ts) =
+    cond (leb (length (line_text (line ++ t ∷ []))) 79) (grouped (line ++ t ∷ []) ts) (line ∷ grouped (t ∷ []) ts)
 
--- how the tokens go on after a line that has t and ts
-record GoesOn (prefix t : List ℕ) (ts rest : List (List ℕ)) : Type 0 where
-  more : List (List ℕ)
-  others : List (List (List ℕ))
-  filled : AreFilled ((t ∷ (ts ++ more)) ∷ others)
-  all : more ++ tokens_in others ≡ rest
-  text : line_text (t ∷ ts) ++ placed_after prefix (length (line_text (t ∷ ts))) rest
-      ≡ (line_text (t ∷ (ts ++ more)) ++ 10 ∷ []) ++ flat_map (ended prefix) others
-
--- the next token is still taken
-takes_more : (prefix t : List ℕ) (ts : List (List ℕ)) (u : List ℕ) (us : List (List ℕ))
-    → leb (length (line_text (t ∷ ts)) + 1 + length u) 79 ≡ true
-    → length (line_text (t ∷ (ts ++ u ∷ []))) ≡ length (line_text (t ∷ ts)) + 1 + length u
-    → GoesOn prefix t (ts ++ u ∷ []) us → GoesOn prefix t ts (u ∷ us)
-takes_more prefix t ts u us e pushed g =
-    let line : List ℕ = line_text (t ∷ ts) in
-    let rest : List ℕ = placed_after prefix (length line + 1 + length u) us in
-    let regroup : ts ++ u ∷ g.more ≡ (ts ++ u ∷ []) ++ g.more = sym (append_assoc ts (u ∷ []) g.more) in
-    record {
-      more = u ∷ g.more;
-      others = g.others;
-      filled = subst (λ (xs : List (List ℕ)). AreFilled ((t ∷ xs) ∷ g.others)) (sym regroup) g.filled;
-      all = ap (λ xs. u ∷ xs) g.all;
-      text =
-          ap (λ b. line ++ cond b (32 ∷ u ++ rest) (10 ∷ prefix ++ u ++ placed_after prefix (length u) us)) e
-          ∙ sym (append_assoc line (32 ∷ u) rest)
-          ∙ ap (λ xs. xs ++ rest) (sym (line_text-push t ts u))
-          ∙ ap (λ n. line_text (t ∷ (ts ++ u ∷ [])) ++ placed_after prefix n us) (sym pushed)
-          ∙ g.text
-          ∙ ap (λ (xs : List (List ℕ)). (line_text (t ∷ xs) ++ 10 ∷ []) ++ flat_map (ended prefix) g.others)
-          (sym regroup);
-    }
-
-line_ended : (prefix u rest : List ℕ) (more : List (List ℕ)) (others : List (List (List ℕ)))
-    → u ++ rest ≡ (line_text (u ∷ more) ++ 10 ∷ []) ++ flat_map (ended prefix) others
-    → prefix ++ u ++ rest ≡ ended prefix (u ∷ more) ++ flat_map (ended prefix) others
-line_ended prefix u rest more others e =
-    append_assoc prefix u rest ∙ ap (λ xs. prefix ++ xs) e ∙ simp append_assoc
-
--- the next token begins a line
-begins_line : (prefix t : List ℕ) (ts : List (List ℕ)) (u : List ℕ) (us : List (List ℕ))
-    → leb (length (line_text (t ∷ ts)) + 1 + length u) 79 ≡ false → length (line_text (t ∷ ts)) ≤ 79
-    → 79 < length (line_text (t ∷ ts)) + 1 + length u → GoesOn prefix u [] us → GoesOn prefix t ts (u ∷ us)
-begins_line prefix t ts u us e h over next =
-    let line : List ℕ = line_text (t ∷ ts) in
-    let whole : ts ≡ ts ++ [] = sym (append-nil ts) in
-    let rest : List ℕ = placed_after prefix (length line + 1 + length u) us in
-    record {
-      more = [];
-      others = (u ∷ next.more) ∷ next.others;
-      filled = subst (λ (xs : List (List ℕ)). AreFilled ((t ∷ xs) ∷ (u ∷ next.more) ∷ next.others)) whole
-          (h, over, next.filled);
-      all = ap (λ xs. u ∷ xs) next.all;
-      text =
-          ap (λ b. line ++ cond b (32 ∷ u ++ rest) (10 ∷ prefix ++ u ++ placed_after prefix (length u) us)) e
-          ∙ ap (λ xs. line ++ 10 ∷ xs) (line_ended prefix u (placed_after prefix (length u) us) next.more next.others
-          next.text)
-          ∙ sym (append_assoc line (10 ∷ []) (ended prefix (u ∷ next.more) ++ flat_map (ended prefix) next.others))
-          ∙ ap (λ (xs : List (List ℕ)). (line_text (t ∷ xs) ++ 10 ∷ [])
-          ++ flat_map (ended prefix) ((u ∷ next.more) ∷ next.others)) whole;
-    }
-
-goes_on : (prefix t : List ℕ) (ts rest : List (List ℕ)) → length (line_text (t ∷ ts)) ≤ 79 → AreShort rest
-    → GoesOn prefix t ts rest
-goes_on prefix t ts [] h short =
-    let whole : ts ++ [] ≡ ts = append-nil ts in
-    record {
-      more = [];
-      others = [];
-      filled = rw whole h;
-      all = refl;
-      text = rw whole (sym (append-nil (line_text (t ∷ ts) ++ 10 ∷ [])));
-    }
-goes_on prefix t ts (u ∷ us) h short = by_test (leb (length (line_text (t ∷ ts)) + 1 + length u) 79) refl
-    (λ k. goes_on prefix t (ts ++ u ∷ []) us k short.1) (goes_on prefix u [] us short.0.1 short.1)
+-- their texts are the lines
+pub grouped_texts : (u : List ℕ) (us ts : List (List ℕ))
+    → map line_text (grouped (u ∷ us) ts) ≡ lines_from (line_text (u ∷ us)) ts
+grouped_texts u us [] = refl
+grouped_texts u us (t ∷ ts) =
+    subst (λ (line : List ℕ). map line_text (grouped (u ∷ us) (t ∷ ts))
+    ≡ cond (leb (length line) 79) (lines_from line ts) (line_text (u ∷ us) ∷ lines_from t ts)) (line_text-push u us t)
+    (by_test (leb (length (line_text (u ∷ us ++ t ∷ []))) 79) (grouped_texts u (us ++ t ∷ []) ts)
+    (grouped_texts t [] ts))
   where
-    pushed : length (line_text (t ∷ (ts ++ u ∷ []))) ≡ length (line_text (t ∷ ts)) + 1 + length u
-    pushed = ap length (line_text-push t ts u) ∙ omega (arith, length-append (line_text (t ∷ ts)) (32 ∷ u))
+    by_test : (b : Bool)
+        → map line_text (grouped (u ∷ us ++ t ∷ []) ts) ≡ lines_from (line_text (u ∷ us ++ t ∷ [])) ts
+        → map line_text (grouped (t ∷ []) ts) ≡ lines_from t ts
+        → map line_text (cond b (grouped (u ∷ us ++ t ∷ []) ts) ((u ∷ us) ∷ grouped (t ∷ []) ts))
+        ≡ cond b (lines_from (line_text (u ∷ us ++ t ∷ [])) ts) (line_text (u ∷ us) ∷ lines_from t ts)
+    by_test true here next = here
+    by_test false here next = ap (λ xs. line_text (u ∷ us) ∷ xs) next
 
-    by_test : (b : Bool) → leb (length (line_text (t ∷ ts)) + 1 + length u) 79 ≡ b
-        → (length (line_text (t ∷ (ts ++ u ∷ []))) ≤ 79 → GoesOn prefix t (ts ++ u ∷ []) us) → GoesOn prefix u [] us
-        → GoesOn prefix t ts (u ∷ us)
-    by_test true e here next =
-        let fits : length (line_text (t ∷ ts)) + 1 + length u ≤ 79 = grind (arith, nat_tests) in
-        takes_more prefix t ts u us e pushed (here (omega (arith, pushed, fits)))
-    by_test false e here next =
-        let over : 79 < length (line_text (t ∷ ts)) + 1 + length u = grind (arith, nat_tests) in
-        begins_line prefix t ts u us e h over next
-
-pub filled-move_text : (prefix : List ℕ) (tokens : List (List ℕ)) → AreShort tokens
-    → IsMoveText prefix tokens (move_text_of prefix tokens)
-filled-move_text prefix [] short = record { lines = []; filled = tt; all = refl; is = refl }
-filled-move_text prefix (t ∷ ts) short = from_first (goes_on prefix t [] ts short.0.1 short.1)
+-- they hold the tokens
+pub grouped_all : (line ts : List (List ℕ)) → flat_map (λ l. l) (grouped line ts) ≡ line ++ ts
+grouped_all line [] = refl
+grouped_all line (t ∷ ts) = by_test (leb (length (line_text (line ++ t ∷ []))) 79)
+    (grouped_all (line ++ t ∷ []) ts ∙ append_assoc line (t ∷ []) ts) (ap (λ xs. line ++ xs) (grouped_all (t ∷ []) ts))
   where
-    from_first : GoesOn prefix t [] ts → IsMoveText prefix (t ∷ ts) (move_text_of prefix (t ∷ ts))
-    from_first g = record {
-      lines = (t ∷ g.more) ∷ g.others;
-      filled = g.filled;
-      all = ap (λ xs. t ∷ xs) g.all;
-      is = ap (λ xs. prefix ++ t ++ xs) (placed_after_is prefix (length t) ts short.0.0 short.1)
-          ∙ line_ended prefix t (placed_after prefix (length t) ts) g.more g.others g.text;
-    }
+    by_test : (b : Bool) → flat_map (λ l. l) (grouped (line ++ t ∷ []) ts) ≡ line ++ t ∷ ts
+        → line ++ flat_map (λ l. l) (grouped (t ∷ []) ts) ≡ line ++ t ∷ ts
+        → flat_map (λ l. l) (cond b (grouped (line ++ t ∷ []) ts) (line ∷ grouped (t ∷ []) ts)) ≡ line ++ t ∷ ts
+    by_test true here next = here
+    by_test false here next = next
 
--- ---- no other text has it
+-- ---- they are full
+
+grouped_first : (u : List ℕ) (us ts : List (List ℕ)) (token : List ℕ) (rest : List (List ℕ))
+    (after : List (List (List ℕ))) → grouped (u ∷ us) ts ≡ (token ∷ rest) ∷ after → token ≡ u
+grouped_first u us [] token rest after is = cc
+grouped_first u us (t ∷ ts) token rest after is = by_test (leb (length (line_text (u ∷ us ++ t ∷ []))) 79) is
+    (grouped_first u (us ++ t ∷ []) ts token rest after)
+  where
+    by_test : (b : Bool)
+        → cond b (grouped (u ∷ us ++ t ∷ []) ts) ((u ∷ us) ∷ grouped (t ∷ []) ts) ≡ (token ∷ rest) ∷ after
+        → (grouped (u ∷ us ++ t ∷ []) ts ≡ (token ∷ rest) ∷ after → token ≡ u) → token ≡ u
+    by_test true is here = here is
+    by_test false is here = cc
+
+no_lines : {A : Type 0} (lines before after : List (List (List ℕ))) (line next : List (List ℕ)) → length lines < 2
+    → lines ≡ before ++ line ∷ next ∷ after → A
+no_lines lines before after line next few is =
+    absurd (omega (arith, few, ap length is, length-append before (line ∷ next ∷ after)))
+
+same_rest : (a b : List (List ℕ)) (xs ys : List (List (List ℕ))) → a ∷ xs ≡ b ∷ ys → xs ≡ ys
+same_rest a b xs ys is = cc
+
+-- a line that has no room for the next token, and full lines from that on
+pub full_cons : (line : List (List ℕ)) (t : List ℕ) (ts : List (List ℕ)) → 0 < length line
+    → length (line_text line) ≤ 79 → 79 < length (line_text (line ++ t ∷ [])) → AreFullLines (grouped (t ∷ []) ts)
+    → AreFullLines (line ∷ grouped (t ∷ []) ts)
+full_cons line t ts some short over more = record {
+  some = (some, more.some);
+  short = (short, more.short);
+  full = by_before;
+}
+  where
+    by_before : (before after : List (List (List ℕ))) (l rest : List (List ℕ)) (token : List ℕ)
+        → line ∷ grouped (t ∷ []) ts ≡ before ++ l ∷ (token ∷ rest) ∷ after
+        → 79 < length (line_text (l ++ token ∷ []))
+    by_before [] after l rest token is =
+        let same : line ≡ l = cc in
+        let first : token ≡ t = grouped_first t [] ts token rest after
+        (same_rest line l (grouped (t ∷ []) ts) ((token ∷ rest) ∷ after) is) in
+        subst (λ xs. 79 < length (line_text (xs ++ token ∷ []))) same
+        (subst (λ x. 79 < length (line_text (line ++ x ∷ []))) (sym first) over)
+    by_before (b ∷ before) after l rest token is = more.full before after l rest token
+        (same_rest line b (grouped (t ∷ []) ts) (before ++ l ∷ (token ∷ rest) ∷ after) is)
+
+pub full_none : AreFullLines []
+full_none = record {
+  some = tt;
+  short = tt;
+  full = λ before after line rest token is. no_lines [] before after line (token ∷ rest) (omega arith) is;
+}
+
+pub grouped_full : (u : List ℕ) (us ts : List (List ℕ)) → length (line_text (u ∷ us)) ≤ 79 → AreShort ts
+    → AreFullLines (grouped (u ∷ us) ts)
+grouped_full u us [] h short = record {
+  some = (omega arith, tt);
+  short = (h, tt);
+  full = λ before after line rest token is.
+      no_lines ((u ∷ us) ∷ []) before after line (token ∷ rest) (omega arith) is;
+}
+grouped_full u us (t ∷ ts) h short = by_test (leb (length (line_text (u ∷ us ++ t ∷ []))) 79) refl
+    (λ k. grouped_full u (us ++ t ∷ []) ts k short.1) (grouped_full t [] ts short.0.1 short.1)
+  where
+    by_test : (b : Bool) → leb (length (line_text (u ∷ us ++ t ∷ []))) 79 ≡ b
+        → (length (line_text (u ∷ us ++ t ∷ [])) ≤ 79 → AreFullLines (grouped (u ∷ us ++ t ∷ []) ts))
+        → AreFullLines (grouped (t ∷ []) ts)
+        → AreFullLines (cond b (grouped (u ∷ us ++ t ∷ []) ts) ((u ∷ us) ∷ grouped (t ∷ []) ts))
+    by_test true e here next = here (leb-true _ _ e)
+    by_test false e here next = full_cons (u ∷ us) t ts (omega arith) h (grind (arith, nat_tests, e)) next
+
+-- ---- no others are
 
 -- tokens after others in a line
 abbrev tail : List (List ℕ) → List ℕ
@@ -156,56 +180,42 @@ line_text-tail t [] = sym (append-nil t)
 line_text-tail t (s ∷ ts) = ap (λ text. t ++ 32 ∷ text) (line_text-tail s ts)
 
 -- a line goes on as long as its tokens fit
-goes_on_after : (prefix : List ℕ) (column : ℕ) (ts rest : List (List ℕ)) → column + length (tail ts) ≤ 79
-    → placed_after prefix column (ts ++ rest) ≡ tail ts ++ placed_after prefix (column + length (tail ts)) rest
-goes_on_after prefix column [] rest h = let e : column + 0 ≡ column =
-    omega arith in ap (λ n. placed_after prefix n rest) (sym e)
-goes_on_after prefix column (u ∷ ts) rest h =
-    let all : length (tail (u ∷ ts)) ≡ suc (length u) + length (tail ts) = length-append (32 ∷ u) (tail ts) in
-    let fits : leb (column + 1 + length u) 79 ≡ true = grind (arith, nat_tests, all, h) in
-    let offset : column + 1 + length u + length (tail ts) ≡ column + length (tail (u ∷ ts)) = omega (arith, all) in
-    let few : column + 1 + length u + length (tail ts) ≤ 79 = omega (arith, all, h) in
-    ap (λ b. cond b (32 ∷ u ++ placed_after prefix (column + 1 + length u) (ts ++ rest))
-    (10 ∷ prefix ++ u ++ placed_after prefix (length u) (ts ++ rest))) fits
-    ∙ ap (λ xs. 32 ∷ u ++ xs) (goes_on_after prefix (column + 1 + length u) ts rest few
-    ∙ ap (λ n. tail ts ++ placed_after prefix n rest) offset)
-    ∙ sym (append_assoc (32 ∷ u) (tail ts) (placed_after prefix (column + length (tail (u ∷ ts))) rest))
+goes_on : (line : List ℕ) (ts rest : List (List ℕ)) → length (line ++ tail ts) ≤ 79
+    → lines_from line (ts ++ rest) ≡ lines_from (line ++ tail ts) rest
+goes_on line [] rest h = ap (λ l. lines_from l rest) (sym (append-nil line))
+goes_on line (u ∷ ts) rest h =
+    let group : (line ++ 32 ∷ u) ++ tail ts ≡ line ++ tail (u ∷ ts) = append_assoc line (32 ∷ u) (tail ts) in
+    let few : length ((line ++ 32 ∷ u) ++ tail ts) ≤ 79 = rw group h in
+    let fits : leb (length (line ++ 32 ∷ u)) 79 ≡ true =
+    le-leb _ _ (omega (arith, few, length-append (line ++ 32 ∷ u) (tail ts))) in
+    ap (λ b. cond b (lines_from (line ++ 32 ∷ u) (ts ++ rest)) (line ∷ lines_from u (ts ++ rest))) fits
+    ∙ goes_on (line ++ 32 ∷ u) ts rest few ∙ ap (λ l. lines_from l rest) group
 
--- a line of tokens, and what follows it
-one_line : (prefix t : List ℕ) (ts rest : List (List ℕ)) (text : List ℕ) → length (line_text (t ∷ ts)) ≤ 79
-    → placed_after prefix (length (line_text (t ∷ ts))) rest ≡ 10 ∷ text
-    → prefix ++ t ++ placed_after prefix (length t) (ts ++ rest) ≡ ended prefix (t ∷ ts) ++ text
-one_line prefix t ts rest text h next =
-    let line : line_text (t ∷ ts) ≡ t ++ tail ts = line_text-tail t ts in
-    let all : length (line_text (t ∷ ts)) ≡ length t + length (tail ts) = ap length line ∙ length-append t (tail ts) in
-    ap (λ xs. prefix ++ t ++ xs) (goes_on_after prefix (length t) ts rest (omega (arith, all, h))
-    ∙ ap (λ n. tail ts ++ placed_after prefix n rest) (sym all) ∙ ap (λ xs. tail ts ++ xs) next)
-    ∙ sym (append_assoc (prefix ++ t) (tail ts) (10 ∷ text))
-    ∙ ap (λ xs. xs ++ 10 ∷ text) (append_assoc prefix t (tail ts) ∙ ap (λ xs. prefix ++ xs) (sym line))
-    ∙ sym (append_assoc (prefix ++ line_text (t ∷ ts)) (10 ∷ []) text)
+-- full lines are those of their tokens
+full_lines : (u : List ℕ) (us : List (List ℕ)) (lines : List (List (List ℕ))) → AreFullLines ((u ∷ us) ∷ lines)
+    → lines_from u (us ++ flat_map (λ l. l) lines) ≡ map line_text ((u ∷ us) ∷ lines)
+full_lines u us [] h =
+    goes_on u us [] (subst (λ l. length l ≤ 79) (line_text-tail u us) h.short.0)
+    ∙ ap (λ l. l ∷ []) (sym (line_text-tail u us))
+full_lines u us ([] ∷ lines) h = absurd (omega (arith, h.some.1.0))
+full_lines u us ((v ∷ vs) ∷ lines) h =
+    let line : List ℕ = line_text (u ∷ us) in
+    let more : List (List ℕ) = vs ++ flat_map (λ l. l) lines in
+    let over : 79 < length (line ++ 32 ∷ v) =
+    subst (λ l. 79 < length l) (line_text-push u us v) (h.full [] lines (u ∷ us) vs v refl) in
+    let full : leb (length (line ++ 32 ∷ v)) 79 ≡ false = grind (arith, nat_tests, over) in
+    goes_on u us (v ∷ more) (subst (λ l. length l ≤ 79) (line_text-tail u us) h.short.0)
+    ∙ ap (λ l. lines_from l (v ∷ more)) (sym (line_text-tail u us))
+    ∙ ap (λ b. cond b (lines_from (line ++ 32 ∷ v) more) (line ∷ lines_from v more)) full
+    ∙ ap (λ xs. line ∷ xs) (full_lines v vs lines (record {
+      some = h.some.1;
+      short = h.short.1;
+      full = λ before after l rest token is. h.full ((u ∷ us) ∷ before) after l rest token
+          (ap (λ xs. (u ∷ us) ∷ xs) is);
+    }))
 
-lines_are : (prefix t : List ℕ) (ts : List (List ℕ)) (others : List (List (List ℕ))) → AreFilled ((t ∷ ts) ∷ others)
-    → prefix ++ t ++ placed_after prefix (length t) (ts ++ tokens_in others)
-    ≡ flat_map (ended prefix) ((t ∷ ts) ∷ others)
-lines_are prefix t ts [] h = one_line prefix t ts [] [] h refl
-lines_are prefix t ts ([] ∷ lines) h = absurd h
-lines_are prefix t ts ((u ∷ us) ∷ lines) h =
-    let over : leb (length (line_text (t ∷ ts)) + 1 + length u) 79 ≡ false = grind (arith, nat_tests, h.1) in
-    let line : List ℕ = line_text (t ∷ ts) in
-    one_line prefix t ts ((u ∷ us) ++ tokens_in lines) (flat_map (ended prefix) ((u ∷ us) ∷ lines)) h.0
-    (ap (λ b. cond b (32 ∷ u ++ placed_after prefix (length line + 1 + length u) (us ++ tokens_in lines))
-    (10 ∷ prefix ++ u ++ placed_after prefix (length u) (us ++ tokens_in lines))) over
-    ∙ ap (λ xs. 10 ∷ xs) (lines_are prefix u us lines h.2))
-
-only_lines : (prefix : List ℕ) (lines : List (List (List ℕ))) → AreFilled lines → AreShort (tokens_in lines)
-    → flat_map (ended prefix) lines ≡ move_text_of prefix (tokens_in lines)
-only_lines prefix [] h short = refl
-only_lines prefix ([] ∷ lines) h short = absurd h
-only_lines prefix ((t ∷ ts) ∷ lines) h short =
-    sym (ap (λ xs. prefix ++ t ++ xs) (placed_after_is prefix (length t) (ts ++ tokens_in lines) short.0.0 short.1)
-    ∙ lines_are prefix t ts lines h)
-
-pub only_move_text : (prefix : List ℕ) (tokens : List (List ℕ)) (text : List ℕ) → AreShort tokens
-    → IsMoveText prefix tokens text → text ≡ move_text_of prefix tokens
-only_move_text prefix tokens text short m =
-    m.is ∙ only_lines prefix m.lines m.filled (subst AreShort (sym m.all) short) ∙ ap (move_text_of prefix) m.all
+pub only_lines : (lines : List (List (List ℕ))) → AreFullLines lines
+    → map line_text lines ≡ lines_of (flat_map (λ l. l) lines)
+only_lines [] h = refl
+only_lines ([] ∷ lines) h = absurd (omega (arith, h.some.0))
+only_lines ((u ∷ us) ∷ lines) h = sym (full_lines u us lines h)

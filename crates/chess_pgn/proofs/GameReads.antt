@@ -1,33 +1,27 @@
 -- Reading a game, token by token.
 use Rattle.std.proofs.Common.{◌≡◌, ℕ, ◌-◌, ◌≤◌, ◌<◌, Bool, true, false, cond, List, [], ◌∷◌, arith, rules, length, get_or, take, drop, Some, None, is_some, Result, Ok, Err, refl, sym, ap, subst, ◌∙◌, Option, IsNone, OnErr}
-use Rattle.std.specs.Prelude.{nat_lt, codes}
-use Rattle.std.specs.Str.{bytes_eq}
-use Rattle.chess_base.specs.declared.fen_fault.FenFault.{FenFault}
+use Rattle.std.specs.Prelude.{codes}
 use Rattle.chess_base.specs.declared.man.Variant.{Variant}
 use Rattle.chess_base.specs.declared.man.Variant.TheVariants.{Normal}
 use Rattle.chess_base.specs.declared.setup.Setup.{Setup}
 use Rattle.chess_base.specs.Initial.{initial_setup, initial_setup_of}
-use Rattle.chess_fen.specs.Reading.{fen_reading_as}
-use Rattle.chess_game.specs.Game.{State, Seen, from_start, current, verdict_now}
+use Rattle.chess_game.specs.Game.{State, Seen, from_start}
 use Rattle.chess_game.specs.Game.{with_state as left_at}
 use Rattle.chess_game.specs.declared.results.Outcome.{Outcome}
 use Rattle.chess_pgn.specs.declared.read.PgnEnd.{PgnEnd}
 use Rattle.chess_pgn.specs.declared.read.PgnFault.{PgnFault}
 use Rattle.chess_pgn.specs.declared.progress.Progress.{Progress}
-use Rattle.chess_pgn.specs.declared.word_kind.WordKind.{WordKind}
-use Rattle.chess_pgn.specs.declared.word_kind.WordKind.TheVariants.{End, Number, Marks, Move}
-use Rattle.chess_text.specs.declared.reading.Reading.{Reading}
-use Rattle.chess_text.specs.declared.reading.Reading.TheVariants as reads
-use Rattle.chess_text.specs.Moves.{reading}
+use Rattle.chess_pgn.specs.declared.word_kind.WordKind.TheVariants.{End}
 use Rattle.chess_pgn.specs.Words.{word_kind}
-use Rattle.chess_pgn.specs.Tokens.{Token, Skip, Tag, Word, Bad_tag, Unclosed_comment, Unclosed_variation, Bad, after_byte_order_mark, after_brace, token_at, begins_line, tokens_from}
+use Rattle.chess_pgn.specs.Tokens.{Token, Skip, Word, after_byte_order_mark, after_brace, token_at, begins_line, tokens_from}
 use Rattle.chess_pgn.specs.GameRead.{tagged_variant, pgn_read}
-use Rattle.chess_pgn.specs.laws.TokenByToken.{SoFar, Step, On, Stop, unless_full, move_step, word_step, fen_step, tag_step, step, read_rest_with, game_of, nothing_read, tokens_read}
-use Rattle.chess_pgn.specs.LastTags.{may_precede_tags, named_tag}
-use Rattle.chess_pgn.specs.ties.GameSteps.{so_far, begun, StopsAt, IsReadOn, ReadsAlike, IsTaken, GoesOn, step_seen}
+use Rattle.chess_pgn.specs.laws.TokenByToken.{SoFar, Step, On, Stop, word_step, step, read_rest_with, game_of, nothing_read, tokens_read}
+use Rattle.chess_pgn.specs.LastTags.{may_precede_tags, named_tag, own_tags}
+use Rattle.chess_pgn.specs.ties.GameSteps.{IsWithin, so_far, begun, StopsAt, IsReadOn, ReadsAlike, IsTaken, GoesOn, step_seen}
 use Rattle.chess_pgn.specs.ties.Seen.{SkipsTo}
 use Rattle.chess_pgn.proofs.GamesByTags.{reads_alike}
-use Rattle.chess_pgn.proofs.Cuts.{pick}
+use Rattle.chess_pgn.proofs.StepKinds.{StepIs, passes, stays, plays, starts, stops, finishes, step_is}
+use Rattle.chess_pgn.proofs.TokenPlaces.{token_within}
 use Rattle.chess_pgn.proofs.SkippedTokens.{skips_alike, skips_say}
 use Rattle.chess_pgn.proofs.TagScans.{variant_or, variant_said, variant_from, variants_are}
 use Rattle.chess_pgn.proofs.Walk.{NextToken, next_token}
@@ -38,54 +32,25 @@ abbrev Undeclared : Step → Type 0
 Undeclared (On g) = g.state.declared ≡ None
 Undeclared (Stop read) = OnErr read.answer (read.state.declared ≡ None)
 
-unless_full_keeps : (limit : ℕ) (g : SoFar) (offset : ℕ) (next : Step) → g.state.declared ≡ None → Undeclared next
-    → Undeclared (unless_full limit g offset next)
-unless_full_keeps limit g offset next h k =
-    pick Undeclared (is_some (verdict_now g.state)) _ _ (λ _. h) (λ _.
-    pick Undeclared (nat_lt (length g.state.moves) limit) _ _ (λ _. k) (λ _. h))
-
-move_keeps : (limit : ℕ) (g : SoFar) (offset : ℕ) (r : Reading) → g.state.declared ≡ None
-    → Undeclared (move_step limit g offset r)
-move_keeps limit g offset reads.NotAMove h = h
-move_keeps limit g offset (reads.Move m) h = unless_full_keeps limit g offset _ h h
-move_keeps limit g offset reads.Ambiguous h = unless_full_keeps limit g offset _ h h
-move_keeps limit g offset reads.NoSuch h = unless_full_keeps limit g offset _ h h
-
-word_keeps : (limit : ℕ) (g : SoFar) (offset : ℕ) (word : List ℕ) (kind : WordKind) → g.state.declared ≡ None
-    → Undeclared (word_step limit g offset word kind)
-word_keeps limit g offset word (End o) h = tt
-word_keeps limit g offset word Number h = h
-word_keeps limit g offset word Marks h = h
-word_keeps limit g offset word Move h = move_keeps limit g offset (reading (current g.state) word) h
-
-fen_keeps : (g : SoFar) (offset : ℕ) (r : Result Setup FenFault) → g.state.declared ≡ None
-    → Undeclared (fen_step g offset r)
-fen_keeps g offset (Ok start) h = refl
-fen_keeps g offset (Err fault) h = h
-
-tag_keeps : (g : SoFar) (name text : List ℕ) (offset : ℕ) → g.state.declared ≡ None
-    → Undeclared (tag_step g name text offset)
-tag_keeps g name text offset h = pick Undeclared (bytes_eq name (codes "FEN")) _ _
-    (λ _. fen_keeps g offset (fen_reading_as g.state.start.variant text) h) (λ _. h)
-
-keeps : (limit total : ℕ) (g : SoFar) (left : ℕ) (t : Token) → g.state.declared ≡ None
+keeps : (limit total : ℕ) (g : SoFar) (left : ℕ) (t : Token) → IsWithin left t → g.state.declared ≡ None
     → Undeclared (step limit total g left t)
-keeps limit total g left Skip h = h
-keeps limit total g left (Tag name text string) h =
-    pick Undeclared g.is_begun _ _ (λ _. h) (λ _. tag_keeps g name text (total - string) h)
-keeps limit total g left (Word word) h = word_keeps limit g (total - left) word (word_kind word) h
-keeps limit total g left Bad_tag h = h
-keeps limit total g left (Unclosed_comment brace) h = h
-keeps limit total g left Unclosed_variation h = h
-keeps limit total g left Bad h = h
+keeps limit total g left t within h = by_kind (step_is limit total g left t within)
+  where
+    by_kind : {s : Step} → StepIs g (total - left) total s → Undeclared s
+    by_kind passes = h
+    by_kind (stays m b o) = h
+    by_kind (plays m) = h
+    by_kind (starts p) = refl
+    by_kind (stops kind offset low high) = h
+    by_kind (finishes o offset low) = tt
 
 -- a step that ended at a fault left nothing declared, whatever is answered then
 pub bare_at_fault : (limit total : ℕ) (g : SoFar) (left : ℕ) (t : Token) (s : State) (fault : PgnFault)
-    (r : Result (Option PgnEnd) PgnFault) → g.state.declared ≡ None
+    (r : Result (Option PgnEnd) PgnFault) → IsWithin left t → g.state.declared ≡ None
     → step_seen s (Err fault) ≡ step limit total g left t
     → OnErr r (IsNone s.declared)
-bare_at_fault limit total g left t s fault r h is =
-    on_error r (ap is_some (subst Undeclared (sym is) (keeps limit total g left t h)))
+bare_at_fault limit total g left t s fault r within h is =
+    on_error r (ap is_some (subst Undeclared (sym is) (keeps limit total g left t within h)))
   where
     on_error : {P : Type 0} (r : Result (Option PgnEnd) PgnFault) → P → OnErr r P
     on_error (Ok end) p = tt
@@ -125,7 +90,7 @@ nothing_met = record { is_met = false; is_begun = false; termination = None }
 
 pub first : (old game : Seen) (start : Setup) (v : Variant) (p : Progress) (text : List ℕ) (here : ℕ)
     → game ≡ left_at old (from_start start) → start ≡ initial_setup_of v
-    → v ≡ tagged_variant (tokens_from text here)
+    → v ≡ tagged_variant (own_tags (tokens_from text here))
     → p ≡ record { is_met = false; is_begun = false; termination = None } → here ≤ length text
     → IsReadOn old.limit text here game p here
 unfolding nothing_met
@@ -145,7 +110,7 @@ first old game start v p text here restarted initial variant none h =
 
 pub record Says (text : List ℕ) (from : ℕ) (v : Variant) (here : ℕ) : Type 0 where
   pub offset : here ≤ length text
-  pub whole : variant_from v (tokens_from text here) ≡ tagged_variant (tokens_from text from)
+  pub whole : variant_from v (tokens_from text here) ≡ tagged_variant (own_tags (tokens_from text from))
 
 pub says_begun : (text : List ℕ) (from : ℕ) → from ≤ length text → Says text from Normal from
 says_begun text from h = record { offset = h; whole = variants_are (tokens_from text from) }
@@ -162,7 +127,7 @@ said_more text from v u here onward t r is h may said = record {
 
 pub said_last : (text : List ℕ) (from : ℕ) (v : Variant) (here : ℕ) (t : Token) (ts : List (ℕ × Token))
     → Says text from v here → tokens_from text here ≡ (length text - here, t) ∷ ts → false ≡ may_precede_tags t
-    → v ≡ tagged_variant (tokens_from text from)
+    → v ≡ tagged_variant (own_tags (tokens_from text from))
 said_last text from v here t ts r is may = ap (λ b. cond b (variant_from (variant_said v t) ts) v) may
     ∙ ap (variant_from v) (sym is) ∙ r.whole
 
@@ -198,7 +163,8 @@ more limit text from game new p q here onward t r is later h same step_is = reco
   forward = (let before = r.forward in omega (arith, before, later));
   offset = h;
   undeclared = subst Undeclared (sym step_is)
-      (keeps game.limit (length text) (so_far game.state p) (length text - here) t r.undeclared);
+      (keeps game.limit (length text) (so_far game.state p) (length text - here) t
+      (token_within text here t (tokens_from text onward) r.offset is) r.undeclared);
   same_limit = same ∙ r.same_limit;
   whole = stepped limit text from game p here t (tokens_from text onward) (On (so_far new.state q)) r is step_is;
 }
@@ -244,36 +210,13 @@ more_normal limit text from game new p q here onward t found r is later h may na
   forward = (let before = r.forward in omega (arith, before, later));
   says = said_more text from Normal Normal here onward t r.says is h may (said ∙ ap (variant_or Normal) named);
   undeclared = subst Undeclared (sym step_is)
-      (keeps game.limit (length text) (so_far game.state p) (length text - here) t r.undeclared);
+      (keeps game.limit (length text) (so_far game.state p) (length text - here) t
+      (token_within text here t (tokens_from text onward) r.says.offset is) r.undeclared);
   same_limit = same ∙ r.same_limit;
   whole =
       ap (λ s. read_rest_with s (λ g. game_of limit (length text) g (tokens_from text onward)))
       (step_is ∙ ap (λ n. step n (length text) (so_far game.state p) (length text - here) t) r.same_limit)
       ∙ ap (game_of limit (length text) (so_far game.state p)) (sym is) ∙ r.whole;
-}
-
--- no more tags
-pub normal_begun : (limit : ℕ) (text : List ℕ) (from : ℕ) (game : Seen) (p : Progress) (here : ℕ) (t : Token)
-    (ts : List (ℕ × Token)) → ReadsNormal limit text from game p here
-    → tokens_from text here ≡ (length text - here, t) ∷ ts → false ≡ may_precede_tags t
-    → IsReadOn limit text from game p here
-normal_begun limit text from game p here t ts r is may = record {
-  forward = r.forward;
-  offset = r.says.offset;
-  undeclared = r.undeclared;
-  whole = r.whole ∙ ap (λ u. game_of limit (length text) (nothing_read u) (tokens_from text from))
-      (said_last text from Normal here t ts r.says is may);
-}
-
--- no more tokens
-pub normal_ended : (limit : ℕ) (text : List ℕ) (from : ℕ) (game : Seen) (p : Progress) (here : ℕ)
-    → ReadsNormal limit text from game p here → tokens_from text here ≡ [] → IsReadOn limit text from game p here
-normal_ended limit text from game p here r is = record {
-  forward = r.forward;
-  offset = r.says.offset;
-  undeclared = r.undeclared;
-  whole = r.whole ∙ ap (λ u. game_of limit (length text) (nothing_read u) (tokens_from text from))
-      (ap (variant_from Normal) (sym is) ∙ r.says.whole);
 }
 
 -- what is skipped after a tag
@@ -350,7 +293,8 @@ one_more text from old game new before p q here onward there word taken g is lat
       forward = (let first = g.forward in omega (arith, first, later, after));
       offset = within;
       undeclared = subst Undeclared (sym step_is)
-          (keeps game.limit (length text) (so_far game.state p) (length text - here) (Word word) g.undeclared);
+          (keeps game.limit (length text) (so_far game.state p) (length text - here) (Word word)
+          (token_within text here (Word word) (tokens_from text onward) g.offset is) g.undeclared);
       same_limit = same ∙ g.same_limit;
       whole = sym (alike old.limit (so_far new.state q))
           ∙ ap (λ s. read_rest_with s (λ h. game_of old.limit (length text) h (tokens_from text onward)))
@@ -363,7 +307,7 @@ one_more text from old game new before p q here onward there word taken g is lat
 pub further : (limit : ℕ) (text : List ℕ) (from : ℕ) (game new : Seen) (p q : Progress) (here there : ℕ)
     → Reads limit text from game p here → GoesOn text here game p there new q → StopsAt new (tokens_from text there)
     → ReadsWords limit text from new q there
-further limit text from game new p q here there r g stops = record {
+further limit text from game new p q here there r g is_left = record {
   forward = (let before = r.forward in let after = g.forward in omega (arith, before, after));
   offset = g.offset;
   undeclared = g.undeclared;
@@ -371,5 +315,5 @@ further limit text from game new p q here there r g stops = record {
   whole = ap (λ n. game_of n (length text) (so_far new.state q) (tokens_from text there)) (sym r.same_limit)
       ∙ g.whole ∙ ap (λ n. game_of n (length text) (so_far game.state p) (tokens_from text here)) r.same_limit
       ∙ r.whole;
-  left = stops;
+  left = is_left;
 }

@@ -9,7 +9,7 @@ use Rattle.chess_base.specs.declared.man.Variant.{Variant}
 use Rattle.chess_base.specs.declared.setup.Setup.{Setup}
 use Rattle.byte_devices.specs.Devices.{OutputState, BreaksOff, Puts}
 use Rattle.chess_base.specs.Moves.{is_legal, after}
-use Rattle.chess_game.specs.Game.{State, outcome_now}
+use Rattle.chess_game.specs.Game.{Seen, State, outcome_now, IsPlayable}
 use Rattle.chess_game.specs.Results.{outcome_text}
 use Rattle.chess_game.specs.declared.results.Outcome.{Outcome}
 use Rattle.chess_game.specs.Line.{position_after, IsLine}
@@ -17,11 +17,13 @@ use Rattle.chess_pgn.specs.declared.tags.Tags.{Tags}
 use Rattle.chess_pgn.specs.declared.termination.Termination.{Termination}
 use Rattle.chess_pgn.specs.Terminations.{termination_of}
 use Rattle.chess_pgn.specs.GameText.{roster_lines, start_lines_in, last_lines, further_lines, tag_lines, number_token, tokens_of_move, move_tokens, game_tokens, pgn}
-use Rattle.chess_pgn.specs.ties.Lines.{placed_all, column_after_all}
+use Rattle.chess_pgn.specs.ties.Lines.{wrapped_token, next_column, line_close, placed_all, column_after_all}
 use Rattle.chess_text.specs.San.{san}
 use Rattle.chess_pgn.specs.ties.Waiting.{TookSome, Adds}
-use Rattle.chess_pgn.specs.Written.{ended, wrapped_token, next_column, line_close, filled_from, move_text_of}
+use Rattle.chess_pgn.specs.Written.{ended, lines_of}
 use Rattle.chess_pgn.proofs.Added.{added_more, added_break, break_longer, adds_more, finished}
+use Rattle.chess_pgn.proofs.FilledLines.{AreShort, filled_from, all_filled}
+use Rattle.chess_pgn.proofs.ShortTokens.{game_is_short}
 
 -- ---- texts of three parts
 
@@ -92,17 +94,36 @@ tags_are prefix before last_before t outcome start termination s o is said b l =
           ∙ rw (b, l, said, o, is) refl;
     }
 
+parts_ended : (prefix : List ℕ) (tags moves : List (List ℕ))
+    → ended prefix (tags ++ [] ∷ moves ++ [] ∷ [])
+    ≡ ended prefix (tags ++ [] ∷ []) ++ ended prefix moves ++ ended prefix ([] ∷ [])
+parts_ended prefix tags moves =
+    let line : List ℕ → List ℕ = λ text. prefix ++ text ++ 10 ∷ [] in
+    flat_map-append line (tags ++ [] ∷ moves) ([] ∷ [])
+    ∙ ap (λ xs. xs ++ ended prefix ([] ∷ []))
+    (ap (ended prefix) (sym (append_assoc tags ([] ∷ []) moves)) ∙ flat_map-append line (tags ++ [] ∷ []) moves)
+
+-- a game's text with its tokens put into lines one by one
+pub pgn_filled : (prefix : List ℕ) (t : Tags) (s : State) → AreShort (game_tokens s)
+    → pgn prefix t s ≡ ended prefix (tag_lines t s ++ [] ∷ []) ++ filled_from prefix 0 (game_tokens s)
+    ++ ended prefix ([] ∷ [])
+unfolding pgn
+pgn_filled prefix t s short = parts_ended prefix (tag_lines t s) (lines_of (game_tokens s))
+    ∙ ap (λ xs. ended prefix (tag_lines t s ++ [] ∷ []) ++ xs ++ ended prefix ([] ∷ []))
+    (sym (all_filled prefix (game_tokens s) short))
+
 -- a game's tags, its moves, and an empty line
 pub game_is : (prefix before last_before : List ℕ) (t : Tags) (s : State) → before ≡ prefix → last_before ≡ prefix
-    → HasParts (ended prefix (tag_lines t s ++ [] ∷ [])) (move_text_of before (game_tokens s))
+    → HasParts (ended prefix (tag_lines t s ++ [] ∷ [])) (ended before (lines_of (game_tokens s)))
     (last_before ++ [] ++ 10 ∷ []) (pgn prefix t s)
 unfolding pgn
 game_is prefix before last_before t s b l =
+    let moves : List (List ℕ) = lines_of (game_tokens s) in
     record {
       is =
-          append_assoc (ended prefix (tag_lines t s ++ [] ∷ [])) (move_text_of prefix (game_tokens s))
-          (ended prefix ([] ∷ []))
-          ∙ ap (λ v. ended prefix (tag_lines t s ++ [] ∷ []) ++ (move_text_of prefix (game_tokens s) ++ v))
+          parts_ended prefix (tag_lines t s) moves
+          ∙ append_assoc (ended prefix (tag_lines t s ++ [] ∷ [])) (ended prefix moves) (ended prefix ([] ∷ []))
+          ∙ ap (λ v. ended prefix (tag_lines t s ++ [] ∷ []) ++ (ended prefix moves ++ v))
           (append-nil (prefix ++ [] ++ 10 ∷ []))
           ∙ rw (b, l) refl;
     }
@@ -141,14 +162,16 @@ filled_from-append prefix column (t ∷ ts) us =
     (filled_from prefix (column_after_all column (t ∷ ts)) us))
 
 -- the moves of a game, its outcome, and the end of the line
-pub moves_are : (prefix before outcome : List ℕ) (column col end : ℕ) (s : State) → column ≡ 0 → before ≡ prefix
-    → col ≡ column_after_all column (move_tokens true s.start s.moves) → outcome ≡ outcome_text (outcome_now s)
-    → end ≡ next_column col outcome
-    → HasParts (placed_all prefix column (move_tokens true s.start s.moves)) (wrapped_token before col outcome)
-    (line_close end) (move_text_of prefix (game_tokens s))
-moves_are prefix before outcome column col end s none b is o e =
+pub moves_are : (prefix before outcome : List ℕ) (column col end : ℕ) (game : Seen) → IsPlayable game → column ≡ 0
+    → before ≡ prefix → col ≡ column_after_all column (move_tokens true game.state.start game.state.moves)
+    → outcome ≡ outcome_text (outcome_now game.state) → end ≡ next_column col outcome
+    → HasParts (placed_all prefix column (move_tokens true game.state.start game.state.moves))
+    (wrapped_token before col outcome) (line_close end) (ended prefix (lines_of (game_tokens game.state)))
+moves_are prefix before outcome column col end game playable none b is o e =
+    let s = game.state in
     record {
-      is = rw (e, o, is, b, none) (filled_from-append prefix 0 (move_tokens true s.start s.moves)
+      is = sym (all_filled prefix (game_tokens s) (game_is_short game playable))
+          ∙ rw (e, o, is, b, none) (filled_from-append prefix 0 (move_tokens true s.start s.moves)
           (outcome_text (outcome_now s) ∷ []));
     }
 

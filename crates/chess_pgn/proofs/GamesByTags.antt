@@ -6,6 +6,8 @@ use Rattle.std.specs.Option.{option_map_or, unwrap_or}
 use Rattle.std.specs.Result.{is_ok, result_ok}
 use Rattle.std.specs.Str.{bytes_eq}
 use Rattle.std.proofs.lemmas.Bool.{and_parts}
+use Rattle.std.proofs.lemmas.List.{take-append-drop}
+use Rattle.std.proofs.lemmas.List.Folds.{length-prefix_len}
 use Rattle.std.proofs.lemmas.Slice.Eq.{bytes_eq-Decides}
 use Rattle.chess_base.specs.declared.fen_fault.FenFault.{FenFault}
 use Rattle.chess_base.specs.declared.man.Variant.{Variant}
@@ -13,33 +15,40 @@ use Rattle.chess_base.specs.declared.setup.Setup.{Setup}
 use Rattle.chess_base.specs.Letters.{byte, is_digit}
 use Rattle.chess_base.specs.Initial.{initial_setup_of}
 use Rattle.chess_fen.specs.Reading.{fen_reading_as}
-use Rattle.chess_game.specs.Game.{State, from_start, played, current, verdict_now}
+use Rattle.chess_game.specs.Game.{Seen, State, from_start, played, current, verdict_now}
+use Rattle.chess_game.specs.Game.{with_state as left_at}
+use Rattle.chess_pgn.specs.declared.read.PgnEnd.{PgnEnd}
+use Rattle.chess_pgn.specs.declared.read.PgnFault.{PgnFault}
 use Rattle.chess_game.specs.declared.results.Outcome.{Outcome}
 use Rattle.chess_text.specs.declared.reading.Reading.{Reading}
 use Rattle.chess_text.specs.declared.reading.Reading.TheVariants as reads
 use Rattle.chess_text.specs.Moves.{reading}
 use Rattle.chess_pgn.specs.declared.termination.Termination.{Termination}
 use Rattle.chess_pgn.specs.Terminations.{termination_named}
-use Rattle.chess_pgn.specs.GameRead.{GameRead, tagged_variant, pgn_read, Passes, Ends, failed, move_row, row, after_row, moves_read, is_tag, tags_named, fens, last_start, first_bad_fen, after_tags, read_of_split}
+use Rattle.chess_pgn.specs.GameRead.{GameRead, tagged_variant, pgn_read, Passes, Ends, failed, move_row, row, after_row, moves_read, is_tag, fens, last_start, first_bad_fen, after_tags, read_of_split}
 use Rattle.chess_pgn.specs.laws.TokenByToken.{SoFar, Step, On, word_step, move_step, fen_step, step, read_rest_with, game_of, termination_after, tokens_read}
-use Rattle.chess_pgn.specs.laws.TagsAndMoves.{IsRead}
-use Rattle.chess_pgn.specs.LastTags.{may_precede_tags, is_marks}
-use Rattle.chess_pgn.specs.Words.{outcome_of}
+use Rattle.chess_pgn.specs.GameRead.{IsRead}
+use Rattle.chess_pgn.specs.LastTags.{may_precede_tags, is_marks, own_tags, tags_named}
+use Rattle.chess_pgn.specs.declared.word_kind.WordKind.TheVariants.{End, Number, Marks, Move}
+use Rattle.chess_pgn.specs.Words.{outcome_of, word_kind}
 use Rattle.chess_pgn.specs.Tokens.{Token, Skip, Tag, Word, Bad_tag, Unclosed_comment, Unclosed_variation, Bad, tokens_from, after_byte_order_mark}
 use Rattle.chess_pgn.proofs.FenVariants.{initial_variant, read_variant}
 use Rattle.chess_pgn.proofs.TokenSplits.{read_split, split_read}
 
--- ---- after the tags
+-- ---- words, where `met` and `begun` say what came before them
+
+abbrev so_far : Bool → Bool → Option Termination → State → SoFar
+so_far met begun t s = record { state = s; is_met = met; is_begun = begun; termination = t }
 
 abbrev started : Option Termination → State → SoFar
-started t s = record { state = s; is_met = true; is_begun = true; termination = t }
+started t s = so_far true true t s
 
-module _ (limit total : ℕ) (termination : Option Termination) (s : State) (later : SoFar → GameRead)
-    (next : State → GameRead)
+module _ (limit total : ℕ) (termination : Option Termination) (met begun : Bool) (s : State)
+    (later : SoFar → GameRead) (next : State → GameRead)
     (same : (r : State) → later (started termination r) ≡ next r) where
   by_reading : (left : ℕ) (word : List ℕ) (over room : Bool) (r : Reading)
       → is_some (verdict_now s) ≡ over → nat_lt (length s.moves) limit ≡ room
-      → read_rest_with (move_step limit (started termination s) (total - left) r) later
+      → read_rest_with (move_step limit (so_far met begun termination s) (total - left) r) later
       ≡ after_row total termination s (left, Word word) (move_row limit s r) next
   by_reading left word over room reads.NotAMove o e = refl
   by_reading left word true room (reads.Move m) o e = rw o refl
@@ -57,7 +66,9 @@ module _ (limit total : ℕ) (termination : Option Termination) (s : State) (lat
       (o : Option Outcome) (is_number is_mark : Bool)
       → ((o : Outcome) → read_rest_with (steps (end o)) later
       ≡ after_row total termination s (left, Word word) (Ends o) next)
-      → read_rest_with (steps number) later ≡ next s → read_rest_with (steps marks) later ≡ next s
+      → read_rest_with (steps number) later ≡ next s
+      → (option_map_or end o (cond is_number number (cond is_mark marks move)) ≡ marks
+      → read_rest_with (steps marks) later ≡ next s)
       → read_rest_with (steps move) later
       ≡ after_row total termination s (left, Word word) (move_row limit s (reading (current s) word)) next
       → read_rest_with (steps (option_map_or end o (cond is_number number (cond is_mark marks move)))) later
@@ -65,107 +76,71 @@ module _ (limit total : ℕ) (termination : Option Termination) (s : State) (lat
       (cond is_number Passes (cond is_mark Passes (move_row limit s (reading (current s) word))))) next
   by_kind left word end number marks move steps (Some o) is_number is_mark e n m r = e o
   by_kind left word end number marks move steps None true is_mark e n m r = n
-  by_kind left word end number marks move steps None false true e n m r = m
+  by_kind left word end number marks move steps None false true e n m r = m refl
   by_kind left word end number marks move steps None false false e n m r = r
 
-  by_token : (left : ℕ) (t : Token)
-      → read_rest_with (step limit total (started termination s) left t) later
-      ≡ after_row total termination s (left, t) (row limit s t) next
-  by_token left Skip = same s
-  by_token left (Tag name string at_string) = refl
-  by_token left (Word word) =
-      by_kind left word _ _ _ _ (λ k. word_step limit (started termination s) (total - left) word k) (outcome_of word)
-      (list_all is_digit word) (list_all (λ c. c == byte "!" || c == byte "?") word) (λ o. refl) (same s) (same s)
+  by_word : (left : ℕ) (word : List ℕ)
+      → (word_kind word ≡ Marks → later (so_far met begun termination s) ≡ next s)
+      → read_rest_with (step limit total (so_far met begun termination s) left (Word word)) later
+      ≡ after_row total termination s (left, Word word) (row limit s (Word word)) next
+  by_word left word marks =
+      by_kind left word End Number Marks Move
+      (λ k. word_step limit (so_far met begun termination s) (total - left) word k) (outcome_of word)
+      (list_all is_digit word) (list_all (λ c. c == byte "!" || c == byte "?") word) (λ o. refl) (same s) marks
       (by_reading left word (is_some (verdict_now s)) (nat_lt (length s.moves) limit)
       (reading (current s) word) refl refl)
-  by_token left Bad_tag = refl
-  by_token left (Unclosed_comment brace) = refl
-  by_token left Unclosed_variation = refl
-  by_token left Bad = refl
+
+-- ---- after the tags
 
 moves_are : (limit total : ℕ) (termination : Option Termination) (s : State) (ts : List (ℕ × Token))
     → game_of limit total (started termination s) ts ≡ moves_read limit total termination s ts
 moves_are limit total termination s [] = refl
 moves_are limit total termination s (t ∷ ts) =
-    by_token limit total termination s (λ g. game_of limit total g ts) (λ r. moves_read limit total termination r ts)
-    (λ r. moves_are limit total termination r ts) t.0 t.1
+    by_token t.0 t.1 (λ r. moves_are limit total termination r ts)
+  where
+    by_token : (left : ℕ) (t : Token)
+        → ((r : State) → game_of limit total (started termination r) ts ≡ moves_read limit total termination r ts)
+        → read_rest_with (step limit total (started termination s) left t) (λ g. game_of limit total g ts)
+        ≡ after_row total termination s (left, t) (row limit s t) (λ r. moves_read limit total termination r ts)
+    by_token left Skip same = same s
+    by_token left (Tag name string at_string) same = refl
+    by_token left (Word word) same = by_word limit total termination true true s (λ g. game_of limit total g ts)
+        (λ r. moves_read limit total termination r ts) same left word (λ e. same s)
+    by_token left Bad_tag same = refl
+    by_token left (Unclosed_comment brace) same = refl
+    by_token left Unclosed_variation same = refl
+    by_token left Bad same = refl
 
 -- ---- where the tags end
 
 abbrev opened : Bool → Option Termination → Setup → SoFar
-opened met termination p = record { state = from_start p; is_met = met; is_begun = false; termination = termination }
+opened met termination p = so_far met false termination (from_start p)
 
 abbrev Stops : List (ℕ × Token) → Type 0
 Stops [] = Unit {0}
 Stops (t ∷ ts) = may_precede_tags t.1 ≡ false
 
-module _ (limit total : ℕ) (met : Bool) (termination : Option Termination) (p : Setup) (ts : List (ℕ × Token)) where
-  s : State
-  s = from_start p
-
-  first_reading : (left : ℕ) (word : List ℕ) (over room : Bool) (r : Reading)
-      → is_some (verdict_now s) ≡ over → nat_lt (length s.moves) limit ≡ room
-      → read_rest_with (move_step limit (opened met termination p) (total - left) r) (λ g. game_of limit total g ts)
-      ≡ after_row total termination s (left, Word word) (move_row limit s r)
-      (λ n. moves_read limit total termination n ts)
-  unfolding s
-  first_reading left word over room reads.NotAMove o e = refl
-  first_reading left word true room (reads.Move m) o e = rw o refl
-  first_reading left word false true (reads.Move m) o e = rw (o, e) (moves_are limit total termination (played s m) ts)
-  first_reading left word false false (reads.Move m) o e = rw (o, e) refl
-  first_reading left word true room reads.Ambiguous o e = rw o refl
-  first_reading left word false true reads.Ambiguous o e = rw (o, e) refl
-  first_reading left word false false reads.Ambiguous o e = rw (o, e) refl
-  first_reading left word true room reads.NoSuch o e = rw o refl
-  first_reading left word false true reads.NoSuch o e = rw (o, e) refl
-  first_reading left word false false reads.NoSuch o e = rw (o, e) refl
-
-  first_kind : {K : Type 0} (left : ℕ) (word : List ℕ) (end : Outcome → K) (number marks move : K) (steps : K → Step)
-      (mark : K → Bool) (o : Option Outcome) (is_number is_mark : Bool)
-      → ((o : Outcome) → read_rest_with (steps (end o)) (λ g. game_of limit total g ts)
-      ≡ after_row total termination s (left, Word word) (Ends o) (λ n. moves_read limit total termination n ts))
-      → read_rest_with (steps number) (λ g. game_of limit total g ts) ≡ moves_read limit total termination s ts
-      → mark marks ≡ true
-      → read_rest_with (steps move) (λ g. game_of limit total g ts)
-      ≡ after_row total termination s (left, Word word) (move_row limit s (reading (current s) word))
-      (λ n. moves_read limit total termination n ts)
-      → mark (option_map_or end o (cond is_number number (cond is_mark marks move))) ≡ false
-      → read_rest_with (steps (option_map_or end o (cond is_number number (cond is_mark marks move))))
-      (λ g. game_of limit total g ts)
-      ≡ after_row total termination s (left, Word word) (option_map_or Ends o
-      (cond is_number Passes (cond is_mark Passes (move_row limit s (reading (current s) word)))))
-      (λ n. moves_read limit total termination n ts)
-  first_kind left word end number marks move steps mark (Some o) is_number is_mark e n m r h = e o
-  first_kind left word end number marks move steps mark None true is_mark e n m r h = n
-  first_kind left word end number marks move steps mark None false true e n m r h = absurd (cc)
-  first_kind left word end number marks move steps mark None false false e n m r h = r
-
-  first_token : (left : ℕ) (t : Token) → may_precede_tags t ≡ false
-      → read_rest_with (step limit total (opened met termination p) left t) (λ g. game_of limit total g ts)
-      ≡ after_tags limit total termination s met ((left, t) ∷ ts)
-  unfolding s
-  first_token left Skip h = absurd (cc)
-  first_token left (Tag name string at_string) h = absurd (cc)
-  first_token left (Word word) h =
-      first_kind left word _ _ _ _ (λ k. word_step limit (opened met termination p) (total - left) word k)
-      (λ k. is_marks k)
-      (outcome_of word) (list_all is_digit word) (list_all (λ c. c == byte "!" || c == byte "?") word) (λ o. refl)
-      (moves_are limit total termination s ts) refl
-      (first_reading left word (is_some (verdict_now s)) (nat_lt (length s.moves) limit)
-      (reading (current s) word) refl refl)
-      h
-  first_token left Bad_tag h = refl
-  first_token left (Unclosed_comment brace) h = refl
-  first_token left Unclosed_variation h = refl
-  first_token left Bad h = refl
+first_token : (limit total : ℕ) (met : Bool) (termination : Option Termination) (s : State) (ts : List (ℕ × Token))
+    (left : ℕ) (t : Token) → may_precede_tags t ≡ false
+    → read_rest_with (step limit total (so_far met false termination s) left t) (λ g. game_of limit total g ts)
+    ≡ after_tags limit total termination s met ((left, t) ∷ ts)
+first_token limit total met termination s ts left Skip h = absurd (cc)
+first_token limit total met termination s ts left (Tag name string at_string) h = absurd (cc)
+first_token limit total met termination s ts left (Word word) h =
+    by_word limit total termination met false s (λ g. game_of limit total g ts)
+    (λ r. moves_read limit total termination r ts) (λ r. moves_are limit total termination r ts) left word
+    (λ e. let no : true ≡ false = sym (ap is_marks e) ∙ h in absurd (cc))
+first_token limit total met termination s ts left Bad_tag h = refl
+first_token limit total met termination s ts left (Unclosed_comment brace) h = refl
+first_token limit total met termination s ts left Unclosed_variation h = refl
+first_token limit total met termination s ts left Bad h = refl
 
 tags_end : (limit total : ℕ) (met : Bool) (termination : Option Termination) (p : Setup) (rest : List (ℕ × Token))
     → Stops rest → game_of limit total (opened met termination p) rest
     ≡ after_tags limit total termination (from_start p) met rest
-unfolding s
 tags_end limit total true termination p [] h = refl
 tags_end limit total false termination p [] h = refl
-tags_end limit total met termination p (t ∷ ts) h = first_token limit total met termination p ts t.0 t.1 h
+tags_end limit total met termination p (t ∷ ts) h = first_token limit total met termination (from_start p) ts t.0 t.1 h
 
 -- ---- the tags
 
@@ -337,18 +312,7 @@ tags_stop (t ∷ ts) = by_test (may_precede_tags t.1) refl (tags_stop ts)
     by_test false e more = e
 
 rest_is : (p : ℕ × Token → Bool) (xs : List (ℕ × Token)) → take_while p xs ++ drop (length (take_while p xs)) xs ≡ xs
-rest_is p [] = refl
-rest_is p (t ∷ ts) = by_test (p t) (rest_is p ts)
-  where
-    n : ℕ
-    n = prefix_len p ts
-
-    by_test : (b : Bool) → take n ts ++ drop (length (take n ts)) ts ≡ ts
-        → take (cond b (1 + n) 0) (t ∷ ts) ++ drop (length (take (cond b (1 + n) 0) (t ∷ ts))) (t ∷ ts) ≡ t ∷ ts
-    by_test true more =
-        let next : 1 + n ≡ suc n = omega arith in
-        rw next (ap (λ xs. t ∷ xs) more)
-    by_test false more = refl
+rest_is p xs = ap (λ n. take_while p xs ++ drop n xs) (length-prefix_len p xs) ∙ take-append-drop (prefix_len p xs) xs
 
 none_before : (o : Option (List ℕ × ℕ)) → option_map_or (λ (tag : List ℕ × ℕ). termination_named tag.0) o None
     ≡ option_and_then (λ (tag : List ℕ × ℕ). termination_named tag.0) o
@@ -358,9 +322,9 @@ none_before (Some tag) = refl
 tokens_are : (limit total : ℕ) (ts : List (ℕ × Token))
     → read_of_split limit total ts ≡ tokens_read limit total ts
 tokens_are limit total ts =
-    let v : Variant = tagged_variant ts in
+    let v : Variant = tagged_variant (own_tags ts) in
     let p : ℕ × Token → Bool = λ (t : ℕ × Token). may_precede_tags t.1 in
-    let tags : List (ℕ × Token) = take_while p ts in
+    let tags : List (ℕ × Token) = own_tags ts in
     let rest : List (ℕ × Token) = drop (length tags) ts in
     ap (λ e. said limit total e (initial_setup_of v) (fens v tags) (list_any is_tag tags) rest)
     (sym (none_before (last_or None (tags_named (codes "Termination") tags))))
@@ -389,3 +353,11 @@ pub only_read : (limit : ℕ) (text : List ℕ) (at : ℕ) (r : GameRead) → Is
 unfolding pgn_read
 only_read limit text at r h =
     h.is ∙ ap (read_of_split limit (length text)) (split_read text h.split)
+
+-- what was read is what the split of the text says
+pub as_said : (limit : ℕ) (text : List ℕ) (at : ℕ) (old new : Seen) (result : Result (Option PgnEnd) PgnFault)
+    → result ≡ (pgn_read limit text at).answer → new ≡ left_at old (pgn_read limit text at).state
+    → (r : GameRead) → IsRead limit text at r → (result ≡ r.answer) × (new ≡ left_at old r.state)
+as_said limit text at old new result answer state r is =
+    let same : pgn_read limit text at ≡ r = sym (only_read limit text at r is) in
+    (answer ∙ ap (λ (x : GameRead). x.answer) same, state ∙ ap (λ (x : GameRead). left_at old x.state) same)

@@ -1,8 +1,8 @@
 -- The last tag of a name, token by token: what is left gives the whole.
-use Rattle.std.proofs.Common.{◌≡◌, ◌≤◌, ℕ, ◌-◌, true, false, cond, List, ◌∷◌, length, Option, Some, None, IfSome, refl, sym, ap, subst, ◌∙◌, arith}
+use Rattle.std.proofs.Common.{◌≡◌, ◌≤◌, ℕ, ◌-◌, true, cond, List, ◌∷◌, length, Option, Some, None, IfSome, refl, sym, ap, subst, ◌∙◌, arith}
 use Rattle.std.specs.Option.{option_or}
 use Rattle.std.specs.Str.{bytes_eq}
-use Rattle.chess_pgn.specs.LastTags.{may_precede_tags, named_tag, last_tag}
+use Rattle.chess_pgn.specs.LastTags.{may_precede_tags, named_tag, own_tags, last_tag}
 use Rattle.chess_pgn.specs.Tokens.{Token, Skip, Word, Bad_tag, Unclosed_comment, Unclosed_variation, Bad, tokens_from}
 use Rattle.chess_pgn.specs.Tokens as tokens
 use Rattle.chess_pgn.specs.declared.tag.Tag.{Tag}
@@ -19,7 +19,8 @@ InText total tag = IfSome tag (λ t. t.to_end ≤ total)
 pub record Reads (text name : List ℕ) (from : ℕ) (last : Option Tag) (here : ℕ) : Type 0 where
   pub offset : here ≤ length text
   pub within : InText (length text) last
-  pub whole : last_from name (found_seen last) (tokens_from text here) ≡ last_tag name (tokens_from text from)
+  pub whole : last_from name (found_seen last) (tokens_from text here)
+      ≡ last_tag name (own_tags (tokens_from text from))
 
 pub begun : (text name : List ℕ) (from : ℕ) → from ≤ length text → Reads text name from None from
 begun text name from h = record { offset = h; within = tt; whole = refl }
@@ -67,14 +68,6 @@ one_more text name from last found next here tail t r is within may named joined
       ∙ sym (last_step name (found_seen last) (length text - here, t) (tokens_from text tail))
       ∙ ap (last_from name (found_seen last)) (sym is) ∙ r.whole;
 }
-
-pub no_more : (text name : List ℕ) (from : ℕ) (last : Option Tag) (here : ℕ) (t : Token) (ts : List (ℕ × Token))
-    → Reads text name from last here → tokens_from text here ≡ (length text - here, t) ∷ ts
-    → false ≡ may_precede_tags t → found_seen last ≡ last_tag name (tokens_from text from)
-no_more text name from last here t ts r is may =
-    ap (λ b. cond b (last_from name (option_or (named_tag name t) (found_seen last)) ts) (found_seen last)) may
-    ∙ sym (last_step name (found_seen last) (length text - here, t) ts)
-    ∙ ap (last_from name (found_seen last)) (sym is) ∙ r.whole
 
 -- what is skipped after a token
 pub skipped_on : (text name : List ℕ) (from : ℕ) (last : Option Tag) (here there : ℕ) → Reads text name from last here

@@ -9,9 +9,7 @@ mod GameReads
 mod GameTexts
 mod LastTagReads
 mod LeftTokens
-mod MoveBytes
 mod NormalGames
-mod OfTokens
 mod PgnFen
 mod PgnMoves
 mod PgnPieces
@@ -21,13 +19,14 @@ mod PgnWords
 mod PlainBytes
 mod ShortTokens
 mod Skipped
+mod StepKinds
 mod SkippedTokens
 mod Strings
 mod TagLines
 mod TagParts
 mod TagScans
 mod TokenPlaces
-mod VariantSaid
+mod TagTexts
 mod Variations
 mod Walk
 mod ByteRuns
@@ -37,3 +36,4 @@ mod TokenSplits
 mod GamesByTags
 mod LaidOut
 mod WorkedOut
+mod PlayedWords

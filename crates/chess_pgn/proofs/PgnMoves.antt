@@ -23,7 +23,8 @@ use Rattle.chess_pgn.specs.laws.TokenByToken.{SoFar}
 use Rattle.chess_pgn.specs.GameText.{number_token, move_tokens}
 use Rattle.chess_text.specs.San.{san}
 use Rattle.chess_pgn.specs.Tokens.{is_word_byte}
-use Rattle.chess_pgn.specs.Written.{fits_line, wrapped_token, next_column, line_close, filled_from}
+use Rattle.chess_pgn.specs.ties.Lines.{fits_line, wrapped_token, next_column, line_close}
+use Rattle.chess_pgn.proofs.FilledLines.{filled_from}
 use Rattle.chess_pgn.proofs.PgnPieces.{read_on, Takes, begun, white_number, black_number, san_takes, skip_space, skip_line_end, ended_game, outcome_ends}
 use Rattle.chess_text.proofs.shared.San.{san_short}
 

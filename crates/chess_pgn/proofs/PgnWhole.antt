@@ -1,6 +1,6 @@
 -- The whole text of a game: what is written is read back.
 use Rattle.std.proofs.Common.{◌≡◌, ℕ, suc, ◌+◌, ◌-◌, ◌<◌, ◌≤◌, Bool, true, false, cond, eqb, List, [], ◌∷◌, ◌++◌, length, drop, Option, Some, None, refl, sym, ap, subst, ◌∙◌, append_assoc, arith}
-use Rattle.std.specs.Prelude.{codes, Ok, is_some}
+use Rattle.std.specs.Prelude.{codes, Ok, is_some, option_and_then}
 use Rattle.std.proofs.lemmas.Bool.Decides.{nat_tests}
 use Rattle.std.proofs.lemmas.List.{length-append, drop_at}
 use Rattle.std.proofs.lemmas.Slice.Eq.{bytes_eq-Decides}
@@ -15,7 +15,7 @@ use Rattle.chess_base.specs.Sound.{IsSound}
 use Rattle.chess_fen.specs.Writing.{fen, is_initial}
 use Rattle.chess_game.specs.declared.verdicts.Verdict.{Verdict}
 use Rattle.chess_game.specs.Game.{State, from_start, outcome_now, verdict_now, IsPlayable}
-use Rattle.std.specs.Option.{option_map_or}
+use Rattle.std.specs.Option.{option_map, option_map_or}
 use Rattle.chess_game.specs.Ends.{verdict_outcome}
 use Rattle.chess_game.specs.Results.{outcome_text}
 use Rattle.chess_game.specs.declared.results.Declared.{Declared}
@@ -24,18 +24,25 @@ use Rattle.chess_game.specs.declared.results.Outcome.TheVariants.{WhiteWins, Bla
 use Rattle.chess_pgn.specs.declared.tags.Tags.{Tags}
 use Rattle.chess_pgn.specs.declared.termination.Termination.{Termination}
 use Rattle.chess_pgn.specs.Terminations.{termination_text, termination_of}
-use Rattle.chess_pgn.specs.GameRead.{GameRead, declared_after, pgn_read}
+use Rattle.chess_pgn.specs.GameRead.{GameRead, declared_after, variant_named, tagged_variant, pgn_read}
+use Rattle.chess_pgn.specs.LastTags.{own_tags, last_tag, result_tag_of}
+use Rattle.chess_pgn.specs.Words.{outcome_of}
 use Rattle.chess_pgn.specs.laws.TokenByToken.{SoFar, game_of, nothing_read, tokens_read}
 use Rattle.chess_pgn.specs.GameText.{fen_lines, start_lines_in, last_lines, further_lines, tag_lines, move_tokens, game_tokens, pgn}
-use Rattle.chess_pgn.specs.laws.PgnLaw.{AreTagTexts, IsReadBack, PgnIsReadBack}
-use Rattle.chess_pgn.specs.Tokens.{after_byte_order_mark, begins_line, tokens_of, tokens_from}
-use Rattle.chess_pgn.specs.Written.{tag_line, ended, filled_from}
+use Rattle.chess_pgn.specs.laws.PgnLaw.{AreTagTexts, IsReadBack, PgnIsReadBack, ResultIsWritten}
+use Rattle.chess_pgn.specs.Tokens.{Token, after_byte_order_mark, begins_line, tokens_of, tokens_from}
+use Rattle.chess_pgn.specs.declared.tagged_result.ResultTag.{ResultTag}
+use Rattle.chess_pgn.specs.Written.{escaped, tag_line, ended}
+use Rattle.chess_pgn.proofs.FilledLines.{AreShort, filled_from}
+use Rattle.chess_pgn.proofs.GameTexts.{pgn_filled}
+use Rattle.chess_pgn.proofs.ShortTokens.{game_is_short}
 use Rattle.chess_pgn.proofs.GamesByTags.{reads_alike}
 use Rattle.chess_pgn.proofs.PgnMoves.{outcome_some, filled_long, outcome_read, read_so_far, moves_read}
 use Rattle.chess_pgn.proofs.PgnPieces.{read_on, TakesLine, empty_line, tagged, ended_game, plain_tag, termination_tag, fen_tag}
 use Rattle.chess_pgn.proofs.PgnTags.{tag_text_in_line}
-use Rattle.chess_pgn.proofs.TagScans.{variants_are}
-use Rattle.chess_pgn.proofs.VariantSaid.{said_on, tags_say, moves_say, outcome_in_line}
+use Rattle.chess_pgn.proofs.TagScans.{text_from, text_is}
+use Rattle.chess_pgn.proofs.TagTexts.{string_of, tags_of, result_string, variant_string_of, variant_string, said_on, text_says, outcome_in_line}
+use Rattle.chess_pgn.proofs.TokenSplits.{split_read}
 use Rattle.chess_pgn.proofs.Walk.{enough}
 use Rattle.chess_pgn.proofs.FenVariants.{initial_variant}
 
@@ -185,14 +192,15 @@ module _ (limit total : ℕ) where
       ≡ ended_game (Some (termination_of tags.ended (outcome_now s)))
       (record { start = s.start; moves = s.moves; declared = None }) (outcome_now s)
       (total - length (outcome_text (outcome_now s) ++ 10 ∷ 10 ∷ rest) + length (outcome_text (outcome_now s)))
-  unfolding pgn
   text_read after_law law initial t texts s h begins rest =
       let o : Outcome = outcome_now s in
       let said : Option Termination = Some (termination_of t.ended o) in
       let moves : List ℕ = filled_from [] 0 (game_tokens s) in
       let r : GameRead = ended_game said (record { start = s.start; moves = s.moves; declared = None }) o
       (total - length (outcome_text o ++ 10 ∷ 10 ∷ rest) + length (outcome_text o)) in
-      ap (read_on limit total (nothing_read s.start.variant) begins)
+      ap (λ text. read_on limit total (nothing_read s.start.variant) begins (text ++ rest))
+      (pgn_filled [] t s (game_is_short (record { limit = limit; state = s }) h))
+      ∙ ap (read_on limit total (nothing_read s.start.variant) begins)
       (grouped (ended [] (tag_lines t s ++ [] ∷ [])) moves rest)
       ∙ tags_read law initial t texts s h.start begins (moves ++ 10 ∷ rest)
       ∙ moves_read limit total after_law said s.start s.moves (record { few = h.limit; unended = h.unended })
@@ -209,34 +217,66 @@ no_mark [] c rest e = rw e refl
 no_mark (b ∷ before) c rest e = let some : eqb (suc (length before)) 0 ≡ false = grind (arith, nat_tests) in
     rw some refl
 
--- reading from the offset after `before` on
-read_after : (limit : ℕ) (before text : List ℕ) (v : Variant) → after_byte_order_mark (before ++ text) (length before)
-    ≡ length before → said_on Normal (begins_line (before ++ text) (length before)) text ≡ v
-    → pgn_read limit (before ++ text) (length before) ≡ read_on limit (length (before ++ text)) (nothing_read v)
-    (begins_line (before ++ text) (length before)) text
+-- the tokens from the offset after `before` on
+tokens_after : (before text : List ℕ) → tokens_from (before ++ text) (length before)
+    ≡ tokens_of (length text) (begins_line (before ++ text) (length before)) text
 unfolding tokens_from
-read_after limit before text v offset said =
+tokens_after before text =
     let whole : List ℕ = before ++ text in
     let fewer : length text ≤ length whole = omega (arith, length-append before text) in
+    ap (tokens_of (length whole) (begins_line whole (length before))) (drop_at before text (length before) refl)
+    ∙ enough (length whole) (length text) (begins_line whole (length before)) text fewer (omega arith)
+
+-- the variant that a tag Variant with this string names
+by_string : (o : Option (List ℕ × ℕ))
+    → option_map_or (λ (tag : List ℕ × ℕ). variant_named tag.0) o Normal
+    ≡ option_map_or variant_named (option_map (λ (tag : List ℕ × ℕ). tag.0) o) Normal
+by_string None = refl
+by_string (Some tag) = refl
+
+named : (ts : List (ℕ × Token))
+    → tagged_variant (own_tags ts) ≡ option_map_or variant_named (text_from (codes "Variant") None ts) Normal
+named ts = by_string (last_tag (codes "Variant") (own_tags ts))
+    ∙ ap (λ o. option_map_or variant_named o Normal) (sym (text_is (codes "Variant") ts))
+
+-- reading from the offset after `before` on
+read_after : (limit : ℕ) (before text : List ℕ) (v : Variant) → after_byte_order_mark (before ++ text) (length before)
+    ≡ length before
+    → option_map_or variant_named
+    (said_on (codes "Variant") None (begins_line (before ++ text) (length before)) text) Normal ≡ v
+    → pgn_read limit (before ++ text) (length before) ≡ read_on limit (length (before ++ text)) (nothing_read v)
+    (begins_line (before ++ text) (length before)) text
+read_after limit before text v offset said =
+    let whole : List ℕ = before ++ text in
+    let tokens : List (ℕ × Token) = tokens_of (length text) (begins_line whole (length before)) text in
     reads_alike limit whole (length before)
     ∙ ap (λ at. tokens_read limit (length whole) (tokens_from whole at)) offset
-    ∙ ap (λ xs. tokens_read limit (length whole) (tokens_of (length whole) (begins_line whole (length before)) xs))
-    (drop_at before text (length before) refl)
-    ∙ ap (tokens_read limit (length whole))
-    (enough (length whole) (length text) (begins_line whole (length before)) text fewer (omega arith))
-    ∙ ap (λ u. game_of limit (length whole) (nothing_read u)
-    (tokens_of (length text) (begins_line whole (length before)) text))
-    (sym (variants_are (tokens_of (length text) (begins_line whole (length before)) text)) ∙ said)
+    ∙ ap (tokens_read limit (length whole)) (tokens_after before text)
+    ∙ ap (λ u. game_of limit (length whole) (nothing_read u) tokens) (named tokens ∙ said)
+
+-- what the tags of a game's text say
+written_says : (name : List ℕ) (tags : Tags) → AreTagTexts tags → (s : State) → IsSound s.start
+    → AreShort (game_tokens s) → (begins : Bool) (rest : List ℕ)
+    → said_on name None begins (pgn [] tags s ++ rest) ≡ string_of name None (tags_of tags s)
+written_says name t texts s sound short begins rest =
+    ap (λ text. said_on name None begins (text ++ rest)) (pgn_filled [] t s short)
+    ∙ ap (said_on name None begins)
+    (grouped (ended [] (tag_lines t s ++ [] ∷ [])) (filled_from [] 0 (game_tokens s)) rest)
+    ∙ text_says name t texts s sound begins rest
 
 -- the variant that a game's text names
-variant_is : (tags : Tags) → AreTagTexts tags → (s : State) → IsSound s.start → (begins : Bool) (rest : List ℕ)
-    → said_on Normal begins (pgn [] tags s ++ rest) ≡ s.start.variant
-unfolding pgn
-variant_is t texts s sound begins rest =
-    let moves : List ℕ = filled_from [] 0 (game_tokens s) in
-    ap (said_on Normal begins) (grouped (ended [] (tag_lines t s ++ [] ∷ [])) moves rest)
-    ∙ tags_say t texts s sound begins (moves ++ 10 ∷ rest)
-    ∙ moves_say s.start.variant s rest sound
+variant_is : (tags : Tags) → AreTagTexts tags → (s : State) → IsSound s.start → AreShort (game_tokens s)
+    → (begins : Bool) (rest : List ℕ)
+    → option_map_or variant_named (said_on (codes "Variant") None begins (pgn [] tags s ++ rest)) Normal
+    ≡ s.start.variant
+variant_is t texts s sound short begins rest =
+    ap (λ o. option_map_or variant_named o Normal)
+    (written_says (codes "Variant") t texts s sound short begins rest ∙ variant_string t s)
+    ∙ by_variant s.start.variant
+  where
+    by_variant : (v : Variant) → option_map_or variant_named (variant_string_of v) Normal ≡ v
+    by_variant Normal = refl
+    by_variant Fischerandom = refl
 
 first_bytes : (tags : Tags) (s : State) → pgn [] tags s ≡ 91 ∷ drop 1 (pgn [] tags s)
 unfolding pgn
@@ -245,12 +285,12 @@ first_bytes tags s = refl
 longer : (a b : List ℕ) (n : ℕ) → n < length b → n + 2 ≤ length (a ++ b ++ 10 ∷ [])
 longer a b n h = omega (arith, length-append (a ++ b) (10 ∷ []), length-append a b)
 
-pgn_long : (tags : Tags) (s : State) → length (outcome_text (outcome_now s)) + 2 ≤ length (pgn [] tags s)
-unfolding pgn
-pgn_long tags s =
+pgn_long : (tags : Tags) (s : State) → AreShort (game_tokens s)
+    → length (outcome_text (outcome_now s)) + 2 ≤ length (pgn [] tags s)
+pgn_long tags s short =
     let t : List ℕ = outcome_text (outcome_now s) in
-    longer (ended [] (tag_lines tags s ++ [] ∷ [])) (filled_from [] 0 (game_tokens s)) (length t)
-    (filled_long 0 (move_tokens true s.start s.moves) t (outcome_some (outcome_now s)))
+    rw (pgn_filled [] tags s short) (longer (ended [] (tag_lines tags s ++ [] ∷ [])) (filled_from [] 0 (game_tokens s)) (length t)
+    (filled_long 0 (move_tokens true s.start s.moves) t (outcome_some (outcome_now s))))
 
 -- ---- the law
 
@@ -274,6 +314,7 @@ pub pgn_law : AfterIsSound → WrittenIsReadBack → IsSound (initial_setup_of N
 pgn_law after_law law initial limit tags s before rest texts h =
     let written : List ℕ = pgn [] tags s in
     let o : List ℕ = outcome_text (outcome_now s) in
+    let short = game_is_short (record { limit = limit; state = s }) h in
     let total : ℕ = length (before ++ (written ++ rest)) in
     let offset : after_byte_order_mark (before ++ (written ++ rest)) (length before) ≡ length before =
     rw (first_bytes tags s) (no_mark before 91 (drop 1 written ++ rest) refl) in
@@ -283,7 +324,7 @@ pgn_law after_law law initial limit tags s before rest texts h =
     (total - length (o ++ 10 ∷ 10 ∷ rest) + length o) =
     ap (λ text. pgn_read limit text (length before)) (append_assoc before written rest)
     ∙ read_after limit before (written ++ rest) s.start.variant offset
-    (variant_is tags texts s h.start (begins_line (before ++ (written ++ rest)) (length before)) rest)
+    (variant_is tags texts s h.start short (begins_line (before ++ (written ++ rest)) (length before)) rest)
     ∙ text_read limit total after_law law initial tags texts s h
     (begins_line (before ++ (written ++ rest)) (length before)) rest in
     subst (IsReadBack s (termination_of tags.ended (outcome_now s)) (length (before ++ written))) (sym is) (record {
@@ -299,6 +340,39 @@ pgn_law after_law law initial limit tags s before rest texts h =
         length-append before
             written,
         length-append o (10 ∷ 10 ∷ rest),
-        pgn_long tags s,
+        pgn_long tags s short,
       );
     })
+
+-- what the tag Result names, by its string
+result_by_string : (total : ℕ) (o : Option (List ℕ × ℕ))
+    → option_and_then (λ (tag : ResultTag). tag.outcome)
+    (option_map (λ tag. record { outcome = outcome_of tag.0; offset = total - tag.1; len = length tag.0 }) o)
+    ≡ option_and_then outcome_of (option_map (λ (tag : List ℕ × ℕ). tag.0) o)
+result_by_string total None = refl
+result_by_string total (Some tag) = refl
+
+outcome_again : (o : Outcome) → outcome_of (escaped (outcome_text o)) ≡ Some o
+outcome_again WhiteWins = refl
+outcome_again BlackWins = refl
+outcome_again Draw = refl
+outcome_again Unfinished = refl
+
+pub result_law : ResultIsWritten
+result_law limit tags s before rest texts h tokens split =
+    let text : List ℕ = pgn [] tags s ++ rest in
+    let whole : List ℕ = before ++ text in
+    let grouping : before ++ pgn [] tags s ++ rest ≡ whole = append_assoc before (pgn [] tags s) rest in
+    let offset : after_byte_order_mark whole (length before) ≡ length before =
+    rw (first_bytes tags s) (no_mark before 91 (drop 1 (pgn [] tags s) ++ rest) refl) in
+    let short = game_is_short (record { limit = limit; state = s }) h in
+    let are : tokens ≡ tokens_of (length text) (begins_line whole (length before)) text =
+    split_read (before ++ pgn [] tags s ++ rest) split
+    ∙ ap (λ xs. tokens_from xs (after_byte_order_mark xs (length before))) grouping
+    ∙ ap (tokens_from whole) offset ∙ tokens_after before text in
+    result_by_string (length (before ++ pgn [] tags s ++ rest)) (last_tag (codes "Result") (own_tags tokens))
+    ∙ ap (option_and_then outcome_of) (sym (text_is (codes "Result") tokens)
+    ∙ ap (text_from (codes "Result") None) are
+    ∙ written_says (codes "Result") tags texts s h.start short (begins_line whole (length before)) rest
+    ∙ result_string tags s)
+    ∙ outcome_again (outcome_now s)

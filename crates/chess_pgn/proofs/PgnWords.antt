@@ -1,5 +1,5 @@
 -- Words as they are written in a game: each is one token where a byte of no word follows, and of its own kind.
-use Rattle.std.proofs.Common.{◌≡◌, ◌⊎◌, ℕ, ◌<◌, ◌≤◌, Bool, true, false, ◌||◌, eqb, List, [], ◌∷◌, ◌++◌, length, get_or, take, drop, Option, None, refl, sym, ap, subst, ◌-◌, ◌∙◌, inl, inr, arith}
+use Rattle.std.proofs.Common.{◌≡◌, ℕ, ◌<◌, ◌≤◌, Bool, true, false, ◌&&◌, ◌||◌, eqb, List, [], ◌∷◌, ◌++◌, length, get_or, take, drop, Option, None, refl, sym, ap, subst, ◌-◌, ◌∙◌, inl, inr, arith}
 use Rattle.std.proofs.Math.Seq.{take-append_seam}
 use Rattle.std.proofs.lemmas.Bool.{and_parts, and_from, or_cases}
 use Rattle.std.proofs.lemmas.Bool.Decides.{nat_tests}
@@ -170,56 +170,8 @@ no_digits BlackWins = refl
 no_digits Draw = refl
 no_digits Unfinished = refl
 
-no_letter : (o : Outcome) → begins_with_letter (outcome_text o) ≡ false
-no_letter WhiteWins = refl
-no_letter BlackWins = refl
-no_letter Draw = refl
-no_letter Unfinished = refl
-
-pub outcome_kind : (o : Outcome) → word_kind (outcome_text o) ≡ End o
-outcome_kind WhiteWins = refl
-outcome_kind BlackWins = refl
-outcome_kind Draw = refl
-outcome_kind Unfinished = refl
-
-pub outcome_bytes : (o : Outcome) → list_all is_word_byte (outcome_text o) ≡ true ⊎ (o ≡ Unfinished)
-outcome_bytes WhiteWins = inl refl
-outcome_bytes BlackWins = inl refl
-outcome_bytes Draw = inl refl
-outcome_bytes Unfinished = inr refl
-
 pub number_kind : (word : List ℕ) → list_all is_digit word ≡ true → word_kind word ≡ Number
 number_kind word h = ap (kind_by word) (no_outcome (list_all is_digit) word no_digits h) ∙ rw h refl
-
-letter_fails : (p : ℕ → Bool) (c : ℕ) → ((k : ℕ) → p k ≡ true → is_letter k ≡ false) → is_letter c ≡ true → p c ≡ false
-letter_fails p c none h = by_test (p c) refl
-  where
-    by_test : (t : Bool) → p c ≡ t → t ≡ false
-    by_test true e = let off = none c e in absurd (cc)
-    by_test false e = refl
-
-digit_no_letter : (k : ℕ) → is_digit k ≡ true → is_letter k ≡ false
-digit_no_letter k h =
-    let both = and_parts (nat_le 48 k) (nat_le k 57) h in
-    let high : nat_le k 57 ≡ true = both.1 in
-    let a : nat_le 65 k ≡ false = grind (arith, nat_tests) in
-    let b : nat_le 97 k ≡ false = grind (arith, nat_tests) in
-    rw (a, b) refl
-
-mark_no_letter : (k : ℕ) → (eqb k 33 || eqb k 63) ≡ true → is_letter k ≡ false
-mark_no_letter k h =
-    let low : k ≤ 64 = elim (or_cases (eqb k 33) (eqb k 63) h)
-    [ inl e ↦ grind (arith, nat_tests) | inr e ↦ grind (arith, nat_tests) ] in
-    let a : nat_le 65 k ≡ false = grind (arith, nat_tests) in
-    let b : nat_le 97 k ≡ false = grind (arith, nat_tests) in
-    rw (a, b) refl
-
-pub move_kind : (word : List ℕ) → begins_with_letter word ≡ true → word_kind word ≡ Move
-move_kind [] h = absurd (cc)
-move_kind (c ∷ cs) h =
-    let digit = letter_fails is_digit c digit_no_letter h in
-    let mark = letter_fails (λ k. eqb k 33 || eqb k 63) c mark_no_letter h in
-    ap (kind_by (c ∷ cs)) (no_outcome begins_with_letter (c ∷ cs) no_letter h) ∙ rw (digit, mark) refl
 
 -- ---- words that begin with `A` or a byte after it
 
@@ -239,9 +191,15 @@ begins_as_move_kind (c ∷ cs) h =
     let low : nat_le 48 c ≡ true = grind (arith, nat_tests) in
     ap (kind_by (c ∷ cs)) (no_outcome begins_as_move (c ∷ cs) from_a_no_outcome h) ∙ rw (low, digit, stroke, query) refl
 
--- digits alone are no outcome
-pub digits_no_outcome : (word : List ℕ) → list_all is_digit word ≡ true → outcome_of word ≡ None
-digits_no_outcome word h = no_outcome (list_all is_digit) word no_digits h
+pub move_kind : (word : List ℕ) → begins_with_letter word ≡ true → word_kind word ≡ Move
+move_kind [] h = absurd (cc)
+move_kind (c ∷ cs) h =
+    let high : nat_le 65 c ≡ true = elim (or_cases (nat_le 65 c && nat_le c 90) (nat_le 97 c && nat_le c 122) h) [
+      | inl e ↦ (and_parts (nat_le 65 c) (nat_le c 90) e).0
+      | inr e ↦ (let small : nat_le 97 c ≡ true = (and_parts (nat_le 97 c) (nat_le c 122) e).0 in
+      grind (arith, nat_tests))
+    ] in
+    begins_as_move_kind (c ∷ cs) high
 
 -- ---- numbers and SAN are words
 

@@ -11,7 +11,7 @@ use Rattle.chess_pgn.specs.ties.TagParts.{closed, with_text, with_string, with_t
 use Rattle.chess_pgn.proofs.Skipped.{gap_line}
 use Rattle.chess_pgn.proofs.Strings.{string_after, string_quote, string_other}
 use Rattle.chess_pgn.proofs.Cuts.{pick}
-use Rattle.chess_pgn.specs.laws.Split.{lacks, IsGap, nothing, blank, line, IsString, kept, other, IsTag}
+use Rattle.chess_pgn.specs.Split.{lacks, IsGap, nothing, blank, line, IsString, kept, other, IsTag}
 use Rattle.chess_pgn.proofs.ByteRuns.{differs, run_drop, run_take, run_passes, run_stops}
 use Rattle.chess_pgn.proofs.VariationInsides.{line_end_is}
 

@@ -11,7 +11,7 @@ use Rattle.chess_pgn.specs.ties.TagParts.{tag_by_parts}
 use Rattle.chess_pgn.proofs.TagParts.{parts_are}
 use Rattle.chess_pgn.proofs.Walk.{no_token, token_more, token_nearer}
 use Rattle.chess_pgn.proofs.Cuts.{pick}
-use Rattle.chess_pgn.specs.laws.Split.{lacks, skips_line, Kind, Blank, Line, Comment, Nag, Variation, Tag_pair, Asterisk, Symbol, IsOf, IsLongest, token_of, HasNoToken, HasOpenComment, HasUnclosedComment, IsFaultOf, IsSplit, ended, token, stopped}
+use Rattle.chess_pgn.specs.Split.{lacks, skips_line, Kind, Blank, Line, Comment, Nag, Variation, Tag_pair, Asterisk, Symbol, IsOf, IsLongest, token_of, HasNoToken, HasOpenComment, HasUnclosedComment, IsFaultOf, IsSplit, ended, token, stopped}
 use Rattle.chess_pgn.proofs.ByteRuns.{differs, run_drop, run_take, run_passes, run_stops, longest_run, stops_run, brace_found, brace_missing, BraceSays, brace_says}
 use Rattle.chess_pgn.proofs.VariationInsides.{Leaves, closed, commented, unclosed, leaves, inside_read, open_read, open_comment}
 use Rattle.chess_pgn.proofs.TagSplits.{tag_begins, tag_read, TagLeaves, bad, good, tag_leaves}

@@ -6,7 +6,7 @@ use Rattle.std.proofs.lemmas.Bool.Decides.{nat_tests}
 use Rattle.std.proofs.lemmas.List.{take-append-drop, append_assoc, length-append}
 use Rattle.chess_pgn.specs.Tokens.{Token, Skip, Unclosed_comment, Unclosed_variation, line_end, after_brace, variation_at}
 use Rattle.chess_pgn.proofs.Variations.{by_part, part_then}
-use Rattle.chess_pgn.specs.laws.Split.{lacks, skips_line, IsInside, nothing, line, comment, variation, other, HasOpenComment, here, deeper}
+use Rattle.chess_pgn.specs.Split.{lacks, skips_line, IsInside, nothing, line, comment, variation, other, HasOpenComment, here, deeper}
 use Rattle.chess_pgn.proofs.ByteRuns.{differs, run_drop, run_passes, run_stops, brace_found, brace_missing, BraceSays, brace_says}
 
 -- ---- one part

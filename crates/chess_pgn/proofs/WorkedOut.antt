@@ -1,6 +1,7 @@
 -- Small texts worked out: how they are split, read and laid out.
 use Rattle.std.proofs.Common.{◌≡◌, ℕ, true, cond, not, List, [], ◌∷◌, ◌++◌, length, Option, None, refl, sym, ap, ◌∙◌, append_assoc, arith}
 use Rattle.std.specs.Prelude.{codes, is_some, nat_lt}
+use Rattle.std.proofs.lemmas.List.{length-append}
 use Rattle.std.proofs.lemmas.List.Concat.{flat_map-append}
 use Rattle.chess_base.specs.declared.man.Move.{Move}
 use Rattle.chess_base.specs.declared.man.Variant.TheVariants.{Normal}
@@ -14,13 +15,13 @@ use Rattle.chess_text.specs.Moves.{reading}
 use Rattle.chess_pgn.specs.declared.read.PgnFaultKind.TheVariants.{AfterEnd, TooLong}
 use Rattle.chess_pgn.specs.declared.tags.Tags.{Tags}
 use Rattle.chess_pgn.specs.GameRead.{GameRead, Row, Plays, Fails, finished, move_row, after_row, moves_read, read_of_split}
-use Rattle.chess_pgn.specs.laws.TagsAndMoves.{IsRead}
+use Rattle.chess_pgn.specs.GameRead.{IsRead}
 use Rattle.chess_pgn.specs.GameText.{tag_lines, game_tokens}
 use Rattle.chess_pgn.specs.Tokens.{Token, Skip, Tag, Word, after_byte_order_mark, token_at, tokens_of, tokens_from}
 use Rattle.chess_pgn.specs.Written.{ended}
 use Rattle.chess_pgn.specs.laws.Examples.{TextsAreSplit, TextsAreRead, TextsAreLaidOut}
-use Rattle.chess_pgn.specs.laws.PgnText.{IsPgn}
-use Rattle.chess_pgn.proofs.LaidOut.{all_lines}
+use Rattle.chess_pgn.specs.PgnText.{IsPgn}
+use Rattle.chess_pgn.proofs.FilledLines.{full_cons, grouped_full}
 use Rattle.chess_pgn.proofs.TokenSplits.{read_split}
 
 pub texts_are_split : TextsAreSplit
@@ -92,7 +93,8 @@ texts_are_read = record {
 lines_laid_out : (tags : List (List ℕ)) → ended (codes "# ") tags ++ codes "# \n# 1. e4 *\n# \n"
     ≡ ended (codes "# ") (tags ++ [] ∷ codes "1. e4 *" ∷ [] ++ [] ∷ [])
 lines_laid_out tags =
-    sym (flat_map-append (λ (line : List ℕ). codes "# " ++ line ++ 10 ∷ []) (tags ++ [] ∷ codes "1. e4 *" ∷ []) ([] ∷ [])
+    sym (flat_map-append (λ (line : List ℕ). codes "# " ++ line ++ 10 ∷ []) (tags ++ [] ∷ codes "1. e4 *" ∷ [])
+    ([] ∷ [])
     ∙ ap (λ xs. xs ++ codes "# \n")
     (flat_map-append (λ (line : List ℕ). codes "# " ++ line ++ 10 ∷ []) tags ([] ∷ codes "1. e4 *" ∷ []))
     ∙ append_assoc (ended (codes "# ") tags) (codes "# \n# 1. e4 *\n") (codes "# \n"))
@@ -101,7 +103,7 @@ game_is_laid_out : (t : Tags) (s : State) → game_tokens s ≡ codes "1." ∷ c
     → IsPgn (codes "# ") t s (ended (codes "# ") (tag_lines t s) ++ codes "# \n# 1. e4 *\n# \n")
 game_is_laid_out t s is = record {
   lines = (codes "1." ∷ codes "e4" ∷ codes "*" ∷ []) ∷ [];
-  full = all_lines ((codes "1." ∷ codes "e4" ∷ codes "*" ∷ []) ∷ []) (omega arith);
+  full = grouped_full (codes "1.") (codes "e4" ∷ codes "*" ∷ []) [] (omega arith) tt;
   all = sym is;
   is = lines_laid_out (tag_lines t s);
 }
@@ -109,6 +111,6 @@ game_is_laid_out t s is = record {
 pub texts_are_laid_out : TextsAreLaidOut
 texts_are_laid_out = record {
   game = game_is_laid_out;
-  lines = λ a b first next. all_lines ((a ∷ []) ∷ (b ∷ []) ∷ [])
-      (omega (arith, first), omega (arith, first, next), omega (arith, next));
+  lines = λ a b first next. full_cons (a ∷ []) b [] (omega arith) (omega (arith, first))
+      (omega (arith, first, next, length-append a (32 ∷ b))) (grouped_full b [] [] (omega (arith, next)) tt);
 }

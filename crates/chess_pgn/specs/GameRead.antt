@@ -1,7 +1,7 @@
 -- What is read of a game's text (PGN standard of 1994, sections 7 to 9; which words are taken is this project's own): a
 -- game's tokens are its tags, and then its moves. The tags give the start, and each move's word denotes a move in the
 -- position reached by then. The first token that can't be taken is the fault.
-use Rattle.std.specs.Prelude.{ℕ, ◌+◌, ◌-◌, nat_lt, Bool, true, false, not, ◌||◌, if◌then◌else◌, List, [], ◌∷◌, length, drop, map, codes, slice_get, Option, Some, None, is_some, Result, Ok, Err, option_and_then, ◌==◌}
+use Rattle.std.specs.Prelude.{◌≡◌, ℕ, ◌+◌, ◌-◌, nat_lt, Bool, true, false, not, ◌||◌, if◌then◌else◌, List, [], ◌∷◌, length, drop, map, codes, slice_get, Option, Some, None, is_some, Result, Ok, Err, option_and_then, ◌==◌}
 use Rattle.std.specs.List.{list_all, list_any, filter_map, last_or, take_while}
 use Rattle.std.specs.Option.{option_map_or, unwrap_or}
 use Rattle.std.specs.Result.{is_ok, result_ok}
@@ -28,8 +28,9 @@ use Rattle.chess_pgn.specs.declared.read.PgnFaultKind.{PgnFaultKind}
 use Rattle.chess_pgn.specs.declared.read.PgnFaultKind.TheVariants.{BadTag, BadFen, BadToken, IllegalMove, AmbiguousMove, AfterEnd, TooLong, UnclosedComment, UnclosedVariation, NoResult}
 use Rattle.chess_pgn.specs.declared.termination.Termination.{Termination}
 use Rattle.chess_pgn.specs.Terminations.{termination_named}
-use Rattle.chess_pgn.specs.LastTags.{last_tag, may_precede_tags, named_tag}
+use Rattle.chess_pgn.specs.LastTags.{own_tags, tags_named, last_tag}
 use Rattle.chess_pgn.specs.Tokens.{Token, Skip, Tag, Word, Bad_tag, Unclosed_comment, Unclosed_variation, Bad, after_byte_order_mark, tokens_from}
+use Rattle.chess_pgn.specs.Split.{IsSplit}
 use Rattle.chess_pgn.specs.Words.{outcome_of}
 
 -- ---- what is read in the end
@@ -130,14 +131,9 @@ abbrev pub is_tag : ℕ × Token → Bool
 is_tag (to_end, Tag name string at_string) = true
 is_tag _ = false
 
--- the tags of this name, each as its text and how many bytes are left where that begins
-abbrev pub tags_named : List ℕ → List (ℕ × Token) → List (List ℕ × ℕ)
-tags_named name tags = filter_map (λ t. named_tag name t.1) tags
-
 -- what the last tag Termination names
 abbrev pub last_termination : List (ℕ × Token) → Option Termination
-last_termination tags =
-    option_and_then (λ tag. termination_named tag.0) (last_or None (tags_named (codes "Termination") tags))
+last_termination tags = option_and_then (λ tag. termination_named tag.0) (last_tag (codes "Termination") tags)
 
 -- what the tags FEN denote in the variant `v`, each with how many bytes are left where its text begins
 abbrev pub fens : Variant → List (ℕ × Token) → List (Result Setup FenFault × ℕ)
@@ -167,9 +163,9 @@ variant_named text =
     || str_eq_ignore_ascii_case text (codes "chess960") then Fischerandom
     else Normal
 
--- the variant that the last tag Variant among the game's own tags names; normal chess if there is no such tag
+-- the variant that the last tag Variant names; normal chess if there is no such tag
 abbrev pub tagged_variant : List (ℕ × Token) → Variant
-tagged_variant tokens = option_map_or (λ tag. variant_named tag.0) (last_tag (codes "Variant") tokens) Normal
+tagged_variant tags = option_map_or (λ tag. variant_named tag.0) (last_tag (codes "Variant") tags) Normal
 
 -- ---- the game
 
@@ -181,21 +177,24 @@ after_tags limit total termination s has_tags ((to_end, Bad_tag) ∷ rest) =
 after_tags limit total termination s false [] = record { state = s; answer = Ok None }
 after_tags limit total termination s has_tags rest = moves_read limit total termination s rest
 
--- what is read of a game of variant `v` with these tags and these tokens after them, in a text of `total` bytes: the
--- fault of a FEN, or else what is read after the tags from the start that they give
-abbrev pub game_read : ℕ → ℕ → Variant → List (ℕ × Token) → List (ℕ × Token) → GameRead
-game_read limit total v tags rest =
-    let s = from_start (last_start (initial_setup_of v) (fens v tags)) in
-    option_map_or (failed s) (first_bad_fen total (fens v tags))
-    (after_tags limit total (last_termination tags) s (list_any is_tag tags) rest)
-
--- what is read of these tokens, in a text of `total` bytes: of its tags, and then of the tokens after them
+-- what is read of these tokens, in a text of `total` bytes: the fault of a FEN, or else what is read after the tags
+-- from the start that they give, in the variant that they name
 abbrev pub read_of_split : ℕ → ℕ → List (ℕ × Token) → GameRead
 read_of_split limit total tokens =
-    let tags = take_while (λ t. may_precede_tags t.1) tokens in
-    game_read limit total (tagged_variant tokens) tags (drop (length tags) tokens)
+    let tags = own_tags tokens in
+    let v = tagged_variant tags in
+    let s = from_start (last_start (initial_setup_of v) (fens v tags)) in
+    option_map_or (failed s) (first_bad_fen total (fens v tags))
+    (after_tags limit total (last_termination tags) s (list_any is_tag tags) (drop (length tags) tokens))
 
 -- what is read of a text from the offset `at` on: the game up to its outcome mark and where it ended, or `None` if no
 -- game is left, or the first fault. `limit` is the most half-moves of a game
 unfoldable pub pgn_read : ℕ → List ℕ → ℕ → GameRead
 pgn_read limit text at = read_of_split limit (length text) (tokens_from text (after_byte_order_mark text at))
+
+-- the same, with no reader of tokens: `r` is what is read of the text's split into tokens. By the law
+-- `a_game_is_tags_and_moves` there is one and only one such `r`
+pub record IsRead (limit : ℕ) (text : List ℕ) (at : ℕ) (r : GameRead) : Type 0 where
+  pub tokens : List (ℕ × Token)
+  pub split : IsSplit text (after_byte_order_mark text at) tokens
+  pub is : r ≡ read_of_split limit (length text) tokens

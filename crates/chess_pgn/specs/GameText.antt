@@ -15,7 +15,7 @@ use Rattle.chess_pgn.specs.declared.tags.Tags.{Tags}
 use Rattle.chess_pgn.specs.declared.termination.Termination.{Termination}
 use Rattle.chess_text.specs.San.{san}
 use Rattle.chess_pgn.specs.Terminations.{termination_text, termination_of}
-use Rattle.chess_pgn.specs.Written.{tag_line, ended, move_text_of}
+use Rattle.chess_pgn.specs.Written.{tag_line, ended, lines_of}
 
 -- ---- tags
 
@@ -80,7 +80,6 @@ game_tokens s = move_tokens true s.start s.moves ++ outcome_text (outcome_now s)
 -- ---- the whole text: tags, an empty line, the moves in filled lines, an empty line; each line after a prefix
 
 -- a game's text as it is written: tags, an empty line, the moves, an empty line; each line after `prefix` (`# ` in a
--- session)
+-- session). By the law `games_are_laid_out` no other text is the game's
 unfoldable pub pgn : List ℕ → Tags → State → List ℕ
-pgn prefix t s = ended prefix (tag_lines t s ++ [] ∷ []) ++ move_text_of prefix (game_tokens s)
-    ++ ended prefix ([] ∷ [])
+pgn prefix t s = ended prefix (tag_lines t s ++ [] ∷ lines_of (game_tokens s) ++ [] ∷ [])

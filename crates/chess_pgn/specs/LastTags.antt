@@ -7,7 +7,7 @@ use Rattle.std.specs.Str.{bytes_eq}
 use Rattle.chess_pgn.specs.declared.tagged_result.ResultTag.{ResultTag}
 use Rattle.chess_pgn.specs.declared.word_kind.WordKind.{WordKind}
 use Rattle.chess_pgn.specs.declared.word_kind.WordKind.TheVariants.{Marks}
-use Rattle.chess_pgn.specs.Tokens.{Token, Skip, Tag, Word, after_byte_order_mark, tokens_from}
+use Rattle.chess_pgn.specs.Tokens.{Token, Skip, Tag, Word}
 use Rattle.chess_pgn.specs.Words.{outcome_of, word_kind}
 
 -- a word of this kind is marks alone, such as `!?`
@@ -28,15 +28,22 @@ abbrev pub named_tag : List ℕ → Token → Option (List ℕ × ℕ)
 named_tag name (Tag other text to_end) = if bytes_eq other name then Some (text, to_end) else None
 named_tag name _ = None
 
--- the last tag with that name among a game's tags, which end before the first number, move, outcome or fault: its text,
--- and how many bytes are left where that begins. Each token comes after how many bytes are left at it
-abbrev pub last_tag : List ℕ → List (ℕ × Token) → Option (List ℕ × ℕ)
-last_tag name tokens = last_or None
-    (filter_map (λ t. named_tag name t.1) (take_while (λ t. may_precede_tags t.1) tokens))
+-- of the tokens from a game on those among which its own tags are: the ones before its first number, move, outcome or
+-- fault. Each comes after how many bytes are left at it
+abbrev pub own_tags : List (ℕ × Token) → List (ℕ × Token)
+own_tags tokens = take_while (λ t. may_precede_tags t.1) tokens
 
--- the last tag Result of the game that is read from the offset `at` on: the outcome that it names, if any, and the
--- offset and the length of its string; none if the game has no tag Result
-abbrev pub result_tag_of : List ℕ → ℕ → Option ResultTag
-result_tag_of text at =
-    option_map (λ tag. record { outcome = outcome_of tag.0; offset = length text - tag.1; len = length tag.0 })
-    (last_tag (codes "Result") (tokens_from text (after_byte_order_mark text at)))
+-- the tags of this name, each as its text and how many bytes are left where that begins
+abbrev pub tags_named : List ℕ → List (ℕ × Token) → List (List ℕ × ℕ)
+tags_named name tags = filter_map (λ t. named_tag name t.1) tags
+
+-- the last tag of this name
+abbrev pub last_tag : List ℕ → List (ℕ × Token) → Option (List ℕ × ℕ)
+last_tag name tags = last_or None (tags_named name tags)
+
+-- the last tag Result of a game with these tokens, in a text of `total` bytes: the outcome that it names, if any, and
+-- the offset and the length of its string; none if the game has no tag Result
+abbrev pub result_tag_of : ℕ → List (ℕ × Token) → Option ResultTag
+result_tag_of total tokens =
+    option_map (λ tag. record { outcome = outcome_of tag.0; offset = total - tag.1; len = length tag.0 })
+    (last_tag (codes "Result") (own_tags tokens))

@@ -1,4 +1,5 @@
 pub mod Tokens
+pub mod Split
 pub mod Words
 pub mod Written
 pub mod Tags
@@ -6,5 +7,6 @@ pub mod Terminations
 pub mod LastTags
 pub mod GameRead
 pub mod GameText
+pub mod PgnText
 pub mod laws
 pub mod ties

@@ -4,60 +4,29 @@ ghost use Rattle.std.specs.Prelude.{◌≡◌, List, length, ℕ};
 ghost use Rattle.chess_game.specs.Game.{State, IsPlayable};
 ghost use Rattle.chess_pgn.specs.declared.tags.Tags.{Tags};
 ghost use Rattle.chess_pgn.specs.GameRead.{GameRead, pgn_read};
-ghost use Rattle.chess_pgn.specs.laws.TagsAndMoves.{IsRead};
+ghost use Rattle.chess_pgn.specs.GameRead.{IsRead};
 ghost use Rattle.chess_pgn.specs.laws.TokenByToken.{tokens_read};
-ghost use Rattle.chess_pgn.specs.GameText.{game_tokens, pgn};
+ghost use Rattle.chess_pgn.specs.GameText.{pgn};
 ghost use Rattle.chess_pgn.specs.Tokens.{Token, after_byte_order_mark, tokens_from};
 ghost use Rattle.chess_pgn.specs.laws.Examples.{TextsAreLaidOut, TextsAreRead, TextsAreSplit};
-ghost use Rattle.chess_pgn.specs.laws.GameOfTokens.{GamesAreOfTokens};
 ghost use Rattle.chess_pgn.specs.laws.Normal.{NormalIsKept};
 ghost use Rattle.chess_pgn.specs.laws.Offsets.{FaultsHaveOffsets, HalfMovesHaveBytes};
-ghost use Rattle.chess_pgn.specs.laws.PgnLaw.{PgnIsReadBack};
-ghost use Rattle.chess_pgn.specs.Written.{move_text_of};
-ghost use Rattle.chess_pgn.specs.laws.Layout.{AreShort, IsMoveText};
-ghost use Rattle.chess_pgn.specs.laws.PgnText.{IsPgn};
-ghost use Rattle.chess_pgn.specs.laws.Split.{IsSplit};
+ghost use Rattle.chess_pgn.specs.laws.PgnLaw.{PgnIsReadBack, ResultIsWritten};
+ghost use Rattle.chess_pgn.specs.PgnText.{IsPgn};
+ghost use Rattle.chess_pgn.specs.Split.{IsSplit};
 
 use chess_base::{Position, Variant, after_is_sound};
 use chess_fen::written_is_denoted;
-use chess_text::san_is_a_word;
-
-/// States a law and does nothing: the text that tokens of 1 to 79 bytes make from left to right has them in filled
-/// lines, and no other text has. No line has more than 79 bytes after the prefix, and none could also have taken the
-/// first token of the next.
-pub fn lines_are_filled()
-    ensures filled { (prefix : List ℕ) (tokens : List (List ℕ)) → AreShort tokens
-        → IsMoveText prefix tokens (move_text_of prefix tokens) }
-    ensures no_other { (prefix : List ℕ) (tokens : List (List ℕ)) (text : List ℕ) → AreShort tokens
-        → IsMoveText prefix tokens text → text ≡ move_text_of prefix tokens }
-{}
-
-/// States a law and does nothing: the moves of every playable game are written in filled lines, of which none has more
-/// than 79 bytes after the prefix, and none could also have taken the first token of the next.
-pub fn games_are_in_filled_lines()
-    ensures { (prefix : List ℕ) (limit : ℕ) (s : State) → IsPlayable (record { limit = limit; state = s })
-        → IsMoveText prefix (game_tokens s) (move_text_of prefix (game_tokens s)) }
-{
-    // The prover wants these laws: each position of a game is sound, and the SAN of a legal move is short.
-    after_is_sound();
-    san_is_a_word();
-}
-
-/// States a law and does nothing: a game that is read is that of the first tokens of its text, defined with no reader:
-/// which tokens are taken, that its start is what their last FEN tag denotes, that each move word's reading in the
-/// position reached is its move, what their last tag `Termination` names, and which token ended it or has the fault,
-/// with the offset that is returned.
-pub fn games_are_of_tokens()
-    ensures { GamesAreOfTokens }
-{}
 
 /// States a law and does nothing: the text of a game that the limit admits is read back where it begins, whatever
 /// comes before and after it. The start, the moves and the outcome are those of the game, and the offset returned is
 /// the one after its outcome.
 ///
-/// A result that was declared comes back without its comment, since the text holds none. The tags are not kept.
+/// A result that was declared comes back without its comment, since the text holds none. The tags are not kept; the tag
+/// `Result` names the game's outcome.
 pub fn pgn_is_read_back()
-    ensures { PgnIsReadBack }
+    ensures read { PgnIsReadBack }
+    ensures result { ResultIsWritten }
 {
     // The prover wants these laws: each position of a game is sound, and a FEN that was written is read back.
     after_is_sound();
@@ -108,14 +77,9 @@ pub fn a_game_is_tags_and_moves()
 pub fn games_are_laid_out()
     ensures written { (prefix : List ℕ) → (t : Tags) → (limit : ℕ) → (s : State)
         → IsPlayable (record { limit = limit; state = s }) → IsPgn prefix t s (pgn prefix t s) }
-    ensures no_other { (prefix : List ℕ) → (t : Tags) → (limit : ℕ) → (s : State)
-        → IsPlayable (record { limit = limit; state = s }) → (text : List ℕ) → IsPgn prefix t s text
+    ensures no_other { (prefix : List ℕ) → (t : Tags) → (s : State) → (text : List ℕ) → IsPgn prefix t s text
         → text ≡ pgn prefix t s }
-{
-    // The prover wants these laws: each position of a game is sound, and the SAN of a legal move is short.
-    after_is_sound();
-    san_is_a_word();
-}
+{}
 
 /// States a law and does nothing: small texts worked out, of which the definitions say how they are split into tokens,
 /// what is read of them, and how they are laid out.

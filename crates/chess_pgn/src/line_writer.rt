@@ -5,7 +5,7 @@ ghost use Rattle.std.specs.Prelude.{◌≡◌, ◌+◌, ◌≤◌, ◌<◌, [], 
 ghost use Rattle.byte_devices.specs.Devices.{Puts};
 ghost use Rattle.chess_base.specs.Letters.{new_line};
 ghost use Rattle.chess_pgn.specs.ties.Waiting.{Adds};
-ghost use Rattle.chess_pgn.specs.Written.{wrapped_token, next_column, line_close};
+ghost use Rattle.chess_pgn.specs.ties.Lines.{wrapped_token, next_column, line_close};
 
 use crate::buffer::TextBuffer;
 use byte_devices::{Output, WriteFault};

@@ -7,8 +7,9 @@ ghost use Rattle.chess_base.specs.declared.man.Variant.TheVariants.{Normal};
 ghost use Rattle.chess_text.specs.Moves.{reading};
 ghost use Rattle.chess_pgn.specs.Words.{word_kind};
 ghost use Rattle.chess_pgn.specs.ties.Seen.{found_seen, token_seen, fault_seen};
-ghost use Rattle.chess_pgn.specs.GameRead.{declared_after, variant_named, tagged_variant, pgn_read};
+ghost use Rattle.chess_pgn.specs.GameRead.{GameRead, IsRead, declared_after, variant_named, tagged_variant, pgn_read};
 ghost use Rattle.chess_pgn.specs.laws.TokenByToken.{move_step, word_step, tag_step, step};
+ghost use Rattle.chess_pgn.specs.LastTags.{own_tags};
 ghost use Rattle.chess_pgn.specs.Tokens.{tokens_from};
 ghost use Rattle.chess_pgn.specs.ties.GameSteps.{refusal_kind, EndsIn, so_far, step_seen, IsWithin, IsReadOn, is_played, IsNoMove, IsLeft};
 
@@ -301,7 +302,7 @@ fn variant_of(tag: Option<Tag<'_>>) -> Variant
 // outcome names; normal chess, if it has no such tag.
 fn tagged_variant(text: &[u8], at: usize) -> Variant
     requires { at ≤ length text.now }
-    ensures { result ≡ tagged_variant (tokens_from text.now at) }
+    ensures { result ≡ tagged_variant (own_tags (tokens_from text.now at)) }
 {
     variant_of(last_tag(text, at, b"Variant"))
 }
@@ -375,6 +376,8 @@ pub fn read_pgn<B: Board>(
     requires { at ≤ length text.now }
     ensures answer { result ≡ (pgn_read game.old.limit text.now at).answer }
     ensures game { game.new ≡ left_at game.old (pgn_read game.old.limit text.now at).state }
+    ensures said { (r : GameRead) → IsRead game.old.limit text.now at r
+        → (result ≡ r.answer) × (game.new ≡ left_at game.old r.state) }
     ensures within { IfOk result (λ end. IfSome end (λ e. e.offset ≤ length text.now)) }
     ensures further { IfOk result (λ end. IfSome end (λ e. at < e.offset)) }
     ensures undeclared { OnErr result (IsNone game.new.state.declared) }

@@ -1,8 +1,10 @@
 //! The tag Result of a game.
 
-ghost use Rattle.std.specs.Prelude.{◌≡◌, ◌≤◌, length};
+ghost use Rattle.std.specs.Prelude.{◌≡◌, ◌≤◌, List, length, ℕ};
 ghost use Rattle.std.specs.Option.{IfSome};
 ghost use Rattle.chess_pgn.specs.LastTags.{result_tag_of};
+ghost use Rattle.chess_pgn.specs.Split.{IsSplit};
+ghost use Rattle.chess_pgn.specs.Tokens.{Token, after_byte_order_mark};
 
 use crate::last_tag::last_tag;
 use crate::token::after_byte_order_mark;
@@ -24,7 +26,8 @@ pub struct ResultTag {
 /// move or outcome.
 pub fn result_tag(text: &[u8], at: usize) -> Option<ResultTag>
     requires { at ≤ length text.now }
-    ensures tag { result ≡ result_tag_of text.now at }
+    ensures tag { (tokens : List (ℕ × Token)) × IsSplit text.now (after_byte_order_mark text.now at) tokens
+        × (result ≡ result_tag_of (length text.now) tokens) }
     ensures within { IfSome result (λ tag. tag.offset ≤ length text.now) }
 {
     let tag = last_tag(text, after_byte_order_mark(text, at), b"Result")?;

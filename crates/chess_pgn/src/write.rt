@@ -1,15 +1,16 @@
 //! Writing a game (PGN standard of 1994, sections 3.2, 8 and 9.7).
 
-ghost use Rattle.std.specs.Prelude.{◌≡◌, ◌≤◌, ◌<◌, [], ◌∷◌, ◌++◌, true, length, decimal, OnOk, OnErr, IsTrue};
+ghost use Rattle.std.specs.Prelude.{◌≡◌, ℕ, ◌≤◌, ◌<◌, List, [], ◌∷◌, ◌++◌, true, length, decimal, OnOk, OnErr, IsTrue};
 ghost use Rattle.arrayvec.specs.ArrayVec.{array_vec_len};
 ghost use Rattle.byte_devices.specs.Devices.{Puts};
 ghost use Rattle.chess_base.specs.Moves.{is_legal, after};
-ghost use Rattle.chess_game.specs.Game.{outcome_now};
+ghost use Rattle.chess_game.specs.Game.{outcome_now, IsPlayable};
 ghost use Rattle.chess_pgn.specs.GameText.{roster_lines, fen_lines, start_lines_in, last_lines, further_lines, tag_lines, number_token, tokens_of_move, move_tokens, game_tokens, pgn};
 ghost use Rattle.chess_fen.specs.Writing.{is_initial};
+ghost use Rattle.chess_pgn.specs.PgnText.{IsPgn};
 ghost use Rattle.chess_pgn.specs.ties.Lines.{placed_all, column_after_all};
 ghost use Rattle.chess_pgn.specs.ties.Waiting.{Adds};
-ghost use Rattle.chess_pgn.specs.Written.{ended, move_text_of};
+ghost use Rattle.chess_pgn.specs.Written.{ended, lines_of};
 
 use crate::line_writer::LineWriter;
 use crate::tag_lines::put_tags;
@@ -39,7 +40,10 @@ pub fn write_pgn<B: Board, W: Output>(
     prefix: &[u8],
     writer: &mut W,
 ) -> Result<(), WriteFault>
-    ensures { Puts (W.seen writer.old) (W.seen writer.new) result (pgn prefix.now tags.now game.now.state) }
+    ensures written { Puts (W.seen writer.old) (W.seen writer.new) result
+        (pgn prefix.now tags.now game.now.state) }
+    ensures laid_out { (text : List ℕ) → IsPgn prefix.now tags.now game.now.state text
+        → Puts (W.seen writer.old) (W.seen writer.new) result text }
 {
     let mut lines = LineWriter::new(prefix);
     put_game(&mut lines, writer, game, scratch, tags)?;
@@ -229,7 +233,7 @@ fn put_move_text<B: Board, W: Output>(
     requires outcome { outcome ≡ outcome_now game.now.state }
     requires column { lines.old.column ≡ 0 }
     ensures added { Adds (W.seen writer.old) (W.seen writer.new) lines.old.waiting lines.new.waiting result
-        (move_text_of lines.old.prefix.now (game_tokens game.now.state)) }
+        (ended lines.old.prefix.now (lines_of (game_tokens game.now.state))) }
     ensures prefix { lines.new.prefix.now ≡ lines.old.prefix.now }
 {
     put_moves(lines, writer, game, scratch)?;
@@ -251,6 +255,7 @@ fn put_moves<B: Board, W: Output>(
         (lines.new.column
         ≡ column_after_all lines.old.column (move_tokens true game.now.state.start game.now.state.moves)) }
     ensures prefix { lines.new.prefix.now ≡ lines.old.prefix.now }
+    ensures playable { IsPlayable game.now }
 {
     // The prover wants this fact: each move of a game is legal in the position before it.
     let _playable = game.position();

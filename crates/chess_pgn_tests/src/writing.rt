@@ -6,8 +6,7 @@ use chess_fen::{read_fen, read_fen_as};
 use chess_game::{Comment, Game, Outcome};
 use chess_moves::{Board, Plain};
 use chess_pgn::{
-    HowEnded, TagText, Tags, games_are_in_filled_lines, games_are_of_tokens, lines_are_filled,
-    normal_is_kept, pgn_is_read_back, write_pgn,
+    HowEnded, TagText, Tags, games_are_laid_out, normal_is_kept, pgn_is_read_back, write_pgn,
 };
 use chess_text::{Reading, read_move};
 use std::alloc::Global;
@@ -474,9 +473,7 @@ fn a_prefix_longer_than_the_buffer_is_written(rt: HostRuntime) -> Result<(), Fai
 
 #[test]
 fn laws_are_called() {
-    lines_are_filled();
-    games_are_in_filled_lines();
-    games_are_of_tokens();
+    games_are_laid_out();
     normal_is_kept();
     pgn_is_read_back();
 }

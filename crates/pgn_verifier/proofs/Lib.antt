@@ -6,3 +6,4 @@ mod LinesWritten
 mod Placed
 mod TextVerified
 mod Verifying
+mod WrittenGames

@@ -7,6 +7,7 @@ use Rattle.chess_game.specs.declared.verdicts.Verdict.{Verdict}
 use Rattle.chess_game.specs.declared.game.TheConstants.{MOST_MOVES}
 use Rattle.chess_pgn.specs.GameRead.{GameRead, pgn_read}
 use Rattle.chess_pgn.specs.LastTags.{result_tag_of}
+use Rattle.chess_pgn.specs.Tokens.{after_byte_order_mark, tokens_from}
 use Rattle.chess_pgn.specs.declared.read.PgnEnd.{PgnEnd}
 use Rattle.chess_pgn.specs.declared.read.PgnFault.{PgnFault}
 use Rattle.chess_pgn.specs.declared.read.PgnFaultKind.{PgnFaultKind}
@@ -55,7 +56,9 @@ read_at = pgn_read MOST_MOVES
 -- `strict`: results are compared
 abbrev pub judged_at : Bool → List ℕ → ℕ → Result (Option PgnEnd) GameFault
 judged_at strict text at =
-    let read = read_at text at in judged strict (result_tag_of text at) (verdict_now read.state) read.answer
+    let read = read_at text at in
+    let tag = result_tag_of (length text) (tokens_from text (after_byte_order_mark text at)) in
+    judged strict tag (verdict_now read.state) read.answer
 
 -- ---- names
 

@@ -6,3 +6,4 @@ pub mod Reports
 pub mod Faults
 pub mod Verify
 pub mod ties
+pub mod laws

@@ -4,6 +4,7 @@ ghost use Rattle.std.specs.Prelude.{◌≡◌, ◌≤◌, length, Some};
 ghost use Rattle.std.specs.Option.{IfSome, option_eq};
 ghost use Rattle.chess_game.specs.Game.{contradicts_verdict, verdict_now};
 ghost use Rattle.chess_pgn.specs.LastTags.{result_tag_of};
+ghost use Rattle.chess_pgn.specs.Tokens.{after_byte_order_mark, tokens_from};
 ghost use Rattle.chess_game.specs.Results.{same_outcome};
 ghost use Rattle.pgn_verifier.specs.GameFaults.{result_differs, board_says_otherwise, contradiction};
 
@@ -75,7 +76,10 @@ pub(crate) fn contradiction<B: Board>(
 ) -> Option<GameFault>
     requires at { at ≤ length text.now }
     requires end { end.offset ≤ length text.now }
-    ensures fault { result ≡ contradiction strict (result_tag_of text.now at) (verdict_now game.now.state) end }
+    ensures fault { result
+        ≡ contradiction strict
+        (result_tag_of (length text.now) (tokens_from text.now (after_byte_order_mark text.now at)))
+        (verdict_now game.now.state) end }
     ensures within { IfSome result (λ fault. fault.offset ≤ length text.now) }
 {
     if !strict {

@@ -13,7 +13,7 @@ use Rattle.chess_pgn.specs.declared.tags.Tags.{Tags}
 use Rattle.chess_pgn.specs.declared.termination.Termination.{Termination}
 use Rattle.chess_pgn.specs.GameText.{roster_lines, number_token}
 use Rattle.chess_pgn.specs.Terminations.{termination_text, termination_of}
-use Rattle.chess_pgn.specs.Written.{tag_line, ended, move_text_of}
+use Rattle.chess_pgn.specs.Written.{tag_line, ended, lines_of}
 use Rattle.chess_cecp.specs.laws.NormalGame.{normal_initial, normal_outcome_now}
 
 -- whether `start` is the initial position of normal chess; for normal chess alone
@@ -57,5 +57,4 @@ normal_game_tokens s = normal_move_tokens true s.start s.moves ++ outcome_text (
 -- a game's text: tags, an empty line, the moves, an empty line; each line after `prefix`; for normal chess alone
 unfoldable pub normal_pgn : List ℕ → Tags → State → List ℕ
 normal_pgn prefix t s =
-    ended prefix (normal_tag_lines t s ++ [] ∷ []) ++ move_text_of prefix (normal_game_tokens s)
-    ++ ended prefix ([] ∷ [])
+    ended prefix (normal_tag_lines t s ++ [] ∷ lines_of (normal_game_tokens s) ++ [] ∷ [])

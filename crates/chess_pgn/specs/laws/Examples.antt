@@ -14,10 +14,10 @@ use Rattle.chess_pgn.specs.declared.tags.Tags.{Tags}
 use Rattle.chess_pgn.specs.GameText.{tag_lines, game_tokens}
 use Rattle.chess_pgn.specs.Tokens.{Skip, Tag, Word, Bad_tag, Unclosed_comment, Unclosed_variation}
 use Rattle.chess_pgn.specs.Written.{ended}
-use Rattle.chess_pgn.specs.laws.PgnText.{AreFullLines, IsPgn}
-use Rattle.chess_pgn.specs.laws.Split.{IsSplit}
+use Rattle.chess_pgn.specs.PgnText.{AreFullLines, IsPgn}
+use Rattle.chess_pgn.specs.Split.{IsSplit}
 use Rattle.chess_pgn.specs.GameRead.{failed, finished}
-use Rattle.chess_pgn.specs.laws.TagsAndMoves.{IsRead}
+use Rattle.chess_pgn.specs.GameRead.{IsRead}
 
 -- texts are split so
 pub record TextsAreSplit : Type 0 where

@@ -1,11 +1,14 @@
 -- The law of games' texts: what is written is read back.
-use Rattle.std.specs.Prelude.{◌≡◌, ℕ, ◌+◌, List, [], ◌++◌, length, Some, Ok}
+use Rattle.std.specs.Prelude.{◌≡◌, ℕ, ◌+◌, List, [], ◌++◌, length, Some, Ok, option_and_then}
 use Rattle.chess_game.specs.Game.{State, outcome_now, IsPlayable}
 use Rattle.chess_pgn.specs.declared.tags.Tags.{Tags}
 use Rattle.chess_pgn.specs.declared.termination.Termination.{Termination}
 use Rattle.chess_pgn.specs.Terminations.{termination_of}
 use Rattle.chess_pgn.specs.GameRead.{GameRead, pgn_read}
 use Rattle.chess_pgn.specs.GameText.{pgn}
+use Rattle.chess_pgn.specs.LastTags.{result_tag_of}
+use Rattle.chess_pgn.specs.Split.{IsSplit}
+use Rattle.chess_pgn.specs.Tokens.{Token, after_byte_order_mark}
 use Rattle.chess_game.specs.Results.{IsTagText}
 
 -- the text of each tag is at most 60 bytes of printable ASCII
@@ -37,3 +40,12 @@ PgnIsReadBack =
     → IsPlayable (record { limit = limit; state = s })
     → IsReadBack s (termination_of tags.ended (outcome_now s)) (length (before ++ pgn [] tags s))
     (pgn_read limit (before ++ pgn [] tags s ++ after) (length before))
+
+-- the last tag Result of a playable game's text, as it is written, names the game's outcome, whatever text comes before
+-- and after it
+abbrev pub ResultIsWritten : Type 0
+ResultIsWritten =
+    (limit : ℕ) → (tags : Tags) → (s : State) → (before after : List ℕ) → AreTagTexts tags
+    → IsPlayable (record { limit = limit; state = s }) → let text = before ++ pgn [] tags s ++ after in
+    (tokens : List (ℕ × Token)) → IsSplit text (after_byte_order_mark text (length before)) tokens
+    → option_and_then (λ tag. tag.outcome) (result_tag_of (length text) tokens) ≡ Some (outcome_now s)

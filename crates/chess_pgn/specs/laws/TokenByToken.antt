@@ -1,5 +1,5 @@
--- What is read of a game token after token, by a step for each. The law `a_game_is_tags_and_moves` says that this is what
--- the game's tags and then its moves say.
+-- What is read of a game token after token, by a step for each. The law `a_game_is_tags_and_moves` says that this is
+-- what the game's tags and then its moves say.
 use Rattle.std.specs.Prelude.{ℕ, ◌+◌, ◌-◌, nat_lt, Bool, true, false, if◌then◌else◌, List, [], ◌∷◌, length, Option, Some, None, is_some, Result, Ok, Err, codes}
 use Rattle.std.specs.Str.{bytes_eq}
 use Rattle.chess_base.specs.declared.fen_fault.FenFault.{FenFault}
@@ -18,6 +18,7 @@ use Rattle.chess_pgn.specs.declared.word_kind.WordKind.TheVariants.{End, Number,
 use Rattle.chess_pgn.specs.declared.termination.Termination.{Termination}
 use Rattle.chess_text.specs.Moves.{reading}
 use Rattle.chess_pgn.specs.Terminations.{termination_named}
+use Rattle.chess_pgn.specs.LastTags.{own_tags}
 use Rattle.chess_pgn.specs.Tokens.{Token, Skip, Tag, Word, Bad_tag, Unclosed_comment, Unclosed_variation, Bad}
 use Rattle.chess_pgn.specs.Words.{word_kind}
 use Rattle.chess_pgn.specs.GameRead.{GameRead, declared_after, tagged_variant}
@@ -137,4 +138,4 @@ nothing_read v =
 -- what was read from these tokens, each after how many bytes are left where it begins, in the variant that their tags
 -- name. `limit` is the most half-moves of a game, `total` the text's length
 abbrev pub tokens_read : ℕ → ℕ → List (ℕ × Token) → GameRead
-tokens_read limit total tokens = game_of limit total (nothing_read (tagged_variant tokens)) tokens
+tokens_read limit total tokens = game_of limit total (nothing_read (tagged_variant (own_tags tokens))) tokens

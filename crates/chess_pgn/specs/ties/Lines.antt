@@ -1,11 +1,34 @@
 -- Tags and tokens that are put into lines.
-use Rattle.std.specs.Prelude.{List, ℕ, map, [], ◌∷◌, ◌++◌}
+use Rattle.std.specs.Prelude.{ℕ, ◌+◌, Bool, not, ◌&&◌, List, map, [], ◌∷◌, ◌++◌, length, ◌==◌, nat_le, if◌then◌else◌}
+use Rattle.chess_base.specs.Letters.{new_line, space}
 use Rattle.chess_pgn.specs.declared.tags.TagPair.{TagPair}
-use Rattle.chess_pgn.specs.Written.{tag_line, wrapped_token, next_column}
+use Rattle.chess_pgn.specs.Written.{tag_line}
 
 -- the lines of these tags in order, each as `[Event "a"]`
 abbrev pub tag_lines_of : List TagPair → List (List ℕ)
 tag_lines_of pairs = map (λ p. tag_line p.name.now p.text.now) pairs
+
+-- ---- tokens in lines from left to right, by how many bytes the line that is begun has so far; with 0 none is begun
+
+-- the token goes on the line that is begun, which has `column` bytes so far: with a space and the token it has at most
+-- 79. False for column 0, where no line is begun
+abbrev pub fits_line : ℕ → List ℕ → Bool
+fits_line column token = not (column == 0) && nat_le (column + 1 + length token) 79
+
+-- what ends a line with `column` bytes so far: `\n`, or nothing for column 0, where no line is begun
+abbrev pub line_close : ℕ → List ℕ
+line_close column = if column == 0 then [] else new_line ∷ []
+
+-- a token as it is added to a line with `column` bytes so far: after a space if it fits, else on a new line after
+-- `prefix`. Column 0: no line is begun
+abbrev pub wrapped_token : List ℕ → ℕ → List ℕ → List ℕ
+wrapped_token prefix column token =
+    if fits_line column token then space ∷ token else line_close column ++ (prefix ++ token)
+
+-- how many bytes the line has once the token is added, if it has `column` before; the prefix isn't counted. A token
+-- that doesn't fit begins a new line
+abbrev pub next_column : ℕ → List ℕ → ℕ
+next_column column token = if fits_line column token then column + 1 + length token else length token
 
 -- ---- tokens put into lines that go on: their text, and how many bytes the line has after them
 

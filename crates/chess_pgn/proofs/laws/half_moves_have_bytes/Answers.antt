@@ -1,4 +1,4 @@
-use Rattle.chess_pgn.proofs.MoveBytes.{half_moves_have_bytes}
+use Rattle.chess_pgn.proofs.FaultPlaces.{half_moves_have_bytes}
 use Rattle.chess_pgn.proofs.laws.half_moves_have_bytes.Goals as goal
 
 pub returns : goal.returns

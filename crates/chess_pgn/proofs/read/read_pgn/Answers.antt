@@ -4,7 +4,9 @@
 use Rattle.chess_pgn.specs.ties.Seen.{token_seen, fault_seen}
 use Rattle.chess_pgn.proofs.TokenPlaces.{token_within}
 use Rattle.chess_pgn.proofs.GameReads.{read_from, more, alike, further, bare_at_fault}
-use Rattle.std.proofs.Common.{length, subst}
+use Rattle.std.proofs.Common.{length, subst, Some, None, Ok, Err, rules}
+use Rattle.chess_pgn.specs.declared.read.PgnFaultKind.TheVariants.{NoResult}
+use Rattle.chess_pgn.proofs.GamesByTags.{as_said}
 use Rattle.chess_pgn.specs.ties.GameSteps.{so_far, StopsAt}
 use Rattle.chess_pgn.proofs.read.read_pgn.Goals as goal
 
@@ -51,5 +53,34 @@ returns-in_err-further-in-Ok-Some-clause-undeclared g c =
     bare_at_fault c.loop-token.game.limit (length c.args.text.now)
     (so_far c.loop-token.game.state c.loop-token.progress) _ (token_seen c.in-Ok-Some.token)
     c.apply_token.new.game.state c.in_err-further-in-Ok-Some.field-0.0 c.from_residual.result
+    (token_within c.args.text.now c.loop-token.offset (token_seen c.in-Ok-Some.token) _ c.loop-token.invariant.offset
+    (rw c.in-Ok-Some.field-0-is at c.in-Ok-Some.ensures).0)
     c.loop-token.invariant.undeclared
     c.in_err-further-in-Ok-Some.ensures.step
+
+-- ---- what was read is what the split says (GamesByTags.as_said), at each exit
+
+pub returns-in_err-further-in-Ok-Some-clause-said : goal.returns-in_err-further-in-Ok-Some-clause-said
+returns-in_err-further-in-Ok-Some-clause-said g c =
+    as_said c.args.game.now.limit c.args.text.now c.args.at c.args.game.now c.apply_token.new.game
+    c.from_residual.result (search rules) (search rules)
+
+pub returns-in-Ended-clause-said : goal.returns-in-Ended-clause-said
+returns-in-Ended-clause-said g c =
+    as_said c.args.game.now.limit c.args.text.now c.args.at c.args.game.now c.apply_token.new.game
+    (Ok (Some c.in-Ended.end)) (search rules) (search rules)
+
+pub returns-in-Ok-None-clause-said : goal.returns-in-Ok-None-clause-said
+returns-in-Ok-None-clause-said g c =
+    as_said c.args.game.now.limit c.args.text.now c.args.at c.args.game.now c.loop-token.game
+    (Err (record { kind = NoResult; offset = length c.args.text.now })) (search rules) (search rules)
+
+pub returns-in-Ok-None-2-clause-said : goal.returns-in-Ok-None-2-clause-said
+returns-in-Ok-None-2-clause-said g c =
+    as_said c.args.game.now.limit c.args.text.now c.args.at c.args.game.now c.loop-token.game (Ok None) (search rules)
+    (search rules)
+
+pub returns-in-Err-clause-said : goal.returns-in-Err-clause-said
+returns-in-Err-clause-said g c =
+    as_said c.args.game.now.limit c.args.text.now c.args.at c.args.game.now c.loop-token.game
+    (Err c.reported_fault.result) (search rules) (search rules)

@@ -11,9 +11,8 @@ returns-in_err-put_moves-clause-added g c =
     let lines = c.args.lines.now in
     adds_exit _ _ c.from_residual.result _ _ _
     (first_broke _ _ _ _ _ _ _
-    (moves_are lines.prefix.now lines.prefix.now _ lines.column _ _ c.args.game.now.state c.requires.column
-    refl refl refl
-    refl) c.in_err-put_moves.ensures.added)
+    (moves_are lines.prefix.now lines.prefix.now _ lines.column _ _ c.args.game.now c.in_err-put_moves.ensures.playable
+    c.requires.column refl refl refl refl) c.in_err-put_moves.ensures.added)
     c.from_residual.ensures.0
 
 pub returns-in_err-put_token-clause-added : goal.returns-in_err-put_token-clause-added
@@ -22,8 +21,9 @@ returns-in_err-put_token-clause-added g c =
     let before = c.put_moves.new.lines in
     adds_exit _ _ c.from_residual-in_err-put_token.result _ _ _
     (second_broke _ _ _ _ _ _ _ _ _
-    (moves_are lines.prefix.now before.prefix.now c.text.result.now lines.column before.column _ c.args.game.now.state
-    c.requires.column c.in_ok-put_moves.ensures.prefix c.in_ok-put_moves.ensures.column
+    (moves_are lines.prefix.now before.prefix.now c.text.result.now lines.column before.column _ c.args.game.now
+    c.in_ok-put_moves.ensures.playable c.requires.column c.in_ok-put_moves.ensures.prefix
+    c.in_ok-put_moves.ensures.column
     (c.text.ensures.value ∙ ap outcome_text c.requires.outcome) refl)
     c.in_ok-put_moves.ensures.added c.in_err-put_token.ensures.added)
     c.from_residual-in_err-put_token.ensures.0
@@ -34,7 +34,8 @@ returns-clause-added g c =
     let before = c.put_moves.new.lines in
     third_put _ _ _ _ c.end_line.result _ _ _ _ _ _ _ _
     (moves_are lines.prefix.now before.prefix.now c.text.result.now lines.column before.column
-    c.put_token.new.self.column c.args.game.now.state c.requires.column c.in_ok-put_moves.ensures.prefix
+    c.put_token.new.self.column c.args.game.now c.in_ok-put_moves.ensures.playable c.requires.column
+    c.in_ok-put_moves.ensures.prefix
     c.in_ok-put_moves.ensures.column (c.text.ensures.value ∙ ap outcome_text c.requires.outcome)
     c.in_ok-put_token.ensures.column)
     c.in_ok-put_moves.ensures.added c.in_ok-put_token.ensures.added c.end_line.ensures.added

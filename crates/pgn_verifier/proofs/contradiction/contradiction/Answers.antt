@@ -1,5 +1,9 @@
--- Both faults are in the text (FaultsInText.first_found).
-use Rattle.std.proofs.Common.{length}
+-- Both faults are in the text (FaultsInText.first_found). The tag is that of the text's only split.
+use Rattle.std.proofs.Common.{◌≡◌, length, ap, ◌∙◌, arith}
+use Rattle.std.proofs.lemmas.Grind.{common_steps}
+use Rattle.chess_pgn.specs.LastTags.{result_tag_of}
+use Rattle.chess_pgn.specs.Tokens.{after_byte_order_mark, tokens_from}
+use Rattle.chess_pgn.proofs.shared.Tokens.{split_read}
 use Rattle.pgn_verifier.proofs.FaultsInText.{first_found}
 use Rattle.pgn_verifier.proofs.contradiction.contradiction.Goals as goal
 
@@ -8,3 +12,12 @@ returns-clause-within g c =
     first_found (length c.args.text.now) c.result_tag.result c.verdict.result c.args.end c.result_differs.result
     c.board_says_otherwise.result c.or.result c.result_differs.ensures c.board_says_otherwise.ensures
     c.or.ensures c.result_tag.ensures.within c.requires.end
+
+pub returns-clause-fault : goal.returns-clause-fault
+returns-clause-fault g c =
+    let (tokens, split, is) = c.result_tag.ensures.tag in
+    let text = c.args.text.now in
+    let tag : c.result_tag.result
+    ≡ result_tag_of (length text) (tokens_from text (after_byte_order_mark text c.args.at)) =
+    is ∙ ap (result_tag_of (length text)) (split_read text split) in
+    grind (arith, common_steps, tag)

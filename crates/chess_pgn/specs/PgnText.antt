@@ -1,12 +1,16 @@
 -- A game's text as it is written (PGN standard of 1994, sections 3.2, 4.3 and 8): the tags' lines, an empty line, the
 -- moves in lines of at most 79 characters, each as full as it can be, and an empty line.
 use Rattle.std.specs.Prelude.{◌≡◌, ℕ, ◌<◌, ◌≤◌, List, [], ◌∷◌, ◌++◌, length, map}
-use Rattle.std.specs.List.{flat_map, AllByRecursion}
+use Rattle.std.specs.List.{flat_map, join_with_byte, AllByRecursion}
+use Rattle.chess_base.specs.Letters.{space}
 use Rattle.chess_game.specs.Game.{State}
 use Rattle.chess_pgn.specs.declared.tags.Tags.{Tags}
 use Rattle.chess_pgn.specs.GameText.{tag_lines, game_tokens}
 use Rattle.chess_pgn.specs.Written.{ended}
-use Rattle.chess_pgn.specs.laws.Layout.{line_text}
+
+-- a line's tokens as text, with one space between two
+abbrev pub line_text : List (List ℕ) → List ℕ
+line_text tokens = join_with_byte space tokens
 
 -- these lines of tokens are as full as they can be: no line is empty or has more than 79 characters, and none could
 -- also have taken the first token of the next

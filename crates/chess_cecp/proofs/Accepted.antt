@@ -1,0 +1,38 @@
+-- The moves of a game that was read are accepted: what reading asks of a move, a session asks too.
+use Rattle.std.proofs.Common.{◌≡◌, ℕ, true, false, leb, List, [], ◌∷◌, length, None, refl, ap, arith}
+use Rattle.std.specs.Prelude.{nat_lt, nat_le}
+use Rattle.std.proofs.lemmas.Bool.Decides.{nat_tests}
+use Rattle.chess_base.specs.declared.man.Move.{Move}
+use Rattle.chess_game.specs.Game.{State, from_start, played, current, verdict_now}
+use Rattle.chess_text.specs.declared.reading.Reading.TheVariants as reads
+use Rattle.chess_text.specs.Moves.{reading}
+use Rattle.chess_pgn.specs.declared.tags.Tags.{Tags}
+use Rattle.chess_pgn.specs.GameRead.{pgn_read}
+use Rattle.chess_pgn.proofs.shared.Words.{AreRead, game_words}
+use Rattle.chess_cecp.specs.declared.command.Command.TheVariants.{UserMove}
+use Rattle.chess_cecp.specs.laws.Accepted.{AreAccepted, ReadGamesAreAccepted}
+use Rattle.chess_cecp.specs.Session.{becomes_judged, row}
+
+move_accepted : (tags : Tags) (limit : ℕ) (s : State) (m : Move) → verdict_now s ≡ None → s.declared ≡ None
+    → nat_lt (length s.moves) limit ≡ true → (line word : List ℕ) → reading (current s) word ≡ reads.Move m
+    → row tags limit s line word UserMove ≡ becomes_judged (played s m)
+move_accepted tags limit s m unended bare room line word is =
+    let full : nat_le limit (length s.moves) ≡ false = grind (arith, nat_tests, room) in
+    rw (unended, bare, full, is) refl
+
+accepted : (tags : Tags) (limit : ℕ) (s : State) (words : List (List ℕ)) (ms : List Move) → s.declared ≡ None
+    → AreRead limit s words ms → AreAccepted tags limit s ms
+accepted tags limit s [] [] bare are = tt
+accepted tags limit s [] (m ∷ ms) bare are = absurd are
+accepted tags limit s (w ∷ ws) [] bare are = tt
+accepted tags limit s (w ∷ ws) (m ∷ ms) bare (unended, room, denotes, more) = (
+  (w, denotes),
+  move_accepted tags limit s m unended bare room,
+  accepted tags limit (played s m) ws ms bare more,
+)
+
+pub read_games : ReadGamesAreAccepted
+read_games tags limit text at end is =
+    let words = game_words limit text at end is in
+    accepted tags limit (from_start (pgn_read limit text at).state.start) words.0 (pgn_read limit text at).state.moves
+    refl words.1

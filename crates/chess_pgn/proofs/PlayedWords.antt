@@ -1,0 +1,172 @@
+-- The words of a game that was read: each denotes a move where a move may be played, and these are the game's moves.
+use Rattle.std.proofs.Common.{◌≡◌, ℕ, Bool, true, false, cond, not, List, [], ◌∷◌, ◌++◌, length, drop, Option, Some, None, is_some, Result, Ok, Err, refl, sym, ap, subst, ◌∙◌, append_assoc, append-nil}
+use Rattle.std.specs.Prelude.{◌||◌, ◌==◌, nat_lt}
+use Rattle.std.specs.List.{list_all, list_any}
+use Rattle.std.specs.Option.{option_map_or}
+use Rattle.chess_base.specs.declared.man.Move.{Move}
+use Rattle.chess_base.specs.declared.man.Variant.{Variant}
+use Rattle.chess_base.specs.declared.setup.Setup.{Setup}
+use Rattle.chess_base.specs.Initial.{initial_setup_of}
+use Rattle.chess_base.specs.Letters.{byte, is_digit}
+use Rattle.chess_game.specs.Game.{State, from_start, played, current, verdict_now}
+use Rattle.chess_game.specs.declared.results.Outcome.{Outcome}
+use Rattle.chess_game.specs.declared.verdicts.Verdict.{Verdict}
+use Rattle.chess_text.specs.declared.reading.Reading.{Reading}
+use Rattle.chess_text.specs.declared.reading.Reading.TheVariants as reads
+use Rattle.chess_text.specs.Moves.{reading}
+use Rattle.chess_pgn.specs.declared.read.PgnEnd.{PgnEnd}
+use Rattle.chess_pgn.specs.declared.read.PgnFault.{PgnFault}
+use Rattle.chess_pgn.specs.declared.read.PgnFaultKind.TheVariants.{AfterEnd, TooLong}
+use Rattle.chess_pgn.specs.declared.termination.Termination.{Termination}
+use Rattle.chess_pgn.specs.GameRead.{GameRead, Row, Passes, Plays, Ends, Fails, failed, move_row, row, after_row, moves_read, is_tag, fens, last_start, last_termination, first_bad_fen, tagged_variant, after_tags, pgn_read}
+use Rattle.chess_pgn.specs.LastTags.{own_tags}
+use Rattle.chess_pgn.specs.Tokens.{Token, Skip, Tag, Word, Bad_tag, Unclosed_comment, Unclosed_variation, Bad, after_byte_order_mark, tokens_from}
+use Rattle.chess_pgn.specs.Words.{outcome_of}
+
+-- from the game `s` on each word denotes the move at its index, where the game has no verdict and fewer than `limit`
+-- moves
+abbrev pub AreRead : ℕ → State → List (List ℕ) → List Move → Type 0
+AreRead limit s [] [] = Unit {0}
+AreRead limit s [] (m ∷ ms) = ⊥
+AreRead limit s (w ∷ ws) [] = ⊥
+AreRead limit s (w ∷ ws) (m ∷ ms) =
+    (verdict_now s ≡ None) × (nat_lt (length s.moves) limit ≡ true) × (reading (current s) w ≡ reads.Move m)
+    × AreRead limit (played s m) ws ms
+
+-- reading ended a game
+abbrev IsEnd : Result (Option PgnEnd) PgnFault → Type 0
+IsEnd (Ok None) = ⊥
+IsEnd (Ok (Some end)) = Unit {0}
+IsEnd (Err fault) = ⊥
+
+-- the moves from the game `s` to the game `r`, by their words
+record Words (limit : ℕ) (s r : State) : Type 0 where
+  words : List (List ℕ)
+  moves : List Move
+  are : AreRead limit s words moves
+  all : s.moves ++ moves ≡ r.moves
+  start : r.start ≡ s.start
+
+-- ---- a word
+
+-- a word whose move is played
+record IsPlayed (limit : ℕ) (s : State) (m : Move) : Type 0 where
+  word : List ℕ
+  unended : verdict_now s ≡ None
+  room : nat_lt (length s.moves) limit ≡ true
+  denotes : reading (current s) word ≡ reads.Move m
+
+open_row : (over : Option Verdict) (room : Bool) (x : Row) (m : Move)
+    → cond (is_some over) (Fails AfterEnd) (cond (not room) (Fails TooLong) x) ≡ Plays m
+    → (over ≡ None) × (room ≡ true) × (x ≡ Plays m)
+open_row (Some v) room x m e = absurd (cc)
+open_row None false x m e = absurd (cc)
+open_row None true x m e = (refl, refl, e)
+
+word_plays : (limit : ℕ) (s : State) (word : List ℕ) (m : Move) (r : Reading) → reading (current s) word ≡ r
+    → move_row limit s r ≡ Plays m → IsPlayed limit s m
+word_plays limit s word m reads.NotAMove is e = absurd (cc)
+word_plays limit s word m (reads.Move n) is e =
+    let open_yet = open_row (verdict_now s) (nat_lt (length s.moves) limit) (Plays n) m e in
+    let played_is : Plays n ≡ Plays m = open_yet.2 in
+    let same : n ≡ m = cc in
+    record { word = word; unended = open_yet.0; room = open_yet.1; denotes = is ∙ ap reads.Move same }
+word_plays limit s word m reads.Ambiguous is e =
+    let none = (open_row (verdict_now s) (nat_lt (length s.moves) limit) _ m e).2 in absurd (cc)
+word_plays limit s word m reads.NoSuch is e =
+    let none = (open_row (verdict_now s) (nat_lt (length s.moves) limit) _ m e).2 in absurd (cc)
+
+token_plays : (limit : ℕ) (s : State) (t : Token) (m : Move) → row limit s t ≡ Plays m → IsPlayed limit s m
+token_plays limit s Skip m e = absurd (cc)
+token_plays limit s (Tag name string left) m e = absurd (cc)
+token_plays limit s (Word word) m e = by_kind (outcome_of word) (list_all is_digit word)
+    (list_all (λ c. c == byte "!" || c == byte "?") word) e
+  where
+    by_kind : (o : Option Outcome) (is_number is_mark : Bool)
+        → option_map_or Ends o
+        (cond is_number Passes (cond is_mark Passes (move_row limit s (reading (current s) word)))) ≡ Plays m
+        → IsPlayed limit s m
+    by_kind (Some o) is_number is_mark e = absurd (cc)
+    by_kind None true is_mark e = absurd (cc)
+    by_kind None false true e = absurd (cc)
+    by_kind None false false e = word_plays limit s word m (reading (current s) word) refl e
+token_plays limit s Bad_tag m e = absurd (cc)
+token_plays limit s (Unclosed_comment brace) m e = absurd (cc)
+token_plays limit s Unclosed_variation m e = absurd (cc)
+token_plays limit s Bad m e = absurd (cc)
+
+-- ---- the moves
+
+moves_words : (limit total : ℕ) (termination : Option Termination) (s : State) (ts : List (ℕ × Token))
+    → IsEnd (moves_read limit total termination s ts).answer
+    → Words limit s (moves_read limit total termination s ts).state
+moves_words limit total termination s [] h = absurd h
+moves_words limit total termination s (t ∷ ts) h =
+    by_row (row limit s t.1) refl (λ n k. moves_words limit total termination n ts k) h
+  where
+    by_row : (x : Row) → row limit s t.1 ≡ x
+        → ((n : State) → IsEnd (moves_read limit total termination n ts).answer
+        → Words limit n (moves_read limit total termination n ts).state)
+        → IsEnd (after_row total termination s t x (λ n. moves_read limit total termination n ts)).answer
+        → Words limit s (after_row total termination s t x (λ n. moves_read limit total termination n ts)).state
+    by_row Passes e later k = later s k
+    by_row (Plays m) e later k =
+        let here = token_plays limit s t.1 m e in
+        let more = later (played s m) k in
+        record {
+          words = here.word ∷ more.words;
+          moves = m ∷ more.moves;
+          are = (here.unended, here.room, here.denotes, more.are);
+          all = sym (append_assoc s.moves (m ∷ []) more.moves) ∙ more.all;
+          start = more.start;
+        }
+    by_row (Ends o) e later k =
+        record { words = []; moves = []; are = tt; all = append-nil s.moves; start = refl }
+    by_row (Fails kind) e later k = absurd k
+
+tags_words : (limit total : ℕ) (termination : Option Termination) (s : State) (met : Bool) (ts : List (ℕ × Token))
+    → IsEnd (after_tags limit total termination s met ts).answer
+    → Words limit s (after_tags limit total termination s met ts).state
+tags_words limit total termination s true [] h = absurd h
+tags_words limit total termination s false [] h = absurd h
+tags_words limit total termination s met ((left, Skip) ∷ ts) h =
+    moves_words limit total termination s ((left, Skip) ∷ ts) h
+tags_words limit total termination s met ((left, Tag name string at) ∷ ts) h = absurd h
+tags_words limit total termination s met ((left, Word word) ∷ ts) h =
+    moves_words limit total termination s ((left, Word word) ∷ ts) h
+tags_words limit total termination s met ((left, Bad_tag) ∷ ts) h = absurd h
+tags_words limit total termination s met ((left, Unclosed_comment brace) ∷ ts) h = absurd h
+tags_words limit total termination s met ((left, Unclosed_variation) ∷ ts) h = absurd h
+tags_words limit total termination s met ((left, Bad) ∷ ts) h = absurd h
+
+-- ---- the game
+
+by_fault : (limit : ℕ) (s : State) (fault : Option PgnFault) (read : GameRead)
+    → (IsEnd read.answer → Words limit s read.state) → IsEnd (option_map_or (failed s) fault read).answer
+    → Words limit s (option_map_or (failed s) fault read).state
+by_fault limit s (Some f) read later h = absurd h
+by_fault limit s None read later h = later h
+
+from_words : (limit : ℕ) (p : Setup) (r : State) (w : Words limit (from_start p) r)
+    → AreRead limit (from_start r.start) w.words r.moves
+from_words limit p r w = subst (λ q. AreRead limit (from_start q) w.words r.moves) (sym w.start)
+    (subst (λ ms. AreRead limit (from_start p) w.words ms) w.all w.are)
+
+pub game_words : (limit : ℕ) (text : List ℕ) (at : ℕ) (end : PgnEnd)
+    → (pgn_read limit text at).answer ≡ Ok (Some end)
+    → (words : List (List ℕ)) × AreRead limit (from_start (pgn_read limit text at).state.start) words
+    (pgn_read limit text at).state.moves
+unfolding pgn_read
+game_words limit text at end is =
+    let total : ℕ = length text in
+    let tokens : List (ℕ × Token) = tokens_from text (after_byte_order_mark text at) in
+    let tags : List (ℕ × Token) = own_tags tokens in
+    let v : Variant = tagged_variant tags in
+    let p : Setup = last_start (initial_setup_of v) (fens v tags) in
+    let rest : List (ℕ × Token) = drop (length tags) tokens in
+    let w : Words limit (from_start p) (pgn_read limit text at).state =
+    by_fault limit (from_start p) (first_bad_fen total (fens v tags))
+    (after_tags limit total (last_termination tags) (from_start p) (list_any is_tag tags) rest)
+    (tags_words limit total (last_termination tags) (from_start p) (list_any is_tag tags) rest)
+    (subst IsEnd (sym is) tt) in
+    (w.words, from_words limit p (pgn_read limit text at).state w)

@@ -1,0 +1,15 @@
+-- The tag is the last tag Result of the text's split (TokenSplits.read_split).
+use Rattle.chess_pgn.specs.Tokens.{after_byte_order_mark, tokens_from}
+use Rattle.chess_pgn.proofs.TokenSplits.{read_split}
+use Rattle.std.proofs.Common.{rules}
+use Rattle.chess_pgn.proofs.tagged_result.result_tag.Goals as goal
+
+pub returns-in_err-tag-clause-tag : goal.returns-in_err-tag-clause-tag
+returns-in_err-tag-clause-tag c =
+    let begin = after_byte_order_mark c.args.text.now c.args.at in
+    (tokens_from c.args.text.now begin, read_split c.args.text.now begin, search rules)
+
+pub returns-clause-tag : goal.returns-clause-tag
+returns-clause-tag c =
+    let begin = after_byte_order_mark c.args.text.now c.args.at in
+    (tokens_from c.args.text.now begin, read_split c.args.text.now begin, search rules)
