@@ -15,7 +15,7 @@ use Rattle.chess_fen.specs.RightNames.{names_well}
 use Rattle.chess_fen.specs.Texts.{number_of, placement_of, is_castling, target_of, fields_of}
 use Rattle.chess_fen.specs.Reading.{◌>>=◌, side_of, denoted_by, denoted_in, castling_field, conditions_of, unless_fault, fen_reading_as}
 use Rattle.chess_fen.specs.Denotation.{DenotesCounters, DenotesFields, DenotesText, DenotesFenAs}
-use Rattle.chess_fen.specs.FenFaults.{IsFieldFault, HasWrongFieldCount, IsMalformed, IsFaultAs}
+use Rattle.chess_fen.specs.FenFaults.{DenotesSomeMen, DenotesSomeSide, IsFieldFault, HasWrongFieldCount, IsMalformed, IsFaultAs}
 use Rattle.chess_fen.proofs.DenotedFields.{denoted-placement, placement-denoted, denoted-side, side-denoted, denoted-target, target-denoted}
 use Rattle.chess_fen.proofs.Steps.{steps, if_fit}
 
@@ -52,41 +52,34 @@ outcome v a b c d h f more counters =
     by_steps (placement_of a) refl (side_of b) refl (is_castling v c) refl (target_of d) refl (number_of h) refl
     (number_of f) refl
   where
+    said : (men : Men) → placement_of a ≡ Some men → DenotesSomeMen a
+    said men e = (men, denoted-placement a men e)
+
+    moved : (colour : Colour) → side_of b ≡ Some colour → DenotesSomeSide b
+    moved colour e = (colour, denoted-side b colour e)
+
+    counted : (men : Men) → placement_of a ≡ Some men → (colour : Colour) → side_of b ≡ Some colour
+        → is_castling v c ≡ true → (target : Option ℕ) → target_of d ≡ Some target
+        → ((n m : ℕ) → DenotesCounters more n m → ⊥) → IsFieldFault v a b c d more faults.Counters
+    counted men e0 colour e1 e2 target e3 none =
+        (said men e0, moved colour e1, e2, (target, denoted-target d target e3), none)
+
     by_steps : (men : Option Men) → placement_of a ≡ men → (side : Option Colour) → side_of b ≡ side
         → (fits : Bool) → is_castling v c ≡ fits → (target : Option (Option ℕ)) → target_of d ≡ target
         → (n : Option ℕ) → number_of h ≡ n → (k : Option ℕ) → number_of f ≡ k
         → Outcome v a b c d more (steps v c men side fits target n k)
     by_steps None e0 side e1 fits e2 target e3 n e4 k e5 =
         λ men s. some_impossible (placement_of a) men e0 (placement-denoted a men s)
-    by_steps (Some men) e0 None e1 fits e2 target e3 n e4 k e5 = (
-      (men, denoted-placement a men e0),
-      λ colour s. some_impossible (side_of b) colour e1 (side-denoted b colour s),
-    )
-    by_steps (Some men) e0 (Some colour) e1 false e2 target e3 n e4 k e5 = (
-      (men, denoted-placement a men e0),
-      (colour, denoted-side b colour e1),
-      e2,
-    )
-    by_steps (Some men) e0 (Some colour) e1 true e2 None e3 n e4 k e5 = (
-      (men, denoted-placement a men e0),
-      (colour, denoted-side b colour e1),
-      e2,
-      λ target s. some_impossible (target_of d) target e3 (target-denoted d target s),
-    )
-    by_steps (Some men) e0 (Some colour) e1 true e2 (Some target) e3 None e4 k e5 = (
-      (men, denoted-placement a men e0),
-      (colour, denoted-side b colour e1),
-      e2,
-      (target, denoted-target d target e3),
-      λ n m s. some_impossible (number_of h) n e4 (counters.denoted n m s).1,
-    )
-    by_steps (Some men) e0 (Some colour) e1 true e2 (Some target) e3 (Some n) e4 None e5 = (
-      (men, denoted-placement a men e0),
-      (colour, denoted-side b colour e1),
-      e2,
-      (target, denoted-target d target e3),
-      λ n m s. (let k = counters.denoted n m s in some_impossible (number_of f) k.0 e5 k.2),
-    )
+    by_steps (Some men) e0 None e1 fits e2 target e3 n e4 k e5 =
+        (said men e0, λ colour s. some_impossible (side_of b) colour e1 (side-denoted b colour s))
+    by_steps (Some men) e0 (Some colour) e1 false e2 target e3 n e4 k e5 = (said men e0, moved colour e1, e2)
+    by_steps (Some men) e0 (Some colour) e1 true e2 None e3 n e4 k e5 =
+        (said men e0, moved colour e1, e2, λ t s. some_impossible (target_of d) t e3 (target-denoted d t s))
+    by_steps (Some men) e0 (Some colour) e1 true e2 (Some target) e3 None e4 k e5 =
+        counted men e0 colour e1 e2 target e3 (λ n m s. some_impossible (number_of h) n e4 (counters.denoted n m s).1)
+    by_steps (Some men) e0 (Some colour) e1 true e2 (Some target) e3 (Some n) e4 None e5 =
+        counted men e0 colour e1 e2 target e3 (λ n m s. (let k = counters.denoted n m s in
+        some_impossible (number_of f) k.0 e5 k.2))
     by_steps (Some men) e0 (Some colour) e1 true e2 (Some target) e3 (Some n) e4 (Some k) e5 = record {
       variant = refl;
       men = denoted-placement a men e0;
@@ -263,28 +256,17 @@ misread : (v : Variant) (a b c d h f : List ℕ) (more : List (List ℕ)) (fault
     → IsFieldFault v a b c d more fault → denoted_by v a b c d h f ≡ Err fault
 misread v a b c d h f more faults.Placement n s =
     rw (none_if (placement_of a) (λ men e. s men (denoted-placement a men e))) refl
-misread v a b c d h f more faults.Side n s = rw (
-  placement-denoted a s.0.0 s.0.1,
-  none_if (side_of b) (λ colour e. s.1 colour (denoted-side b colour e)),
-) refl
+misread v a b c d h f more faults.Side n s =
+    rw (placement-denoted a s.0.0 s.0.1, none_if (side_of b) (λ colour e. s.1 colour (denoted-side b colour e))) refl
 misread v a b c d h f more faults.Castling n s =
     rw (placement-denoted a s.0.0 s.0.1, side-denoted b s.1.0 s.1.1, s.2) refl
 misread v a b c d h f more faults.EnPassant n s =
     let fits : is_castling v c ≡ true = s.2 in
-    rw (
-      placement-denoted a s.0.0 s.0.1,
-      side-denoted b s.1.0 s.1.1,
-      fits,
-      none_if (target_of d) (λ target e. s.3 target (denoted-target d target e)),
-    ) refl
+    let none = none_if (target_of d) (λ target e. s.3 target (denoted-target d target e)) in
+    rw (placement-denoted a s.0.0 s.0.1, side-denoted b s.1.0 s.1.1, fits, none) refl
 misread v a b c d h f more faults.Counters n s =
     let fits : is_castling v c ≡ true = s.2 in
-    rw (
-      placement-denoted a s.0.0 s.0.1,
-      side-denoted b s.1.0 s.1.1,
-      fits,
-      target-denoted d s.3.0 s.3.1,
-    )
+    rw (placement-denoted a s.0.0 s.0.1, side-denoted b s.1.0 s.1.1, fits, target-denoted d s.3.0 s.3.1)
     (unnumbered v c s.0.0 s.1.0 s.3.0 h f more n s.4)
 misread v a b c d h f more faults.Fields n s = absurd s
 misread v a b c d h f more faults.Kings n s = absurd s

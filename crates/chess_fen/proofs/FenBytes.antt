@@ -175,22 +175,18 @@ abbrev pub fields : Setup → List (List ℕ)
 fields p = placement_text p.men ∷ side_text p.side ∷ rights_text p.variant p.rights ∷ target_text p.target
     ∷ decimal p.halfmove ∷ decimal p.fullmove ∷ []
 
+pub of_six : (P : List ℕ → Type 0) (a b c d e f : List ℕ) → P a → P b → P c → P d → P e → P f
+    → AllByRecursion P (a ∷ b ∷ c ∷ d ∷ e ∷ f ∷ [])
+of_six P a b c d e f pa pb pc pd pe pf = (pa, (pb, (pc, (pd, (pe, (pf, tt))))))
+
 pub fields_plain : (p : Setup) → IsSound p → AllByRecursion (Plain 45) (fields p)
 fields_plain p h =
     let halfmove : p.halfmove < 1000000 = let e = h.halfmove in grind (arith, nat_tests, e) in
-    let fullmove : p.fullmove < 1000000 = let e = h.fullmove_high in grind (arith, nat_tests, e) in (
-      placement_plain p.men,
-      (
-        side_plain p.side,
-        (
-          rights_plain p.variant p.rights,
-          (
-            target_plain p.target (target_fits p h),
-            (decimal_plain p.halfmove halfmove, (decimal_plain p.fullmove fullmove, tt)),
-          ),
-        ),
-      ),
-    )
+    let fullmove : p.fullmove < 1000000 = let e = h.fullmove_high in grind (arith, nat_tests, e) in
+    of_six (Plain 45) (placement_text p.men) (side_text p.side) (rights_text p.variant p.rights)
+    (target_text p.target) (decimal p.halfmove) (decimal p.fullmove) (placement_plain p.men) (side_plain p.side)
+    (rights_plain p.variant p.rights) (target_plain p.target (target_fits p h)) (decimal_plain p.halfmove halfmove)
+    (decimal_plain p.fullmove fullmove)
 
 pub fen_plain : (p : Setup) → IsSound p → Plain 32 (fen p)
 fen_plain p h = Plain-join 32 32 (fields p) (omega arith, omega arith, (λ e. omega (arith, e)), (λ e. omega (arith, e)))

@@ -1,5 +1,5 @@
 -- A FEN is read as normal chess as it is defined for normal chess alone.
-use Rattle.std.proofs.Common.{◌≡◌, ℕ, Bool, true, false, not, ◌&&◌, List, [], ◌∷◌, get_or, Option, Some, None, Result, Ok, refl, ap, subst, if◌then◌else◌}
+use Rattle.std.proofs.Common.{◌≡◌, ℕ, Bool, true, false, List, [], ◌∷◌, ◌++◌, get_or, take, drop, Option, Some, None, Result, Ok, refl, ap, subst, if◌then◌else◌}
 use Rattle.std.specs.Prelude.{codes, max, IfOk}
 use Rattle.std.specs.Option.{ok_or}
 use Rattle.chess_base.specs.declared.fen_fault.FenFault.{FenFault}
@@ -9,10 +9,8 @@ use Rattle.chess_base.specs.declared.man.Colour.TheVariants.{White, Black}
 use Rattle.chess_base.specs.declared.man.CastlingSide.TheVariants.{KingSide, QueenSide}
 use Rattle.chess_base.specs.declared.man.Variant.TheVariants.{Normal}
 use Rattle.chess_base.specs.declared.setup.Setup.{Setup}
-use Rattle.chess_base.specs.Attacks.{is_in_check}
-use Rattle.chess_base.specs.Faults.{counters_fit, rights_are_sound, first_failing, setup_fault}
-use Rattle.chess_base.specs.Men.{Men, other}
-use Rattle.chess_base.specs.Sound.{has_one_king, no_pawn_on_end_ranks, has_at_most_16, target_is_sound}
+use Rattle.chess_base.specs.Faults.{conditions, rights_are_sound, first_failing, setup_fault}
+use Rattle.chess_base.specs.Men.{Men}
 use Rattle.chess_base.proofs.shared.Normal.{normal_kept}
 use Rattle.chess_fen.specs.Reading.{◌>>=◌, side_of, denoted_by, denoted_in, unless_fault, fen_reading_as}
 use Rattle.chess_fen.specs.Texts.{may_name_right, placement_of, target_of, number_of, fields_of, is_castling}
@@ -34,15 +32,7 @@ stand_kept p e =
 fault_kept : (p : Setup) → p.variant ≡ Normal → setup_fault p ≡ normal_fault p
 unfolding setup_fault normal_fault
 fault_kept p e =
-    ap (λ stand. first_failing
-    ((faults.Counters, counters_fit p)
-    ∷ (faults.Kings, has_one_king p.men White && has_one_king p.men Black)
-    ∷ (faults.Pawns, no_pawn_on_end_ranks p.men)
-    ∷ (faults.Men, has_at_most_16 p.men White && has_at_most_16 p.men Black)
-    ∷ (faults.Castling, stand)
-    ∷ (faults.EnPassant, target_is_sound p)
-    ∷ (faults.Check, not (is_in_check p.men (other p.side)))
-    ∷ []))
+    ap (λ stand. first_failing (take 4 (conditions p) ++ ((faults.Castling, stand) ∷ drop 5 (conditions p))))
     (stand_kept p e)
 
 -- ---- the fields

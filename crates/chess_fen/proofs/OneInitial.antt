@@ -1,5 +1,5 @@
 -- Only the initial position of normal chess has its FEN.
-use Rattle.std.proofs.Common.{◌≡◌, ℕ, ◌+◌, ◌%◌, true, List, [], ◌∷◌, ◌++◌, Option, Some, None, refl, sym, ap, ◌∙◌, arith}
+use Rattle.std.proofs.Common.{◌≡◌, ℕ, ◌+◌, ◌%◌, true, [], ◌∷◌, ◌++◌, get_or, Option, Some, None, refl, sym, ap, ◌∙◌, arith}
 use Rattle.std.specs.Prelude.{◌↔◌, Ok}
 use Rattle.std.proofs.lemmas.Slice.Eq.{bytes_eq-Decides}
 use Rattle.chess_base.specs.declared.man.CastlingSide.TheVariants.{KingSide, QueenSide}
@@ -16,23 +16,15 @@ use Rattle.chess_fen.proofs.DenotedFen.{reading-denoted}
 use Rattle.chess_fen.proofs.RoundTrip.{fen_fields}
 use Rattle.chess_fen.proofs.WrittenFen.{fen-denoted}
 
-abbrev head : List ℕ → ℕ
-head [] = 0
-head (c ∷ cs) = c
-
-abbrev third : List (List ℕ) → List ℕ
-third (a ∷ b ∷ c ∷ fields) = c
-third _ = []
-
 -- the rights of Chess960 are not written as those of the initial position of normal chess, KQkq
 other_letters : (a b c d : Option ℕ) → or_dash (((right_text Fischerandom White KingSide a
     ++ right_text Fischerandom White QueenSide b) ++ right_text Fischerandom Black KingSide c)
     ++ right_text Fischerandom Black QueenSide d) ≡ 75 ∷ 81 ∷ 107 ∷ 113 ∷ [] → ⊥
-other_letters (Some s) b c d e = let first : 65 + s % 8 ≡ 75 = ap head e in omega (arith, first)
-other_letters None (Some s) c d e = let first : 65 + s % 8 ≡ 75 = ap head e in omega (arith, first)
-other_letters None None (Some s) d e = let first : 97 + s % 8 ≡ 75 = ap head e in omega (arith, first)
-other_letters None None None (Some s) e = let first : 97 + s % 8 ≡ 75 = ap head e in omega (arith, first)
-other_letters None None None None e = let first : 45 ≡ 75 = ap head e in omega (arith, first)
+other_letters (Some s) b c d e = let first : 65 + s % 8 ≡ 75 = ap (λ text. get_or text 0 0) e in omega (arith, first)
+other_letters None (Some s) c d e = let first : 65 + s % 8 ≡ 75 = ap (λ text. get_or text 0 0) e in omega (arith, first)
+other_letters None None (Some s) d e = let first : 97 + s % 8 ≡ 75 = ap (λ text. get_or text 0 0) e in omega (arith, first)
+other_letters None None None (Some s) e = let first : 97 + s % 8 ≡ 75 = ap (λ text. get_or text 0 0) e in omega (arith, first)
+other_letters None None None None e = let first : 45 ≡ 75 = ap (λ text. get_or text 0 0) e in omega (arith, first)
 
 initial_variant : initial_setup.variant ≡ Normal
 unfolding initial_setup initial_setup_of
@@ -46,7 +38,7 @@ normal : (p : Setup) → IsSound p → IsSound initial_setup → fen p ≡ fen i
 normal p sound initial same = by_variant p.variant refl
   where
     rights : rights_text p.variant p.rights ≡ 75 ∷ 81 ∷ 107 ∷ 113 ∷ []
-    rights = ap third (sym (fen_fields p sound) ∙ ap fields_of same ∙ fen_fields initial_setup initial)
+    rights = ap (λ fields. get_or fields 2 []) (sym (fen_fields p sound) ∙ ap fields_of same ∙ fen_fields initial_setup initial)
         ∙ initial_rights
 
     by_variant : (v : Variant) → p.variant ≡ v → p.variant ≡ Normal

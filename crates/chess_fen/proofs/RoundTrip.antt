@@ -36,7 +36,7 @@ use Rattle.chess_fen.proofs.DenotedFields.{placement-denoted, side-text, target-
 use Rattle.chess_fen.proofs.RightsBack.{Stand, right_back, text_is_castling}
 use Rattle.chess_fen.proofs.WrittenRanks.{moved, row_is}
 use Rattle.chess_fen.proofs.Lengths.{short_decimal}
-use Rattle.chess_fen.proofs.FenBytes.{target_fits, rows_plain, fields, fields_plain}
+use Rattle.chess_fen.proofs.FenBytes.{target_fits, rows_plain, fields, of_six, fields_plain}
 use Rattle.chess_fen.proofs.Joined.{each_weaker, slice_split-join, fields_of-join}
 
 -- ---- numbers
@@ -226,22 +226,11 @@ fen_fields p h =
     let halfmove : p.halfmove < 1000000 = let e = h.halfmove in grind (arith, nat_tests, e) in
     let fullmove : p.fullmove < 1000000 = let e = h.fullmove_high in grind (arith, nat_tests, e) in
     fields_of-join (placement_text p.men) (side_text p.side ∷ rights_text p.variant p.rights ∷ target_text p.target
-    ∷ decimal p.halfmove ∷ decimal p.fullmove ∷ []) (each_weaker 33 45 (fields p) (omega arith) (fields_plain p h)) (
-      placement_some p.men,
-      (
-        side_some p.side,
-        (
-          rights_some p.variant p.rights,
-          (
-            target_some p.target,
-            (
-              decimal_nonempty p.halfmove (omega (arith, halfmove)),
-              (decimal_nonempty p.fullmove (omega (arith, fullmove)), tt),
-            ),
-          ),
-        ),
-      ),
-    )
+    ∷ decimal p.halfmove ∷ decimal p.fullmove ∷ []) (each_weaker 33 45 (fields p) (omega arith) (fields_plain p h))
+    (of_six (λ text. 0 < length text) (placement_text p.men) (side_text p.side) (rights_text p.variant p.rights)
+    (target_text p.target) (decimal p.halfmove) (decimal p.fullmove) (placement_some p.men) (side_some p.side)
+    (rights_some p.variant p.rights) (target_some p.target) (decimal_nonempty p.halfmove (omega (arith, halfmove)))
+    (decimal_nonempty p.fullmove (omega (arith, fullmove))))
 
 pub written-fen : (p : Setup) → IsSound p → denoted_in p.variant (fields_of (fen p)) ≡ Ok p
 written-fen p h =
