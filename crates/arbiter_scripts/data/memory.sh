@@ -56,7 +56,7 @@ runs() {
 # complete: refused_in_turn STATUS INPUT OUTPUT WORDS..
 # By the first variable each request for memory gets pages of its own. By the second the loader finds the C library
 # without a list that it would map, and let go before the program begins. So each request that takes more than was taken
-# before, as all do when a session opens, is refused in turn.
+# at once before is refused in turn, among them both of `Session::open`.
 refused_in_turn() {
     export MALLOC_MMAP_THRESHOLD_=1
     LD_LIBRARY_PATH=$(ldd "$program" | sed -n 's|.*=> \(/.*\)/libc\.so.*|\1|p')
