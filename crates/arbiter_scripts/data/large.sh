@@ -1,6 +1,6 @@
-# Verifies a collection of 64 MiB in 65 pieces with 16 MiB, and one with a piece of 96 MiB with 64 MiB: large.sh PROGRAM.
-# Pieces that are done with are let go, and so is what was read of a piece that is too long. The last piece's fault is on
-# the line that the whole collection gives it.
+# Verifies a collection of 64 MiB in 65 pieces with 16 MiB, and a piece of 96 MiB with 64 MiB: large.sh PROGRAM.
+# Pieces that are done with are let go, and so is what was read of a piece that is too long. The last piece's fault is
+# on the line that the whole collection gives it.
 program=$1
 
 # Verifies its input with so many KiB; this file has what is to be written: verifies KIB FILE

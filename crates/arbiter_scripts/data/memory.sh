@@ -55,8 +55,8 @@ runs() {
 # Runs with limits that rise by a page, from those with which the program doesn't begin to the first with which it is
 # complete: refused_in_turn STATUS INPUT OUTPUT WORDS..
 # By the first variable each request for memory gets pages of its own. By the second the loader finds the C library
-# without a list that it would map, and let go before the program begins. So each request that takes more than was taken
-# before, as all do when a session opens, is refused in turn.
+# without a list that it would map, and let go before the program begins. So each request by which the program would
+# hold more memory than ever before is refused in turn, among them both of `Session::open`.
 refused_in_turn() {
     export MALLOC_MMAP_THRESHOLD_=1
     LD_LIBRARY_PATH=$(ldd "$program" | sed -n 's|.*=> \(/.*\)/libc\.so.*|\1|p')

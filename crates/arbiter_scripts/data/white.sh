@@ -1,6 +1,6 @@
 # The first engine of the stored match: the program as a stub, after a session of it, arguments that it refuses, the
-# verification of 66 games, one of them with a fault, a game of 20,000 half-moves, a collection of 64 MiB, and the same
-# with less and less memory came out as they must.
+# verification of 66 games, one of them with a fault, a game of 20,000 half-moves, a collection of 64 MiB, a piece of
+# 96 MiB, and the same with less and less memory came out as they must.
 # (stockfish played 64 of the games, and pgn-extract wrote them.)
 program=/proc/$PPID/exe
 
