@@ -176,8 +176,9 @@ impl Bits<'_> {
         self.count_to(from, self.allowed_targets(from, pins))
     }
 
-    // How many legal moves the pieces on these squares have, each looked at alone, given where the pieces may go.
-    fn count_pinned(&self, men: SquareSet, pins: &Pins) -> usize
+    // How many legal moves these pieces have, the king or any that are not free: each is counted alone, and all but the
+    // king may end only on the evasions that `pins` gives.
+    fn count_unfree(&self, men: SquareSet, pins: &Pins) -> usize
         requires evasions { AreEvasions self.now pins.now.free pins.now.evasions }
         requires few { length (flat_map (λ a. moves_from self.now a) (members men)) ≤ 896 }
         ensures { result ≡ length (flat_map (λ a. moves_from self.now a) (members men)) }
@@ -205,7 +206,7 @@ impl Bits<'_> {
         let bishops = self.count_kind(Kind::Bishop, free, &mut men);
         let rooks = self.count_kind(Kind::Rook, free, &mut men);
         let queens = self.count_kind(Kind::Queen, free, &mut men);
-        let others = self.count_pinned(men, &pins);
+        let others = self.count_unfree(men, &pins);
         pawns + knights + bishops + rooks + queens + others
     }
 

@@ -105,8 +105,9 @@ impl Bits<'_> {
         }
     }
 
-    // Those of the squares `men` from which the piece there may legally go to `to`. For all of them this move is
-    // pseudo-legal and no promotion. It may take en passant, which is rare, so it is kept out of the common way.
+    // Those of the squares `men` from which the piece there may legally go to `to`. The caller makes sure that each
+    // such move is pseudo-legal and no promotion. It may take en passant, which is rare, so this is out of the common
+    // way.
     #[inline(never)]
     fn tried_starts(&self, men: SquareSet, to: Square) -> SquareSet
         requires { (k : ℕ) → k < 64 → contains men k ≡ true → is_pseudo_legal self.now (move_of k to None) ≡ true }
@@ -121,8 +122,8 @@ impl Bits<'_> {
         })
     }
 
-    // Those of the squares `men` from which the piece there may legally go to `to`. For all of them this move is
-    // pseudo-legal, not the king's, no promotion and not en passant.
+    // Those of the squares `men` from which the piece there may legally go to `to`. The caller makes sure that each
+    // such move is pseudo-legal, not the king's, no promotion and not en passant.
     #[inline(always)]
     fn safe_starts(&self, men: SquareSet, to: Square) -> SquareSet
         requires { (k : ℕ) → k < 64 → contains men k ≡ true → StepsPlainly self.now (move_of k to None) }

@@ -128,7 +128,7 @@ impl Bits<'_> {
     }
 
     // Appends to `list` the legal moves of the piece on `from`, the king or another, given where the pieces may go.
-    fn add_pinned_moves(&self, from: Square, pins: &Pins, list: &mut MoveList)
+    fn add_unfree_moves(&self, from: Square, pins: &Pins, list: &mut MoveList)
         requires evasions { AreEvasions self.now pins.now.free pins.now.evasions }
         requires room { array_vec_len list.old + length (moves_from self.now from) ≤ 896 }
         ensures { list.new.items ≡ list.old.items ++ moves_from self.now from }
@@ -152,7 +152,7 @@ impl Bits<'_> {
         if pins.free.contains(from) {
             self.add_free_moves(from, list);
         } else {
-            self.add_pinned_moves(from, pins, list);
+            self.add_unfree_moves(from, pins, list);
         }
     }
 

@@ -99,13 +99,25 @@ outcome_in_line Unfinished = refl
 are_tags : (t : Tags) → AreTagTexts t → (s : State) → IsSound s.start → AreTags (tags_of t s)
 are_tags t texts s sound = (
   (refl, tag_text_in_line t.event texts.event),
-  ((refl, tag_text_in_line t.site texts.site),
-  ((refl, tag_text_in_line t.date texts.date),
-  ((refl, tag_text_in_line t.round texts.round),
-  ((refl, tag_text_in_line t.white texts.white),
-  ((refl, tag_text_in_line t.black texts.black),
-  ((refl, outcome_in_line (outcome_now s)),
-  by_variant s.start.variant (termination_of t.ended (outcome_now s)))))))),
+  (
+    (refl, tag_text_in_line t.site texts.site),
+    (
+      (refl, tag_text_in_line t.date texts.date),
+      (
+        (refl, tag_text_in_line t.round texts.round),
+        (
+          (refl, tag_text_in_line t.white texts.white),
+          (
+            (refl, tag_text_in_line t.black texts.black),
+            (
+              (refl, outcome_in_line (outcome_now s)),
+              by_variant s.start.variant (termination_of t.ended (outcome_now s)),
+            ),
+          ),
+        ),
+      ),
+    ),
+  ),
 )
   where
     start_in_line : list_all is_in_line (fen s.start) ≡ true

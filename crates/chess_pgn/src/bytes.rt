@@ -1,4 +1,4 @@
-//! Kinds of bytes.
+//! Kinds of bytes. All functions are inlined, since each byte of a text is asked.
 
 ghost use Rattle.std.specs.Prelude.{◌≡◌, ◌||◌, ◌==◌};
 ghost use Rattle.chess_pgn.specs.Tokens.{is_white_space, is_word_byte};

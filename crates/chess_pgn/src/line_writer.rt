@@ -54,7 +54,8 @@ impl<'a> LineWriter<'a> {
         self.waiting.add_parts(writer, &[self.prefix, line, b"\n"])
     }
 
-    /// Adds a token of moves to the line that is begun, after a space, or to a new line if it has no room.
+    /// Adds a token of moves: after a space on the line that is begun, if that has room (the prefix doesn't count);
+    /// otherwise as the first token of a new line, after the prefix.
     ///
     /// # Errors
     /// If the writer fails; a beginning of the text was written then.

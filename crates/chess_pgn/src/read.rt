@@ -1,4 +1,4 @@
-//! Reading a game.
+//! Reading a game. What the loop over its tokens calls is inlined for the reason at the head of token.rt.
 
 ghost use Rattle.std.specs.Prelude.{◌≡◌, ℕ, ◌+◌, ◌-◌, ◌^◌, ◌≤◌, ◌<◌, false, length, None, IfOk, Err, is_some, IsNone, OnErr};
 ghost use Rattle.std.specs.Option.{IfSome, option_map_or};
@@ -119,8 +119,8 @@ fn unplayed_kind<B: Board>(game: &Game<B>, kind: PgnFaultKind) -> PgnFaultKind
     }
 }
 
-// The fault of the word at `offset`, which may be a move, but is none that the game plays. It is apart from the loop over
-// the tokens, since it is long and rare.
+// The fault of the word at `offset`, which may be a move, but is none that the game plays: only here a word is read
+// again. It is apart from the loop over the tokens, since it is long and rare.
 #[inline(never)]
 fn fault_of_move<B: Board>(game: &Game<B>, offset: usize, word: &[u8]) -> PgnFault
     requires undeclared { game.now.state.declared ≡ None }
@@ -149,8 +149,8 @@ fn end_game<B: Board>(game: &mut Game<B>, outcome: Outcome)
     }
 }
 
-// Takes a word, which begins at `offset` and is no move that is played: an outcome such as `1-0` ends the game, and what
-// may be a move is a fault. `progress` is what is known before the word.
+// Takes a word, which begins at `offset` and is no move that is played: an outcome such as `1-0` ends the game, and
+// what may be a move is a fault. `progress` is what is known before the word.
 #[tactic(auto, using(crate::proofs::GameReads::termination_has_bytes))]
 #[inline(always)]
 fn apply_word<B: Board>(
@@ -240,8 +240,9 @@ fn apply_token<B: Board>(
     }
 }
 
-// The fault of a game's text, for a token that begins at `offset` and can't be read, in a text of `len` bytes.
-// `progress` is what is known before the token: a bad tag after moves means that the game has no result.
+// The fault of a game's text of `len` bytes, for a token at `offset` that can't be read. `progress` is what is known
+// before it: after a number or a move, a bad tag is taken as the next game's, so this one has no result. An unclosed
+// comment inside a variation begins later than the token, so it has an offset of its own.
 fn reported_fault(fault: TokenFault, progress: Progress, len: usize, offset: usize) -> PgnFault
     requires within { IsWithin (len - offset) (fault_seen fault) }
     requires offset { offset ≤ len }
@@ -307,8 +308,9 @@ fn tagged_variant(text: &[u8], at: usize) -> Variant
     variant_of(last_tag(text, at, b"Variant"))
 }
 
-// Reads the tags from `at` on as those of a game of normal chess; returns what is known then, and the offset of the
-// first number, move or outcome, or of the text's end. `None` if a tag names another variant, or a fault comes first.
+// Reads the tags from `at` on as those of a game of normal chess, in one pass; returns what is known then, and the
+// offset of the first number, move or outcome, or of the text's end. `None` if a tag names another variant, or a fault
+// comes first.
 fn read_normal_tags<B: Board>(
     text: &[u8],
     at: usize,

@@ -1,4 +1,5 @@
 //! What is skipped between tokens: white space, `%` lines and comments. Each function cuts the front of a text off.
+//! `after_brace` is inlined for the reason at the head of token.rt.
 
 ghost use Rattle.std.specs.Prelude.{◌≡◌, ◌≤◌, ◌<◌, length, false, Option, IfSome};
 ghost use Rattle.std.specs.Option.{option_map};

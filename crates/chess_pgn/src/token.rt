@@ -1,4 +1,5 @@
-//! The tokens of a game's text.
+//! The tokens of a game's text. What reads the most common ones is inlined into the loops over a game's tokens, in
+//! words.rt and read.rt (the workload collections). What that gains was not measured apart.
 
 ghost use Rattle.std.specs.Prelude.{◌≡◌, ◌≤◌, ◌∷◌, length, drop, false, [], None};
 ghost use Rattle.std.specs.List.{prefix_len, take_while};

@@ -1,4 +1,4 @@
-//! What a word is.
+//! What a word is. `word_kind` is inlined for the reason at the head of token.rt.
 
 ghost use Rattle.std.specs.Prelude.{◌≡◌, ◌||◌, ◌==◌, false};
 ghost use Rattle.std.specs.List.{list_all};

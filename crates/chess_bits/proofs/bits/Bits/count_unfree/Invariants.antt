@@ -2,7 +2,7 @@ use Rattle.std.proofs.Common.{◌≡◌, ◌+◌, length}
 use Rattle.std.specs.List.{flat_map}
 use Rattle.chess_moves.specs.shared.MovesBySquares.{moves_from}
 use Rattle.chess_moves.specs.Sets.{members}
-use Rattle.chess_bits.proofs.bits.Bits.count_pinned.Given as goal
+use Rattle.chess_bits.proofs.bits.Bits.count_unfree.Given as goal
 
 -- the moves counted and those of the pieces that are left are all
 abbrev pub invariant-loop-from : goal.invariant-loop-from
