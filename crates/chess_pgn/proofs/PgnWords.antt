@@ -197,7 +197,7 @@ move_kind (c ∷ cs) h =
     let high : nat_le 65 c ≡ true = elim (or_cases (nat_le 65 c && nat_le c 90) (nat_le 97 c && nat_le c 122) h) [
       | inl e ↦ (and_parts (nat_le 65 c) (nat_le c 90) e).0
       | inr e ↦ (let small : nat_le 97 c ≡ true = (and_parts (nat_le 97 c) (nat_le c 122) e).0 in
-      grind (arith, nat_tests))
+          grind (arith, nat_tests))
     ] in
     begins_as_move_kind (c ∷ cs) high
 

@@ -1,5 +1,5 @@
 -- What the tags of a written game's text say: the text of the last tag of each name.
-use Rattle.std.proofs.Common.{◌≡◌, ℕ, ◌<◌, ◌≤◌, Bool, true, false, cond, eqb, List, [], ◌∷◌, ◌++◌, length, map, Option, Some, None, refl, sym, ap, subst, ◌∙◌, append_assoc, arith}
+use Rattle.std.proofs.Common.{◌≡◌, ℕ, ◌<◌, ◌≤◌, Bool, true, false, cond, eqb, List, [], ◌∷◌, ◌++◌, length, map, Option, Some, None, refl, ap, subst, ◌∙◌, append_assoc, arith}
 use Rattle.std.specs.List.{list_all, AllByRecursion}
 use Rattle.std.specs.Option.{option_map, option_or}
 use Rattle.std.specs.Prelude.{codes, decimal}
@@ -99,13 +99,25 @@ outcome_in_line Unfinished = refl
 are_tags : (t : Tags) → AreTagTexts t → (s : State) → IsSound s.start → AreTags (tags_of t s)
 are_tags t texts s sound = (
   (refl, tag_text_in_line t.event texts.event),
-  ((refl, tag_text_in_line t.site texts.site),
-  ((refl, tag_text_in_line t.date texts.date),
-  ((refl, tag_text_in_line t.round texts.round),
-  ((refl, tag_text_in_line t.white texts.white),
-  ((refl, tag_text_in_line t.black texts.black),
-  ((refl, outcome_in_line (outcome_now s)),
-  by_variant s.start.variant (termination_of t.ended (outcome_now s)))))))),
+  (
+    (refl, tag_text_in_line t.site texts.site),
+    (
+      (refl, tag_text_in_line t.date texts.date),
+      (
+        (refl, tag_text_in_line t.round texts.round),
+        (
+          (refl, tag_text_in_line t.white texts.white),
+          (
+            (refl, tag_text_in_line t.black texts.black),
+            (
+              (refl, outcome_in_line (outcome_now s)),
+              by_variant s.start.variant (termination_of t.ended (outcome_now s)),
+            ),
+          ),
+        ),
+      ),
+    ),
+  ),
 )
   where
     start_in_line : list_all is_in_line (fen s.start) ≡ true
