@@ -25,7 +25,7 @@ use Rattle.chess_pgn.specs.declared.tags.Tags.{Tags}
 use Rattle.chess_pgn.specs.declared.termination.Termination.{Termination}
 use Rattle.chess_pgn.specs.Terminations.{termination_text, termination_of}
 use Rattle.chess_pgn.specs.GameRead.{GameRead, declared_after, variant_named, tagged_variant, pgn_read}
-use Rattle.chess_pgn.specs.LastTags.{own_tags, last_tag, result_tag_of}
+use Rattle.chess_pgn.specs.LastTags.{own_tags, last_tag}
 use Rattle.chess_pgn.specs.Words.{outcome_of}
 use Rattle.chess_pgn.specs.laws.TokenByToken.{SoFar, game_of, nothing_read, tokens_read}
 use Rattle.chess_pgn.specs.GameText.{fen_lines, start_lines_in, last_lines, further_lines, tag_lines, move_tokens, game_tokens, pgn}
