@@ -125,7 +125,7 @@ IsReadBy names arguments (Err (Words e)) = IsAmong (kind_of e) (faults_in names 
 IsReadBy names arguments (Err NoMemory) = ⊤
 IsReadBy names arguments r = (faults_in names arguments ≡ []) × IsReadAs (said_by (asked names arguments)) r
 
--- the result of reading these arguments is right by the grammar of the command line, wherever in memory its names
--- of variants are
+-- the result of reading these arguments is right by the grammar of the command line. `names` is the list `normal`,
+-- `fischerandom` of what `--variant` takes: the grammar holds a reference to it, and only these texts matter
 abbrev pub IsReading : List Text → Result Plan WordsFault → Type 0
 IsReading arguments result = (names : Lent) × AreVariants names × IsReadBy names arguments result

@@ -101,12 +101,13 @@ row limit s Bad = Fails BadToken
 row limit s Bad_tag = Fails NoResult
 row limit s (Tag name string at_string) = Fails NoResult
 
--- how many bytes are left at a token's fault: at the token, but for a comment that isn't closed at its brace
+-- how many bytes are left where a token's fault is reported: at its first byte; but for an unclosed comment at the
+-- comment's `{`, which may be inside a variation
 abbrev pub left_at_fault : ℕ × Token → ℕ
 left_at_fault (to_end, Unclosed_comment brace) = brace
 left_at_fault (to_end, _) = to_end
 
--- the length of a word; 0 for another token
+-- the length of a word. It is asked only of a game's outcome mark, so that the 0 for other tokens is never used
 abbrev pub word_length : Token → ℕ
 word_length (Word word) = length word
 word_length _ = 0

@@ -139,8 +139,9 @@ token_at line_begins c rest =
     then (Word (take_while is_word_byte (c ∷ rest)), drop (prefix_len is_word_byte (c ∷ rest)) (c ∷ rest))
     else (Bad, [])))))))))
 
--- the tokens of a text in order, each paired with the number of bytes left where it begins; at most `most` of them.
--- `line_begins`: a line begins at the text's first byte
+-- the tokens of a text in order, each paired with the number of bytes left where it begins; a token that can't be read
+-- is the last. `line_begins`: the text's first byte begins a line. After a token a line begins only if the token was a
+-- `\n`, since no other token ends with one. `most` is a bound that is never reached (see `tokens_from`)
 unfoldable pub tokens_of : ℕ → Bool → List ℕ → List (ℕ × Token)
 tokens_of zero line_begins text = []
 tokens_of (suc most) line_begins [] = []

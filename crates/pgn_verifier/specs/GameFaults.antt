@@ -27,7 +27,7 @@ result_differs (Some tag) end = if option_eq same_outcome tag.outcome (Some end.
     else Some (record { kind = ResultDiffers tag.len end.outcome; offset = tag.offset })
 
 -- the fault of a game whose text ends with another outcome (`end`) than the board's verdict, such as mate; none without
--- a verdict. Its offset is that of the text's outcome mark
+-- a verdict. `*` too is another outcome than a verdict's. The fault's offset is that of the text's outcome mark
 abbrev pub board_says_otherwise : Option Verdict → PgnEnd → Option GameFault
 board_says_otherwise verdict end = if contradicts_verdict verdict end.outcome
     then Some (record { kind = BoardSaysOtherwise; offset = end.offset - length (outcome_text end.outcome) }) else None
