@@ -6,7 +6,7 @@ use chess_arbiter::{Log, ProgramFault, run_program};
 use std::process::{Abort, ExitCode};
 use std::test::Fail;
 
-const RUNS: [ProgramRun; 21] = [
+const RUNS: [ProgramRun; 22] = [
     ProgramRun {
         arguments: &[],
         input: b"new\ne2e4\nping 7\nundo\nshowfen\nquit\nshowfen\n",
@@ -143,6 +143,14 @@ const RUNS: [ProgramRun; 21] = [
         fails: (2, 0),
         output: b"",
         errors: b"arbiter: read failed\n",
+        status: 1,
+    },
+    ProgramRun {
+        arguments: &["verify", "--strict"],
+        input: b"* *",
+        fails: (0, 2),
+        output: b"game 1: 0 half-moves, *\n",
+        errors: b"arbiter: write failed\n",
         status: 1,
     },
     // The flush after a fault with its explanation, which are one write.

@@ -137,8 +137,8 @@ impl Bits<'_> {
         self.is_safe_by(&steps_of(&self.setup, m))
     }
 
-    // Whether a pseudo-legal move, which makes these steps, is legal: the mover's king is not attacked after it. Only
-    // en passant and castling in Chess960 need it, so it is kept out of the common way.
+    // Whether a pseudo-legal move, which makes these steps, is legal: the mover's king is not attacked after it. Only the
+    // king's moves, en passant and castling in Chess960 come here, so it is kept out of the common way.
     #[inline(never)]
     pub(crate) fn is_safe_by(&self, steps: &Steps) -> bool
         ensures { (m : Move) → is_pseudo_legal self.now m ≡ true → steps.now ≡ steps_of self.now m

@@ -1,5 +1,5 @@
--- Which texts denote a position, as a relation (PGN standard of 1994, section 16.1.3): what each field stands for. One
--- or more spaces separate the fields, and may be at both ends.
+-- Which texts denote a position (PGN standard of 1994, section 16.1.3): what each field stands for, with relations for
+-- the placement, the side and the target. One or more spaces separate the fields, and may be at both ends.
 use Rattle.std.specs.Prelude.{◌≡◌, ℕ, ◌+◌, ◌<◌, ◌≤◌, ◌⊎◌, List, [], ◌∷◌, length, replicate, Option, Some, None, IfSome, IsTrue, max, ◌==◌}
 use Rattle.std.specs.List.{slice_split, flat_map, AllZip}
 use Rattle.chess_base.specs.declared.man.Man.{Man}

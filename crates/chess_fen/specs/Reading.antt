@@ -1,6 +1,7 @@
 -- The position that a text denotes, field by field, or its first fault. This project's additions to the standard: the
--- counters may be left out, and a fullmove number of 0 is read as 1. Denotation and FenFaults say the same as
--- relations; that both agree is proved by the clauses `found`, `only`, `fault` and `refused` of `read_fen_as`.
+-- counters may be left out, and a fullmove number of 0 is read as 1. Denotation and FenFaults say the same of a text
+-- and a position or a fault, with relations for the placement, the side, the target and the order of faults; that both
+-- agree is proved by the clauses `found`, `only`, `fault` and `refused` of `read_fen_as`.
 use Rattle.std.specs.Prelude.{ℕ, max, codes, Bool, List, [], ◌∷◌, ◌++◌, take, drop, slice_index_or, Option, Some, None, Result, Ok, Err, ◌==◌, if◌then◌else◌}
 use Rattle.std.specs.Option.{ok_or, option_map_or}
 use Rattle.chess_base.specs.declared.man.Colour.{Colour}

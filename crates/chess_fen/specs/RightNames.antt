@@ -82,7 +82,8 @@ abbrev pub right_in : Variant → Men → List ℕ → Colour → CastlingSide �
 right_in Normal men letters c w = Some (right_named letters (side_letter c w) (home_square c (rook_file w)))
 right_in Fischerandom men letters c w = right_by (map (rook_named men c w) (filter (names_right men c w) letters))
 
--- whether each of the four rights is named rightly
+-- whether no right is named wrongly, that is by two letters or by one that names no rook; a right without a letter is
+-- not there, which is no fault. In normal chess this is always true
 abbrev pub names_well : Variant → Men → List ℕ → Bool
 names_well v men letters = list_all
     (λ c. is_some (right_in v men letters c KingSide) && is_some (right_in v men letters c QueenSide))

@@ -63,6 +63,7 @@ written_games read result strict tags s before after texts h =
           ∙ ap (λ fault. option_map_or Err fault (Ok (Some end)))
           (nothing_contradicts strict tag (verdict_now r.state) end (tag_agrees (outcome_now s) end tag refl named)
           (board_agrees (verdict_now r.state) r.state.declared end (sym back.outcome)));
+      start = back.start;
       moves = back.moves;
       outcome = refl;
       two_before_end = back.two_before_end;

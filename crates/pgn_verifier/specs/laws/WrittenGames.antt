@@ -13,6 +13,7 @@ use Rattle.pgn_verifier.specs.GameFaults.{read_at, judged_at}
 pub record HasNoFault (strict : Bool) (text : List ℕ) (at : ℕ) (s : State) (text_end : ℕ) : Type 0 where
   pub end : PgnEnd
   pub judged : judged_at strict text at ≡ Ok (Some end)
+  pub start : (read_at text at).state.start ≡ s.start
   pub moves : (read_at text at).state.moves ≡ s.moves
   pub outcome : end.outcome ≡ outcome_now s
   pub two_before_end : end.offset + 2 ≡ text_end
