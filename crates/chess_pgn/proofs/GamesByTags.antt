@@ -29,6 +29,7 @@ use Rattle.chess_pgn.specs.GameRead.{GameRead, tagged_variant, pgn_read, Passes,
 use Rattle.chess_pgn.specs.laws.TokenByToken.{SoFar, Step, On, word_step, move_step, fen_step, step, read_rest_with, game_of, termination_after, tokens_read}
 use Rattle.chess_pgn.specs.GameRead.{IsRead}
 use Rattle.chess_pgn.specs.LastTags.{may_precede_tags, is_marks, own_tags, tags_named}
+use Rattle.chess_pgn.specs.declared.word_kind.WordKind.{WordKind}
 use Rattle.chess_pgn.specs.declared.word_kind.WordKind.TheVariants.{End, Number, Marks, Move}
 use Rattle.chess_pgn.specs.Words.{outcome_of, word_kind}
 use Rattle.chess_pgn.specs.Tokens.{Token, Skip, Tag, Word, Bad_tag, Unclosed_comment, Unclosed_variation, Bad, tokens_from, after_byte_order_mark}
@@ -248,16 +249,11 @@ module _ (limit total : ℕ) (v : Variant) (rest : List (ℕ × Token)) (stops :
           ∙ later (termination_after before name string) p of
           ∙ rw (e, or_true met (list_any is_tag tags), termination_step before left at_string name string tags) refl
 
-  marks_pass : {K : Type 0} (end : Outcome → K) (number marks move : K) (steps : K → Step) (mark : K → Bool)
-      (later : SoFar → GameRead) (g : SoFar) (o : Option Outcome) (is_number is_mark : Bool)
-      → ((o : Outcome) → mark (end o) ≡ false) → mark number ≡ false → mark move ≡ false
-      → read_rest_with (steps marks) later ≡ later g
-      → mark (option_map_or end o (cond is_number number (cond is_mark marks move))) ≡ true
-      → read_rest_with (steps (option_map_or end o (cond is_number number (cond is_mark marks move)))) later ≡ later g
-  marks_pass end number marks move steps mark later g (Some o) is_number is_mark e n m r h = let no = e o in absurd (cc)
-  marks_pass end number marks move steps mark later g None true is_mark e n m r h = absurd (cc)
-  marks_pass end number marks move steps mark later g None false true e n m r h = r
-  marks_pass end number marks move steps mark later g None false false e n m r h = absurd (cc)
+  marks_are : (k : WordKind) → is_marks k ≡ true → k ≡ Marks
+  marks_are (End o) h = absurd (cc)
+  marks_are Number h = absurd (cc)
+  marks_are Marks h = refl
+  marks_are Move h = absurd (cc)
 
   one_token : (met : Bool) (before : Option Termination) (p : Setup) (left : ℕ) (t : Token) (tags : List (ℕ × Token))
       → p.variant ≡ v → may_precede_tags t ≡ true
@@ -267,9 +263,8 @@ module _ (limit total : ℕ) (v : Variant) (rest : List (ℕ × Token)) (stops :
   one_token met before p left (Tag name string at_string) tags of h later =
       one_tag met before p left at_string name string tags of (λ t q k. later true t q k)
   one_token met before p left (Word word) tags of h later =
-      marks_pass _ _ _ _ (λ k. word_step limit (opened met before p) (total - left) word k) (λ k. is_marks k)
-      (λ g. game_of limit total g (tags ++ rest)) (opened met before p) (outcome_of word)
-      (list_all is_digit word) (list_all (λ c. c == byte "!" || c == byte "?") word) (λ o. refl) refl refl refl h
+      ap (λ k. read_rest_with (word_step limit (opened met before p) (total - left) word k)
+      (λ g. game_of limit total g (tags ++ rest))) (marks_are (word_kind word) h)
       ∙ later met before p of
   one_token met before p left Bad_tag tags of h later = absurd (cc)
   one_token met before p left (Unclosed_comment brace) tags of h later = absurd (cc)

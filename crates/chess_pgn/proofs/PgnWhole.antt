@@ -289,7 +289,8 @@ pgn_long : (tags : Tags) (s : State) → AreShort (game_tokens s)
     → length (outcome_text (outcome_now s)) + 2 ≤ length (pgn [] tags s)
 pgn_long tags s short =
     let t : List ℕ = outcome_text (outcome_now s) in
-    rw (pgn_filled [] tags s short) (longer (ended [] (tag_lines tags s ++ [] ∷ [])) (filled_from [] 0 (game_tokens s)) (length t)
+    rw (pgn_filled [] tags s short)
+    (longer (ended [] (tag_lines tags s ++ [] ∷ [])) (filled_from [] 0 (game_tokens s)) (length t)
     (filled_long 0 (move_tokens true s.start s.moves) t (outcome_some (outcome_now s))))
 
 -- ---- the law

@@ -10,8 +10,8 @@ use Rattle.chess_pgn.specs.GameRead.{pgn_read}
 use Rattle.chess_cecp.specs.declared.command.Command.TheVariants.{UserMove}
 use Rattle.chess_cecp.specs.Session.{becomes_judged, row}
 
--- from the game `s` on, sent by `usermove` to a session of games of at most `limit` half-moves, these moves are accepted
--- one after another: each is denoted by a text, and whichever text denotes it, the session plays it
+-- from the game `s` on, sent by `usermove` to a session of games of at most `limit` half-moves, these moves are
+-- accepted one after another: each is denoted by a text, and whichever text denotes it, the session plays it
 abbrev pub AreAccepted : Tags → ℕ → State → List Move → Type 0
 AreAccepted tags limit s [] = Unit {0}
 AreAccepted tags limit s (m ∷ ms) =

@@ -8,8 +8,8 @@ use Rattle.chess_pgn.specs.declared.tags.Tags.{Tags}
 use Rattle.chess_pgn.specs.laws.PgnLaw.{AreTagTexts}
 use Rattle.pgn_verifier.specs.GameFaults.{read_at, judged_at}
 
--- the game from the offset `at` on has no fault, and is the game `s`, whose text ends at the offset `text_end`; `strict`:
--- results are compared
+-- the game from the offset `at` on has no fault, and is the game `s`, whose text ends at the offset `text_end`;
+-- `strict`: results are compared
 pub record HasNoFault (strict : Bool) (text : List ℕ) (at : ℕ) (s : State) (text_end : ℕ) : Type 0 where
   pub end : PgnEnd
   pub judged : judged_at strict text at ≡ Ok (Some end)
