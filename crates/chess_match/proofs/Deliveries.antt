@@ -1,5 +1,5 @@
 -- The blocks of an event, sent one after the other.
-use Rattle.std.proofs.Common.{◌≡◌, ℕ, ◌<◌, Bool, true, false, not, ◌&&◌, ◌||◌, List, [], ◌∷◌, ◌++◌, length, refl, ap, sym, ◌∙◌, subst, append_assoc, append-nil}
+use Rattle.std.proofs.Common.{◌≡◌, ◌<◌, Bool, true, false, not, ◌&&◌, ◌||◌, List, [], ◌∷◌, ◌++◌, length, refl, ap, sym, ◌∙◌, subst, append_assoc, append-nil}
 use Rattle.chess_base.specs.declared.man.Colour.{Colour}
 use Rattle.chess_base.specs.declared.man.Colour.TheVariants.{White, Black}
 use Rattle.chess_base.specs.declared.man.Move.{Move}
@@ -16,7 +16,6 @@ use Rattle.chess_match.specs.Lines.{SentLine, Says}
 use Rattle.chess_match.specs.Reasons.{is_unwritten}
 use Rattle.chess_match.specs.Rules.{Rules}
 use Rattle.chess_match.specs.Table.{Step, Passing, Passes}
-use Rattle.chess_match.specs.declared.phase.Phase.{Phase as MachinePhase}
 use Rattle.chess_match.specs.declared.phase.Phase.TheVariants as phases
 use Rattle.chess_match.specs.declared.reason.MatchFault.TheVariants.{Write}
 use Rattle.chess_match.specs.declared.reason.Reason.{Reason}
@@ -24,22 +23,12 @@ use Rattle.chess_match.specs.declared.reason.Reason.TheVariants.{Faulted}
 use Rattle.chess_match.specs.declared.state.MatchState.{MatchState}
 use Rattle.chess_match.specs.ties.Driving.{Delivered, Leads, by_turn, giving, steps_of}
 use Rattle.chess_match.specs.ties.Represents.{Represents}
-use Rattle.chess_match.specs.ties.SameEffects.{Agrees, owed_in, phase_of, view}
-use Rattle.chess_match.proofs.EffectsAgree.{events_agree}
+use Rattle.chess_match.specs.ties.SameEffects.{Agrees, owed_in, view}
+use Rattle.chess_match.proofs.EffectsAgree.{events_agree, over_back, over_same}
 use Rattle.chess_match.proofs.Leading.{leads_as, leads_failed, leads_farewell, leads_on, leads_sent, none, one_block, only, over_first, unsent}
 use Rattle.chess_match.proofs.Outcomes.{not_other}
 use Rattle.chess_match.proofs.Passings.{passed_as}
 use Rattle.chess_match.proofs.Sane.{sane_over}
-use Rattle.chess_match.proofs.TranscriptsAsActs.{over_same}
-
-pub over_back : (opened : ℕ) (p : MachinePhase) (reason : Reason) → phase_of opened p ≡ effects.Over reason
-    → p ≡ phases.Over reason
-over_back opened (phases.Over x) reason h = let same : x ≡ reason = cc in rw same refl
-over_back opened (phases.Handshake c) reason h = cc
-over_back opened (phases.Setup c) reason h = cc
-over_back opened (phases.SendTurn c) reason h = cc
-over_back opened (phases.AwaitMove c) reason h = cc
-over_back opened (phases.AwaitPong c) reason h = cc
 
 pub is_over_by : (m : Match) (b : Bool) → is_on m.phase ≡ b → is_over (view m).phase ≡ not b
 is_over_by m b h = over_same m.opened m.phase ∙ ap not h

@@ -1,5 +1,5 @@
 -- The effects of events are what the code does, row by row.
-use Rattle.std.proofs.Common.{◌≡◌, ℕ, ◌+◌, ◌-◌, Bool, true, false, List, [], ◌∷◌, ◌++◌, length, refl, ap, sym, ◌∙◌, subst, Option, None, Some}
+use Rattle.std.proofs.Common.{◌≡◌, ℕ, ◌+◌, ◌-◌, Bool, true, false, not, List, [], ◌∷◌, ◌++◌, length, refl, ap, sym, ◌∙◌, subst, Option, None, Some}
 use Rattle.std.specs.Option.{option_map_or}
 use Rattle.std.specs.Prelude.{if◌then◌else◌, nat_lt, nat_le, ◌==◌, codes}
 use Rattle.std.proofs.Math.Path.{fun_ext}
@@ -33,7 +33,8 @@ use Rattle.chess_match.specs.ties.Represents.{items_to, lines_if_to}
 use Rattle.chess_match.proofs.Going.{plain_block, played_block, items_block, offered_block, offered, draw_to, leaves, reads_on}
 use Rattle.chess_match.proofs.Outcomes.{opens_at, and_first}
 use Rattle.chess_match.specs.ties.SameEffects.{phase_of, view, owed_in, Agrees, EventsAgree}
-use Rattle.chess_match.specs.Effects.{Match, Setup, AfterMove, Effect, is_owed, move_line, farewell, sends_nothing, sends_to, enter, with_seat, ends, ignores, begins_turn, opening, offer_row, turn_row, moved, move_row, before_move, flag_row, after_move, ping_number, handshake_row, handshake_done, judged, with_answers, setup_row, setup_done, line_row, items_said, clock}
+use Rattle.chess_match.specs.Acts.{is_over}
+use Rattle.chess_match.specs.Effects.{Match, Handshake, Setup, AfterMove, Over, Effect, beginning, is_owed, move_line, farewell, sends_nothing, sends_to, enter, with_seat, ends, ignores, begins_turn, opening, offer_row, turn_row, moved, move_row, before_move, flag_row, after_move, ping_number, handshake_row, handshake_done, judged, with_answers, setup_row, setup_done, line_row, items_said, clock}
 
 -- ---- the match after it
 
@@ -529,3 +530,34 @@ events_agree r due m (Opened S moment) f u = record {
 events_agree r due m (OutputEnds S) f u = agree_fault r m (Faulted S Ended) (reads_on m.phase S f) u
 events_agree r due m (FailsToRead S) f u = agree_fault r m (Faulted S Read) (reads_on m.phase S f) u
 events_agree r due m (FailsToWrite S) f u = agree_fault r m (Faulted S Write) (and_first (is_on m.phase) _ f) u
+
+-- ---- phases, and the start
+
+pub over_same : (o : ℕ) (p : MachinePhase) → is_over (phase_of o p) ≡ not (is_on p)
+over_same o (phases.Handshake c) = refl
+over_same o (phases.Setup c) = refl
+over_same o (phases.AwaitMove c) = refl
+over_same o (phases.AwaitPong c) = refl
+over_same o (phases.SendTurn c) = refl
+over_same o (phases.Over x) = refl
+
+pub over_back : (opened : ℕ) (p : MachinePhase) (reason : Reason) → phase_of opened p ≡ Over reason
+    → p ≡ phases.Over reason
+over_back opened (phases.Over x) reason h = let same : x ≡ reason = cc in rw same refl
+over_back opened (phases.Handshake c) reason h = cc
+over_back opened (phases.Setup c) reason h = cc
+over_back opened (phases.SendTurn c) reason h = cc
+over_back opened (phases.AwaitMove c) reason h = cc
+over_back opened (phases.AwaitPong c) reason h = cc
+
+pub start_same : beginning.after ≡ view machine.start
+start_same = ap (λ (f : Colour → Seat). let x : Match = record {
+  phase = Handshake White;
+  seat = f;
+  played = [];
+  count = 0;
+} in x) (fun_ext at)
+  where
+    at : (c : Colour) → beginning.after.seat c ≡ machine.seat machine.start c
+    at White = refl
+    at Black = refl

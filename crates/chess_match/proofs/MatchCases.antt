@@ -12,7 +12,7 @@ use Rattle.chess_match.specs.Rules.{Rules}
 use Rattle.chess_match.proofs.Leading.{unsent}
 
 -- what holds of a match and what is due follows from what holds after each kind of act
-pub record Cases (r : Rules) (P : Match → List Block → List Act → Type 0) : Type 0 where
+pub record Cases (r : Rules) (final : Match) (P : Match → List Block → List Act → Type 0) : Type 0 where
   pub sends : (m : Match) (b : Block) (due : List Block) (H : List Act) → P m due H → P m (b ∷ due) (Sends b ∷ H)
   pub fails : (m : Match) (b : Block) (due : List Block) (H : List Act) → is_over m.phase ≡ false
       → P (effect r m (FailsToWrite b.to)).after (blocks_from White (effect r m (FailsToWrite b.to)).to) H
@@ -30,15 +30,15 @@ pub record Cases (r : Rules) (P : Match → List Block → List Act → Type 0) 
   pub read_fails : (m : Match) (S : Colour) (H : List Act) → awaits_line m.phase S ≡ true
       → P (effect r m (FailsToRead S)).after (blocks_from White (effect r m (FailsToRead S)).to) H
       → P m [] (ReadFails S ∷ H)
-  pub over : (m : Match) → is_over m.phase ≡ true → P m [] []
+  pub over : is_over final.phase ≡ true → P final [] []
 
-pub by_cases : (r : Rules) (P : Match → List Block → List Act → Type 0) → Cases r P → (m final : Match)
+pub by_cases : (r : Rules) (final : Match) (P : Match → List Block → List Act → Type 0) → Cases r final P → (m : Match)
     (due : List Block) (H : List Act) → IsMatchFrom r m due H final → P m due H
-by_cases r P k m final (b ∷ due) (Sends s ∷ H) (e, g) =
-    subst (λ (x : Block). P m (b ∷ due) (Sends x ∷ H)) e (k.sends m b due H (by_cases r P k m final due H g))
-by_cases r P k m final (b ∷ due) (SendFails s ∷ H) (e, g) =
+by_cases r final P k m (b ∷ due) (Sends s ∷ H) (e, g) =
+    subst (λ (x : Block). P m (b ∷ due) (Sends x ∷ H)) e (k.sends m b due H (by_cases r final P k m due H g))
+by_cases r final P k m (b ∷ due) (SendFails s ∷ H) (e, g) =
     subst (λ (x : Block). P m (b ∷ due) (SendFails x ∷ H)) e
-    (at (is_over m.phase) refl (λ m' due' h. by_cases r P k m' final due' H h)
+    (at (is_over m.phase) refl (λ m' due' h. by_cases r final P k m' due' H h)
     (subst (λ (x : Block). let n : Match × List Block = if is_over m.phase then (m, due) else (
       (effect r m (FailsToWrite x.to)).after,
       blocks_from White (effect r m (FailsToWrite x.to)).to,
@@ -61,26 +61,27 @@ by_cases r P k m final (b ∷ due) (SendFails s ∷ H) (e, g) =
           (effect r m (FailsToWrite b.to)).after,
           blocks_from White (effect r m (FailsToWrite b.to)).to,
         ) in IsMatchFrom r n.0 n.1 H final) o h))
-by_cases r P k m final [] (Reads S t ∷ ReadsClock c n ∷ H) (e, aw, g) =
+by_cases r final P k m [] (Reads S t ∷ ReadsClock c n ∷ H) (e, aw, g) =
     subst (λ (x : Colour). P m [] (Reads S t ∷ ReadsClock x n ∷ H)) (sym e)
-    (k.reads m S t n H aw (by_cases r P k _ final _ H g))
-by_cases r P k m final [] (ReadsClock S n ∷ H) (o, g) = k.opens m S n H o (by_cases r P k _ final [] H g)
-by_cases r P k m final [] (ReadsEnd S ∷ H) (aw, g) = k.ends m S H aw (by_cases r P k _ final _ H g)
-by_cases r P k m final [] (ReadFails S ∷ H) (aw, g) = k.read_fails m S H aw (by_cases r P k _ final _ H g)
-by_cases r P k m final [] [] (o, e) = k.over m o
-by_cases r P k m final (b ∷ due) [] g = absurd g
-by_cases r P k m final (b ∷ due) (Reads S t ∷ H) g = absurd g
-by_cases r P k m final (b ∷ due) (ReadsClock S n ∷ H) g = absurd g
-by_cases r P k m final (b ∷ due) (ReadsEnd S ∷ H) g = absurd g
-by_cases r P k m final (b ∷ due) (ReadFails S ∷ H) g = absurd g
-by_cases r P k m final [] (Sends s ∷ H) g = absurd g
-by_cases r P k m final [] (SendFails s ∷ H) g = absurd g
-by_cases r P k m final [] (Reads S t ∷ []) g = absurd g
-by_cases r P k m final [] (Reads S t ∷ Sends s ∷ H) g = absurd g
-by_cases r P k m final [] (Reads S t ∷ SendFails s ∷ H) g = absurd g
-by_cases r P k m final [] (Reads S t ∷ Reads c u ∷ H) g = absurd g
-by_cases r P k m final [] (Reads S t ∷ ReadsEnd c ∷ H) g = absurd g
-by_cases r P k m final [] (Reads S t ∷ ReadFails c ∷ H) g = absurd g
+    (k.reads m S t n H aw (by_cases r final P k _ _ H g))
+by_cases r final P k m [] (ReadsClock S n ∷ H) (o, g) = k.opens m S n H o (by_cases r final P k _ [] H g)
+by_cases r final P k m [] (ReadsEnd S ∷ H) (aw, g) = k.ends m S H aw (by_cases r final P k _ _ H g)
+by_cases r final P k m [] (ReadFails S ∷ H) (aw, g) = k.read_fails m S H aw (by_cases r final P k _ _ H g)
+by_cases r final P k m [] [] (o, e) =
+    subst (λ (x : Match). P x [] []) e (k.over (ap (λ (x : Match). is_over x.phase) e ∙ o))
+by_cases r final P k m (b ∷ due) [] g = absurd g
+by_cases r final P k m (b ∷ due) (Reads S t ∷ H) g = absurd g
+by_cases r final P k m (b ∷ due) (ReadsClock S n ∷ H) g = absurd g
+by_cases r final P k m (b ∷ due) (ReadsEnd S ∷ H) g = absurd g
+by_cases r final P k m (b ∷ due) (ReadFails S ∷ H) g = absurd g
+by_cases r final P k m [] (Sends s ∷ H) g = absurd g
+by_cases r final P k m [] (SendFails s ∷ H) g = absurd g
+by_cases r final P k m [] (Reads S t ∷ []) g = absurd g
+by_cases r final P k m [] (Reads S t ∷ Sends s ∷ H) g = absurd g
+by_cases r final P k m [] (Reads S t ∷ SendFails s ∷ H) g = absurd g
+by_cases r final P k m [] (Reads S t ∷ Reads c u ∷ H) g = absurd g
+by_cases r final P k m [] (Reads S t ∷ ReadsEnd c ∷ H) g = absurd g
+by_cases r final P k m [] (Reads S t ∷ ReadFails c ∷ H) g = absurd g
 
 -- ---- nothing is read after an end
 
@@ -104,7 +105,7 @@ reads_end (Reads c t ∷ H) = reads_end H
 reads_end (ReadsEnd c ∷ H) = unread H
 reads_end (ReadFails c ∷ H) = unread H
 
-on_when_read : (p : Phase) (S : Colour) → awaits_line p S ≡ true → is_over p ≡ false
+pub on_when_read : (p : Phase) (S : Colour) → awaits_line p S ≡ true → is_over p ≡ false
 on_when_read (Handshake c) S h = refl
 on_when_read (Setup c) S h = refl
 on_when_read (BeforeMove c n) S h = refl
@@ -112,7 +113,7 @@ on_when_read (AfterMove c) S h = refl
 on_when_read (Opening c) S h = refl
 on_when_read (Over x) S h = absurd cc
 
-both_not : {P : Type 0} (b : Bool) → b ≡ false → b ≡ true → P
+pub both_not : {P : Type 0} (b : Bool) → b ≡ false → b ≡ true → P
 both_not true e h = absurd cc
 both_not false e h = absurd cc
 
@@ -121,7 +122,7 @@ Reading m due H = (is_over m.phase ≡ true → unread H ≡ true) × (reads_end
 
 pub reading_ends : (r : Rules) (m final : Match) (due : List Block) (H : List Act) → IsMatchFrom r m due H final
     → reads_end H ≡ true
-reading_ends r m final due H g = (by_cases r Reading (record {
+reading_ends r m final due H g = (by_cases r final Reading (record {
   sends = λ m b due H p. p;
   fails = λ m b due H on p. (λ h. both_not (is_over m.phase) on h, p.1);
   fails_late = λ m b due H over p. p;
@@ -129,8 +130,8 @@ reading_ends r m final due H g = (by_cases r Reading (record {
   opens = λ m S n H o p. (λ h. both_not (is_over m.phase) (ap is_over o) h, p.1);
   ends = λ m S H aw p. (λ h. both_not (is_over m.phase) (on_when_read m.phase S aw) h, p.0 refl);
   read_fails = λ m S H aw p. (λ h. both_not (is_over m.phase) (on_when_read m.phase S aw) h, p.0 refl);
-  over = λ m o. (λ h. refl, refl);
-}) m final due H g).1
+  over = λ o. (λ h. refl, refl);
+}) m due H g).1
 
 -- ---- nothing is sent after a failure
 
@@ -237,7 +238,7 @@ failed_none r m Black White h = absurd cc
 
 pub sending_ends : (r : Rules) (m final : Match) (due : List Block) (H : List Act) (S : Colour)
     → IsMatchFrom r m due H final → few_for S due ≡ true → sends_end S H ≡ true
-sending_ends r m final due H S g = (by_cases r (Sending S) (record {
+sending_ends r m final due H S g = (by_cases r final (Sending S) (record {
   sends = λ m b due H p. (
     λ o n. unsent_more (same_colour b.to S) (none_for S due) (unsent_in S H) n (p.0 o),
     λ f. p.1 (few_less (same_colour b.to S) (none_for S due) (few_for S due) f (none_few S due)),
@@ -266,8 +267,8 @@ sending_ends r m final due H S g = (by_cases r (Sending S) (record {
     λ o. both_not (is_over m.phase) (on_when_read m.phase c aw) o,
     λ f. p.1 (few_due S White (effect r m (FailsToRead c)).to),
   );
-  over = λ m o. (λ h n. refl, λ f. refl);
-}) m final due H g).1
+  over = λ o. (λ h n. refl, λ f. refl);
+}) m due H g).1
 
 -- of a whole match
 pub all_reads_end : (r : Rules) (H : List Act) (final : Match) → IsMatch r H final → reads_end H ≡ true

@@ -1,5 +1,5 @@
 -- A match that goes on at a table.
-use Rattle.std.proofs.Common.{◌≡◌, ℕ, ◌+◌, ◌*◌, ◌<◌, ◌≤◌, Bool, true, false, not, ◌||◌, List, [], ◌++◌, refl, ap, sym, ◌∙◌, subst, arith, Option, None, Some}
+use Rattle.std.proofs.Common.{◌≡◌, ℕ, ◌+◌, ◌*◌, ◌<◌, ◌≤◌, Bool, true, false, ◌||◌, List, [], ◌++◌, refl, ap, sym, ◌∙◌, subst, arith, Option, None, Some}
 use Rattle.std.specs.Option.{option_map_or}
 use Rattle.std.specs.Prelude.{codes, if◌then◌else◌}
 use Rattle.std.proofs.Math.Path.{fun_ext}
@@ -47,13 +47,12 @@ use Rattle.chess_match.specs.ties.Represents.{Goes, Represents, given_block, nam
 use Rattle.chess_match.specs.ties.SameEffects.{Agrees, owed_in, phase_of, view}
 use Rattle.chess_match.specs.ties.Steps.{IsSane}
 use Rattle.chess_match.proofs.Deliveries.{is_over_by}
-use Rattle.chess_match.proofs.EffectsAgree.{events_agree}
+use Rattle.chess_match.proofs.EffectsAgree.{events_agree, start_same}
 use Rattle.chess_match.proofs.Going.{reads_on}
 use Rattle.chess_match.proofs.LastBlocks.{no_write}
 use Rattle.chess_match.proofs.Leading.{leads_as, leads_event, leads_on, leads_opened, leads_out, none}
 use Rattle.chess_match.proofs.Passings.{passed_as, passed_more}
 use Rattle.chess_match.proofs.Sane.{sane_line, sane_opened, sane_over, sane_start}
-use Rattle.chess_match.proofs.TranscriptsAsActs.{At, at_start}
 
 -- core, game and table agree with a match that has come to `m`, by the steps `K`
 pub record IsOnTheWay (r : Rules) (old new : Passing) (core : MatchState) (played : List Move) (failed : Colour → Bool)
@@ -89,10 +88,6 @@ after_same : (S : Colour) (t t' : Effect) → t.after ≡ t'.after → ((X : Col
 after_same S t t' a e =
     ap (λ (m : effects.Match). blocks_from (if is_over m.phase then White else S) t.to) a
     ∙ blocks_same (if is_over t'.after.phase then White else S) t.to t'.to e
-
-is_off : (b : Bool) → not b ≡ true → b ≡ false
-is_off true e = cc
-is_off false e = refl
 
 off_by : (m : Match) → is_over (view m).phase ≡ true → is_on m.phase ≡ false
 off_by m h = at (is_on m.phase) refl
@@ -132,19 +127,19 @@ pub begun : (r : Rules) (old new : Passing) (core : MatchState) (played : List M
       to = given_block r (record { draw = None; entered = true }) nothing_said start;
     })) failed → OnTheWay r old new core played failed
 begun r old new core played failed (m, K, d) =
-    let a : At (lines_on_entering r start) start beginning = at_start r in
     let due : Colour → List SentLine = given_block r (record { draw = None; entered = true }) nothing_said start in
     let blocks : blocks_after White (record { after = view start; to = due }) ≡ blocks_from White beginning.to =
-    blocks_same White due beginning.to (λ X. entry_given r X ∙ sym (a.to X)) in (
+    blocks_same White due beginning.to (entry_given r) in (
       m,
       K,
       record {
         stands = d.stands;
         sane = d.sane (sane_start r);
-        owed = λ h. subst (λ (x : Match). is_on x.phase ≡ true → x.unsent_to ≡ owed_in x.phase) (sym (d.on h)) a.owed h;
+        owed = λ h. subst (λ (x : Match). is_on x.phase ≡ true → x.unsent_to ≡ owed_in x.phase) (sym (d.on h))
+            (λ on. refl) h;
         passes = d.passes;
         leads = subst (λ (x : effects.Match). Leads r x (blocks_from White beginning.to) K (view m) [] failed)
-            (sym a.after)
+            (sym start_same)
             (subst (λ (bs : List Block). Leads r (view start) bs K (view m) [] failed) blocks d.leads);
         fine = d.fine;
       },
