@@ -68,10 +68,10 @@ step r due m e f w =
         setup_ends = λ p reason n. w;
         setup_counts = λ p k n. w;
         setup_next = λ p s k. w;
-        setup_done = λ p s k. w;
+        setup_done = λ p s k v. w;
         before = λ p. record {
           row = in_turn r S (line_kind text) m w;
-          plays = λ text' move k rd room timely. played r S move _ m timely w;
+          plays = λ text' move k rd room timely v. played r S move _ m timely w;
           decides = λ text' move v k rd room timely. played r S move _ m timely w;
         };
         behind = λ p. record { row = in_turn r S (line_kind text) m w; passes = λ k. w };

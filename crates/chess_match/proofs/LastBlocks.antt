@@ -66,10 +66,10 @@ line_ends r S text moment m apart = record {
   setup_counts = λ h a b. not_yet (Line S text moment) (record m { count = m.count + 1 }) (phases.Setup S) h refl;
   setup_next = λ h a b. not_yet (Line S text moment) (machine.enter (phases.Setup Black) m) (phases.Setup Black) refl
       refl;
-  setup_done = λ h a b. not_yet (Line S text moment) (machine.open_turn r.first m) (phases.SendTurn r.first) refl refl;
+  setup_done = λ h a b c. not_yet (Line S text moment) (machine.open_turn r.first m) (phases.SendTurn r.first) refl refl;
   before = λ h. record {
     row = row_ends r S text moment m (phases.AwaitMove S) h refl;
-    plays = λ t move a b c d. not_yet (Line S text moment) (machine.played_by S move (moment - m.opened) m)
+    plays = λ t move a b c d e. not_yet (Line S text moment) (machine.played_by S move (moment - m.opened) m)
         (phases.AwaitPong S) refl refl;
     decides = λ t move v a b c d. ends_by (Line S text moment) (machine.played_by S move (moment - m.opened) m)
         (Decided v) (λ O. refl);

@@ -183,14 +183,14 @@ lines r k S kind moment m w = record {
   setup_ends = λ p reason n. setup_over r k S reason m (into_phase r k m (Setup S) p w);
   setup_counts = λ p pong few. setup_more r k S m p (into_phase r k m (Setup S) p w) few;
   setup_next = λ p s pong. setup_next (into_phase r k m (Setup White) p w);
-  setup_done = λ p s pong. setup_done (into_phase r k m (Setup Black) p w);
+  setup_done = λ p s pong undecided. setup_done (into_phase r k m (Setup Black) p w);
   before = λ p. record {
     row = record {
       ends = λ reason n. before_over r k S reason m (into_phase r k m (AwaitMove S) p w);
       counts = λ none few. before_more r k S m p (into_phase r k m (AwaitMove S) p w) few;
       offers = λ none own theirs. before_offers r k S m p (into_phase r k m (AwaitMove S) p w) own;
     };
-    plays = λ text move is reading room timely. plays_more r k S move _ m (into_phase r k m (AwaitMove S) p w) room;
+    plays = λ text move is reading room timely undecided. plays_more r k S move _ m (into_phase r k m (AwaitMove S) p w) room;
     decides = λ text move v is reading room timely. before_over r k S (Decided v) m
         (into_phase r k m (AwaitMove S) p w);
   };

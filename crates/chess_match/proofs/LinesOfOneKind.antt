@@ -132,10 +132,10 @@ lines_none f r S kind moment m i here = record {
   setup_ends = λ p reason n on some. not_on on;
   setup_counts = λ p pong few. same_sends_none f r S m (record m { count = m.count + 1 }) refl here;
   setup_next = λ p s pong. quiet_sends_none f r S m _ i refl;
-  setup_done = λ p s pong. opens_sends_none f r S r.first m (rw p refl);
+  setup_done = λ p s pong undecided. opens_sends_none f r S r.first m (rw p refl);
   before = λ p. record {
     row = row;
-    plays = λ text move is reading room timely. plays_none f r S move (moment - m.opened) m i;
+    plays = λ text move is reading room timely undecided. plays_none f r S move (moment - m.opened) m i;
     decides = λ text move v is reading room timely on some. not_on on;
   };
   behind = λ p. record { row = row; passes = λ none. opens_sends_none f r S (other S) m (rw p refl) };

@@ -510,10 +510,10 @@ lines_go r X S O kind moment m here o h =
       setup_ends = λ p reason n. ends_goes r X O reason m on (n O) h;
       setup_counts = λ p pong few. counts_goes r X S O (m.count + 1) m here o h;
       setup_next = λ p s pong. setup_enters r X O m (orderly_in r m (Setup White) p o) h;
-      setup_done = λ p s pong. setup_opens r X O m (orderly_in r m (Setup Black) p o) h;
+      setup_done = λ p s pong undecided. setup_opens r X O m (orderly_in r m (Setup Black) p o) h;
       before = λ p. record {
         row = row;
-        plays = λ text move is reading room timely. plays_goes r X S O move (moment - m.opened) m p o h;
+        plays = λ text move is reading room timely undecided. plays_goes r X S O move (moment - m.opened) m p o h;
         decides = λ text move v is reading room timely. decides_goes r X S O move (moment - m.opened) v m p o h;
       };
       behind = λ p. record { row = row; passes = λ none. passes_goes r X S O m p o h };
@@ -613,10 +613,10 @@ lines_none r S O kind moment m here o = record {
   setup_ends = λ p reason n on some. not_on on;
   setup_counts = λ p pong few. same_sends_none r S O m (record m { count = m.count + 1 }) refl here;
   setup_next = λ p s pong on some. if_nil (is_same_phase m.phase (Setup Black)) [] refl;
-  setup_done = λ p s pong on some. opens_none (orderly_in r m (Setup Black) p o).0;
+  setup_done = λ p s pong undecided on some. opens_none (orderly_in r m (Setup Black) p o).0;
   before = λ p. record {
     row = row;
-    plays = λ text move is reading room timely. plays_none r S O move (moment - m.opened) m;
+    plays = λ text move is reading room timely undecided. plays_none r S O move (moment - m.opened) m;
     decides = λ text move v is reading room timely on some. not_on on;
   };
   behind = λ p. record { row = row; passes = λ none. passes_none r S O m p };

@@ -163,13 +163,14 @@ it_fits due m S (FailsToRead c) is h =
 it_fits due m S (Opened c n) is h = absurd cc
 it_fits due m S (FailsToWrite c) is h = absurd cc
 
-it_is_sane : (r : Rules) (m : Match) (S : Colour) (e : Event) → is_of_output S e ≡ true → IsSane r m
-    → IsSane r (match_after r m e)
-it_is_sane r m S (Line c t n) is h = sane_line r m c t n h
-it_is_sane r m S (OutputEnds c) is h = sane_over r m _ h
-it_is_sane r m S (FailsToRead c) is h = sane_over r m _ h
-it_is_sane r m S (Opened c n) is h = absurd cc
-it_is_sane r m S (FailsToWrite c) is h = absurd cc
+it_is_sane : (r : Rules) (m : Match) (S : Colour) (e : Event) → is_of_output S e ≡ true → reads m.phase S ≡ true
+    → IsSane r m → IsSane r (match_after r m e)
+it_is_sane r m S (Line c t n) is h s =
+    sane_line r m c t n (subst (λ (x : Colour). reads m.phase x ≡ true) (sym (same_colour-true c S is)) h) s
+it_is_sane r m S (OutputEnds c) is h s = sane_over r m _ s
+it_is_sane r m S (FailsToRead c) is h s = sane_over r m _ s
+it_is_sane r m S (Opened c n) is h s = absurd cc
+it_is_sane r m S (FailsToWrite c) is h s = absurd cc
 
 awaits_too : (o : ℕ) (p : Phase) (S : Colour) → reads p S ≡ true → awaits_line (phase_of o p) S ≡ true
 awaits_too o (Handshake c) S h = h
@@ -222,7 +223,7 @@ went_on r old now between new core core' played played' failed failed' m K S e d
       K ++ (steps_of e ++ J),
       record {
         stands = d.stands;
-        sane = d.sane (it_is_sane r m S e is w.sane);
+        sane = d.sane (it_is_sane r m S e is reading w.sane);
         owed = λ h. subst (λ (x : Match). is_on x.phase ≡ true → x.unsent_to ≡ owed_in x.phase) (sym (d.on h)) agrees.owed
             h;
         passes = passed_more old now new K (steps_of e ++ J) w.passes

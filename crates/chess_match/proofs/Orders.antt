@@ -138,10 +138,10 @@ lines_kept r S kind moment m k = record {
   setup_ends = λ p reason n. (tt, k.1, k.2);
   setup_counts = λ p pong few. k;
   setup_next = λ p s pong. (orderly_in r m (Setup White) p k.0, k.1, k.2);
-  setup_done = λ p s pong. (first_turn (orderly_in r m (Setup Black) p k.0).0, k.1, k.2);
+  setup_done = λ p s pong undecided. (first_turn (orderly_in r m (Setup Black) p k.0).0, k.1, k.2);
   before = λ p. record {
     row = row;
-    plays = λ text move is reading room timely. plays_kept r S move (moment - m.opened) m p k;
+    plays = λ text move is reading room timely undecided. plays_kept r S move (moment - m.opened) m p k;
     decides = λ text move v is reading room timely.
         (tt, (plays_kept r S move (moment - m.opened) m p k).1, (plays_kept r S move (moment - m.opened) m p k).2);
   };

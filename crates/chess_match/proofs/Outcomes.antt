@@ -45,7 +45,7 @@ pub record BeforeMove (r : Rules) (S : Colour) (kind : LineKind) (moment : ℕ) 
   where
     pub row : InTurn r S kind m P
     pub plays : (text : List ℕ) (move : Move) → kind ≡ Moves text → r.reading m.played text ≡ Some move
-        → length m.played < r.limit → moment - m.opened ≤ clock r m S
+        → length m.played < r.limit → moment - m.opened ≤ clock r m S → r.verdict (m.played ++ move ∷ []) ≡ None
         → P (played_by S move (moment - m.opened) m)
     pub decides : (text : List ℕ) (move : Move) (v : Verdict) → kind ≡ Moves text → r.reading m.played text ≡ Some move
         → length m.played < r.limit → moment - m.opened ≤ clock r m S
@@ -88,11 +88,12 @@ move_outcome : (r : Rules) (S : Colour) (text : List ℕ) (moment : ℕ) (m : Ma
     → length m.played < r.limit → moment - m.opened ≤ clock r m S → BeforeMove r S (Moves text) moment m P
     → P (played_row r S reading moment m)
 move_outcome r S text moment m P None e room timely b = b.row.ends (MovesIllegally S) (λ O. refl)
-move_outcome r S text moment m P (Some move) e room timely b = judge (r.verdict (m.played ++ move ∷ []))
+move_outcome r S text moment m P (Some move) e room timely b = judge (r.verdict (m.played ++ move ∷ [])) refl
   where
-    judge : (v : Option Verdict) → (let m' = played_by S move (moment - m.opened) m in P (unless_decided v m' m'))
-    judge None = b.plays text move refl e room timely
-    judge (Some v) = b.decides text move v refl e room timely
+    judge : (v : Option Verdict) → r.verdict (m.played ++ move ∷ []) ≡ v
+        → (let m' = played_by S move (moment - m.opened) m in P (unless_decided v m' m'))
+    judge None u = b.plays text move refl e room timely u
+    judge (Some v) u = b.decides text move v refl e room timely
 
 row_outcome : (r : Rules) (S : Colour) (kind : LineKind) (moment : ℕ) (m : Match) (P : Match → Type 0)
     → moment - m.opened ≤ clock r m S → BeforeMove r S kind moment m P
@@ -174,12 +175,13 @@ judged_outcome r m P ends on = at (missing r m.white.items) (missing r m.black.i
 
 -- both are ready
 pub begun_outcome : (r : Rules) (m : Match) (P : Match → Type 0) → ((v : Verdict) → P (over (Decided v) m))
-    → P (open_turn r.first m) → P (unless_decided (r.verdict m.played) m (open_turn r.first m))
-begun_outcome r m P ends on = at (r.verdict m.played)
+    → (r.verdict m.played ≡ None → P (open_turn r.first m))
+    → P (unless_decided (r.verdict m.played) m (open_turn r.first m))
+begun_outcome r m P ends on = at (r.verdict m.played) refl
   where
-    at : (v : Option Verdict) → P (unless_decided v m (open_turn r.first m))
-    at (Some v) = ends v
-    at None = on
+    at : (v : Option Verdict) → r.verdict m.played ≡ v → P (unless_decided v m (open_turn r.first m))
+    at (Some v) e = ends v
+    at None e = on e
 
 -- whatever a line of S says, in each phase that reads it
 pub record Lines (r : Rules) (S : Colour) (kind : LineKind) (moment : ℕ) (m : Match) (P : Match → Type 0) : Type 0 where
@@ -197,7 +199,8 @@ pub record Lines (r : Rules) (S : Colour) (kind : LineKind) (moment : ℕ) (m : 
   pub setup_counts : m.phase ≡ Setup S → is_pong 1 kind ≡ false → m.count + 1 < 10000
       → P (record m { count = m.count + 1 })
   pub setup_next : m.phase ≡ Setup White → S ≡ White → is_pong 1 kind ≡ true → P (enter (Setup Black) m)
-  pub setup_done : m.phase ≡ Setup Black → S ≡ Black → is_pong 1 kind ≡ true → P (open_turn r.first m)
+  pub setup_done : m.phase ≡ Setup Black → S ≡ Black → is_pong 1 kind ≡ true → r.verdict m.played ≡ None
+      → P (open_turn r.first m)
   pub before : m.phase ≡ AwaitMove S → BeforeMove r S kind moment m P
   pub behind : m.phase ≡ AwaitPong S → AfterMove r S kind m P
 

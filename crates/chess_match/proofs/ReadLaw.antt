@@ -315,7 +315,7 @@ lines_step r d t n m o = record {
       (λ lines S. rw p (setup_same d t lines S h));
   setup_next = λ p s h. on_steps r d t m (enter (Setup Black) m) refl refl
       (λ lines S. rw p (setup_next d t lines S s h));
-  setup_done = λ p s h. on_steps r d t m (open_turn r.first m) refl refl
+  setup_done = λ p s h undecided. on_steps r d t m (open_turn r.first m) refl refl
       (λ lines S. rw p (setup_done d r.first t lines S s h));
   before = λ p. record {
     row = record {
@@ -324,7 +324,7 @@ lines_step r d t n m o = record {
       offers = λ none own theirs. before_same r d t m (offered d m) p (offered_phase d m).0 (offered_phase d m).1
           none;
     };
-    plays = λ text move is reading room timely. plays text move p is reading;
+    plays = λ text move is reading room timely undecided. plays text move p is reading;
     decides = λ text move v is reading room timely. decides text move v p is reading;
   };
   behind = λ p. record {

@@ -174,10 +174,10 @@ lines_say r d t n m = record {
   setup_ends = λ p reason w. greeted_says d t m (over reason m) (rw p refl) refl refl refl;
   setup_counts = λ p h few. greeted_says d t m (record m { count = m.count + 1 }) (rw p refl) (rw p refl) refl refl;
   setup_next = λ p s h. greeted_says d t m (enter (Setup Black) m) (rw p refl) refl refl refl;
-  setup_done = λ p s h. greeted_says d t m (open_turn r.first m) (rw p refl) refl refl refl;
+  setup_done = λ p s h undecided. greeted_says d t m (open_turn r.first m) (rw p refl) refl refl refl;
   before = λ p. record {
     row = row (rw p refl);
-    plays = λ text move is reading room timely. plays d move (n - m.opened) (rw p refl);
+    plays = λ text move is reading room timely undecided. plays d move (n - m.opened) (rw p refl);
     decides = λ text move v is reading room timely. decides d move (n - m.opened) v (rw p refl);
   };
   behind = λ p. record {

@@ -523,12 +523,12 @@ lines_go own r S c X kind moment m here h = record {
   setup_next = λ p s pong. quiet_goes own r S X m (enter (Setup Black) m) refl
       (carried own r S (Setup Black) X m (enter (Setup Black) m) refl refl refl refl
       (times_in own r S X m (Setup White) p h));
-  setup_done = λ p s pong. turn_goes own r S r.first X m (rw p refl)
+  setup_done = λ p s pong undecided. turn_goes own r S r.first X m (rw p refl)
       (first_turn own r S X (takes (codes "time") (seat m S).items) (seat m (told_of own S)).used
       (times_in own r S X m (Setup Black) p h).0 (times_in own r S X m (Setup Black) p h).1);
   before = λ p. record {
     row = row;
-    plays = λ text move is reading room timely. plays_goes own r S c X move (moment - m.opened) m
+    plays = λ text move is reading room timely undecided. plays_goes own r S c X move (moment - m.opened) m
         (times_in own r S X m (AwaitMove c) p h);
     decides = λ text move v is reading room timely. decides_goes own r S c X move (moment - m.opened) v m
         (times_in own r S X m (AwaitMove c) p h);

@@ -164,10 +164,10 @@ lines_grow r S c kind n m = record {
   setup_counts = λ p pong few. apart_grow S kind n m (record m { count = m.count + 1 }) (Setup c) p refl refl refl
       (rw p refl);
   setup_next = λ p s pong. apart_grow S kind n m (enter (Setup Black) m) (Setup White) p refl refl refl refl;
-  setup_done = λ p s pong. apart_grow S kind n m (open_turn r.first m) (Setup Black) p refl refl refl refl;
+  setup_done = λ p s pong undecided. apart_grow S kind n m (open_turn r.first m) (Setup Black) p refl refl refl refl;
   before = λ p. record {
     row = row;
-    plays = λ text move is reading room timely. rw is (plays_grow S c text move n m p);
+    plays = λ text move is reading room timely undecided. rw is (plays_grow S c text move n m p);
     decides = λ text move v is reading room timely. rw is (decides_grow S c text move n m (Decided v) p);
   };
   behind = λ p. record {
