@@ -30,8 +30,8 @@ use Rattle.chess_match.specs.declared.reason.Reason.{Reason}
 use Rattle.chess_match.specs.declared.reason.Reason.TheVariants.{Decided, Claimed, Agreed, MovesIllegally, MovesOutOfTurn, ClaimsFalsely, RejectsLegalMove, Forfeits, ForfeitsToBareKing, GameTooLong, Faulted}
 use Rattle.chess_match.specs.declared.reason.Reason.TheVariants as over_by
 use Rattle.chess_match.specs.ties.Represents.{items_to, lines_if_to}
-use Rattle.chess_match.proofs.Going.{plain_block, played_block, items_block, offered_block, offered, draw_to, leaves, reads_on}
-use Rattle.chess_match.proofs.Outcomes.{opens_at, and_first}
+use Rattle.chess_match.proofs.Going.{draw_to, items_block, leaves, offered, offered_block, opens_at, plain_block, played_block, reads_on}
+use Rattle.chess_match.proofs.Outcomes.{and_first}
 use Rattle.chess_match.specs.ties.SameEffects.{phase_of, view, owed_in, Agrees, EventsAgree}
 use Rattle.chess_match.specs.Acts.{is_over}
 use Rattle.chess_match.specs.Effects.{Match, Handshake, Setup, AfterMove, Over, Effect, beginning, is_owed, move_line, farewell, sends_nothing, sends_to, enter, with_seat, ends, ignores, begins_turn, opening, offer_row, turn_row, moved, move_row, before_move, flag_row, after_move, ping_number, handshake_row, handshake_done, judged, with_answers, setup_row, setup_done, line_row, items_said, clock}

@@ -1,4 +1,4 @@
--- The blocks of the end: which sides are sent one.
+-- Which matches end because a write failed.
 use Rattle.std.proofs.Common.{◌≡◌, ℕ, ◌+◌, ◌-◌, Bool, true, false, ◌&&◌, not, List, [], ◌∷◌, ◌++◌, length, drop, refl, ap, sym, ◌∙◌, subst, Option, None, Some}
 use Rattle.std.specs.Prelude.{if◌then◌else◌, codes, is_some}
 use Rattle.chess_base.specs.declared.man.Colour.{Colour}
@@ -66,7 +66,8 @@ line_ends r S text moment m apart = record {
   setup_counts = λ h a b. not_yet (Line S text moment) (record m { count = m.count + 1 }) (phases.Setup S) h refl;
   setup_next = λ h a b. not_yet (Line S text moment) (machine.enter (phases.Setup Black) m) (phases.Setup Black) refl
       refl;
-  setup_done = λ h a b c. not_yet (Line S text moment) (machine.open_turn r.first m) (phases.SendTurn r.first) refl refl;
+  setup_done = λ h a b c. not_yet (Line S text moment) (machine.open_turn r.first m) (phases.SendTurn r.first) refl
+      refl;
   before = λ h. record {
     row = row_ends r S text moment m (phases.AwaitMove S) h refl;
     plays = λ t move a b c d e. not_yet (Line S text moment) (machine.played_by S move (moment - m.opened) m)
@@ -149,31 +150,3 @@ no_write r due m (Opened S moment) f =
 no_write r due m (OutputEnds S) f = ends_by (OutputEnds S) m (Faulted S Ended) (λ O. refl)
 no_write r due m (FailsToRead S) f = ends_by (FailsToRead S) m (Faulted S Read) (λ O. refl)
 no_write r due m (FailsToWrite S) f = ends_by (FailsToWrite S) m (Faulted S Write) (λ O. refl)
-
--- ---- the end is not empty
-
-abbrev pub IsSome : List SentLine → Type 0
-IsSome ls = (l : SentLine) × (more : List SentLine) × (ls ≡ l ∷ more)
-
-last_some : (a : List SentLine) (b : List SentLine) → IsSome b → IsSome (a ++ b)
-last_some [] b h = h
-last_some (l ∷ a) b h = (l, a ++ b, refl)
-
-end_some : (r : Rules) (m : machine.Match) (S : Colour) (reason : Reason) → IsSome (end_lines r m S reason)
-unfolding end_lines
-end_some r m S reason = last_some _ _ (_, _, refl)
-
-entry_some : (r : Rules) (m : machine.Match) (S : Colour) (reason : Reason) (same : Bool) (q : MachinePhase) → same
-    ≡ false
-    → q ≡ phases.Over reason → is_unwritten reason S ≡ false → IsSome (if same then [] else entry_to r m S q)
-entry_some r m S reason same q e1 e2 e3 = rw (e1, e2, e3) (end_some r m S reason)
-
-pub end_block : (r : Rules) (m m' : machine.Match) (S : Colour) (reason : Reason) → m'.phase ≡ phases.Over reason
-    → is_on m.phase ≡ true
-    → is_unwritten reason S ≡ false → IsSome (block r m m' S)
-unfolding block
-end_block r m m' S reason over on none =
-    last_some (answers_to (drop (length (machine.seat m S).items) (machine.seat m' S).items)) _
-    (last_some (draw_line (machine.seat m' S) (machine.seat m (other S)) (machine.seat m' (other S))) _
-    (entry_some r m' S reason (is_same_phase m.phase m'.phase) m'.phase
-    (ap (λ (q : MachinePhase). is_same_phase m.phase q) over ∙ leaves m.phase reason on) over none))

@@ -17,8 +17,8 @@ use Rattle.chess_match.specs.declared.phase.Phase.{Phase}
 use Rattle.chess_match.specs.declared.phase.Phase.TheVariants.{Handshake, Setup, SendTurn, AwaitMove, AwaitPong, Over}
 use Rattle.chess_match.specs.declared.reason.Reason.{Reason}
 use Rattle.chess_match.specs.declared.reason.Reason.TheVariants.{Agreed, Decided}
-use Rattle.chess_match.proofs.Outcomes.{Lines, line_outcome, opens_at, and_first, and_second}
-use Rattle.chess_match.proofs.Going.{offered}
+use Rattle.chess_match.proofs.Outcomes.{Lines, line_outcome, and_first, and_second}
+use Rattle.chess_match.proofs.Going.{offered, opens_at}
 
 abbrev one_if : Bool → ℕ
 one_if true = 1
@@ -190,7 +190,8 @@ lines r k S kind moment m w = record {
       counts = λ none few. before_more r k S m p (into_phase r k m (AwaitMove S) p w) few;
       offers = λ none own theirs. before_offers r k S m p (into_phase r k m (AwaitMove S) p w) own;
     };
-    plays = λ text move is reading room timely undecided. plays_more r k S move _ m (into_phase r k m (AwaitMove S) p w) room;
+    plays = λ text move is reading room timely undecided. plays_more r k S move _ m
+        (into_phase r k m (AwaitMove S) p w) room;
     decides = λ text move v is reading room timely. before_over r k S (Decided v) m
         (into_phase r k m (AwaitMove S) p w);
   };

@@ -22,8 +22,7 @@ use Rattle.chess_match.specs.declared.phase.Phase.TheVariants.{SendTurn, Over}
 use Rattle.chess_match.specs.declared.reason.MatchFault.TheVariants.{Write}
 use Rattle.chess_match.specs.declared.reason.Reason.TheVariants.{Faulted}
 use Rattle.chess_match.proofs.Blocks.{if_nil, of_block, joined_at}
-use Rattle.chess_match.proofs.MoveLaw.{not_on}
-use Rattle.chess_match.proofs.Outcomes.{Lines, InTurn, line_outcome, and_first, and_second}
+use Rattle.chess_match.proofs.Outcomes.{Lines, InTurn, line_outcome, and_first, and_second, not_on}
 use Rattle.chess_match.proofs.Going.{items_phase, is_opening, offered, plain_block, reads_stays}
 use Rattle.chess_match.specs.ties.Steps.{match_from}
 
@@ -69,11 +68,11 @@ gathered {A} f a r S Q step unsent due m (e ∷ T) X fits q =
         (joined_blocks (blocks_from r S (match_after r m e) T))
         ∙ ap (λ (l : List A). l ++ flat_map f (joined_blocks (blocks_from r S (match_after r m e) T))) (at b h)
 
--- ---- lines that openings alone hold
+-- ---- lines that openings alone hold, while the match is on
 
 abbrev pub InOpenings : {A : Type 0} → (SentLine → List A) → Type 0
-InOpenings f = (r : Rules) (m : Match) (S : Colour) (p : Phase) → is_opening p ≡ false → flat_map f (entry_to r m S p)
-    ≡ []
+InOpenings f = (r : Rules) (m : Match) (S : Colour) (p : Phase) → is_opening p ≡ false → is_on p ≡ true
+    → flat_map f (entry_to r m S p) ≡ []
 
 -- where a line of S gives S something to send, the other is sent none of these
 abbrev SendsNone : {A : Type 0} → (SentLine → List A) → Rules → Colour → Match → Match → Type 0
@@ -87,7 +86,7 @@ quiet_sends_none : {A : Type 0} (f : SentLine → List A) (r : Rules) (S : Colou
     → is_opening m'.phase ≡ false → SendsNone f r S m m'
 quiet_sends_none f r S m m' i e on some =
     if_nil (is_same_phase m.phase m'.phase) (flat_map f (lines_on_entering r m' (other S)))
-    (i r m' (other S) m'.phase e)
+    (i r m' (other S) m'.phase e on)
 
 opening_apart : (r : Rules) (S c : Colour) (m : Match) → same_colour c S ≡ false → is_same_phase m.phase (SendTurn c)
     ≡ false → block r m (open_turn c m) S ≡ []
@@ -159,9 +158,8 @@ pub unsent : {A : Type 0} (f : SentLine → List A) (r : Rules) (S : Colour) →
     → (due : Colour → List SentLine) (m : Match) (e : Event) (T : List Event) → fits_from r due m (e ∷ T) ≡ true
     → is_dropped e T S || is_fault Write S e ≡ true → now f r S m (match_after r m e) ≡ []
 unsent f r S i due m (FailsToWrite c) T fits h =
-    if_nil (is_same_phase m.phase (Over (Faulted c Write)))
-    (flat_map f (lines_on_entering r (over (Faulted c Write) m) S))
-    (i r (over (Faulted c Write) m) S (Over (Faulted c Write)) refl)
+    let own : same_colour c S ≡ true = h in
+    rw own (if_nil (is_same_phase m.phase (Over (Faulted c Write))) [] refl)
 unsent f r S i due m (Line c t n) (FailsToWrite d ∷ T) fits h =
     dropped (and_first (reads m.phase c) _ fits) (and_first _ _ (and_second (reads m.phase c) _ fits))
     (sym (or-false (same_colour c d && not (same_colour d S))) ∙ h)

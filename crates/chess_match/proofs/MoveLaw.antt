@@ -29,9 +29,11 @@ use Rattle.chess_match.specs.declared.reason.Reason.{Reason}
 use Rattle.chess_match.specs.declared.reason.Reason.TheVariants.{Decided, Faulted}
 use Rattle.chess_match.specs.declared.reason.MatchFault.{MatchFault}
 use Rattle.chess_match.specs.declared.reason.MatchFault.TheVariants.{NoDone, Ended, Read, Write}
-use Rattle.chess_match.proofs.Blocks.{if_nil, of_block, joined_at, told_more}
-use Rattle.chess_match.proofs.Outcomes.{Lines, InTurn, line_outcome, opens_at, and_first, and_second}
-use Rattle.chess_match.proofs.Going.{items_phase, leaves, offered, plain_block, reads_on, reads_stays}
+use Rattle.chess_match.proofs.Blocks.{if_nil, told_more}
+use Rattle.chess_match.proofs.LastBlocks.{no_write}
+use Rattle.chess_match.proofs.LinesOfOneKind.{InOpenings, gathered, now, unsent}
+use Rattle.chess_match.proofs.Outcomes.{Lines, InTurn, line_outcome, and_first, and_second, fits_on, not_on}
+use Rattle.chess_match.proofs.Going.{is_opening, leaves, offered, opens_at, reads_on, reads_stays}
 use Rattle.chess_match.proofs.Seats.{items_played, items_unsent_to, items_same}
 use Rattle.cecp_engine.specs.Levels.{level_text}
 use Rattle.chess_match.specs.ties.Steps.{match_from}
@@ -195,11 +197,6 @@ entry_told r m O (Over reason) = at (is_unwritten reason O)
         ≡ (if b then [] else untold_text r m O m.unsent_to)
     at true = refl
     at false = end_moves r m O reason
-
-told_block : (r : Rules) (m m' : Match) (O : Colour) → moves_sent (block r m m' O)
-    ≡ (if is_same_phase m.phase m'.phase then [] else entry_moves r m' O m'.phase)
-told_block r m m' O = of_block move_sent (λ text. refl) r m m' O
-    ∙ ap (λ (l : List (List ℕ)). if is_same_phase m.phase m'.phase then [] else l) (entry_told r m' O m'.phase)
 
 -- ---- one event
 
@@ -567,136 +564,23 @@ step_goes r X O due m (FailsToWrite S) f o h = (
   tt,
 )
 
--- ---- blocks that aren't sent have no move
-
-abbrev told_now : Rules → Match → Match → Colour → List (List ℕ)
-told_now r m m' O = if is_same_phase m.phase m'.phase then [] else entry_moves r m' O m'.phase
-
--- where a line gives its own engine something to send, and the match goes on, the other engine is sent no move
-abbrev SendsNone : Rules → Colour → Colour → Match → Match → Type 0
-SendsNone r S O m m' = is_on m'.phase ≡ true → 0 < length (block r m m' S) → told_now r m m' O ≡ []
-
-pub not_on : {A : Type 0} → false ≡ true → A
-not_on h = cc
-
-same_sends_none : (r : Rules) (S O : Colour) (m m' : Match) → m'.phase ≡ m.phase → reads m.phase S ≡ true
-    → SendsNone r S O m m'
-same_sends_none r S O m m' e here on some = rw (e, reads_stays m.phase S here) refl
-
-opening_apart : (r : Rules) (S : Colour) (m : Match) → m.phase ≡ AwaitPong S → block r m (open_turn (other S) m) S ≡ []
-opening_apart r White m p = plain_block r m (open_turn Black m) false refl refl (rw p refl) White
-opening_apart r Black m p = plain_block r m (open_turn White m) false refl refl (rw p refl) Black
-
-passes_none : (r : Rules) (S O : Colour) (m : Match) → m.phase ≡ AwaitPong S → SendsNone r S O m (open_turn (other S) m)
-passes_none r S O m p on some = let none : 0 < 0 = rw (opening_apart r S m p) at some in absurd (omega (arith, none))
-
-plays_none : (r : Rules) (S O : Colour) (move : Move) (used : ℕ) (m : Match)
-    → SendsNone r S O m (played_by S move used m)
-plays_none r White O move used m on some = if_nil (is_same_phase m.phase (AwaitPong White)) [] refl
-plays_none r Black O move used m on some = if_nil (is_same_phase m.phase (AwaitPong Black)) [] refl
-
-offers_none : (r : Rules) (S O : Colour) (m : Match) → reads m.phase S ≡ true → SendsNone r S O m (offered S m)
-offers_none r White O m here on some = rw (reads_stays m.phase White here) refl
-offers_none r Black O m here on some = rw (reads_stays m.phase Black here) refl
-
-lines_none : (r : Rules) (S O : Colour) (kind : LineKind) (moment : ℕ) (m : Match) → reads m.phase S ≡ true
-    → Orderly r m → Lines r S kind moment m (λ m'. SendsNone r S O m m')
-lines_none r S O kind moment m here o = record {
-  handshake_ends = λ p d on some. not_on on;
-  handshake_counts = λ p d few. same_sends_none r S O m
-      (let m' = take_items S (items_of_line kind) m in record m' { count = m.count + 1 })
-      (items_phase S (items_of_line kind) m)
-      here;
-  handshake_next = λ p s d on some. if_nil (is_same_phase m.phase (Handshake Black)) [] refl;
-  handshake_judged = λ p s d c f on some. not_on on;
-  handshake_done = λ p s d on some. if_nil (is_same_phase m.phase (Setup White)) [] refl;
-  setup_ends = λ p reason n on some. not_on on;
-  setup_counts = λ p pong few. same_sends_none r S O m (record m { count = m.count + 1 }) refl here;
-  setup_next = λ p s pong on some. if_nil (is_same_phase m.phase (Setup Black)) [] refl;
-  setup_done = λ p s pong undecided on some. opens_none (orderly_in r m (Setup Black) p o).0;
-  before = λ p. record {
-    row = row;
-    plays = λ text move is reading room timely undecided. plays_none r S O move (moment - m.opened) m;
-    decides = λ text move v is reading room timely on some. not_on on;
-  };
-  behind = λ p. record { row = row; passes = λ none. passes_none r S O m p };
-}
-  where
-    row : InTurn r S kind m (λ m'. SendsNone r S O m m')
-    row = record {
-      ends = λ reason n on some. not_on on;
-      counts = λ none few. same_sends_none r S O m (record m { count = m.count + 1 }) refl here;
-      offers = λ none own theirs. offers_none r S O m here;
-    }
-
-    opens_none : m.played ≡ [] → told_now r m (open_turn r.first m) O ≡ []
-    opens_none e = if_nil (is_same_phase m.phase (SendTurn r.first))
-        (entry_moves r (open_turn r.first m) O (SendTurn r.first))
-        (none_told r.first O (last_text r (open_turn r.first m) O) m.played e)
-
-dropped_line : (r : Rules) (O S d : Colour) (t : Option (List ℕ)) (n : ℕ) (due : Colour → List SentLine) (m : Match)
-    (T : List Event) → fits_next due m (Line S t n) ≡ true
-    → fits_next (block r m (match_after r m (Line S t n))) (match_after r m (Line S t n)) (FailsToWrite d) ≡ true
-    → Orderly r m → same_colour S d ≡ true → told_now r m (match_after r m (Line S t n)) O ≡ []
-dropped_line r O S d t n due m T f g o e =
-    line_outcome r S (line_kind t) n m (λ m'. SendsNone r S O m m') f (lines_none r S O (line_kind t) n m f o)
-    (and_first (is_on (match_after r m (Line S t n)).phase) _ g)
-    (rw (same_colour-true S d e) (ltb-true 0 (length (block r m (match_after r m (Line S t n)) d))
-    (and_second (is_on (match_after r m (Line S t n)).phase) _ g)))
-
-failed_none : (r : Rules) (O S : Colour) (m : Match) → same_colour S O ≡ true
-    → told_now r m (over (Faulted S Write) m) O ≡ []
-failed_none r O S m e = rw e (if_nil (is_same_phase m.phase (Over (Faulted S Write))) [] refl)
-
-pub or_assoc : (a b c : Bool) → (a || b) || c ≡ a || (b || c)
-or_assoc true b c = refl
-or_assoc false b c = refl
-
--- a block that isn't sent has no move
-unsent_none : (r : Rules) (O : Colour) (due : Colour → List SentLine) (m : Match) (e : Event) (T : List Event)
-    → fits_from r due m (e ∷ T) ≡ true → Orderly r m
-    → is_dropped e T O || is_fault Write O e ≡ true → told_now r m (match_after r m e) O ≡ []
-unsent_none r O due m (FailsToWrite S) T f o h = failed_none r O S m h
-unsent_none r O due m (Line S t n) (FailsToWrite d ∷ T) f o h =
-    dropped_line r O S d t n due m T (and_first (reads m.phase S) _ f)
-    (and_first _ _ (and_second (reads m.phase S) _ f)) o
-    (and_first (same_colour S d) _ (sym (or-false (same_colour S d && not (same_colour d O))) ∙ h))
-unsent_none r O due m (Line S t n) [] f o h = cc
-unsent_none r O due m (Line S t n) (Line d u k ∷ T) f o h = cc
-unsent_none r O due m (Line S t n) (Opened d k ∷ T) f o h = cc
-unsent_none r O due m (Line S t n) (OutputEnds d ∷ T) f o h = cc
-unsent_none r O due m (Line S t n) (FailsToRead d ∷ T) f o h = cc
-unsent_none r O due m (Opened S n) T f o h = cc
-unsent_none r O due m (OutputEnds S) T f o h = cc
-unsent_none r O due m (FailsToRead S) T f o h = cc
-
--- what the block of an event holds, if it is sent
-told_at : (r : Rules) (O : Colour) (due : Colour → List SentLine) (m : Match) (e : Event) (T : List Event)
-    → fits_from r due m (e ∷ T) ≡ true → Orderly r m
-    → moves_sent (joined_blocks (blocks_from r O m (e ∷ T))) ≡ told_now r m (match_after r m e) O
-    ++ moves_sent (joined_blocks (blocks_from r O (match_after r m e) T))
-told_at r O due m e T f o =
-    ap (λ (ls : List SentLine). moves_sent ls)
-    (joined_at (is_dropped e T O || is_fault Write O e) (block r m (match_after r m e) O)
-    (blocks_from r O (match_after r m e) T))
-    ∙ flat_map-append move_sent (if is_dropped e T O || is_fault Write O e then [] else block r m (match_after r m e) O)
-    (joined_blocks (blocks_from r O (match_after r m e) T))
-    ∙ ap (λ (l : List (List ℕ)). l ++ moves_sent (joined_blocks (blocks_from r O (match_after r m e) T)))
-    (at (is_dropped e T O || is_fault Write O e) refl)
-  where
-    at : (b : Bool) → is_dropped e T O || is_fault Write O e ≡ b
-        → moves_sent (if b then [] else block r m (match_after r m e) O) ≡ told_now r m (match_after r m e) O
-    at true h = sym (unsent_none r O due m e T f o h)
-    at false h = told_block r m (match_after r m e) O
-
 -- ---- the transcript
 
-pub fits_on : (due : Colour → List SentLine) (m : Match) (e : Event) → fits_next due m e ≡ true → is_on m.phase ≡ true
-fits_on due m (Line S t n) f = reads_on m.phase S f
-fits_on due m (Opened S n) f = rw (opens_at m.phase S f) refl
-fits_on due m (OutputEnds S) f = reads_on m.phase S f
-fits_on due m (FailsToRead S) f = reads_on m.phase S f
-fits_on due m (FailsToWrite S) f = and_first (is_on m.phase) _ f
+moves_in_openings : InOpenings move_sent
+moves_in_openings r m O p e on = entry_told r m O p ∙ at p e on
+  where
+    at : (p : Phase) → is_opening p ≡ false → is_on p ≡ true → entry_moves r m O p ≡ []
+    at (Handshake c) e on = refl
+    at (Setup c) e on = refl
+    at (AwaitMove c) e on = refl
+    at (AwaitPong c) e on = refl
+    at (SendTurn c) e on = cc
+    at (Over x) e on = cc
+
+-- whether the match ended because a write to that side failed
+abbrev unwritten_in : Phase → Colour → Bool
+unwritten_in (Over reason) O = is_unwritten reason O
+unwritten_in p O = false
 
 calm : (r : Rules) (m : Match) (e : Event) (O : Colour) → is_on (match_after r m e).phase ≡ true
     → is_fault Write O e ≡ false
@@ -706,47 +590,70 @@ calm r m (OutputEnds S) O on = refl
 calm r m (FailsToRead S) O on = refl
 calm r m (FailsToWrite S) O on = not_on on
 
-joined_more : (X t M R o A : List (List ℕ)) → M ≡ t ++ R → (X ++ t) ++ (R ++ o) ≡ A → X ++ (M ++ o) ≡ A
-joined_more X t M R o A e h = rw (e, append_assoc t R o, ← append_assoc X t (R ++ o)) h
+unwritten_by : (r : Rules) (due : Colour → List SentLine) (m : Match) (e : Event) (O : Colour)
+    → fits_next due m e ≡ true → is_fault Write O e ≡ unwritten_in (match_after r m e).phase O
+unwritten_by r due m e O f = at (match_after r m e).phase refl
+  where
+    at : (p : Phase) → (match_after r m e).phase ≡ p → is_fault Write O e ≡ unwritten_in p O
+    at (Over reason) h = sym (no_write r due m e f reason h O)
+    at (Handshake c) h = calm r m e O (ap is_on h)
+    at (Setup c) h = calm r m e O (ap is_on h)
+    at (SendTurn c) h = calm r m e O (ap is_on h)
+    at (AwaitMove c) h = calm r m e O (ap is_on h)
+    at (AwaitPong c) h = calm r m e O (ap is_on h)
 
-told_from : (r : Rules) (O : Colour) (due : Colour → List SentLine) (m : Match) (T : List Event) (X : List (List ℕ))
-    (failed : Bool) → fits_from r due m T ≡ true → Orderly r m
-    → (is_on m.phase ≡ true → failed ≡ false) → X ++ owed_to r m O m.unsent_to failed ≡ all_texts r m O
-    → (X ++ (moves_sent (joined_blocks (blocks_from r O m T))
-    ++ owed_to r (match_from r m T) O (match_from r m T).unsent_to (failed || has_fault Write O T))
-    ≡ all_texts r (match_from r m T) O)
-    × Orderly r (match_from r m T)
-told_from r O due m [] X failed f o quiet h = (rw (or-false failed) h, o)
-told_from r O due m (e ∷ T) X failed f o quiet h =
-    let here : fits_next due m e ≡ true = and_first (fits_next due m e) _ f in
-    let on : is_on m.phase ≡ true = fits_on due m e here in
-    let s : Told r X O (is_fault Write O e) m.phase (match_after r m e) × Orderly r (match_after r m e) =
-    step_goes r X O due m e here o (rw (owed_on r m O m.unsent_to failed on) at h) in
-    let rest = told_from r O (block r m (match_after r m e)) (match_after r m e) T
-    (X ++ told_now r m (match_after r m e) O)
-    (is_fault Write O e) (and_second (fits_next due m e) _ f) s.1 (calm r m e O) s.0 in (
-      rw (quiet on) (joined_more X (told_now r m (match_after r m e) O)
-          (moves_sent (joined_blocks (blocks_from r O m (e ∷ T))))
-          (moves_sent (joined_blocks (blocks_from r O (match_after r m e) T)))
-          (owed_to r (match_from r (match_after r m e) T) O (match_from r (match_after r m e) T).unsent_to
-          (is_fault Write O e || has_fault Write O T)) (all_texts r (match_from r (match_after r m e) T) O)
-          (told_at r O due m e T f o) rest.0),
-      rest.1,
+-- what was sent, and what is owed, are the other's moves
+abbrev ToldSo : Rules → Colour → List (List ℕ) → Match → Type 0
+ToldSo r O X m =
+    (X ++ owed_to r m O m.unsent_to (unwritten_in m.phase O) ≡ all_texts r m O) × Orderly r m
+
+step_told : (r : Rules) (O : Colour) (due : Colour → List SentLine) (m : Match) (e : Event) (X : List (List ℕ))
+    → fits_next due m e ≡ true → ToldSo r O X m
+    → ToldSo r O (X ++ now move_sent r O m (match_after r m e)) (match_after r m e)
+step_told r O due m e X f (h, o) =
+    let m' : Match = match_after r m e in
+    let s : Told r X O (is_fault Write O e) m.phase m' × Orderly r m' = step_goes r X O due m e f o
+    (ap (λ (l : List (List ℕ)). X ++ l)
+    (sym (owed_on r m O m.unsent_to (unwritten_in m.phase O) (fits_on due m e f))) ∙ h) in
+    let sent : now move_sent r O m m' ≡ (if is_same_phase m.phase m'.phase then [] else entry_moves r m' O m'.phase) =
+    ap (λ (l : List (List ℕ)). if is_same_phase m.phase m'.phase then [] else l) (entry_told r m' O m'.phase) in (
+      ap (λ (l : List (List ℕ)). (X ++ l) ++ owed_to r m' O m'.unsent_to (unwritten_in m'.phase O)) sent
+          ∙ ap (λ (b : Bool). (X ++ (if is_same_phase m.phase m'.phase then [] else entry_moves r m' O m'.phase))
+          ++ owed_to r m' O m'.unsent_to b) (sym (unwritten_by r due m e O f)) ∙ s.0,
+      s.1,
     )
+
+told_so : (r : Rules) (O : Colour) (T : List Event) → fits r T ≡ true
+    → ToldSo r O (moves_sent (sent r O T)) (match_of r T)
+told_so r O T f =
+    rw (
+      flat_map-append move_sent (lines_on_entering r start O) (joined_blocks (blocks_from r O start T)),
+      entry_told r start O (Handshake White),
+    )
+    (gathered move_sent (λ text. refl) r O (ToldSo r O) (step_told r O) (unsent move_sent r O moves_in_openings)
+    (lines_on_entering r start) start T [] f (refl, (refl, refl)))
+
+-- a write to that side failed if the match ended so
+written_from : (r : Rules) (O : Colour) (due : Colour → List SentLine) (m : Match) (T : List Event) (b : Bool)
+    → fits_from r due m T ≡ true → b ≡ unwritten_in m.phase O → (is_on m.phase ≡ true → b ≡ false)
+    → (b || has_fault Write O T) ≡ unwritten_in (match_from r m T).phase O
+written_from r O due m [] b f e quiet = or-false b ∙ e
+written_from r O due m (e ∷ T) b f h quiet =
+    ap (λ (x : Bool). x || (is_fault Write O e || has_fault Write O T))
+    (quiet (fits_on due m e (and_first (fits_next due m e) _ f)))
+    ∙ written_from r O (block r m (match_after r m e)) (match_after r m e) T (is_fault Write O e)
+    (and_second (fits_next due m e) _ f) (unwritten_by r due m e O (and_first (fits_next due m e) _ f))
+    (calm r m e O)
 
 pub moves_are_told : MovesAreSent
 moves_are_told r T O f =
-    ap (λ (l : List (List ℕ)). l ++ owed_to r (match_of r T) O (match_of r T).unsent_to (has_fault Write O T)) first
-    ∙ (told_from r O (lines_on_entering r start) start T [] false f (refl, refl) (λ on. refl) refl).0
-  where
-    first : moves_sent (sent r O T) ≡ moves_sent (joined_blocks (blocks_from r O start T))
-    first = flat_map-append move_sent (lines_on_entering r start O) (joined_blocks (blocks_from r O start T))
-        ∙ ap (λ (l : List (List ℕ)). l ++ moves_sent (joined_blocks (blocks_from r O start T)))
-        (entry_told r start O (Handshake White))
+    ap (λ (b : Bool). moves_sent (sent r O T) ++ owed_to r (match_of r T) O (match_of r T).unsent_to b)
+    (written_from r O (lines_on_entering r start) start T false f refl (λ on. refl))
+    ∙ (told_so r O T f).0
 
 -- every match is orderly
 pub orderly : (r : Rules) (T : List Event) → fits r T ≡ true → Orderly r (match_of r T)
-orderly r T f = (told_from r White (lines_on_entering r start) start T [] false f (refl, refl) (λ on. refl) refl).1
+orderly r T f = (told_so r White T f).1
 
 pub nothing_owed : (r : Rules) (m : Match) (O : Colour) (unsent_to : Option Colour) → is_some (ending_in m.phase) ≡ true
     → owed_to r m O unsent_to false ≡ []

@@ -48,7 +48,7 @@ use Rattle.chess_match.specs.ties.SameEffects.{Agrees, owed_in, phase_of, view}
 use Rattle.chess_match.specs.ties.Steps.{IsSane}
 use Rattle.chess_match.proofs.Deliveries.{is_over_by}
 use Rattle.chess_match.proofs.EffectsAgree.{events_agree, start_same}
-use Rattle.chess_match.proofs.Going.{reads_on}
+use Rattle.chess_match.proofs.Going.{opens_at, reads_on}
 use Rattle.chess_match.proofs.LastBlocks.{no_write}
 use Rattle.chess_match.proofs.Leading.{leads_as, leads_event, leads_on, leads_opened, leads_out, none}
 use Rattle.chess_match.proofs.Passings.{passed_as, passed_more}
@@ -218,14 +218,15 @@ went_on r old now between new core core' played played' failed failed' m K S e d
     let all : Leads r beginning.after (blocks_from White beginning.to) (K ++ (steps_of e ++ J)) (view m') []
     (λ X. failed X || (none X || failed' X)) =
     leads_on r beginning.after (view m) (view m') (blocks_from White beginning.to) [] [] K (steps_of e ++ J) failed
-    (λ X. none X || failed' X) (λ h. let no : false ≡ true = sym (is_over_by m true on) ∙ h in absurd cc) w.leads both in (
+    (λ X. none X || failed' X) (λ h. let no : false ≡ true = sym (is_over_by m true on) ∙ h in absurd cc) w.leads both
+    in (
       m',
       K ++ (steps_of e ++ J),
       record {
         stands = d.stands;
         sane = d.sane (it_is_sane r m S e is reading w.sane);
-        owed = λ h. subst (λ (x : Match). is_on x.phase ≡ true → x.unsent_to ≡ owed_in x.phase) (sym (d.on h)) agrees.owed
-            h;
+        owed = λ h. subst (λ (x : Match). is_on x.phase ≡ true → x.unsent_to ≡ owed_in x.phase) (sym (d.on h))
+            agrees.owed h;
         passes = passed_more old now new K (steps_of e ++ J) w.passes
             (passed_more now between new (steps_of e) J passes d.passes);
         leads = leads_as r beginning.after (view m') (blocks_from White beginning.to) [] (K ++ (steps_of e ++ J))
@@ -237,22 +238,6 @@ went_on r old now between new core core' played played' failed failed' m K S e d
 
 -- ---- the moment at the end of an opening
 
-opening_too : (o : ℕ) (p : Phase) (S : Colour) → opens p S ≡ true → phase_of o p ≡ effects.Opening S
-opening_too o (SendTurn c) S h = ap effects.Opening (same_colour-true c S h)
-opening_too o (Handshake c) S h = absurd cc
-opening_too o (SetupPhase c) S h = absurd cc
-opening_too o (AwaitMove c) S h = absurd cc
-opening_too o (AwaitPong c) S h = absurd cc
-opening_too o (Over x) S h = absurd cc
-
-opens_on : (p : Phase) (S : Colour) → opens p S ≡ true → is_on p ≡ true
-opens_on (SendTurn c) S h = refl
-opens_on (Handshake c) S h = refl
-opens_on (SetupPhase c) S h = refl
-opens_on (AwaitMove c) S h = refl
-opens_on (AwaitPong c) S h = refl
-opens_on (Over x) S h = absurd cc
-
 pub opened_on : (r : Rules) (old now new : Passing) (core core' : MatchState) (played : List Move)
     (failed : Colour → Bool) (m : Match) (K : List Step) (S : Colour) (moment : ℕ)
     → IsOnTheWay r old now core played failed m K → opens m.phase S ≡ true
@@ -260,13 +245,13 @@ pub opened_on : (r : Rules) (old now new : Passing) (core core' : MatchState) (p
     → Goes r core' played (record { draw = None; entered = false }) nothing_said m
     (match_after r m (Opened S moment)) → OnTheWay r old new core' played failed
 opened_on r old now new core core' played failed m K S moment w opening passes goes =
-    let on : is_on m.phase ≡ true = opens_on m.phase S opening in
+    let on : is_on m.phase ≡ true = ap is_on (opens_at m.phase S opening) in
     let m1 : Match = match_after r m (Opened S moment) in
     let agrees : Agrees r m m1 (effect r (view m) (Opened S moment)) =
     events_agree r (λ X. []) m (Opened S moment) opening (w.owed on) in
     let event : Leads r (view m) [] (steps_of (Opened S moment)) (view m1) [] none =
     subst (λ (x : effects.Match). Leads r (view m) [] (steps_of (Opened S moment)) x [] none) agrees.after
-    (leads_opened r (view m) S moment (opening_too m.opened m.phase S opening)) in (
+    (leads_opened r (view m) S moment (ap (phase_of m.opened) (opens_at m.phase S opening))) in (
       m1,
       K ++ steps_of (Opened S moment),
       record {
@@ -297,14 +282,6 @@ a_step (AwaitPong c) S n h = refl
 a_step (SendTurn c) S n h = absurd cc
 a_step (Over x) S n h = absurd cc
 
-two_steps : (p : Phase) (S : Colour) (n : ℕ) → opens p S ≡ true → steps_left p n ≡ 3 * n + 2
-two_steps (SendTurn c) S n h = refl
-two_steps (Handshake c) S n h = absurd cc
-two_steps (SetupPhase c) S n h = absurd cc
-two_steps (AwaitMove c) S n h = absurd cc
-two_steps (AwaitPong c) S n h = absurd cc
-two_steps (Over x) S n h = absurd cc
-
 few_steps : (p : Phase) (n : ℕ) → steps_left p n ≤ 3 * n + 2
 few_steps (Handshake c) n = omega arith
 few_steps (SetupPhase c) n = omega arith
@@ -330,7 +307,7 @@ pub opened_less : (core core' : MatchState) (S : Colour) (n n' : ℕ) → n' ≡
 opened_less core core' S n n' same h e =
     subst (λ (p : Phase). steps_left p n' < steps_left core.phase n) (sym e)
     (subst (λ (k : ℕ). steps_left (AwaitMove S) k < steps_left core.phase n) (sym same)
-    (less core.phase (two_steps core.phase S n h)))
+    (less core.phase (ap (λ (p : Phase). steps_left p n) (opens_at core.phase S h))))
   where
     less : (p : Phase) → steps_left p n ≡ 3 * n + 2 → steps_left (AwaitMove S) n < steps_left p n
     less p e = omega (arith, e)

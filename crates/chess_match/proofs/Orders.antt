@@ -19,8 +19,8 @@ use Rattle.chess_match.specs.declared.phase.Phase.TheVariants.{Handshake, Setup,
 use Rattle.chess_match.specs.declared.reason.MatchFault.TheVariants.{NoDone, Write}
 use Rattle.chess_match.specs.declared.reason.Reason.TheVariants.{Faulted}
 use Rattle.chess_match.proofs.MoveLaw.{mover, mover-snoc, OrderlyIn, Orderly, orderly_in, some_move, moves_are_told}
-use Rattle.chess_match.proofs.Outcomes.{Lines, InTurn, line_outcome, kept_by, opens_at}
-use Rattle.chess_match.proofs.Going.{offered}
+use Rattle.chess_match.proofs.Outcomes.{Lines, InTurn, line_outcome, kept_by}
+use Rattle.chess_match.proofs.Going.{offered, opens_at}
 use Rattle.chess_match.proofs.Seats.{items_played, items_unsent_to}
 
 -- how many of these moves, which c begins, are C's

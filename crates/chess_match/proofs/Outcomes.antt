@@ -1,5 +1,5 @@
 -- What a line can make of a match, whatever it says: what holds of each of these matches holds of the match after it.
-use Rattle.std.proofs.Common.{◌≡◌, ℕ, ◌+◌, ◌-◌, ◌≤◌, ◌<◌, Bool, true, false, ◌&&◌, List, [], ◌∷◌, ◌++◌, length, refl, sym, subst, Option, None, Some}
+use Rattle.std.proofs.Common.{◌≡◌, ℕ, ◌+◌, ◌-◌, ◌≤◌, ◌<◌, Bool, true, false, ◌&&◌, List, [], ◌∷◌, ◌++◌, length, refl, ap, sym, subst, Option, None, Some}
 use Rattle.std.specs.Prelude.{if◌then◌else◌, nat_lt, nat_le, ◌==◌}
 use Rattle.std.proofs.lemmas.Bool.{leb-false, ltb-false}
 use Rattle.chess_base.specs.declared.man.Colour.{Colour}
@@ -24,7 +24,7 @@ use Rattle.chess_match.specs.declared.reason.MatchFault.{MatchFault}
 use Rattle.chess_match.specs.declared.reason.MatchFault.TheVariants.{Flood, NoDone, Ended, Read, Write}
 use Rattle.chess_match.specs.declared.reason.Reason.{Reason}
 use Rattle.chess_match.specs.declared.reason.Reason.TheVariants.{Decided, Claimed, Agreed, Resigns as ResignsBy, MovesIllegally, MovesOutOfTurn, ClaimsFalsely, RejectsLegalMove, Forfeits, ForfeitsToBareKing, GameTooLong, Faulted}
-use Rattle.chess_match.proofs.Going.{offered, reads_on, setup_row}
+use Rattle.chess_match.proofs.Going.{offered, opens_at, reads_on, setup_row}
 use Rattle.chess_match.specs.ties.Steps.{match_from}
 
 by_test : (P : Match → Type 0) (b : Bool) {x y : Match} → (b ≡ true → P x) → (b ≡ false → P y) → P (if b then x else y)
@@ -246,17 +246,6 @@ pub record Events (r : Rules) (m : Match) (e : Event) (P : Match → Type 0) : T
   pub faulted : (S : Colour) (f : MatchFault) → is_on m.phase ≡ true
       → ((O : Colour) → is_unwritten (Faulted S f) O ≡ is_fault Write O e) → P (over (Faulted S f) m)
 
-pub opens_at : (p : Phase) (S : Colour) → opens p S ≡ true → p ≡ SendTurn S
-opens_at (SendTurn White) White h = refl
-opens_at (SendTurn Black) Black h = refl
-opens_at (SendTurn White) Black h = cc
-opens_at (SendTurn Black) White h = cc
-opens_at (Handshake c) S h = cc
-opens_at (Setup c) S h = cc
-opens_at (AwaitMove c) S h = cc
-opens_at (AwaitPong c) S h = cc
-opens_at (Over x) S h = cc
-
 pub and_first : (a b : Bool) → a && b ≡ true → a ≡ true
 and_first true b h = refl
 and_first false b h = cc
@@ -268,6 +257,16 @@ and_second false b h = cc
 pub not_other : (S : Colour) → same_colour S (other S) ≡ false
 not_other White = refl
 not_other Black = refl
+
+pub not_on : {A : Type 0} → false ≡ true → A
+not_on h = cc
+
+pub fits_on : (due : Colour → List SentLine) (m : Match) (e : Event) → fits_next due m e ≡ true → is_on m.phase ≡ true
+fits_on due m (Line S t n) f = reads_on m.phase S f
+fits_on due m (Opened S n) f = ap is_on (opens_at m.phase S f)
+fits_on due m (OutputEnds S) f = reads_on m.phase S f
+fits_on due m (FailsToRead S) f = reads_on m.phase S f
+fits_on due m (FailsToWrite S) f = and_first (is_on m.phase) _ f
 
 pub event_outcome : (r : Rules) (due : Colour → List SentLine) (m : Match) (e : Event) (P : Match → Type 0)
     → fits_next due m e ≡ true → Events r m e P → P (match_after r m e)

@@ -19,11 +19,11 @@ use Rattle.chess_match.specs.declared.phase.Phase.{Phase}
 use Rattle.chess_match.specs.declared.phase.Phase.TheVariants.{Handshake, Setup, SendTurn, AwaitMove, AwaitPong, Over}
 use Rattle.chess_match.specs.declared.reason.MatchFault.TheVariants.{NoDone}
 use Rattle.chess_match.specs.declared.reason.Reason.TheVariants.{Decided, Faulted}
-use Rattle.chess_match.proofs.MoveLaw.{not_on, mover, mover-snoc, Orderly, orderly_in}
+use Rattle.chess_match.proofs.MoveLaw.{mover, mover-snoc, Orderly, orderly_in}
 use Rattle.chess_match.proofs.OneLaw.{over_stops}
 use Rattle.chess_match.proofs.Orders.{Kept, step}
-use Rattle.chess_match.proofs.Outcomes.{Lines, line_outcome, opens_at, and_first, and_second}
-use Rattle.chess_match.proofs.Going.{offered}
+use Rattle.chess_match.proofs.Outcomes.{Lines, line_outcome, and_first, and_second, not_on}
+use Rattle.chess_match.proofs.Going.{offered, opens_at}
 use Rattle.chess_match.proofs.Seats.{items_played}
 use Rattle.chess_match.specs.ties.Steps.{match_from}
 

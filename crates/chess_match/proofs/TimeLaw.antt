@@ -28,9 +28,9 @@ use Rattle.chess_match.specs.declared.reason.MatchFault.TheVariants.{NoDone, End
 use Rattle.chess_match.specs.declared.reason.Reason.{Reason}
 use Rattle.chess_match.specs.declared.reason.Reason.TheVariants.{Decided, Faulted}
 use Rattle.chess_match.proofs.Blocks.{if_nil}
-use Rattle.chess_match.proofs.Outcomes.{Lines, InTurn, line_outcome, opens_at}
-use Rattle.chess_match.proofs.LinesOfOneKind.{now, gathered, unsent, InOpenings}
-use Rattle.chess_match.proofs.Going.{is_opening, offered, sum-snoc}
+use Rattle.chess_match.proofs.Outcomes.{Lines, InTurn, line_outcome}
+use Rattle.chess_match.proofs.LinesOfOneKind.{now, gathered, unsent}
+use Rattle.chess_match.proofs.Going.{is_opening, offered, opens_at, sum-snoc}
 use Rattle.chess_match.proofs.Seats.{items_used, items_same, used_same}
 use Rattle.chess_match.proofs.Blocks.{told_more}
 
@@ -138,7 +138,8 @@ opening_times own r m S = at (nat_lt 0 (length (seat m S).used))
           append-nil (flat_map (numbers own) (clock_lines r m S)),
         ) (clock_times own r m S)
 
-in_openings : (own : Bool) → InOpenings (numbers own)
+in_openings : (own : Bool) (r : Rules) (m : Match) (S : Colour) (p : Phase) → is_opening p ≡ false
+    → flat_map (numbers own) (entry_to r m S p) ≡ []
 in_openings own r m S (Handshake c) e = at own (same_colour c S)
   where
     at : (own b : Bool) → flat_map (numbers own) (if b then Says (codes "xboard") ∷ Says (codes "protover 2")
@@ -599,7 +600,7 @@ times_so own r S T f =
           start S (Handshake White) refl,
     )
     (gathered (numbers own) (no_text own) r S (λ X m. Times own r S X m) (step own r S)
-    (unsent (numbers own) r S (in_openings own)) (lines_on_entering r start) start T [] f (refl, none S own))
+    (unsent (numbers own) r S (λ r m S p e on. in_openings own r m S p e)) (lines_on_entering r start) start T [] f (refl, none S own))
   where
     none : (S : Colour) (own : Bool) → (seat start (told_of own S)).used ≡ []
     none White true = refl

@@ -33,11 +33,11 @@ use Rattle.chess_match.specs.ties.Steps.{match_from}
 use Rattle.chess_match.specs.ties.TranscriptActs.{acts_from, acts_of, send_act, up_to}
 use Rattle.chess_match.proofs.Blocks.{if_nil, joined_at, joined_block}
 use Rattle.chess_match.proofs.EffectsAgree.{events_agree, over_back, over_same, start_same}
-use Rattle.chess_match.proofs.Going.{reads_on}
+use Rattle.chess_match.proofs.Going.{opens_at, reads_on}
 use Rattle.chess_match.proofs.LastBlocks.{no_write}
 use Rattle.chess_match.proofs.Leading.{more_broken, one_block, unsent, unwritten}
 use Rattle.chess_match.proofs.MatchCases.{both_not, by_cases, on_when_read}
-use Rattle.chess_match.proofs.Outcomes.{and_first, and_second, not_other, opens_at}
+use Rattle.chess_match.proofs.Outcomes.{and_first, and_second, not_other}
 
 -- ---- two blocks
 
@@ -113,8 +113,8 @@ no_lines [] n h = absurd cc
 no_lines (l ∷ x) n h = absurd cc
 
 -- if nothing is due, no write fails
-quiet_fits : (r : Rules) (first : Colour) (M : machine.Match) (T : List Event) → fits_from r (two first [] []) M T ≡ true
-    → (S : Colour) → dropped first T S ≡ false
+quiet_fits : (r : Rules) (first : Colour) (M : machine.Match) (T : List Event)
+    → fits_from r (two first [] []) M T ≡ true → (S : Colour) → dropped first T S ≡ false
 quiet_fits r first M [] f S = refl
 quiet_fits r first M (FailsToWrite d ∷ T) f S =
     no_lines (two first [] [] d) (none_due first d)
@@ -199,8 +199,8 @@ Has H T = ((S : Colour) → lines_read S H ≡ lines_of_engine S T) × ((S : Col
     × ((S : Colour) → has_failed_read S H ≡ has_fault Read S T) × (moments_shown H ≡ moments_of T)
     × ((S : Colour) (o : Option ℕ) → move_times S o H ≡ turn_times S o T)
 
--- these acts follow in the match `m`, where `x` is due for the side `first` and `y` for the other, and end it as `final`
--- for this reason. They are the acts of the events `T`, which follow in the match `M` of the code
+-- these acts follow in the match `m`, where `x` is due for the side `first` and `y` for the other, and end it as
+-- `final` for this reason. They are the acts of the events `T`, which follow in the match `M` of the code
 pub record Told (r : Rules) (reason : Reason) (final : Match) (first : Colour) (x y : List SentLine) (m : Match)
     (M : machine.Match) (H : List Act) (T : List Event) : Type 0 where
   pub fitting : fits_from r (two first x y) M T ≡ true
@@ -385,8 +385,8 @@ module _ (r : Rules) (reason : Reason) (final : Match) (over : final.phase ≡ O
   late_own o apart =
       let b : Block = record { to = first; lines = l ∷ ls } in
       let none : T ≡ [] = t.stops o in
-      let written : is_unwritten reason first ≡ false = is_apart (is_unwritten reason first) (two first (l ∷ ls) y first)
-      l ls (two_first first (l ∷ ls) y) (apart (at_end r reason final m M T over q t.same none) first) in
+      let written : is_unwritten reason first ≡ false =
+      is_apart (is_unwritten reason first) (two first (l ∷ ls) y first) l ls (two_first first (l ∷ ls) y) (apart (at_end r reason final m M T over q t.same none) first) in
       record {
         fitting = fits_own;
         same = t.same;
@@ -641,8 +641,8 @@ stopped : (start : Colour) (T : List Event) (z : List SentLine) (S : Colour) →
 stopped start T z S e = ap (λ (U : List Event). if dropped start U S then [] else z) e
 
 -- the side that an event ends is no side to which a write failed
-event_apart : (r : Rules) (reason : Reason) (due to : Colour → List SentLine) (m : Match) (M : machine.Match) (e : Event)
-    → fits_next due M e ≡ true → m ≡ view (machine.match_after r M e) → ((S : Colour) → is_fault Write S e ≡ false)
+event_apart : (r : Rules) (reason : Reason) (due to : Colour → List SentLine) (m : Match) (M : machine.Match)
+    (e : Event) → fits_next due M e ≡ true → m ≡ view (machine.match_after r M e) → ((S : Colour) → is_fault Write S e ≡ false)
     → Apart reason m to
 event_apart r reason due to m M e f q mild over S un =
     let written : is_unwritten reason S ≡ false = no_write r due M e f reason

@@ -19,10 +19,9 @@ use Rattle.chess_match.specs.declared.phase.Phase.TheVariants.{Handshake, Setup,
 use Rattle.chess_match.specs.declared.reason.MatchFault.TheVariants.{NoDone}
 use Rattle.chess_match.specs.declared.reason.Reason.{Reason}
 use Rattle.chess_match.specs.declared.reason.Reason.TheVariants.{Decided, Faulted}
-use Rattle.chess_match.proofs.MoveLaw.{not_on}
 use Rattle.chess_match.proofs.OneLaw.{over_stops}
-use Rattle.chess_match.proofs.Outcomes.{Lines, InTurn, line_outcome, opens_at, and_first, and_second}
-use Rattle.chess_match.proofs.Going.{offered}
+use Rattle.chess_match.proofs.Outcomes.{Lines, InTurn, line_outcome, and_first, and_second, not_on}
+use Rattle.chess_match.proofs.Going.{offered, opens_at}
 use Rattle.chess_match.proofs.Seats.{items_used, used_same}
 use Rattle.chess_match.specs.ties.Steps.{match_from}
 
