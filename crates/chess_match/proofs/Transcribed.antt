@@ -63,12 +63,6 @@ two_same White to Black = refl
 two_same Black to White = refl
 two_same Black to Black = refl
 
-other_not : (c S : Colour) → same_colour (other c) S ≡ not (same_colour c S)
-other_not White White = refl
-other_not White Black = refl
-other_not Black White = refl
-other_not Black Black = refl
-
 some_lines : (l : SentLine) (ls : List SentLine) → nat_lt 0 (length (l ∷ ls)) ≡ true
 some_lines l ls = grind (arith, nat_tests)
 
@@ -107,22 +101,6 @@ own_kept first (FailsToRead c ∷ T) S h = refl
 
 none_due : (first S : Colour) → two first [] [] S ≡ []
 none_due first S = if_nil (same_colour first S) [] refl
-
-no_lines : {A : Type 0} (x : List SentLine) → x ≡ [] → nat_lt 0 (length x) ≡ true → A
-no_lines [] n h = absurd cc
-no_lines (l ∷ x) n h = absurd cc
-
--- if nothing is due, no write fails
-quiet_fits : (r : Rules) (first : Colour) (M : machine.Match) (T : List Event)
-    → fits_from r (two first [] []) M T ≡ true → (S : Colour) → dropped first T S ≡ false
-quiet_fits r first M [] f S = refl
-quiet_fits r first M (FailsToWrite d ∷ T) f S =
-    no_lines (two first [] [] d) (none_due first d)
-    (and_second (is_on M.phase) _ (and_first (fits_next (two first [] []) M (FailsToWrite d)) _ f))
-quiet_fits r first M (Line c t n ∷ T) f S = refl
-quiet_fits r first M (Opened c n ∷ T) f S = refl
-quiet_fits r first M (OutputEnds c ∷ T) f S = refl
-quiet_fits r first M (FailsToRead c ∷ T) f S = refl
 
 -- what fits if few lines are due fits if more are
 fits_more : (r : Rules) (due more : Colour → List SentLine) (M : machine.Match) (T : List Event)
@@ -178,12 +156,10 @@ none_noted : (first : Colour) → both_notes first (λ S. []) ≡ []
 none_noted first = rw (given_none first, given_none (other first)) refl
 
 -- the note of the only block
-one_noted : (first c : Colour) (l : SentLine) (ls : List SentLine)
-    → both_notes first (λ S. list_if (same_colour c S) (l ∷ ls)) ≡ Gives c (bytes_of (l ∷ ls)) ∷ []
-one_noted White White l ls = rw (given_none Black, ← given_lines White l ls) refl
-one_noted Black Black l ls = rw (given_none White, ← given_lines Black l ls) refl
-one_noted White Black l ls = rw (given_none White, ← given_lines Black l ls) refl
-one_noted Black White l ls = rw (given_none Black, ← given_lines White l ls) refl
+one_noted : (c : Colour) (l : SentLine) (ls : List SentLine)
+    → both_notes c (λ S. list_if (same_colour c S) (l ∷ ls)) ≡ Gives c (bytes_of (l ∷ ls)) ∷ []
+one_noted White l ls = rw (given_none Black, ← given_lines White l ls) refl
+one_noted Black l ls = rw (given_none White, ← given_lines Black l ls) refl
 
 -- the first block, and what comes after it
 more_noted : (first : Colour) (l : SentLine) (ls : List SentLine) (f g : Colour → List SentLine) → f first ≡ l ∷ ls
@@ -265,13 +241,6 @@ given_own true true ls y G R h e = let no : true ≡ false = h refl in absurd cc
 given_own true false ls y G R h e = ap (λ (l : List SentLine). ls ++ l) e
 given_own false d ls y G R h e = e
 
-given_other : (b d : Bool) (ls G R : List SentLine) → d ≡ false
-    → G ≡ (if d then [] else (if b then [] else [])) ++ R → list_if (not b) ls ++ G
-    ≡ (if d then [] else (if b then [] else ls)) ++ R
-given_other b true ls G R h e = absurd cc
-given_other true false ls G R h e = e
-given_other false false ls G R h e = ap (λ (l : List SentLine). ls ++ l) e
-
 -- the first side's lines in front of what is kept
 kept_own : (reason : Reason) (first : Colour) (l : SentLine) (ls y : List SentLine) (T : List Event) (H : List Act)
     (N : List Note) → notes_given reason H ≡ both_notes first (kept first T (two first [] y)) ++ N
@@ -286,26 +255,6 @@ kept_own reason first l ls y T H N e =
     (ap (λ (b : Bool). if b then [] else two first [] y first) own ∙ two_first first [] y)
     (ap (λ (z : List SentLine). if dropped first T (other first) then [] else z)
     (two_other first (l ∷ ls) y ∙ sym (two_other first [] y))))
-
--- the other's lines alone
-kept_other : (reason : Reason) (first : Colour) (k : SentLine) (ks : List SentLine) (T : List Event) (H : List Act)
-    (N : List Note) → ((S : Colour) → dropped first T S ≡ false)
-    → notes_given reason H ≡ both_notes first (kept first T (two first [] [])) ++ N
-    → Gives (other first) (bytes_of (k ∷ ks)) ∷ notes_given reason H
-    ≡ both_notes first (kept first T (two first [] (k ∷ ks))) ++ N
-kept_other reason first k ks T H N none e =
-    ap (λ (n : List Note). Gives (other first) (bytes_of (k ∷ ks)) ∷ n) (e
-    ∙ ap (λ (n : List Note). n ++ N) (both_same first (kept first T (two first [] [])) (λ S. [])
-    (λ S. ap (λ (b : Bool). if b then [] else two first [] [] S) (none S) ∙ if_nil (same_colour first S) [] refl)
-    ∙ none_noted first))
-    ∙ ap (λ (n : List Note). n ++ N) (sym (one_noted first (other first) k ks)
-    ∙ both_same first (λ S. list_if (same_colour (other first) S) (k ∷ ks)) (kept first T (two first [] (k ∷ ks)))
-    (λ S. ap (λ (b : Bool). list_if b (k ∷ ks)) (other_not first S) ∙ turned (same_colour first S)
-    ∙ sym (ap (λ (b : Bool). if b then [] else two first [] (k ∷ ks) S) (none S))))
-  where
-    turned : (b : Bool) → list_if (not b) (k ∷ ks) ≡ (if b then [] else k ∷ ks)
-    turned true = refl
-    turned false = refl
 
 -- ---- a block of the end fails
 
@@ -407,75 +356,60 @@ module _ (r : Rules) (reason : Reason) (final : Match) (over : final.phase ≡ O
             ∙ kept_own reason first l ls y T H (notes_from r M T) t.notes;
       }
 
--- a block is the other's, and no more is due
-module _ (r : Rules) (reason : Reason) (final : Match) (over : final.phase ≡ Over reason) (first : Colour)
-    (k : SentLine) (ks : List SentLine) (m : Match) (M : machine.Match) (q : m ≡ view M) (H : List Act)
-    (T : List Event) (t : Told r reason final first [] [] m M H T) where
-  undropped : (S : Colour) → dropped first T S ≡ false
-  undropped S = quiet_fits r first M T t.fitting S
+-- what is due for the other alone, seen from there
+turned : (c : Colour) (y : List SentLine) (S : Colour) → two (other c) y [] S ≡ two c [] y S
+turned White y White = refl
+turned White y Black = refl
+turned Black y White = refl
+turned Black y Black = refl
 
-  fits_other : fits_from r (two first [] (k ∷ ks)) M T ≡ true
-  fits_other = fits_more r (two first [] []) (two first [] (k ∷ ks)) M T
-      (λ S h. no_lines (two first [] [] S) (none_due first S) h) t.fitting
+kept_turned : (c : Colour) (y : List SentLine) (T : List Event) (S : Colour)
+    → ((d : Colour) (U : List Event) → T ≡ FailsToWrite d ∷ U → same_colour c d ≡ false)
+    → kept (other c) T (two (other c) y []) S ≡ kept c T (two c [] y) S
+kept_turned c y [] S f = turned c y S
+kept_turned c y (FailsToWrite d ∷ T) S f = at c d S (f d T refl)
+  where
+    at : (c d S : Colour) → same_colour c d ≡ false
+        → kept (other c) (FailsToWrite d ∷ T) (two (other c) y []) S ≡ kept c (FailsToWrite d ∷ T) (two c [] y) S
+    at White Black White e = refl
+    at White Black Black e = refl
+    at Black White White e = refl
+    at Black White Black e = refl
+    at White White S e = cc
+    at Black Black S e = cc
+kept_turned c y (Line b t n ∷ T) S f = turned c y S
+kept_turned c y (Opened b n ∷ T) S f = turned c y S
+kept_turned c y (OutputEnds b ∷ T) S f = turned c y S
+kept_turned c y (FailsToRead b ∷ T) S f = turned c y S
 
-  told_other : (S : Colour) → list_if (same_colour (other first) S) (k ∷ ks) ++ lines_given S H
-      ≡ kept first T (two first [] (k ∷ ks)) S ++ joined_blocks (blocks_at_all r S M T)
-  told_other S = ap (λ (b : Bool). list_if b (k ∷ ks) ++ lines_given S H) (other_not first S)
-      ∙ given_other (same_colour first S) (dropped first T S) (k ∷ ks) (lines_given S H)
-      (joined_blocks (blocks_at_all r S M T)) (undropped S) (t.given S)
+noted_turned : (c : Colour) (g : Colour → List SentLine) → g c ≡ [] → both_notes (other c) g ≡ both_notes c g
+noted_turned White g e = rw (e, given_none White) (append-nil (given_note Black (bytes_of (g Black))))
+noted_turned Black g e = rw (e, given_none Black) (append-nil (given_note White (bytes_of (g White))))
 
-  no_failure : (d : Colour) (U : List Event) → T ≡ FailsToWrite d ∷ U → same_colour (other first) d ≡ false
-  no_failure d U e = let g : fits_from r (two first [] []) M (FailsToWrite d ∷ U) ≡ true =
-      subst (λ (V : List Event). fits_from r (two first [] []) M V ≡ true) e t.fitting in
-      no_lines (two first [] [] d) (none_due first d)
-      (and_second (is_on M.phase) _ (and_first (fits_next (two first [] []) M (FailsToWrite d)) _ g))
-
-  sent_other : Told r reason final first [] (k ∷ ks) m M (Sends (record { to = other first; lines = k ∷ ks }) ∷ H) T
-  sent_other = record {
-    fitting = fits_other;
-    same = t.same;
-    stops = t.stops;
-    quiet = λ o S none. t.quiet o S (none_due first S);
-    failing = t.failing;
-    acts = λ failed e. acts_sent r failed m (record { to = other first; lines = k ∷ ks }) [] H T
-        (λ n. e (other first) ∙ t.quiet (ap is_over (at_end r reason final m M T over q t.same n)) (other first)
-        (none_due first (other first))) no_failure (t.acts failed e);
-    has = t.has;
-    given = told_other;
-    notes = kept_other reason first k ks T H (notes_from r M T) undropped t.notes;
-  }
-
-  late_other : is_over m.phase ≡ true → Apart reason m (two first [] (k ∷ ks))
-      → Told r reason final first [] (k ∷ ks) m M (SendFails (record { to = other first; lines = k ∷ ks }) ∷ H) T
-  late_other o apart =
-      let b : Block = record { to = other first; lines = k ∷ ks } in
-      let none : T ≡ [] = t.stops o in
-      let written : is_unwritten reason (other first) ≡ false = is_apart (is_unwritten reason (other first))
-      (two first [] (k ∷ ks) (other first)) k ks (two_other first [] (k ∷ ks))
-      (apart (at_end r reason final m M T over q t.same none) (other first)) in
-      record {
-        fitting = fits_other;
-        same = t.same;
-        stops = t.stops;
-        quiet = λ h S n. more_broken b H S
-            ∙ ap (λ (x : Bool). x || is_broken H S) (other_not first S)
-            ∙ turned (same_colour first S) (is_broken H S) n (t.quiet h S (none_due first S));
-        failing = λ S h. more_broken b H S ∙ or_more (same_colour (other first) S) (is_broken H S) (t.failing S h);
-        acts = λ failed e.
-            subst (λ (U : List Event). SendFails b ∷ H ≡ acts_from r failed m (both_due first [] (k ∷ ks)) U) (sym none)
-            (late_acts failed b [] H (e (other first) ∙ broken_own b H)
-            (subst (λ (U : List Event). H ≡ acts_from r (is_broken H) m (both_due first [] []) U) none
-            (t.acts (is_broken H) (λ S. refl))));
-        has = t.has;
-        given = told_other;
-        notes = ap (λ (x : Bool). Gives (other first) (bytes_of (k ∷ ks))
-            ∷ (list_if x (Happened (FailsToWrite (other first)) ∷ []) ++ notes_given reason H)) written
-            ∙ kept_other reason first k ks T H (notes_from r M T) undropped t.notes;
-      }
-    where
-      turned : (b w : Bool) → (if b then [] else k ∷ ks) ≡ [] → w ≡ false → (not b || w) ≡ false
-      turned true w n h = h
-      turned false w n h = absurd cc
+swapped : (r : Rules) (reason : Reason) (final : Match) (c : Colour) (y : List SentLine) (m : Match)
+    (M : machine.Match) (H : List Act) (T : List Event) → Told r reason final (other c) y [] m M H T
+    → Told r reason final c [] y m M H T
+swapped r reason final c y m M H T t =
+    let fits : fits_from r (two c [] y) M T ≡ true = fits_more r (two (other c) y []) (two c [] y) M T
+    (λ S h. ap (λ (z : List SentLine). nat_lt 0 (length z)) (sym (turned c y S)) ∙ h) t.fitting in
+    let keeps : (S : Colour) → kept (other c) T (two (other c) y []) S ≡ kept c T (two c [] y) S =
+    λ S. kept_turned c y T S (λ d U e. not_first r c d y M T U fits e) in
+    record {
+      fitting = fits;
+      same = t.same;
+      stops = t.stops;
+      quiet = λ o S n. t.quiet o S (turned c y S ∙ n);
+      failing = t.failing;
+      acts = λ failed e. t.acts failed e
+          ∙ ap (λ (bs : List Block). acts_from r failed m bs T) (append-nil (block_of (other c) y));
+      has = t.has;
+      given = λ S. t.given S
+          ∙ ap (λ (z : List SentLine). z ++ joined_blocks (blocks_at_all r S M T)) (keeps S);
+      notes = t.notes ∙ ap (λ (n : List Note). n ++ notes_from r M T)
+          (both_same (other c) (kept (other c) T (two (other c) y [])) (kept c T (two c [] y)) keeps
+          ∙ noted_turned c (kept c T (two c [] y))
+          (if_nil (dropped c T c) (two c [] y c) (two_first c [] y)));
+    }
 
 -- ---- a write fails in a match that is on
 
@@ -492,23 +426,27 @@ if_so : (b : Bool) (x z : List SentLine) → (if b then [] else x) ≡ z → (if
 if_so true x z h = refl
 if_so false x z h = h
 
-told_failure : (r : Rules) (reason : Reason) (final : Match) (over : final.phase ≡ Over reason) (first c : Colour)
-    (x y : List SentLine) (l : SentLine) (ls : List SentLine) (due : List Block) (m : Match) (M : machine.Match)
-    (H : List Act) → m ≡ view M → (is_on M.phase ≡ true → M.unsent_to ≡ owed_in M.phase) → is_over m.phase ≡ false
-    → two first x y c ≡ l ∷ ls → both_due first x y ≡ record { to = c; lines = l ∷ ls } ∷ due
-    → ((S : Colour) → kept first (FailsToWrite c ∷ []) (two first x y) S ≡ list_if (same_colour c S) (l ∷ ls))
+own_keeps : (first : Colour) (x y : List SentLine) (S : Colour)
+    → kept first (FailsToWrite first ∷ []) (two first x y) S ≡ list_if (same_colour first S) x
+own_keeps White x y White = refl
+own_keeps White x y Black = refl
+own_keeps Black x y White = refl
+own_keeps Black x y Black = refl
+
+told_failure : (r : Rules) (reason : Reason) (final : Match) (over : final.phase ≡ Over reason) (c : Colour)
+    (l : SentLine) (ls y : List SentLine) (m : Match) (M : machine.Match) (H : List Act) → m ≡ view M → (is_on M.phase ≡ true → M.unsent_to ≡ owed_in M.phase) → is_over m.phase ≡ false
     → (let u = effect r m (FailsToWrite c) in
     Told r reason final White (u.to White) (u.to Black) u.after (machine.match_after r M (FailsToWrite c)) H [])
-    → Told r reason final first x y m M (SendFails (record { to = c; lines = l ∷ ls }) ∷ H) (FailsToWrite c ∷ [])
-told_failure r reason final over first c x y l ls due m M H q owed on some head keeps t =
+    → Told r reason final c (l ∷ ls) y m M (SendFails (record { to = c; lines = l ∷ ls }) ∷ H) (FailsToWrite c ∷ [])
+told_failure r reason final over c l ls y m M H q owed on t =
     let b : Block = record { to = c; lines = l ∷ ls } in
     let u : Effect = effect r m (FailsToWrite c) in
     let M' : machine.Match = machine.match_after r M (FailsToWrite c) in
     let is_open : is_on M.phase ≡ true = on_back M m q on in
-    let g : fits_next (two first x y) M (FailsToWrite c) ≡ true = both_so (is_on M.phase) _ is_open
-    (ap (λ (z : List SentLine). nat_lt 0 (length z)) some ∙ some_lines l ls) in
+    let g : fits_next (two c (l ∷ ls) y) M (FailsToWrite c) ≡ true = both_so (is_on M.phase) _ is_open
+    (ap (λ (z : List SentLine). nat_lt 0 (length z)) (two_first c (l ∷ ls) y) ∙ some_lines l ls) in
     let agrees : Agrees r M M' u = subst (λ (n : Match). Agrees r M M' (effect r n (FailsToWrite c))) (sym q)
-    (events_agree r (two first x y) M (FailsToWrite c) g (owed is_open)) in
+    (events_agree r (two c (l ∷ ls) y) M (FailsToWrite c) g (owed is_open)) in
     let un : is_unwritten reason c ≡ true =
     unwritten c reason (sym (ap (λ (n : Match). n.phase) t.same) ∙ over) in
     let sent : (S : Colour) → two White (u.to White) (u.to Black) S
@@ -516,31 +454,30 @@ told_failure r reason final over first c x y l ls due m M H q owed on some head 
     λ S. two_same White u.to S
     ∙ if_so (same_colour c S) (farewell r m (Faulted c Write) S) (block r M M' S) (agrees.to S) in
     record {
-      fitting = both_so (fits_next (two first x y) M (FailsToWrite c)) true g refl;
+      fitting = both_so (fits_next (two c (l ∷ ls) y) M (FailsToWrite c)) true g refl;
       same = t.same;
       stops = λ o. both_not (is_over m.phase) on o;
       quiet = λ o. both_not (is_over m.phase) on o;
       failing = λ S h. more_broken b H S ∙ either (same_colour c S) (is_broken H S) h;
       acts = λ failed e. ap (λ (bs : List Act). SendFails b ∷ bs) (t.acts (is_broken H) (λ S. refl)
           ∙ end_sends c u.to (is_broken H) failed (unsent r m c) (sym (e (other c) ∙ broken_other b H)))
-          ∙ sym (ap (λ (bs : List Block). up_to c bs ++ map (λ b. send_act failed b) (blocks_from White u.to)) head
-          ∙ ap (λ (z : Bool). (if z then SendFails b ∷ [] else Sends b ∷ up_to c due)
+          ∙ sym (ap (λ (z : Bool). (if z then SendFails b ∷ [] else Sends b ∷ up_to c (block_of (other c) y))
           ++ map (λ b. send_act failed b) (blocks_from White u.to)) (same_colour-self c));
       has = t.has;
       given = λ S. ap (λ (z : List SentLine). list_if (same_colour c S) (l ∷ ls) ++ z)
           (t.given S ∙ ap (λ (z : List SentLine). z ++ []) (sent S)
           ∙ sym (joined_at (same_colour c S) (block r M M' S) []))
           ∙ ap (λ (z : List SentLine). z ++ joined_blocks (block_at r M (FailsToWrite c) [] S ++ []))
-          (sym (keeps S));
+          (sym (own_keeps c (l ∷ ls) y S));
       notes = ap (λ (z : Bool). Gives c (bytes_of (l ∷ ls))
           ∷ (list_if z (Happened (FailsToWrite c) ∷ []) ++ notes_given reason H)) un
           ∙ ap (λ (n : List Note). Gives c (bytes_of (l ∷ ls)) ∷ Happened (FailsToWrite c) ∷ n)
           (t.notes ∙ ap (λ (n : List Note). n ++ []) (both_same White (kept White []
           (two White (u.to White) (u.to Black))) (λ S. joined_blocks (block_at r M (FailsToWrite c) [] S))
           (λ S. sent S ∙ sym (joined_block (same_colour c S) (block r M M' S)))))
-          ∙ ap (λ (n : List Note). n ++ notes_from r M (FailsToWrite c ∷ [])) (sym (one_noted first c l ls)
-          ∙ both_same first (λ S. list_if (same_colour c S) (l ∷ ls))
-          (kept first (FailsToWrite c ∷ []) (two first x y)) (λ S. sym (keeps S)));
+          ∙ ap (λ (n : List Note). n ++ notes_from r M (FailsToWrite c ∷ [])) (sym (one_noted c l ls)
+          ∙ both_same c (λ S. list_if (same_colour c S) (l ∷ ls))
+          (kept c (FailsToWrite c ∷ []) (two c (l ∷ ls) y)) (λ S. sym (own_keeps c (l ∷ ls) y S)));
     }
   where
     either : (a w : Bool) → a || false ≡ true → (a || w) ≡ true
@@ -554,20 +491,6 @@ told_failure r reason final over first c x y l ls due m M H q owed on some head 
         so : (b : Bool) → not b ≡ false → b ≡ true
         so true h = refl
         so false h = cc
-
-own_keeps : (first : Colour) (x y : List SentLine) (S : Colour)
-    → kept first (FailsToWrite first ∷ []) (two first x y) S ≡ list_if (same_colour first S) x
-own_keeps White x y White = refl
-own_keeps White x y Black = refl
-own_keeps Black x y White = refl
-own_keeps Black x y Black = refl
-
-other_keeps : (first : Colour) (y : List SentLine) (S : Colour)
-    → kept first (FailsToWrite (other first) ∷ []) (two first [] y) S ≡ list_if (same_colour (other first) S) y
-other_keeps White y White = refl
-other_keeps White y Black = refl
-other_keeps Black y White = refl
-other_keeps Black y Black = refl
 
 -- ---- what comes in
 
@@ -678,18 +601,20 @@ on_then r reason final m H k first x y M e q owed apart =
     (subst (λ (z : List SentLine). (T : List Event) × Told r reason final first [] z m M H T) (sym none.1)
     (k first M q owed))
 
-told_block : (r : Rules) (reason : Reason) (final : Match) → final.phase ≡ Over reason → (late : Bool) (m : Match)
-    (b : Block) (due : List Block) (H : List Act) → (late ≡ true → is_over m.phase ≡ true)
+-- a block is sent, or it fails late, where it is the first's
+told_first : (r : Rules) (reason : Reason) (final : Match) → final.phase ≡ Over reason → (late : Bool) (first : Colour)
+    (l : SentLine) (ls y : List SentLine) (m : Match) (M : machine.Match) (due : List Block) (H : List Act)
+    → (late ≡ true → is_over m.phase ≡ true) → due ≡ block_of (other first) y → m ≡ view M
+    → (is_on M.phase ≡ true → M.unsent_to ≡ owed_in M.phase) → Apart reason m (two first (l ∷ ls) y)
     → Tells r reason final m due H
-    → Tells r reason final m (b ∷ due) ((if late then SendFails b else Sends b) ∷ H)
-told_block r reason final over late m b due H is p first [] [] M e q owed apart = absurd cc
-told_block r reason final over late m b due H is p first (l ∷ ls) y M e q owed apart =
-    let own : record { to = first; lines = l ∷ ls } ≡ b = cc in
-    let rest : due ≡ both_due first [] y = cc in
-    let (T, t) = p first [] y M rest q owed (λ o S u. less (same_colour first S) (apart o S u)) in
-    subst (λ (c : Block). (T : List Event)
-    × Told r reason final first (l ∷ ls) y m M ((if late then SendFails c else Sends c) ∷ H) T) own
-    (T, at late is t)
+    → (T : List Event) × Told r reason final first (l ∷ ls) y m M ((if late then SendFails (record {
+      to = first;
+      lines = l ∷ ls;
+    }) else Sends (record { to = first; lines = l ∷ ls })) ∷ H) T
+told_first r reason final over late first l ls y m M due H is e q owed apart p =
+    let (T, t) = p (other first) y [] M (e ∙ sym (append-nil (block_of (other first) y))) q owed
+    (λ o S u. turned first y S ∙ less (same_colour first S) (apart o S u)) in
+    (T, at late is (swapped r reason final first y m M H T t))
   where
     less : (x : Bool) → (if x then l ∷ ls else y) ≡ [] → (if x then [] else y) ≡ []
     less true h = refl
@@ -700,19 +625,47 @@ told_block r reason final over late m b due H is p first (l ∷ ls) y M e q owed
         (record { to = first; lines = l ∷ ls }) else Sends (record { to = first; lines = l ∷ ls })) ∷ H) T
     at true is {T} t = late_own r reason final over first l ls y m M q H T t (is refl) apart
     at false is {T} t = sent_own r reason final over first l ls y m M q H T t
+
+-- a write of it fails
+told_breaks : (r : Rules) (reason : Reason) (final : Match) → final.phase ≡ Over reason → (c : Colour) (l : SentLine)
+    (ls y : List SentLine) (m : Match) (M : machine.Match) (H : List Act) → is_over m.phase ≡ false → m ≡ view M
+    → (is_on M.phase ≡ true → M.unsent_to ≡ owed_in M.phase)
+    → Tells r reason final (effect r m (FailsToWrite c)).after (blocks_from White (effect r m (FailsToWrite c)).to) H
+    → (T : List Event) × Told r reason final c (l ∷ ls) y m M (SendFails (record { to = c; lines = l ∷ ls }) ∷ H) T
+told_breaks r reason final over c l ls y m M H on q owed p =
+    let u : Effect = effect r m (FailsToWrite c) in
+    let (T, t) = p White (u.to White) (u.to Black) (machine.match_after r M (FailsToWrite c)) refl
+    (ap (λ (n : Match). (effect r n (FailsToWrite c)).after) q) (λ o. cc)
+    (λ o S un. two_same White u.to S ∙ quiet S (let same : Faulted c Write ≡ reason = cc in
+    ap (λ (x : Reason). is_unwritten x S) same ∙ un)) in (
+      FailsToWrite c ∷ [],
+      told_failure r reason final over c l ls y m M H q owed on
+          (subst (λ (U : List Event). Told r reason final White (u.to White) (u.to Black) u.after
+          (machine.match_after r M (FailsToWrite c)) H U) (t.stops refl) t),
+    )
+  where
+    quiet : (S : Colour) → same_colour c S ≡ true → (effect r m (FailsToWrite c)).to S ≡ []
+    quiet S h = subst (λ (X : Colour). (effect r m (FailsToWrite c)).to X ≡ []) (same_colour-true c S h) (unsent r m c)
+
+told_block : (r : Rules) (reason : Reason) (final : Match) → final.phase ≡ Over reason → (late : Bool) (m : Match)
+    (b : Block) (due : List Block) (H : List Act) → (late ≡ true → is_over m.phase ≡ true)
+    → Tells r reason final m due H
+    → Tells r reason final m (b ∷ due) ((if late then SendFails b else Sends b) ∷ H)
+told_block r reason final over late m b due H is p first [] [] M e q owed apart = absurd cc
+told_block r reason final over late m b due H is p first (l ∷ ls) y M e q owed apart =
+    let own : record { to = first; lines = l ∷ ls } ≡ b = cc in
+    let rest : due ≡ block_of (other first) y = cc in
+    subst (λ (c : Block). (T : List Event)
+    × Told r reason final first (l ∷ ls) y m M ((if late then SendFails c else Sends c) ∷ H) T) own
+    (told_first r reason final over late first l ls y m M due H is rest q owed apart p)
 told_block r reason final over late m b due H is p first [] (k ∷ ks) M e q owed apart =
     let own : record { to = other first; lines = k ∷ ks } ≡ b = cc in
-    let rest : due ≡ both_due first [] [] = cc in
-    let (T, t) = p first [] [] M rest q owed (λ o S u. none_due first S) in
+    let rest : due ≡ [] = cc in
+    let (T, t) = told_first r reason final over late (other first) k ks [] m M due H is rest q owed
+    (λ o S u. turned first (k ∷ ks) S ∙ apart o S u) p in
     subst (λ (c : Block). (T : List Event)
     × Told r reason final first [] (k ∷ ks) m M ((if late then SendFails c else Sends c) ∷ H) T) own
-    (T, at late is t)
-  where
-    at : (late : Bool) → (late ≡ true → is_over m.phase ≡ true) → {T : List Event}
-        → Told r reason final first [] [] m M H T → Told r reason final first [] (k ∷ ks) m M ((if late then SendFails
-        (record { to = other first; lines = k ∷ ks }) else Sends (record { to = other first; lines = k ∷ ks })) ∷ H) T
-    at true is {T} t = late_other r reason final over first k ks m M q H T t (is refl) apart
-    at false is {T} t = sent_other r reason final over first k ks m M q H T t
+    (T, swapped r reason final first (k ∷ ks) m M _ T t)
 
 told_fails : (r : Rules) (reason : Reason) (final : Match) → final.phase ≡ Over reason → (m : Match) (b : Block)
     (due : List Block) (H : List Act) → is_over m.phase ≡ false
@@ -721,46 +674,23 @@ told_fails : (r : Rules) (reason : Reason) (final : Match) → final.phase ≡ O
     → Tells r reason final m (b ∷ due) (SendFails b ∷ H)
 told_fails r reason final over m b due H on p first x y M e q owed apart = at x y e
   where
-    ended : (c : Colour) → Tells r reason final (effect r m (FailsToWrite c)).after
-        (blocks_from White (effect r m (FailsToWrite c)).to) H
-        → (let u = effect r m (FailsToWrite c) in Told r reason final White (u.to White) (u.to Black) u.after
-        (machine.match_after r M (FailsToWrite c)) H [])
-    ended c p =
-        let u : Effect = effect r m (FailsToWrite c) in
-        let (T, t) = p White (u.to White) (u.to Black) (machine.match_after r M (FailsToWrite c)) refl
-        (ap (λ (n : Match). (effect r n (FailsToWrite c)).after) q) (λ o. cc)
-        (λ o S un. two_same White u.to S ∙ quiet c S (let same : Faulted c Write ≡ reason = cc in
-        ap (λ (x : Reason). is_unwritten x S) same ∙ un)) in
-        subst (λ (U : List Event). Told r reason final White (u.to White) (u.to Black) u.after
-        (machine.match_after r M (FailsToWrite c)) H U) (t.stops refl) t
-      where
-        quiet : (c S : Colour) → same_colour c S ≡ true → (effect r m (FailsToWrite c)).to S ≡ []
-        quiet c S h = subst (λ (X : Colour). (effect r m (FailsToWrite c)).to X ≡ []) (same_colour-true c S h)
-            (unsent r m c)
-
-    found : (c : Colour) (x y : List SentLine) (l : SentLine) (ls : List SentLine) (rest : List Block)
-        → record { to = c; lines = l ∷ ls } ≡ b → two first x y c ≡ l ∷ ls
-        → both_due first x y ≡ record { to = c; lines = l ∷ ls } ∷ rest
-        → ((S : Colour) → kept first (FailsToWrite c ∷ []) (two first x y) S ≡ list_if (same_colour c S) (l ∷ ls))
-        → (T : List Event) × Told r reason final first x y m M (SendFails b ∷ H) T
-    found c x y l ls rest own some head keeps =
-        subst (λ (d : Block). (T : List Event) × Told r reason final first x y m M (SendFails d ∷ H) T) own (
-          FailsToWrite c ∷ [],
-          told_failure r reason final over first c x y l ls rest m M H q owed on some head keeps
-              (ended c (subst (λ (d : Block). Tells r reason final (effect r m (FailsToWrite d.to)).after
-              (blocks_from White (effect r m (FailsToWrite d.to)).to) H) (sym own) p)),
-        )
+    broken : (c : Block) → c ≡ b → Tells r reason final (effect r m (FailsToWrite c.to)).after
+        (blocks_from White (effect r m (FailsToWrite c.to)).to) H
+    broken c e = subst (λ (d : Block). Tells r reason final (effect r m (FailsToWrite d.to)).after
+        (blocks_from White (effect r m (FailsToWrite d.to)).to) H) (sym e) p
 
     at : (x y : List SentLine) → (b ∷ due) ≡ both_due first x y
         → (T : List Event) × Told r reason final first x y m M (SendFails b ∷ H) T
     at [] [] e = absurd cc
     at (l ∷ ls) y e =
         let own : record { to = first; lines = l ∷ ls } ≡ b = cc in
-        found first (l ∷ ls) y l ls (block_of (other first) y) own (two_first first (l ∷ ls) y) refl
-        (own_keeps first (l ∷ ls) y)
+        subst (λ (d : Block). (T : List Event) × Told r reason final first (l ∷ ls) y m M (SendFails d ∷ H) T) own
+        (told_breaks r reason final over first l ls y m M H on q owed (broken _ own))
     at [] (k ∷ ks) e =
         let own : record { to = other first; lines = k ∷ ks } ≡ b = cc in
-        found (other first) [] (k ∷ ks) k ks [] own (two_other first [] (k ∷ ks)) refl (other_keeps first (k ∷ ks))
+        let (T, t) = told_breaks r reason final over (other first) k ks [] m M H on q owed (broken _ own) in
+        subst (λ (d : Block). (T : List Event) × Told r reason final first [] (k ∷ ks) m M (SendFails d ∷ H) T) own
+        (T, swapped r reason final first (k ∷ ks) m M _ T t)
 
 -- a line
 told_line : (r : Rules) (reason : Reason) (final m : Match) (S : Colour) (text : Option (List ℕ)) (n : ℕ)
