@@ -1,4 +1,5 @@
 -- What passed at a desk, step by step, and what each device then did in a whole match.
+use native.Mathlib.Omega.{arith}
 use Rattle.std.proofs.Common.{◌≡◌, ℕ, Bool, true, false, List, [], ◌∷◌, ◌++◌, refl, ap, sym, ◌∙◌, subst, append_assoc, append-nil, Option, None, Some, Result, Ok, Err}
 use Rattle.std.specs.Prelude.{if◌then◌else◌}
 use Rattle.byte_devices.specs.Devices.{InputState, OutputState}
@@ -132,24 +133,15 @@ clock_moves ports held coming coming' witness names c n h =
 -- ---- an engine's pipe
 
 either : (P : Colour → Type 0) (S : Colour) → P S → P (other S) → (X : Colour) → P X
-either P White a b White = a
-either P White a b Black = b
-either P Black a b White = b
-either P Black a b Black = a
+either P S h1 h2 X = grind arith
 
 writes_own : (S : Colour) (failed : Bool) (lines : List SentLine) (w w' : OutputState)
     → SendsIf failed w w' (bytes_of lines) → WritesAt S (sending failed (record { to = S; lines = lines })) w w'
-writes_own White true lines w w' h = h
-writes_own White false lines w w' h = h
-writes_own Black true lines w w' h = h
-writes_own Black false lines w w' h = h
+writes_own S failed lines w w' h1 = grind arith
 
 writes_other : (S : Colour) (failed : Bool) (lines : List SentLine) (w w' : OutputState) → w' ≡ w
     → WritesAt (other S) (sending failed (record { to = S; lines = lines })) w w'
-writes_other White true lines w w' h = h
-writes_other White false lines w w' h = h
-writes_other Black true lines w w' h = h
-writes_other Black false lines w w' h = h
+writes_other S failed lines w w' h1 = grind arith
 
 reads_nothing : (S X : Colour) (failed : Bool) (lines : List SentLine) (r r' : InputState) (h : Held) → r' ≡ r
     → OutputAt X (sending failed (record { to = S; lines = lines })) r r' h h

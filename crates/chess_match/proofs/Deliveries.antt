@@ -1,4 +1,5 @@
 -- The blocks of an event, sent one after the other.
+use native.Mathlib.Omega.{arith}
 use Rattle.std.proofs.Common.{◌≡◌, ◌<◌, Bool, true, false, not, ◌&&◌, ◌||◌, List, [], ◌∷◌, ◌++◌, length, refl, ap, sym, ◌∙◌, subst, append_assoc, append-nil}
 use Rattle.chess_base.specs.declared.man.Colour.{Colour}
 use Rattle.chess_base.specs.declared.man.Colour.TheVariants.{White, Black}
@@ -50,35 +51,14 @@ failure_agrees r m S on owed = events_agree r (λ X. Says [] ∷ []) m (FailsToW
 -- ---- who failed
 
 last_failed : (w b : Bool) (S : Colour) → (only w White S || only b Black S) ≡ by_colour w b S
-last_failed true true White = refl
-last_failed true true Black = refl
-last_failed true false White = refl
-last_failed true false Black = refl
-last_failed false true White = refl
-last_failed false true Black = refl
-last_failed false false White = refl
-last_failed false false Black = refl
+last_failed w b S = grind arith
 
 first_failed : (c : Colour) (f : Bool) (S : Colour) → (same_colour c S || only f (other c) S) ≡ by_turn c true f S
-first_failed White true White = refl
-first_failed White true Black = refl
-first_failed White false White = refl
-first_failed White false Black = refl
-first_failed Black true White = refl
-first_failed Black true Black = refl
-first_failed Black false White = refl
-first_failed Black false Black = refl
+first_failed c f S = grind arith
 
 second_failed : (c : Colour) (f : Bool) (S : Colour)
     → (none S || (same_colour (other c) S || only f (other (other c)) S)) ≡ by_turn c f true S
-second_failed White true White = refl
-second_failed White true Black = refl
-second_failed White false White = refl
-second_failed White false Black = refl
-second_failed Black true White = refl
-second_failed Black true Black = refl
-second_failed Black false White = refl
-second_failed Black false Black = refl
+second_failed c f S = grind arith
 
 none_failed : (S : Colour) → (none S || none S) ≡ by_colour false false S
 none_failed White = refl

@@ -1,4 +1,5 @@
 -- The effects of events are what the code does, row by row.
+use native.Mathlib.Omega.{arith}
 use Rattle.std.proofs.Common.{◌≡◌, ℕ, ◌+◌, ◌-◌, Bool, true, false, not, List, [], ◌∷◌, ◌++◌, length, refl, ap, sym, ◌∙◌, subst, Option, None, Some}
 use Rattle.std.specs.Option.{option_map_or}
 use Rattle.std.specs.Prelude.{if◌then◌else◌, nat_lt, nat_le, ◌==◌, codes}
@@ -129,20 +130,12 @@ agree_over r m m' reason n e u b = subst (λ (n : Match). Agrees r m (machine.ov
     })
 
 not_opening : (p : MachinePhase) (S : Colour) → is_on p ≡ true → is_same_phase p (phases.SendTurn S) ≡ false
-not_opening (phases.Handshake c) S h = refl
-not_opening (phases.Setup c) S h = refl
-not_opening (phases.SendTurn c) S h = refl
-not_opening (phases.AwaitMove c) S h = refl
-not_opening (phases.AwaitPong c) S h = refl
-not_opening (phases.Over x) S h = cc
+not_opening p S h1 = grind arith
 
 -- to one side
 to_side : (S S' : Colour) (f : Colour → List SentLine) → list_if (same_colour S S') (f S)
     ≡ list_if (same_colour S S') (f S')
-to_side White White f = refl
-to_side White Black f = refl
-to_side Black White f = refl
-to_side Black Black f = refl
+to_side S S' f = grind arith
 
 opening_same : (r : Rules) (m : machine.Match) (S : Colour) → opening r (view m) S ≡ opening_lines r m S
 unfolding opening_lines clock_lines last_move_sent
@@ -150,11 +143,7 @@ opening_same r m S = refl
 
 draw_same : (t : Bool) (S S' : Colour) (d : List SentLine)
     → list_if (same_colour (other S) S') (list_if t d) ≡ lines_if_to (draw_to t (other S)) S' d
-draw_same true S S' d = refl
-draw_same false White White d = refl
-draw_same false White Black d = refl
-draw_same false Black White d = refl
-draw_same false Black Black d = refl
+draw_same t S S' d = grind arith
 
 seat_frame : (S : Colour) (change : Seat → Seat) (m : machine.Match)
     → ((machine.with_seat S change m).unsent_to ≡ m.unsent_to) × ((machine.with_seat S change m).phase ≡ m.phase)
@@ -270,10 +259,7 @@ played_owed S move used m = refl
 ping_same : (r : Rules) (S S' : Colour) (m : machine.Match)
     → list_if (same_colour S S') (ping (ping_number (view m) S) ∷ [])
     ≡ list_if (same_colour S S') (ping (machine.ping_number m S') ∷ [])
-ping_same r White White m = refl
-ping_same r White Black m = refl
-ping_same r Black White m = refl
-ping_same r Black Black m = refl
+ping_same r S S' m = grind arith
 
 -- the block of a move that was played and decided nothing
 pinged_block : (r : Rules) (S : Colour) (move : Move) (used : ℕ) (m : machine.Match) → m.phase ≡ phases.AwaitMove S
@@ -488,15 +474,7 @@ agree_handshake r c items m p none =
 -- ---- events
 
 said_same : (kind : LineKind) → items_said kind ≡ machine.items_of_line kind
-said_same (Features t) = refl
-said_same (Moves t) = refl
-said_same Resigns = refl
-said_same OffersDraw = refl
-said_same ClaimsDraw = refl
-said_same (ClaimsWin c) = refl
-said_same Rejects = refl
-said_same (Answers n) = refl
-said_same SaysElse = refl
+said_same kind = grind arith
 
 agree_line : (r : Rules) (S : Colour) (kind : LineKind) (moment : ℕ) (m : machine.Match) (p : MachinePhase) → m.phase
     ≡ p
@@ -534,21 +512,11 @@ events_agree r due m (FailsToWrite S) f u = agree_fault r m (Faulted S Write) (a
 -- ---- phases, and the start
 
 pub over_same : (o : ℕ) (p : MachinePhase) → is_over (phase_of o p) ≡ not (is_on p)
-over_same o (phases.Handshake c) = refl
-over_same o (phases.Setup c) = refl
-over_same o (phases.AwaitMove c) = refl
-over_same o (phases.AwaitPong c) = refl
-over_same o (phases.SendTurn c) = refl
-over_same o (phases.Over x) = refl
+over_same o p = grind arith
 
 pub over_back : (opened : ℕ) (p : MachinePhase) (reason : Reason) → phase_of opened p ≡ Over reason
     → p ≡ phases.Over reason
-over_back opened (phases.Over x) reason h = let same : x ≡ reason = cc in rw same refl
-over_back opened (phases.Handshake c) reason h = cc
-over_back opened (phases.Setup c) reason h = cc
-over_back opened (phases.SendTurn c) reason h = cc
-over_back opened (phases.AwaitMove c) reason h = cc
-over_back opened (phases.AwaitPong c) reason h = cc
+over_back opened p reason h1 = grind arith
 
 pub start_same : beginning.after ≡ view machine.start
 start_same = ap (λ (f : Colour → Seat). let x : Match = record {

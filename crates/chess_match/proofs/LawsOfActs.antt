@@ -49,12 +49,7 @@ ends_over r H final g = by_cases r final (λ m due K. is_over final.phase ≡ tr
 }) beginning.after (blocks_from White beginning.to) H g
 
 over_by : (p : Phase) → is_over p ≡ true → (reason : Reason) × (p ≡ Over reason)
-over_by (Over reason) h = (reason, refl)
-over_by (Handshake c) h = cc
-over_by (Setup c) h = cc
-over_by (Opening c) h = cc
-over_by (BeforeMove c n) h = cc
-over_by (AfterMove c) h = cc
+over_by p h1 = grind arith
 
 has_acts : (r : Rules) (H : List Act) (final : Match) → IsMatch r H final
     → (reason : Reason) × (T : List Event) × Transcribed r reason H final T

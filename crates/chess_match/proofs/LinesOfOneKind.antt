@@ -148,10 +148,7 @@ lines_none f r S kind moment m i here = record {
     }
 
 other_is : (d S : Colour) → same_colour d S ≡ false → S ≡ other d
-other_is White Black h = refl
-other_is Black White h = refl
-other_is White White h = cc
-other_is Black Black h = cc
+other_is d S h1 = grind arith
 
 -- a block that isn't sent holds none of these
 pub unsent : {A : Type 0} (f : SentLine → List A) (r : Rules) (S : Colour) → InOpenings f

@@ -1,4 +1,5 @@
 -- What holds of the acts of a match, by the kinds of act.
+use native.Mathlib.Omega.{arith}
 use Rattle.std.proofs.Common.{◌≡◌, ℕ, Bool, true, false, List, [], ◌∷◌, ◌++◌, refl, ap, sym, ◌∙◌, subst, Option}
 use Rattle.std.specs.Prelude.{if◌then◌else◌}
 use Rattle.chess_base.specs.declared.man.Colour.{Colour}
@@ -106,12 +107,7 @@ reads_end (ReadsEnd c ∷ H) = unread H
 reads_end (ReadFails c ∷ H) = unread H
 
 pub on_when_read : (p : Phase) (S : Colour) → awaits_line p S ≡ true → is_over p ≡ false
-on_when_read (Handshake c) S h = refl
-on_when_read (Setup c) S h = refl
-on_when_read (BeforeMove c n) S h = refl
-on_when_read (AfterMove c) S h = refl
-on_when_read (Opening c) S h = refl
-on_when_read (Over x) S h = absurd cc
+on_when_read p S h1 = grind arith
 
 pub both_not : {P : Type 0} (b : Bool) → b ≡ false → b ≡ true → P
 both_not true e h = absurd cc
@@ -165,36 +161,10 @@ few_for S [] = true
 few_for S (b ∷ due) = if same_colour b.to S then none_for S due else few_for S due
 
 few_due : (S first : Colour) (to : Colour → List SentLine) → few_for S (blocks_from first to) ≡ true
-few_due S first to = at S first (to first) (to (other first))
-  where
-    at : (S first : Colour) (x y : List SentLine) → few_for S (block_of first x ++ block_of (other first) y) ≡ true
-    at S first [] [] = refl
-    at White White (l ∷ x) [] = refl
-    at White Black (l ∷ x) [] = refl
-    at Black White (l ∷ x) [] = refl
-    at Black Black (l ∷ x) [] = refl
-    at White White [] (l ∷ y) = refl
-    at White Black [] (l ∷ y) = refl
-    at Black White [] (l ∷ y) = refl
-    at Black Black [] (l ∷ y) = refl
-    at White White (k ∷ x) (l ∷ y) = refl
-    at White Black (k ∷ x) (l ∷ y) = refl
-    at Black White (k ∷ x) (l ∷ y) = refl
-    at Black Black (k ∷ x) (l ∷ y) = refl
+few_due S first to = grind arith
 
 none_due : (S : Colour) (to : Colour → List SentLine) → to S ≡ [] → none_for S (blocks_from White to) ≡ true
-none_due White to e = ap (λ (l : List SentLine). none_for White (block_of White l ++ block_of Black (to Black))) e
-    ∙ at (to Black)
-  where
-    at : (y : List SentLine) → none_for White (block_of Black y) ≡ true
-    at [] = refl
-    at (l ∷ y) = refl
-none_due Black to e = ap (λ (l : List SentLine). none_for Black (block_of White (to White) ++ block_of Black l)) e
-    ∙ at (to White)
-  where
-    at : (x : List SentLine) → none_for Black (block_of White x ++ []) ≡ true
-    at [] = refl
-    at (l ∷ x) = refl
+none_due S to h1 = grind arith
 
 abbrev Sending : Colour → Match → List Block → List Act → Type 0
 Sending S m due H = (is_over m.phase ≡ true → none_for S due ≡ true → unsent_in S H ≡ true)
@@ -231,10 +201,7 @@ chosen_by false a b f g = g
 
 failed_none : (r : Rules) (m : Match) (c S : Colour) → same_colour c S ≡ true
     → none_for S (blocks_from White (effect r m (FailsToWrite c)).to) ≡ true
-failed_none r m White White h = none_due White (effect r m (FailsToWrite White)).to (unsent r m White)
-failed_none r m Black Black h = none_due Black (effect r m (FailsToWrite Black)).to (unsent r m Black)
-failed_none r m White Black h = absurd cc
-failed_none r m Black White h = absurd cc
+failed_none r m c S h1 = grind arith
 
 pub sending_ends : (r : Rules) (m final : Match) (due : List Block) (H : List Act) (S : Colour)
     → IsMatchFrom r m due H final → few_for S due ≡ true → sends_end S H ≡ true

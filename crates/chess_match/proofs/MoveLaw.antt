@@ -104,35 +104,16 @@ entry_moves r m O (Over reason) = if is_unwritten reason O then [] else untold_t
 
 setup_moves : (r : Rules) → moves_sent (setup_lines r) ≡ []
 unfolding setup_lines
-setup_moves r = at r.variant r.start_fen
-  where
-    at : (v : Variant) (fen : Option (List ℕ))
-        → flat_map move_sent (variant_command v ++ (Says (codes "level "
-        ++ level_text r.level) ∷ Says (codes "nopost") ∷ Says (codes "easy") ∷ Says (codes "force")
-        ∷ (start_lines fen ++ ping 1 ∷ []))) ≡ []
-    at Normal None = refl
-    at Normal (Some fen) = refl
-    at Fischerandom None = refl
-    at Fischerandom (Some fen) = refl
+setup_moves r = grind arith
 
 clock_moves : (r : Rules) (m : Match) (O : Colour) → moves_sent (clock_lines r m O) ≡ []
 unfolding clock_lines
-clock_moves r m O = at (takes (codes "time") (seat m O).items)
-  where
-    at : (b : Bool) → flat_map move_sent (if b then Time (clock r m O / 10) ∷ Otim (clock r m (other O) / 10) ∷ []
-        else []) ≡ []
-    at true = refl
-    at false = refl
+clock_moves r m O = grind arith
 
 last_moves : (r : Rules) (m : Match) (O : Colour) → moves_sent (last_move_lines r m O)
     ≡ (if nat_lt 0 (length m.played) then last_text r m O else [])
 unfolding last_move_sent
-last_moves r m O = at (nat_lt 0 (length m.played))
-  where
-    at : (b : Bool) → flat_map move_sent (if b then last_move_sent r m O ∷ [] else [])
-        ≡ (if b then last_text r m O else [])
-    at true = refl
-    at false = refl
+last_moves r m O = grind arith
 
 opening_moves : (r : Rules) (m : Match) (O : Colour) → moves_sent (opening_lines r m O)
     ≡ (if nat_lt 0 (length m.played) then last_text r m O else [])
@@ -154,13 +135,7 @@ opening_moves r m O = at (nat_lt 0 (length (seat m O).used))
 untold_moves : (r : Rules) (m : Match) (O : Colour) (unsent_to : Option Colour)
     → moves_sent (unsent_lines r m O unsent_to) ≡ untold_text r m O unsent_to
 unfolding last_move_sent
-untold_moves r m O None = refl
-untold_moves r m O (Some c) = at (same_colour c O)
-  where
-    at : (b : Bool) → flat_map move_sent (if b then last_move_sent r m O ∷ [] else [])
-        ≡ (if b then last_text r m O else [])
-    at true = refl
-    at false = refl
+untold_moves r m O unsent_to = grind arith
 
 end_moves : (r : Rules) (m : Match) (O : Colour) (reason : Reason) → moves_sent (end_lines r m O reason)
     ≡ untold_text r m O m.unsent_to
@@ -211,12 +186,7 @@ Told r X O failed p m' = (X ++ (if is_same_phase p m'.phase then [] else entry_m
 
 owed_on : (r : Rules) (m : Match) (O : Colour) (unsent_to : Option Colour) (failed : Bool) → is_on m.phase ≡ true
     → owed_to r m O unsent_to failed ≡ untold_text r m O unsent_to
-owed_on r m O None failed on = refl
-owed_on r m O (Some c) failed on = rw on (at (same_colour c O))
-  where
-    at : (b : Bool) → (if b && true then last_text r m O else []) ≡ (if b then last_text r m O else [])
-    at true = refl
-    at false = refl
+owed_on r m O unsent_to failed h1 = grind arith
 
 -- the match stays in its phase
 stays_told : (r : Rules) (X : List (List ℕ)) (O : Colour) (p : Phase) (m' : Match) → is_same_phase p m'.phase ≡ true
@@ -584,11 +554,7 @@ unwritten_in p O = false
 
 calm : (r : Rules) (m : Match) (e : Event) (O : Colour) → is_on (match_after r m e).phase ≡ true
     → is_fault Write O e ≡ false
-calm r m (Line S t n) O on = refl
-calm r m (Opened S n) O on = refl
-calm r m (OutputEnds S) O on = refl
-calm r m (FailsToRead S) O on = refl
-calm r m (FailsToWrite S) O on = not_on on
+calm r m e O h1 = grind arith
 
 unwritten_by : (r : Rules) (due : Colour → List SentLine) (m : Match) (e : Event) (O : Colour)
     → fits_next due m e ≡ true → is_fault Write O e ≡ unwritten_in (match_after r m e).phase O
@@ -657,18 +623,7 @@ orderly r T f = (told_so r White T f).1
 
 pub nothing_owed : (r : Rules) (m : Match) (O : Colour) (unsent_to : Option Colour) → is_some (ending_in m.phase) ≡ true
     → owed_to r m O unsent_to false ≡ []
-nothing_owed r m O None h = refl
-nothing_owed r m O (Some c) h = at m.phase (same_colour c O) h
-  where
-    at : (p : Phase) (b : Bool) → is_some (ending_in p) ≡ true
-        → (if b && (is_on p || false) then last_text r m O else []) ≡ []
-    at (Over x) true h = refl
-    at (Over x) false h = refl
-    at (Handshake c) b h = cc
-    at (Setup c) b h = cc
-    at (SendTurn c) b h = cc
-    at (AwaitMove c) b h = cc
-    at (AwaitPong c) b h = cc
+nothing_owed r m O unsent_to h1 = grind arith
 
 pub all_moves_are_told : AllMovesAreSent
 all_moves_are_told r T O f ended quiet =

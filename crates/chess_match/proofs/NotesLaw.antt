@@ -1,4 +1,5 @@
 -- What the notes of a transcript hold.
+use native.Mathlib.Omega.{arith}
 use Rattle.std.proofs.Common.{◌≡◌, ℕ, Bool, true, false, ◌||◌, List, [], ◌∷◌, ◌++◌, refl, ap, sym, ◌∙◌, append_assoc, append-nil}
 use Rattle.std.specs.Prelude.{if◌then◌else◌}
 use Rattle.chess_base.specs.declared.man.Colour.{Colour}

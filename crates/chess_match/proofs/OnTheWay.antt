@@ -148,20 +148,11 @@ begun r old new core played failed (m, K, d) =
 -- ---- a line, an end, or a read that failed
 
 pub no_fault : (S : Colour) (e : Event) → is_of_output S e ≡ true → (O : Colour) → is_fault Write O e ≡ false
-no_fault S (Line c t n) h O = refl
-no_fault S (OutputEnds c) h O = refl
-no_fault S (FailsToRead c) h O = refl
-no_fault S (Opened c n) h O = absurd cc
-no_fault S (FailsToWrite c) h O = absurd cc
+no_fault S e h1 O = grind arith
 
 pub it_fits : (due : Colour → List SentLine) (m : Match) (S : Colour) (e : Event) → is_of_output S e ≡ true
     → reads m.phase S ≡ true → fits_next due m e ≡ true
-it_fits due m S (Line c t n) is h = subst (λ (x : Colour). reads m.phase x ≡ true) (sym (same_colour-true c S is)) h
-it_fits due m S (OutputEnds c) is h = subst (λ (x : Colour). reads m.phase x ≡ true) (sym (same_colour-true c S is)) h
-it_fits due m S (FailsToRead c) is h =
-    subst (λ (x : Colour). reads m.phase x ≡ true) (sym (same_colour-true c S is)) h
-it_fits due m S (Opened c n) is h = absurd cc
-it_fits due m S (FailsToWrite c) is h = absurd cc
+it_fits due m S e h1 h2 = grind arith
 
 it_is_sane : (r : Rules) (m : Match) (S : Colour) (e : Event) → is_of_output S e ≡ true → reads m.phase S ≡ true
     → IsSane r m → IsSane r (match_after r m e)
@@ -173,12 +164,7 @@ it_is_sane r m S (Opened c n) is h s = absurd cc
 it_is_sane r m S (FailsToWrite c) is h s = absurd cc
 
 awaits_too : (o : ℕ) (p : Phase) (S : Colour) → reads p S ≡ true → awaits_line (phase_of o p) S ≡ true
-awaits_too o (Handshake c) S h = h
-awaits_too o (SetupPhase c) S h = h
-awaits_too o (AwaitMove c) S h = h
-awaits_too o (AwaitPong c) S h = h
-awaits_too o (SendTurn c) S h = cc
-awaits_too o (Over x) S h = cc
+awaits_too o p S h1 = grind arith
 
 pub apart_at : (r : Rules) (m : Match) (S : Colour) (e : Event) → is_of_output S e ≡ true → reads m.phase S ≡ true
     → (reason : Reason) (O : Colour) → (match_after r m e).phase ≡ Over reason → is_unwritten reason O ≡ false
@@ -275,42 +261,21 @@ opened_on r old now new core core' played failed m K S moment w opening passes g
 -- ---- what is left to do
 
 a_step : (p : Phase) (S : Colour) (n : ℕ) → reads p S ≡ true → steps_left p n ≡ 3 * n + 1
-a_step (Handshake c) S n h = refl
-a_step (SetupPhase c) S n h = refl
-a_step (AwaitMove c) S n h = refl
-a_step (AwaitPong c) S n h = refl
-a_step (SendTurn c) S n h = absurd cc
-a_step (Over x) S n h = absurd cc
+a_step p S n h1 = grind arith
 
 few_steps : (p : Phase) (n : ℕ) → steps_left p n ≤ 3 * n + 2
-few_steps (Handshake c) n = omega arith
-few_steps (SetupPhase c) n = omega arith
-few_steps (SendTurn c) n = omega arith
-few_steps (AwaitMove c) n = omega arith
-few_steps (AwaitPong c) n = omega arith
-few_steps (Over x) n = omega arith
+few_steps p n = grind arith
 
 line_less : (p p' : Phase) (S : Colour) (n n' : ℕ) → reads p S ≡ true → n' < n → steps_left p' n' < steps_left p n
 line_less p p' S n n' h less = omega (arith, a_step p S n h, few_steps p' n', less)
 
 over_less : (p p' : Phase) (S : Colour) (n n' : ℕ) → reads p S ≡ true → is_on p' ≡ false
     → steps_left p' n' < steps_left p n
-over_less p (Over x) S n n' h o = omega (arith, a_step p S n h)
-over_less p (Handshake c) S n n' h o = absurd cc
-over_less p (SetupPhase c) S n n' h o = absurd cc
-over_less p (SendTurn c) S n n' h o = absurd cc
-over_less p (AwaitMove c) S n n' h o = absurd cc
-over_less p (AwaitPong c) S n n' h o = absurd cc
+over_less p p' S n n' h1 h2 = grind arith
 
 pub opened_less : (core core' : MatchState) (S : Colour) (n n' : ℕ) → n' ≡ n → opens core.phase S ≡ true
     → core'.phase ≡ AwaitMove S → steps_left core'.phase n' < steps_left core.phase n
-opened_less core core' S n n' same h e =
-    subst (λ (p : Phase). steps_left p n' < steps_left core.phase n) (sym e)
-    (subst (λ (k : ℕ). steps_left (AwaitMove S) k < steps_left core.phase n) (sym same)
-    (less core.phase (ap (λ (p : Phase). steps_left p n) (opens_at core.phase S h))))
-  where
-    less : (p : Phase) → steps_left p n ≡ 3 * n + 2 → steps_left (AwaitMove S) n < steps_left p n
-    less p e = omega (arith, e)
+opened_less core core' S n n' h1 h2 h3 = grind arith
 
 pub went_less : (r : Rules) (between new : Passing) (core core' : MatchState) (played' : List Move) (m : Match)
     (S : Colour) (e : Event) (due : List Block) (failed' : Colour → Bool) (n n' n'' : ℕ) → reads core.phase S ≡ true

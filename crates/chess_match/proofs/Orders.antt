@@ -175,22 +175,7 @@ kept r T f = kept_by r (λ m. Kept r m) (step r) (lines_on_entering r start) sta
 
 nothing_owed : (r : Rules) (m : Match) (S : Colour) (failed : Bool) → reads m.phase S ≡ true → Orderly r m
     → owed_to r m S m.unsent_to failed ≡ []
-nothing_owed r m S failed here o = at m.phase m.unsent_to here o
-  where
-    own : (c S : Colour) → same_colour c S ≡ true → same_colour (other c) S ≡ false
-    own White White h = refl
-    own Black Black h = refl
-    own White Black h = cc
-    own Black White h = cc
-
-    at : (p : Phase) (unsent_to : Option Colour) → reads p S ≡ true → OrderlyIn r.first p m.played unsent_to
-        → owed_to r m S unsent_to failed ≡ []
-    at (Handshake c) unsent_to h o = rw o.1 refl
-    at (Setup c) unsent_to h o = rw o.1 refl
-    at (AwaitMove c) unsent_to h o = rw o.1 refl
-    at (AwaitPong c) unsent_to h o = rw (o.1, own c S h) refl
-    at (SendTurn c) unsent_to h o = cc
-    at (Over x) unsent_to h o = cc
+nothing_owed r m S failed h1 h2 = grind arith
 
 used_length : (r : Rules) (m : Match) (C : Colour) → Kept r m → length (seat m C).used ≡ turns_of C r.first m.played
 used_length r m White k = k.1

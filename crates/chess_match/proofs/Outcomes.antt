@@ -1,4 +1,5 @@
 -- What a line can make of a match, whatever it says: what holds of each of these matches holds of the match after it.
+use native.Mathlib.Omega.{arith}
 use Rattle.std.proofs.Common.{◌≡◌, ℕ, ◌+◌, ◌-◌, ◌≤◌, ◌<◌, Bool, true, false, ◌&&◌, List, [], ◌∷◌, ◌++◌, length, refl, ap, sym, subst, Option, None, Some}
 use Rattle.std.specs.Prelude.{if◌then◌else◌, nat_lt, nat_le, ◌==◌}
 use Rattle.std.proofs.lemmas.Bool.{leb-false, ltb-false}
@@ -262,11 +263,7 @@ pub not_on : {A : Type 0} → false ≡ true → A
 not_on h = cc
 
 pub fits_on : (due : Colour → List SentLine) (m : Match) (e : Event) → fits_next due m e ≡ true → is_on m.phase ≡ true
-fits_on due m (Line S t n) f = reads_on m.phase S f
-fits_on due m (Opened S n) f = ap is_on (opens_at m.phase S f)
-fits_on due m (OutputEnds S) f = reads_on m.phase S f
-fits_on due m (FailsToRead S) f = reads_on m.phase S f
-fits_on due m (FailsToWrite S) f = and_first (is_on m.phase) _ f
+fits_on due m e h1 = grind arith
 
 pub event_outcome : (r : Rules) (due : Colour → List SentLine) (m : Match) (e : Event) (P : Match → Type 0)
     → fits_next due m e ≡ true → Events r m e P → P (match_after r m e)

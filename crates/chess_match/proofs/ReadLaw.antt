@@ -41,16 +41,7 @@ ahead (AwaitPong c) S ls = moves_said ls
 ahead (Over x) S ls = []
 
 ahead_nil : (p : Phase) (S : Colour) → ahead p S [] ≡ []
-ahead_nil (Handshake White) S = refl
-ahead_nil (Handshake Black) White = refl
-ahead_nil (Handshake Black) Black = refl
-ahead_nil (Setup White) S = refl
-ahead_nil (Setup Black) White = refl
-ahead_nil (Setup Black) Black = refl
-ahead_nil (SendTurn c) S = refl
-ahead_nil (AwaitMove c) S = refl
-ahead_nil (AwaitPong c) S = refl
-ahead_nil (Over x) S = refl
+ahead_nil p S = grind arith
 
 -- from here on the moves of a match are read off these lines
 abbrev Reads : Rules → Match → Match → (Colour → List (Option (List ℕ))) → Type 0
@@ -128,15 +119,7 @@ reads_move r m m' final d t text move lines p p' turn played kind reading next c
 -- ---- the end
 
 one_said : (kind : LineKind) → length (move_said kind ++ []) ≤ 1
-one_said (Features t) = omega arith
-one_said (Moves t) = omega arith
-one_said Resigns = omega arith
-one_said OffersDraw = omega arith
-one_said ClaimsDraw = omega arith
-one_said (ClaimsWin c) = omega arith
-one_said Rejects = omega arith
-one_said (Answers n) = omega arith
-one_said SaysElse = omega arith
+one_said kind = grind arith
 
 none_behind_pong : (kind : LineKind) → length (moves_said (if is_pong 1 kind then [] else [])) ≤ 1
 none_behind_pong kind = at (is_pong 1 kind)
@@ -154,16 +137,7 @@ none_after_handshake kind = at (has_done (items_of_line kind))
     at false = omega arith
 
 few_ahead : (p : Phase) (d : Colour) (t : Option (List ℕ)) → length (ahead p d (t ∷ [])) ≤ 1
-few_ahead (Handshake White) d t = none_after_handshake (line_kind t)
-few_ahead (Handshake Black) White t = none_behind_pong (line_kind t)
-few_ahead (Handshake Black) Black t = none_after_handshake (line_kind t)
-few_ahead (Setup White) d t = none_behind_pong (line_kind t)
-few_ahead (Setup Black) White t = one_said (line_kind t)
-few_ahead (Setup Black) Black t = none_behind_pong (line_kind t)
-few_ahead (SendTurn c) d t = one_said (line_kind t)
-few_ahead (AwaitMove c) d t = one_said (line_kind t)
-few_ahead (AwaitPong c) d t = one_said (line_kind t)
-few_ahead (Over x) d t = omega arith
+few_ahead p d t = grind arith
 
 abbrev pub no_lines : Colour → List (Option (List ℕ))
 no_lines S = []
@@ -221,54 +195,37 @@ over_steps r d t m m' off p = ((λ final lines on next. not_on (sym off ∙ on))
 handshake_same : (d : Colour) (t : Option (List ℕ)) (lines : Colour → List (Option (List ℕ))) (S : Colour)
     → has_done (items_of_line (line_kind t)) ≡ false
     → ahead (Handshake d) S (with_line d t lines S) ≡ ahead (Handshake d) S (lines S)
-handshake_same White t lines White h = rw h refl
-handshake_same White t lines Black h = refl
-handshake_same Black t lines White h = refl
-handshake_same Black t lines Black h = rw h refl
+handshake_same d t lines S h1 = grind arith
 
 setup_same : (d : Colour) (t : Option (List ℕ)) (lines : Colour → List (Option (List ℕ))) (S : Colour)
     → is_pong 1 (line_kind t) ≡ false
     → ahead (Setup d) S (with_line d t lines S) ≡ ahead (Setup d) S (lines S)
-setup_same White t lines White h = rw h refl
-setup_same White t lines Black h = refl
-setup_same Black t lines White h = refl
-setup_same Black t lines Black h = rw h refl
+setup_same d t lines S h1 = grind arith
 
 handshake_next : (d : Colour) (t : Option (List ℕ)) (lines : Colour → List (Option (List ℕ))) (S : Colour) → d ≡ White
     → has_done (items_of_line (line_kind t)) ≡ true
     → ahead (Handshake White) S (with_line d t lines S) ≡ ahead (Handshake Black) S (lines S)
-handshake_next White t lines White e h = rw h refl
-handshake_next White t lines Black e h = refl
-handshake_next Black t lines S e h = cc
+handshake_next d t lines S h1 h2 = grind arith
 
 handshake_done : (d : Colour) (t : Option (List ℕ)) (lines : Colour → List (Option (List ℕ))) (S : Colour) → d ≡ Black
     → has_done (items_of_line (line_kind t)) ≡ true
     → ahead (Handshake Black) S (with_line d t lines S) ≡ ahead (Setup White) S (lines S)
-handshake_done Black t lines White e h = refl
-handshake_done Black t lines Black e h = rw h refl
-handshake_done White t lines S e h = cc
+handshake_done d t lines S h1 h2 = grind arith
 
 setup_next : (d : Colour) (t : Option (List ℕ)) (lines : Colour → List (Option (List ℕ))) (S : Colour) → d ≡ White
     → is_pong 1 (line_kind t) ≡ true
     → ahead (Setup White) S (with_line d t lines S) ≡ ahead (Setup Black) S (lines S)
-setup_next White t lines White e h = rw h refl
-setup_next White t lines Black e h = refl
-setup_next Black t lines S e h = cc
+setup_next d t lines S h1 h2 = grind arith
 
 setup_done : (d c : Colour) (t : Option (List ℕ)) (lines : Colour → List (Option (List ℕ))) (S : Colour) → d ≡ Black
     → is_pong 1 (line_kind t) ≡ true
     → ahead (Setup Black) S (with_line d t lines S) ≡ ahead (SendTurn c) S (lines S)
-setup_done Black c t lines White e h = refl
-setup_done Black c t lines Black e h = rw h refl
-setup_done White c t lines S e h = cc
+setup_done d c t lines S h1 h2 = grind arith
 
 -- a line that says no move
 turn_same : (d : Colour) (t : Option (List ℕ)) (lines : Colour → List (Option (List ℕ))) (S : Colour)
     → move_said (line_kind t) ≡ [] → moves_said (with_line d t lines S) ≡ moves_said (lines S)
-turn_same White t lines White h = rw h refl
-turn_same White t lines Black h = refl
-turn_same Black t lines White h = refl
-turn_same Black t lines Black h = rw h refl
+turn_same d t lines S h1 = grind arith
 
 handshake_counts : (r : Rules) (d : Colour) (t : Option (List ℕ)) (items : List Item) (n : ℕ) (m : Match) → m.phase
     ≡ Handshake d → has_done (items_of_line (line_kind t)) ≡ false

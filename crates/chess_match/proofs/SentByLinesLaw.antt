@@ -39,14 +39,7 @@ said_ahead (AwaitPong c) S ls = []
 said_ahead (Over x) S ls = []
 
 ahead_nil : (p : Phase) (S : Colour) → said_ahead p S [] ≡ []
-ahead_nil (Handshake White) S = refl
-ahead_nil (Handshake Black) White = refl
-ahead_nil (Handshake Black) Black = refl
-ahead_nil (Setup c) S = refl
-ahead_nil (SendTurn c) S = refl
-ahead_nil (AwaitMove c) S = refl
-ahead_nil (AwaitPong c) S = refl
-ahead_nil (Over x) S = refl
+ahead_nil p S = grind arith
 
 -- a line of d takes from m to m', and the items are what was said: with what more is to come, where the match goes on
 abbrev Says : Colour → Option (List ℕ) → Match → Match → Type 0
@@ -66,12 +59,7 @@ is_greeted (AwaitPong c) = true
 is_greeted (Over x) = true
 
 none_ahead : (p : Phase) (S : Colour) (ls : List (Option (List ℕ))) → is_greeted p ≡ true → said_ahead p S ls ≡ []
-none_ahead (Handshake c) S ls h = cc
-none_ahead (Setup c) S ls h = refl
-none_ahead (SendTurn c) S ls h = refl
-none_ahead (AwaitMove c) S ls h = refl
-none_ahead (AwaitPong c) S ls h = refl
-none_ahead (Over x) S ls h = refl
+none_ahead p S ls h1 = grind arith
 
 -- after the handshakes nothing is said
 greeted_says : (d : Colour) (t : Option (List ℕ)) (m m' : Match) → is_greeted m.phase ≡ true → is_greeted m'.phase
@@ -266,12 +254,7 @@ items_are_said r T Black f = sym (said_from r (lines_on_entering r start) start 
 
 owed_short : (r : Rules) (m : Match) (O : Colour) (unsent_to : Option Colour) (failed : Bool)
     → length (owed_to r m O unsent_to failed) ≤ 1
-owed_short r m O None failed = omega arith
-owed_short r m O (Some c) failed = at (same_colour c O && (is_on m.phase || failed))
-  where
-    at : (b : Bool) → length (if b then r.move_text (takes (codes "san") (seat m O).items) m.played ∷ [] else []) ≤ 1
-    at true = omega arith
-    at false = omega arith
+owed_short r m O unsent_to failed = grind arith
 
 pub each_is_sent_the_others : EachIsSentOthersMoves
 each_is_sent_the_others r T f = ((match_of r T).played, moves_are_read r T f, told)

@@ -52,43 +52,16 @@ no_text false text = refl
 
 setup_times : (own : Bool) (r : Rules) → flat_map (numbers own) (setup_lines r) ≡ []
 unfolding setup_lines
-setup_times own r = at own r.variant r.start_fen
-  where
-    at : (own : Bool) (v : Variant) (fen : Option (List ℕ))
-        → flat_map (numbers own) (Says (codes "new") ∷ (variant_command v
-        ++ (Says (codes "level " ++ level_text r.level) ∷ Says (codes "nopost") ∷ Says (codes "easy")
-        ∷ Says (codes "force") ∷ (start_lines fen ++ ping 1 ∷ [])))) ≡ []
-    at true Normal None = refl
-    at true Normal (Some fen) = refl
-    at true Fischerandom None = refl
-    at true Fischerandom (Some fen) = refl
-    at false Normal None = refl
-    at false Normal (Some fen) = refl
-    at false Fischerandom None = refl
-    at false Fischerandom (Some fen) = refl
+setup_times own r = grind arith
 
 last_times : (own : Bool) (r : Rules) (m : Match) (S : Colour) → flat_map (numbers own) (last_move_lines r m S) ≡ []
 unfolding last_move_sent
-last_times own r m S = at own (nat_lt 0 (length m.played))
-  where
-    at : (own b : Bool) → flat_map (numbers own) (if b then last_move_sent r m S ∷ [] else []) ≡ []
-    at true true = refl
-    at false true = refl
-    at true false = refl
-    at false false = refl
+last_times own r m S = grind arith
 
 untold_times : (own : Bool) (r : Rules) (m : Match) (S : Colour) (unsent_to : Option Colour)
     → flat_map (numbers own) (unsent_lines r m S unsent_to) ≡ []
 unfolding last_move_sent
-untold_times true r m S None = refl
-untold_times false r m S None = refl
-untold_times own r m S (Some c) = at own (same_colour c S)
-  where
-    at : (own b : Bool) → flat_map (numbers own) (if b then last_move_sent r m S ∷ [] else []) ≡ []
-    at true true = refl
-    at false true = refl
-    at true false = refl
-    at false false = refl
+untold_times own r m S unsent_to = grind arith
 
 end_times : (own : Bool) (r : Rules) (m : Match) (S : Colour) (reason : Reason)
     → flat_map (numbers own) (end_lines r m S reason) ≡ []
@@ -105,15 +78,7 @@ clock_told own r m S = if takes (codes "time") (seat m S).items then clock r m (
 clock_times : (own : Bool) (r : Rules) (m : Match) (S : Colour) → flat_map (numbers own) (clock_lines r m S)
     ≡ clock_told own r m S
 unfolding clock_lines
-clock_times own r m S = at own (takes (codes "time") (seat m S).items)
-  where
-    at : (own b : Bool) → flat_map (numbers own)
-        (if b then Time (clock r m S / 10) ∷ Otim (clock r m (other S) / 10) ∷ [] else [])
-        ≡ (if b then clock r m (told_of own S) / 10 ∷ [] else [])
-    at true true = refl
-    at false true = refl
-    at true false = refl
-    at false false = refl
+clock_times own r m S = grind arith
 
 go_times : (own : Bool) → flat_map (numbers own) (Says (codes "go") ∷ []) ≡ []
 go_times true = refl
@@ -246,24 +211,10 @@ if_short true t h = omega arith
 if_short false t h = h
 
 pending_short : (own : Bool) (p : Phase) (S : Colour) (t : List ℕ) → length t ≤ 1 → length (pending own p S t) ≤ 1
-pending_short true (SendTurn c) S t h = if_short (same_colour c S) t h
-pending_short true (AwaitMove c) S t h = if_short (same_colour c S) t h
-pending_short true (AwaitPong c) S t h = h
-pending_short false (AwaitPong c) S t h = if_short (same_colour c S) t h
-pending_short true (Handshake c) S t h = omega arith
-pending_short true (Setup c) S t h = omega arith
-pending_short true (Over x) S t h = omega arith
-pending_short false (Handshake c) S t h = omega arith
-pending_short false (Setup c) S t h = omega arith
-pending_short false (SendTurn c) S t h = omega arith
-pending_short false (AwaitMove c) S t h = omega arith
-pending_short false (Over x) S t h = omega arith
+pending_short own p S t h1 = grind arith
 
 all_short : (whole : Bool) (r : Rules) (takes : Bool) → length (all_told whole r takes []) ≤ 1
-all_short true r true = omega arith
-all_short false r true = omega arith
-all_short true r false = omega arith
-all_short false r false = omega arith
+all_short whole r takes = grind arith
 
 empty_over : (own : Bool) (r : Rules) (S : Colour) (X : List ℕ) (takes : Bool) (used : List ℕ) → X ≡ [] → used ≡ []
     → (rest : List ℕ) × (length rest ≤ 1) × (X ++ rest ≡ all_told (is_whole own r S) r takes used)
@@ -311,22 +262,7 @@ passes_times false Black White X t A h = append-nil (X ++ t) ∙ h
 opens_times : (own : Bool) (r : Rules) (S c : Colour) (takes : Bool)
     → (if same_colour c S then last_told r takes [] else []) ++ pending own (SendTurn c) S (last_told r takes [])
     ≡ all_told (own || same_colour S c) r takes []
-opens_times true r White White true = refl
-opens_times true r Black Black true = refl
-opens_times true r White Black true = refl
-opens_times true r Black White true = refl
-opens_times true r White White false = refl
-opens_times true r Black Black false = refl
-opens_times true r White Black false = refl
-opens_times true r Black White false = refl
-opens_times false r White White true = refl
-opens_times false r Black Black true = refl
-opens_times false r White Black true = refl
-opens_times false r Black White true = refl
-opens_times false r White White false = refl
-opens_times false r Black Black false = refl
-opens_times false r White Black false = refl
-opens_times false r Black White false = refl
+opens_times own r S c takes = grind arith
 
 from-append : (whole : Bool) (level : LevelSeen) (us : List ℕ) (t : List ℕ)
     → from whole (centiseconds level 0 0 us ++ t) ≡ from whole (centiseconds level 0 0 us) ++ t
@@ -357,10 +293,7 @@ charged_times false r Black X takes used u h = told_more X _ _ _ h (all_more (sa
 still_times : (own : Bool) (r : Rules) (S : Colour) (X : List ℕ) (takes : Bool) (used : List ℕ)
     → TimesIn own r S (AwaitMove (other (told_of own S))) X takes used
     → TimesIn own r S (AwaitPong (other (told_of own S))) X takes used
-still_times true r White X takes used h = h
-still_times true r Black X takes used h = h
-still_times false r White X takes used h = h
-still_times false r Black X takes used h = h
+still_times own r S X takes used h1 = grind arith
 
 -- ---- the matches
 
@@ -382,12 +315,7 @@ quiet_goes : (own : Bool) (r : Rules) (S : Colour) (X : List ℕ) (m m' : Match)
 quiet_goes own r S X m m' e h = rw (quiet_now own r S m m' e, append-nil X) h
 
 not_opening : (p : Phase) (S : Colour) → reads p S ≡ true → is_opening p ≡ false
-not_opening (Handshake c) S h = refl
-not_opening (Setup c) S h = refl
-not_opening (AwaitMove c) S h = refl
-not_opening (AwaitPong c) S h = refl
-not_opening (SendTurn c) S h = cc
-not_opening (Over x) S h = cc
+not_opening p S h1 = grind arith
 
 over_goes : (own : Bool) (r : Rules) (S : Colour) (X : List ℕ) (reason : Reason) (m : Match) → Times own r S X m
     → Goes own r S X m (over reason m)

@@ -58,10 +58,7 @@ two_other White x y = refl
 two_other Black x y = refl
 
 two_same : (c : Colour) (to : Colour → List SentLine) (S : Colour) → two c (to c) (to (other c)) S ≡ to S
-two_same White to White = refl
-two_same White to Black = refl
-two_same Black to White = refl
-two_same Black to Black = refl
+two_same c to S = grind arith
 
 some_lines : (l : SentLine) (ls : List SentLine) → nat_lt 0 (length (l ∷ ls)) ≡ true
 some_lines l ls = grind (arith, nat_tests)
@@ -82,22 +79,10 @@ abbrev kept : Colour → List Event → (Colour → List SentLine) → Colour �
 kept first T due S = if dropped first T S then [] else due S
 
 first_kept : (c d S : Colour) → same_colour c S ≡ true → same_colour c d && not (same_colour d S) ≡ false
-first_kept White White White h = refl
-first_kept White Black White h = refl
-first_kept Black White Black h = refl
-first_kept Black Black Black h = refl
-first_kept White White Black h = cc
-first_kept White Black Black h = cc
-first_kept Black White White h = cc
-first_kept Black Black White h = cc
+first_kept c d S h1 = grind arith
 
 own_kept : (first : Colour) (T : List Event) (S : Colour) → same_colour first S ≡ true → dropped first T S ≡ false
-own_kept first [] S h = refl
-own_kept first (FailsToWrite d ∷ T) S h = first_kept first d S h
-own_kept first (Line c t n ∷ T) S h = refl
-own_kept first (Opened c n ∷ T) S h = refl
-own_kept first (OutputEnds c ∷ T) S h = refl
-own_kept first (FailsToRead c ∷ T) S h = refl
+own_kept first T S h1 = grind arith
 
 none_due : (first S : Colour) → two first [] [] S ≡ []
 none_due first S = if_nil (same_colour first S) [] refl
@@ -120,17 +105,7 @@ fits_more r due more M (FailsToRead c ∷ T) h f = f
 line_drops : (S : Colour) (on : Bool) (es : List Event) (text : Option (List ℕ)) (moment : ℕ) (X : Colour)
     → (on ≡ false → es ≡ [])
     → is_dropped (Line S text moment) es X || false ≡ dropped (if on then S else White) es X
-line_drops S on [] text moment X h = refl
-line_drops S true (FailsToWrite d ∷ es) text moment X h = both (same_colour S d && not (same_colour d X))
-  where
-    both : (b : Bool) → b || false ≡ b
-    both true = refl
-    both false = refl
-line_drops S false (FailsToWrite d ∷ es) text moment X h = let e = h refl in cc
-line_drops S on (Line c t n ∷ es) text moment X h = refl
-line_drops S on (Opened c n ∷ es) text moment X h = refl
-line_drops S on (OutputEnds c ∷ es) text moment X h = refl
-line_drops S on (FailsToRead c ∷ es) text moment X h = refl
+line_drops S on es text moment X h1 = grind arith
 
 -- ---- notes of blocks
 
@@ -237,9 +212,7 @@ not_first r first d y M T U f e =
 given_own : (b d : Bool) (ls y G R : List SentLine) → (b ≡ true → d ≡ false)
     → G ≡ (if d then [] else (if b then [] else y)) ++ R → list_if b ls ++ G
     ≡ (if d then [] else (if b then ls else y)) ++ R
-given_own true true ls y G R h e = let no : true ≡ false = h refl in absurd cc
-given_own true false ls y G R h e = ap (λ (l : List SentLine). ls ++ l) e
-given_own false d ls y G R h e = e
+given_own b d ls y G R h1 h2 = grind arith
 
 -- the first side's lines in front of what is kept
 kept_own : (reason : Reason) (first : Colour) (l : SentLine) (ls y : List SentLine) (T : List Event) (H : List Act)
@@ -358,29 +331,12 @@ module _ (r : Rules) (reason : Reason) (final : Match) (over : final.phase ≡ O
 
 -- what is due for the other alone, seen from there
 turned : (c : Colour) (y : List SentLine) (S : Colour) → two (other c) y [] S ≡ two c [] y S
-turned White y White = refl
-turned White y Black = refl
-turned Black y White = refl
-turned Black y Black = refl
+turned c y S = grind arith
 
 kept_turned : (c : Colour) (y : List SentLine) (T : List Event) (S : Colour)
     → ((d : Colour) (U : List Event) → T ≡ FailsToWrite d ∷ U → same_colour c d ≡ false)
     → kept (other c) T (two (other c) y []) S ≡ kept c T (two c [] y) S
-kept_turned c y [] S f = turned c y S
-kept_turned c y (FailsToWrite d ∷ T) S f = at c d S (f d T refl)
-  where
-    at : (c d S : Colour) → same_colour c d ≡ false
-        → kept (other c) (FailsToWrite d ∷ T) (two (other c) y []) S ≡ kept c (FailsToWrite d ∷ T) (two c [] y) S
-    at White Black White e = refl
-    at White Black Black e = refl
-    at Black White White e = refl
-    at Black White Black e = refl
-    at White White S e = cc
-    at Black Black S e = cc
-kept_turned c y (Line b t n ∷ T) S f = turned c y S
-kept_turned c y (Opened b n ∷ T) S f = turned c y S
-kept_turned c y (OutputEnds b ∷ T) S f = turned c y S
-kept_turned c y (FailsToRead b ∷ T) S f = turned c y S
+kept_turned c y T S h1 = grind arith
 
 noted_turned : (c : Colour) (g : Colour → List SentLine) → g c ≡ [] → both_notes (other c) g ≡ both_notes c g
 noted_turned White g e = rw (e, given_none White) (append-nil (given_note Black (bytes_of (g Black))))
@@ -428,10 +384,7 @@ if_so false x z h = h
 
 own_keeps : (first : Colour) (x y : List SentLine) (S : Colour)
     → kept first (FailsToWrite first ∷ []) (two first x y) S ≡ list_if (same_colour first S) x
-own_keeps White x y White = refl
-own_keeps White x y Black = refl
-own_keeps Black x y White = refl
-own_keeps Black x y Black = refl
+own_keeps first x y S = grind arith
 
 told_failure : (r : Rules) (reason : Reason) (final : Match) (over : final.phase ≡ Over reason) (c : Colour)
     (l : SentLine) (ls y : List SentLine) (m : Match) (M : machine.Match) (H : List Act) → m ≡ view M → (is_on M.phase ≡ true → M.unsent_to ≡ owed_in M.phase) → is_over m.phase ≡ false
@@ -495,20 +448,10 @@ told_failure r reason final over c l ls y m M H q owed on t =
 -- ---- what comes in
 
 reads_back : (o : ℕ) (p : MachinePhase) (S : Colour) → awaits_line (phase_of o p) S ≡ true → reads p S ≡ true
-reads_back o (phases.Handshake c) S h = h
-reads_back o (phases.Setup c) S h = h
-reads_back o (phases.AwaitMove c) S h = h
-reads_back o (phases.AwaitPong c) S h = h
-reads_back o (phases.SendTurn c) S h = cc
-reads_back o (phases.Over x) S h = cc
+reads_back o p S h1 = grind arith
 
 opens_back : (o : ℕ) (p : MachinePhase) (S : Colour) → phase_of o p ≡ Opening S → opens p S ≡ true
-opens_back o (phases.SendTurn c) S h = let e : c ≡ S = cc in rw e (same_colour-self S)
-opens_back o (phases.Handshake c) S h = cc
-opens_back o (phases.Setup c) S h = cc
-opens_back o (phases.AwaitMove c) S h = cc
-opens_back o (phases.AwaitPong c) S h = cc
-opens_back o (phases.Over x) S h = cc
+opens_back o p S h1 = grind arith
 
 -- one event that is no failed write: `A` are its acts and then `H`, which give no more to send
 told_event : (r : Rules) (reason : Reason) (final : Match) (first start : Colour) (m : Match) (M : machine.Match)
@@ -576,21 +519,13 @@ event_apart r reason due to m M e f q mild over S un =
 line_time : (S c : Colour) (text : Option (List ℕ)) (moment : ℕ) (o : Option ℕ) (K : List Act) (T : List Event)
     → ((o : Option ℕ) → move_times S o K ≡ turn_times S o T)
     → move_times S o (Reads c text ∷ ReadsClock c moment ∷ K) ≡ turn_times S o (Line c text moment ∷ T)
-line_time S c text moment None K T ih = ih None
-line_time S c text moment (Some k) K T ih = at (same_colour c S && is_move (line_kind text))
-  where
-    at : (b : Bool) → (if b then (moment - k) ∷ move_times S None K else move_times S (Some k) K)
-        ≡ (if b then (moment - k) ∷ turn_times S None T else turn_times S (Some k) T)
-    at true = ap (λ (l : List ℕ). (moment - k) ∷ l) (ih None)
-    at false = ih (Some k)
+line_time S c text moment o K T h1 = grind arith
 
 -- ---- all acts
 
 -- what is due is nothing, or begins with the block of the first, or is the block of the other
 nothing_due : (first : Colour) (x y : List SentLine) → [] ≡ both_due first x y → (x ≡ []) × (y ≡ [])
-nothing_due first [] [] e = (refl, refl)
-nothing_due first [] (k ∷ y) e = absurd cc
-nothing_due first (l ∷ x) y e = absurd cc
+nothing_due first x y h1 = grind arith
 
 on_then : (r : Rules) (reason : Reason) (final m : Match) (H : List Act)
     → ((first : Colour) (M : machine.Match) → m ≡ view M → (is_on M.phase ≡ true → M.unsent_to ≡ owed_in M.phase)
@@ -846,9 +781,7 @@ told r reason final m due H over g = by_cases r final (Tells r reason final) (re
 -- at the beginning only White is sent lines
 nothing_drops : (S : Colour) (T : List Event) (r : Rules) → kept White T (lines_on_entering r machine.start) S
     ≡ lines_on_entering r machine.start S
-nothing_drops White T r = ap (λ (b : Bool). if b then [] else lines_on_entering r machine.start White)
-    (own_kept White T White refl)
-nothing_drops Black T r = if_nil (dropped White T Black) [] refl
+nothing_drops S T r = grind arith
 
 -- the acts of a match that ended for this reason are those of the transcript `T`, and have what it has
 pub record Transcribed (r : Rules) (reason : Reason) (H : List Act) (final : Match) (T : List Event) : Type 0 where

@@ -52,12 +52,7 @@ Grows S kind n m m' =
     ≡ awaited_then (awaited S m.phase m.opened) kind))
 
 taken_short : (o : Option ℕ) (kind : LineKind) (n : ℕ) → length (taken o kind n) ≤ 1
-taken_short None kind n = omega arith
-taken_short (Some k) kind n = at (is_move kind)
-  where
-    at : (b : Bool) → length (if b then (n - k) ∷ [] else []) ≤ 1
-    at true = omega arith
-    at false = omega arith
+taken_short o kind n = grind arith
 
 -- the match is over, with the same times
 ends_grow : (S : Colour) (kind : LineKind) (n : ℕ) (m m' : Match) → m'.white.used ≡ m.white.used → m'.black.used
@@ -72,15 +67,7 @@ ends_grow S kind n m m' w b off = (
 )
 
 not_move : (kind : LineKind) → move_said kind ≡ [] → is_move kind ≡ false
-not_move (Features t) h = refl
-not_move (Moves t) h = cc
-not_move Resigns h = refl
-not_move OffersDraw h = refl
-not_move ClaimsDraw h = refl
-not_move (ClaimsWin c) h = refl
-not_move Rejects h = refl
-not_move (Answers n) h = refl
-not_move SaysElse h = refl
+not_move kind h1 = grind arith
 
 -- a line that is no move leaves all as it was
 stays_grow : (S : Colour) (kind : LineKind) (n : ℕ) (m m' : Match) → m'.white.used ≡ m.white.used → m'.black.used
@@ -202,24 +189,14 @@ before_line_times : (S c d : Colour) (opened : ℕ) (text : Option (List ℕ)) (
     → turn_times S (awaited S (AwaitMove d) opened) (Line c text n ∷ T)
     ≡ taken (awaited S (AwaitMove d) opened) (line_kind text) n
     ++ turn_times S (awaited_then (awaited S (AwaitMove d) opened) (line_kind text)) T
-before_line_times White White White opened text n T h = own_line White opened n T (is_move (line_kind text))
-before_line_times Black Black Black opened text n T h = own_line Black opened n T (is_move (line_kind text))
-before_line_times White Black Black opened text n T h = refl
-before_line_times Black White White opened text n T h = refl
-before_line_times S White Black opened text n T h = cc
-before_line_times S Black White opened text n T h = cc
+before_line_times S c d opened text n T h1 = grind arith
 
 -- a line that a turn reads is S's, if S's move is awaited
 line_times : (S c : Colour) (p : Phase) (opened : ℕ) (text : Option (List ℕ)) (n : ℕ) (T : List Event) → reads p c
     ≡ true
     → turn_times S (awaited S p opened) (Line c text n ∷ T) ≡ taken (awaited S p opened) (line_kind text) n
     ++ turn_times S (awaited_then (awaited S p opened) (line_kind text)) T
-line_times S c (AwaitMove d) opened text n T h = before_line_times S c d opened text n T h
-line_times S c (Handshake d) opened text n T h = refl
-line_times S c (Setup d) opened text n T h = refl
-line_times S c (AwaitPong d) opened text n T h = refl
-line_times S c (SendTurn d) opened text n T h = refl
-line_times S c (Over x) opened text n T h = refl
+line_times S c p opened text n T h1 = grind arith
 
 line_goes_on : (r : Rules) (S c : Colour) (text : Option (List ℕ)) (n : ℕ) (due : Colour → List SentLine) (m m' : Match)
     (T : List Event) → reads m.phase c ≡ true → fits_from r due m' T ≡ true
