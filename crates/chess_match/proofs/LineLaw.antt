@@ -58,45 +58,32 @@ at_most_one false = omega arith
 
 few_at_end : (r : Rules) (k : ℕ) (S : Colour) (items : List Item) (reason : Reason) (m : Match)
     → FewIn r k (Handshake S) m → Few r (k + 1) (over reason (take_items S items m))
-few_at_end r k White items reason m w = omega (arith, w.0, w.1)
-few_at_end r k Black items reason m w = omega (arith, w.0, w.1)
+few_at_end r k S items reason m h1 = grind arith
 
 few_counted : (r : Rules) (k : ℕ) (S : Colour) (items : List Item) (m : Match) → m.phase ≡ Handshake S
     → FewIn r k (Handshake S) m → m.count + 1 < 1000
     → (let m' = take_items S items m in Few r (k + 1) (record m' { count = m.count + 1 }))
-few_counted r k White items m e w few = from_phase r (k + 1)
-    (let m' = take_items White items m in record m' { count = m.count + 1 }) (Handshake White) e
-    (omega (arith, w.0), few, w.2)
-few_counted r k Black items m e w few = from_phase r (k + 1)
-    (let m' = take_items Black items m in record m' { count = m.count + 1 }) (Handshake Black) e
-    (omega (arith, w.0), few, w.2)
+few_counted r k S items m h1 h2 h3 = grind arith
 
 few_at_next : (r : Rules) (k : ℕ) (S : Colour) (items : List Item) (m : Match) → S ≡ White
     → FewIn r k (Handshake White) m → Few r (k + 1) (enter (Handshake Black) (take_items S items m))
-few_at_next r k White items m s w = (omega (arith, w.0, w.1), omega arith, w.2)
-few_at_next r k Black items m s w = cc
+few_at_next r k S items m h1 h2 = grind arith
 
 few_at_done : (r : Rules) (k : ℕ) (S : Colour) (items : List Item) (m : Match) → S ≡ Black
     → FewIn r k (Handshake Black) m → Few r (k + 1) (enter (Setup White) (take_items S items m))
-few_at_done r k Black items m s w = (omega (arith, w.0, w.1), omega arith, w.2)
-few_at_done r k White items m s w = cc
+few_at_done r k S items m h1 h2 = grind arith
 
 few_judged : (r : Rules) (k : ℕ) (S : Colour) (items : List Item) (reason : Reason) (m : Match) → S ≡ Black
     → FewIn r k (Handshake Black) m → Few r (k + 1) (enter (Over reason) (take_items S items m))
-few_judged r k Black items reason m s w = omega (arith, w.0, w.1)
-few_judged r k White items reason m s w = cc
+few_judged r k S items reason m h1 h2 = grind arith
 
 setup_over : (r : Rules) (k : ℕ) (S : Colour) (reason : Reason) (m : Match) → FewIn r k (Setup S) m
     → Few r (k + 1) (over reason m)
-setup_over r k White reason m w = omega (arith, w.0, w.1)
-setup_over r k Black reason m w = omega (arith, w.0, w.1)
+setup_over r k S reason m h1 = grind arith
 
 setup_more : (r : Rules) (k : ℕ) (S : Colour) (m : Match) → m.phase ≡ Setup S → FewIn r k (Setup S) m
     → m.count + 1 < 10000 → Few r (k + 1) (record m { count = m.count + 1 })
-setup_more r k White m e w few = from_phase r (k + 1) (record m { count = m.count + 1 }) (Setup White) e
-    (omega (arith, w.0), few, w.2)
-setup_more r k Black m e w few = from_phase r (k + 1) (record m { count = m.count + 1 }) (Setup Black) e
-    (omega (arith, w.0), few, w.2)
+setup_more r k S m h1 h2 h3 = grind arith
 
 before_over : (r : Rules) (k : ℕ) (S : Colour) (reason : Reason) (m : Match) → FewIn r k (AwaitMove S) m
     → Few r (k + 1) (over reason m)
@@ -104,10 +91,7 @@ before_over r k S reason m w = omega (arith, w.0, w.1, w.2, at_most_one (seat m 
 
 before_more : (r : Rules) (k : ℕ) (S : Colour) (m : Match) → m.phase ≡ AwaitMove S → FewIn r k (AwaitMove S) m
     → m.count + 1 < 10000 → Few r (k + 1) (record m { count = m.count + 1 })
-before_more r k White m e w few = from_phase r (k + 1) (record m { count = m.count + 1 }) (AwaitMove White) e
-    (omega (arith, w.0), few, w.2)
-before_more r k Black m e w few = from_phase r (k + 1) (record m { count = m.count + 1 }) (AwaitMove Black) e
-    (omega (arith, w.0), few, w.2)
+before_more r k S m h1 h2 h3 = grind arith
 
 offer_more : (limit k n count : ℕ) (o : Bool) → o ≡ false → k ≤ 22000 + 10002 * n + count + one_if o
     → k + 1 ≤ 22000 + 10002 * n + count + 1
@@ -116,19 +100,11 @@ offer_more limit k n count false e h = omega (arith, h)
 
 before_offers : (r : Rules) (k : ℕ) (S : Colour) (m : Match) → m.phase ≡ AwaitMove S → FewIn r k (AwaitMove S) m
     → (seat m S).offers ≡ false → Few r (k + 1) (offered S m)
-before_offers r k White m e w none = from_phase r (k + 1) (offered White m) (AwaitMove White) e
-    (offer_more r.limit k (length m.played) m.count m.white.offers none w.0, w.1, w.2)
-before_offers r k Black m e w none = from_phase r (k + 1) (offered Black m) (AwaitMove Black) e
-    (offer_more r.limit k (length m.played) m.count m.black.offers none w.0, w.1, w.2)
+before_offers r k S m h1 h2 h3 = grind arith
 
 plays_more : (r : Rules) (k : ℕ) (S : Colour) (move : Move) (used : ℕ) (m : Match) → FewIn r k (AwaitMove S) m
     → length m.played < r.limit → Few r (k + 1) (played_by S move used m)
-plays_more r k White move used m w room =
-    let l : length (m.played ++ move ∷ []) ≡ length m.played + 1 =
-    length-append m.played (move ∷ []) in (omega (arith, w.0, l), w.1, omega (arith, l, room))
-plays_more r k Black move used m w room =
-    let l : length (m.played ++ move ∷ []) ≡ length m.played + 1 =
-    length-append m.played (move ∷ []) in (omega (arith, w.0, l), w.1, omega (arith, l, room))
+plays_more r k S move used m h1 h2 = grind (arith, length-append m.played (move ∷ []))
 
 after_over : (r : Rules) (k : ℕ) (S : Colour) (reason : Reason) (m : Match) → FewIn r k (AwaitPong S) m
     → Few r (k + 1) (over reason m)
@@ -136,10 +112,7 @@ after_over r k S reason m w = omega (arith, w.0, w.1, w.2, at_most_one (seat m S
 
 after_more : (r : Rules) (k : ℕ) (S : Colour) (m : Match) → m.phase ≡ AwaitPong S → FewIn r k (AwaitPong S) m
     → m.count + 1 < 10000 → Few r (k + 1) (record m { count = m.count + 1 })
-after_more r k White m e w few = from_phase r (k + 1) (record m { count = m.count + 1 }) (AwaitPong White) e
-    (omega (arith, w.0), few, w.2)
-after_more r k Black m e w few = from_phase r (k + 1) (record m { count = m.count + 1 }) (AwaitPong Black) e
-    (omega (arith, w.0), few, w.2)
+after_more r k S m h1 h2 h3 = grind arith
 
 offer_after : (k n count : ℕ) (o : Bool) → o ≡ false → k + 10001 ≤ 22000 + 10002 * n + count + one_if o
     → k + 1 + 10001 ≤ 22000 + 10002 * n + count + 1
@@ -148,10 +121,7 @@ offer_after k n count false e h = omega (arith, h)
 
 after_offers : (r : Rules) (k : ℕ) (S : Colour) (m : Match) → m.phase ≡ AwaitPong S → FewIn r k (AwaitPong S) m
     → (seat m S).offers ≡ false → Few r (k + 1) (offered S m)
-after_offers r k White m e w none = from_phase r (k + 1) (offered White m) (AwaitPong White) e
-    (offer_after k (length m.played) m.count m.white.offers none w.0, w.1, w.2)
-after_offers r k Black m e w none = from_phase r (k + 1) (offered Black m) (AwaitPong Black) e
-    (offer_after k (length m.played) m.count m.black.offers none w.0, w.1, w.2)
+after_offers r k S m h1 h2 h3 = grind arith
 
 after_passes : (r : Rules) (k : ℕ) (S : Colour) (m : Match) → FewIn r k (AwaitPong S) m
     → Few r (k + 1) (open_turn (other S) m)
@@ -213,8 +183,7 @@ lines r k S kind moment m w = record {
 
 opened : (r : Rules) (k : ℕ) (S : Colour) (moment : ℕ) (m : Match) → FewIn r k (SendTurn S) m
     → Few r k (record m { phase = AwaitMove S; opened = moment })
-opened r k White moment m w = (omega (arith, w.0), w.1, w.2)
-opened r k Black moment m w = (omega (arith, w.0), w.1, w.2)
+opened r k S moment m h1 = grind arith
 
 few_opened : (r : Rules) (k : ℕ) (S : Colour) (moment : ℕ) (m : Match) → opens m.phase S ≡ true → Few r k m
     → Few r k (record m { phase = AwaitMove S; opened = moment })

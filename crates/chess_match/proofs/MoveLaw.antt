@@ -144,34 +144,7 @@ end_moves r m O reason = flat_map-append move_sent (unsent_lines r m O m.unsent_
     ∙ append-nil (flat_map move_sent (unsent_lines r m O m.unsent_to)) ∙ untold_moves r m O m.unsent_to
 
 entry_told : (r : Rules) (m : Match) (O : Colour) (p : Phase) → moves_sent (entry_to r m O p) ≡ entry_moves r m O p
-entry_told r m O (Handshake c) = at (same_colour c O)
-  where
-    at : (b : Bool) → flat_map move_sent (if b then Says (codes "xboard") ∷ Says (codes "protover 2") ∷ [] else []) ≡ []
-    at true = refl
-    at false = refl
-entry_told r m O (Setup c) = at (same_colour c O)
-  where
-    at : (b : Bool) → flat_map move_sent (if b then setup_lines r else []) ≡ []
-    at true = setup_moves r
-    at false = refl
-entry_told r m O (SendTurn c) = at (same_colour c O)
-  where
-    at : (b : Bool) → flat_map move_sent (if b then opening_lines r m O else [])
-        ≡ (if b then (if nat_lt 0 (length m.played) then last_text r m O else []) else [])
-    at true = opening_moves r m O
-    at false = refl
-entry_told r m O (AwaitMove c) = refl
-entry_told r m O (AwaitPong c) = at (same_colour c O)
-  where
-    at : (b : Bool) → flat_map move_sent (if b then ping (ping_number m O) ∷ [] else []) ≡ []
-    at true = refl
-    at false = refl
-entry_told r m O (Over reason) = at (is_unwritten reason O)
-  where
-    at : (b : Bool) → flat_map move_sent (if b then [] else end_lines r m O reason)
-        ≡ (if b then [] else untold_text r m O m.unsent_to)
-    at true = refl
-    at false = end_moves r m O reason
+entry_told r m O p = grind (arith, setup_moves r, opening_moves r m O, end_moves r m O)
 
 -- ---- one event
 

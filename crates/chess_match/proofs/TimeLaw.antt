@@ -105,33 +105,7 @@ opening_times own r m S = at (nat_lt 0 (length (seat m S).used))
 
 in_openings : (own : Bool) (r : Rules) (m : Match) (S : Colour) (p : Phase) → is_opening p ≡ false
     → flat_map (numbers own) (entry_to r m S p) ≡ []
-in_openings own r m S (Handshake c) e = at own (same_colour c S)
-  where
-    at : (own b : Bool) → flat_map (numbers own) (if b then Says (codes "xboard") ∷ Says (codes "protover 2")
-        ∷ [] else []) ≡ []
-    at true true = refl
-    at false true = refl
-    at true false = refl
-    at false false = refl
-in_openings own r m S (Setup c) e = at (same_colour c S)
-  where
-    at : (b : Bool) → flat_map (numbers own) (if b then setup_lines r else []) ≡ []
-    at true = setup_times own r
-    at false = refl
-in_openings own r m S (AwaitMove c) e = refl
-in_openings own r m S (AwaitPong c) e = at own (same_colour c S)
-  where
-    at : (own b : Bool) → flat_map (numbers own) (if b then ping (ping_number m S) ∷ [] else []) ≡ []
-    at true true = refl
-    at false true = refl
-    at true false = refl
-    at false false = refl
-in_openings own r m S (Over reason) e = at (is_unwritten reason S)
-  where
-    at : (b : Bool) → flat_map (numbers own) (if b then [] else end_lines r m S reason) ≡ []
-    at true = refl
-    at false = end_times own r m S reason
-in_openings own r m S (SendTurn c) e = cc
+in_openings own r m S p h1 = grind (arith, setup_times own r, end_times own r m S, no_text own)
 
 opening_told : (own : Bool) (r : Rules) (m : Match) (S c : Colour)
     → flat_map (numbers own) (entry_to r m S (SendTurn c)) ≡ (if same_colour c S then clock_told own r m S else [])
