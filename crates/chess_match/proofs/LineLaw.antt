@@ -147,7 +147,7 @@ lines r k S kind moment m w = record {
   handshake_ends = λ p d. few_at_end r k S (items_of_line kind) Agreed m (into_phase r k m (Handshake S) p w);
   handshake_counts = λ p d few. few_counted r k S (items_of_line kind) m p (into_phase r k m (Handshake S) p w) few;
   handshake_next = λ p s d. few_at_next r k S (items_of_line kind) m s (into_phase r k m (Handshake White) p w);
-  handshake_judged = λ p s d c x. few_judged r k S (items_of_line kind) Agreed m s
+  handshake_judged = λ p s d c x mild. few_judged r k S (items_of_line kind) Agreed m s
       (into_phase r k m (Handshake Black) p w);
   handshake_done = λ p s d. few_at_done r k S (items_of_line kind) m s (into_phase r k m (Handshake Black) p w);
   setup_ends = λ p reason n. setup_over r k S reason m (into_phase r k m (Setup S) p w);

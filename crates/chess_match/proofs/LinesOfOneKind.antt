@@ -126,7 +126,7 @@ lines_none f r S kind moment m i here = record {
       (items_phase S (items_of_line kind) m)
       here;
   handshake_next = λ p s d. quiet_sends_none f r S m _ i refl;
-  handshake_judged = λ p s d c x on some. not_on on;
+  handshake_judged = λ p s d c x mild on some. not_on on;
   handshake_done = λ p s d. quiet_sends_none f r S m _ i refl;
   setup_ends = λ p reason n on some. not_on on;
   setup_counts = λ p pong few. same_sends_none f r S m (record m { count = m.count + 1 }) refl here;

@@ -118,19 +118,7 @@ last_moves r m O = grind arith
 opening_moves : (r : Rules) (m : Match) (O : Colour) → moves_sent (opening_lines r m O)
     ≡ (if nat_lt 0 (length m.played) then last_text r m O else [])
 unfolding opening_lines
-opening_moves r m O = at (nat_lt 0 (length (seat m O).used))
-  where
-    at : (b : Bool) → flat_map move_sent (if b then clock_lines r m O
-        ++ last_move_lines r m O else last_move_lines r m O ++ (clock_lines r m O ++ Says (codes "go") ∷ []))
-        ≡ (if nat_lt 0 (length m.played) then last_text r m O else [])
-    at true = rw (flat_map-append move_sent (clock_lines r m O) (last_move_lines r m O), clock_moves r m O)
-        (last_moves r m O)
-    at false = rw (
-      flat_map-append move_sent (last_move_lines r m O) (clock_lines r m O ++ Says (codes "go") ∷ []),
-      flat_map-append move_sent (clock_lines r m O) (Says (codes "go") ∷ []),
-      clock_moves r m O,
-      append-nil (flat_map move_sent (last_move_lines r m O)),
-    ) (last_moves r m O)
+opening_moves r m O = grind (arith, flat_map-append, clock_moves r m O, last_moves r m O, append-nil)
 
 untold_moves : (r : Rules) (m : Match) (O : Colour) (unsent_to : Option Colour)
     → moves_sent (unsent_lines r m O unsent_to) ≡ untold_text r m O unsent_to
@@ -183,20 +171,7 @@ ended_told : (r : Rules) (X A : List (List ℕ)) (O : Colour) (failed : Bool) (r
     (unsent_to : Option Colour) → X ++ untold_text r (over reason m) O unsent_to ≡ A
     → (X ++ (if failed then [] else untold_text r (over reason m) O unsent_to))
     ++ owed_to r (over reason m) O unsent_to failed ≡ A
-ended_told r X A O true reason m None h = append-nil (X ++ []) ∙ h
-ended_told r X A O false reason m None h = append-nil (X ++ []) ∙ h
-ended_told r X A O failed reason m (Some c) h = at (same_colour c O) failed h
-  where
-    t : List (List ℕ)
-    t = last_text r (over reason m) O
-
-    at : (b failed : Bool) → X ++ (if b then last_text r (over reason m) O else []) ≡ A
-        → (X ++ (if failed then [] else (if b then last_text r (over reason m) O else [])))
-        ++ (if b && (false || failed) then last_text r (over reason m) O else []) ≡ A
-    at true true h = rw (append-nil X) h
-    at false true h = append-nil (X ++ []) ∙ h
-    at true false h = append-nil (X ++ last_text r (over reason m) O) ∙ h
-    at false false h = append-nil (X ++ []) ∙ h
+ended_told r X A O failed reason m unsent_to h = grind (arith, append-nil)
 
 over_told : (r : Rules) (X : List (List ℕ)) (O : Colour) (failed : Bool) (p : Phase) (reason : Reason) (m : Match)
     → is_same_phase p (Over reason) ≡ false
@@ -444,7 +419,7 @@ lines_go r X S O kind moment m here o h =
           (orderly_in r m (Handshake S) p o) o h;
       handshake_next = λ p s d. (handshake_enters r X S O (items_of_line kind) m (orderly_in r m (Handshake White) p o)
           h).0;
-      handshake_judged = λ p s d c f. handshake_judged c f (orderly_in r m (Handshake Black) p o);
+      handshake_judged = λ p s d c f mild. handshake_judged c f (orderly_in r m (Handshake Black) p o);
       handshake_done = λ p s d. (handshake_enters r X S O (items_of_line kind) m (orderly_in r m (Handshake Black) p o)
           h).1;
       setup_ends = λ p reason n. ends_goes r X O reason m on (n O) h;

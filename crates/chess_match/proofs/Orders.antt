@@ -130,7 +130,7 @@ lines_kept r S kind moment m k = record {
   handshake_next = λ p s d. items_kept r S (items_of_line kind) m
       (enter (Handshake Black) (take_items S (items_of_line kind) m)) refl
       refl refl (none_yet r S White (items_of_line kind) m p k) k;
-  handshake_judged = λ p s d c f. items_kept r S (items_of_line kind) m
+  handshake_judged = λ p s d c f mild. items_kept r S (items_of_line kind) m
       (enter (Over (Faulted c f)) (take_items S (items_of_line kind) m)) refl refl refl tt k;
   handshake_done = λ p s d. items_kept r S (items_of_line kind) m
       (enter (Setup White) (take_items S (items_of_line kind) m)) refl

@@ -1,7 +1,7 @@
 -- What a line can make of a match, whatever it says: what holds of each of these matches holds of the match after it.
 use native.Mathlib.Omega.{arith}
-use Rattle.std.proofs.Common.{◌≡◌, ℕ, ◌+◌, ◌-◌, ◌≤◌, ◌<◌, Bool, true, false, ◌&&◌, List, [], ◌∷◌, ◌++◌, length, refl, ap, sym, subst, Option, None, Some}
-use Rattle.std.specs.Prelude.{if◌then◌else◌, nat_lt, nat_le, ◌==◌}
+use Rattle.std.proofs.Common.{◌≡◌, ℕ, ◌+◌, ◌-◌, ◌≤◌, ◌<◌, Bool, true, false, not, ◌&&◌, List, [], ◌∷◌, ◌++◌, length, refl, ap, sym, subst, Option, None, Some}
+use Rattle.std.specs.Prelude.{if◌then◌else◌, nat_lt, nat_le, ◌==◌, codes, is_some}
 use Rattle.std.proofs.lemmas.Bool.{leb-false, ltb-false}
 use Rattle.chess_base.specs.declared.man.Colour.{Colour}
 use Rattle.chess_base.specs.declared.man.Colour.TheVariants.{White, Black}
@@ -9,11 +9,11 @@ use Rattle.chess_base.specs.declared.man.Move.{Move}
 use Rattle.chess_base.specs.Men.{other, same_colour}
 use Rattle.chess_game.specs.declared.verdicts.Verdict.{Verdict}
 use Rattle.cecp_engine.specs.EngineLines.{line_kind, LineKind, Features, Moves, Resigns, OffersDraw, ClaimsDraw, ClaimsWin, Rejects, Answers, SaysElse}
-use Rattle.cecp_engine.specs.Items.{Item, has_done}
+use Rattle.cecp_engine.specs.Items.{Item, has_done, plays_fischerandom, takes}
 use Rattle.chess_match.specs.laws.Laws.{move_said, is_pong}
 use Rattle.chess_match.specs.laws.Machine.{Match, match_after, after_kind, items_of_line, seat, clock, over, ignore, enter, open_turn, take_items, handshake_ended, handshake_line, after_handshakes, missing, ready, unless_decided, setup_line, played_by, played_row, offer_row, draw_row, was_sent_move, turn_line, before_row, before_line, after_line, ping_number}
 use Rattle.chess_match.specs.Events.{Event, Line, Opened, OutputEnds, FailsToRead, FailsToWrite}
-use Rattle.chess_match.specs.Rules.{Rules}
+use Rattle.chess_match.specs.Rules.{Rules, is_fischerandom}
 use Rattle.chess_match.specs.Lines.{SentLine}
 use Rattle.chess_match.specs.laws.Blocks.{block}
 use Rattle.chess_match.specs.Reasons.{is_unwritten}
@@ -22,7 +22,7 @@ use Rattle.chess_match.specs.declared.phase.Phase.{Phase}
 use Rattle.chess_match.specs.declared.phase.Phase.TheVariants.{Handshake, Setup, SendTurn, AwaitMove, AwaitPong, Over}
 use Rattle.chess_match.specs.declared.reason.DrawClaim.{DrawClaim}
 use Rattle.chess_match.specs.declared.reason.MatchFault.{MatchFault}
-use Rattle.chess_match.specs.declared.reason.MatchFault.TheVariants.{Flood, NoDone, Ended, Read, Write}
+use Rattle.chess_match.specs.declared.reason.MatchFault.TheVariants.{Flood, NoDone, NoPing, NoSetboard, NoVariant, Ended, Read, Write}
 use Rattle.chess_match.specs.declared.reason.Reason.{Reason}
 use Rattle.chess_match.specs.declared.reason.Reason.TheVariants.{Decided, Claimed, Agreed, Resigns as ResignsBy, MovesIllegally, MovesOutOfTurn, ClaimsFalsely, RejectsLegalMove, Forfeits, ForfeitsToBareKing, GameTooLong, Faulted}
 use Rattle.chess_match.proofs.Going.{offered, opens_at, reads_on, setup_row}
@@ -163,16 +163,32 @@ handshake_outcome r Black items m P ends counts done =
     by_test P (has_done items) done (λ more. by_test P (nat_le 1000 (m.count + 1)) (λ h. ends more)
     (λ h. counts more (leb-false 1000 (m.count + 1) h)))
 
+-- what is missing of an engine is no write that failed
+abbrev NoWriteFault : Option MatchFault → Type 0
+NoWriteFault None = Unit {0}
+NoWriteFault (Some f) = (c : Colour) → IsNoWrite (Faulted c f)
+
+if_fault : (b : Bool) (x y : Option MatchFault) → NoWriteFault x → NoWriteFault y → NoWriteFault (if b then x else y)
+if_fault true x y p q = p
+if_fault false x y p q = q
+
+misses : (r : Rules) (items : List Item) → NoWriteFault (missing r items)
+misses r items = if_fault (not (takes (codes "ping") items)) (Some NoPing) _ (λ c O. refl)
+    (if_fault (is_some r.start_fen && not (takes (codes "setboard") items)) (Some NoSetboard) _ (λ c O. refl)
+    (if_fault (is_fischerandom r.variant && not (plays_fischerandom items)) (Some NoVariant) None (λ c O. refl) tt))
+
 -- both handshakes are judged
 pub judged_outcome : (r : Rules) (m : Match) (P : Match → Type 0)
-    → ((S : Colour) (f : MatchFault) → P (enter (Over (Faulted S f)) m)) → P (enter (Setup White) m)
+    → ((S : Colour) (f : MatchFault) → IsNoWrite (Faulted S f) → P (enter (Over (Faulted S f)) m))
+    → P (enter (Setup White) m)
     → P (after_handshakes (missing r m.white.items) (missing r m.black.items) m)
-judged_outcome r m P ends on = at (missing r m.white.items) (missing r m.black.items)
+judged_outcome r m P ends on =
+    at (missing r m.white.items) (missing r m.black.items) (misses r m.white.items) (misses r m.black.items)
   where
-    at : (w b : Option MatchFault) → P (after_handshakes w b m)
-    at (Some f) b = ends White f
-    at None (Some f) = ends Black f
-    at None None = on
+    at : (w b : Option MatchFault) → NoWriteFault w → NoWriteFault b → P (after_handshakes w b m)
+    at (Some f) b p q = ends White f (p White)
+    at None (Some f) p q = ends Black f (q Black)
+    at None None p q = on
 
 -- both are ready
 pub begun_outcome : (r : Rules) (m : Match) (P : Match → Type 0) → ((v : Verdict) → P (over (Decided v) m))
@@ -193,7 +209,8 @@ pub record Lines (r : Rules) (S : Colour) (kind : LineKind) (moment : ℕ) (m : 
   pub handshake_next : m.phase ≡ Handshake White → S ≡ White → has_done (items_of_line kind) ≡ true
       → P (enter (Handshake Black) (take_items S (items_of_line kind) m))
   pub handshake_judged : m.phase ≡ Handshake Black → S ≡ Black → has_done (items_of_line kind) ≡ true
-      → (c : Colour) (f : MatchFault) → P (enter (Over (Faulted c f)) (take_items S (items_of_line kind) m))
+      → (c : Colour) (f : MatchFault) → IsNoWrite (Faulted c f)
+      → P (enter (Over (Faulted c f)) (take_items S (items_of_line kind) m))
   pub handshake_done : m.phase ≡ Handshake Black → S ≡ Black → has_done (items_of_line kind) ≡ true
       → P (enter (Setup White) (take_items S (items_of_line kind) m))
   pub setup_ends : m.phase ≡ Setup S → (reason : Reason) → IsNoWrite reason → P (over reason m)

@@ -145,10 +145,7 @@ no_lines S = []
 -- at most one `move` line is left, whoever is on move
 few_left : (p : Phase) (d c : Colour) (t : Option (List ℕ))
     → length (ahead p c (with_line d t no_lines c)) + length (ahead p (other c) (with_line d t no_lines (other c))) ≤ 1
-few_left p White White t = let h = few_ahead p White t in let n = ahead_nil p Black in rw n (omega (arith, h))
-few_left p Black Black t = let h = few_ahead p Black t in let n = ahead_nil p White in rw n (omega (arith, h))
-few_left p White Black t = let h = few_ahead p White t in let n = ahead_nil p Black in rw n (omega (arith, h))
-few_left p Black White t = let h = few_ahead p Black t in let n = ahead_nil p White in rw n (omega (arith, h))
+few_left p d c t = grind (arith, few_ahead p d t, ahead_nil p White, ahead_nil p Black)
 
 nothing_left : (p : Phase) (c : Colour) → length (ahead p c []) + length (ahead p (other c) []) ≤ 1
 nothing_left p c = rw (ahead_nil p c, ahead_nil p (other c)) (omega arith)
@@ -263,7 +260,7 @@ lines_step r d t n m o = record {
   handshake_next = λ p s h. on_steps r d t m (enter (Handshake Black) (take_items d items m)) refl
       (items_played d items m)
       (λ lines S. rw p (handshake_next d t lines S s h));
-  handshake_judged = λ p s h b f. over_steps r d t m (enter (Over (Faulted b f)) (take_items d items m)) refl
+  handshake_judged = λ p s h b f mild. over_steps r d t m (enter (Over (Faulted b f)) (take_items d items m)) refl
       (items_played d items m);
   handshake_done = λ p s h. on_steps r d t m (enter (Setup White) (take_items d items m)) refl (items_played d items m)
       (λ lines S. rw p (handshake_done d t lines S s h));

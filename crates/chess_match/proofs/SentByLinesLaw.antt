@@ -155,7 +155,7 @@ lines_say r d t n m = record {
       refl;
   handshake_counts = λ p h few. handshake_on d t (m.count + 1) m p h;
   handshake_next = λ p s h. handshake_next d t m p s h;
-  handshake_judged = λ p s h b f. handshake_over d t m
+  handshake_judged = λ p s h b f mild. handshake_over d t m
       (enter (Over (Faulted b f)) (take_items d (items_of_line (line_kind t)) m))
       (p ∙ ap Handshake (sym s)) refl refl refl;
   handshake_done = λ p s h. handshake_done d t m p s h;

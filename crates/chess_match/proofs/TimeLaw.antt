@@ -87,21 +87,8 @@ go_times false = refl
 opening_times : (own : Bool) (r : Rules) (m : Match) (S : Colour) → flat_map (numbers own) (opening_lines r m S)
     ≡ clock_told own r m S
 unfolding opening_lines
-opening_times own r m S = at (nat_lt 0 (length (seat m S).used))
-  where
-    at : (b : Bool) → flat_map (numbers own)
-        (if b then clock_lines r m S ++ last_move_lines r m S else last_move_lines r m S
-        ++ (clock_lines r m S ++ Says (codes "go") ∷ [])) ≡ clock_told own r m S
-    at true = flat_map-append (numbers own) (clock_lines r m S) (last_move_lines r m S)
-        ∙ rw (last_times own r m S, append-nil (flat_map (numbers own) (clock_lines r m S))) (clock_times own r m S)
-    at false =
-        flat_map-append (numbers own) (last_move_lines r m S) (clock_lines r m S ++ Says (codes "go") ∷ [])
-        ∙ rw (
-          last_times own r m S,
-          flat_map-append (numbers own) (clock_lines r m S) (Says (codes "go") ∷ []),
-          go_times own,
-          append-nil (flat_map (numbers own) (clock_lines r m S)),
-        ) (clock_times own r m S)
+opening_times own r m S =
+    grind (arith, flat_map-append, last_times own r m S, clock_times own r m S, go_times own, append-nil)
 
 in_openings : (own : Bool) (r : Rules) (m : Match) (S : Colour) (p : Phase) → is_opening p ≡ false
     → flat_map (numbers own) (entry_to r m S p) ≡ []
@@ -109,12 +96,7 @@ in_openings own r m S p h1 = grind (arith, setup_times own r, end_times own r m 
 
 opening_told : (own : Bool) (r : Rules) (m : Match) (S c : Colour)
     → flat_map (numbers own) (entry_to r m S (SendTurn c)) ≡ (if same_colour c S then clock_told own r m S else [])
-opening_told own r m S c = at (same_colour c S)
-  where
-    at : (b : Bool) → flat_map (numbers own) (if b then opening_lines r m S else [])
-        ≡ (if b then clock_told own r m S else [])
-    at true = opening_times own r m S
-    at false = refl
+opening_told own r m S c = grind (arith, opening_times own r m S)
 
 -- ---- the clocks
 
@@ -416,7 +398,7 @@ lines_go own r S c X kind moment m here h = record {
       (times_in own r S X m (Handshake c) p h);
   handshake_next = λ p s d. quiet_goes own r S X m (enter (Handshake Black) (take_items c (items_of_line kind) m)) refl
       (handshake_at p).0;
-  handshake_judged = λ p s d b f. quiet_goes own r S X m
+  handshake_judged = λ p s d b f mild. quiet_goes own r S X m
       (enter (Over (Faulted b f)) (take_items c (items_of_line kind) m)) refl
       (handshake_judged p (Faulted b f)).2;
   handshake_done = λ p s d. quiet_goes own r S X m (enter (Setup White) (take_items c (items_of_line kind) m)) refl

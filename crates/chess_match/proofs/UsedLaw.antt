@@ -140,7 +140,7 @@ lines_grow r S c kind n m = record {
   handshake_next = λ p s d. apart_grow S kind n m (enter (Handshake Black) (take_items c (items_of_line kind) m))
       (Handshake White) p refl
       (items_used c (items_of_line kind) m).0 (items_used c (items_of_line kind) m).1 refl;
-  handshake_judged = λ p s d b f. ends_grow S kind n m
+  handshake_judged = λ p s d b f mild. ends_grow S kind n m
       (enter (Over (Faulted b f)) (take_items c (items_of_line kind) m))
       (items_used c (items_of_line kind) m).0 (items_used c (items_of_line kind) m).1 refl;
   handshake_done = λ p s d. apart_grow S kind n m (enter (Setup White) (take_items c (items_of_line kind) m))
