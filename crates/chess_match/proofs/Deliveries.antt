@@ -259,19 +259,11 @@ delivered_as r old new core played m due f g e (m', K, d) = (
 
 pub is_now_off : (r : Rules) (core : MatchState) (played : List Move) (m : Match) → Represents r core played m
     → not (is_on core.phase) ≡ true → is_on m.phase ≡ false
-is_now_off r core played m s h = at (is_on m.phase) refl
-  where
-    at : (b : Bool) → is_on m.phase ≡ b → is_on m.phase ≡ false
-    at false e = e
-    at true e = let no : false ≡ true = sym (ap not (ap is_on s.phase ∙ e)) ∙ h in absurd cc
+is_now_off r core played m s h = grind (arith, s.phase)
 
 pub is_now_on : (r : Rules) (core : MatchState) (played : List Move) (m : Match) → Represents r core played m
     → not (is_on core.phase) ≡ false → is_on m.phase ≡ true
-is_now_on r core played m s h = at (is_on m.phase) refl
-  where
-    at : (b : Bool) → is_on m.phase ≡ b → is_on m.phase ≡ true
-    at true e = e
-    at false e = let no : true ≡ false = sym (ap not (ap is_on s.phase ∙ e)) ∙ h in absurd cc
+is_now_on r core played m s h = grind (arith, s.phase)
 
 -- the same, where the other side is computed
 pub delivered_at : (r : Rules) (old new : Passing) (core : MatchState) (played : List Move) (m : Match)

@@ -102,19 +102,7 @@ moved_same Black move used m =
 farewell_same : (r : Rules) (m : machine.Match) → m.unsent_to ≡ owed_in m.phase → (reason : Reason) (S : Colour)
     → farewell r (view m) reason S ≡ end_lines r (machine.over reason m) S reason
 unfolding end_lines last_move_sent
-farewell_same r m u reason S = rw u (ap
-    (λ (l : List SentLine). l ++ (Says (codes "result " ++ result_text (outcome_by_reason reason) (comment_of reason))
-    ∷ Says (codes "quit") ∷ []))
-    (at m.phase))
-  where
-    at : (p : MachinePhase) → list_if (is_owed (phase_of m.opened p) S) (move_line r (view m) S ∷ [])
-        ≡ unsent_lines r (machine.over reason m) S (owed_in p)
-    at (phases.AwaitPong c) = refl
-    at (phases.Handshake c) = refl
-    at (phases.Setup c) = refl
-    at (phases.SendTurn c) = refl
-    at (phases.AwaitMove c) = refl
-    at (phases.Over reason) = refl
+farewell_same r m u reason S = grind (arith, u)
 
 -- the match ends: `m` is the match before the event, `m'` the same but for what the event changed before the end
 agree_over : (r : Rules) (m m' : machine.Match) (reason : Reason) (n : Match) → n ≡ view m' → m'.unsent_to

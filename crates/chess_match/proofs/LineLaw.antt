@@ -129,17 +129,7 @@ after_passes r k S m w = (omega (arith, w.0, w.1, at_most_one (seat m S).offers)
 
 -- a match that is over had no more lines than all
 few_over : (r : Rules) (k : ℕ) (reason : Reason) (m : Match) → Few r k m → Few r k (over reason m)
-few_over r k reason m w = at m.phase w
-  where
-    at : (p : Phase) → FewIn r k p m → k ≤ 22000 + 10002 * (r.limit + 1)
-    at (Handshake White) w = omega (arith, w.0, w.1)
-    at (Handshake Black) w = omega (arith, w.0, w.1)
-    at (Setup White) w = omega (arith, w.0, w.1)
-    at (Setup Black) w = omega (arith, w.0, w.1)
-    at (SendTurn c) w = omega (arith, w.0, w.1, w.2)
-    at (AwaitMove c) w = omega (arith, w.0, w.1, w.2, at_most_one (seat m c).offers)
-    at (AwaitPong c) w = omega (arith, w.0, w.1, w.2, at_most_one (seat m c).offers)
-    at (Over x) w = w
+few_over r k reason m w = grind (arith, at_most_one (seat m White).offers, at_most_one (seat m Black).offers)
 
 lines : (r : Rules) (k : ℕ) (S : Colour) (kind : LineKind) (moment : ℕ) (m : Match) → Few r k m
     → Lines r S kind moment m (λ m'. Few r (k + 1) m')

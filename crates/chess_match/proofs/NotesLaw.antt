@@ -74,10 +74,7 @@ given_one c S (b ∷ text) = append-nil (if same_colour c S then b ∷ text else
 one_of_both : (first S : Colour) (lines : Colour → List SentLine)
     → (if same_colour first S then bytes_of (lines first) else [])
     ++ (if same_colour (other first) S then bytes_of (lines (other first)) else []) ≡ bytes_of (lines S)
-one_of_both White White lines = append-nil (bytes_of (lines White))
-one_of_both White Black lines = refl
-one_of_both Black White lines = refl
-one_of_both Black Black lines = append-nil (bytes_of (lines Black))
+one_of_both first S lines = grind (arith, append-nil)
 
 given_both : (first S : Colour) (lines : Colour → List SentLine)
     → given_in S (both_notes first lines) ≡ bytes_of (lines S)

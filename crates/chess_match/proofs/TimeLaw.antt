@@ -205,14 +205,7 @@ over_times own r S X takes used (Over reason) h = h
 -- the turn passes
 passes_times : (own : Bool) (c S : Colour) (X t A : List ℕ) → X ++ pending own (AwaitPong c) S t ≡ A
     → (X ++ (if same_colour (other c) S then t else [])) ++ pending own (SendTurn (other c)) S t ≡ A
-passes_times true White White X t A h = rw (append-nil X) h
-passes_times true Black Black X t A h = rw (append-nil X) h
-passes_times true White Black X t A h = append-nil (X ++ t) ∙ h
-passes_times true Black White X t A h = append-nil (X ++ t) ∙ h
-passes_times false White White X t A h = append-nil (X ++ []) ∙ h
-passes_times false Black Black X t A h = append-nil (X ++ []) ∙ h
-passes_times false White Black X t A h = append-nil (X ++ t) ∙ h
-passes_times false Black White X t A h = append-nil (X ++ t) ∙ h
+passes_times own c S X t A h = grind (arith, append-nil)
 
 -- the first turn is opened
 opens_times : (own : Bool) (r : Rules) (S c : Colour) (takes : Bool)
