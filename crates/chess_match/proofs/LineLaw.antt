@@ -47,9 +47,6 @@ FewIn r k p m = AreFew r.limit k p m.count (length m.played) (λ c. (seat m c).o
 into_phase : (r : Rules) (k : ℕ) (m : Match) (p : Phase) → m.phase ≡ p → Few r k m → FewIn r k p m
 into_phase r k m p e w = subst (λ (q : Phase). FewIn r k q m) e w
 
-from_phase : (r : Rules) (k : ℕ) (m : Match) (p : Phase) → m.phase ≡ p → FewIn r k p m → Few r k m
-from_phase r k m p e w = subst (λ (q : Phase). FewIn r k q m) (sym e) w
-
 at_most_one : (b : Bool) → one_if b ≤ 1
 at_most_one true = omega arith
 at_most_one false = omega arith
@@ -93,11 +90,6 @@ before_more : (r : Rules) (k : ℕ) (S : Colour) (m : Match) → m.phase ≡ Awa
     → m.count + 1 < 10000 → Few r (k + 1) (record m { count = m.count + 1 })
 before_more r k S m h1 h2 h3 = grind arith
 
-offer_more : (limit k n count : ℕ) (o : Bool) → o ≡ false → k ≤ 22000 + 10002 * n + count + one_if o
-    → k + 1 ≤ 22000 + 10002 * n + count + 1
-offer_more limit k n count true e h = cc
-offer_more limit k n count false e h = omega (arith, h)
-
 before_offers : (r : Rules) (k : ℕ) (S : Colour) (m : Match) → m.phase ≡ AwaitMove S → FewIn r k (AwaitMove S) m
     → (seat m S).offers ≡ false → Few r (k + 1) (offered S m)
 before_offers r k S m h1 h2 h3 = grind arith
@@ -113,11 +105,6 @@ after_over r k S reason m w = omega (arith, w.0, w.1, w.2, at_most_one (seat m S
 after_more : (r : Rules) (k : ℕ) (S : Colour) (m : Match) → m.phase ≡ AwaitPong S → FewIn r k (AwaitPong S) m
     → m.count + 1 < 10000 → Few r (k + 1) (record m { count = m.count + 1 })
 after_more r k S m h1 h2 h3 = grind arith
-
-offer_after : (k n count : ℕ) (o : Bool) → o ≡ false → k + 10001 ≤ 22000 + 10002 * n + count + one_if o
-    → k + 1 + 10001 ≤ 22000 + 10002 * n + count + 1
-offer_after k n count true e h = cc
-offer_after k n count false e h = omega (arith, h)
 
 after_offers : (r : Rules) (k : ℕ) (S : Colour) (m : Match) → m.phase ≡ AwaitPong S → FewIn r k (AwaitPong S) m
     → (seat m S).offers ≡ false → Few r (k + 1) (offered S m)

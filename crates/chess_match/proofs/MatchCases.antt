@@ -163,9 +163,6 @@ few_for S (b ∷ due) = if same_colour b.to S then none_for S due else few_for S
 few_due : (S first : Colour) (to : Colour → List SentLine) → few_for S (blocks_from first to) ≡ true
 few_due S first to = grind arith
 
-none_due : (S : Colour) (to : Colour → List SentLine) → to S ≡ [] → none_for S (blocks_from White to) ≡ true
-none_due S to h1 = grind arith
-
 abbrev Sending : Colour → Match → List Block → List Act → Type 0
 Sending S m due H = (is_over m.phase ≡ true → none_for S due ≡ true → unsent_in S H ≡ true)
     × (few_for S due ≡ true → sends_end S H ≡ true)

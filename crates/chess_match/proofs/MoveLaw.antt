@@ -207,23 +207,12 @@ fresh r X O m m' p u p' u' h =
     at [] (Some c) p u h = cc
     at (x ∷ ms) unsent_to p u h = cc
 
-texts_more : (r : Rules) (as_san : Bool) (S T : Colour) (ms : List Move) (move : Move) → mover r.first ms ≡ T
-    → texts_from r as_san S r.first [] (ms ++ move ∷ []) ≡ texts_from r as_san S r.first [] ms
-    ++ (if same_colour T S then r.move_text as_san (ms ++ move ∷ []) ∷ [] else [])
-texts_more r as_san S T ms move e = rw e at (texts-snoc r as_san S r.first [] ms move)
-
 -- S's move is played, and is still to be sent to the other
 moved : (r : Rules) (X : List (List ℕ)) (S O : Colour) (items : List Item) (ms : List Move) (move : Move)
     → mover r.first ms ≡ S → SofarBy r X O items ms None
     → SofarBy r X O items (ms ++ move ∷ []) (Some (other S))
-moved r X White Black items ms move e h =
-    told_more X _ _ _ h (texts_more r (takes (codes "san") items) White White ms move e)
-moved r X Black White items ms move e h =
-    told_more X _ _ _ h (texts_more r (takes (codes "san") items) Black Black ms move e)
-moved r X White White items ms move e h =
-    told_more X _ _ _ h (texts_more r (takes (codes "san") items) Black White ms move e)
-moved r X Black Black items ms move e h =
-    told_more X _ _ _ h (texts_more r (takes (codes "san") items) White Black ms move e)
+moved r X S O items ms move e h =
+    grind (arith, texts-snoc r (takes (codes "san") items) (other O) r.first [] ms move, append-nil)
 
 pub some_move : (ms : List Move) (move : Move) → 0 < length (ms ++ move ∷ [])
 some_move ms move = let l : length (ms ++ move ∷ []) ≡ length ms + 1 = length-append ms (move ∷ []) in omega (arith, l)

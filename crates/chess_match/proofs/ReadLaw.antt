@@ -118,24 +118,6 @@ reads_move r m m' final d t text move lines p p' turn played kind reading next c
 
 -- ---- the end
 
-one_said : (kind : LineKind) → length (move_said kind ++ []) ≤ 1
-one_said kind = grind arith
-
-none_behind_pong : (kind : LineKind) → length (moves_said (if is_pong 1 kind then [] else [])) ≤ 1
-none_behind_pong kind = at (is_pong 1 kind)
-  where
-    at : (b : Bool) → length (moves_said (if b then [] else [])) ≤ 1
-    at true = omega arith
-    at false = omega arith
-
-none_after_handshake : (kind : LineKind) → length
-    (moves_said (lines_after_pong (if has_done (items_of_line kind) then [] else []))) ≤ 1
-none_after_handshake kind = at (has_done (items_of_line kind))
-  where
-    at : (b : Bool) → length (moves_said (lines_after_pong (if b then [] else []))) ≤ 1
-    at true = omega arith
-    at false = omega arith
-
 few_ahead : (p : Phase) (d : Colour) (t : Option (List ℕ)) → length (ahead p d (t ∷ [])) ≤ 1
 few_ahead p d t = grind arith
 

@@ -162,10 +162,6 @@ last_short : (r : Rules) (takes : Bool) (used : List ℕ) → length (last_told 
 last_short r true used = omega arith
 last_short r false used = omega arith
 
-if_short : (b : Bool) (t : List ℕ) → length t ≤ 1 → length (if b then [] else t) ≤ 1
-if_short true t h = omega arith
-if_short false t h = h
-
 pending_short : (own : Bool) (p : Phase) (S : Colour) (t : List ℕ) → length t ≤ 1 → length (pending own p S t) ≤ 1
 pending_short own p S t h1 = grind arith
 
@@ -229,21 +225,6 @@ all_more whole r true used u =
     (sum (used ++ u ∷ [])) (omega (arith, l)) (omega (arith, s)))
     ∙ from-append whole r.level used (time_left r.level (length (used ++ u ∷ [])) (sum (used ++ u ∷ [])) / 10 ∷ [])
 
--- the side whose clock it is has moved
-charged_times : (own : Bool) (r : Rules) (S : Colour) (X : List ℕ) (takes : Bool) (used : List ℕ) (u : ℕ)
-    → TimesIn own r S (AwaitMove (told_of own S)) X takes used
-    → TimesIn own r S (AwaitPong (told_of own S)) X takes (used ++ u ∷ [])
-charged_times true r White X takes used u h = told_more X _ _ _ h (all_more true r takes used u)
-charged_times true r Black X takes used u h = told_more X _ _ _ h (all_more true r takes used u)
-charged_times false r White X takes used u h = told_more X _ _ _ h (all_more (same_colour White r.first) r takes used u)
-charged_times false r Black X takes used u h = told_more X _ _ _ h (all_more (same_colour Black r.first) r takes used u)
-
--- the other has
-still_times : (own : Bool) (r : Rules) (S : Colour) (X : List ℕ) (takes : Bool) (used : List ℕ)
-    → TimesIn own r S (AwaitMove (other (told_of own S))) X takes used
-    → TimesIn own r S (AwaitPong (other (told_of own S))) X takes used
-still_times own r S X takes used h1 = grind arith
-
 -- ---- the matches
 
 carried : (own : Bool) (r : Rules) (S : Colour) (p : Phase) (X : List ℕ) (m m' : Match) → m'.white.items ≡ m.white.items
@@ -290,22 +271,7 @@ offers_goes own r S Black X m here h =
 
 played_times : (own : Bool) (r : Rules) (S c : Colour) (X : List ℕ) (move : Move) (used : ℕ) (m : Match)
     → TimesOf own r S (AwaitMove c) X m → TimesOf own r S (AwaitPong c) X (played_by c move used m)
-played_times true r White White X move used m h =
-    charged_times true r White X (takes (codes "time") m.white.items) m.white.used used h
-played_times true r Black Black X move used m h =
-    charged_times true r Black X (takes (codes "time") m.black.items) m.black.used used h
-played_times true r White Black X move used m h =
-    still_times true r White X (takes (codes "time") m.white.items) m.white.used h
-played_times true r Black White X move used m h =
-    still_times true r Black X (takes (codes "time") m.black.items) m.black.used h
-played_times false r White Black X move used m h =
-    charged_times false r White X (takes (codes "time") m.white.items) m.black.used used h
-played_times false r Black White X move used m h =
-    charged_times false r Black X (takes (codes "time") m.black.items) m.white.used used h
-played_times false r White White X move used m h =
-    still_times false r White X (takes (codes "time") m.white.items) m.black.used h
-played_times false r Black Black X move used m h =
-    still_times false r Black X (takes (codes "time") m.black.items) m.white.used h
+played_times own r S c X move used m h = grind (arith, all_more, append-nil)
 
 plays_goes : (own : Bool) (r : Rules) (S c : Colour) (X : List ℕ) (move : Move) (used : ℕ) (m : Match)
     → TimesOf own r S (AwaitMove c) X m → Goes own r S X m (played_by c move used m)

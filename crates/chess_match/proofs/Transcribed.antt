@@ -78,9 +78,6 @@ dropped first es S = false
 abbrev kept : Colour → List Event → (Colour → List SentLine) → Colour → List SentLine
 kept first T due S = if dropped first T S then [] else due S
 
-first_kept : (c d S : Colour) → same_colour c S ≡ true → same_colour c d && not (same_colour d S) ≡ false
-first_kept c d S h1 = grind arith
-
 own_kept : (first : Colour) (T : List Event) (S : Colour) → same_colour first S ≡ true → dropped first T S ≡ false
 own_kept first T S h1 = grind arith
 

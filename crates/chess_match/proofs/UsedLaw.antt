@@ -178,19 +178,6 @@ Ends r S m T before =
     (rest : List ℕ) × (length rest ≤ 1) × (before ++ turn_times S (awaited S m.phase m.opened) T
     ≡ (seat (match_from r m T) S).used ++ rest) × (is_on (match_from r m T).phase ≡ true → rest ≡ [])
 
-own_line : (S : Colour) (opened n : ℕ) (T : List Event) (b : Bool)
-    → (if true && b then (n - opened) ∷ turn_times S None T else turn_times S (Some opened) T)
-    ≡ (if b then (n - opened) ∷ [] else []) ++ turn_times S (if b then None else Some opened) T
-own_line S opened n T true = refl
-own_line S opened n T false = refl
-
-before_line_times : (S c d : Colour) (opened : ℕ) (text : Option (List ℕ)) (n : ℕ) (T : List Event) → same_colour d c
-    ≡ true
-    → turn_times S (awaited S (AwaitMove d) opened) (Line c text n ∷ T)
-    ≡ taken (awaited S (AwaitMove d) opened) (line_kind text) n
-    ++ turn_times S (awaited_then (awaited S (AwaitMove d) opened) (line_kind text)) T
-before_line_times S c d opened text n T h1 = grind arith
-
 -- a line that a turn reads is S's, if S's move is awaited
 line_times : (S c : Colour) (p : Phase) (opened : ℕ) (text : Option (List ℕ)) (n : ℕ) (T : List Event) → reads p c
     ≡ true
