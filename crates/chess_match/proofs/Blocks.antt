@@ -1,4 +1,5 @@
 -- What the blocks of an event hold of lines of one kind.
+use native.Mathlib.Omega.{arith}
 use Rattle.std.proofs.Common.{ℕ, ◌≡◌, Bool, true, false, not, ◌&&◌, List, [], ◌∷◌, ◌++◌, length, drop, refl, ap, ◌∙◌, sym, append-nil}
 use Rattle.std.specs.Prelude.{if◌then◌else◌, codes}
 use Rattle.std.specs.List.{flat_map}
@@ -17,33 +18,19 @@ pub if_nil : {A : Type 0} (b : Bool) (xs : List A) → xs ≡ [] → (if b then 
 if_nil true xs e = refl
 if_nil false xs e = e
 
+answers_none : {A : Type 0} (f : SentLine → List A) → ((text : List ℕ) → f (Says text) ≡ []) → (items : List Item)
+    → flat_map f (answers_to items) ≡ []
+answers_none f a [] = refl
+answers_none f a (i ∷ items) = rw (a (answer_text i.name)) (answers_none f a items)
+
 -- moves and times come of a phase alone
 pub of_block : {A : Type 0} (f : SentLine → List A) → ((text : List ℕ) → f (Says text) ≡ [])
     → (r : Rules) (m m' : Match) (S : Colour)
     → flat_map f (block r m m' S)
     ≡ (if is_same_phase m.phase m'.phase then [] else flat_map f (lines_on_entering r m' S))
 unfolding block
-of_block {A} f a r m m' S =
-    flat_map-append f (answers_to (drop (length (seat m S).items) (seat m' S).items)) _
-    ∙ ap (λ (l : List A). l ++ flat_map f (draw_line (seat m' S) (seat m (other S)) (seat m' (other S))
-    ++ (if is_same_phase m.phase m'.phase then [] else lines_on_entering r m' S)))
-    (answers (drop (length (seat m S).items) (seat m' S).items))
-    ∙ flat_map-append f (draw_line (seat m' S) (seat m (other S)) (seat m' (other S))) _
-    ∙ ap (λ (l : List A). l ++ flat_map f (if is_same_phase m.phase m'.phase then [] else lines_on_entering r m' S))
-    (offer (not (seat m (other S)).offers && (seat m' (other S)).offers && takes (codes "draw") (seat m' S).items))
-    ∙ split (is_same_phase m.phase m'.phase) (lines_on_entering r m' S)
-  where
-    answers : (items : List Item) → flat_map f (answers_to items) ≡ []
-    answers [] = refl
-    answers (i ∷ items) = rw (a (answer_text i.name)) (answers items)
-
-    offer : (b : Bool) → flat_map f (if b then Says (codes "draw") ∷ [] else []) ≡ []
-    offer true = rw (a (codes "draw")) refl
-    offer false = refl
-
-    split : (b : Bool) (ls : List SentLine) → flat_map f (if b then [] else ls) ≡ (if b then [] else flat_map f ls)
-    split true ls = refl
-    split false ls = refl
+of_block f a r m m' S = grind (arith, flat_map-append f,
+    answers_none f a (drop (length (seat m S).items) (seat m' S).items), a (codes "draw"))
 
 pub joined_at : (b : Bool) (x : List SentLine) (bs : List (List SentLine))
     → joined_blocks ((if b then [] else x ∷ []) ++ bs) ≡ (if b then [] else x) ++ joined_blocks bs

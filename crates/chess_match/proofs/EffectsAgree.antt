@@ -35,67 +35,36 @@ use Rattle.chess_match.proofs.Going.{draw_to, items_block, leaves, offered, offe
 use Rattle.chess_match.proofs.Outcomes.{and_first}
 use Rattle.chess_match.specs.ties.SameEffects.{phase_of, view, owed_in, Agrees, EventsAgree}
 use Rattle.chess_match.specs.Acts.{is_over}
-use Rattle.chess_match.specs.Effects.{Match, Handshake, Setup, AfterMove, Over, Effect, beginning, is_owed, move_line, farewell, sends_nothing, sends_to, enter, with_seat, ends, ignores, begins_turn, opening, offer_row, turn_row, moved, move_row, before_move, flag_row, after_move, ping_number, handshake_row, handshake_done, judged, with_answers, setup_row, setup_done, line_row, items_said, clock}
+use Rattle.chess_match.specs.Effects.{Match, Phase, Handshake, Setup, AfterMove, Over, Effect, beginning, is_owed, move_line, farewell, sends_nothing, sends_to, enter, with_seat, ends, ignores, begins_turn, opening, offer_row, turn_row, moved, move_row, before_move, flag_row, after_move, ping_number, handshake_row, handshake_done, judged, with_answers, setup_row, setup_done, line_row, items_said, clock}
 
 -- ---- the match after it
 
+same_match : (p p' : Phase) (f g : Colour → Seat) (ms ms' : List Move) (n n' : ℕ) → p ≡ p'
+    → ((c : Colour) → f c ≡ g c) → ms ≡ ms' → n ≡ n'
+    → (let x : Match = record { phase = p; seat = f; played = ms; count = n } in x)
+    ≡ (let x : Match = record { phase = p'; seat = g; played = ms'; count = n' } in x)
+same_match p p' f g ms ms' n n' e s q c = rw (e, q, c) (ap (λ (h : Colour → Seat). let x : Match = record {
+  phase = p';
+  seat = h;
+  played = ms';
+  count = n';
+} in x) (fun_ext s))
+
 with_seat_same : (S : Colour) (change : Seat → Seat) (m : machine.Match)
     → with_seat S change (view m) ≡ view (machine.with_seat S change m)
-with_seat_same White change m =
-    ap (λ (f : Colour → Seat). let x : Match = record {
-      phase = phase_of m.opened m.phase;
-      seat = f;
-      played = m.played;
-      count = m.count;
-    } in x)
-    (fun_ext at)
-  where
-    at : (c : Colour) → (if same_colour c White then change (machine.seat m c) else machine.seat m c)
-        ≡ machine.seat (machine.with_seat White change m) c
-    at White = refl
-    at Black = refl
-with_seat_same Black change m =
-    ap (λ (f : Colour → Seat). let x : Match = record {
-      phase = phase_of m.opened m.phase;
-      seat = f;
-      played = m.played;
-      count = m.count;
-    } in x)
-    (fun_ext at)
-  where
-    at : (c : Colour) → (if same_colour c Black then change (machine.seat m c) else machine.seat m c)
-        ≡ machine.seat (machine.with_seat Black change m) c
-    at White = refl
-    at Black = refl
+with_seat_same S change m =
+    let n : Match = with_seat S change (view m) in
+    let n' : Match = view (machine.with_seat S change m) in
+    same_match n.phase n'.phase n.seat n'.seat n.played n'.played n.count n'.count (grind arith) (λ c. grind arith)
+    (grind arith) (grind arith)
 
 moved_same : (S : Colour) (move : Move) (used : ℕ) (m : machine.Match)
     → moved S move used (view m) ≡ view (machine.played_by S move used m)
-moved_same White move used m =
-    ap (λ (f : Colour → Seat). let x : Match = record {
-      phase = AfterMove White;
-      seat = f;
-      played = m.played ++ move
-          ∷ [];
-      count = m.count;
-    } in x)
-    (fun_ext at)
-  where
-    at : (c : Colour) → (moved White move used (view m)).seat c ≡ machine.seat (machine.played_by White move used m) c
-    at White = refl
-    at Black = refl
-moved_same Black move used m =
-    ap (λ (f : Colour → Seat). let x : Match = record {
-      phase = AfterMove Black;
-      seat = f;
-      played = m.played ++ move
-          ∷ [];
-      count = m.count;
-    } in x)
-    (fun_ext at)
-  where
-    at : (c : Colour) → (moved Black move used (view m)).seat c ≡ machine.seat (machine.played_by Black move used m) c
-    at White = refl
-    at Black = refl
+moved_same S move used m =
+    let n : Match = moved S move used (view m) in
+    let n' : Match = view (machine.played_by S move used m) in
+    same_match n.phase n'.phase n.seat n'.seat n.played n'.played n.count n'.count (grind arith) (λ c. grind arith)
+    (grind arith) (grind arith)
 
 -- ---- ends
 
@@ -507,13 +476,5 @@ pub over_back : (opened : ℕ) (p : MachinePhase) (reason : Reason) → phase_of
 over_back opened p reason h1 = grind arith
 
 pub start_same : beginning.after ≡ view machine.start
-start_same = ap (λ (f : Colour → Seat). let x : Match = record {
-  phase = Handshake White;
-  seat = f;
-  played = [];
-  count = 0;
-} in x) (fun_ext at)
-  where
-    at : (c : Colour) → beginning.after.seat c ≡ machine.seat machine.start c
-    at White = refl
-    at Black = refl
+start_same = same_match (Handshake White) (Handshake White) beginning.after.seat (view machine.start).seat [] [] 0 0
+    refl (λ c. grind arith) refl refl

@@ -10,6 +10,7 @@ use Rattle.chess_base.specs.declared.man.Move.{Move}
 use Rattle.chess_base.specs.declared.man.Variant.{Variant}
 use Rattle.chess_base.specs.declared.man.Variant.TheVariants.{Normal, Fischerandom}
 use Rattle.chess_base.specs.Men.{other, same_colour}
+use Rattle.chess_base.proofs.shared.Men.{same_colour-self}
 use Rattle.chess_game.specs.declared.verdicts.Verdict.{Verdict}
 use Rattle.cecp_engine.specs.EngineLines.{LineKind, line_kind}
 use Rattle.cecp_engine.specs.Items.{Item, takes}
@@ -325,22 +326,7 @@ handshake_goes own r S c d X items n p m h reason =
 handshake_counts : (own : Bool) (r : Rules) (S c : Colour) (X : List ℕ) (items : List Item) (n : ℕ) (m : Match)
     → m.phase ≡ Handshake c → TimesOf own r S (Handshake c) X m
     → (let m' = take_items c items m in Goes own r S X m (record m' { count = n }))
-handshake_counts own r S White X items n m p h =
-    let m' = take_items White items m in
-    let m'' : Match = record m' { count = n } in
-    counted m'' p (used_same m m'' refl refl (told_of own S) ∙ h.1) h.0
-  where
-    counted : (m'' : Match) → m''.phase ≡ Handshake White → (seat m'' (told_of own S)).used ≡ [] → X ≡ []
-        → Goes own r S X m m''
-    counted m'' p u x = quiet_goes own r S X m m'' (rw p refl) (rw p (x, u))
-handshake_counts own r S Black X items n m p h =
-    let m' = take_items Black items m in
-    let m'' : Match = record m' { count = n } in
-    counted m'' p (used_same m m'' refl refl (told_of own S) ∙ h.1) h.0
-  where
-    counted : (m'' : Match) → m''.phase ≡ Handshake Black → (seat m'' (told_of own S)).used ≡ [] → X ≡ []
-        → Goes own r S X m m''
-    counted m'' p u x = quiet_goes own r S X m m'' (rw p refl) (rw p (x, u))
+handshake_counts own r S c X items n m p h = grind (arith, p, h.0, h.1, same_colour-self c, append-nil)
 
 first_turn : (own : Bool) (r : Rules) (S : Colour) (X : List ℕ) (takes : Bool) (used : List ℕ) → X ≡ [] → used ≡ []
     → (X ++ (if same_colour r.first S then last_told r takes used else []))
