@@ -257,16 +257,8 @@ counts_goes r X S O n m here o h = (
 
 offers_goes : (r : Rules) (X : List (List ℕ)) (S O : Colour) (m : Match) → reads m.phase S ≡ true → Orderly r m
     → Sofar r X O m → Goes r X O m (offered S m)
-offers_goes r X White O m here o h = (
-  stays_told r X O m.phase (offered White m) (reads_stays m.phase White here) (reads_on m.phase White here)
-      (carried r X O m (offered White m) refl refl refl refl h),
-  o,
-)
-offers_goes r X Black O m here o h = (
-  stays_told r X O m.phase (offered Black m) (reads_stays m.phase Black here) (reads_on m.phase Black here)
-      (carried r X O m (offered Black m) refl refl refl refl h),
-  o,
-)
+offers_goes r X S O m here o h =
+    grind (arith, append-nil, reads_stays m.phase S here, reads_on m.phase S here, h, o)
 
 plays_goes : (r : Rules) (X : List (List ℕ)) (S O : Colour) (move : Move) (used : ℕ) (m : Match) → m.phase ≡ AwaitMove S
     → Orderly r m → Sofar r X O m → Goes r X O m (played_by S move used m)
@@ -320,56 +312,24 @@ passes_goes r X S O m p o h =
 handshake_over : (r : Rules) (X : List (List ℕ)) (S O : Colour) (items : List Item) (reason : Reason) (m : Match)
     → is_on m.phase ≡ true → is_unwritten reason O ≡ false
     → (m.played ≡ []) × (m.unsent_to ≡ None) → Sofar r X O m → Goes r X O m (over reason (take_items S items m))
-handshake_over r X S O items reason m on n k h = (
-  over_told r X O false m.phase reason (take_items S items m) (leaves m.phase reason on) n
-      (fresh r X O m (over reason (take_items S items m)) k.0 k.1 (items_played S items m ∙ k.0)
-      (items_unsent_to S items m ∙ k.1)
-      h),
-  tt,
-)
+handshake_over r X S O items reason m on n k h =
+    grind (arith, append-nil, leaves m.phase reason on, n, h, k.0, k.1)
 
 handshake_counts : (r : Rules) (X : List (List ℕ)) (S O : Colour) (items : List Item) (m : Match)
     → reads m.phase S ≡ true → (m.played ≡ []) × (m.unsent_to ≡ None) → Orderly r m → Sofar r X O m
     → (let m' = take_items S items m in Goes r X O m (record m' { count = m.count + 1 }))
-handshake_counts r X White O items m here k o h = (
-  stays_told r X O m.phase (let m' = take_items White items m in record m' { count = m.count + 1 })
-      (reads_stays m.phase White here) (reads_on m.phase White here)
-      (fresh r X O m (let m' = take_items White items m in record m' { count = m.count + 1 }) k.0 k.1 k.0 k.1 h),
-  o,
-)
-handshake_counts r X Black O items m here k o h = (
-  stays_told r X O m.phase (let m' = take_items Black items m in record m' { count = m.count + 1 })
-      (reads_stays m.phase Black here) (reads_on m.phase Black here)
-      (fresh r X O m (let m' = take_items Black items m in record m' { count = m.count + 1 }) k.0 k.1 k.0 k.1 h),
-  o,
-)
+handshake_counts r X S O items m here k o h =
+    grind (arith, append-nil, reads_stays m.phase S here, reads_on m.phase S here, h, o, k.0, k.1)
 
 handshake_enters : (r : Rules) (X : List (List ℕ)) (S O : Colour) (items : List Item) (m : Match) → (m.played ≡ [])
     × (m.unsent_to ≡ None) → Sofar r X O m
     → (Goes r X O m (enter (Handshake Black) (take_items S items m)))
     × (Goes r X O m (enter (Setup White) (take_items S items m)))
-handshake_enters r X S O items m k h = (
-  (
-    quiet_told r X O m.phase (enter (Handshake Black) (take_items S items m)) refl refl
-        (fresh r X O m (enter (Handshake Black) (take_items S items m)) k.0 k.1 (items_played S items m ∙ k.0)
-        (items_unsent_to S items m ∙ k.1) h),
-    (items_played S items m ∙ k.0, items_unsent_to S items m ∙ k.1),
-  ),
-  (
-    quiet_told r X O m.phase (enter (Setup White) (take_items S items m)) refl refl
-        (fresh r X O m (enter (Setup White) (take_items S items m)) k.0 k.1 (items_played S items m ∙ k.0)
-        (items_unsent_to S items m ∙ k.1) h),
-    (items_played S items m ∙ k.0, items_unsent_to S items m ∙ k.1),
-  ),
-)
+handshake_enters r X S O items m k h = grind (arith, append-nil, h, k.0, k.1)
 
 setup_enters : (r : Rules) (X : List (List ℕ)) (O : Colour) (m : Match) → (m.played ≡ []) × (m.unsent_to ≡ None)
     → Sofar r X O m → Goes r X O m (enter (Setup Black) m)
-setup_enters r X O m k h = (
-  quiet_told r X O m.phase (enter (Setup Black) m) refl refl
-      (fresh r X O m (enter (Setup Black) m) k.0 k.1 k.0 k.1 h),
-  k,
-)
+setup_enters r X O m k h = grind (arith, append-nil, h, k.0, k.1)
 
 none_told : (c O : Colour) (t : List (List ℕ)) (ms : List Move) → ms ≡ []
     → (if same_colour c O then (if nat_lt 0 (length ms) then t else []) else []) ≡ []
@@ -387,14 +347,7 @@ setup_opens r X O m k h = (
 judged_told : (r : Rules) (X : List (List ℕ)) (O c : Colour) (f : MatchFault) (p : Phase) (m : Match)
     → m.unsent_to ≡ None → Sofar r X O (enter (Over (Faulted c f)) m)
     → Told r X O false p (enter (Over (Faulted c f)) m)
-judged_told r X O c f p m u h = rw u (at (is_same_phase p (Over (Faulted c f))) (is_unwritten (Faulted c f) O)
-    (rw u at h))
-  where
-    at : (b w : Bool) → X ++ [] ≡ all_texts r (enter (Over (Faulted c f)) m) O
-        → (X ++ (if b then [] else (if w then [] else []))) ++ [] ≡ all_texts r (enter (Over (Faulted c f)) m) O
-    at true w h = append-nil (X ++ []) ∙ h
-    at false true h = append-nil (X ++ []) ∙ h
-    at false false h = append-nil (X ++ []) ∙ h
+judged_told r X O c f p m u h = grind (arith, append-nil, u, h)
 
 lines_go : (r : Rules) (X : List (List ℕ)) (S O : Colour) (kind : LineKind) (moment : ℕ) (m : Match) → reads m.phase S
     ≡ true → Orderly r m → Sofar r X O m
