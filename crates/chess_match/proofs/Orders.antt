@@ -52,16 +52,6 @@ abbrev pub Kept : Rules → Match → Type 0
 Kept r m = Orderly r m × (length m.white.used ≡ turns_of White r.first m.played)
     × (length m.black.used ≡ turns_of Black r.first m.played)
 
-kept_over : (r : Rules) (m m' : Match) → m'.white.used ≡ m.white.used → m'.black.used ≡ m.black.used → m'.played
-    ≡ m.played → Orderly r m' → Kept r m → Kept r m'
-kept_over r m m' w b p o k = (
-  o,
-  ap (λ (xs : List ℕ). length xs) w ∙ k.1
-      ∙ ap (λ (ms : List Move). turns_of White r.first ms) (sym p),
-  ap (λ (xs : List ℕ). length xs) b ∙ k.2
-      ∙ ap (λ (ms : List Move). turns_of Black r.first ms) (sym p),
-)
-
 used_more : (r : Rules) (C T : Colour) (ms : List Move) (move : Move) (xs : List ℕ) (u : ℕ) → mover r.first ms ≡ T
     → same_colour T C ≡ true → length xs ≡ turns_of C r.first ms
     → length (xs ++ u ∷ []) ≡ turns_of C r.first (ms ++ move ∷ [])
@@ -97,67 +87,32 @@ plays_kept r Black move used m p k =
       used_more r Black Black m.played move m.black.used used e refl k.2,
     )
 
-items_kept : (r : Rules) (S : Colour) (items : List Item) (m m' : Match) → m'.white.used
-    ≡ (take_items S items m).white.used → m'.black.used ≡ (take_items S items m).black.used
-    → m'.played ≡ (take_items S items m).played → Orderly r m' → Kept r m → Kept r m'
-items_kept r White items m m' w b p o k = kept_over r m m' w b p o k
-items_kept r Black items m m' w b p o k = kept_over r m m' w b p o k
-
-none_yet : (r : Rules) (S d : Colour) (items : List Item) (m : Match) → m.phase ≡ Handshake d → Kept r m
-    → ((take_items S items m).played ≡ []) × ((take_items S items m).unsent_to ≡ None)
-none_yet r S d items m p k = let o = orderly_in r m (Handshake d) p k.0 in (
-  items_played S items m
-      ∙ o.0,
-  items_unsent_to S items m ∙ o.1,
-)
-
-handshake_kept : (r : Rules) (S : Colour) (items : List Item) (n : ℕ) (m : Match) → Kept r m
-    → (let m' = take_items S items m in Kept r (record m' { count = n }))
-handshake_kept r White items n m k = k
-handshake_kept r Black items n m k = k
-
-offers_kept : (r : Rules) (S : Colour) (m : Match) → Kept r m → Kept r (offered S m)
-offers_kept r White m k = k
-offers_kept r Black m k = k
-
 lines_kept : (r : Rules) (S : Colour) (kind : LineKind) (moment : ℕ) (m : Match) → Kept r m
     → Lines r S kind moment m (λ m'. Kept r m')
-lines_kept r S kind moment m k = record {
-  handshake_ends = λ p d. items_kept r S (items_of_line kind) m
-      (over (Faulted S NoDone) (take_items S (items_of_line kind) m)) refl
-      refl refl tt k;
-  handshake_counts = λ p d few. handshake_kept r S (items_of_line kind) (m.count + 1) m k;
-  handshake_next = λ p s d. items_kept r S (items_of_line kind) m
-      (enter (Handshake Black) (take_items S (items_of_line kind) m)) refl
-      refl refl (none_yet r S White (items_of_line kind) m p k) k;
-  handshake_judged = λ p s d c f mild. items_kept r S (items_of_line kind) m
-      (enter (Over (Faulted c f)) (take_items S (items_of_line kind) m)) refl refl refl tt k;
-  handshake_done = λ p s d. items_kept r S (items_of_line kind) m
-      (enter (Setup White) (take_items S (items_of_line kind) m)) refl
-      refl refl (none_yet r S Black (items_of_line kind) m p k) k;
-  setup_ends = λ p reason n. (tt, k.1, k.2);
-  setup_counts = λ p pong few. k;
-  setup_next = λ p s pong. (orderly_in r m (Setup White) p k.0, k.1, k.2);
-  setup_done = λ p s pong undecided. (first_turn (orderly_in r m (Setup Black) p k.0).0, k.1, k.2);
-  before = λ p. record {
-    row = row;
-    plays = λ text move is reading room timely undecided. plays_kept r S move (moment - m.opened) m p k;
-    decides = λ text move v is reading room timely.
-        (tt, (plays_kept r S move (moment - m.opened) m p k).1, (plays_kept r S move (moment - m.opened) m p k).2);
-  };
-  behind = λ p. record { row = row; passes = λ none. (((orderly_in r m (AwaitPong S) p k.0).0, refl), k.1, k.2) };
-}
-  where
-    row : InTurn r S kind m (λ m'. Kept r m')
-    row = record {
+lines_kept r S kind moment m k =
+    let row : InTurn r S kind m (λ m'. Kept r m') = record {
       ends = λ reason n. (tt, k.1, k.2);
       counts = λ none few. k;
-      offers =
-          λ none own theirs. offers_kept r S m k;
+      offers = λ none own theirs. grind (arith, k.0, k.1, k.2);
+    } in
+    record {
+      handshake_ends = λ p d. grind (arith, p, k.0, k.1, k.2);
+      handshake_counts = λ p d few. grind (arith, p, k.0, k.1, k.2);
+      handshake_next = λ p s d. grind (arith, p, k.0, k.1, k.2);
+      handshake_judged = λ p s d c f mild. grind (arith, p, k.0, k.1, k.2);
+      handshake_done = λ p s d. grind (arith, p, k.0, k.1, k.2);
+      setup_ends = λ p reason n. (tt, k.1, k.2);
+      setup_counts = λ p pong few. k;
+      setup_next = λ p s pong. (orderly_in r m (Setup White) p k.0, k.1, k.2);
+      setup_done = λ p s pong undecided. grind (arith, p, k.0, k.1, k.2);
+      before = λ p. record {
+        row = row;
+        plays = λ text move is reading room timely undecided. plays_kept r S move (moment - m.opened) m p k;
+        decides = λ text move v is reading room timely.
+            (tt, (plays_kept r S move (moment - m.opened) m p k).1, (plays_kept r S move (moment - m.opened) m p k).2);
+      };
+      behind = λ p. record { row = row; passes = λ none. (((orderly_in r m (AwaitPong S) p k.0).0, refl), k.1, k.2) };
     }
-
-    first_turn : m.played ≡ [] → (mover r.first m.played ≡ r.first) × ((open_turn r.first m).unsent_to ≡ None)
-    first_turn e = (rw e refl, refl)
 
 pub step : (r : Rules) (due : Colour → List SentLine) (m : Match) (e : Event) → fits_next due m e ≡ true → Kept r m
     → Kept r (match_after r m e)
