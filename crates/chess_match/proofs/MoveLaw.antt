@@ -149,12 +149,6 @@ owed_on : (r : Rules) (m : Match) (O : Colour) (unsent_to : Option Colour) (fail
     → owed_to r m O unsent_to failed ≡ untold_text r m O unsent_to
 owed_on r m O unsent_to failed h1 = grind arith
 
--- the match stays in its phase
-stays_told : (r : Rules) (X : List (List ℕ)) (O : Colour) (p : Phase) (m' : Match) → is_same_phase p m'.phase ≡ true
-    → is_on m'.phase ≡ true
-    → X ++ untold_text r m' O m'.unsent_to ≡ all_texts r m' O → Told r X O false p m'
-stays_told r X O p m' same on h = rw (same, append-nil X, owed_on r m' O m'.unsent_to false on) h
-
 -- nothing is sent on the way into this phase
 quiet_told : (r : Rules) (X : List (List ℕ)) (O : Colour) (p : Phase) (m' : Match) → entry_moves r m' O m'.phase ≡ []
     → is_on m'.phase ≡ true
@@ -238,38 +232,11 @@ played_goes r X Black Black move used m p o h =
     moved r X Black Black m.black.items m.played move (orderly_in r m (AwaitMove Black) p o).0
     (rw (orderly_in r m (AwaitMove Black) p o).1 at h)
 
-ends_goes : (r : Rules) (X : List (List ℕ)) (O : Colour) (reason : Reason) (m : Match) → is_on m.phase ≡ true
-    → is_unwritten reason O ≡ false → Sofar r X O m
-    → Goes r X O m (over reason m)
-ends_goes r X O reason m on n h = (
-  over_told r X O false m.phase reason m (leaves m.phase reason on) n
-      (carried r X O m (over reason m) refl refl refl refl h),
-  tt,
-)
-
-counts_goes : (r : Rules) (X : List (List ℕ)) (S O : Colour) (n : ℕ) (m : Match) → reads m.phase S ≡ true → Orderly r m
-    → Sofar r X O m → Goes r X O m (record m { count = n })
-counts_goes r X S O n m here o h = (
-  stays_told r X O m.phase (record m { count = n }) (reads_stays m.phase S here) (reads_on m.phase S here)
-      (carried r X O m (record m { count = n }) refl refl refl refl h),
-  o,
-)
-
-offers_goes : (r : Rules) (X : List (List ℕ)) (S O : Colour) (m : Match) → reads m.phase S ≡ true → Orderly r m
-    → Sofar r X O m → Goes r X O m (offered S m)
-offers_goes r X S O m here o h =
-    grind (arith, append-nil, reads_stays m.phase S here, reads_on m.phase S here, h, o)
-
 plays_goes : (r : Rules) (X : List (List ℕ)) (S O : Colour) (move : Move) (used : ℕ) (m : Match) → m.phase ≡ AwaitMove S
     → Orderly r m → Sofar r X O m → Goes r X O m (played_by S move used m)
-plays_goes r X White O move used m p o h = (
-  quiet_told r X O m.phase (played_by White move used m) refl refl (played_goes r X White O move used m p o h),
-  (mover-snoc r.first m.played move ∙ ap other (orderly_in r m (AwaitMove White) p o).0, refl, some_move m.played move),
-)
-plays_goes r X Black O move used m p o h = (
-  quiet_told r X O m.phase (played_by Black move used m) refl refl (played_goes r X Black O move used m p o h),
-  (mover-snoc r.first m.played move ∙ ap other (orderly_in r m (AwaitMove Black) p o).0, refl, some_move m.played move),
-)
+plays_goes r X S O move used m p o h =
+    grind (arith, append-nil, p, (orderly_in r m (AwaitMove S) p o).0, played_goes r X S O move used m p o h,
+    mover-snoc r.first m.played move, some_move m.played move)
 
 decides_goes : (r : Rules) (X : List (List ℕ)) (S O : Colour) (move : Move) (used : ℕ) (v : Verdict) (m : Match)
     → m.phase ≡ AwaitMove S → Orderly r m → Sofar r X O m
@@ -309,27 +276,11 @@ passes_goes r X S O m p o h =
 
 -- before the first move
 
-handshake_over : (r : Rules) (X : List (List ℕ)) (S O : Colour) (items : List Item) (reason : Reason) (m : Match)
-    → is_on m.phase ≡ true → is_unwritten reason O ≡ false
-    → (m.played ≡ []) × (m.unsent_to ≡ None) → Sofar r X O m → Goes r X O m (over reason (take_items S items m))
-handshake_over r X S O items reason m on n k h =
-    grind (arith, append-nil, leaves m.phase reason on, n, h, k.0, k.1)
-
 handshake_counts : (r : Rules) (X : List (List ℕ)) (S O : Colour) (items : List Item) (m : Match)
     → reads m.phase S ≡ true → (m.played ≡ []) × (m.unsent_to ≡ None) → Orderly r m → Sofar r X O m
     → (let m' = take_items S items m in Goes r X O m (record m' { count = m.count + 1 }))
 handshake_counts r X S O items m here k o h =
     grind (arith, append-nil, reads_stays m.phase S here, reads_on m.phase S here, h, o, k.0, k.1)
-
-handshake_enters : (r : Rules) (X : List (List ℕ)) (S O : Colour) (items : List Item) (m : Match) → (m.played ≡ [])
-    × (m.unsent_to ≡ None) → Sofar r X O m
-    → (Goes r X O m (enter (Handshake Black) (take_items S items m)))
-    × (Goes r X O m (enter (Setup White) (take_items S items m)))
-handshake_enters r X S O items m k h = grind (arith, append-nil, h, k.0, k.1)
-
-setup_enters : (r : Rules) (X : List (List ℕ)) (O : Colour) (m : Match) → (m.played ≡ []) × (m.unsent_to ≡ None)
-    → Sofar r X O m → Goes r X O m (enter (Setup Black) m)
-setup_enters r X O m k h = grind (arith, append-nil, h, k.0, k.1)
 
 none_told : (c O : Colour) (t : List (List ℕ)) (ms : List Move) → ms ≡ []
     → (if same_colour c O then (if nat_lt 0 (length ms) then t else []) else []) ≡ []
@@ -344,29 +295,26 @@ setup_opens r X O m k h = (
   (rw (k.0) refl, refl),
 )
 
-judged_told : (r : Rules) (X : List (List ℕ)) (O c : Colour) (f : MatchFault) (p : Phase) (m : Match)
-    → m.unsent_to ≡ None → Sofar r X O (enter (Over (Faulted c f)) m)
-    → Told r X O false p (enter (Over (Faulted c f)) m)
-judged_told r X O c f p m u h = grind (arith, append-nil, u, h)
-
 lines_go : (r : Rules) (X : List (List ℕ)) (S O : Colour) (kind : LineKind) (moment : ℕ) (m : Match) → reads m.phase S
     ≡ true → Orderly r m → Sofar r X O m
     → Lines r S kind moment m (λ m'. Goes r X O m m')
 lines_go r X S O kind moment m here o h =
+    let stay : is_same_phase m.phase m.phase ≡ true = reads_stays m.phase S here in
     let on : is_on m.phase ≡ true = reads_on m.phase S here in
+    let row : InTurn r S kind m (λ m'. Goes r X O m m') = record {
+      ends = λ reason n. grind (arith, append-nil, leaves m.phase reason on, n O, h);
+      counts = λ none few. grind (arith, append-nil, stay, on, o, h);
+      offers = λ none own theirs. grind (arith, append-nil, stay, on, o, h);
+    } in
     record {
-      handshake_ends = λ p d. handshake_over r X S O (items_of_line kind) (Faulted S NoDone) m on refl
-          (orderly_in r m (Handshake S) p o) h;
-      handshake_counts = λ p d few. handshake_counts r X S O (items_of_line kind) m here
-          (orderly_in r m (Handshake S) p o) o h;
-      handshake_next = λ p s d. (handshake_enters r X S O (items_of_line kind) m (orderly_in r m (Handshake White) p o)
-          h).0;
-      handshake_judged = λ p s d c f mild. handshake_judged c f (orderly_in r m (Handshake Black) p o);
-      handshake_done = λ p s d. (handshake_enters r X S O (items_of_line kind) m (orderly_in r m (Handshake Black) p o)
-          h).1;
-      setup_ends = λ p reason n. ends_goes r X O reason m on (n O) h;
-      setup_counts = λ p pong few. counts_goes r X S O (m.count + 1) m here o h;
-      setup_next = λ p s pong. setup_enters r X O m (orderly_in r m (Setup White) p o) h;
+      handshake_ends = λ p d. grind (arith, append-nil, p, o, h);
+      handshake_counts = λ p d few. grind (arith, append-nil, stay, on, p, o, h);
+      handshake_next = λ p s d. grind (arith, append-nil, p, o, h);
+      handshake_judged = λ p s d c f mild. grind (arith, append-nil, p, o, h);
+      handshake_done = λ p s d. grind (arith, append-nil, p, o, h);
+      setup_ends = λ p reason n. grind (arith, append-nil, leaves m.phase reason on, n O, h);
+      setup_counts = λ p pong few. grind (arith, append-nil, stay, on, o, h);
+      setup_next = λ p s pong. grind (arith, append-nil, p, o, h);
       setup_done = λ p s pong undecided. setup_opens r X O m (orderly_in r m (Setup Black) p o) h;
       before = λ p. record {
         row = row;
@@ -375,23 +323,6 @@ lines_go r X S O kind moment m here o h =
       };
       behind = λ p. record { row = row; passes = λ none. passes_goes r X S O m p o h };
     }
-  where
-    row : InTurn r S kind m (λ m'. Goes r X O m m')
-    row = record {
-      ends = λ reason n. ends_goes r X O reason m (reads_on m.phase S here) (n O) h;
-      counts = λ none few. counts_goes r X S O (m.count + 1) m here o h;
-      offers = λ none own theirs. offers_goes r X S O m here o h;
-    }
-
-    handshake_judged : (c : Colour) (f : MatchFault) → (m.played ≡ []) × (m.unsent_to ≡ None)
-        → Goes r X O m (enter (Over (Faulted c f)) (take_items S (items_of_line kind) m))
-    handshake_judged c f k = (
-      judged_told r X O c f m.phase (take_items S (items_of_line kind) m)
-          (items_unsent_to S (items_of_line kind) m ∙ k.1)
-          (fresh r X O m (enter (Over (Faulted c f)) (take_items S (items_of_line kind) m)) k.0 k.1
-          (items_played S (items_of_line kind) m ∙ k.0) (items_unsent_to S (items_of_line kind) m ∙ k.1) h),
-      tt,
-    )
 
 step_goes : (r : Rules) (X : List (List ℕ)) (O : Colour) (due : Colour → List SentLine) (m : Match) (e : Event)
     → fits_next due m e ≡ true → Orderly r m → Sofar r X O m
