@@ -5,10 +5,9 @@ use Rattle.chess_base.specs.declared.man.Colour.{Colour}
 use Rattle.chess_base.specs.declared.man.Colour.TheVariants.{White, Black}
 use Rattle.chess_base.specs.declared.man.Move.{Move}
 use Rattle.cecp_engine.specs.EngineLines.{LineKind, line_kind}
-use Rattle.cecp_engine.specs.Items.{Item}
 use Rattle.chess_match.specs.laws.Laws.{ClocksDoNotUnderflow}
 use Rattle.cecp_engine.specs.Levels.{LevelSeen, allotted, time_left}
-use Rattle.chess_match.specs.laws.Machine.{Match, take_items, start, clock, played_by, match_after}
+use Rattle.chess_match.specs.laws.Machine.{Match, start, clock, played_by, match_after}
 use Rattle.chess_match.specs.Events.{Event}
 use Rattle.chess_match.specs.Rules.{Rules}
 use Rattle.chess_match.specs.Lines.{SentLine}
@@ -16,7 +15,7 @@ use Rattle.chess_match.specs.laws.Blocks.{lines_on_entering}
 use Rattle.chess_match.specs.laws.Transcript.{fits_next, fits, match_of}
 use Rattle.cecp_engine.proofs.shared.Levels.{allotted_grows}
 use Rattle.chess_match.proofs.Outcomes.{InTurn, event_outcome, kept_by}
-use Rattle.chess_match.proofs.Going.{offered, sum-snoc}
+use Rattle.chess_match.proofs.Going.{sum-snoc}
 
 -- neither side used more than it was given
 abbrev IsInTime : LevelSeen → Match → Type 0

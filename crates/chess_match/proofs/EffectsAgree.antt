@@ -15,12 +15,10 @@ use Rattle.cecp_engine.specs.Items.{Item, has_done, takes}
 use Rattle.chess_match.specs.laws.Machine as machine
 use Rattle.chess_match.specs.Events.{Line, Opened, OutputEnds, FailsToRead, FailsToWrite, Seat}
 use Rattle.chess_match.specs.laws.Machine.{handshake_line, setup_line, before_line, after_line}
-use Rattle.chess_game.specs.Results.{result_text}
-use Rattle.chess_match.specs.Reasons.{outcome_by_reason, comment_of}
 use Rattle.chess_match.specs.Rules.{Rules}
 use Rattle.chess_match.specs.Lines.{SentLine, Says, list_if, answers_to, setup_lines, ping}
 use Rattle.chess_match.specs.Reasons.{is_unwritten}
-use Rattle.chess_match.specs.laws.Blocks.{block, lines_on_entering, is_same_phase, end_lines, last_move_sent, clock_lines, opening_lines, unsent_lines}
+use Rattle.chess_match.specs.laws.Blocks.{block, lines_on_entering, is_same_phase, end_lines, last_move_sent, clock_lines, opening_lines}
 use Rattle.chess_match.specs.laws.Transcript.{is_on, reads}
 use Rattle.chess_match.specs.declared.phase.Phase.{Phase as MachinePhase}
 use Rattle.chess_match.specs.declared.phase.Phase.TheVariants as phases
@@ -35,7 +33,7 @@ use Rattle.chess_match.proofs.Going.{draw_to, items_block, leaves, offered, offe
 use Rattle.chess_match.proofs.Outcomes.{and_first}
 use Rattle.chess_match.specs.ties.SameEffects.{phase_of, view, owed_in, Agrees, EventsAgree}
 use Rattle.chess_match.specs.Acts.{is_over}
-use Rattle.chess_match.specs.Effects.{Match, Phase, Handshake, Setup, AfterMove, Over, Effect, beginning, is_owed, move_line, farewell, sends_nothing, sends_to, enter, with_seat, ends, ignores, begins_turn, opening, offer_row, turn_row, moved, move_row, before_move, flag_row, after_move, ping_number, handshake_row, handshake_done, judged, with_answers, setup_row, setup_done, line_row, items_said, clock}
+use Rattle.chess_match.specs.Effects.{Match, Phase, Handshake, Setup, Over, Effect, beginning, farewell, sends_nothing, sends_to, enter, with_seat, ends, ignores, begins_turn, opening, offer_row, turn_row, moved, move_row, before_move, flag_row, after_move, ping_number, handshake_row, handshake_done, judged, with_answers, setup_row, setup_done, line_row, items_said, clock}
 
 -- ---- the match after it
 

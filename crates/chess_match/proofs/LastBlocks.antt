@@ -1,26 +1,22 @@
 -- Which matches end because a write failed.
 use native.Mathlib.Omega.{arith}
-use Rattle.std.proofs.Common.{◌≡◌, ℕ, ◌+◌, ◌-◌, Bool, true, false, ◌&&◌, not, List, [], ◌∷◌, ◌++◌, length, drop, refl, ap, sym, ◌∙◌, subst, Option, None, Some}
-use Rattle.std.specs.Prelude.{if◌then◌else◌, codes, is_some}
+use Rattle.std.proofs.Common.{◌≡◌, ℕ, ◌+◌, ◌-◌, true, false, List, ◌++◌, refl, ap, sym, ◌∙◌, Option}
 use Rattle.chess_base.specs.declared.man.Colour.{Colour}
 use Rattle.chess_base.specs.declared.man.Colour.TheVariants.{White, Black}
 use Rattle.chess_base.specs.Men.{other}
 use Rattle.chess_match.specs.laws.Machine as machine
 use Rattle.chess_match.specs.Events.{Seat}
 use Rattle.chess_match.specs.Events.{Event, Line, Opened, OutputEnds, FailsToRead, FailsToWrite}
-use Rattle.chess_match.specs.Rules.{Rules, is_fischerandom}
-use Rattle.chess_match.specs.Lines.{SentLine, answers_to}
-use Rattle.chess_match.specs.laws.Blocks.{block, end_lines, is_same_phase, draw_line, entry_to}
+use Rattle.chess_match.specs.Rules.{Rules}
+use Rattle.chess_match.specs.Lines.{SentLine}
 use Rattle.chess_match.specs.Reasons.{is_unwritten}
-use Rattle.chess_match.specs.laws.Transcript.{is_on, reads, fits_next, is_fault}
+use Rattle.chess_match.specs.laws.Transcript.{is_on, fits_next, is_fault}
 use Rattle.chess_match.specs.declared.phase.Phase.{Phase as MachinePhase}
 use Rattle.chess_match.specs.declared.phase.Phase.TheVariants as phases
-use Rattle.chess_match.specs.declared.reason.MatchFault.TheVariants.{Write, NoDone, Ended, Read, NoPing, NoSetboard, NoVariant}
-use Rattle.chess_match.specs.declared.reason.MatchFault.{MatchFault}
-use Rattle.cecp_engine.specs.Items.{Item, takes, plays_fischerandom}
+use Rattle.chess_match.specs.declared.reason.MatchFault.TheVariants.{Write, NoDone, Ended, Read}
+use Rattle.cecp_engine.specs.Items.{Item}
 use Rattle.chess_match.specs.declared.reason.Reason.{Reason}
 use Rattle.chess_match.specs.declared.reason.Reason.TheVariants.{Faulted, Decided}
-use Rattle.chess_match.proofs.Going.{leaves}
 use Rattle.chess_match.proofs.Outcomes.{InTurn, Lines, line_outcome}
 use Rattle.cecp_engine.specs.EngineLines.{line_kind}
 

@@ -20,7 +20,7 @@ use Rattle.chess_match.proofs.Transcribed.{Transcribed, transcribed}
 use Rattle.chess_match.proofs.UsedLaw.{used_times_are_differences}
 use Rattle.chess_match.specs.Acts.{Act, IsMatch, ReadFails, Reads, ReadsClock, ReadsEnd, SendFails, Sends, blocks_from, is_over}
 use Rattle.chess_match.specs.ByDevice.{broken_blocks, is_broken, lines_sent, notes_given}
-use Rattle.chess_match.specs.Effects.{Match, Phase, Handshake, Setup, Opening, BeforeMove, AfterMove, Over, beginning}
+use Rattle.chess_match.specs.Effects.{Match, Phase, Over, beginning}
 use Rattle.chess_match.specs.Events.{Event, Line, Opened, OutputEnds, FailsToRead, FailsToWrite}
 use Rattle.chess_match.specs.Rules.{Rules}
 use Rattle.chess_match.specs.Lines.{SentLine, bytes_of, list_if}

@@ -1,9 +1,9 @@
 -- An engine is sent the other's moves, each once and in order.
 use mathlib.Core.Bool.{or-false}
-use Rattle.std.proofs.Common.{◌≡◌, ℕ, ◌+◌, ◌-◌, ◌/◌, ◌<◌, Bool, true, false, not, ◌&&◌, ◌||◌, List, [], ◌∷◌, ◌++◌, length, length-append, refl, ap, sym, subst, ◌∙◌, append-nil, append_assoc, Option, None, Some, arith}
+use Rattle.std.proofs.Common.{◌≡◌, ℕ, ◌+◌, ◌-◌, ◌<◌, Bool, true, false, ◌||◌, List, [], ◌∷◌, ◌++◌, length, length-append, refl, ap, sym, subst, ◌∙◌, append-nil, append_assoc, Option, None, Some, arith}
 use Rattle.std.specs.Prelude.{if◌then◌else◌, nat_lt, codes, is_some}
 use Rattle.std.specs.List.{flat_map}
-use Rattle.std.proofs.lemmas.Bool.{lt-ltb, ltb-true}
+use Rattle.std.proofs.lemmas.Bool.{lt-ltb}
 use Rattle.std.proofs.lemmas.Grind.{flat_map-append}
 use Rattle.chess_base.specs.declared.man.Colour.{Colour}
 use Rattle.chess_base.specs.declared.man.Colour.TheVariants.{White, Black}
@@ -13,29 +13,24 @@ use Rattle.chess_game.specs.declared.verdicts.Verdict.{Verdict}
 use Rattle.cecp_engine.specs.EngineLines.{LineKind, line_kind}
 use Rattle.cecp_engine.specs.Items.{Item, takes}
 use Rattle.chess_match.specs.laws.Laws.{move_sent, moves_sent, texts_from, move_texts, owed_to, MovesAreSent, AllMovesAreSent, sent, ending_in}
-use Rattle.chess_match.specs.laws.Machine.{Match, items_of_line, seat, take_items, start, over, enter, open_turn, played_by, match_after, clock, ping_number}
+use Rattle.chess_match.specs.laws.Machine.{Match, seat, take_items, start, over, open_turn, played_by, match_after}
 use Rattle.chess_match.specs.Events.{Event, Line, Opened, OutputEnds, FailsToRead, FailsToWrite}
 use Rattle.chess_match.specs.Rules.{Rules}
-use Rattle.chess_match.specs.Lines.{SentLine, Says, Time, Otim, setup_lines, variant_command, start_lines, ping}
+use Rattle.chess_match.specs.Lines.{SentLine, setup_lines}
 use Rattle.chess_match.specs.laws.Blocks.{block, lines_on_entering, entry_to, is_same_phase, opening_lines, last_move_sent, last_move_lines, clock_lines, end_lines, unsent_lines}
 use Rattle.chess_match.specs.Reasons.{is_unwritten}
-use Rattle.chess_match.specs.laws.Transcript.{is_on, reads, match_of, fits, fits_next, fits_from, is_dropped, is_fault, blocks_from, joined_blocks, has_fault}
-use Rattle.chess_base.specs.declared.man.Variant.{Variant}
-use Rattle.chess_base.specs.declared.man.Variant.TheVariants.{Normal, Fischerandom}
-use Rattle.chess_base.proofs.shared.Men.{same_colour-true}
+use Rattle.chess_match.specs.laws.Transcript.{is_on, reads, match_of, fits, fits_next, fits_from, is_fault, blocks_from, joined_blocks, has_fault}
 use Rattle.chess_match.specs.declared.phase.Phase.{Phase}
 use Rattle.chess_match.specs.declared.phase.Phase.TheVariants.{Handshake, Setup, SendTurn, AwaitMove, AwaitPong, Over}
 use Rattle.chess_match.specs.declared.reason.Reason.{Reason}
 use Rattle.chess_match.specs.declared.reason.Reason.TheVariants.{Decided, Faulted}
-use Rattle.chess_match.specs.declared.reason.MatchFault.{MatchFault}
-use Rattle.chess_match.specs.declared.reason.MatchFault.TheVariants.{NoDone, Ended, Read, Write}
-use Rattle.chess_match.proofs.Blocks.{if_nil, told_more}
+use Rattle.chess_match.specs.declared.reason.MatchFault.TheVariants.{Ended, Read, Write}
+use Rattle.chess_match.proofs.Blocks.{if_nil}
 use Rattle.chess_match.proofs.LastBlocks.{no_write}
 use Rattle.chess_match.proofs.LinesOfOneKind.{InOpenings, gathered, now, unsent}
-use Rattle.chess_match.proofs.Outcomes.{Lines, InTurn, line_outcome, and_first, and_second, fits_on, not_on}
-use Rattle.chess_match.proofs.Going.{is_opening, leaves, offered, opens_at, reads_on, reads_stays}
-use Rattle.chess_match.proofs.Seats.{items_played, items_unsent_to, items_same}
-use Rattle.cecp_engine.specs.Levels.{level_text}
+use Rattle.chess_match.proofs.Outcomes.{Lines, InTurn, line_outcome, and_first, and_second, fits_on}
+use Rattle.chess_match.proofs.Going.{is_opening, leaves, opens_at, reads_on, reads_stays}
+use Rattle.chess_match.proofs.Seats.{items_same}
 use Rattle.chess_match.specs.ties.Steps.{match_from}
 
 -- ---- who moves
@@ -235,8 +230,15 @@ played_goes r X Black Black move used m p o h =
 plays_goes : (r : Rules) (X : List (List ℕ)) (S O : Colour) (move : Move) (used : ℕ) (m : Match) → m.phase ≡ AwaitMove S
     → Orderly r m → Sofar r X O m → Goes r X O m (played_by S move used m)
 plays_goes r X S O move used m p o h =
-    grind (arith, append-nil, p, (orderly_in r m (AwaitMove S) p o).0, played_goes r X S O move used m p o h,
-    mover-snoc r.first m.played move, some_move m.played move)
+    grind (
+      arith,
+      append-nil,
+      p,
+      (orderly_in r m (AwaitMove S) p o).0,
+      played_goes r X S O move used m p o h,
+      mover-snoc r.first m.played move,
+      some_move m.played move,
+    )
 
 decides_goes : (r : Rules) (X : List (List ℕ)) (S O : Colour) (move : Move) (used : ℕ) (v : Verdict) (m : Match)
     → m.phase ≡ AwaitMove S → Orderly r m → Sofar r X O m

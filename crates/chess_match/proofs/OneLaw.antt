@@ -6,7 +6,7 @@ use Rattle.std.proofs.lemmas.Bool.{or_left, or_right}
 use Rattle.chess_base.specs.declared.man.Colour.{Colour}
 use Rattle.chess_base.specs.declared.man.Colour.TheVariants.{White, Black}
 use Rattle.chess_base.specs.Men.{same_colour}
-use Rattle.chess_base.proofs.shared.Men.{same_colour-true, same_colour-self}
+use Rattle.chess_base.proofs.shared.Men.{same_colour-self}
 use Rattle.chess_match.specs.laws.Laws.{Streams, IsOf, OnlyOne, ending_in}
 use Rattle.chess_match.specs.laws.Machine.{Match, start, match_after}
 use Rattle.chess_match.specs.Events.{Event, Line, Opened, OutputEnds, FailsToRead, FailsToWrite}
@@ -15,7 +15,6 @@ use Rattle.chess_match.specs.Lines.{SentLine}
 use Rattle.chess_match.specs.laws.Blocks.{block, lines_on_entering}
 use Rattle.chess_match.specs.laws.Transcript.{reads, opens, is_on, fits_next, fits_from, lines_of_engine, line_in, moments_of, has_fault, is_fault}
 use Rattle.chess_match.specs.declared.phase.Phase.{Phase}
-use Rattle.chess_match.specs.declared.phase.Phase.TheVariants.{Handshake, Setup, SendTurn, AwaitMove, AwaitPong, Over}
 use Rattle.chess_match.proofs.Outcomes.{and_first, and_second, fits_on, not_on}
 use Rattle.chess_match.specs.ties.Steps.{match_from}
 use Rattle.chess_match.specs.declared.reason.MatchFault.TheVariants.{Ended, Read, Write}

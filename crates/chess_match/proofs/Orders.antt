@@ -1,27 +1,24 @@
 -- What is so of every match: whose turn it is, who is to be sent what, and how many moves each side made.
-use Rattle.std.proofs.Common.{◌≡◌, ℕ, ◌+◌, ◌-◌, Bool, true, false, List, [], ◌∷◌, ◌++◌, length, length-append, refl, ap, sym, ◌∙◌, append-nil, Option, None, arith}
+use Rattle.std.proofs.Common.{◌≡◌, ℕ, ◌+◌, ◌-◌, Bool, true, false, List, [], ◌∷◌, ◌++◌, length, length-append, refl, ap, sym, ◌∙◌, append-nil, arith}
 use Rattle.std.specs.Prelude.{if◌then◌else◌, nat_lt, codes}
 use Rattle.chess_base.specs.declared.man.Colour.{Colour}
 use Rattle.chess_base.specs.declared.man.Colour.TheVariants.{White, Black}
 use Rattle.chess_base.specs.declared.man.Move.{Move}
 use Rattle.chess_base.specs.Men.{other, same_colour}
 use Rattle.cecp_engine.specs.EngineLines.{LineKind, line_kind}
-use Rattle.cecp_engine.specs.Items.{Item, takes}
+use Rattle.cecp_engine.specs.Items.{takes}
 use Rattle.chess_match.specs.laws.Laws.{moves_sent, move_texts, texts_from, owed_to, MovesSentAreKnown, sent}
-use Rattle.chess_match.specs.laws.Machine.{Match, items_of_line, seat, take_items, start, over, enter, open_turn, played_by, match_after}
+use Rattle.chess_match.specs.laws.Machine.{Match, seat, start, played_by, match_after}
 use Rattle.chess_match.specs.Events.{Event, Line, Opened, OutputEnds, FailsToRead, FailsToWrite}
 use Rattle.chess_match.specs.Rules.{Rules}
 use Rattle.chess_match.specs.Lines.{SentLine}
 use Rattle.chess_match.specs.laws.Blocks.{lines_on_entering}
 use Rattle.chess_match.specs.laws.Transcript.{reads, match_of, fits, fits_next, has_fault}
-use Rattle.chess_match.specs.declared.phase.Phase.{Phase}
-use Rattle.chess_match.specs.declared.phase.Phase.TheVariants.{Handshake, Setup, SendTurn, AwaitMove, AwaitPong, Over}
-use Rattle.chess_match.specs.declared.reason.MatchFault.TheVariants.{NoDone, Write}
-use Rattle.chess_match.specs.declared.reason.Reason.TheVariants.{Faulted}
-use Rattle.chess_match.proofs.MoveLaw.{mover, mover-snoc, OrderlyIn, Orderly, orderly_in, some_move, moves_are_told}
+use Rattle.chess_match.specs.declared.phase.Phase.TheVariants.{Setup, SendTurn, AwaitMove, AwaitPong}
+use Rattle.chess_match.specs.declared.reason.MatchFault.TheVariants.{Write}
+use Rattle.chess_match.proofs.MoveLaw.{mover, mover-snoc, Orderly, orderly_in, some_move, moves_are_told}
 use Rattle.chess_match.proofs.Outcomes.{Lines, InTurn, line_outcome, kept_by}
-use Rattle.chess_match.proofs.Going.{offered, opens_at}
-use Rattle.chess_match.proofs.Seats.{items_played, items_unsent_to}
+use Rattle.chess_match.proofs.Going.{opens_at}
 
 -- how many of these moves, which c begins, are C's
 abbrev pub turns_of : Colour → Colour → List Move → ℕ

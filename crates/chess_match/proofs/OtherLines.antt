@@ -1,11 +1,11 @@
 -- A line that none of the cases above takes is one of the other kinds.
 use native.Mathlib.Omega.{arith}
-use Rattle.std.proofs.Common.{◌≡◌, ℕ, List, [], refl}
+use Rattle.std.proofs.Common.{◌≡◌, ℕ, List, []}
 use Rattle.std.specs.Borrow.{Bor}
 use Rattle.chess_base.specs.declared.man.Colour.{Colour}
 use Rattle.cecp_engine.specs.Seen.{seen}
 use Rattle.cecp_engine.specs.declared.engine_line.EngineLine.{EngineLine}
-use Rattle.cecp_engine.specs.declared.engine_line.EngineLine.TheVariants.{Features, Move, Resign, Offer, Draw, Win, Rejection, Pong, Other}
+use Rattle.cecp_engine.specs.declared.engine_line.EngineLine.TheVariants.{Features, Move, Resign, Offer, Draw, Win, Rejection, Pong}
 use Rattle.chess_match.specs.laws.Machine.{Match, after_line, before_row, ignore, items_of_line, turn_line}
 use Rattle.chess_match.specs.Rules.{Rules}
 

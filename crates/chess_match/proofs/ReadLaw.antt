@@ -1,12 +1,11 @@
 -- The moves of a match are read off the two engines' lines.
 use Rattle.std.proofs.Common.{◌≡◌, ℕ, ◌+◌, ◌-◌, ◌≤◌, Bool, true, false, List, [], ◌∷◌, ◌++◌, length, refl, ap, sym, subst, ◌∙◌, append-nil, append_assoc, Option, Some, arith}
-use Rattle.std.specs.Prelude.{if◌then◌else◌}
 use Rattle.chess_base.specs.declared.man.Colour.{Colour}
 use Rattle.chess_base.specs.declared.man.Colour.TheVariants.{White, Black}
 use Rattle.chess_base.specs.declared.man.Move.{Move}
 use Rattle.chess_base.specs.Men.{other}
 use Rattle.chess_game.specs.declared.verdicts.Verdict.{Verdict}
-use Rattle.cecp_engine.specs.EngineLines.{LineKind, line_kind, Features, Moves, Resigns, OffersDraw, ClaimsDraw, ClaimsWin, Rejects, Answers, SaysElse}
+use Rattle.cecp_engine.specs.EngineLines.{line_kind, Moves}
 use Rattle.cecp_engine.specs.Items.{Item, has_done}
 use Rattle.chess_match.specs.laws.Laws.{move_said, moves_said, lines_after_handshake, lines_after_pong, moves_of, AreRead, MovesAreRead, is_pong}
 use Rattle.chess_match.specs.laws.Machine.{Match, items_of_line, take_items, start, over, enter, open_turn, played_by, match_after}

@@ -1,27 +1,24 @@
 -- The times that an engine is sent are the clocks.
-use Rattle.std.proofs.Common.{◌≡◌, ℕ, ◌+◌, ◌-◌, ◌/◌, ◌≤◌, Bool, true, false, ◌||◌, List, [], ◌∷◌, ◌++◌, length, length-append, drop, refl, ap, subst, ◌∙◌, append-nil, Option, None, Some, arith}
-use Rattle.std.specs.Prelude.{if◌then◌else◌, nat_lt, codes, sum}
+use Rattle.std.proofs.Common.{◌≡◌, ℕ, ◌+◌, ◌-◌, ◌/◌, ◌≤◌, Bool, true, false, ◌||◌, List, [], ◌∷◌, ◌++◌, length, length-append, drop, refl, ap, subst, ◌∙◌, append-nil, Option, arith}
+use Rattle.std.specs.Prelude.{if◌then◌else◌, codes, sum}
 use Rattle.std.specs.List.{flat_map}
 use Rattle.std.proofs.lemmas.Grind.{flat_map-append}
 use Rattle.std.proofs.lemmas.List.Sums.{sum_by-cons}
 use Rattle.chess_base.specs.declared.man.Colour.{Colour}
 use Rattle.chess_base.specs.declared.man.Colour.TheVariants.{White, Black}
 use Rattle.chess_base.specs.declared.man.Move.{Move}
-use Rattle.chess_base.specs.declared.man.Variant.{Variant}
-use Rattle.chess_base.specs.declared.man.Variant.TheVariants.{Normal, Fischerandom}
 use Rattle.chess_base.specs.Men.{other, same_colour}
 use Rattle.chess_base.proofs.shared.Men.{same_colour-self}
 use Rattle.chess_game.specs.declared.verdicts.Verdict.{Verdict}
 use Rattle.cecp_engine.specs.EngineLines.{LineKind, line_kind}
 use Rattle.cecp_engine.specs.Items.{Item, takes}
 use Rattle.chess_match.specs.laws.Laws.{centiseconds, time_sent, otim_sent, TimesAreClocks, OtherTimesAreClocks, sent}
-use Rattle.cecp_engine.specs.Levels.{LevelSeen, time_left, level_text}
-use Rattle.chess_match.specs.laws.Machine.{Match, items_of_line, seat, take_items, start, over, enter, open_turn, played_by, match_after, clock, ping_number}
+use Rattle.cecp_engine.specs.Levels.{LevelSeen, time_left}
+use Rattle.chess_match.specs.laws.Machine.{Match, items_of_line, seat, take_items, start, over, enter, open_turn, played_by, match_after, clock}
 use Rattle.chess_match.specs.Events.{Event, Line, Opened, OutputEnds, FailsToRead, FailsToWrite}
 use Rattle.chess_match.specs.Rules.{Rules}
-use Rattle.chess_match.specs.Lines.{SentLine, Says, Time, Otim, setup_lines, variant_command, start_lines, ping}
+use Rattle.chess_match.specs.Lines.{SentLine, Says, setup_lines}
 use Rattle.chess_match.specs.laws.Blocks.{lines_on_entering, entry_to, is_same_phase, opening_lines, last_move_sent, last_move_lines, clock_lines, end_lines, unsent_lines}
-use Rattle.chess_match.specs.Reasons.{is_unwritten}
 use Rattle.chess_match.specs.laws.Transcript.{reads, match_of, fits, fits_next, blocks_from, joined_blocks}
 use Rattle.chess_match.specs.declared.phase.Phase.{Phase}
 use Rattle.chess_match.specs.declared.phase.Phase.TheVariants.{Handshake, Setup, SendTurn, AwaitMove, AwaitPong, Over}
@@ -33,7 +30,6 @@ use Rattle.chess_match.proofs.Outcomes.{Lines, InTurn, line_outcome}
 use Rattle.chess_match.proofs.LinesOfOneKind.{now, gathered, unsent}
 use Rattle.chess_match.proofs.Going.{is_opening, offered, opens_at, sum-snoc}
 use Rattle.chess_match.proofs.Seats.{items_used, items_same, used_same}
-use Rattle.chess_match.proofs.Blocks.{told_more}
 
 -- ---- the lines
 
@@ -429,7 +425,8 @@ times_so own r S T f =
           start S (Handshake White) refl,
     )
     (gathered (numbers own) (no_text own) r S (λ X m. Times own r S X m) (step own r S)
-    (unsent (numbers own) r S (λ r m S p e on. in_openings own r m S p e)) (lines_on_entering r start) start T [] f (refl, none S own))
+    (unsent (numbers own) r S (λ r m S p e on. in_openings own r m S p e)) (lines_on_entering r start) start T [] f
+    (refl, none S own))
   where
     none : (S : Colour) (own : Bool) → (seat start (told_of own S)).used ≡ []
     none White true = refl

@@ -1,5 +1,5 @@
 -- The acts of a match are those of a transcript.
-use Rattle.std.proofs.Common.{◌≡◌, ℕ, ◌-◌, Bool, true, false, not, ◌&&◌, ◌||◌, List, [], ◌∷◌, ◌++◌, map, length, refl, ap, sym, ◌∙◌, subst, append-nil, arith, Option, None, Some}
+use Rattle.std.proofs.Common.{◌≡◌, ℕ, Bool, true, false, not, ◌&&◌, ◌||◌, List, [], ◌∷◌, ◌++◌, map, length, refl, ap, sym, ◌∙◌, subst, append-nil, arith, Option, None, Some}
 use Rattle.std.proofs.lemmas.Bool.Decides.{nat_tests}
 use Rattle.std.proofs.Math.Path.{fun_ext}
 use Rattle.std.specs.Prelude.{if◌then◌else◌, nat_lt}
@@ -8,7 +8,6 @@ use Rattle.chess_base.specs.declared.man.Colour.{Colour}
 use Rattle.chess_base.specs.declared.man.Colour.TheVariants.{White, Black}
 use Rattle.chess_base.specs.Men.{other, same_colour}
 use Rattle.chess_base.proofs.shared.Men.{same_colour-self, same_colour-true}
-use Rattle.cecp_engine.specs.EngineLines.{line_kind}
 use Rattle.chess_match.specs.Acts.{Act, Block, IsMatch, IsMatchFrom, Sends, SendFails, Reads, ReadsEnd, ReadFails, ReadsClock, awaits_line, is_over, block_of, blocks_from, blocks_after}
 use Rattle.chess_match.specs.ByDevice.{has_ended, has_failed_read, is_broken, lines_read, moments_shown, notes_given}
 use Rattle.chess_match.specs.Effects.{Match, Effect, Opening, Over, beginning, effect, farewell}
@@ -23,7 +22,7 @@ use Rattle.chess_match.specs.declared.reason.MatchFault.TheVariants.{Ended, Read
 use Rattle.chess_match.specs.declared.reason.Reason.{Reason}
 use Rattle.chess_match.specs.declared.reason.Reason.TheVariants.{Faulted}
 use Rattle.chess_match.specs.laws.Blocks.{block, lines_on_entering}
-use Rattle.chess_match.specs.laws.Laws.{is_move, sent, turn_times}
+use Rattle.chess_match.specs.laws.Laws.{sent, turn_times}
 use Rattle.chess_match.specs.laws.Machine as machine
 use Rattle.chess_match.specs.laws.OfActs.{lines_given, move_times}
 use Rattle.chess_match.specs.laws.Transcript.{blocks_from as blocks_at_all, block_at, fits, fits_from, fits_next, has_fault, is_dropped, is_fault, is_on, joined_blocks, lines_of_engine, match_of, moments_of, opens, reads}
@@ -305,7 +304,8 @@ module _ (r : Rules) (reason : Reason) (final : Match) (over : final.phase ≡ O
       let b : Block = record { to = first; lines = l ∷ ls } in
       let none : T ≡ [] = t.stops o in
       let written : is_unwritten reason first ≡ false =
-      is_apart (is_unwritten reason first) (two first (l ∷ ls) y first) l ls (two_first first (l ∷ ls) y) (apart (at_end r reason final m M T over q t.same none) first) in
+      is_apart (is_unwritten reason first) (two first (l ∷ ls) y first) l ls (two_first first (l ∷ ls) y)
+      (apart (at_end r reason final m M T over q t.same none) first) in
       record {
         fitting = fits_own;
         same = t.same;
@@ -384,7 +384,8 @@ own_keeps : (first : Colour) (x y : List SentLine) (S : Colour)
 own_keeps first x y S = grind arith
 
 told_failure : (r : Rules) (reason : Reason) (final : Match) (over : final.phase ≡ Over reason) (c : Colour)
-    (l : SentLine) (ls y : List SentLine) (m : Match) (M : machine.Match) (H : List Act) → m ≡ view M → (is_on M.phase ≡ true → M.unsent_to ≡ owed_in M.phase) → is_over m.phase ≡ false
+    (l : SentLine) (ls y : List SentLine) (m : Match) (M : machine.Match) (H : List Act) → m ≡ view M
+    → (is_on M.phase ≡ true → M.unsent_to ≡ owed_in M.phase) → is_over m.phase ≡ false
     → (let u = effect r m (FailsToWrite c) in
     Told r reason final White (u.to White) (u.to Black) u.after (machine.match_after r M (FailsToWrite c)) H [])
     → Told r reason final c (l ∷ ls) y m M (SendFails (record { to = c; lines = l ∷ ls }) ∷ H) (FailsToWrite c ∷ [])
@@ -505,8 +506,8 @@ stopped start T z S e = ap (λ (U : List Event). if dropped start U S then [] el
 
 -- the side that an event ends is no side to which a write failed
 event_apart : (r : Rules) (reason : Reason) (due to : Colour → List SentLine) (m : Match) (M : machine.Match)
-    (e : Event) → fits_next due M e ≡ true → m ≡ view (machine.match_after r M e) → ((S : Colour) → is_fault Write S e ≡ false)
-    → Apart reason m to
+    (e : Event) → fits_next due M e ≡ true → m ≡ view (machine.match_after r M e)
+    → ((S : Colour) → is_fault Write S e ≡ false) → Apart reason m to
 event_apart r reason due to m M e f q mild over S un =
     let written : is_unwritten reason S ≡ false = no_write r due M e f reason
     (over_back (machine.match_after r M e).opened (machine.match_after r M e).phase reason
