@@ -303,13 +303,12 @@ turn_goes own r S c X m out h =
     carried_turn i u = rw (i, u) h
 
 -- in a handshake nothing was sent, and no move made
-handshake_goes : (own : Bool) (r : Rules) (S c d : Colour) (X : List ℕ) (items : List Item) (n : ℕ)
-    (p : Phase) (m : Match) → TimesOf own r S (Handshake d) X m → (reason : Reason)
+handshake_goes : (own : Bool) (r : Rules) (S c d : Colour) (X : List ℕ) (items : List Item) (m : Match) → TimesOf own r S (Handshake d) X m → (reason : Reason)
     → (Times own r S X (enter (Handshake Black) (take_items c items m)))
     × (Times own r S X (enter (Setup White) (take_items c items m)))
     × (Times own r S X (enter (Over reason) (take_items c items m)))
     × (Times own r S X (over reason (take_items c items m)))
-handshake_goes own r S c d X items n p m h reason =
+handshake_goes own r S c d X items m h reason =
     let u = items_used c items m in
     let used : (m' : Match) → m'.white.used ≡ m.white.used → m'.black.used ≡ m.black.used
     → (seat m' (told_of own S)).used ≡ [] = λ m' w b. used_same m m' w b (told_of own S) ∙ h.1 in (
@@ -334,16 +333,20 @@ lines_go : (own : Bool) (r : Rules) (S c : Colour) (X : List ℕ) (kind : LineKi
     → Lines r c kind moment m (λ m'. Goes own r S X m m')
 lines_go own r S c X kind moment m here h = record {
   handshake_ends = λ p d. quiet_goes own r S X m (over (Faulted c NoDone) (take_items c (items_of_line kind) m)) refl
-      (handshake p (Faulted c NoDone)).3;
+      (handshake_goes own r S c c X (items_of_line kind) m (times_in own r S X m (Handshake c) p h)
+      (Faulted c NoDone)).3;
   handshake_counts = λ p d few. handshake_counts own r S c X (items_of_line kind) (m.count + 1) m p
       (times_in own r S X m (Handshake c) p h);
   handshake_next = λ p s d. quiet_goes own r S X m (enter (Handshake Black) (take_items c (items_of_line kind) m)) refl
-      (handshake_at p).0;
+      (handshake_goes own r S c White X (items_of_line kind) m (times_in own r S X m (Handshake White) p h)
+      (Faulted c NoDone)).0;
   handshake_judged = λ p s d b f mild. quiet_goes own r S X m
       (enter (Over (Faulted b f)) (take_items c (items_of_line kind) m)) refl
-      (handshake_judged p (Faulted b f)).2;
+      (handshake_goes own r S c Black X (items_of_line kind) m (times_in own r S X m (Handshake Black) p h)
+      (Faulted b f)).2;
   handshake_done = λ p s d. quiet_goes own r S X m (enter (Setup White) (take_items c (items_of_line kind) m)) refl
-      (handshake_judged p (Faulted c NoDone)).1;
+      (handshake_goes own r S c Black X (items_of_line kind) m (times_in own r S X m (Handshake Black) p h)
+      (Faulted c NoDone)).1;
   setup_ends = λ p reason n. over_goes own r S X reason m h;
   setup_counts = λ p pong few. counts_goes own r S c X (m.count + 1) m here h;
   setup_next = λ p s pong. quiet_goes own r S X m (enter (Setup Black) m) refl
@@ -372,31 +375,6 @@ lines_go own r S c X kind moment m here h = record {
       counts = λ none few. counts_goes own r S c X (m.count + 1) m here h;
       offers = λ none own' theirs. offers_goes own r S c X m here h;
     }
-
-    handshake : m.phase ≡ Handshake c → (reason : Reason)
-        → (Times own r S X (enter (Handshake Black) (take_items c (items_of_line kind) m)))
-        × (Times own r S X (enter (Setup White) (take_items c (items_of_line kind) m)))
-        × (Times own r S X (enter (Over reason) (take_items c (items_of_line kind) m)))
-        × (Times own r S X (over reason (take_items c (items_of_line kind) m)))
-    handshake p reason = handshake_goes own r S c c X (items_of_line kind) 0 m.phase m
-        (times_in own r S X m (Handshake c) p h) reason
-
-    handshake_at : m.phase ≡ Handshake White
-        → (Times own r S X (enter (Handshake Black) (take_items c (items_of_line kind) m)))
-        × (Times own r S X (enter (Setup White) (take_items c (items_of_line kind) m)))
-        × (Times own r S X (enter (Over (Faulted c NoDone)) (take_items c (items_of_line kind) m)))
-        × (Times own r S X (over (Faulted c NoDone) (take_items c (items_of_line kind) m)))
-    handshake_at p = handshake_goes own r S c White X (items_of_line kind) 0 m.phase m
-        (times_in own r S X m (Handshake White) p h)
-        (Faulted c NoDone)
-
-    handshake_judged : m.phase ≡ Handshake Black → (reason : Reason)
-        → (Times own r S X (enter (Handshake Black) (take_items c (items_of_line kind) m)))
-        × (Times own r S X (enter (Setup White) (take_items c (items_of_line kind) m)))
-        × (Times own r S X (enter (Over reason) (take_items c (items_of_line kind) m)))
-        × (Times own r S X (over reason (take_items c (items_of_line kind) m)))
-    handshake_judged p reason = handshake_goes own r S c Black X (items_of_line kind) 0 m.phase m
-        (times_in own r S X m (Handshake Black) p h) reason
 
 step : (own : Bool) (r : Rules) (S : Colour) (due : Colour → List SentLine) (m : Match) (e : Event) (X : List ℕ)
     → fits_next due m e ≡ true → Times own r S X m → Goes own r S X m (match_after r m e)
