@@ -1,31 +1,28 @@
 -- What passed at a desk, step by step, and what each device then did in a whole match.
-use Rattle.std.proofs.Common.{◌≡◌, ℕ, Bool, true, false, ◌||◌, List, [], ◌∷◌, ◌++◌, map, refl, ap, sym, ◌∙◌, subst, append_assoc, append-nil, Option, None, Some, Result, Ok, Err}
+use native.Mathlib.Omega.{arith}
+use Rattle.std.proofs.Common.{◌≡◌, ℕ, Bool, true, false, List, [], ◌∷◌, ◌++◌, refl, ap, sym, ◌∙◌, subst, append_assoc, append-nil, Option, None, Some, Result, Ok, Err}
 use Rattle.std.specs.Prelude.{if◌then◌else◌}
 use Rattle.byte_devices.specs.Devices.{InputState, OutputState}
 use Rattle.chess_base.specs.declared.man.Colour.{Colour}
-use Rattle.chess_base.specs.declared.man.Colour.TheVariants.{White, Black}
-use Rattle.chess_base.specs.Men.{other, same_colour}
+use Rattle.chess_base.specs.Men.{other}
 use Rattle.text_lines.specs.Lines.{Held, LineSeen, nothing_held}
 use Rattle.text_lines.specs.Next.{NextLine}
 use Rattle.chess_match.specs.Acts.{Act, Block, Sends, SendFails, Reads, ReadsEnd, ReadFails, ReadsClock}
 use Rattle.chess_match.specs.ByDevice.{has_ended, has_failed_read, lines_read, moments_shown, notes_given}
 use Rattle.chess_match.specs.Events.{Line, Opened, OutputEnds, FailsToRead, FailsToWrite}
-use Rattle.chess_match.specs.laws.Transcript.{has_fault, lines_of_engine, moments_of}
 use Rattle.chess_base.specs.Options.{list_if}
 use Rattle.chess_match.specs.Lines.{SentLine, bytes_of}
 use Rattle.chess_match.specs.Notes.{Note, Noted, Happened, Gives, WasNoted}
 use Rattle.chess_match.specs.Reasons.{is_unwritten}
 use Rattle.chess_match.specs.Run.{ClockReadings, Ports, text_read}
 use Rattle.chess_match.specs.Table.{Does, Notes, Passes, Step, reading_of, sending, watched}
-use Rattle.chess_match.specs.declared.reason.MatchFault.TheVariants.{Ended, Read}
 use Rattle.chess_match.specs.declared.reason.Reason.{Reason}
 use Rattle.chess_match.specs.declared.run.TheConstants.{ENGINE_LINE_LEN}
-use Rattle.chess_match.specs.ties.AtDesk.{Did, NotedSince, ReadsOf, WritesAt, WritesOf, acts_in, event_at, notes_in}
-use Rattle.chess_match.specs.ties.Delivering.{event_read}
+use Rattle.chess_match.specs.ties.AtDesk.{Did, NotedSince, ReadsOf, WritesAt, WritesOf, acts_in, notes_in}
 use Rattle.chess_match.specs.ties.EngineOutput.{OutputAt}
 use Rattle.chess_match.specs.ties.Reported.{SendsIf}
-use Rattle.chess_match.proofs.LinesRead.{event_of_none, no_output_of_others, own_output_at}
-use Rattle.chess_match.proofs.LongerTranscripts.{asked_more, asked_none}
+use Rattle.chess_match.proofs.ClockAsked.{asked_more, asked_none}
+use Rattle.chess_match.proofs.LinesRead.{other_read, own_read}
 use Rattle.chess_match.proofs.MatchCases.{unread}
 
 -- ---- one step more
@@ -136,27 +133,18 @@ clock_moves ports held coming coming' witness names c n h =
 -- ---- an engine's pipe
 
 either : (P : Colour → Type 0) (S : Colour) → P S → P (other S) → (X : Colour) → P X
-either P White a b White = a
-either P White a b Black = b
-either P Black a b White = b
-either P Black a b Black = a
+either P S h1 h2 X = grind arith
 
 writes_own : (S : Colour) (failed : Bool) (lines : List SentLine) (w w' : OutputState)
     → SendsIf failed w w' (bytes_of lines) → WritesAt S (sending failed (record { to = S; lines = lines })) w w'
-writes_own White true lines w w' h = h
-writes_own White false lines w w' h = h
-writes_own Black true lines w w' h = h
-writes_own Black false lines w w' h = h
+writes_own S failed lines w w' h1 = grind arith
 
 writes_other : (S : Colour) (failed : Bool) (lines : List SentLine) (w w' : OutputState) → w' ≡ w
     → WritesAt (other S) (sending failed (record { to = S; lines = lines })) w w'
-writes_other White true lines w w' h = h
-writes_other White false lines w w' h = h
-writes_other Black true lines w w' h = h
-writes_other Black false lines w w' h = h
+writes_other S failed lines w w' h1 = grind arith
 
 reads_nothing : (S X : Colour) (failed : Bool) (lines : List SentLine) (r r' : InputState) (h : Held) → r' ≡ r
-    → OutputAt X (event_at (sending failed (record { to = S; lines = lines }))) r r' h h
+    → OutputAt X (sending failed (record { to = S; lines = lines })) r r' h h
 reads_nothing S X true lines r r' h e = (e, refl)
 reads_nothing S X false lines r r' h e = (e, refl)
 
@@ -194,18 +182,6 @@ send_moves ports ports' held coming witness names S failed lines h others same =
       noted = same_noted witness;
     })
 
--- the event of a read act is what was read
-read_event : {E : Type 0} (S : Colour) (result : Result (Option LineSeen) E)
-    → event_at (reading_of S result) ≡ event_read S 0 result
-read_event S (Err x) = refl
-read_event S (Ok None) = refl
-read_event S (Ok (Some line)) = at line.ended
-  where
-    at : (b : Bool) → event_at (if b then Reads S (text_read line) else ReadsEnd S)
-        ≡ (if b then Line S (text_read line) 0 else OutputEnds S)
-    at true = refl
-    at false = refl
-
 read_writes : {E : Type 0} (S X : Colour) (result : Result (Option LineSeen) E) (w : OutputState)
     → WritesAt X (reading_of S result) w w
 read_writes S X (Err x) w = refl
@@ -241,11 +217,10 @@ read_moves ports ports' held held' coming witness names S result next same kept 
       read = λ X. (
         ports'.reader X,
         held' X,
-        subst (λ e. OutputAt X e (ports.reader X) (ports'.reader X) (held X) (held' X)) (sym (read_event S result))
-            (either (λ Y. OutputAt Y (event_read S 0 result) (ports.reader Y) (ports'.reader Y) (held Y) (held' Y)) S
-            (own_output_at S 0 (ports.reader S) (ports'.reader S) (held S) (held' S) result next)
-            (no_output_of_others (other S) (event_read S 0 result) (ports.reader (other S)) (ports'.reader (other S))
-            (held (other S)) (held' (other S)) (event_of_none S 0 result) same kept) X),
+        either (λ Y. OutputAt Y (reading_of S result) (ports.reader Y) (ports'.reader Y) (held Y) (held' Y)) S
+            (own_read S (ports.reader S) (ports'.reader S) (held S) (held' S) result next)
+            (other_read S (ports.reader (other S)) (ports'.reader (other S)) (held (other S)) (held' (other S)) result
+            same kept) X,
         (refl, refl),
       );
       written = λ X. (
@@ -313,61 +288,16 @@ notes_watched reason (Reads S t ∷ ReadFails c ∷ H) = notes_watched reason (R
 
 -- ---- what was read
 
-pub lines_at : (S : Colour) (H : List Act) → lines_read S H ≡ lines_of_engine S (map event_at H)
-lines_at S [] = refl
-lines_at S (Reads c t ∷ H) = ap (λ (l : List (Option (List ℕ))). list_if (same_colour c S) (t ∷ []) ++ l) (lines_at S H)
-lines_at S (Sends b ∷ H) = lines_at S H
-lines_at S (SendFails b ∷ H) = lines_at S H
-lines_at S (ReadsEnd c ∷ H) = lines_at S H
-lines_at S (ReadFails c ∷ H) = lines_at S H
-lines_at S (ReadsClock c n ∷ H) = lines_at S H
-
-pub ends_at : (S : Colour) (H : List Act) → has_ended S H ≡ has_fault Ended S (map event_at H)
-ends_at S [] = refl
-ends_at S (ReadsEnd c ∷ H) = ap (λ (b : Bool). same_colour c S || b) (ends_at S H)
-ends_at S (Sends b ∷ H) = ends_at S H
-ends_at S (SendFails b ∷ H) = ends_at S H
-ends_at S (Reads c t ∷ H) = ends_at S H
-ends_at S (ReadFails c ∷ H) = ends_at S H
-ends_at S (ReadsClock c n ∷ H) = ends_at S H
-
-pub failures_at : (S : Colour) (H : List Act) → has_failed_read S H ≡ has_fault Read S (map event_at H)
-failures_at S [] = refl
-failures_at S (ReadFails c ∷ H) = ap (λ (b : Bool). same_colour c S || b) (failures_at S H)
-failures_at S (Sends b ∷ H) = failures_at S H
-failures_at S (SendFails b ∷ H) = failures_at S H
-failures_at S (Reads c t ∷ H) = failures_at S H
-failures_at S (ReadsEnd c ∷ H) = failures_at S H
-failures_at S (ReadsClock c n ∷ H) = failures_at S H
-
 -- acts that read from no engine
-pub tail_lines : (S : Colour) (H : List Act) → unread H ≡ true → lines_of_engine S (map event_at H) ≡ []
-tail_lines S [] u = refl
-tail_lines S (Sends b ∷ H) u = tail_lines S H u
-tail_lines S (SendFails b ∷ H) u = tail_lines S H u
-tail_lines S (ReadsClock c n ∷ H) u = tail_lines S H u
-tail_lines S (Reads c t ∷ H) u = absurd cc
-tail_lines S (ReadsEnd c ∷ H) u = absurd cc
-tail_lines S (ReadFails c ∷ H) u = absurd cc
-
-pub tail_moments : (H : List Act) → unread H ≡ true → moments_of (map event_at H) ≡ []
-tail_moments [] u = refl
-tail_moments (Sends b ∷ H) u = tail_moments H u
-tail_moments (SendFails b ∷ H) u = tail_moments H u
-tail_moments (ReadsClock c n ∷ H) u = tail_moments H u
-tail_moments (Reads c t ∷ H) u = absurd cc
-tail_moments (ReadsEnd c ∷ H) u = absurd cc
-tail_moments (ReadFails c ∷ H) u = absurd cc
-
-pub tail_faults : (S : Colour) (H : List Act) → unread H ≡ true
-    → (has_fault Ended S (map event_at H) ≡ false) × (has_fault Read S (map event_at H) ≡ false)
-tail_faults S [] u = (refl, refl)
-tail_faults S (Sends b ∷ H) u = tail_faults S H u
-tail_faults S (SendFails b ∷ H) u = tail_faults S H u
-tail_faults S (ReadsClock c n ∷ H) u = tail_faults S H u
-tail_faults S (Reads c t ∷ H) u = absurd cc
-tail_faults S (ReadsEnd c ∷ H) u = absurd cc
-tail_faults S (ReadFails c ∷ H) u = absurd cc
+pub quiet_read : (S : Colour) (H : List Act) → unread H ≡ true
+    → (lines_read S H ≡ []) × (has_ended S H ≡ false) × (has_failed_read S H ≡ false)
+quiet_read S [] u = (refl, refl, refl)
+quiet_read S (Sends b ∷ H) u = quiet_read S H u
+quiet_read S (SendFails b ∷ H) u = quiet_read S H u
+quiet_read S (ReadsClock c n ∷ H) u = quiet_read S H u
+quiet_read S (Reads c t ∷ H) u = absurd cc
+quiet_read S (ReadsEnd c ∷ H) u = absurd cc
+quiet_read S (ReadFails c ∷ H) u = absurd cc
 
 pub tail_same : (S : Colour) (H : List Act) (r r' : InputState) (h h' : Held) → unread H ≡ true → ReadsOf S H r r' h h'
     → r' ≡ r

@@ -1,21 +1,26 @@
 -- What the blocks of an event hold of lines of one kind.
-use Rattle.std.proofs.Common.{ℕ, ◌≡◌, Bool, true, false, not, ◌&&◌, List, [], ◌∷◌, ◌++◌, length, drop, refl, ap, ◌∙◌, sym, append-nil}
+use native.Mathlib.Omega.{arith}
+use Rattle.std.proofs.Common.{ℕ, ◌≡◌, Bool, true, false, List, [], ◌∷◌, ◌++◌, length, drop, refl, ap, ◌∙◌, sym, append-nil}
 use Rattle.std.specs.Prelude.{if◌then◌else◌, codes}
 use Rattle.std.specs.List.{flat_map}
 use Rattle.std.proofs.lemmas.Grind.{flat_map-append}
 use Rattle.chess_base.specs.declared.man.Colour.{Colour}
-use Rattle.chess_base.specs.Men.{other}
-use Rattle.cecp_engine.specs.Items.{Item, takes}
+use Rattle.cecp_engine.specs.Items.{Item}
 use Rattle.chess_match.specs.laws.Machine.{Match, seat}
 use Rattle.chess_match.specs.Events.{Event}
 use Rattle.chess_match.specs.Rules.{Rules}
 use Rattle.chess_match.specs.Lines.{SentLine, answer_text, Says, answers_to}
-use Rattle.chess_match.specs.laws.Blocks.{block, lines_on_entering, is_same_phase, draw_line}
+use Rattle.chess_match.specs.laws.Blocks.{block, lines_on_entering, is_same_phase}
 use Rattle.chess_match.specs.laws.Transcript.{block_at, joined_blocks}
 
 pub if_nil : {A : Type 0} (b : Bool) (xs : List A) → xs ≡ [] → (if b then [] else xs) ≡ []
 if_nil true xs e = refl
 if_nil false xs e = e
+
+answers_none : {A : Type 0} (f : SentLine → List A) → ((text : List ℕ) → f (Says text) ≡ []) → (items : List Item)
+    → flat_map f (answers_to items) ≡ []
+answers_none f a [] = refl
+answers_none f a (i ∷ items) = rw (a (answer_text i.name)) (answers_none f a items)
 
 -- moves and times come of a phase alone
 pub of_block : {A : Type 0} (f : SentLine → List A) → ((text : List ℕ) → f (Says text) ≡ [])
@@ -23,27 +28,12 @@ pub of_block : {A : Type 0} (f : SentLine → List A) → ((text : List ℕ) →
     → flat_map f (block r m m' S)
     ≡ (if is_same_phase m.phase m'.phase then [] else flat_map f (lines_on_entering r m' S))
 unfolding block
-of_block {A} f a r m m' S =
-    flat_map-append f (answers_to (drop (length (seat m S).items) (seat m' S).items)) _
-    ∙ ap (λ (l : List A). l ++ flat_map f (draw_line (seat m' S) (seat m (other S)) (seat m' (other S))
-    ++ (if is_same_phase m.phase m'.phase then [] else lines_on_entering r m' S)))
-    (answers (drop (length (seat m S).items) (seat m' S).items))
-    ∙ flat_map-append f (draw_line (seat m' S) (seat m (other S)) (seat m' (other S))) _
-    ∙ ap (λ (l : List A). l ++ flat_map f (if is_same_phase m.phase m'.phase then [] else lines_on_entering r m' S))
-    (offer (not (seat m (other S)).offers && (seat m' (other S)).offers && takes (codes "draw") (seat m' S).items))
-    ∙ split (is_same_phase m.phase m'.phase) (lines_on_entering r m' S)
-  where
-    answers : (items : List Item) → flat_map f (answers_to items) ≡ []
-    answers [] = refl
-    answers (i ∷ items) = rw (a (answer_text i.name)) (answers items)
-
-    offer : (b : Bool) → flat_map f (if b then Says (codes "draw") ∷ [] else []) ≡ []
-    offer true = rw (a (codes "draw")) refl
-    offer false = refl
-
-    split : (b : Bool) (ls : List SentLine) → flat_map f (if b then [] else ls) ≡ (if b then [] else flat_map f ls)
-    split true ls = refl
-    split false ls = refl
+of_block f a r m m' S = grind (
+  arith,
+  flat_map-append f,
+  answers_none f a (drop (length (seat m S).items) (seat m' S).items),
+  a (codes "draw"),
+)
 
 pub joined_at : (b : Bool) (x : List SentLine) (bs : List (List SentLine))
     → joined_blocks ((if b then [] else x ∷ []) ++ bs) ≡ (if b then [] else x) ++ joined_blocks bs
@@ -57,7 +47,3 @@ lines_at r m e es S = joined_blocks (block_at r m e es S)
 pub joined_block : (b : Bool) (x : List SentLine) → joined_blocks (if b then [] else x ∷ []) ≡ (if b then [] else x)
 joined_block true x = refl
 joined_block false x = append-nil x
-
--- what was sent so far, and what is sent now
-pub told_more : {A : Type 0} (X all all' t : List A) → X ++ [] ≡ all → all' ≡ all ++ t → X ++ t ≡ all'
-told_more {A} X all all' t h e = ap (λ (l : List A). l ++ t) (sym (append-nil X) ∙ h) ∙ sym e

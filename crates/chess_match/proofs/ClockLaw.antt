@@ -5,10 +5,9 @@ use Rattle.chess_base.specs.declared.man.Colour.{Colour}
 use Rattle.chess_base.specs.declared.man.Colour.TheVariants.{White, Black}
 use Rattle.chess_base.specs.declared.man.Move.{Move}
 use Rattle.cecp_engine.specs.EngineLines.{LineKind, line_kind}
-use Rattle.cecp_engine.specs.Items.{Item}
 use Rattle.chess_match.specs.laws.Laws.{ClocksDoNotUnderflow}
 use Rattle.cecp_engine.specs.Levels.{LevelSeen, allotted, time_left}
-use Rattle.chess_match.specs.laws.Machine.{Match, take_items, start, clock, played_by, match_after}
+use Rattle.chess_match.specs.laws.Machine.{Match, start, clock, played_by, match_after}
 use Rattle.chess_match.specs.Events.{Event}
 use Rattle.chess_match.specs.Rules.{Rules}
 use Rattle.chess_match.specs.Lines.{SentLine}
@@ -16,7 +15,7 @@ use Rattle.chess_match.specs.laws.Blocks.{lines_on_entering}
 use Rattle.chess_match.specs.laws.Transcript.{fits_next, fits, match_of}
 use Rattle.cecp_engine.proofs.shared.Levels.{allotted_grows}
 use Rattle.chess_match.proofs.Outcomes.{InTurn, event_outcome, kept_by}
-use Rattle.chess_match.proofs.Going.{offered, sum-snoc}
+use Rattle.chess_match.proofs.Going.{sum-snoc}
 
 -- neither side used more than it was given
 abbrev IsInTime : LevelSeen → Match → Type 0
@@ -31,50 +30,37 @@ used_more level xs x w timely =
     let grows : allotted level (length xs) ≤ allotted level (length xs + 1) = allotted_grows level (length xs) in
     rw (sum-snoc xs x, length-append xs (x ∷ [])) (omega (arith, grows, w, timely))
 
-items_in_time : (level : LevelSeen) (S : Colour) (items : List Item) (m : Match) → IsInTime level m
-    → IsInTime level (take_items S items m)
-items_in_time level White items m w = w
-items_in_time level Black items m w = w
-
-offered_in_time : (level : LevelSeen) (S : Colour) (m : Match) → IsInTime level m → IsInTime level (offered S m)
-offered_in_time level White m w = w
-offered_in_time level Black m w = w
-
 played : (r : Rules) (S : Colour) (move : Move) (used : ℕ) (m : Match) → used ≤ clock r m S → IsInTime r.level m
     → IsInTime r.level (played_by S move used m)
 played r White move used m timely w = (used_more r.level m.white.used used w.0 timely, w.1)
 played r Black move used m timely w = (w.0, used_more r.level m.black.used used w.1 timely)
 
-in_turn : (r : Rules) (S : Colour) (kind : LineKind) (m : Match) → IsInTime r.level m
-    → InTurn r S kind m (λ m'. IsInTime r.level m')
-in_turn r S kind m w = record {
-  ends = λ reason n. w;
-  counts = λ k n. w;
-  offers =
-      λ k own theirs. offered_in_time r.level S m w;
-}
-
 step : (r : Rules) (due : Colour → List SentLine) (m : Match) (e : Event) → fits_next due m e ≡ true
     → IsInTime r.level m → IsInTime r.level (match_after r m e)
 step r due m e f w =
     let P : Match → Type 0 = λ m'. IsInTime r.level m' in
+    let row : (S : Colour) (kind : LineKind) → InTurn r S kind m P = λ S kind. record {
+      ends = λ reason n. w;
+      counts = λ k n. w;
+      offers = λ k own theirs. grind (arith, w);
+    } in
     event_outcome r due m e P f (record {
       line = λ S text moment is h. record {
-        handshake_ends = λ p d. items_in_time r.level S _ m w;
-        handshake_counts = λ p d k. items_in_time r.level S _ m w;
-        handshake_next = λ p s d. items_in_time r.level S _ m w;
-        handshake_judged = λ p s d c x. items_in_time r.level S _ m w;
-        handshake_done = λ p s d. items_in_time r.level S _ m w;
+        handshake_ends = λ p d. grind (arith, w);
+        handshake_counts = λ p d k. grind (arith, w);
+        handshake_next = λ p s d. grind (arith, w);
+        handshake_judged = λ p s d c x mild. grind (arith, w);
+        handshake_done = λ p s d. grind (arith, w);
         setup_ends = λ p reason n. w;
         setup_counts = λ p k n. w;
         setup_next = λ p s k. w;
-        setup_done = λ p s k. w;
+        setup_done = λ p s k v. w;
         before = λ p. record {
-          row = in_turn r S (line_kind text) m w;
-          plays = λ text' move k rd room timely. played r S move _ m timely w;
+          row = row S (line_kind text);
+          plays = λ text' move k rd room timely v. played r S move _ m timely w;
           decides = λ text' move v k rd room timely. played r S move _ m timely w;
         };
-        behind = λ p. record { row = in_turn r S (line_kind text) m w; passes = λ k. w };
+        behind = λ p. record { row = row S (line_kind text); passes = λ k. w };
       };
       opened = λ S moment is p. w;
       faulted = λ S x on u. w;

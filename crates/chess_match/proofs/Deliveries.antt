@@ -1,5 +1,6 @@
 -- The blocks of an event, sent one after the other.
-use Rattle.std.proofs.Common.{◌≡◌, ℕ, ◌<◌, Bool, true, false, not, ◌&&◌, ◌||◌, List, [], ◌∷◌, ◌++◌, length, refl, ap, sym, ◌∙◌, subst, append_assoc, append-nil}
+use native.Mathlib.Omega.{arith}
+use Rattle.std.proofs.Common.{◌≡◌, ◌<◌, Bool, true, false, not, ◌&&◌, ◌||◌, List, [], ◌∷◌, ◌++◌, length, refl, ap, sym, ◌∙◌, subst, append_assoc, append-nil}
 use Rattle.chess_base.specs.declared.man.Colour.{Colour}
 use Rattle.chess_base.specs.declared.man.Colour.TheVariants.{White, Black}
 use Rattle.chess_base.specs.declared.man.Move.{Move}
@@ -16,7 +17,6 @@ use Rattle.chess_match.specs.Lines.{SentLine, Says}
 use Rattle.chess_match.specs.Reasons.{is_unwritten}
 use Rattle.chess_match.specs.Rules.{Rules}
 use Rattle.chess_match.specs.Table.{Step, Passing, Passes}
-use Rattle.chess_match.specs.declared.phase.Phase.{Phase as MachinePhase}
 use Rattle.chess_match.specs.declared.phase.Phase.TheVariants as phases
 use Rattle.chess_match.specs.declared.reason.MatchFault.TheVariants.{Write}
 use Rattle.chess_match.specs.declared.reason.Reason.{Reason}
@@ -24,22 +24,12 @@ use Rattle.chess_match.specs.declared.reason.Reason.TheVariants.{Faulted}
 use Rattle.chess_match.specs.declared.state.MatchState.{MatchState}
 use Rattle.chess_match.specs.ties.Driving.{Delivered, Leads, by_turn, giving, steps_of}
 use Rattle.chess_match.specs.ties.Represents.{Represents}
-use Rattle.chess_match.specs.ties.SameEffects.{Agrees, owed_in, phase_of, view}
-use Rattle.chess_match.proofs.EffectsAgree.{events_agree}
+use Rattle.chess_match.specs.ties.SameEffects.{Agrees, owed_in, view}
+use Rattle.chess_match.proofs.EffectsAgree.{events_agree, over_back, over_same}
 use Rattle.chess_match.proofs.Leading.{leads_as, leads_failed, leads_farewell, leads_on, leads_sent, none, one_block, only, over_first, unsent}
 use Rattle.chess_match.proofs.Outcomes.{not_other}
 use Rattle.chess_match.proofs.Passings.{passed_as}
 use Rattle.chess_match.proofs.Sane.{sane_over}
-use Rattle.chess_match.proofs.TranscriptsAsActs.{over_same}
-
-pub over_back : (opened : ℕ) (p : MachinePhase) (reason : Reason) → phase_of opened p ≡ effects.Over reason
-    → p ≡ phases.Over reason
-over_back opened (phases.Over x) reason h = let same : x ≡ reason = cc in rw same refl
-over_back opened (phases.Handshake c) reason h = cc
-over_back opened (phases.Setup c) reason h = cc
-over_back opened (phases.SendTurn c) reason h = cc
-over_back opened (phases.AwaitMove c) reason h = cc
-over_back opened (phases.AwaitPong c) reason h = cc
 
 pub is_over_by : (m : Match) (b : Bool) → is_on m.phase ≡ b → is_over (view m).phase ≡ not b
 is_over_by m b h = over_same m.opened m.phase ∙ ap not h
@@ -61,35 +51,14 @@ failure_agrees r m S on owed = events_agree r (λ X. Says [] ∷ []) m (FailsToW
 -- ---- who failed
 
 last_failed : (w b : Bool) (S : Colour) → (only w White S || only b Black S) ≡ by_colour w b S
-last_failed true true White = refl
-last_failed true true Black = refl
-last_failed true false White = refl
-last_failed true false Black = refl
-last_failed false true White = refl
-last_failed false true Black = refl
-last_failed false false White = refl
-last_failed false false Black = refl
+last_failed w b S = grind arith
 
 first_failed : (c : Colour) (f : Bool) (S : Colour) → (same_colour c S || only f (other c) S) ≡ by_turn c true f S
-first_failed White true White = refl
-first_failed White true Black = refl
-first_failed White false White = refl
-first_failed White false Black = refl
-first_failed Black true White = refl
-first_failed Black true Black = refl
-first_failed Black false White = refl
-first_failed Black false Black = refl
+first_failed c f S = grind arith
 
 second_failed : (c : Colour) (f : Bool) (S : Colour)
     → (none S || (same_colour (other c) S || only f (other (other c)) S)) ≡ by_turn c f true S
-second_failed White true White = refl
-second_failed White true Black = refl
-second_failed White false White = refl
-second_failed White false Black = refl
-second_failed Black true White = refl
-second_failed Black true Black = refl
-second_failed Black false White = refl
-second_failed Black false Black = refl
+second_failed c f S = grind arith
 
 none_failed : (S : Colour) → (none S || none S) ≡ by_colour false false S
 none_failed White = refl
@@ -290,19 +259,11 @@ delivered_as r old new core played m due f g e (m', K, d) = (
 
 pub is_now_off : (r : Rules) (core : MatchState) (played : List Move) (m : Match) → Represents r core played m
     → not (is_on core.phase) ≡ true → is_on m.phase ≡ false
-is_now_off r core played m s h = at (is_on m.phase) refl
-  where
-    at : (b : Bool) → is_on m.phase ≡ b → is_on m.phase ≡ false
-    at false e = e
-    at true e = let no : false ≡ true = sym (ap not (ap is_on s.phase ∙ e)) ∙ h in absurd cc
+is_now_off r core played m s h = grind (arith, s.phase)
 
 pub is_now_on : (r : Rules) (core : MatchState) (played : List Move) (m : Match) → Represents r core played m
     → not (is_on core.phase) ≡ false → is_on m.phase ≡ true
-is_now_on r core played m s h = at (is_on m.phase) refl
-  where
-    at : (b : Bool) → is_on m.phase ≡ b → is_on m.phase ≡ true
-    at true e = e
-    at false e = let no : true ≡ false = sym (ap not (ap is_on s.phase ∙ e)) ∙ h in absurd cc
+is_now_on r core played m s h = grind (arith, s.phase)
 
 -- the same, where the other side is computed
 pub delivered_at : (r : Rules) (old new : Passing) (core : MatchState) (played : List Move) (m : Match)

@@ -1,8 +1,8 @@
 -- What each device of a desk did in a whole match.
-use Rattle.std.proofs.Common.{◌≡◌, ℕ, Bool, true, false, List, [], ◌∷◌, ◌++◌, map, refl, sym, ◌∙◌, subst, append_assoc, append-nil, Option, None, Some}
+use Rattle.std.proofs.Common.{◌≡◌, ℕ, Bool, true, false, List, [], ◌∷◌, ◌++◌, refl, sym, ◌∙◌, subst, append_assoc, append-nil, Option, None, Some}
 use Rattle.std.specs.Bool.{MatchBool}
 use Rattle.std.specs.Prelude.{if◌then◌else◌}
-use Rattle.byte_devices.specs.Devices.{InputState, OutputState, BreaksOff}
+use Rattle.byte_devices.specs.Devices.{OutputState, BreaksOff}
 use Rattle.chess_base.specs.declared.man.Colour.{Colour}
 use Rattle.chess_base.specs.Men.{same_colour}
 use Rattle.chess_game.specs.Game as game
@@ -10,100 +10,23 @@ use Rattle.text_lines.specs.Lines.{Held, nothing_held}
 use Rattle.chess_match.specs.Acts.{Act, IsMatch, Sends, SendFails, Reads, ReadsEnd, ReadFails, ReadsClock}
 use Rattle.chess_match.specs.ByDevice.{broken_blocks, lines_sent, moments_shown, notes_given}
 use Rattle.chess_match.specs.Effects as effects
-use Rattle.chess_match.specs.Events.{Event, Line, FailsToWrite}
-use Rattle.chess_match.specs.laws.TranscriptRuns.{ReadFrom}
 use Rattle.chess_base.specs.Options.{list_if}
 use Rattle.chess_match.specs.Lines.{SentLine, bytes_of}
 use Rattle.chess_match.specs.Notes.{Note, Noted, WasNoted}
-use Rattle.chess_match.specs.Played.{Passed, PlayedAt, PlayedNoting, ReadAs, World, WrittenAs}
+use Rattle.chess_match.specs.Played.{Passed, PlayedAt, PlayedNoting, World, WrittenAs}
 use Rattle.chess_match.specs.Rules.{Rules, rules_of}
 use Rattle.chess_match.specs.Run.{ClockReadings, Flushed, Ports}
 use Rattle.chess_match.specs.Table.{Beginning, Passes, Step, watched}
 use Rattle.chess_match.specs.declared.reason.Reason.{Reason}
 use Rattle.chess_match.specs.declared.run.MatchEnd.{MatchEnd}
 use Rattle.chess_match.specs.declared.run.Setup.{Setup}
-use Rattle.chess_match.specs.ties.AtDesk.{Did, NotedSince, ReadsOf, WritesOf, acts_in, event_at}
-use Rattle.chess_match.specs.ties.EngineOutput.{OutputAt}
-use Rattle.chess_match.proofs.AtDesk.{acts_watched, ends_at, failures_at, lines_at, notes_watched, tail_faults, tail_lines, tail_moments, tail_same}
-use Rattle.chess_match.proofs.LongerTranscripts.{IsTail, asked_none, no_tail}
-use Rattle.chess_match.proofs.MatchCases.{all_reads_end, all_sends_end, reads_end, sends_end, unread, unsent_in}
-use Rattle.chess_match.proofs.OutputByCalls.{output_start}
-use Rattle.chess_match.proofs.OutputByEvents.{output_longer, still_read}
-use Rattle.chess_match.proofs.RunInvariant.{IsStillRead, ReadSoFar}
-use Rattle.chess_match.proofs.RunsAsActs.{read_as}
+use Rattle.chess_match.specs.ties.AtDesk.{Did, NotedSince, ReadsOf, WritesOf, acts_in}
+use Rattle.chess_match.proofs.AtDesk.{acts_watched, notes_watched}
+use Rattle.chess_match.proofs.ClockAsked.{asked_none}
+use Rattle.chess_match.proofs.MatchCases.{all_reads_end, all_sends_end, sends_end, unsent_in}
+use Rattle.chess_match.proofs.OutputByActs.{all_read}
 use Rattle.chess_match.proofs.Sends.{bytes_of-append}
 use Rattle.chess_match.proofs.shared.Flushes.{failed_after, flushed_more, flushed_none}
-
--- ---- what was read
-
-quiet : (H : List Act) → unread H ≡ true → IsTail (map event_at H)
-quiet H u = record {
-  lines = λ S. tail_lines S H u;
-  moments = tail_moments H u;
-  ends = λ S. (tail_faults S H u).0;
-  failures = λ S. (tail_faults S H u).1;
-}
-
-one_more : (T U : List Event) (e : Event) → (T ++ e ∷ []) ++ U ≡ T ++ e ∷ U
-one_more T U e = append_assoc T (e ∷ []) U
-
--- an act that ends no reading
-reads_on : (S : Colour) (T : List Event) (a : Act) (H : List Act) (r v v' r' : InputState) (h k h' : Held)
-    (given : List ℕ) → IsStillRead S T r v h given → OutputAt S (event_at a) v v' h k
-    → ((given' : List ℕ) → IsStillRead S (T ++ event_at a ∷ []) r v' k given'
-    → (all : List ℕ) × ReadFrom S ((T ++ event_at a ∷ []) ++ map event_at H) r r' all)
-    → ReadSoFar S (T ++ event_at a ∷ []) true r v' k
-    → (all : List ℕ) × ReadFrom S (T ++ event_at a ∷ map event_at H) r r' all
-reads_on S T a H r v v' r' h k h' given s o more so_far =
-    let q = more _ (so_far.2 refl) in
-    (q.0, subst (λ (U : List Event). ReadFrom S U r r' q.0) (one_more T (map event_at H) (event_at a)) q.1)
-
--- an act after which nothing is read
-reads_out : (S : Colour) (T : List Event) (a : Act) (H : List Act) (r v v' r' : InputState) (h k h' : Held)
-    (given : List ℕ) → unread H ≡ true → IsStillRead S T r v h given → OutputAt S (event_at a) v v' h k
-    → ReadsOf S H v' r' k h' → (all : List ℕ) × ReadFrom S (T ++ event_at a ∷ map event_at H) r r' all
-reads_out S T a H r v v' r' h k h' given u s o p =
-    let q = output_longer S T (event_at a) (map event_at H) false r v v' h k given (quiet H u) (λ e. refl) o s in (
-      q.0,
-      subst (λ (x : InputState). ReadFrom S (T ++ event_at a ∷ map event_at H) r x q.0)
-          (sym (tail_same S H v' r' k h' u p)) q.1,
-    )
-
-reads_all : (S : Colour) (T : List Event) (H : List Act) (r v r' : InputState) (h h' : Held) (given : List ℕ)
-    → reads_end H ≡ true → IsStillRead S T r v h given → ReadsOf S H v r' h h'
-    → (all : List ℕ) × ReadFrom S (T ++ map event_at H) r r' all
-reads_all S T [] r v r' h h' given end s (e, k) = (
-  given,
-  subst (λ (x : InputState). ReadFrom S (T ++ []) r x given) (sym e)
-      (subst (λ (U : List Event). ReadFrom S U r v given) (sym (append-nil T)) (still_read S T r v h given s)),
-)
-reads_all S T (Sends b ∷ H) r v r' h h' given end s (v', k, o, p) =
-    reads_on S T (Sends b) H r v v' r' h k h' given s o
-    (λ g s'. reads_all S (T ++ FailsToWrite b.to ∷ []) H r v' r' k h' g end s' p)
-    (output_longer S T (FailsToWrite b.to) [] true r v v' h k given no_tail (λ e. absurd cc) o s)
-reads_all S T (SendFails b ∷ H) r v r' h h' given end s (v', k, o, p) =
-    reads_on S T (SendFails b) H r v v' r' h k h' given s o
-    (λ g s'. reads_all S (T ++ FailsToWrite b.to ∷ []) H r v' r' k h' g end s' p)
-    (output_longer S T (FailsToWrite b.to) [] true r v v' h k given no_tail (λ e. absurd cc) o s)
-reads_all S T (ReadsClock c n ∷ H) r v r' h h' given end s (v', k, o, p) =
-    reads_on S T (ReadsClock c n) H r v v' r' h k h' given s o
-    (λ g s'. reads_all S (T ++ FailsToWrite c ∷ []) H r v' r' k h' g end s' p)
-    (output_longer S T (FailsToWrite c) [] true r v v' h k given no_tail (λ e. absurd cc) o s)
-reads_all S T (Reads c t ∷ H) r v r' h h' given end s (v', k, o, p) =
-    reads_on S T (Reads c t) H r v v' r' h k h' given s o
-    (λ g s'. reads_all S (T ++ Line c t 0 ∷ []) H r v' r' k h' g end s' p)
-    (output_longer S T (Line c t 0) [] true r v v' h k given no_tail (λ e. absurd cc) o s)
-reads_all S T (ReadsEnd c ∷ H) r v r' h h' given end s (v', k, o, p) =
-    reads_out S T (ReadsEnd c) H r v v' r' h k h' given end s o p
-reads_all S T (ReadFails c ∷ H) r v r' h h' given end s (v', k, o, p) =
-    reads_out S T (ReadFails c) H r v v' r' h k h' given end s o p
-
-pub all_read : (S : Colour) (H : List Act) (r r' : InputState) (h' : Held) → reads_end H ≡ true
-    → ReadsOf S H r r' nothing_held h' → (given : List ℕ) × ReadAs S H r r' given
-all_read S H r r' h' end p =
-    let q = reads_all S [] H r r r' nothing_held h' [] end
-    (record { output = output_start r; unended = refl; unfailed = refl }) p in
-    (q.0, read_as S (map event_at H) H r r' q.0 (lines_at S H) (ends_at S H) (failures_at S H) q.1)
 
 -- ---- what was written
 

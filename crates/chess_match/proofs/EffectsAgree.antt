@@ -1,5 +1,6 @@
 -- The effects of events are what the code does, row by row.
-use Rattle.std.proofs.Common.{◌≡◌, ℕ, ◌+◌, ◌-◌, Bool, true, false, List, [], ◌∷◌, ◌++◌, length, refl, ap, sym, ◌∙◌, subst, Option, None, Some}
+use native.Mathlib.Omega.{arith}
+use Rattle.std.proofs.Common.{◌≡◌, ℕ, ◌+◌, ◌-◌, Bool, true, false, not, List, [], ◌∷◌, ◌++◌, length, refl, ap, sym, ◌∙◌, subst, Option, None, Some}
 use Rattle.std.specs.Option.{option_map_or}
 use Rattle.std.specs.Prelude.{if◌then◌else◌, nat_lt, nat_le, ◌==◌, codes}
 use Rattle.std.proofs.Math.Path.{fun_ext}
@@ -14,13 +15,11 @@ use Rattle.cecp_engine.specs.Items.{Item, has_done, takes}
 use Rattle.chess_match.specs.laws.Machine as machine
 use Rattle.chess_match.specs.Events.{Line, Opened, OutputEnds, FailsToRead, FailsToWrite, Seat}
 use Rattle.chess_match.specs.laws.Machine.{handshake_line, setup_line, before_line, after_line}
-use Rattle.chess_game.specs.Results.{result_text}
-use Rattle.chess_match.specs.Reasons.{outcome_by_reason, comment_of}
 use Rattle.chess_match.specs.Rules.{Rules}
 use Rattle.chess_base.specs.Options.{list_if}
 use Rattle.chess_match.specs.Lines.{SentLine, Says, answers_to, setup_lines, ping}
 use Rattle.chess_match.specs.Reasons.{is_unwritten}
-use Rattle.chess_match.specs.laws.Blocks.{block, lines_on_entering, is_same_phase, end_lines, last_move_sent, clock_lines, opening_lines, unsent_lines}
+use Rattle.chess_match.specs.laws.Blocks.{block, lines_on_entering, is_same_phase, end_lines, last_move_sent, clock_lines, opening_lines}
 use Rattle.chess_match.specs.laws.Transcript.{is_on, reads}
 use Rattle.chess_match.specs.declared.phase.Phase.{Phase as MachinePhase}
 use Rattle.chess_match.specs.declared.phase.Phase.TheVariants as phases
@@ -31,89 +30,47 @@ use Rattle.chess_match.specs.declared.reason.Reason.{Reason}
 use Rattle.chess_match.specs.declared.reason.Reason.TheVariants.{Decided, Claimed, Agreed, MovesIllegally, MovesOutOfTurn, ClaimsFalsely, RejectsLegalMove, Forfeits, ForfeitsToBareKing, GameTooLong, Faulted}
 use Rattle.chess_match.specs.declared.reason.Reason.TheVariants as over_by
 use Rattle.chess_match.specs.ties.Represents.{items_to, lines_if_to}
-use Rattle.chess_match.proofs.Going.{plain_block, played_block, items_block, offered_block, offered, draw_to, leaves, reads_on}
-use Rattle.chess_match.proofs.Outcomes.{opens_at, and_first}
+use Rattle.chess_match.proofs.Going.{draw_to, items_block, leaves, offered, offered_block, opens_at, plain_block, played_block, reads_on}
+use Rattle.chess_match.proofs.Outcomes.{and_first}
 use Rattle.chess_match.specs.ties.SameEffects.{phase_of, view, owed_in, Agrees, EventsAgree}
-use Rattle.chess_match.specs.Effects.{Match, Setup, AfterMove, Effect, is_owed, move_line, farewell, sends_nothing, sends_to, enter, with_seat, ends, ignores, begins_turn, opening, offer_row, turn_row, moved, move_row, before_move, flag_row, after_move, ping_number, handshake_row, handshake_done, judged, with_answers, setup_row, setup_done, line_row, items_said, clock}
+use Rattle.chess_match.specs.Acts.{is_over}
+use Rattle.chess_match.specs.Effects.{Match, Phase, Handshake, Setup, Over, Effect, beginning, farewell, sends_nothing, sends_to, enter, with_seat, ends, ignores, begins_turn, opening, offer_row, turn_row, moved, move_row, before_move, flag_row, after_move, ping_number, handshake_row, handshake_done, judged, with_answers, setup_row, setup_done, line_row, items_said, clock}
 
 -- ---- the match after it
 
+same_match : (p p' : Phase) (f g : Colour → Seat) (ms ms' : List Move) (n n' : ℕ) → p ≡ p'
+    → ((c : Colour) → f c ≡ g c) → ms ≡ ms' → n ≡ n'
+    → (let x : Match = record { phase = p; seat = f; played = ms; count = n } in x)
+    ≡ (let x : Match = record { phase = p'; seat = g; played = ms'; count = n' } in x)
+same_match p p' f g ms ms' n n' e s q c = rw (e, q, c) (ap (λ (h : Colour → Seat). let x : Match = record {
+  phase = p';
+  seat = h;
+  played = ms';
+  count = n';
+} in x) (fun_ext s))
+
 with_seat_same : (S : Colour) (change : Seat → Seat) (m : machine.Match)
     → with_seat S change (view m) ≡ view (machine.with_seat S change m)
-with_seat_same White change m =
-    ap (λ (f : Colour → Seat). let x : Match = record {
-      phase = phase_of m.opened m.phase;
-      seat = f;
-      played = m.played;
-      count = m.count;
-    } in x)
-    (fun_ext at)
-  where
-    at : (c : Colour) → (if same_colour c White then change (machine.seat m c) else machine.seat m c)
-        ≡ machine.seat (machine.with_seat White change m) c
-    at White = refl
-    at Black = refl
-with_seat_same Black change m =
-    ap (λ (f : Colour → Seat). let x : Match = record {
-      phase = phase_of m.opened m.phase;
-      seat = f;
-      played = m.played;
-      count = m.count;
-    } in x)
-    (fun_ext at)
-  where
-    at : (c : Colour) → (if same_colour c Black then change (machine.seat m c) else machine.seat m c)
-        ≡ machine.seat (machine.with_seat Black change m) c
-    at White = refl
-    at Black = refl
+with_seat_same S change m =
+    let n : Match = with_seat S change (view m) in
+    let n' : Match = view (machine.with_seat S change m) in
+    same_match n.phase n'.phase n.seat n'.seat n.played n'.played n.count n'.count (grind arith) (λ c. grind arith)
+    (grind arith) (grind arith)
 
 moved_same : (S : Colour) (move : Move) (used : ℕ) (m : machine.Match)
     → moved S move used (view m) ≡ view (machine.played_by S move used m)
-moved_same White move used m =
-    ap (λ (f : Colour → Seat). let x : Match = record {
-      phase = AfterMove White;
-      seat = f;
-      played = m.played ++ move
-          ∷ [];
-      count = m.count;
-    } in x)
-    (fun_ext at)
-  where
-    at : (c : Colour) → (moved White move used (view m)).seat c ≡ machine.seat (machine.played_by White move used m) c
-    at White = refl
-    at Black = refl
-moved_same Black move used m =
-    ap (λ (f : Colour → Seat). let x : Match = record {
-      phase = AfterMove Black;
-      seat = f;
-      played = m.played ++ move
-          ∷ [];
-      count = m.count;
-    } in x)
-    (fun_ext at)
-  where
-    at : (c : Colour) → (moved Black move used (view m)).seat c ≡ machine.seat (machine.played_by Black move used m) c
-    at White = refl
-    at Black = refl
+moved_same S move used m =
+    let n : Match = moved S move used (view m) in
+    let n' : Match = view (machine.played_by S move used m) in
+    same_match n.phase n'.phase n.seat n'.seat n.played n'.played n.count n'.count (grind arith) (λ c. grind arith)
+    (grind arith) (grind arith)
 
 -- ---- ends
 
 farewell_same : (r : Rules) (m : machine.Match) → m.unsent_to ≡ owed_in m.phase → (reason : Reason) (S : Colour)
     → farewell r (view m) reason S ≡ end_lines r (machine.over reason m) S reason
 unfolding end_lines last_move_sent
-farewell_same r m u reason S = rw u (ap
-    (λ (l : List SentLine). l ++ (Says (codes "result " ++ result_text (outcome_by_reason reason) (comment_of reason))
-    ∷ Says (codes "quit") ∷ []))
-    (at m.phase))
-  where
-    at : (p : MachinePhase) → list_if (is_owed (phase_of m.opened p) S) (move_line r (view m) S ∷ [])
-        ≡ unsent_lines r (machine.over reason m) S (owed_in p)
-    at (phases.AwaitPong c) = refl
-    at (phases.Handshake c) = refl
-    at (phases.Setup c) = refl
-    at (phases.SendTurn c) = refl
-    at (phases.AwaitMove c) = refl
-    at (phases.Over reason) = refl
+farewell_same r m u reason S = grind (arith, u)
 
 -- the match ends: `m` is the match before the event, `m'` the same but for what the event changed before the end
 agree_over : (r : Rules) (m m' : machine.Match) (reason : Reason) (n : Match) → n ≡ view m' → m'.unsent_to
@@ -129,20 +86,12 @@ agree_over r m m' reason n e u b = subst (λ (n : Match). Agrees r m (machine.ov
     })
 
 not_opening : (p : MachinePhase) (S : Colour) → is_on p ≡ true → is_same_phase p (phases.SendTurn S) ≡ false
-not_opening (phases.Handshake c) S h = refl
-not_opening (phases.Setup c) S h = refl
-not_opening (phases.SendTurn c) S h = refl
-not_opening (phases.AwaitMove c) S h = refl
-not_opening (phases.AwaitPong c) S h = refl
-not_opening (phases.Over x) S h = cc
+not_opening p S h1 = grind arith
 
 -- to one side
 to_side : (S S' : Colour) (f : Colour → List SentLine) → list_if (same_colour S S') (f S)
     ≡ list_if (same_colour S S') (f S')
-to_side White White f = refl
-to_side White Black f = refl
-to_side Black White f = refl
-to_side Black Black f = refl
+to_side S S' f = grind arith
 
 opening_same : (r : Rules) (m : machine.Match) (S : Colour) → opening r (view m) S ≡ opening_lines r m S
 unfolding opening_lines clock_lines last_move_sent
@@ -150,11 +99,7 @@ opening_same r m S = refl
 
 draw_same : (t : Bool) (S S' : Colour) (d : List SentLine)
     → list_if (same_colour (other S) S') (list_if t d) ≡ lines_if_to (draw_to t (other S)) S' d
-draw_same true S S' d = refl
-draw_same false White White d = refl
-draw_same false White Black d = refl
-draw_same false Black White d = refl
-draw_same false Black Black d = refl
+draw_same t S S' d = grind arith
 
 seat_frame : (S : Colour) (change : Seat → Seat) (m : machine.Match)
     → ((machine.with_seat S change m).unsent_to ≡ m.unsent_to) × ((machine.with_seat S change m).phase ≡ m.phase)
@@ -270,10 +215,7 @@ played_owed S move used m = refl
 ping_same : (r : Rules) (S S' : Colour) (m : machine.Match)
     → list_if (same_colour S S') (ping (ping_number (view m) S) ∷ [])
     ≡ list_if (same_colour S S') (ping (machine.ping_number m S') ∷ [])
-ping_same r White White m = refl
-ping_same r White Black m = refl
-ping_same r Black White m = refl
-ping_same r Black Black m = refl
+ping_same r S S' m = grind arith
 
 -- the block of a move that was played and decided nothing
 pinged_block : (r : Rules) (S : Colour) (move : Move) (used : ℕ) (m : machine.Match) → m.phase ≡ phases.AwaitMove S
@@ -488,15 +430,7 @@ agree_handshake r c items m p none =
 -- ---- events
 
 said_same : (kind : LineKind) → items_said kind ≡ machine.items_of_line kind
-said_same (Features t) = refl
-said_same (Moves t) = refl
-said_same Resigns = refl
-said_same OffersDraw = refl
-said_same ClaimsDraw = refl
-said_same (ClaimsWin c) = refl
-said_same Rejects = refl
-said_same (Answers n) = refl
-said_same SaysElse = refl
+said_same kind = grind arith
 
 agree_line : (r : Rules) (S : Colour) (kind : LineKind) (moment : ℕ) (m : machine.Match) (p : MachinePhase) → m.phase
     ≡ p
@@ -530,3 +464,16 @@ events_agree r due m (Opened S moment) f u = record {
 events_agree r due m (OutputEnds S) f u = agree_fault r m (Faulted S Ended) (reads_on m.phase S f) u
 events_agree r due m (FailsToRead S) f u = agree_fault r m (Faulted S Read) (reads_on m.phase S f) u
 events_agree r due m (FailsToWrite S) f u = agree_fault r m (Faulted S Write) (and_first (is_on m.phase) _ f) u
+
+-- ---- phases, and the start
+
+pub over_same : (o : ℕ) (p : MachinePhase) → is_over (phase_of o p) ≡ not (is_on p)
+over_same o p = grind arith
+
+pub over_back : (opened : ℕ) (p : MachinePhase) (reason : Reason) → phase_of opened p ≡ Over reason
+    → p ≡ phases.Over reason
+over_back opened p reason h1 = grind arith
+
+pub start_same : beginning.after ≡ view machine.start
+start_same = same_match (Handshake White) (Handshake White) beginning.after.seat (view machine.start).seat [] [] 0 0
+    refl (λ c. grind arith) refl refl

@@ -30,9 +30,6 @@ only failed S X = if failed then same_colour S X else false
 
 -- ---- put together
 
-pub leads_nowhere : (r : Rules) (m : Match) (due : List Block) → Leads r m due [] m due none
-leads_nowhere r m due H final reason g e = (H, g, refl, λ S. refl)
-
 or_more : (a b c : Bool) → (a || (b || c)) ≡ ((a || b) || c)
 or_more true b c = refl
 or_more false b c = refl
@@ -57,7 +54,7 @@ leads_as r m m' due due' K f g e p H final reason h ends =
 
 -- ---- blocks
 
-more_broken : (b : Block) (H : List Act) (S : Colour)
+pub more_broken : (b : Block) (H : List Act) (S : Colour)
     → is_broken (SendFails b ∷ H) S ≡ (same_colour b.to S || is_broken H S)
 more_broken b H S = at (same_colour b.to S)
   where
@@ -101,7 +98,7 @@ pub leads_farewell : (r : Rules) (m : Match) (S : Colour) (lines : List SentLine
 leads_farewell r m S lines due true over some apart = leads_broken r m S lines due over (some refl) apart
 leads_farewell r m S lines due false over some apart = leads_sent r m S lines due
 
-unwritten : (S : Colour) (reason : Reason) → Over (Faulted S Write) ≡ Over reason → is_unwritten reason S ≡ true
+pub unwritten : (S : Colour) (reason : Reason) → Over (Faulted S Write) ≡ Over reason → is_unwritten reason S ≡ true
 unwritten S reason e = let same : Faulted S Write ≡ reason = cc in
     ap (λ (x : Reason). is_unwritten x S) (sym same) ∙ same_colour-self S
 

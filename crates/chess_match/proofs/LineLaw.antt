@@ -1,13 +1,10 @@
 -- A match ends within so many lines.
-use Rattle.std.proofs.Common.{◌≡◌, ℕ, ◌+◌, ◌*◌, ◌≤◌, ◌<◌, Bool, true, false, List, [], ◌∷◌, ◌++◌, length, length-append, refl, sym, subst, arith}
+use Rattle.std.proofs.Common.{◌≡◌, ℕ, ◌+◌, ◌*◌, ◌≤◌, ◌<◌, Bool, true, false, List, [], ◌∷◌, length, length-append, refl, arith}
 use Rattle.chess_base.specs.declared.man.Colour.{Colour}
 use Rattle.chess_base.specs.declared.man.Colour.TheVariants.{White, Black}
-use Rattle.chess_base.specs.declared.man.Move.{Move}
-use Rattle.chess_base.specs.Men.{other}
 use Rattle.cecp_engine.specs.EngineLines.{LineKind, line_kind}
-use Rattle.cecp_engine.specs.Items.{Item}
 use Rattle.chess_match.specs.laws.Laws.{LinesAreFew, line_count}
-use Rattle.chess_match.specs.laws.Machine.{Match, items_of_line, seat, take_items, start, over, enter, open_turn, played_by, match_after}
+use Rattle.chess_match.specs.laws.Machine.{Match, seat, start, over, match_after}
 use Rattle.chess_match.specs.Events.{Event, Line, Opened, OutputEnds, FailsToRead, FailsToWrite}
 use Rattle.chess_match.specs.Rules.{Rules}
 use Rattle.chess_match.specs.Lines.{SentLine}
@@ -16,9 +13,9 @@ use Rattle.chess_match.specs.laws.Transcript.{reads, opens, fits_next, fits_from
 use Rattle.chess_match.specs.declared.phase.Phase.{Phase}
 use Rattle.chess_match.specs.declared.phase.Phase.TheVariants.{Handshake, Setup, SendTurn, AwaitMove, AwaitPong, Over}
 use Rattle.chess_match.specs.declared.reason.Reason.{Reason}
-use Rattle.chess_match.specs.declared.reason.Reason.TheVariants.{Agreed, Decided}
-use Rattle.chess_match.proofs.Outcomes.{Lines, line_outcome, opens_at, and_first, and_second}
-use Rattle.chess_match.proofs.Going.{offered}
+use Rattle.chess_match.specs.declared.reason.Reason.TheVariants.{Agreed}
+use Rattle.chess_match.proofs.Outcomes.{Lines, line_outcome, and_first, and_second}
+use Rattle.chess_match.proofs.Going.{opens_at}
 
 abbrev one_if : Bool → ℕ
 one_if true = 1
@@ -44,180 +41,55 @@ Few r k m = AreFew r.limit k m.phase m.count (length m.played) (λ c. (seat m c)
 abbrev FewIn : Rules → ℕ → Phase → Match → Type 0
 FewIn r k p m = AreFew r.limit k p m.count (length m.played) (λ c. (seat m c).offers)
 
-into_phase : (r : Rules) (k : ℕ) (m : Match) (p : Phase) → m.phase ≡ p → Few r k m → FewIn r k p m
-into_phase r k m p e w = subst (λ (q : Phase). FewIn r k q m) e w
-
-from_phase : (r : Rules) (k : ℕ) (m : Match) (p : Phase) → m.phase ≡ p → FewIn r k p m → Few r k m
-from_phase r k m p e w = subst (λ (q : Phase). FewIn r k q m) (sym e) w
-
 at_most_one : (b : Bool) → one_if b ≤ 1
 at_most_one true = omega arith
 at_most_one false = omega arith
 
 -- one line more
 
-few_at_end : (r : Rules) (k : ℕ) (S : Colour) (items : List Item) (reason : Reason) (m : Match)
-    → FewIn r k (Handshake S) m → Few r (k + 1) (over reason (take_items S items m))
-few_at_end r k White items reason m w = omega (arith, w.0, w.1)
-few_at_end r k Black items reason m w = omega (arith, w.0, w.1)
-
-few_counted : (r : Rules) (k : ℕ) (S : Colour) (items : List Item) (m : Match) → m.phase ≡ Handshake S
-    → FewIn r k (Handshake S) m → m.count + 1 < 1000
-    → (let m' = take_items S items m in Few r (k + 1) (record m' { count = m.count + 1 }))
-few_counted r k White items m e w few = from_phase r (k + 1)
-    (let m' = take_items White items m in record m' { count = m.count + 1 }) (Handshake White) e
-    (omega (arith, w.0), few, w.2)
-few_counted r k Black items m e w few = from_phase r (k + 1)
-    (let m' = take_items Black items m in record m' { count = m.count + 1 }) (Handshake Black) e
-    (omega (arith, w.0), few, w.2)
-
-few_at_next : (r : Rules) (k : ℕ) (S : Colour) (items : List Item) (m : Match) → S ≡ White
-    → FewIn r k (Handshake White) m → Few r (k + 1) (enter (Handshake Black) (take_items S items m))
-few_at_next r k White items m s w = (omega (arith, w.0, w.1), omega arith, w.2)
-few_at_next r k Black items m s w = cc
-
-few_at_done : (r : Rules) (k : ℕ) (S : Colour) (items : List Item) (m : Match) → S ≡ Black
-    → FewIn r k (Handshake Black) m → Few r (k + 1) (enter (Setup White) (take_items S items m))
-few_at_done r k Black items m s w = (omega (arith, w.0, w.1), omega arith, w.2)
-few_at_done r k White items m s w = cc
-
-few_judged : (r : Rules) (k : ℕ) (S : Colour) (items : List Item) (reason : Reason) (m : Match) → S ≡ Black
-    → FewIn r k (Handshake Black) m → Few r (k + 1) (enter (Over reason) (take_items S items m))
-few_judged r k Black items reason m s w = omega (arith, w.0, w.1)
-few_judged r k White items reason m s w = cc
-
-setup_over : (r : Rules) (k : ℕ) (S : Colour) (reason : Reason) (m : Match) → FewIn r k (Setup S) m
-    → Few r (k + 1) (over reason m)
-setup_over r k White reason m w = omega (arith, w.0, w.1)
-setup_over r k Black reason m w = omega (arith, w.0, w.1)
-
-setup_more : (r : Rules) (k : ℕ) (S : Colour) (m : Match) → m.phase ≡ Setup S → FewIn r k (Setup S) m
-    → m.count + 1 < 10000 → Few r (k + 1) (record m { count = m.count + 1 })
-setup_more r k White m e w few = from_phase r (k + 1) (record m { count = m.count + 1 }) (Setup White) e
-    (omega (arith, w.0), few, w.2)
-setup_more r k Black m e w few = from_phase r (k + 1) (record m { count = m.count + 1 }) (Setup Black) e
-    (omega (arith, w.0), few, w.2)
-
-before_over : (r : Rules) (k : ℕ) (S : Colour) (reason : Reason) (m : Match) → FewIn r k (AwaitMove S) m
-    → Few r (k + 1) (over reason m)
-before_over r k S reason m w = omega (arith, w.0, w.1, w.2, at_most_one (seat m S).offers)
-
-before_more : (r : Rules) (k : ℕ) (S : Colour) (m : Match) → m.phase ≡ AwaitMove S → FewIn r k (AwaitMove S) m
-    → m.count + 1 < 10000 → Few r (k + 1) (record m { count = m.count + 1 })
-before_more r k White m e w few = from_phase r (k + 1) (record m { count = m.count + 1 }) (AwaitMove White) e
-    (omega (arith, w.0), few, w.2)
-before_more r k Black m e w few = from_phase r (k + 1) (record m { count = m.count + 1 }) (AwaitMove Black) e
-    (omega (arith, w.0), few, w.2)
-
-offer_more : (limit k n count : ℕ) (o : Bool) → o ≡ false → k ≤ 22000 + 10002 * n + count + one_if o
-    → k + 1 ≤ 22000 + 10002 * n + count + 1
-offer_more limit k n count true e h = cc
-offer_more limit k n count false e h = omega (arith, h)
-
-before_offers : (r : Rules) (k : ℕ) (S : Colour) (m : Match) → m.phase ≡ AwaitMove S → FewIn r k (AwaitMove S) m
-    → (seat m S).offers ≡ false → Few r (k + 1) (offered S m)
-before_offers r k White m e w none = from_phase r (k + 1) (offered White m) (AwaitMove White) e
-    (offer_more r.limit k (length m.played) m.count m.white.offers none w.0, w.1, w.2)
-before_offers r k Black m e w none = from_phase r (k + 1) (offered Black m) (AwaitMove Black) e
-    (offer_more r.limit k (length m.played) m.count m.black.offers none w.0, w.1, w.2)
-
-plays_more : (r : Rules) (k : ℕ) (S : Colour) (move : Move) (used : ℕ) (m : Match) → FewIn r k (AwaitMove S) m
-    → length m.played < r.limit → Few r (k + 1) (played_by S move used m)
-plays_more r k White move used m w room =
-    let l : length (m.played ++ move ∷ []) ≡ length m.played + 1 =
-    length-append m.played (move ∷ []) in (omega (arith, w.0, l), w.1, omega (arith, l, room))
-plays_more r k Black move used m w room =
-    let l : length (m.played ++ move ∷ []) ≡ length m.played + 1 =
-    length-append m.played (move ∷ []) in (omega (arith, w.0, l), w.1, omega (arith, l, room))
-
-after_over : (r : Rules) (k : ℕ) (S : Colour) (reason : Reason) (m : Match) → FewIn r k (AwaitPong S) m
-    → Few r (k + 1) (over reason m)
-after_over r k S reason m w = omega (arith, w.0, w.1, w.2, at_most_one (seat m S).offers)
-
-after_more : (r : Rules) (k : ℕ) (S : Colour) (m : Match) → m.phase ≡ AwaitPong S → FewIn r k (AwaitPong S) m
-    → m.count + 1 < 10000 → Few r (k + 1) (record m { count = m.count + 1 })
-after_more r k White m e w few = from_phase r (k + 1) (record m { count = m.count + 1 }) (AwaitPong White) e
-    (omega (arith, w.0), few, w.2)
-after_more r k Black m e w few = from_phase r (k + 1) (record m { count = m.count + 1 }) (AwaitPong Black) e
-    (omega (arith, w.0), few, w.2)
-
-offer_after : (k n count : ℕ) (o : Bool) → o ≡ false → k + 10001 ≤ 22000 + 10002 * n + count + one_if o
-    → k + 1 + 10001 ≤ 22000 + 10002 * n + count + 1
-offer_after k n count true e h = cc
-offer_after k n count false e h = omega (arith, h)
-
-after_offers : (r : Rules) (k : ℕ) (S : Colour) (m : Match) → m.phase ≡ AwaitPong S → FewIn r k (AwaitPong S) m
-    → (seat m S).offers ≡ false → Few r (k + 1) (offered S m)
-after_offers r k White m e w none = from_phase r (k + 1) (offered White m) (AwaitPong White) e
-    (offer_after k (length m.played) m.count m.white.offers none w.0, w.1, w.2)
-after_offers r k Black m e w none = from_phase r (k + 1) (offered Black m) (AwaitPong Black) e
-    (offer_after k (length m.played) m.count m.black.offers none w.0, w.1, w.2)
-
-after_passes : (r : Rules) (k : ℕ) (S : Colour) (m : Match) → FewIn r k (AwaitPong S) m
-    → Few r (k + 1) (open_turn (other S) m)
-after_passes r k S m w = (omega (arith, w.0, w.1, at_most_one (seat m S).offers), omega arith, w.2)
-
 -- a match that is over had no more lines than all
 few_over : (r : Rules) (k : ℕ) (reason : Reason) (m : Match) → Few r k m → Few r k (over reason m)
-few_over r k reason m w = at m.phase w
-  where
-    at : (p : Phase) → FewIn r k p m → k ≤ 22000 + 10002 * (r.limit + 1)
-    at (Handshake White) w = omega (arith, w.0, w.1)
-    at (Handshake Black) w = omega (arith, w.0, w.1)
-    at (Setup White) w = omega (arith, w.0, w.1)
-    at (Setup Black) w = omega (arith, w.0, w.1)
-    at (SendTurn c) w = omega (arith, w.0, w.1, w.2)
-    at (AwaitMove c) w = omega (arith, w.0, w.1, w.2, at_most_one (seat m c).offers)
-    at (AwaitPong c) w = omega (arith, w.0, w.1, w.2, at_most_one (seat m c).offers)
-    at (Over x) w = w
+few_over r k reason m w = grind (arith, at_most_one (seat m White).offers, at_most_one (seat m Black).offers)
 
 lines : (r : Rules) (k : ℕ) (S : Colour) (kind : LineKind) (moment : ℕ) (m : Match) → Few r k m
     → Lines r S kind moment m (λ m'. Few r (k + 1) m')
 lines r k S kind moment m w = record {
-  handshake_ends = λ p d. few_at_end r k S (items_of_line kind) Agreed m (into_phase r k m (Handshake S) p w);
-  handshake_counts = λ p d few. few_counted r k S (items_of_line kind) m p (into_phase r k m (Handshake S) p w) few;
-  handshake_next = λ p s d. few_at_next r k S (items_of_line kind) m s (into_phase r k m (Handshake White) p w);
-  handshake_judged = λ p s d c x. few_judged r k S (items_of_line kind) Agreed m s
-      (into_phase r k m (Handshake Black) p w);
-  handshake_done = λ p s d. few_at_done r k S (items_of_line kind) m s (into_phase r k m (Handshake Black) p w);
-  setup_ends = λ p reason n. setup_over r k S reason m (into_phase r k m (Setup S) p w);
-  setup_counts = λ p pong few. setup_more r k S m p (into_phase r k m (Setup S) p w) few;
-  setup_next = λ p s pong. setup_next (into_phase r k m (Setup White) p w);
-  setup_done = λ p s pong. setup_done (into_phase r k m (Setup Black) p w);
+  handshake_ends = λ p d. grind (arith, p, w);
+  handshake_counts = λ p d few. grind (arith, p, w, few);
+  handshake_next = λ p s d. grind (arith, p, s, w);
+  handshake_judged = λ p s d c x mild. grind (arith, p, s, w);
+  handshake_done = λ p s d. grind (arith, p, s, w);
+  setup_ends = λ p reason n. grind (arith, p, w);
+  setup_counts = λ p pong few. grind (arith, p, w, few);
+  setup_next = λ p s pong. grind (arith, p, w);
+  setup_done = λ p s pong undecided. grind (arith, p, w);
   before = λ p. record {
     row = record {
-      ends = λ reason n. before_over r k S reason m (into_phase r k m (AwaitMove S) p w);
-      counts = λ none few. before_more r k S m p (into_phase r k m (AwaitMove S) p w) few;
-      offers = λ none own theirs. before_offers r k S m p (into_phase r k m (AwaitMove S) p w) own;
+      ends = λ reason n. grind (arith, p, w, at_most_one (seat m S).offers);
+      counts = λ none few. grind (arith, p, w, few);
+      offers = λ none own theirs. grind (arith, p, w, own);
     };
-    plays = λ text move is reading room timely. plays_more r k S move _ m (into_phase r k m (AwaitMove S) p w) room;
-    decides = λ text move v is reading room timely. before_over r k S (Decided v) m
-        (into_phase r k m (AwaitMove S) p w);
+    plays = λ text move is reading room timely undecided.
+        grind (arith, p, w, room, length-append m.played (move ∷ []));
+    decides = λ text move v is reading room timely. grind (arith, p, w, at_most_one (seat m S).offers);
   };
   behind = λ p. record {
     row = record {
-      ends = λ reason n. after_over r k S reason m (into_phase r k m (AwaitPong S) p w);
-      counts = λ none few. after_more r k S m p (into_phase r k m (AwaitPong S) p w) few;
-      offers = λ none own theirs. after_offers r k S m p (into_phase r k m (AwaitPong S) p w) own;
+      ends = λ reason n. grind (arith, p, w, at_most_one (seat m S).offers);
+      counts = λ none few. grind (arith, p, w, few);
+      offers = λ none own theirs. grind (arith, p, w, own);
     };
-    passes = λ none. after_passes r k S m (into_phase r k m (AwaitPong S) p w);
+    passes = λ none. grind (arith, p, w, at_most_one (seat m S).offers);
   };
 }
-  where
-    setup_next : FewIn r k (Setup White) m → Few r (k + 1) (enter (Setup Black) m)
-    setup_next w = (omega (arith, w.0, w.1), omega arith, w.2)
-
-    setup_done : FewIn r k (Setup Black) m → Few r (k + 1) (open_turn r.first m)
-    setup_done w = (omega (arith, w.0, w.1, w.2), omega arith, omega (arith, w.2))
 
 opened : (r : Rules) (k : ℕ) (S : Colour) (moment : ℕ) (m : Match) → FewIn r k (SendTurn S) m
     → Few r k (record m { phase = AwaitMove S; opened = moment })
-opened r k White moment m w = (omega (arith, w.0), w.1, w.2)
-opened r k Black moment m w = (omega (arith, w.0), w.1, w.2)
+opened r k S moment m h1 = grind arith
 
 few_opened : (r : Rules) (k : ℕ) (S : Colour) (moment : ℕ) (m : Match) → opens m.phase S ≡ true → Few r k m
     → Few r k (record m { phase = AwaitMove S; opened = moment })
-few_opened r k S moment m o w = opened r k S moment m (into_phase r k m (SendTurn S) (opens_at m.phase S o) w)
+few_opened r k S moment m o w = let p = opens_at m.phase S o in grind (arith, p, w)
 
 -- after so many lines a match goes on for few more
 few : (r : Rules) (due : Colour → List SentLine) (m : Match) (T : List Event) (k : ℕ) → fits_from r due m T ≡ true

@@ -11,7 +11,7 @@ use Rattle.chess_base.specs.declared.man.Move.{Move}
 use Rattle.chess_base.specs.Men.{other, same_colour}
 use Rattle.chess_base.proofs.shared.Men.{same_colour-true}
 use Rattle.cecp_engine.specs.EngineLines.{LineKind, line_kind}
-use Rattle.chess_match.specs.laws.Machine.{Match, items_of_line, take_items, over, open_turn, played_by, match_after}
+use Rattle.chess_match.specs.laws.Machine.{Match, items_of_line, take_items, open_turn, played_by, match_after}
 use Rattle.chess_match.specs.Events.{Event, Line, Opened, OutputEnds, FailsToRead, FailsToWrite}
 use Rattle.chess_match.specs.Rules.{Rules}
 use Rattle.chess_match.specs.Lines.{SentLine, Says}
@@ -22,8 +22,7 @@ use Rattle.chess_match.specs.declared.phase.Phase.TheVariants.{SendTurn, Over}
 use Rattle.chess_match.specs.declared.reason.MatchFault.TheVariants.{Write}
 use Rattle.chess_match.specs.declared.reason.Reason.TheVariants.{Faulted}
 use Rattle.chess_match.proofs.Blocks.{if_nil, of_block, joined_at}
-use Rattle.chess_match.proofs.MoveLaw.{not_on}
-use Rattle.chess_match.proofs.Outcomes.{Lines, InTurn, line_outcome, and_first, and_second}
+use Rattle.chess_match.proofs.Outcomes.{Lines, InTurn, line_outcome, and_first, and_second, not_on}
 use Rattle.chess_match.proofs.Going.{items_phase, is_opening, offered, plain_block, reads_stays}
 use Rattle.chess_match.specs.ties.Steps.{match_from}
 
@@ -69,11 +68,11 @@ gathered {A} f a r S Q step unsent due m (e ∷ T) X fits q =
         (joined_blocks (blocks_from r S (match_after r m e) T))
         ∙ ap (λ (l : List A). l ++ flat_map f (joined_blocks (blocks_from r S (match_after r m e) T))) (at b h)
 
--- ---- lines that openings alone hold
+-- ---- lines that openings alone hold, while the match is on
 
 abbrev pub InOpenings : {A : Type 0} → (SentLine → List A) → Type 0
-InOpenings f = (r : Rules) (m : Match) (S : Colour) (p : Phase) → is_opening p ≡ false → flat_map f (entry_to r m S p)
-    ≡ []
+InOpenings f = (r : Rules) (m : Match) (S : Colour) (p : Phase) → is_opening p ≡ false → is_on p ≡ true
+    → flat_map f (entry_to r m S p) ≡ []
 
 -- where a line of S gives S something to send, the other is sent none of these
 abbrev SendsNone : {A : Type 0} → (SentLine → List A) → Rules → Colour → Match → Match → Type 0
@@ -87,7 +86,7 @@ quiet_sends_none : {A : Type 0} (f : SentLine → List A) (r : Rules) (S : Colou
     → is_opening m'.phase ≡ false → SendsNone f r S m m'
 quiet_sends_none f r S m m' i e on some =
     if_nil (is_same_phase m.phase m'.phase) (flat_map f (lines_on_entering r m' (other S)))
-    (i r m' (other S) m'.phase e)
+    (i r m' (other S) m'.phase e on)
 
 opening_apart : (r : Rules) (S c : Colour) (m : Match) → same_colour c S ≡ false → is_same_phase m.phase (SendTurn c)
     ≡ false → block r m (open_turn c m) S ≡ []
@@ -127,15 +126,15 @@ lines_none f r S kind moment m i here = record {
       (items_phase S (items_of_line kind) m)
       here;
   handshake_next = λ p s d. quiet_sends_none f r S m _ i refl;
-  handshake_judged = λ p s d c x on some. not_on on;
+  handshake_judged = λ p s d c x mild on some. not_on on;
   handshake_done = λ p s d. quiet_sends_none f r S m _ i refl;
   setup_ends = λ p reason n on some. not_on on;
   setup_counts = λ p pong few. same_sends_none f r S m (record m { count = m.count + 1 }) refl here;
   setup_next = λ p s pong. quiet_sends_none f r S m _ i refl;
-  setup_done = λ p s pong. opens_sends_none f r S r.first m (rw p refl);
+  setup_done = λ p s pong undecided. opens_sends_none f r S r.first m (rw p refl);
   before = λ p. record {
     row = row;
-    plays = λ text move is reading room timely. plays_none f r S move (moment - m.opened) m i;
+    plays = λ text move is reading room timely undecided. plays_none f r S move (moment - m.opened) m i;
     decides = λ text move v is reading room timely on some. not_on on;
   };
   behind = λ p. record { row = row; passes = λ none. opens_sends_none f r S (other S) m (rw p refl) };
@@ -149,19 +148,15 @@ lines_none f r S kind moment m i here = record {
     }
 
 other_is : (d S : Colour) → same_colour d S ≡ false → S ≡ other d
-other_is White Black h = refl
-other_is Black White h = refl
-other_is White White h = cc
-other_is Black Black h = cc
+other_is d S h1 = grind arith
 
 -- a block that isn't sent holds none of these
 pub unsent : {A : Type 0} (f : SentLine → List A) (r : Rules) (S : Colour) → InOpenings f
     → (due : Colour → List SentLine) (m : Match) (e : Event) (T : List Event) → fits_from r due m (e ∷ T) ≡ true
     → is_dropped e T S || is_fault Write S e ≡ true → now f r S m (match_after r m e) ≡ []
 unsent f r S i due m (FailsToWrite c) T fits h =
-    if_nil (is_same_phase m.phase (Over (Faulted c Write)))
-    (flat_map f (lines_on_entering r (over (Faulted c Write) m) S))
-    (i r (over (Faulted c Write) m) S (Over (Faulted c Write)) refl)
+    let own : same_colour c S ≡ true = h in
+    rw own (if_nil (is_same_phase m.phase (Over (Faulted c Write))) [] refl)
 unsent f r S i due m (Line c t n) (FailsToWrite d ∷ T) fits h =
     dropped (and_first (reads m.phase c) _ fits) (and_first _ _ (and_second (reads m.phase c) _ fits))
     (sym (or-false (same_colour c d && not (same_colour d S))) ∙ h)

@@ -1,18 +1,18 @@
 -- What holds of the acts of a match, by the kinds of act.
-use Rattle.std.proofs.Common.{◌≡◌, ℕ, Bool, true, false, List, [], ◌∷◌, ◌++◌, refl, ap, sym, ◌∙◌, subst, Option}
+use native.Mathlib.Omega.{arith}
+use Rattle.std.proofs.Common.{◌≡◌, ℕ, Bool, true, false, List, [], ◌∷◌, refl, ap, sym, ◌∙◌, subst, Option}
 use Rattle.std.specs.Prelude.{if◌then◌else◌}
 use Rattle.chess_base.specs.declared.man.Colour.{Colour}
-use Rattle.chess_base.specs.declared.man.Colour.TheVariants.{White, Black}
-use Rattle.chess_base.specs.Men.{other, same_colour}
-use Rattle.chess_match.specs.Acts.{Act, Block, Sends, SendFails, Reads, ReadsEnd, ReadFails, ReadsClock, IsMatch, IsMatchFrom, awaits_line, is_over, block_of, blocks_from, blocks_after}
-use Rattle.chess_match.specs.Effects.{Match, Phase, Handshake, Setup, Opening, BeforeMove, AfterMove, Over, effect, beginning}
+use Rattle.chess_base.specs.declared.man.Colour.TheVariants.{White}
+use Rattle.chess_base.specs.Men.{same_colour}
+use Rattle.chess_match.specs.Acts.{Act, Block, Sends, SendFails, Reads, ReadsEnd, ReadFails, ReadsClock, IsMatch, IsMatchFrom, awaits_line, is_over, blocks_from, blocks_after}
+use Rattle.chess_match.specs.Effects.{Match, Phase, Opening, effect, beginning}
 use Rattle.chess_match.specs.Events.{Line, Opened, OutputEnds, FailsToRead, FailsToWrite}
 use Rattle.chess_match.specs.Lines.{SentLine}
 use Rattle.chess_match.specs.Rules.{Rules}
-use Rattle.chess_match.proofs.Leading.{unsent}
 
 -- what holds of a match and what is due follows from what holds after each kind of act
-pub record Cases (r : Rules) (P : Match → List Block → List Act → Type 0) : Type 0 where
+pub record Cases (r : Rules) (final : Match) (P : Match → List Block → List Act → Type 0) : Type 0 where
   pub sends : (m : Match) (b : Block) (due : List Block) (H : List Act) → P m due H → P m (b ∷ due) (Sends b ∷ H)
   pub fails : (m : Match) (b : Block) (due : List Block) (H : List Act) → is_over m.phase ≡ false
       → P (effect r m (FailsToWrite b.to)).after (blocks_from White (effect r m (FailsToWrite b.to)).to) H
@@ -30,15 +30,15 @@ pub record Cases (r : Rules) (P : Match → List Block → List Act → Type 0) 
   pub read_fails : (m : Match) (S : Colour) (H : List Act) → awaits_line m.phase S ≡ true
       → P (effect r m (FailsToRead S)).after (blocks_from White (effect r m (FailsToRead S)).to) H
       → P m [] (ReadFails S ∷ H)
-  pub over : (m : Match) → is_over m.phase ≡ true → P m [] []
+  pub over : is_over final.phase ≡ true → P final [] []
 
-pub by_cases : (r : Rules) (P : Match → List Block → List Act → Type 0) → Cases r P → (m final : Match)
+pub by_cases : (r : Rules) (final : Match) (P : Match → List Block → List Act → Type 0) → Cases r final P → (m : Match)
     (due : List Block) (H : List Act) → IsMatchFrom r m due H final → P m due H
-by_cases r P k m final (b ∷ due) (Sends s ∷ H) (e, g) =
-    subst (λ (x : Block). P m (b ∷ due) (Sends x ∷ H)) e (k.sends m b due H (by_cases r P k m final due H g))
-by_cases r P k m final (b ∷ due) (SendFails s ∷ H) (e, g) =
+by_cases r final P k m (b ∷ due) (Sends s ∷ H) (e, g) =
+    subst (λ (x : Block). P m (b ∷ due) (Sends x ∷ H)) e (k.sends m b due H (by_cases r final P k m due H g))
+by_cases r final P k m (b ∷ due) (SendFails s ∷ H) (e, g) =
     subst (λ (x : Block). P m (b ∷ due) (SendFails x ∷ H)) e
-    (at (is_over m.phase) refl (λ m' due' h. by_cases r P k m' final due' H h)
+    (at (is_over m.phase) refl (λ m' due' h. by_cases r final P k m' due' H h)
     (subst (λ (x : Block). let n : Match × List Block = if is_over m.phase then (m, due) else (
       (effect r m (FailsToWrite x.to)).after,
       blocks_from White (effect r m (FailsToWrite x.to)).to,
@@ -61,26 +61,27 @@ by_cases r P k m final (b ∷ due) (SendFails s ∷ H) (e, g) =
           (effect r m (FailsToWrite b.to)).after,
           blocks_from White (effect r m (FailsToWrite b.to)).to,
         ) in IsMatchFrom r n.0 n.1 H final) o h))
-by_cases r P k m final [] (Reads S t ∷ ReadsClock c n ∷ H) (e, aw, g) =
+by_cases r final P k m [] (Reads S t ∷ ReadsClock c n ∷ H) (e, aw, g) =
     subst (λ (x : Colour). P m [] (Reads S t ∷ ReadsClock x n ∷ H)) (sym e)
-    (k.reads m S t n H aw (by_cases r P k _ final _ H g))
-by_cases r P k m final [] (ReadsClock S n ∷ H) (o, g) = k.opens m S n H o (by_cases r P k _ final [] H g)
-by_cases r P k m final [] (ReadsEnd S ∷ H) (aw, g) = k.ends m S H aw (by_cases r P k _ final _ H g)
-by_cases r P k m final [] (ReadFails S ∷ H) (aw, g) = k.read_fails m S H aw (by_cases r P k _ final _ H g)
-by_cases r P k m final [] [] (o, e) = k.over m o
-by_cases r P k m final (b ∷ due) [] g = absurd g
-by_cases r P k m final (b ∷ due) (Reads S t ∷ H) g = absurd g
-by_cases r P k m final (b ∷ due) (ReadsClock S n ∷ H) g = absurd g
-by_cases r P k m final (b ∷ due) (ReadsEnd S ∷ H) g = absurd g
-by_cases r P k m final (b ∷ due) (ReadFails S ∷ H) g = absurd g
-by_cases r P k m final [] (Sends s ∷ H) g = absurd g
-by_cases r P k m final [] (SendFails s ∷ H) g = absurd g
-by_cases r P k m final [] (Reads S t ∷ []) g = absurd g
-by_cases r P k m final [] (Reads S t ∷ Sends s ∷ H) g = absurd g
-by_cases r P k m final [] (Reads S t ∷ SendFails s ∷ H) g = absurd g
-by_cases r P k m final [] (Reads S t ∷ Reads c u ∷ H) g = absurd g
-by_cases r P k m final [] (Reads S t ∷ ReadsEnd c ∷ H) g = absurd g
-by_cases r P k m final [] (Reads S t ∷ ReadFails c ∷ H) g = absurd g
+    (k.reads m S t n H aw (by_cases r final P k _ _ H g))
+by_cases r final P k m [] (ReadsClock S n ∷ H) (o, g) = k.opens m S n H o (by_cases r final P k _ [] H g)
+by_cases r final P k m [] (ReadsEnd S ∷ H) (aw, g) = k.ends m S H aw (by_cases r final P k _ _ H g)
+by_cases r final P k m [] (ReadFails S ∷ H) (aw, g) = k.read_fails m S H aw (by_cases r final P k _ _ H g)
+by_cases r final P k m [] [] (o, e) =
+    subst (λ (x : Match). P x [] []) e (k.over (ap (λ (x : Match). is_over x.phase) e ∙ o))
+by_cases r final P k m (b ∷ due) [] g = absurd g
+by_cases r final P k m (b ∷ due) (Reads S t ∷ H) g = absurd g
+by_cases r final P k m (b ∷ due) (ReadsClock S n ∷ H) g = absurd g
+by_cases r final P k m (b ∷ due) (ReadsEnd S ∷ H) g = absurd g
+by_cases r final P k m (b ∷ due) (ReadFails S ∷ H) g = absurd g
+by_cases r final P k m [] (Sends s ∷ H) g = absurd g
+by_cases r final P k m [] (SendFails s ∷ H) g = absurd g
+by_cases r final P k m [] (Reads S t ∷ []) g = absurd g
+by_cases r final P k m [] (Reads S t ∷ Sends s ∷ H) g = absurd g
+by_cases r final P k m [] (Reads S t ∷ SendFails s ∷ H) g = absurd g
+by_cases r final P k m [] (Reads S t ∷ Reads c u ∷ H) g = absurd g
+by_cases r final P k m [] (Reads S t ∷ ReadsEnd c ∷ H) g = absurd g
+by_cases r final P k m [] (Reads S t ∷ ReadFails c ∷ H) g = absurd g
 
 -- ---- nothing is read after an end
 
@@ -104,15 +105,10 @@ reads_end (Reads c t ∷ H) = reads_end H
 reads_end (ReadsEnd c ∷ H) = unread H
 reads_end (ReadFails c ∷ H) = unread H
 
-on_when_read : (p : Phase) (S : Colour) → awaits_line p S ≡ true → is_over p ≡ false
-on_when_read (Handshake c) S h = refl
-on_when_read (Setup c) S h = refl
-on_when_read (BeforeMove c n) S h = refl
-on_when_read (AfterMove c) S h = refl
-on_when_read (Opening c) S h = refl
-on_when_read (Over x) S h = absurd cc
+pub on_when_read : (p : Phase) (S : Colour) → awaits_line p S ≡ true → is_over p ≡ false
+on_when_read p S h1 = grind arith
 
-both_not : {P : Type 0} (b : Bool) → b ≡ false → b ≡ true → P
+pub both_not : {P : Type 0} (b : Bool) → b ≡ false → b ≡ true → P
 both_not true e h = absurd cc
 both_not false e h = absurd cc
 
@@ -121,7 +117,7 @@ Reading m due H = (is_over m.phase ≡ true → unread H ≡ true) × (reads_end
 
 pub reading_ends : (r : Rules) (m final : Match) (due : List Block) (H : List Act) → IsMatchFrom r m due H final
     → reads_end H ≡ true
-reading_ends r m final due H g = (by_cases r Reading (record {
+reading_ends r m final due H g = (by_cases r final Reading (record {
   sends = λ m b due H p. p;
   fails = λ m b due H on p. (λ h. both_not (is_over m.phase) on h, p.1);
   fails_late = λ m b due H over p. p;
@@ -129,8 +125,8 @@ reading_ends r m final due H g = (by_cases r Reading (record {
   opens = λ m S n H o p. (λ h. both_not (is_over m.phase) (ap is_over o) h, p.1);
   ends = λ m S H aw p. (λ h. both_not (is_over m.phase) (on_when_read m.phase S aw) h, p.0 refl);
   read_fails = λ m S H aw p. (λ h. both_not (is_over m.phase) (on_when_read m.phase S aw) h, p.0 refl);
-  over = λ m o. (λ h. refl, refl);
-}) m final due H g).1
+  over = λ o. (λ h. refl, refl);
+}) m due H g).1
 
 -- ---- nothing is sent after a failure
 
@@ -164,36 +160,7 @@ few_for S [] = true
 few_for S (b ∷ due) = if same_colour b.to S then none_for S due else few_for S due
 
 few_due : (S first : Colour) (to : Colour → List SentLine) → few_for S (blocks_from first to) ≡ true
-few_due S first to = at S first (to first) (to (other first))
-  where
-    at : (S first : Colour) (x y : List SentLine) → few_for S (block_of first x ++ block_of (other first) y) ≡ true
-    at S first [] [] = refl
-    at White White (l ∷ x) [] = refl
-    at White Black (l ∷ x) [] = refl
-    at Black White (l ∷ x) [] = refl
-    at Black Black (l ∷ x) [] = refl
-    at White White [] (l ∷ y) = refl
-    at White Black [] (l ∷ y) = refl
-    at Black White [] (l ∷ y) = refl
-    at Black Black [] (l ∷ y) = refl
-    at White White (k ∷ x) (l ∷ y) = refl
-    at White Black (k ∷ x) (l ∷ y) = refl
-    at Black White (k ∷ x) (l ∷ y) = refl
-    at Black Black (k ∷ x) (l ∷ y) = refl
-
-none_due : (S : Colour) (to : Colour → List SentLine) → to S ≡ [] → none_for S (blocks_from White to) ≡ true
-none_due White to e = ap (λ (l : List SentLine). none_for White (block_of White l ++ block_of Black (to Black))) e
-    ∙ at (to Black)
-  where
-    at : (y : List SentLine) → none_for White (block_of Black y) ≡ true
-    at [] = refl
-    at (l ∷ y) = refl
-none_due Black to e = ap (λ (l : List SentLine). none_for Black (block_of White (to White) ++ block_of Black l)) e
-    ∙ at (to White)
-  where
-    at : (x : List SentLine) → none_for Black (block_of White x ++ []) ≡ true
-    at [] = refl
-    at (l ∷ x) = refl
+few_due S first to = grind arith
 
 abbrev Sending : Colour → Match → List Block → List Act → Type 0
 Sending S m due H = (is_over m.phase ≡ true → none_for S due ≡ true → unsent_in S H ≡ true)
@@ -230,14 +197,11 @@ chosen_by false a b f g = g
 
 failed_none : (r : Rules) (m : Match) (c S : Colour) → same_colour c S ≡ true
     → none_for S (blocks_from White (effect r m (FailsToWrite c)).to) ≡ true
-failed_none r m White White h = none_due White (effect r m (FailsToWrite White)).to (unsent r m White)
-failed_none r m Black Black h = none_due Black (effect r m (FailsToWrite Black)).to (unsent r m Black)
-failed_none r m White Black h = absurd cc
-failed_none r m Black White h = absurd cc
+failed_none r m c S h1 = grind arith
 
 pub sending_ends : (r : Rules) (m final : Match) (due : List Block) (H : List Act) (S : Colour)
     → IsMatchFrom r m due H final → few_for S due ≡ true → sends_end S H ≡ true
-sending_ends r m final due H S g = (by_cases r (Sending S) (record {
+sending_ends r m final due H S g = (by_cases r final (Sending S) (record {
   sends = λ m b due H p. (
     λ o n. unsent_more (same_colour b.to S) (none_for S due) (unsent_in S H) n (p.0 o),
     λ f. p.1 (few_less (same_colour b.to S) (none_for S due) (few_for S due) f (none_few S due)),
@@ -266,8 +230,8 @@ sending_ends r m final due H S g = (by_cases r (Sending S) (record {
     λ o. both_not (is_over m.phase) (on_when_read m.phase c aw) o,
     λ f. p.1 (few_due S White (effect r m (FailsToRead c)).to),
   );
-  over = λ m o. (λ h n. refl, λ f. refl);
-}) m final due H g).1
+  over = λ o. (λ h n. refl, λ f. refl);
+}) m due H g).1
 
 -- of a whole match
 pub all_reads_end : (r : Rules) (H : List Act) (final : Match) → IsMatch r H final → reads_end H ≡ true

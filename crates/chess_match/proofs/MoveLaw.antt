@@ -1,9 +1,9 @@
 -- An engine is sent the other's moves, each once and in order.
 use mathlib.Core.Bool.{or-false}
-use Rattle.std.proofs.Common.{◌≡◌, ℕ, ◌+◌, ◌-◌, ◌/◌, ◌<◌, Bool, true, false, not, ◌&&◌, ◌||◌, List, [], ◌∷◌, ◌++◌, length, length-append, refl, ap, sym, subst, ◌∙◌, append-nil, append_assoc, Option, None, Some, arith}
+use Rattle.std.proofs.Common.{◌≡◌, ℕ, ◌+◌, ◌-◌, ◌<◌, Bool, true, false, ◌||◌, List, [], ◌∷◌, ◌++◌, length, length-append, refl, ap, sym, subst, ◌∙◌, append-nil, append_assoc, Option, None, Some, arith}
 use Rattle.std.specs.Prelude.{if◌then◌else◌, nat_lt, codes, is_some}
 use Rattle.std.specs.List.{flat_map}
-use Rattle.std.proofs.lemmas.Bool.{lt-ltb, ltb-true}
+use Rattle.std.proofs.lemmas.Bool.{lt-ltb}
 use Rattle.std.proofs.lemmas.Grind.{flat_map-append}
 use Rattle.chess_base.specs.declared.man.Colour.{Colour}
 use Rattle.chess_base.specs.declared.man.Colour.TheVariants.{White, Black}
@@ -13,27 +13,24 @@ use Rattle.chess_game.specs.declared.verdicts.Verdict.{Verdict}
 use Rattle.cecp_engine.specs.EngineLines.{LineKind, line_kind}
 use Rattle.cecp_engine.specs.Items.{Item, takes}
 use Rattle.chess_match.specs.laws.Laws.{move_sent, moves_sent, texts_from, move_texts, owed_to, MovesAreSent, AllMovesAreSent, sent, ending_in}
-use Rattle.chess_match.specs.laws.Machine.{Match, items_of_line, seat, take_items, start, over, enter, open_turn, played_by, match_after, clock, ping_number}
+use Rattle.chess_match.specs.laws.Machine.{Match, seat, take_items, start, over, open_turn, played_by, match_after}
 use Rattle.chess_match.specs.Events.{Event, Line, Opened, OutputEnds, FailsToRead, FailsToWrite}
 use Rattle.chess_match.specs.Rules.{Rules}
-use Rattle.chess_match.specs.Lines.{SentLine, Says, Time, Otim, setup_lines, variant_command, start_lines, ping}
+use Rattle.chess_match.specs.Lines.{SentLine, setup_lines}
 use Rattle.chess_match.specs.laws.Blocks.{block, lines_on_entering, entry_to, is_same_phase, opening_lines, last_move_sent, last_move_lines, clock_lines, end_lines, unsent_lines}
 use Rattle.chess_match.specs.Reasons.{is_unwritten}
-use Rattle.chess_match.specs.laws.Transcript.{is_on, reads, match_of, fits, fits_next, fits_from, is_dropped, is_fault, blocks_from, joined_blocks, has_fault}
-use Rattle.chess_base.specs.declared.man.Variant.{Variant}
-use Rattle.chess_base.specs.declared.man.Variant.TheVariants.{Normal, Fischerandom}
-use Rattle.chess_base.proofs.shared.Men.{same_colour-true}
+use Rattle.chess_match.specs.laws.Transcript.{is_on, reads, match_of, fits, fits_next, fits_from, is_fault, blocks_from, joined_blocks, has_fault}
 use Rattle.chess_match.specs.declared.phase.Phase.{Phase}
 use Rattle.chess_match.specs.declared.phase.Phase.TheVariants.{Handshake, Setup, SendTurn, AwaitMove, AwaitPong, Over}
 use Rattle.chess_match.specs.declared.reason.Reason.{Reason}
 use Rattle.chess_match.specs.declared.reason.Reason.TheVariants.{Decided, Faulted}
-use Rattle.chess_match.specs.declared.reason.MatchFault.{MatchFault}
-use Rattle.chess_match.specs.declared.reason.MatchFault.TheVariants.{NoDone, Ended, Read, Write}
-use Rattle.chess_match.proofs.Blocks.{if_nil, of_block, joined_at, told_more}
-use Rattle.chess_match.proofs.Outcomes.{Lines, InTurn, line_outcome, opens_at, and_first, and_second}
-use Rattle.chess_match.proofs.Going.{items_phase, leaves, offered, plain_block, reads_on, reads_stays}
-use Rattle.chess_match.proofs.Seats.{items_played, items_unsent_to, items_same}
-use Rattle.cecp_engine.specs.Levels.{level_text}
+use Rattle.chess_match.specs.declared.reason.MatchFault.TheVariants.{Ended, Read, Write}
+use Rattle.chess_match.proofs.Blocks.{if_nil}
+use Rattle.chess_match.proofs.LastBlocks.{no_write}
+use Rattle.chess_match.proofs.LinesOfOneKind.{InOpenings, gathered, now, unsent}
+use Rattle.chess_match.proofs.Outcomes.{Lines, InTurn, line_outcome, and_first, and_second, fits_on}
+use Rattle.chess_match.proofs.Going.{is_opening, leaves, opens_at, reads_on, reads_stays}
+use Rattle.chess_match.proofs.Seats.{items_same}
 use Rattle.chess_match.specs.ties.Steps.{match_from}
 
 -- ---- who moves
@@ -102,63 +99,26 @@ entry_moves r m O (Over reason) = if is_unwritten reason O then [] else untold_t
 
 setup_moves : (r : Rules) → moves_sent (setup_lines r) ≡ []
 unfolding setup_lines
-setup_moves r = at r.variant r.start_fen
-  where
-    at : (v : Variant) (fen : Option (List ℕ))
-        → flat_map move_sent (variant_command v ++ (Says (codes "level "
-        ++ level_text r.level) ∷ Says (codes "nopost") ∷ Says (codes "easy") ∷ Says (codes "force")
-        ∷ (start_lines fen ++ ping 1 ∷ []))) ≡ []
-    at Normal None = refl
-    at Normal (Some fen) = refl
-    at Fischerandom None = refl
-    at Fischerandom (Some fen) = refl
+setup_moves r = grind arith
 
 clock_moves : (r : Rules) (m : Match) (O : Colour) → moves_sent (clock_lines r m O) ≡ []
 unfolding clock_lines
-clock_moves r m O = at (takes (codes "time") (seat m O).items)
-  where
-    at : (b : Bool) → flat_map move_sent (if b then Time (clock r m O / 10) ∷ Otim (clock r m (other O) / 10) ∷ []
-        else []) ≡ []
-    at true = refl
-    at false = refl
+clock_moves r m O = grind arith
 
 last_moves : (r : Rules) (m : Match) (O : Colour) → moves_sent (last_move_lines r m O)
     ≡ (if nat_lt 0 (length m.played) then last_text r m O else [])
 unfolding last_move_sent
-last_moves r m O = at (nat_lt 0 (length m.played))
-  where
-    at : (b : Bool) → flat_map move_sent (if b then last_move_sent r m O ∷ [] else [])
-        ≡ (if b then last_text r m O else [])
-    at true = refl
-    at false = refl
+last_moves r m O = grind arith
 
 opening_moves : (r : Rules) (m : Match) (O : Colour) → moves_sent (opening_lines r m O)
     ≡ (if nat_lt 0 (length m.played) then last_text r m O else [])
 unfolding opening_lines
-opening_moves r m O = at (nat_lt 0 (length (seat m O).used))
-  where
-    at : (b : Bool) → flat_map move_sent (if b then clock_lines r m O
-        ++ last_move_lines r m O else last_move_lines r m O ++ (clock_lines r m O ++ Says (codes "go") ∷ []))
-        ≡ (if nat_lt 0 (length m.played) then last_text r m O else [])
-    at true = rw (flat_map-append move_sent (clock_lines r m O) (last_move_lines r m O), clock_moves r m O)
-        (last_moves r m O)
-    at false = rw (
-      flat_map-append move_sent (last_move_lines r m O) (clock_lines r m O ++ Says (codes "go") ∷ []),
-      flat_map-append move_sent (clock_lines r m O) (Says (codes "go") ∷ []),
-      clock_moves r m O,
-      append-nil (flat_map move_sent (last_move_lines r m O)),
-    ) (last_moves r m O)
+opening_moves r m O = grind (arith, flat_map-append, clock_moves r m O, last_moves r m O, append-nil)
 
 untold_moves : (r : Rules) (m : Match) (O : Colour) (unsent_to : Option Colour)
     → moves_sent (unsent_lines r m O unsent_to) ≡ untold_text r m O unsent_to
 unfolding last_move_sent
-untold_moves r m O None = refl
-untold_moves r m O (Some c) = at (same_colour c O)
-  where
-    at : (b : Bool) → flat_map move_sent (if b then last_move_sent r m O ∷ [] else [])
-        ≡ (if b then last_text r m O else [])
-    at true = refl
-    at false = refl
+untold_moves r m O unsent_to = grind arith
 
 end_moves : (r : Rules) (m : Match) (O : Colour) (reason : Reason) → moves_sent (end_lines r m O reason)
     ≡ untold_text r m O m.unsent_to
@@ -167,39 +127,7 @@ end_moves r m O reason = flat_map-append move_sent (unsent_lines r m O m.unsent_
     ∙ append-nil (flat_map move_sent (unsent_lines r m O m.unsent_to)) ∙ untold_moves r m O m.unsent_to
 
 entry_told : (r : Rules) (m : Match) (O : Colour) (p : Phase) → moves_sent (entry_to r m O p) ≡ entry_moves r m O p
-entry_told r m O (Handshake c) = at (same_colour c O)
-  where
-    at : (b : Bool) → flat_map move_sent (if b then Says (codes "xboard") ∷ Says (codes "protover 2") ∷ [] else []) ≡ []
-    at true = refl
-    at false = refl
-entry_told r m O (Setup c) = at (same_colour c O)
-  where
-    at : (b : Bool) → flat_map move_sent (if b then setup_lines r else []) ≡ []
-    at true = setup_moves r
-    at false = refl
-entry_told r m O (SendTurn c) = at (same_colour c O)
-  where
-    at : (b : Bool) → flat_map move_sent (if b then opening_lines r m O else [])
-        ≡ (if b then (if nat_lt 0 (length m.played) then last_text r m O else []) else [])
-    at true = opening_moves r m O
-    at false = refl
-entry_told r m O (AwaitMove c) = refl
-entry_told r m O (AwaitPong c) = at (same_colour c O)
-  where
-    at : (b : Bool) → flat_map move_sent (if b then ping (ping_number m O) ∷ [] else []) ≡ []
-    at true = refl
-    at false = refl
-entry_told r m O (Over reason) = at (is_unwritten reason O)
-  where
-    at : (b : Bool) → flat_map move_sent (if b then [] else end_lines r m O reason)
-        ≡ (if b then [] else untold_text r m O m.unsent_to)
-    at true = refl
-    at false = end_moves r m O reason
-
-told_block : (r : Rules) (m m' : Match) (O : Colour) → moves_sent (block r m m' O)
-    ≡ (if is_same_phase m.phase m'.phase then [] else entry_moves r m' O m'.phase)
-told_block r m m' O = of_block move_sent (λ text. refl) r m m' O
-    ∙ ap (λ (l : List (List ℕ)). if is_same_phase m.phase m'.phase then [] else l) (entry_told r m' O m'.phase)
+entry_told r m O p = grind (arith, setup_moves r, opening_moves r m O, end_moves r m O)
 
 -- ---- one event
 
@@ -214,18 +142,7 @@ Told r X O failed p m' = (X ++ (if is_same_phase p m'.phase then [] else entry_m
 
 owed_on : (r : Rules) (m : Match) (O : Colour) (unsent_to : Option Colour) (failed : Bool) → is_on m.phase ≡ true
     → owed_to r m O unsent_to failed ≡ untold_text r m O unsent_to
-owed_on r m O None failed on = refl
-owed_on r m O (Some c) failed on = rw on (at (same_colour c O))
-  where
-    at : (b : Bool) → (if b && true then last_text r m O else []) ≡ (if b then last_text r m O else [])
-    at true = refl
-    at false = refl
-
--- the match stays in its phase
-stays_told : (r : Rules) (X : List (List ℕ)) (O : Colour) (p : Phase) (m' : Match) → is_same_phase p m'.phase ≡ true
-    → is_on m'.phase ≡ true
-    → X ++ untold_text r m' O m'.unsent_to ≡ all_texts r m' O → Told r X O false p m'
-stays_told r X O p m' same on h = rw (same, append-nil X, owed_on r m' O m'.unsent_to false on) h
+owed_on r m O unsent_to failed h1 = grind arith
 
 -- nothing is sent on the way into this phase
 quiet_told : (r : Rules) (X : List (List ℕ)) (O : Colour) (p : Phase) (m' : Match) → entry_moves r m' O m'.phase ≡ []
@@ -243,20 +160,7 @@ ended_told : (r : Rules) (X A : List (List ℕ)) (O : Colour) (failed : Bool) (r
     (unsent_to : Option Colour) → X ++ untold_text r (over reason m) O unsent_to ≡ A
     → (X ++ (if failed then [] else untold_text r (over reason m) O unsent_to))
     ++ owed_to r (over reason m) O unsent_to failed ≡ A
-ended_told r X A O true reason m None h = append-nil (X ++ []) ∙ h
-ended_told r X A O false reason m None h = append-nil (X ++ []) ∙ h
-ended_told r X A O failed reason m (Some c) h = at (same_colour c O) failed h
-  where
-    t : List (List ℕ)
-    t = last_text r (over reason m) O
-
-    at : (b failed : Bool) → X ++ (if b then last_text r (over reason m) O else []) ≡ A
-        → (X ++ (if failed then [] else (if b then last_text r (over reason m) O else [])))
-        ++ (if b && (false || failed) then last_text r (over reason m) O else []) ≡ A
-    at true true h = rw (append-nil X) h
-    at false true h = append-nil (X ++ []) ∙ h
-    at true false h = append-nil (X ++ last_text r (over reason m) O) ∙ h
-    at false false h = append-nil (X ++ []) ∙ h
+ended_told r X A O failed reason m unsent_to h = grind (arith, append-nil)
 
 over_told : (r : Rules) (X : List (List ℕ)) (O : Colour) (failed : Bool) (p : Phase) (reason : Reason) (m : Match)
     → is_same_phase p (Over reason) ≡ false
@@ -292,23 +196,12 @@ fresh r X O m m' p u p' u' h =
     at [] (Some c) p u h = cc
     at (x ∷ ms) unsent_to p u h = cc
 
-texts_more : (r : Rules) (as_san : Bool) (S T : Colour) (ms : List Move) (move : Move) → mover r.first ms ≡ T
-    → texts_from r as_san S r.first [] (ms ++ move ∷ []) ≡ texts_from r as_san S r.first [] ms
-    ++ (if same_colour T S then r.move_text as_san (ms ++ move ∷ []) ∷ [] else [])
-texts_more r as_san S T ms move e = rw e at (texts-snoc r as_san S r.first [] ms move)
-
 -- S's move is played, and is still to be sent to the other
 moved : (r : Rules) (X : List (List ℕ)) (S O : Colour) (items : List Item) (ms : List Move) (move : Move)
     → mover r.first ms ≡ S → SofarBy r X O items ms None
     → SofarBy r X O items (ms ++ move ∷ []) (Some (other S))
-moved r X White Black items ms move e h =
-    told_more X _ _ _ h (texts_more r (takes (codes "san") items) White White ms move e)
-moved r X Black White items ms move e h =
-    told_more X _ _ _ h (texts_more r (takes (codes "san") items) Black Black ms move e)
-moved r X White White items ms move e h =
-    told_more X _ _ _ h (texts_more r (takes (codes "san") items) Black White ms move e)
-moved r X Black Black items ms move e h =
-    told_more X _ _ _ h (texts_more r (takes (codes "san") items) White Black ms move e)
+moved r X S O items ms move e h =
+    grind (arith, texts-snoc r (takes (codes "san") items) (other O) r.first [] ms move, append-nil)
 
 pub some_move : (ms : List Move) (move : Move) → 0 < length (ms ++ move ∷ [])
 some_move ms move = let l : length (ms ++ move ∷ []) ≡ length ms + 1 = length-append ms (move ∷ []) in omega (arith, l)
@@ -334,46 +227,18 @@ played_goes r X Black Black move used m p o h =
     moved r X Black Black m.black.items m.played move (orderly_in r m (AwaitMove Black) p o).0
     (rw (orderly_in r m (AwaitMove Black) p o).1 at h)
 
-ends_goes : (r : Rules) (X : List (List ℕ)) (O : Colour) (reason : Reason) (m : Match) → is_on m.phase ≡ true
-    → is_unwritten reason O ≡ false → Sofar r X O m
-    → Goes r X O m (over reason m)
-ends_goes r X O reason m on n h = (
-  over_told r X O false m.phase reason m (leaves m.phase reason on) n
-      (carried r X O m (over reason m) refl refl refl refl h),
-  tt,
-)
-
-counts_goes : (r : Rules) (X : List (List ℕ)) (S O : Colour) (n : ℕ) (m : Match) → reads m.phase S ≡ true → Orderly r m
-    → Sofar r X O m → Goes r X O m (record m { count = n })
-counts_goes r X S O n m here o h = (
-  stays_told r X O m.phase (record m { count = n }) (reads_stays m.phase S here) (reads_on m.phase S here)
-      (carried r X O m (record m { count = n }) refl refl refl refl h),
-  o,
-)
-
-offers_goes : (r : Rules) (X : List (List ℕ)) (S O : Colour) (m : Match) → reads m.phase S ≡ true → Orderly r m
-    → Sofar r X O m → Goes r X O m (offered S m)
-offers_goes r X White O m here o h = (
-  stays_told r X O m.phase (offered White m) (reads_stays m.phase White here) (reads_on m.phase White here)
-      (carried r X O m (offered White m) refl refl refl refl h),
-  o,
-)
-offers_goes r X Black O m here o h = (
-  stays_told r X O m.phase (offered Black m) (reads_stays m.phase Black here) (reads_on m.phase Black here)
-      (carried r X O m (offered Black m) refl refl refl refl h),
-  o,
-)
-
 plays_goes : (r : Rules) (X : List (List ℕ)) (S O : Colour) (move : Move) (used : ℕ) (m : Match) → m.phase ≡ AwaitMove S
     → Orderly r m → Sofar r X O m → Goes r X O m (played_by S move used m)
-plays_goes r X White O move used m p o h = (
-  quiet_told r X O m.phase (played_by White move used m) refl refl (played_goes r X White O move used m p o h),
-  (mover-snoc r.first m.played move ∙ ap other (orderly_in r m (AwaitMove White) p o).0, refl, some_move m.played move),
-)
-plays_goes r X Black O move used m p o h = (
-  quiet_told r X O m.phase (played_by Black move used m) refl refl (played_goes r X Black O move used m p o h),
-  (mover-snoc r.first m.played move ∙ ap other (orderly_in r m (AwaitMove Black) p o).0, refl, some_move m.played move),
-)
+plays_goes r X S O move used m p o h =
+    grind (
+      arith,
+      append-nil,
+      p,
+      (orderly_in r m (AwaitMove S) p o).0,
+      played_goes r X S O move used m p o h,
+      mover-snoc r.first m.played move,
+      some_move m.played move,
+    )
 
 decides_goes : (r : Rules) (X : List (List ℕ)) (S O : Colour) (move : Move) (used : ℕ) (v : Verdict) (m : Match)
     → m.phase ≡ AwaitMove S → Orderly r m → Sofar r X O m
@@ -413,59 +278,11 @@ passes_goes r X S O m p o h =
 
 -- before the first move
 
-handshake_over : (r : Rules) (X : List (List ℕ)) (S O : Colour) (items : List Item) (reason : Reason) (m : Match)
-    → is_on m.phase ≡ true → is_unwritten reason O ≡ false
-    → (m.played ≡ []) × (m.unsent_to ≡ None) → Sofar r X O m → Goes r X O m (over reason (take_items S items m))
-handshake_over r X S O items reason m on n k h = (
-  over_told r X O false m.phase reason (take_items S items m) (leaves m.phase reason on) n
-      (fresh r X O m (over reason (take_items S items m)) k.0 k.1 (items_played S items m ∙ k.0)
-      (items_unsent_to S items m ∙ k.1)
-      h),
-  tt,
-)
-
 handshake_counts : (r : Rules) (X : List (List ℕ)) (S O : Colour) (items : List Item) (m : Match)
     → reads m.phase S ≡ true → (m.played ≡ []) × (m.unsent_to ≡ None) → Orderly r m → Sofar r X O m
     → (let m' = take_items S items m in Goes r X O m (record m' { count = m.count + 1 }))
-handshake_counts r X White O items m here k o h = (
-  stays_told r X O m.phase (let m' = take_items White items m in record m' { count = m.count + 1 })
-      (reads_stays m.phase White here) (reads_on m.phase White here)
-      (fresh r X O m (let m' = take_items White items m in record m' { count = m.count + 1 }) k.0 k.1 k.0 k.1 h),
-  o,
-)
-handshake_counts r X Black O items m here k o h = (
-  stays_told r X O m.phase (let m' = take_items Black items m in record m' { count = m.count + 1 })
-      (reads_stays m.phase Black here) (reads_on m.phase Black here)
-      (fresh r X O m (let m' = take_items Black items m in record m' { count = m.count + 1 }) k.0 k.1 k.0 k.1 h),
-  o,
-)
-
-handshake_enters : (r : Rules) (X : List (List ℕ)) (S O : Colour) (items : List Item) (m : Match) → (m.played ≡ [])
-    × (m.unsent_to ≡ None) → Sofar r X O m
-    → (Goes r X O m (enter (Handshake Black) (take_items S items m)))
-    × (Goes r X O m (enter (Setup White) (take_items S items m)))
-handshake_enters r X S O items m k h = (
-  (
-    quiet_told r X O m.phase (enter (Handshake Black) (take_items S items m)) refl refl
-        (fresh r X O m (enter (Handshake Black) (take_items S items m)) k.0 k.1 (items_played S items m ∙ k.0)
-        (items_unsent_to S items m ∙ k.1) h),
-    (items_played S items m ∙ k.0, items_unsent_to S items m ∙ k.1),
-  ),
-  (
-    quiet_told r X O m.phase (enter (Setup White) (take_items S items m)) refl refl
-        (fresh r X O m (enter (Setup White) (take_items S items m)) k.0 k.1 (items_played S items m ∙ k.0)
-        (items_unsent_to S items m ∙ k.1) h),
-    (items_played S items m ∙ k.0, items_unsent_to S items m ∙ k.1),
-  ),
-)
-
-setup_enters : (r : Rules) (X : List (List ℕ)) (O : Colour) (m : Match) → (m.played ≡ []) × (m.unsent_to ≡ None)
-    → Sofar r X O m → Goes r X O m (enter (Setup Black) m)
-setup_enters r X O m k h = (
-  quiet_told r X O m.phase (enter (Setup Black) m) refl refl
-      (fresh r X O m (enter (Setup Black) m) k.0 k.1 k.0 k.1 h),
-  k,
-)
+handshake_counts r X S O items m here k o h =
+    grind (arith, append-nil, reads_stays m.phase S here, reads_on m.phase S here, h, o, k.0, k.1)
 
 none_told : (c O : Colour) (t : List (List ℕ)) (ms : List Move) → ms ≡ []
     → (if same_colour c O then (if nat_lt 0 (length ms) then t else []) else []) ≡ []
@@ -480,61 +297,34 @@ setup_opens r X O m k h = (
   (rw (k.0) refl, refl),
 )
 
-judged_told : (r : Rules) (X : List (List ℕ)) (O c : Colour) (f : MatchFault) (p : Phase) (m : Match)
-    → m.unsent_to ≡ None → Sofar r X O (enter (Over (Faulted c f)) m)
-    → Told r X O false p (enter (Over (Faulted c f)) m)
-judged_told r X O c f p m u h = rw u (at (is_same_phase p (Over (Faulted c f))) (is_unwritten (Faulted c f) O)
-    (rw u at h))
-  where
-    at : (b w : Bool) → X ++ [] ≡ all_texts r (enter (Over (Faulted c f)) m) O
-        → (X ++ (if b then [] else (if w then [] else []))) ++ [] ≡ all_texts r (enter (Over (Faulted c f)) m) O
-    at true w h = append-nil (X ++ []) ∙ h
-    at false true h = append-nil (X ++ []) ∙ h
-    at false false h = append-nil (X ++ []) ∙ h
-
 lines_go : (r : Rules) (X : List (List ℕ)) (S O : Colour) (kind : LineKind) (moment : ℕ) (m : Match) → reads m.phase S
     ≡ true → Orderly r m → Sofar r X O m
     → Lines r S kind moment m (λ m'. Goes r X O m m')
 lines_go r X S O kind moment m here o h =
+    let stay : is_same_phase m.phase m.phase ≡ true = reads_stays m.phase S here in
     let on : is_on m.phase ≡ true = reads_on m.phase S here in
+    let row : InTurn r S kind m (λ m'. Goes r X O m m') = record {
+      ends = λ reason n. grind (arith, append-nil, leaves m.phase reason on, n O, h);
+      counts = λ none few. grind (arith, append-nil, stay, on, o, h);
+      offers = λ none own theirs. grind (arith, append-nil, stay, on, o, h);
+    } in
     record {
-      handshake_ends = λ p d. handshake_over r X S O (items_of_line kind) (Faulted S NoDone) m on refl
-          (orderly_in r m (Handshake S) p o) h;
-      handshake_counts = λ p d few. handshake_counts r X S O (items_of_line kind) m here
-          (orderly_in r m (Handshake S) p o) o h;
-      handshake_next = λ p s d. (handshake_enters r X S O (items_of_line kind) m (orderly_in r m (Handshake White) p o)
-          h).0;
-      handshake_judged = λ p s d c f. handshake_judged c f (orderly_in r m (Handshake Black) p o);
-      handshake_done = λ p s d. (handshake_enters r X S O (items_of_line kind) m (orderly_in r m (Handshake Black) p o)
-          h).1;
-      setup_ends = λ p reason n. ends_goes r X O reason m on (n O) h;
-      setup_counts = λ p pong few. counts_goes r X S O (m.count + 1) m here o h;
-      setup_next = λ p s pong. setup_enters r X O m (orderly_in r m (Setup White) p o) h;
-      setup_done = λ p s pong. setup_opens r X O m (orderly_in r m (Setup Black) p o) h;
+      handshake_ends = λ p d. grind (arith, append-nil, p, o, h);
+      handshake_counts = λ p d few. grind (arith, append-nil, stay, on, p, o, h);
+      handshake_next = λ p s d. grind (arith, append-nil, p, o, h);
+      handshake_judged = λ p s d c f mild. grind (arith, append-nil, p, o, h);
+      handshake_done = λ p s d. grind (arith, append-nil, p, o, h);
+      setup_ends = λ p reason n. grind (arith, append-nil, leaves m.phase reason on, n O, h);
+      setup_counts = λ p pong few. grind (arith, append-nil, stay, on, o, h);
+      setup_next = λ p s pong. grind (arith, append-nil, p, o, h);
+      setup_done = λ p s pong undecided. setup_opens r X O m (orderly_in r m (Setup Black) p o) h;
       before = λ p. record {
         row = row;
-        plays = λ text move is reading room timely. plays_goes r X S O move (moment - m.opened) m p o h;
+        plays = λ text move is reading room timely undecided. plays_goes r X S O move (moment - m.opened) m p o h;
         decides = λ text move v is reading room timely. decides_goes r X S O move (moment - m.opened) v m p o h;
       };
       behind = λ p. record { row = row; passes = λ none. passes_goes r X S O m p o h };
     }
-  where
-    row : InTurn r S kind m (λ m'. Goes r X O m m')
-    row = record {
-      ends = λ reason n. ends_goes r X O reason m (reads_on m.phase S here) (n O) h;
-      counts = λ none few. counts_goes r X S O (m.count + 1) m here o h;
-      offers = λ none own theirs. offers_goes r X S O m here o h;
-    }
-
-    handshake_judged : (c : Colour) (f : MatchFault) → (m.played ≡ []) × (m.unsent_to ≡ None)
-        → Goes r X O m (enter (Over (Faulted c f)) (take_items S (items_of_line kind) m))
-    handshake_judged c f k = (
-      judged_told r X O c f m.phase (take_items S (items_of_line kind) m)
-          (items_unsent_to S (items_of_line kind) m ∙ k.1)
-          (fresh r X O m (enter (Over (Faulted c f)) (take_items S (items_of_line kind) m)) k.0 k.1
-          (items_played S (items_of_line kind) m ∙ k.0) (items_unsent_to S (items_of_line kind) m ∙ k.1) h),
-      tt,
-    )
 
 step_goes : (r : Rules) (X : List (List ℕ)) (O : Colour) (due : Colour → List SentLine) (m : Match) (e : Event)
     → fits_next due m e ≡ true → Orderly r m → Sofar r X O m
@@ -567,201 +357,96 @@ step_goes r X O due m (FailsToWrite S) f o h = (
   tt,
 )
 
--- ---- blocks that aren't sent have no move
-
-abbrev told_now : Rules → Match → Match → Colour → List (List ℕ)
-told_now r m m' O = if is_same_phase m.phase m'.phase then [] else entry_moves r m' O m'.phase
-
--- where a line gives its own engine something to send, and the match goes on, the other engine is sent no move
-abbrev SendsNone : Rules → Colour → Colour → Match → Match → Type 0
-SendsNone r S O m m' = is_on m'.phase ≡ true → 0 < length (block r m m' S) → told_now r m m' O ≡ []
-
-pub not_on : {A : Type 0} → false ≡ true → A
-not_on h = cc
-
-same_sends_none : (r : Rules) (S O : Colour) (m m' : Match) → m'.phase ≡ m.phase → reads m.phase S ≡ true
-    → SendsNone r S O m m'
-same_sends_none r S O m m' e here on some = rw (e, reads_stays m.phase S here) refl
-
-opening_apart : (r : Rules) (S : Colour) (m : Match) → m.phase ≡ AwaitPong S → block r m (open_turn (other S) m) S ≡ []
-opening_apart r White m p = plain_block r m (open_turn Black m) false refl refl (rw p refl) White
-opening_apart r Black m p = plain_block r m (open_turn White m) false refl refl (rw p refl) Black
-
-passes_none : (r : Rules) (S O : Colour) (m : Match) → m.phase ≡ AwaitPong S → SendsNone r S O m (open_turn (other S) m)
-passes_none r S O m p on some = let none : 0 < 0 = rw (opening_apart r S m p) at some in absurd (omega (arith, none))
-
-plays_none : (r : Rules) (S O : Colour) (move : Move) (used : ℕ) (m : Match)
-    → SendsNone r S O m (played_by S move used m)
-plays_none r White O move used m on some = if_nil (is_same_phase m.phase (AwaitPong White)) [] refl
-plays_none r Black O move used m on some = if_nil (is_same_phase m.phase (AwaitPong Black)) [] refl
-
-offers_none : (r : Rules) (S O : Colour) (m : Match) → reads m.phase S ≡ true → SendsNone r S O m (offered S m)
-offers_none r White O m here on some = rw (reads_stays m.phase White here) refl
-offers_none r Black O m here on some = rw (reads_stays m.phase Black here) refl
-
-lines_none : (r : Rules) (S O : Colour) (kind : LineKind) (moment : ℕ) (m : Match) → reads m.phase S ≡ true
-    → Orderly r m → Lines r S kind moment m (λ m'. SendsNone r S O m m')
-lines_none r S O kind moment m here o = record {
-  handshake_ends = λ p d on some. not_on on;
-  handshake_counts = λ p d few. same_sends_none r S O m
-      (let m' = take_items S (items_of_line kind) m in record m' { count = m.count + 1 })
-      (items_phase S (items_of_line kind) m)
-      here;
-  handshake_next = λ p s d on some. if_nil (is_same_phase m.phase (Handshake Black)) [] refl;
-  handshake_judged = λ p s d c f on some. not_on on;
-  handshake_done = λ p s d on some. if_nil (is_same_phase m.phase (Setup White)) [] refl;
-  setup_ends = λ p reason n on some. not_on on;
-  setup_counts = λ p pong few. same_sends_none r S O m (record m { count = m.count + 1 }) refl here;
-  setup_next = λ p s pong on some. if_nil (is_same_phase m.phase (Setup Black)) [] refl;
-  setup_done = λ p s pong on some. opens_none (orderly_in r m (Setup Black) p o).0;
-  before = λ p. record {
-    row = row;
-    plays = λ text move is reading room timely. plays_none r S O move (moment - m.opened) m;
-    decides = λ text move v is reading room timely on some. not_on on;
-  };
-  behind = λ p. record { row = row; passes = λ none. passes_none r S O m p };
-}
-  where
-    row : InTurn r S kind m (λ m'. SendsNone r S O m m')
-    row = record {
-      ends = λ reason n on some. not_on on;
-      counts = λ none few. same_sends_none r S O m (record m { count = m.count + 1 }) refl here;
-      offers = λ none own theirs. offers_none r S O m here;
-    }
-
-    opens_none : m.played ≡ [] → told_now r m (open_turn r.first m) O ≡ []
-    opens_none e = if_nil (is_same_phase m.phase (SendTurn r.first))
-        (entry_moves r (open_turn r.first m) O (SendTurn r.first))
-        (none_told r.first O (last_text r (open_turn r.first m) O) m.played e)
-
-dropped_line : (r : Rules) (O S d : Colour) (t : Option (List ℕ)) (n : ℕ) (due : Colour → List SentLine) (m : Match)
-    (T : List Event) → fits_next due m (Line S t n) ≡ true
-    → fits_next (block r m (match_after r m (Line S t n))) (match_after r m (Line S t n)) (FailsToWrite d) ≡ true
-    → Orderly r m → same_colour S d ≡ true → told_now r m (match_after r m (Line S t n)) O ≡ []
-dropped_line r O S d t n due m T f g o e =
-    line_outcome r S (line_kind t) n m (λ m'. SendsNone r S O m m') f (lines_none r S O (line_kind t) n m f o)
-    (and_first (is_on (match_after r m (Line S t n)).phase) _ g)
-    (rw (same_colour-true S d e) (ltb-true 0 (length (block r m (match_after r m (Line S t n)) d))
-    (and_second (is_on (match_after r m (Line S t n)).phase) _ g)))
-
-failed_none : (r : Rules) (O S : Colour) (m : Match) → same_colour S O ≡ true
-    → told_now r m (over (Faulted S Write) m) O ≡ []
-failed_none r O S m e = rw e (if_nil (is_same_phase m.phase (Over (Faulted S Write))) [] refl)
-
-pub or_assoc : (a b c : Bool) → (a || b) || c ≡ a || (b || c)
-or_assoc true b c = refl
-or_assoc false b c = refl
-
--- a block that isn't sent has no move
-unsent_none : (r : Rules) (O : Colour) (due : Colour → List SentLine) (m : Match) (e : Event) (T : List Event)
-    → fits_from r due m (e ∷ T) ≡ true → Orderly r m
-    → is_dropped e T O || is_fault Write O e ≡ true → told_now r m (match_after r m e) O ≡ []
-unsent_none r O due m (FailsToWrite S) T f o h = failed_none r O S m h
-unsent_none r O due m (Line S t n) (FailsToWrite d ∷ T) f o h =
-    dropped_line r O S d t n due m T (and_first (reads m.phase S) _ f)
-    (and_first _ _ (and_second (reads m.phase S) _ f)) o
-    (and_first (same_colour S d) _ (sym (or-false (same_colour S d && not (same_colour d O))) ∙ h))
-unsent_none r O due m (Line S t n) [] f o h = cc
-unsent_none r O due m (Line S t n) (Line d u k ∷ T) f o h = cc
-unsent_none r O due m (Line S t n) (Opened d k ∷ T) f o h = cc
-unsent_none r O due m (Line S t n) (OutputEnds d ∷ T) f o h = cc
-unsent_none r O due m (Line S t n) (FailsToRead d ∷ T) f o h = cc
-unsent_none r O due m (Opened S n) T f o h = cc
-unsent_none r O due m (OutputEnds S) T f o h = cc
-unsent_none r O due m (FailsToRead S) T f o h = cc
-
--- what the block of an event holds, if it is sent
-told_at : (r : Rules) (O : Colour) (due : Colour → List SentLine) (m : Match) (e : Event) (T : List Event)
-    → fits_from r due m (e ∷ T) ≡ true → Orderly r m
-    → moves_sent (joined_blocks (blocks_from r O m (e ∷ T))) ≡ told_now r m (match_after r m e) O
-    ++ moves_sent (joined_blocks (blocks_from r O (match_after r m e) T))
-told_at r O due m e T f o =
-    ap (λ (ls : List SentLine). moves_sent ls)
-    (joined_at (is_dropped e T O || is_fault Write O e) (block r m (match_after r m e) O)
-    (blocks_from r O (match_after r m e) T))
-    ∙ flat_map-append move_sent (if is_dropped e T O || is_fault Write O e then [] else block r m (match_after r m e) O)
-    (joined_blocks (blocks_from r O (match_after r m e) T))
-    ∙ ap (λ (l : List (List ℕ)). l ++ moves_sent (joined_blocks (blocks_from r O (match_after r m e) T)))
-    (at (is_dropped e T O || is_fault Write O e) refl)
-  where
-    at : (b : Bool) → is_dropped e T O || is_fault Write O e ≡ b
-        → moves_sent (if b then [] else block r m (match_after r m e) O) ≡ told_now r m (match_after r m e) O
-    at true h = sym (unsent_none r O due m e T f o h)
-    at false h = told_block r m (match_after r m e) O
-
 -- ---- the transcript
 
-pub fits_on : (due : Colour → List SentLine) (m : Match) (e : Event) → fits_next due m e ≡ true → is_on m.phase ≡ true
-fits_on due m (Line S t n) f = reads_on m.phase S f
-fits_on due m (Opened S n) f = rw (opens_at m.phase S f) refl
-fits_on due m (OutputEnds S) f = reads_on m.phase S f
-fits_on due m (FailsToRead S) f = reads_on m.phase S f
-fits_on due m (FailsToWrite S) f = and_first (is_on m.phase) _ f
+moves_in_openings : InOpenings move_sent
+moves_in_openings r m O p e on = entry_told r m O p ∙ at p e on
+  where
+    at : (p : Phase) → is_opening p ≡ false → is_on p ≡ true → entry_moves r m O p ≡ []
+    at (Handshake c) e on = refl
+    at (Setup c) e on = refl
+    at (AwaitMove c) e on = refl
+    at (AwaitPong c) e on = refl
+    at (SendTurn c) e on = cc
+    at (Over x) e on = cc
+
+-- whether the match ended because a write to that side failed
+abbrev unwritten_in : Phase → Colour → Bool
+unwritten_in (Over reason) O = is_unwritten reason O
+unwritten_in p O = false
 
 calm : (r : Rules) (m : Match) (e : Event) (O : Colour) → is_on (match_after r m e).phase ≡ true
     → is_fault Write O e ≡ false
-calm r m (Line S t n) O on = refl
-calm r m (Opened S n) O on = refl
-calm r m (OutputEnds S) O on = refl
-calm r m (FailsToRead S) O on = refl
-calm r m (FailsToWrite S) O on = not_on on
+calm r m e O h1 = grind arith
 
-joined_more : (X t M R o A : List (List ℕ)) → M ≡ t ++ R → (X ++ t) ++ (R ++ o) ≡ A → X ++ (M ++ o) ≡ A
-joined_more X t M R o A e h = rw (e, append_assoc t R o, ← append_assoc X t (R ++ o)) h
+unwritten_by : (r : Rules) (due : Colour → List SentLine) (m : Match) (e : Event) (O : Colour)
+    → fits_next due m e ≡ true → is_fault Write O e ≡ unwritten_in (match_after r m e).phase O
+unwritten_by r due m e O f = at (match_after r m e).phase refl
+  where
+    at : (p : Phase) → (match_after r m e).phase ≡ p → is_fault Write O e ≡ unwritten_in p O
+    at (Over reason) h = sym (no_write r due m e f reason h O)
+    at (Handshake c) h = calm r m e O (ap is_on h)
+    at (Setup c) h = calm r m e O (ap is_on h)
+    at (SendTurn c) h = calm r m e O (ap is_on h)
+    at (AwaitMove c) h = calm r m e O (ap is_on h)
+    at (AwaitPong c) h = calm r m e O (ap is_on h)
 
-told_from : (r : Rules) (O : Colour) (due : Colour → List SentLine) (m : Match) (T : List Event) (X : List (List ℕ))
-    (failed : Bool) → fits_from r due m T ≡ true → Orderly r m
-    → (is_on m.phase ≡ true → failed ≡ false) → X ++ owed_to r m O m.unsent_to failed ≡ all_texts r m O
-    → (X ++ (moves_sent (joined_blocks (blocks_from r O m T))
-    ++ owed_to r (match_from r m T) O (match_from r m T).unsent_to (failed || has_fault Write O T))
-    ≡ all_texts r (match_from r m T) O)
-    × Orderly r (match_from r m T)
-told_from r O due m [] X failed f o quiet h = (rw (or-false failed) h, o)
-told_from r O due m (e ∷ T) X failed f o quiet h =
-    let here : fits_next due m e ≡ true = and_first (fits_next due m e) _ f in
-    let on : is_on m.phase ≡ true = fits_on due m e here in
-    let s : Told r X O (is_fault Write O e) m.phase (match_after r m e) × Orderly r (match_after r m e) =
-    step_goes r X O due m e here o (rw (owed_on r m O m.unsent_to failed on) at h) in
-    let rest = told_from r O (block r m (match_after r m e)) (match_after r m e) T
-    (X ++ told_now r m (match_after r m e) O)
-    (is_fault Write O e) (and_second (fits_next due m e) _ f) s.1 (calm r m e O) s.0 in (
-      rw (quiet on) (joined_more X (told_now r m (match_after r m e) O)
-          (moves_sent (joined_blocks (blocks_from r O m (e ∷ T))))
-          (moves_sent (joined_blocks (blocks_from r O (match_after r m e) T)))
-          (owed_to r (match_from r (match_after r m e) T) O (match_from r (match_after r m e) T).unsent_to
-          (is_fault Write O e || has_fault Write O T)) (all_texts r (match_from r (match_after r m e) T) O)
-          (told_at r O due m e T f o) rest.0),
-      rest.1,
+-- what was sent, and what is owed, are the other's moves
+abbrev ToldSo : Rules → Colour → List (List ℕ) → Match → Type 0
+ToldSo r O X m =
+    (X ++ owed_to r m O m.unsent_to (unwritten_in m.phase O) ≡ all_texts r m O) × Orderly r m
+
+step_told : (r : Rules) (O : Colour) (due : Colour → List SentLine) (m : Match) (e : Event) (X : List (List ℕ))
+    → fits_next due m e ≡ true → ToldSo r O X m
+    → ToldSo r O (X ++ now move_sent r O m (match_after r m e)) (match_after r m e)
+step_told r O due m e X f (h, o) =
+    let m' : Match = match_after r m e in
+    let s : Told r X O (is_fault Write O e) m.phase m' × Orderly r m' = step_goes r X O due m e f o
+    (ap (λ (l : List (List ℕ)). X ++ l)
+    (sym (owed_on r m O m.unsent_to (unwritten_in m.phase O) (fits_on due m e f))) ∙ h) in
+    let sent : now move_sent r O m m' ≡ (if is_same_phase m.phase m'.phase then [] else entry_moves r m' O m'.phase) =
+    ap (λ (l : List (List ℕ)). if is_same_phase m.phase m'.phase then [] else l) (entry_told r m' O m'.phase) in (
+      ap (λ (l : List (List ℕ)). (X ++ l) ++ owed_to r m' O m'.unsent_to (unwritten_in m'.phase O)) sent
+          ∙ ap (λ (b : Bool). (X ++ (if is_same_phase m.phase m'.phase then [] else entry_moves r m' O m'.phase))
+          ++ owed_to r m' O m'.unsent_to b) (sym (unwritten_by r due m e O f)) ∙ s.0,
+      s.1,
     )
+
+told_so : (r : Rules) (O : Colour) (T : List Event) → fits r T ≡ true
+    → ToldSo r O (moves_sent (sent r O T)) (match_of r T)
+told_so r O T f =
+    rw (
+      flat_map-append move_sent (lines_on_entering r start O) (joined_blocks (blocks_from r O start T)),
+      entry_told r start O (Handshake White),
+    )
+    (gathered move_sent (λ text. refl) r O (ToldSo r O) (step_told r O) (unsent move_sent r O moves_in_openings)
+    (lines_on_entering r start) start T [] f (refl, (refl, refl)))
+
+-- a write to that side failed if the match ended so
+written_from : (r : Rules) (O : Colour) (due : Colour → List SentLine) (m : Match) (T : List Event) (b : Bool)
+    → fits_from r due m T ≡ true → b ≡ unwritten_in m.phase O → (is_on m.phase ≡ true → b ≡ false)
+    → (b || has_fault Write O T) ≡ unwritten_in (match_from r m T).phase O
+written_from r O due m [] b f e quiet = or-false b ∙ e
+written_from r O due m (e ∷ T) b f h quiet =
+    ap (λ (x : Bool). x || (is_fault Write O e || has_fault Write O T))
+    (quiet (fits_on due m e (and_first (fits_next due m e) _ f)))
+    ∙ written_from r O (block r m (match_after r m e)) (match_after r m e) T (is_fault Write O e)
+    (and_second (fits_next due m e) _ f) (unwritten_by r due m e O (and_first (fits_next due m e) _ f))
+    (calm r m e O)
 
 pub moves_are_told : MovesAreSent
 moves_are_told r T O f =
-    ap (λ (l : List (List ℕ)). l ++ owed_to r (match_of r T) O (match_of r T).unsent_to (has_fault Write O T)) first
-    ∙ (told_from r O (lines_on_entering r start) start T [] false f (refl, refl) (λ on. refl) refl).0
-  where
-    first : moves_sent (sent r O T) ≡ moves_sent (joined_blocks (blocks_from r O start T))
-    first = flat_map-append move_sent (lines_on_entering r start O) (joined_blocks (blocks_from r O start T))
-        ∙ ap (λ (l : List (List ℕ)). l ++ moves_sent (joined_blocks (blocks_from r O start T)))
-        (entry_told r start O (Handshake White))
+    ap (λ (b : Bool). moves_sent (sent r O T) ++ owed_to r (match_of r T) O (match_of r T).unsent_to b)
+    (written_from r O (lines_on_entering r start) start T false f refl (λ on. refl))
+    ∙ (told_so r O T f).0
 
 -- every match is orderly
 pub orderly : (r : Rules) (T : List Event) → fits r T ≡ true → Orderly r (match_of r T)
-orderly r T f = (told_from r White (lines_on_entering r start) start T [] false f (refl, refl) (λ on. refl) refl).1
+orderly r T f = (told_so r White T f).1
 
 pub nothing_owed : (r : Rules) (m : Match) (O : Colour) (unsent_to : Option Colour) → is_some (ending_in m.phase) ≡ true
     → owed_to r m O unsent_to false ≡ []
-nothing_owed r m O None h = refl
-nothing_owed r m O (Some c) h = at m.phase (same_colour c O) h
-  where
-    at : (p : Phase) (b : Bool) → is_some (ending_in p) ≡ true
-        → (if b && (is_on p || false) then last_text r m O else []) ≡ []
-    at (Over x) true h = refl
-    at (Over x) false h = refl
-    at (Handshake c) b h = cc
-    at (Setup c) b h = cc
-    at (SendTurn c) b h = cc
-    at (AwaitMove c) b h = cc
-    at (AwaitPong c) b h = cc
+nothing_owed r m O unsent_to h1 = grind arith
 
 pub all_moves_are_told : AllMovesAreSent
 all_moves_are_told r T O f ended quiet =

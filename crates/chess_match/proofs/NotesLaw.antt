@@ -1,8 +1,9 @@
 -- What the notes of a transcript hold.
+use native.Mathlib.Omega.{arith}
 use Rattle.std.proofs.Common.{◌≡◌, ℕ, Bool, true, false, ◌||◌, List, [], ◌∷◌, ◌++◌, refl, ap, sym, ◌∙◌, append_assoc, append-nil}
 use Rattle.std.specs.Prelude.{if◌then◌else◌}
 use Rattle.chess_base.specs.declared.man.Colour.{Colour}
-use Rattle.chess_base.specs.declared.man.Colour.TheVariants.{White, Black}
+use Rattle.chess_base.specs.declared.man.Colour.TheVariants.{White}
 use Rattle.chess_base.specs.Men.{other, same_colour}
 use Rattle.chess_match.specs.laws.Machine.{Match, start, match_after}
 use Rattle.chess_match.specs.Events.{Event}
@@ -73,10 +74,7 @@ given_one c S (b ∷ text) = append-nil (if same_colour c S then b ∷ text else
 one_of_both : (first S : Colour) (lines : Colour → List SentLine)
     → (if same_colour first S then bytes_of (lines first) else [])
     ++ (if same_colour (other first) S then bytes_of (lines (other first)) else []) ≡ bytes_of (lines S)
-one_of_both White White lines = append-nil (bytes_of (lines White))
-one_of_both White Black lines = refl
-one_of_both Black White lines = refl
-one_of_both Black Black lines = append-nil (bytes_of (lines Black))
+one_of_both first S lines = grind (arith, append-nil)
 
 given_both : (first S : Colour) (lines : Colour → List SentLine)
     → given_in S (both_notes first lines) ≡ bytes_of (lines S)

@@ -1,5 +1,5 @@
 -- A match that goes on at a table.
-use Rattle.std.proofs.Common.{◌≡◌, ℕ, ◌+◌, ◌*◌, ◌<◌, ◌≤◌, Bool, true, false, not, ◌||◌, List, [], ◌++◌, refl, ap, sym, ◌∙◌, subst, arith, Option, None, Some}
+use Rattle.std.proofs.Common.{◌≡◌, ℕ, ◌+◌, ◌*◌, ◌<◌, ◌≤◌, Bool, true, false, ◌||◌, List, [], ◌++◌, refl, ap, sym, ◌∙◌, subst, arith, Option, None, Some}
 use Rattle.std.specs.Option.{option_map_or}
 use Rattle.std.specs.Prelude.{codes, if◌then◌else◌}
 use Rattle.std.proofs.Math.Path.{fun_ext}
@@ -47,13 +47,12 @@ use Rattle.chess_match.specs.ties.Represents.{Goes, Represents, given_block, nam
 use Rattle.chess_match.specs.ties.SameEffects.{Agrees, owed_in, phase_of, view}
 use Rattle.chess_match.specs.ties.Steps.{IsSane}
 use Rattle.chess_match.proofs.Deliveries.{is_over_by}
-use Rattle.chess_match.proofs.EffectsAgree.{events_agree}
-use Rattle.chess_match.proofs.Going.{reads_on}
+use Rattle.chess_match.proofs.EffectsAgree.{events_agree, start_same}
+use Rattle.chess_match.proofs.Going.{opens_at, reads_on}
 use Rattle.chess_match.proofs.LastBlocks.{no_write}
 use Rattle.chess_match.proofs.Leading.{leads_as, leads_event, leads_on, leads_opened, leads_out, none}
 use Rattle.chess_match.proofs.Passings.{passed_as, passed_more}
 use Rattle.chess_match.proofs.Sane.{sane_line, sane_opened, sane_over, sane_start}
-use Rattle.chess_match.proofs.TranscriptsAsActs.{At, at_start}
 
 -- core, game and table agree with a match that has come to `m`, by the steps `K`
 pub record IsOnTheWay (r : Rules) (old new : Passing) (core : MatchState) (played : List Move) (failed : Colour → Bool)
@@ -89,10 +88,6 @@ after_same : (S : Colour) (t t' : Effect) → t.after ≡ t'.after → ((X : Col
 after_same S t t' a e =
     ap (λ (m : effects.Match). blocks_from (if is_over m.phase then White else S) t.to) a
     ∙ blocks_same (if is_over t'.after.phase then White else S) t.to t'.to e
-
-is_off : (b : Bool) → not b ≡ true → b ≡ false
-is_off true e = cc
-is_off false e = refl
 
 off_by : (m : Match) → is_over (view m).phase ≡ true → is_on m.phase ≡ false
 off_by m h = at (is_on m.phase) refl
@@ -132,19 +127,19 @@ pub begun : (r : Rules) (old new : Passing) (core : MatchState) (played : List M
       to = given_block r (record { draw = None; entered = true }) nothing_said start;
     })) failed → OnTheWay r old new core played failed
 begun r old new core played failed (m, K, d) =
-    let a : At (lines_on_entering r start) start beginning = at_start r in
     let due : Colour → List SentLine = given_block r (record { draw = None; entered = true }) nothing_said start in
     let blocks : blocks_after White (record { after = view start; to = due }) ≡ blocks_from White beginning.to =
-    blocks_same White due beginning.to (λ X. entry_given r X ∙ sym (a.to X)) in (
+    blocks_same White due beginning.to (entry_given r) in (
       m,
       K,
       record {
         stands = d.stands;
         sane = d.sane (sane_start r);
-        owed = λ h. subst (λ (x : Match). is_on x.phase ≡ true → x.unsent_to ≡ owed_in x.phase) (sym (d.on h)) a.owed h;
+        owed = λ h. subst (λ (x : Match). is_on x.phase ≡ true → x.unsent_to ≡ owed_in x.phase) (sym (d.on h))
+            (λ on. refl) h;
         passes = d.passes;
         leads = subst (λ (x : effects.Match). Leads r x (blocks_from White beginning.to) K (view m) [] failed)
-            (sym a.after)
+            (sym start_same)
             (subst (λ (bs : List Block). Leads r (view start) bs K (view m) [] failed) blocks d.leads);
         fine = d.fine;
       },
@@ -153,36 +148,23 @@ begun r old new core played failed (m, K, d) =
 -- ---- a line, an end, or a read that failed
 
 pub no_fault : (S : Colour) (e : Event) → is_of_output S e ≡ true → (O : Colour) → is_fault Write O e ≡ false
-no_fault S (Line c t n) h O = refl
-no_fault S (OutputEnds c) h O = refl
-no_fault S (FailsToRead c) h O = refl
-no_fault S (Opened c n) h O = absurd cc
-no_fault S (FailsToWrite c) h O = absurd cc
+no_fault S e h1 O = grind arith
 
 pub it_fits : (due : Colour → List SentLine) (m : Match) (S : Colour) (e : Event) → is_of_output S e ≡ true
     → reads m.phase S ≡ true → fits_next due m e ≡ true
-it_fits due m S (Line c t n) is h = subst (λ (x : Colour). reads m.phase x ≡ true) (sym (same_colour-true c S is)) h
-it_fits due m S (OutputEnds c) is h = subst (λ (x : Colour). reads m.phase x ≡ true) (sym (same_colour-true c S is)) h
-it_fits due m S (FailsToRead c) is h =
-    subst (λ (x : Colour). reads m.phase x ≡ true) (sym (same_colour-true c S is)) h
-it_fits due m S (Opened c n) is h = absurd cc
-it_fits due m S (FailsToWrite c) is h = absurd cc
+it_fits due m S e h1 h2 = grind arith
 
-it_is_sane : (r : Rules) (m : Match) (S : Colour) (e : Event) → is_of_output S e ≡ true → IsSane r m
-    → IsSane r (match_after r m e)
-it_is_sane r m S (Line c t n) is h = sane_line r m c t n h
-it_is_sane r m S (OutputEnds c) is h = sane_over r m _ h
-it_is_sane r m S (FailsToRead c) is h = sane_over r m _ h
-it_is_sane r m S (Opened c n) is h = absurd cc
-it_is_sane r m S (FailsToWrite c) is h = absurd cc
+it_is_sane : (r : Rules) (m : Match) (S : Colour) (e : Event) → is_of_output S e ≡ true → reads m.phase S ≡ true
+    → IsSane r m → IsSane r (match_after r m e)
+it_is_sane r m S (Line c t n) is h s =
+    sane_line r m c t n (subst (λ (x : Colour). reads m.phase x ≡ true) (sym (same_colour-true c S is)) h) s
+it_is_sane r m S (OutputEnds c) is h s = sane_over r m _ s
+it_is_sane r m S (FailsToRead c) is h s = sane_over r m _ s
+it_is_sane r m S (Opened c n) is h s = absurd cc
+it_is_sane r m S (FailsToWrite c) is h s = absurd cc
 
 awaits_too : (o : ℕ) (p : Phase) (S : Colour) → reads p S ≡ true → awaits_line (phase_of o p) S ≡ true
-awaits_too o (Handshake c) S h = h
-awaits_too o (SetupPhase c) S h = h
-awaits_too o (AwaitMove c) S h = h
-awaits_too o (AwaitPong c) S h = h
-awaits_too o (SendTurn c) S h = cc
-awaits_too o (Over x) S h = cc
+awaits_too o p S h1 = grind arith
 
 pub apart_at : (r : Rules) (m : Match) (S : Colour) (e : Event) → is_of_output S e ≡ true → reads m.phase S ≡ true
     → (reason : Reason) (O : Colour) → (match_after r m e).phase ≡ Over reason → is_unwritten reason O ≡ false
@@ -222,14 +204,15 @@ went_on r old now between new core core' played played' failed failed' m K S e d
     let all : Leads r beginning.after (blocks_from White beginning.to) (K ++ (steps_of e ++ J)) (view m') []
     (λ X. failed X || (none X || failed' X)) =
     leads_on r beginning.after (view m) (view m') (blocks_from White beginning.to) [] [] K (steps_of e ++ J) failed
-    (λ X. none X || failed' X) (λ h. let no : false ≡ true = sym (is_over_by m true on) ∙ h in absurd cc) w.leads both in (
+    (λ X. none X || failed' X) (λ h. let no : false ≡ true = sym (is_over_by m true on) ∙ h in absurd cc) w.leads both
+    in (
       m',
       K ++ (steps_of e ++ J),
       record {
         stands = d.stands;
-        sane = d.sane (it_is_sane r m S e is w.sane);
-        owed = λ h. subst (λ (x : Match). is_on x.phase ≡ true → x.unsent_to ≡ owed_in x.phase) (sym (d.on h)) agrees.owed
-            h;
+        sane = d.sane (it_is_sane r m S e is reading w.sane);
+        owed = λ h. subst (λ (x : Match). is_on x.phase ≡ true → x.unsent_to ≡ owed_in x.phase) (sym (d.on h))
+            agrees.owed h;
         passes = passed_more old now new K (steps_of e ++ J) w.passes
             (passed_more now between new (steps_of e) J passes d.passes);
         leads = leads_as r beginning.after (view m') (blocks_from White beginning.to) [] (K ++ (steps_of e ++ J))
@@ -241,22 +224,6 @@ went_on r old now between new core core' played played' failed failed' m K S e d
 
 -- ---- the moment at the end of an opening
 
-opening_too : (o : ℕ) (p : Phase) (S : Colour) → opens p S ≡ true → phase_of o p ≡ effects.Opening S
-opening_too o (SendTurn c) S h = ap effects.Opening (same_colour-true c S h)
-opening_too o (Handshake c) S h = absurd cc
-opening_too o (SetupPhase c) S h = absurd cc
-opening_too o (AwaitMove c) S h = absurd cc
-opening_too o (AwaitPong c) S h = absurd cc
-opening_too o (Over x) S h = absurd cc
-
-opens_on : (p : Phase) (S : Colour) → opens p S ≡ true → is_on p ≡ true
-opens_on (SendTurn c) S h = refl
-opens_on (Handshake c) S h = refl
-opens_on (SetupPhase c) S h = refl
-opens_on (AwaitMove c) S h = refl
-opens_on (AwaitPong c) S h = refl
-opens_on (Over x) S h = absurd cc
-
 pub opened_on : (r : Rules) (old now new : Passing) (core core' : MatchState) (played : List Move)
     (failed : Colour → Bool) (m : Match) (K : List Step) (S : Colour) (moment : ℕ)
     → IsOnTheWay r old now core played failed m K → opens m.phase S ≡ true
@@ -264,13 +231,13 @@ pub opened_on : (r : Rules) (old now new : Passing) (core core' : MatchState) (p
     → Goes r core' played (record { draw = None; entered = false }) nothing_said m
     (match_after r m (Opened S moment)) → OnTheWay r old new core' played failed
 opened_on r old now new core core' played failed m K S moment w opening passes goes =
-    let on : is_on m.phase ≡ true = opens_on m.phase S opening in
+    let on : is_on m.phase ≡ true = ap is_on (opens_at m.phase S opening) in
     let m1 : Match = match_after r m (Opened S moment) in
     let agrees : Agrees r m m1 (effect r (view m) (Opened S moment)) =
     events_agree r (λ X. []) m (Opened S moment) opening (w.owed on) in
     let event : Leads r (view m) [] (steps_of (Opened S moment)) (view m1) [] none =
     subst (λ (x : effects.Match). Leads r (view m) [] (steps_of (Opened S moment)) x [] none) agrees.after
-    (leads_opened r (view m) S moment (opening_too m.opened m.phase S opening)) in (
+    (leads_opened r (view m) S moment (ap (phase_of m.opened) (opens_at m.phase S opening))) in (
       m1,
       K ++ steps_of (Opened S moment),
       record {
@@ -294,50 +261,21 @@ opened_on r old now new core core' played failed m K S moment w opening passes g
 -- ---- what is left to do
 
 a_step : (p : Phase) (S : Colour) (n : ℕ) → reads p S ≡ true → steps_left p n ≡ 3 * n + 1
-a_step (Handshake c) S n h = refl
-a_step (SetupPhase c) S n h = refl
-a_step (AwaitMove c) S n h = refl
-a_step (AwaitPong c) S n h = refl
-a_step (SendTurn c) S n h = absurd cc
-a_step (Over x) S n h = absurd cc
-
-two_steps : (p : Phase) (S : Colour) (n : ℕ) → opens p S ≡ true → steps_left p n ≡ 3 * n + 2
-two_steps (SendTurn c) S n h = refl
-two_steps (Handshake c) S n h = absurd cc
-two_steps (SetupPhase c) S n h = absurd cc
-two_steps (AwaitMove c) S n h = absurd cc
-two_steps (AwaitPong c) S n h = absurd cc
-two_steps (Over x) S n h = absurd cc
+a_step p S n h1 = grind arith
 
 few_steps : (p : Phase) (n : ℕ) → steps_left p n ≤ 3 * n + 2
-few_steps (Handshake c) n = omega arith
-few_steps (SetupPhase c) n = omega arith
-few_steps (SendTurn c) n = omega arith
-few_steps (AwaitMove c) n = omega arith
-few_steps (AwaitPong c) n = omega arith
-few_steps (Over x) n = omega arith
+few_steps p n = grind arith
 
 line_less : (p p' : Phase) (S : Colour) (n n' : ℕ) → reads p S ≡ true → n' < n → steps_left p' n' < steps_left p n
 line_less p p' S n n' h less = omega (arith, a_step p S n h, few_steps p' n', less)
 
 over_less : (p p' : Phase) (S : Colour) (n n' : ℕ) → reads p S ≡ true → is_on p' ≡ false
     → steps_left p' n' < steps_left p n
-over_less p (Over x) S n n' h o = omega (arith, a_step p S n h)
-over_less p (Handshake c) S n n' h o = absurd cc
-over_less p (SetupPhase c) S n n' h o = absurd cc
-over_less p (SendTurn c) S n n' h o = absurd cc
-over_less p (AwaitMove c) S n n' h o = absurd cc
-over_less p (AwaitPong c) S n n' h o = absurd cc
+over_less p p' S n n' h1 h2 = grind arith
 
 pub opened_less : (core core' : MatchState) (S : Colour) (n n' : ℕ) → n' ≡ n → opens core.phase S ≡ true
     → core'.phase ≡ AwaitMove S → steps_left core'.phase n' < steps_left core.phase n
-opened_less core core' S n n' same h e =
-    subst (λ (p : Phase). steps_left p n' < steps_left core.phase n) (sym e)
-    (subst (λ (k : ℕ). steps_left (AwaitMove S) k < steps_left core.phase n) (sym same)
-    (less core.phase (two_steps core.phase S n h)))
-  where
-    less : (p : Phase) → steps_left p n ≡ 3 * n + 2 → steps_left (AwaitMove S) n < steps_left p n
-    less p e = omega (arith, e)
+opened_less core core' S n n' h1 h2 h3 = grind arith
 
 pub went_less : (r : Rules) (between new : Passing) (core core' : MatchState) (played' : List Move) (m : Match)
     (S : Colour) (e : Event) (due : List Block) (failed' : Colour → Bool) (n n' n'' : ℕ) → reads core.phase S ≡ true

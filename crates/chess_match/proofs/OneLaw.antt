@@ -6,7 +6,7 @@ use Rattle.std.proofs.lemmas.Bool.{or_left, or_right}
 use Rattle.chess_base.specs.declared.man.Colour.{Colour}
 use Rattle.chess_base.specs.declared.man.Colour.TheVariants.{White, Black}
 use Rattle.chess_base.specs.Men.{same_colour}
-use Rattle.chess_base.proofs.shared.Men.{same_colour-true, same_colour-self}
+use Rattle.chess_base.proofs.shared.Men.{same_colour-self}
 use Rattle.chess_match.specs.laws.Laws.{Streams, IsOf, OnlyOne, ending_in}
 use Rattle.chess_match.specs.laws.Machine.{Match, start, match_after}
 use Rattle.chess_match.specs.Events.{Event, Line, Opened, OutputEnds, FailsToRead, FailsToWrite}
@@ -15,9 +15,7 @@ use Rattle.chess_match.specs.Lines.{SentLine}
 use Rattle.chess_match.specs.laws.Blocks.{block, lines_on_entering}
 use Rattle.chess_match.specs.laws.Transcript.{reads, opens, is_on, fits_next, fits_from, lines_of_engine, line_in, moments_of, has_fault, is_fault}
 use Rattle.chess_match.specs.declared.phase.Phase.{Phase}
-use Rattle.chess_match.specs.declared.phase.Phase.TheVariants.{Handshake, Setup, SendTurn, AwaitMove, AwaitPong, Over}
-use Rattle.chess_match.proofs.MoveLaw.{fits_on, not_on}
-use Rattle.chess_match.proofs.Outcomes.{and_first, and_second}
+use Rattle.chess_match.proofs.Outcomes.{and_first, and_second, fits_on, not_on}
 use Rattle.chess_match.specs.ties.Steps.{match_from}
 use Rattle.chess_match.specs.declared.reason.MatchFault.TheVariants.{Ended, Read, Write}
 
@@ -31,29 +29,14 @@ or_first false b h = refl
 
 -- one phase reads one side
 one_reads : (p : Phase) (c d : Colour) → reads p c ≡ true → reads p d ≡ true → c ≡ d
-one_reads (Handshake x) c d h k = sym (same_colour-true x c h) ∙ same_colour-true x d k
-one_reads (Setup x) c d h k = sym (same_colour-true x c h) ∙ same_colour-true x d k
-one_reads (AwaitMove x) c d h k = sym (same_colour-true x c h) ∙ same_colour-true x d k
-one_reads (AwaitPong x) c d h k = sym (same_colour-true x c h) ∙ same_colour-true x d k
-one_reads (SendTurn x) c d h k = cc
-one_reads (Over x) c d h k = cc
+one_reads p c d h1 h2 = grind arith
 
 one_opens : (p : Phase) (c d : Colour) → opens p c ≡ true → opens p d ≡ true → c ≡ d
-one_opens (SendTurn x) c d h k = sym (same_colour-true x c h) ∙ same_colour-true x d k
-one_opens (Handshake x) c d h k = cc
-one_opens (Setup x) c d h k = cc
-one_opens (AwaitMove x) c d h k = cc
-one_opens (AwaitPong x) c d h k = cc
-one_opens (Over x) c d h k = cc
+one_opens p c d h1 h2 = grind arith
 
 -- a phase that reads opens no turn
 reads_or_opens : {A : Type 0} (p : Phase) (c d : Colour) → reads p c ≡ true → opens p d ≡ true → A
-reads_or_opens (SendTurn x) c d h k = cc
-reads_or_opens (Handshake x) c d h k = cc
-reads_or_opens (Setup x) c d h k = cc
-reads_or_opens (AwaitMove x) c d h k = cc
-reads_or_opens (AwaitPong x) c d h k = cc
-reads_or_opens (Over x) c d h k = cc
+reads_or_opens p c d h1 h2 = grind arith
 
 -- ---- the streams after an event
 
@@ -80,11 +63,7 @@ drop_exact a b xs e = rw e (drop-append_seam a b)
 next_moments : (e : Event) (T : List Event) (moments : ℕ → ℕ)
     → ((n : ℕ) → n < length (moments_of (e ∷ T)) → slice_get (moments_of (e ∷ T)) n ≡ Some (moments n))
     → (n : ℕ) → n < length (moments_of T) → slice_get (moments_of T) n ≡ Some (moments_behind e moments n)
-next_moments (Line c t k) T moments i n h = i (suc n) (omega (arith, h))
-next_moments (Opened c k) T moments i n h = i (suc n) (omega (arith, h))
-next_moments (OutputEnds c) T moments i n h = i n h
-next_moments (FailsToRead c) T moments i n h = i n h
-next_moments (FailsToWrite c) T moments i n h = i n h
+next_moments e T moments h1 n h2 = grind arith
 
 is_of_behind : (s : Streams) (e : Event) (T : List Event) → IsOf s (e ∷ T) → IsOf (behind e s) T
 is_of_behind s e T i = record {
@@ -212,12 +191,7 @@ same_event r s due due' m (FailsToRead c) (FailsToWrite d) T U a b g h i j = no_
 -- ---- all events are
 
 over_not_on : {A : Type 0} (p : Phase) → is_some (ending_in p) ≡ true → is_on p ≡ true → A
-over_not_on (Over x) h on = not_on on
-over_not_on (Handshake c) h on = not_on h
-over_not_on (Setup c) h on = not_on h
-over_not_on (SendTurn c) h on = not_on h
-over_not_on (AwaitMove c) h on = not_on h
-over_not_on (AwaitPong c) h on = not_on h
+over_not_on p h1 h2 = grind arith
 
 one_from : (r : Rules) (s : Streams) (due due' : Colour → List SentLine) (m : Match) (T U : List Event)
     → fits_from r due m T ≡ true → fits_from r due' m U ≡ true

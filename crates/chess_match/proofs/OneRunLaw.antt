@@ -1,27 +1,24 @@
--- There is only one transcript of a run whose devices show all.
-use Rattle.std.proofs.Common.{◌≡◌, ℕ, ◌<◌, ◌^◌, ◌-◌, Bool, true, false, List, [], ◌∷◌, refl, ap, sym, subst, ◌∙◌, Option, None, Some, arith}
-use Rattle.std.specs.Prelude.{is_some, slice_get}
+-- There is only one match of a run whose devices show all.
+use Rattle.std.proofs.Common.{◌≡◌, ℕ, ◌<◌, ◌^◌, ◌-◌, Bool, true, false, List, [], ◌∷◌, length, refl, sym, subst, ◌∙◌, Option, None, Some, arith}
+use Rattle.std.specs.Prelude.{is_some, nat_lt, slice_get}
 use Rattle.std.specs.Option.{IfSome}
 use Rattle.std.specs.Io.KnownBytes.{Consumes}
 use Rattle.std.proofs.lemmas.List.{append_cancel_right}
 use Rattle.chess_base.specs.declared.man.Colour.{Colour}
 use Rattle.byte_devices.specs.Devices.{InputState, OutputState, saturating_increment}
 use Rattle.byte_devices.specs.Transfers.{saturating_increment_if}
-use Rattle.chess_match.specs.laws.Laws.{ending_in, Streams, IsOf, ShowsAll, OnlyOneOfARun}
-use Rattle.chess_match.specs.laws.Machine.{Match, start, match_after}
-use Rattle.chess_match.specs.Events.{Event, Line, Opened, OutputEnds, FailsToRead, FailsToWrite}
-use Rattle.chess_match.specs.declared.phase.Phase.{Phase}
-use Rattle.chess_match.specs.declared.phase.Phase.TheVariants.{Over}
-use Rattle.chess_match.specs.Rules.{Rules}
-use Rattle.chess_match.specs.Run.{Ports, engine_lines}
-use Rattle.chess_match.specs.laws.TranscriptRuns.{ReadFrom, Written, IsTranscript}
+use Rattle.chess_match.specs.Acts.{Act, Sends, SendFails, Reads, ReadsEnd, ReadFails, ReadsClock}
+use Rattle.chess_match.specs.ByDevice.{broken_blocks, has_ended, has_failed_read, lines_sent, moments_shown}
+use Rattle.chess_match.specs.Effects.{Match}
 use Rattle.chess_match.specs.Lines.{SentLine}
-use Rattle.chess_match.specs.laws.Blocks.{block, lines_on_entering}
-use Rattle.chess_match.specs.laws.Transcript.{fits_next, fits_from, blocks, moments_of, has_fault}
-use Rattle.chess_match.specs.declared.reason.Reason.{Reason}
-use Rattle.chess_match.proofs.OneLaw.{over_stops, only_one}
-use Rattle.chess_match.proofs.Outcomes.{and_second}
-use Rattle.chess_match.specs.declared.reason.MatchFault.TheVariants.{Ended, Read, Write}
+use Rattle.chess_match.specs.Played.{Passed, ReadAs, World, WrittenAs}
+use Rattle.chess_match.specs.Rules.{Rules}
+use Rattle.chess_match.specs.Run.{engine_lines}
+use Rattle.chess_match.specs.laws.Laws.{Streams}
+use Rattle.chess_match.specs.laws.OfActs.{AreOf, OnlyOneMatchOfARun, ShowsAll}
+use Rattle.chess_match.proofs.AtDesk.{quiet_read}
+use Rattle.chess_match.proofs.LawsOfActs.{only_one_match}
+use Rattle.chess_match.proofs.MatchCases.{all_reads_end, both_not, reads_end}
 
 -- one run's reader gave one list of bytes
 one_given : (old new : Option (List ℕ)) (a b : List ℕ) → is_some old ≡ true → Consumes old new a → Consumes old new b
@@ -43,38 +40,21 @@ one_rise n m true false small x y = rises n small (sym y ∙ x)
 one_rise n m false true small x y = rises n small (sym x ∙ y)
 
 -- no write failed
-none_failed : (failed : Bool) (old new : OutputState) (bs : List (List SentLine)) → old.failure_count < 2 ^ 64 - 1
-    → new.failure_count ≡ old.failure_count → Written failed old new bs → failed ≡ false
-none_failed false old new bs small same w = refl
-none_failed true old new bs small same w = rises old.failure_count small (sym same ∙ w.5.failures)
-
-none_written : (failed : Bool) (has : Bool) → failed ≡ false → (has ≡ true → failed ≡ true) → has ≡ false
-none_written failed true none h = sym (h refl) ∙ none
-none_written failed false none h = refl
+none_broken : (old new : OutputState) (sent : List SentLine) (broken : List (List SentLine))
+    → old.failure_count < 2 ^ 64 - 1 → new.failure_count ≡ old.failure_count → WrittenAs sent broken old new
+    → nat_lt 0 (length broken) ≡ false
+none_broken old new sent [] small same w = refl
+none_broken old new sent (b ∷ more) small same w = rises old.failure_count small (sym same ∙ w.2.failures)
 
 -- an engine whose end was reported had no read that failed
-no_failure : (r : Rules) (S : Colour) (due : Colour → List SentLine) (m : Match) (T : List Event) → fits_from r due m T
-    ≡ true → has_fault Ended S T ≡ true → has_fault Read S T ≡ false
-no_failure r S due m [] f h = refl
-no_failure r S due m (Line c t n ∷ T) f h =
-    no_failure r S (block r m (match_after r m (Line c t n))) (match_after r m (Line c t n)) T
-    (and_second (fits_next due m (Line c t n)) _ f) h
-no_failure r S due m (Opened c n ∷ T) f h =
-    no_failure r S (block r m (match_after r m (Opened c n))) (match_after r m (Opened c n)) T
-    (and_second (fits_next due m (Opened c n)) _ f) h
-no_failure r S due m (OutputEnds c ∷ T) f h =
-    ap (λ (U : List Event). has_fault Read S U)
-    (over_stops r (block r m (match_after r m (OutputEnds c))) (match_after r m (OutputEnds c)) T refl
-    (and_second (fits_next due m (OutputEnds c)) _ f))
-no_failure r S due m (FailsToRead c ∷ T) f h =
-    stopped (over_stops r (block r m (match_after r m (FailsToRead c))) (match_after r m (FailsToRead c)) T refl
-    (and_second (fits_next due m (FailsToRead c)) _ f)) h
-  where
-    stopped : {A : Type 0} → T ≡ [] → has_fault Ended S T ≡ true → A
-    stopped e h = cc
-no_failure r S due m (FailsToWrite c ∷ T) f h =
-    no_failure r S (block r m (match_after r m (FailsToWrite c))) (match_after r m (FailsToWrite c)) T
-    (and_second (fits_next due m (FailsToWrite c)) _ f) h
+no_failure : (S : Colour) (H : List Act) → reads_end H ≡ true → has_ended S H ≡ true → has_failed_read S H ≡ false
+no_failure S [] e h = refl
+no_failure S (Sends b ∷ H) e h = no_failure S H e h
+no_failure S (SendFails b ∷ H) e h = no_failure S H e h
+no_failure S (ReadsClock c n ∷ H) e h = no_failure S H e h
+no_failure S (Reads c t ∷ H) e h = no_failure S H e h
+no_failure S (ReadsEnd c ∷ H) e h = (quiet_read S H e).2
+no_failure S (ReadFails c ∷ H) e h = both_not (has_ended S H) (quiet_read S H e).1 h
 
 abbrev moment_or : Option ℕ → ℕ
 moment_or None = 0
@@ -86,44 +66,38 @@ told_moment None told h k = cc
 told_moment (Some n) told h k = k
 
 -- what the run's devices gave
-abbrev given_by : List Event → (Colour → List ℕ) → (ℕ → Option ℕ) → Streams
-given_by T given coming = record {
+abbrev given_by : List Act → (Colour → List ℕ) → (ℕ → Option ℕ) → Streams
+given_by H given coming = record {
   lines = λ S. engine_lines (given S);
-  fails = λ S. has_fault Read S T;
-  moments =
-      λ n. moment_or (coming n);
+  fails = λ S. has_failed_read S H;
+  moments = λ n. moment_or (coming n);
 }
 
-is_of : (r : Rules) (T U : List Event) (reason : Reason) (failed : Colour → Bool) (w w' : Ports)
-    (coming coming' : ℕ → Option ℕ) (given : Colour → List ℕ)
-    → IsTranscript r U reason failed w w' coming coming' → ShowsAll w w' coming
-    → ((S : Colour) → ReadFrom S U (w.reader S) (w'.reader S) (given S))
-    → ((S : Colour) → has_fault Read S T ≡ has_fault Read S U) → IsOf (given_by T given coming) U
-is_of r T U reason failed w w' coming coming' given i t outputs same = record {
+are_of : (r : Rules) (H K : List Act) (final : Match) (w w' : World) (given : Colour → List ℕ)
+    → Passed r K final w w' → ShowsAll w w'
+    → ((S : Colour) → ReadAs S K (w.ports.reader S) (w'.ports.reader S) (given S))
+    → ((S : Colour) → has_failed_read S H ≡ has_failed_read S K) → AreOf (given_by H given w.coming) K
+are_of r H K final w w' given p t outputs same = record {
   lines = λ S. (outputs S).lines;
-  ends = λ S h. (((outputs S).at_end h).0, same S ∙ no_failure r S (lines_on_entering r start) start U i.fitting h);
+  ends = λ S h. (((outputs S).at_end h).0, same S ∙ no_failure S K (all_reads_end r K final p.is_match) h);
   failures = λ S h. ((outputs S).at_failure h, same S ∙ h);
-  moments = λ n h. told_moment (coming n) (slice_get (moments_of U) n) (t.moments n) (i.moments.known n h);
-  writes = λ S. none_written (failed S) (has_fault Write S U)
-      (none_failed (failed S) (w.writer S) (w'.writer S) (blocks r S U) (t.writes S) (t.quiet S) (i.written S))
-      (i.failing S);
+  moments = λ n h. told_moment (w.coming n) (slice_get (moments_shown K) n) (t.moments n) (p.moments.known n h);
+  sent = λ S. none_broken (w.ports.writer S) (w'.ports.writer S) (lines_sent S K) (broken_blocks S K) (t.writes S)
+      (t.quiet S) (p.written S);
 }
 
-outputs_alike : (S : Colour) (T U : List Event) (old new : InputState) (a b : List ℕ) → is_some old.known_bytes ≡ true
-    → ReadFrom S T old new a → ReadFrom S U old new b → ReadFrom S U old new a
-outputs_alike S T U old new a b known h k =
-    subst (λ (given : List ℕ). ReadFrom S U old new given)
+read_alike : (S : Colour) (H K : List Act) (old new : InputState) (a b : List ℕ) → is_some old.known_bytes ≡ true
+    → ReadAs S H old new a → ReadAs S K old new b → ReadAs S K old new a
+read_alike S H K old new a b known h k =
+    subst (λ (given : List ℕ). ReadAs S K old new given)
     (sym (one_given old.known_bytes new.known_bytes a b known h.bytes k.bytes)) k
 
-has_ended : {p : Phase} {reason : Reason} → p ≡ Over reason → is_some (ending_in p) ≡ true
-has_ended e = rw e refl
-
-pub only_one_of_a_run : OnlyOneOfARun
-only_one_of_a_run r T U reason reason' failed failed' w w' coming coming' i j t =
-    only_one r (given_by T (λ S. (i.read S).0) coming) T U i.fitting j.fitting (has_ended i.ending) (has_ended j.ending)
-    (is_of r T T reason failed w w' coming coming' (λ S. (i.read S).0) i t (λ S. (i.read S).1) (λ S. refl))
-    (is_of r T U reason' failed' w w' coming coming' (λ S. (i.read S).0) j t
-    (λ S. outputs_alike S T U (w.reader S) (w'.reader S) (i.read S).0 (j.read S).0 (t.bytes S)
-    (i.read S).1 (j.read S).1)
-    (λ S. one_rise (w.reader S).failure_count (w'.reader S).failure_count (has_fault Read S T)
-    (has_fault Read S U) (t.reads S) (i.read S).1.failures (j.read S).1.failures))
+pub only_one_of_a_run : OnlyOneMatchOfARun
+only_one_of_a_run r H K final final' w w' p q t =
+    only_one_match r (given_by H (λ S. (p.read S).0) w.coming) H K final final' p.is_match q.is_match
+    (are_of r H H final w w' (λ S. (p.read S).0) p t (λ S. (p.read S).1) (λ S. refl))
+    (are_of r H K final' w w' (λ S. (p.read S).0) q t
+    (λ S. read_alike S H K (w.ports.reader S) (w'.ports.reader S) (p.read S).0 (q.read S).0 (t.bytes S)
+    (p.read S).1 (q.read S).1)
+    (λ S. one_rise (w.ports.reader S).failure_count (w'.ports.reader S).failure_count (has_failed_read S H)
+    (has_failed_read S K) (t.reads S) (p.read S).1.failures (q.read S).1.failures))

@@ -1,27 +1,24 @@
 -- What is so of every match: whose turn it is, who is to be sent what, and how many moves each side made.
-use Rattle.std.proofs.Common.{◌≡◌, ℕ, ◌+◌, ◌-◌, Bool, true, false, List, [], ◌∷◌, ◌++◌, length, length-append, refl, ap, sym, ◌∙◌, append-nil, Option, None, arith}
+use Rattle.std.proofs.Common.{◌≡◌, ℕ, ◌+◌, ◌-◌, Bool, true, false, List, [], ◌∷◌, ◌++◌, length, length-append, refl, ap, sym, ◌∙◌, append-nil, arith}
 use Rattle.std.specs.Prelude.{if◌then◌else◌, nat_lt, codes}
 use Rattle.chess_base.specs.declared.man.Colour.{Colour}
 use Rattle.chess_base.specs.declared.man.Colour.TheVariants.{White, Black}
 use Rattle.chess_base.specs.declared.man.Move.{Move}
 use Rattle.chess_base.specs.Men.{other, same_colour}
 use Rattle.cecp_engine.specs.EngineLines.{LineKind, line_kind}
-use Rattle.cecp_engine.specs.Items.{Item, takes}
+use Rattle.cecp_engine.specs.Items.{takes}
 use Rattle.chess_match.specs.laws.Laws.{moves_sent, move_texts, texts_from, owed_to, MovesSentAreKnown, sent}
-use Rattle.chess_match.specs.laws.Machine.{Match, items_of_line, seat, take_items, start, over, enter, open_turn, played_by, match_after}
+use Rattle.chess_match.specs.laws.Machine.{Match, seat, start, played_by, match_after}
 use Rattle.chess_match.specs.Events.{Event, Line, Opened, OutputEnds, FailsToRead, FailsToWrite}
 use Rattle.chess_match.specs.Rules.{Rules}
 use Rattle.chess_match.specs.Lines.{SentLine}
 use Rattle.chess_match.specs.laws.Blocks.{lines_on_entering}
 use Rattle.chess_match.specs.laws.Transcript.{reads, match_of, fits, fits_next, has_fault}
-use Rattle.chess_match.specs.declared.phase.Phase.{Phase}
-use Rattle.chess_match.specs.declared.phase.Phase.TheVariants.{Handshake, Setup, SendTurn, AwaitMove, AwaitPong, Over}
-use Rattle.chess_match.specs.declared.reason.MatchFault.TheVariants.{NoDone, Write}
-use Rattle.chess_match.specs.declared.reason.Reason.TheVariants.{Faulted}
-use Rattle.chess_match.proofs.MoveLaw.{mover, mover-snoc, OrderlyIn, Orderly, orderly_in, some_move, moves_are_told}
-use Rattle.chess_match.proofs.Outcomes.{Lines, InTurn, line_outcome, kept_by, opens_at}
-use Rattle.chess_match.proofs.Going.{offered}
-use Rattle.chess_match.proofs.Seats.{items_played, items_unsent_to}
+use Rattle.chess_match.specs.declared.phase.Phase.TheVariants.{Setup, SendTurn, AwaitMove, AwaitPong}
+use Rattle.chess_match.specs.declared.reason.MatchFault.TheVariants.{Write}
+use Rattle.chess_match.proofs.MoveLaw.{mover, mover-snoc, Orderly, orderly_in, some_move, moves_are_told}
+use Rattle.chess_match.proofs.Outcomes.{Lines, InTurn, line_outcome, kept_by}
+use Rattle.chess_match.proofs.Going.{opens_at}
 
 -- how many of these moves, which c begins, are C's
 abbrev pub turns_of : Colour → Colour → List Move → ℕ
@@ -51,16 +48,6 @@ texts-length r as_san C c before (m ∷ ms) =
 abbrev pub Kept : Rules → Match → Type 0
 Kept r m = Orderly r m × (length m.white.used ≡ turns_of White r.first m.played)
     × (length m.black.used ≡ turns_of Black r.first m.played)
-
-kept_over : (r : Rules) (m m' : Match) → m'.white.used ≡ m.white.used → m'.black.used ≡ m.black.used → m'.played
-    ≡ m.played → Orderly r m' → Kept r m → Kept r m'
-kept_over r m m' w b p o k = (
-  o,
-  ap (λ (xs : List ℕ). length xs) w ∙ k.1
-      ∙ ap (λ (ms : List Move). turns_of White r.first ms) (sym p),
-  ap (λ (xs : List ℕ). length xs) b ∙ k.2
-      ∙ ap (λ (ms : List Move). turns_of Black r.first ms) (sym p),
-)
 
 used_more : (r : Rules) (C T : Colour) (ms : List Move) (move : Move) (xs : List ℕ) (u : ℕ) → mover r.first ms ≡ T
     → same_colour T C ≡ true → length xs ≡ turns_of C r.first ms
@@ -97,67 +84,32 @@ plays_kept r Black move used m p k =
       used_more r Black Black m.played move m.black.used used e refl k.2,
     )
 
-items_kept : (r : Rules) (S : Colour) (items : List Item) (m m' : Match) → m'.white.used
-    ≡ (take_items S items m).white.used → m'.black.used ≡ (take_items S items m).black.used
-    → m'.played ≡ (take_items S items m).played → Orderly r m' → Kept r m → Kept r m'
-items_kept r White items m m' w b p o k = kept_over r m m' w b p o k
-items_kept r Black items m m' w b p o k = kept_over r m m' w b p o k
-
-none_yet : (r : Rules) (S d : Colour) (items : List Item) (m : Match) → m.phase ≡ Handshake d → Kept r m
-    → ((take_items S items m).played ≡ []) × ((take_items S items m).unsent_to ≡ None)
-none_yet r S d items m p k = let o = orderly_in r m (Handshake d) p k.0 in (
-  items_played S items m
-      ∙ o.0,
-  items_unsent_to S items m ∙ o.1,
-)
-
-handshake_kept : (r : Rules) (S : Colour) (items : List Item) (n : ℕ) (m : Match) → Kept r m
-    → (let m' = take_items S items m in Kept r (record m' { count = n }))
-handshake_kept r White items n m k = k
-handshake_kept r Black items n m k = k
-
-offers_kept : (r : Rules) (S : Colour) (m : Match) → Kept r m → Kept r (offered S m)
-offers_kept r White m k = k
-offers_kept r Black m k = k
-
 lines_kept : (r : Rules) (S : Colour) (kind : LineKind) (moment : ℕ) (m : Match) → Kept r m
     → Lines r S kind moment m (λ m'. Kept r m')
-lines_kept r S kind moment m k = record {
-  handshake_ends = λ p d. items_kept r S (items_of_line kind) m
-      (over (Faulted S NoDone) (take_items S (items_of_line kind) m)) refl
-      refl refl tt k;
-  handshake_counts = λ p d few. handshake_kept r S (items_of_line kind) (m.count + 1) m k;
-  handshake_next = λ p s d. items_kept r S (items_of_line kind) m
-      (enter (Handshake Black) (take_items S (items_of_line kind) m)) refl
-      refl refl (none_yet r S White (items_of_line kind) m p k) k;
-  handshake_judged = λ p s d c f. items_kept r S (items_of_line kind) m
-      (enter (Over (Faulted c f)) (take_items S (items_of_line kind) m)) refl refl refl tt k;
-  handshake_done = λ p s d. items_kept r S (items_of_line kind) m
-      (enter (Setup White) (take_items S (items_of_line kind) m)) refl
-      refl refl (none_yet r S Black (items_of_line kind) m p k) k;
-  setup_ends = λ p reason n. (tt, k.1, k.2);
-  setup_counts = λ p pong few. k;
-  setup_next = λ p s pong. (orderly_in r m (Setup White) p k.0, k.1, k.2);
-  setup_done = λ p s pong. (first_turn (orderly_in r m (Setup Black) p k.0).0, k.1, k.2);
-  before = λ p. record {
-    row = row;
-    plays = λ text move is reading room timely. plays_kept r S move (moment - m.opened) m p k;
-    decides = λ text move v is reading room timely.
-        (tt, (plays_kept r S move (moment - m.opened) m p k).1, (plays_kept r S move (moment - m.opened) m p k).2);
-  };
-  behind = λ p. record { row = row; passes = λ none. (((orderly_in r m (AwaitPong S) p k.0).0, refl), k.1, k.2) };
-}
-  where
-    row : InTurn r S kind m (λ m'. Kept r m')
-    row = record {
+lines_kept r S kind moment m k =
+    let row : InTurn r S kind m (λ m'. Kept r m') = record {
       ends = λ reason n. (tt, k.1, k.2);
       counts = λ none few. k;
-      offers =
-          λ none own theirs. offers_kept r S m k;
+      offers = λ none own theirs. grind (arith, k.0, k.1, k.2);
+    } in
+    record {
+      handshake_ends = λ p d. grind (arith, p, k.0, k.1, k.2);
+      handshake_counts = λ p d few. grind (arith, p, k.0, k.1, k.2);
+      handshake_next = λ p s d. grind (arith, p, k.0, k.1, k.2);
+      handshake_judged = λ p s d c f mild. grind (arith, p, k.0, k.1, k.2);
+      handshake_done = λ p s d. grind (arith, p, k.0, k.1, k.2);
+      setup_ends = λ p reason n. (tt, k.1, k.2);
+      setup_counts = λ p pong few. k;
+      setup_next = λ p s pong. (orderly_in r m (Setup White) p k.0, k.1, k.2);
+      setup_done = λ p s pong undecided. grind (arith, p, k.0, k.1, k.2);
+      before = λ p. record {
+        row = row;
+        plays = λ text move is reading room timely undecided. plays_kept r S move (moment - m.opened) m p k;
+        decides = λ text move v is reading room timely.
+            (tt, (plays_kept r S move (moment - m.opened) m p k).1, (plays_kept r S move (moment - m.opened) m p k).2);
+      };
+      behind = λ p. record { row = row; passes = λ none. (((orderly_in r m (AwaitPong S) p k.0).0, refl), k.1, k.2) };
     }
-
-    first_turn : m.played ≡ [] → (mover r.first m.played ≡ r.first) × ((open_turn r.first m).unsent_to ≡ None)
-    first_turn e = (rw e refl, refl)
 
 pub step : (r : Rules) (due : Colour → List SentLine) (m : Match) (e : Event) → fits_next due m e ≡ true → Kept r m
     → Kept r (match_after r m e)
@@ -175,22 +127,7 @@ kept r T f = kept_by r (λ m. Kept r m) (step r) (lines_on_entering r start) sta
 
 nothing_owed : (r : Rules) (m : Match) (S : Colour) (failed : Bool) → reads m.phase S ≡ true → Orderly r m
     → owed_to r m S m.unsent_to failed ≡ []
-nothing_owed r m S failed here o = at m.phase m.unsent_to here o
-  where
-    own : (c S : Colour) → same_colour c S ≡ true → same_colour (other c) S ≡ false
-    own White White h = refl
-    own Black Black h = refl
-    own White Black h = cc
-    own Black White h = cc
-
-    at : (p : Phase) (unsent_to : Option Colour) → reads p S ≡ true → OrderlyIn r.first p m.played unsent_to
-        → owed_to r m S unsent_to failed ≡ []
-    at (Handshake c) unsent_to h o = rw o.1 refl
-    at (Setup c) unsent_to h o = rw o.1 refl
-    at (AwaitMove c) unsent_to h o = rw o.1 refl
-    at (AwaitPong c) unsent_to h o = rw (o.1, own c S h) refl
-    at (SendTurn c) unsent_to h o = cc
-    at (Over x) unsent_to h o = cc
+nothing_owed r m S failed h1 h2 = grind arith
 
 used_length : (r : Rules) (m : Match) (C : Colour) → Kept r m → length (seat m C).used ≡ turns_of C r.first m.played
 used_length r m White k = k.1

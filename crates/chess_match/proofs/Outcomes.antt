@@ -1,6 +1,7 @@
 -- What a line can make of a match, whatever it says: what holds of each of these matches holds of the match after it.
-use Rattle.std.proofs.Common.{◌≡◌, ℕ, ◌+◌, ◌-◌, ◌≤◌, ◌<◌, Bool, true, false, ◌&&◌, List, [], ◌∷◌, ◌++◌, length, refl, sym, subst, Option, None, Some}
-use Rattle.std.specs.Prelude.{if◌then◌else◌, nat_lt, nat_le, ◌==◌}
+use native.Mathlib.Omega.{arith}
+use Rattle.std.proofs.Common.{◌≡◌, ℕ, ◌+◌, ◌-◌, ◌≤◌, ◌<◌, Bool, true, false, not, ◌&&◌, List, [], ◌∷◌, ◌++◌, length, refl, sym, subst, Option, None, Some}
+use Rattle.std.specs.Prelude.{if◌then◌else◌, nat_lt, nat_le, ◌==◌, codes, is_some}
 use Rattle.std.proofs.lemmas.Bool.{leb-false, ltb-false}
 use Rattle.chess_base.specs.declared.man.Colour.{Colour}
 use Rattle.chess_base.specs.declared.man.Colour.TheVariants.{White, Black}
@@ -8,23 +9,23 @@ use Rattle.chess_base.specs.declared.man.Move.{Move}
 use Rattle.chess_base.specs.Men.{other, same_colour}
 use Rattle.chess_game.specs.declared.verdicts.Verdict.{Verdict}
 use Rattle.cecp_engine.specs.EngineLines.{line_kind, LineKind, Features, Moves, Resigns, OffersDraw, ClaimsDraw, ClaimsWin, Rejects, Answers, SaysElse}
-use Rattle.cecp_engine.specs.Items.{Item, has_done}
+use Rattle.cecp_engine.specs.Items.{Item, has_done, plays_fischerandom, takes}
 use Rattle.chess_match.specs.laws.Laws.{move_said, is_pong}
 use Rattle.chess_match.specs.laws.Machine.{Match, match_after, after_kind, items_of_line, seat, clock, over, ignore, enter, open_turn, take_items, handshake_ended, handshake_line, after_handshakes, missing, ready, unless_decided, setup_line, played_by, played_row, offer_row, draw_row, was_sent_move, turn_line, before_row, before_line, after_line, ping_number}
 use Rattle.chess_match.specs.Events.{Event, Line, Opened, OutputEnds, FailsToRead, FailsToWrite}
-use Rattle.chess_match.specs.Rules.{Rules}
+use Rattle.chess_match.specs.Rules.{Rules, is_fischerandom}
 use Rattle.chess_match.specs.Lines.{SentLine}
 use Rattle.chess_match.specs.laws.Blocks.{block}
 use Rattle.chess_match.specs.Reasons.{is_unwritten}
-use Rattle.chess_match.specs.laws.Transcript.{reads, opens, is_on, is_fault, fits_next, fits_from}
+use Rattle.chess_match.specs.laws.Transcript.{reads, is_on, is_fault, fits_next, fits_from}
 use Rattle.chess_match.specs.declared.phase.Phase.{Phase}
 use Rattle.chess_match.specs.declared.phase.Phase.TheVariants.{Handshake, Setup, SendTurn, AwaitMove, AwaitPong, Over}
 use Rattle.chess_match.specs.declared.reason.DrawClaim.{DrawClaim}
 use Rattle.chess_match.specs.declared.reason.MatchFault.{MatchFault}
-use Rattle.chess_match.specs.declared.reason.MatchFault.TheVariants.{Flood, NoDone, Ended, Read, Write}
+use Rattle.chess_match.specs.declared.reason.MatchFault.TheVariants.{Flood, NoDone, NoPing, NoSetboard, NoVariant, Ended, Read, Write}
 use Rattle.chess_match.specs.declared.reason.Reason.{Reason}
 use Rattle.chess_match.specs.declared.reason.Reason.TheVariants.{Decided, Claimed, Agreed, Resigns as ResignsBy, MovesIllegally, MovesOutOfTurn, ClaimsFalsely, RejectsLegalMove, Forfeits, ForfeitsToBareKing, GameTooLong, Faulted}
-use Rattle.chess_match.proofs.Going.{offered, reads_on, setup_row}
+use Rattle.chess_match.proofs.Going.{offered, opens_at, reads_on, setup_row}
 use Rattle.chess_match.specs.ties.Steps.{match_from}
 
 by_test : (P : Match → Type 0) (b : Bool) {x y : Match} → (b ≡ true → P x) → (b ≡ false → P y) → P (if b then x else y)
@@ -45,7 +46,7 @@ pub record BeforeMove (r : Rules) (S : Colour) (kind : LineKind) (moment : ℕ) 
   where
     pub row : InTurn r S kind m P
     pub plays : (text : List ℕ) (move : Move) → kind ≡ Moves text → r.reading m.played text ≡ Some move
-        → length m.played < r.limit → moment - m.opened ≤ clock r m S
+        → length m.played < r.limit → moment - m.opened ≤ clock r m S → r.verdict (m.played ++ move ∷ []) ≡ None
         → P (played_by S move (moment - m.opened) m)
     pub decides : (text : List ℕ) (move : Move) (v : Verdict) → kind ≡ Moves text → r.reading m.played text ≡ Some move
         → length m.played < r.limit → moment - m.opened ≤ clock r m S
@@ -88,11 +89,12 @@ move_outcome : (r : Rules) (S : Colour) (text : List ℕ) (moment : ℕ) (m : Ma
     → length m.played < r.limit → moment - m.opened ≤ clock r m S → BeforeMove r S (Moves text) moment m P
     → P (played_row r S reading moment m)
 move_outcome r S text moment m P None e room timely b = b.row.ends (MovesIllegally S) (λ O. refl)
-move_outcome r S text moment m P (Some move) e room timely b = judge (r.verdict (m.played ++ move ∷ []))
+move_outcome r S text moment m P (Some move) e room timely b = judge (r.verdict (m.played ++ move ∷ [])) refl
   where
-    judge : (v : Option Verdict) → (let m' = played_by S move (moment - m.opened) m in P (unless_decided v m' m'))
-    judge None = b.plays text move refl e room timely
-    judge (Some v) = b.decides text move v refl e room timely
+    judge : (v : Option Verdict) → r.verdict (m.played ++ move ∷ []) ≡ v
+        → (let m' = played_by S move (moment - m.opened) m in P (unless_decided v m' m'))
+    judge None u = b.plays text move refl e room timely u
+    judge (Some v) u = b.decides text move v refl e room timely
 
 row_outcome : (r : Rules) (S : Colour) (kind : LineKind) (moment : ℕ) (m : Match) (P : Match → Type 0)
     → moment - m.opened ≤ clock r m S → BeforeMove r S kind moment m P
@@ -161,25 +163,42 @@ handshake_outcome r Black items m P ends counts done =
     by_test P (has_done items) done (λ more. by_test P (nat_le 1000 (m.count + 1)) (λ h. ends more)
     (λ h. counts more (leb-false 1000 (m.count + 1) h)))
 
+-- what is missing of an engine is no write that failed
+abbrev NoWriteFault : Option MatchFault → Type 0
+NoWriteFault None = Unit {0}
+NoWriteFault (Some f) = (c : Colour) → IsNoWrite (Faulted c f)
+
+if_fault : (b : Bool) (x y : Option MatchFault) → NoWriteFault x → NoWriteFault y → NoWriteFault (if b then x else y)
+if_fault true x y p q = p
+if_fault false x y p q = q
+
+misses : (r : Rules) (items : List Item) → NoWriteFault (missing r items)
+misses r items = if_fault (not (takes (codes "ping") items)) (Some NoPing) _ (λ c O. refl)
+    (if_fault (is_some r.start_fen && not (takes (codes "setboard") items)) (Some NoSetboard) _ (λ c O. refl)
+    (if_fault (is_fischerandom r.variant && not (plays_fischerandom items)) (Some NoVariant) None (λ c O. refl) tt))
+
 -- both handshakes are judged
 pub judged_outcome : (r : Rules) (m : Match) (P : Match → Type 0)
-    → ((S : Colour) (f : MatchFault) → P (enter (Over (Faulted S f)) m)) → P (enter (Setup White) m)
+    → ((S : Colour) (f : MatchFault) → IsNoWrite (Faulted S f) → P (enter (Over (Faulted S f)) m))
+    → P (enter (Setup White) m)
     → P (after_handshakes (missing r m.white.items) (missing r m.black.items) m)
-judged_outcome r m P ends on = at (missing r m.white.items) (missing r m.black.items)
+judged_outcome r m P ends on =
+    at (missing r m.white.items) (missing r m.black.items) (misses r m.white.items) (misses r m.black.items)
   where
-    at : (w b : Option MatchFault) → P (after_handshakes w b m)
-    at (Some f) b = ends White f
-    at None (Some f) = ends Black f
-    at None None = on
+    at : (w b : Option MatchFault) → NoWriteFault w → NoWriteFault b → P (after_handshakes w b m)
+    at (Some f) b p q = ends White f (p White)
+    at None (Some f) p q = ends Black f (q Black)
+    at None None p q = on
 
 -- both are ready
 pub begun_outcome : (r : Rules) (m : Match) (P : Match → Type 0) → ((v : Verdict) → P (over (Decided v) m))
-    → P (open_turn r.first m) → P (unless_decided (r.verdict m.played) m (open_turn r.first m))
-begun_outcome r m P ends on = at (r.verdict m.played)
+    → (r.verdict m.played ≡ None → P (open_turn r.first m))
+    → P (unless_decided (r.verdict m.played) m (open_turn r.first m))
+begun_outcome r m P ends on = at (r.verdict m.played) refl
   where
-    at : (v : Option Verdict) → P (unless_decided v m (open_turn r.first m))
-    at (Some v) = ends v
-    at None = on
+    at : (v : Option Verdict) → r.verdict m.played ≡ v → P (unless_decided v m (open_turn r.first m))
+    at (Some v) e = ends v
+    at None e = on e
 
 -- whatever a line of S says, in each phase that reads it
 pub record Lines (r : Rules) (S : Colour) (kind : LineKind) (moment : ℕ) (m : Match) (P : Match → Type 0) : Type 0 where
@@ -190,14 +209,16 @@ pub record Lines (r : Rules) (S : Colour) (kind : LineKind) (moment : ℕ) (m : 
   pub handshake_next : m.phase ≡ Handshake White → S ≡ White → has_done (items_of_line kind) ≡ true
       → P (enter (Handshake Black) (take_items S (items_of_line kind) m))
   pub handshake_judged : m.phase ≡ Handshake Black → S ≡ Black → has_done (items_of_line kind) ≡ true
-      → (c : Colour) (f : MatchFault) → P (enter (Over (Faulted c f)) (take_items S (items_of_line kind) m))
+      → (c : Colour) (f : MatchFault) → IsNoWrite (Faulted c f)
+      → P (enter (Over (Faulted c f)) (take_items S (items_of_line kind) m))
   pub handshake_done : m.phase ≡ Handshake Black → S ≡ Black → has_done (items_of_line kind) ≡ true
       → P (enter (Setup White) (take_items S (items_of_line kind) m))
   pub setup_ends : m.phase ≡ Setup S → (reason : Reason) → IsNoWrite reason → P (over reason m)
   pub setup_counts : m.phase ≡ Setup S → is_pong 1 kind ≡ false → m.count + 1 < 10000
       → P (record m { count = m.count + 1 })
   pub setup_next : m.phase ≡ Setup White → S ≡ White → is_pong 1 kind ≡ true → P (enter (Setup Black) m)
-  pub setup_done : m.phase ≡ Setup Black → S ≡ Black → is_pong 1 kind ≡ true → P (open_turn r.first m)
+  pub setup_done : m.phase ≡ Setup Black → S ≡ Black → is_pong 1 kind ≡ true → r.verdict m.played ≡ None
+      → P (open_turn r.first m)
   pub before : m.phase ≡ AwaitMove S → BeforeMove r S kind moment m P
   pub behind : m.phase ≡ AwaitPong S → AfterMove r S kind m P
 
@@ -243,17 +264,6 @@ pub record Events (r : Rules) (m : Match) (e : Event) (P : Match → Type 0) : T
   pub faulted : (S : Colour) (f : MatchFault) → is_on m.phase ≡ true
       → ((O : Colour) → is_unwritten (Faulted S f) O ≡ is_fault Write O e) → P (over (Faulted S f) m)
 
-pub opens_at : (p : Phase) (S : Colour) → opens p S ≡ true → p ≡ SendTurn S
-opens_at (SendTurn White) White h = refl
-opens_at (SendTurn Black) Black h = refl
-opens_at (SendTurn White) Black h = cc
-opens_at (SendTurn Black) White h = cc
-opens_at (Handshake c) S h = cc
-opens_at (Setup c) S h = cc
-opens_at (AwaitMove c) S h = cc
-opens_at (AwaitPong c) S h = cc
-opens_at (Over x) S h = cc
-
 pub and_first : (a b : Bool) → a && b ≡ true → a ≡ true
 and_first true b h = refl
 and_first false b h = cc
@@ -265,6 +275,12 @@ and_second false b h = cc
 pub not_other : (S : Colour) → same_colour S (other S) ≡ false
 not_other White = refl
 not_other Black = refl
+
+pub not_on : {A : Type 0} → false ≡ true → A
+not_on h = cc
+
+pub fits_on : (due : Colour → List SentLine) (m : Match) (e : Event) → fits_next due m e ≡ true → is_on m.phase ≡ true
+fits_on due m e h1 = grind arith
 
 pub event_outcome : (r : Rules) (due : Colour → List SentLine) (m : Match) (e : Event) (P : Match → Type 0)
     → fits_next due m e ≡ true → Events r m e P → P (match_after r m e)

@@ -1,12 +1,11 @@
 -- The moves of a match are read off the two engines' lines.
 use Rattle.std.proofs.Common.{◌≡◌, ℕ, ◌+◌, ◌-◌, ◌≤◌, Bool, true, false, List, [], ◌∷◌, ◌++◌, length, refl, ap, sym, subst, ◌∙◌, append-nil, append_assoc, Option, Some, arith}
-use Rattle.std.specs.Prelude.{if◌then◌else◌}
 use Rattle.chess_base.specs.declared.man.Colour.{Colour}
 use Rattle.chess_base.specs.declared.man.Colour.TheVariants.{White, Black}
 use Rattle.chess_base.specs.declared.man.Move.{Move}
 use Rattle.chess_base.specs.Men.{other}
 use Rattle.chess_game.specs.declared.verdicts.Verdict.{Verdict}
-use Rattle.cecp_engine.specs.EngineLines.{LineKind, line_kind, Features, Moves, Resigns, OffersDraw, ClaimsDraw, ClaimsWin, Rejects, Answers, SaysElse}
+use Rattle.cecp_engine.specs.EngineLines.{line_kind, Moves}
 use Rattle.cecp_engine.specs.Items.{Item, has_done}
 use Rattle.chess_match.specs.laws.Laws.{move_said, moves_said, lines_after_handshake, lines_after_pong, moves_of, AreRead, MovesAreRead, is_pong}
 use Rattle.chess_match.specs.laws.Machine.{Match, items_of_line, take_items, start, over, enter, open_turn, played_by, match_after}
@@ -19,11 +18,11 @@ use Rattle.chess_match.specs.declared.phase.Phase.{Phase}
 use Rattle.chess_match.specs.declared.phase.Phase.TheVariants.{Handshake, Setup, SendTurn, AwaitMove, AwaitPong, Over}
 use Rattle.chess_match.specs.declared.reason.MatchFault.TheVariants.{NoDone}
 use Rattle.chess_match.specs.declared.reason.Reason.TheVariants.{Decided, Faulted}
-use Rattle.chess_match.proofs.MoveLaw.{not_on, mover, mover-snoc, Orderly, orderly_in}
+use Rattle.chess_match.proofs.MoveLaw.{mover, mover-snoc, Orderly, orderly_in}
 use Rattle.chess_match.proofs.OneLaw.{over_stops}
 use Rattle.chess_match.proofs.Orders.{Kept, step}
-use Rattle.chess_match.proofs.Outcomes.{Lines, line_outcome, opens_at, and_first, and_second}
-use Rattle.chess_match.proofs.Going.{offered}
+use Rattle.chess_match.proofs.Outcomes.{Lines, line_outcome, and_first, and_second, not_on}
+use Rattle.chess_match.proofs.Going.{offered, opens_at}
 use Rattle.chess_match.proofs.Seats.{items_played}
 use Rattle.chess_match.specs.ties.Steps.{match_from}
 
@@ -41,16 +40,7 @@ ahead (AwaitPong c) S ls = moves_said ls
 ahead (Over x) S ls = []
 
 ahead_nil : (p : Phase) (S : Colour) → ahead p S [] ≡ []
-ahead_nil (Handshake White) S = refl
-ahead_nil (Handshake Black) White = refl
-ahead_nil (Handshake Black) Black = refl
-ahead_nil (Setup White) S = refl
-ahead_nil (Setup Black) White = refl
-ahead_nil (Setup Black) Black = refl
-ahead_nil (SendTurn c) S = refl
-ahead_nil (AwaitMove c) S = refl
-ahead_nil (AwaitPong c) S = refl
-ahead_nil (Over x) S = refl
+ahead_nil p S = grind arith
 
 -- from here on the moves of a match are read off these lines
 abbrev Reads : Rules → Match → Match → (Colour → List (Option (List ℕ))) → Type 0
@@ -127,43 +117,8 @@ reads_move r m m' final d t text move lines p p' turn played kind reading next c
 
 -- ---- the end
 
-one_said : (kind : LineKind) → length (move_said kind ++ []) ≤ 1
-one_said (Features t) = omega arith
-one_said (Moves t) = omega arith
-one_said Resigns = omega arith
-one_said OffersDraw = omega arith
-one_said ClaimsDraw = omega arith
-one_said (ClaimsWin c) = omega arith
-one_said Rejects = omega arith
-one_said (Answers n) = omega arith
-one_said SaysElse = omega arith
-
-none_behind_pong : (kind : LineKind) → length (moves_said (if is_pong 1 kind then [] else [])) ≤ 1
-none_behind_pong kind = at (is_pong 1 kind)
-  where
-    at : (b : Bool) → length (moves_said (if b then [] else [])) ≤ 1
-    at true = omega arith
-    at false = omega arith
-
-none_after_handshake : (kind : LineKind) → length
-    (moves_said (lines_after_pong (if has_done (items_of_line kind) then [] else []))) ≤ 1
-none_after_handshake kind = at (has_done (items_of_line kind))
-  where
-    at : (b : Bool) → length (moves_said (lines_after_pong (if b then [] else []))) ≤ 1
-    at true = omega arith
-    at false = omega arith
-
 few_ahead : (p : Phase) (d : Colour) (t : Option (List ℕ)) → length (ahead p d (t ∷ [])) ≤ 1
-few_ahead (Handshake White) d t = none_after_handshake (line_kind t)
-few_ahead (Handshake Black) White t = none_behind_pong (line_kind t)
-few_ahead (Handshake Black) Black t = none_after_handshake (line_kind t)
-few_ahead (Setup White) d t = none_behind_pong (line_kind t)
-few_ahead (Setup Black) White t = one_said (line_kind t)
-few_ahead (Setup Black) Black t = none_behind_pong (line_kind t)
-few_ahead (SendTurn c) d t = one_said (line_kind t)
-few_ahead (AwaitMove c) d t = one_said (line_kind t)
-few_ahead (AwaitPong c) d t = one_said (line_kind t)
-few_ahead (Over x) d t = omega arith
+few_ahead p d t = grind arith
 
 abbrev pub no_lines : Colour → List (Option (List ℕ))
 no_lines S = []
@@ -171,10 +126,7 @@ no_lines S = []
 -- at most one `move` line is left, whoever is on move
 few_left : (p : Phase) (d c : Colour) (t : Option (List ℕ))
     → length (ahead p c (with_line d t no_lines c)) + length (ahead p (other c) (with_line d t no_lines (other c))) ≤ 1
-few_left p White White t = let h = few_ahead p White t in let n = ahead_nil p Black in rw n (omega (arith, h))
-few_left p Black Black t = let h = few_ahead p Black t in let n = ahead_nil p White in rw n (omega (arith, h))
-few_left p White Black t = let h = few_ahead p White t in let n = ahead_nil p Black in rw n (omega (arith, h))
-few_left p Black White t = let h = few_ahead p Black t in let n = ahead_nil p White in rw n (omega (arith, h))
+few_left p d c t = grind (arith, few_ahead p d t, ahead_nil p White, ahead_nil p Black)
 
 nothing_left : (p : Phase) (c : Colour) → length (ahead p c []) + length (ahead p (other c) []) ≤ 1
 nothing_left p c = rw (ahead_nil p c, ahead_nil p (other c)) (omega arith)
@@ -221,54 +173,37 @@ over_steps r d t m m' off p = ((λ final lines on next. not_on (sym off ∙ on))
 handshake_same : (d : Colour) (t : Option (List ℕ)) (lines : Colour → List (Option (List ℕ))) (S : Colour)
     → has_done (items_of_line (line_kind t)) ≡ false
     → ahead (Handshake d) S (with_line d t lines S) ≡ ahead (Handshake d) S (lines S)
-handshake_same White t lines White h = rw h refl
-handshake_same White t lines Black h = refl
-handshake_same Black t lines White h = refl
-handshake_same Black t lines Black h = rw h refl
+handshake_same d t lines S h1 = grind arith
 
 setup_same : (d : Colour) (t : Option (List ℕ)) (lines : Colour → List (Option (List ℕ))) (S : Colour)
     → is_pong 1 (line_kind t) ≡ false
     → ahead (Setup d) S (with_line d t lines S) ≡ ahead (Setup d) S (lines S)
-setup_same White t lines White h = rw h refl
-setup_same White t lines Black h = refl
-setup_same Black t lines White h = refl
-setup_same Black t lines Black h = rw h refl
+setup_same d t lines S h1 = grind arith
 
 handshake_next : (d : Colour) (t : Option (List ℕ)) (lines : Colour → List (Option (List ℕ))) (S : Colour) → d ≡ White
     → has_done (items_of_line (line_kind t)) ≡ true
     → ahead (Handshake White) S (with_line d t lines S) ≡ ahead (Handshake Black) S (lines S)
-handshake_next White t lines White e h = rw h refl
-handshake_next White t lines Black e h = refl
-handshake_next Black t lines S e h = cc
+handshake_next d t lines S h1 h2 = grind arith
 
 handshake_done : (d : Colour) (t : Option (List ℕ)) (lines : Colour → List (Option (List ℕ))) (S : Colour) → d ≡ Black
     → has_done (items_of_line (line_kind t)) ≡ true
     → ahead (Handshake Black) S (with_line d t lines S) ≡ ahead (Setup White) S (lines S)
-handshake_done Black t lines White e h = refl
-handshake_done Black t lines Black e h = rw h refl
-handshake_done White t lines S e h = cc
+handshake_done d t lines S h1 h2 = grind arith
 
 setup_next : (d : Colour) (t : Option (List ℕ)) (lines : Colour → List (Option (List ℕ))) (S : Colour) → d ≡ White
     → is_pong 1 (line_kind t) ≡ true
     → ahead (Setup White) S (with_line d t lines S) ≡ ahead (Setup Black) S (lines S)
-setup_next White t lines White e h = rw h refl
-setup_next White t lines Black e h = refl
-setup_next Black t lines S e h = cc
+setup_next d t lines S h1 h2 = grind arith
 
 setup_done : (d c : Colour) (t : Option (List ℕ)) (lines : Colour → List (Option (List ℕ))) (S : Colour) → d ≡ Black
     → is_pong 1 (line_kind t) ≡ true
     → ahead (Setup Black) S (with_line d t lines S) ≡ ahead (SendTurn c) S (lines S)
-setup_done Black c t lines White e h = refl
-setup_done Black c t lines Black e h = rw h refl
-setup_done White c t lines S e h = cc
+setup_done d c t lines S h1 h2 = grind arith
 
 -- a line that says no move
 turn_same : (d : Colour) (t : Option (List ℕ)) (lines : Colour → List (Option (List ℕ))) (S : Colour)
     → move_said (line_kind t) ≡ [] → moves_said (with_line d t lines S) ≡ moves_said (lines S)
-turn_same White t lines White h = rw h refl
-turn_same White t lines Black h = refl
-turn_same Black t lines White h = refl
-turn_same Black t lines Black h = rw h refl
+turn_same d t lines S h1 = grind arith
 
 handshake_counts : (r : Rules) (d : Colour) (t : Option (List ℕ)) (items : List Item) (n : ℕ) (m : Match) → m.phase
     ≡ Handshake d → has_done (items_of_line (line_kind t)) ≡ false
@@ -306,7 +241,7 @@ lines_step r d t n m o = record {
   handshake_next = λ p s h. on_steps r d t m (enter (Handshake Black) (take_items d items m)) refl
       (items_played d items m)
       (λ lines S. rw p (handshake_next d t lines S s h));
-  handshake_judged = λ p s h b f. over_steps r d t m (enter (Over (Faulted b f)) (take_items d items m)) refl
+  handshake_judged = λ p s h b f mild. over_steps r d t m (enter (Over (Faulted b f)) (take_items d items m)) refl
       (items_played d items m);
   handshake_done = λ p s h. on_steps r d t m (enter (Setup White) (take_items d items m)) refl (items_played d items m)
       (λ lines S. rw p (handshake_done d t lines S s h));
@@ -315,7 +250,7 @@ lines_step r d t n m o = record {
       (λ lines S. rw p (setup_same d t lines S h));
   setup_next = λ p s h. on_steps r d t m (enter (Setup Black) m) refl refl
       (λ lines S. rw p (setup_next d t lines S s h));
-  setup_done = λ p s h. on_steps r d t m (open_turn r.first m) refl refl
+  setup_done = λ p s h undecided. on_steps r d t m (open_turn r.first m) refl refl
       (λ lines S. rw p (setup_done d r.first t lines S s h));
   before = λ p. record {
     row = record {
@@ -324,7 +259,7 @@ lines_step r d t n m o = record {
       offers = λ none own theirs. before_same r d t m (offered d m) p (offered_phase d m).0 (offered_phase d m).1
           none;
     };
-    plays = λ text move is reading room timely. plays text move p is reading;
+    plays = λ text move is reading room timely undecided. plays text move p is reading;
     decides = λ text move v is reading room timely. decides text move v p is reading;
   };
   behind = λ p. record {

@@ -24,7 +24,3 @@ items_used Black items m = (refl, refl)
 pub items_played : (S : Colour) (items : List Item) (m : Match) → (take_items S items m).played ≡ m.played
 items_played White items m = refl
 items_played Black items m = refl
-
-pub items_unsent_to : (S : Colour) (items : List Item) (m : Match) → (take_items S items m).unsent_to ≡ m.unsent_to
-items_unsent_to White items m = refl
-items_unsent_to Black items m = refl

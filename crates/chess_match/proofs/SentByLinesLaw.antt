@@ -1,10 +1,10 @@
 -- What an engine is sent, by the two engines' lines alone.
-use Rattle.std.proofs.Common.{◌≡◌, ℕ, ◌+◌, ◌-◌, ◌≤◌, Bool, true, false, ◌&&◌, ◌||◌, List, [], ◌∷◌, ◌++◌, length, refl, ap, sym, ◌∙◌, append-nil, append_assoc, Option, None, Some, arith}
+use Rattle.std.proofs.Common.{◌≡◌, ℕ, ◌+◌, ◌-◌, ◌≤◌, Bool, true, false, List, [], ◌∷◌, ◌++◌, length, refl, ap, sym, ◌∙◌, append-nil, append_assoc, Option, arith}
 use Rattle.std.specs.Prelude.{if◌then◌else◌, codes, is_some}
 use Rattle.chess_base.specs.declared.man.Colour.{Colour}
 use Rattle.chess_base.specs.declared.man.Colour.TheVariants.{White, Black}
 use Rattle.chess_base.specs.declared.man.Move.{Move}
-use Rattle.chess_base.specs.Men.{other, same_colour}
+use Rattle.chess_base.specs.Men.{other}
 use Rattle.chess_game.specs.declared.verdicts.Verdict.{Verdict}
 use Rattle.cecp_engine.specs.EngineLines.{line_kind}
 use Rattle.cecp_engine.specs.Items.{Item, has_done, takes}
@@ -19,11 +19,11 @@ use Rattle.chess_match.specs.declared.phase.Phase.{Phase}
 use Rattle.chess_match.specs.declared.phase.Phase.TheVariants.{Handshake, Setup, SendTurn, AwaitMove, AwaitPong, Over}
 use Rattle.chess_match.specs.declared.reason.MatchFault.TheVariants.{NoDone, Write}
 use Rattle.chess_match.specs.declared.reason.Reason.TheVariants.{Decided, Faulted}
-use Rattle.chess_match.proofs.MoveLaw.{not_on, nothing_owed, moves_are_told}
+use Rattle.chess_match.proofs.MoveLaw.{nothing_owed, moves_are_told}
 use Rattle.chess_match.proofs.OneLaw.{over_stops}
 use Rattle.chess_match.proofs.ReadLaw.{with_line, no_lines, lines_by, moves_are_read}
-use Rattle.chess_match.proofs.Outcomes.{Lines, InTurn, line_outcome, opens_at, and_first, and_second}
-use Rattle.chess_match.proofs.Going.{offered}
+use Rattle.chess_match.proofs.Outcomes.{Lines, InTurn, line_outcome, and_first, and_second, not_on}
+use Rattle.chess_match.proofs.Going.{offered, opens_at}
 use Rattle.chess_match.proofs.Seats.{items_same}
 use Rattle.chess_match.specs.ties.Steps.{match_from}
 
@@ -39,14 +39,7 @@ said_ahead (AwaitPong c) S ls = []
 said_ahead (Over x) S ls = []
 
 ahead_nil : (p : Phase) (S : Colour) → said_ahead p S [] ≡ []
-ahead_nil (Handshake White) S = refl
-ahead_nil (Handshake Black) White = refl
-ahead_nil (Handshake Black) Black = refl
-ahead_nil (Setup c) S = refl
-ahead_nil (SendTurn c) S = refl
-ahead_nil (AwaitMove c) S = refl
-ahead_nil (AwaitPong c) S = refl
-ahead_nil (Over x) S = refl
+ahead_nil p S = grind arith
 
 -- a line of d takes from m to m', and the items are what was said: with what more is to come, where the match goes on
 abbrev Says : Colour → Option (List ℕ) → Match → Match → Type 0
@@ -66,12 +59,7 @@ is_greeted (AwaitPong c) = true
 is_greeted (Over x) = true
 
 none_ahead : (p : Phase) (S : Colour) (ls : List (Option (List ℕ))) → is_greeted p ≡ true → said_ahead p S ls ≡ []
-none_ahead (Handshake c) S ls h = cc
-none_ahead (Setup c) S ls h = refl
-none_ahead (SendTurn c) S ls h = refl
-none_ahead (AwaitMove c) S ls h = refl
-none_ahead (AwaitPong c) S ls h = refl
-none_ahead (Over x) S ls h = refl
+none_ahead p S ls h1 = grind arith
 
 -- after the handshakes nothing is said
 greeted_says : (d : Colour) (t : Option (List ℕ)) (m m' : Match) → is_greeted m.phase ≡ true → is_greeted m'.phase
@@ -167,17 +155,17 @@ lines_say r d t n m = record {
       refl;
   handshake_counts = λ p h few. handshake_on d t (m.count + 1) m p h;
   handshake_next = λ p s h. handshake_next d t m p s h;
-  handshake_judged = λ p s h b f. handshake_over d t m
+  handshake_judged = λ p s h b f mild. handshake_over d t m
       (enter (Over (Faulted b f)) (take_items d (items_of_line (line_kind t)) m))
       (p ∙ ap Handshake (sym s)) refl refl refl;
   handshake_done = λ p s h. handshake_done d t m p s h;
   setup_ends = λ p reason w. greeted_says d t m (over reason m) (rw p refl) refl refl refl;
   setup_counts = λ p h few. greeted_says d t m (record m { count = m.count + 1 }) (rw p refl) (rw p refl) refl refl;
   setup_next = λ p s h. greeted_says d t m (enter (Setup Black) m) (rw p refl) refl refl refl;
-  setup_done = λ p s h. greeted_says d t m (open_turn r.first m) (rw p refl) refl refl refl;
+  setup_done = λ p s h undecided. greeted_says d t m (open_turn r.first m) (rw p refl) refl refl refl;
   before = λ p. record {
     row = row (rw p refl);
-    plays = λ text move is reading room timely. plays d move (n - m.opened) (rw p refl);
+    plays = λ text move is reading room timely undecided. plays d move (n - m.opened) (rw p refl);
     decides = λ text move v is reading room timely. decides d move (n - m.opened) v (rw p refl);
   };
   behind = λ p. record {
@@ -266,12 +254,7 @@ items_are_said r T Black f = sym (said_from r (lines_on_entering r start) start 
 
 owed_short : (r : Rules) (m : Match) (O : Colour) (unsent_to : Option Colour) (failed : Bool)
     → length (owed_to r m O unsent_to failed) ≤ 1
-owed_short r m O None failed = omega arith
-owed_short r m O (Some c) failed = at (same_colour c O && (is_on m.phase || failed))
-  where
-    at : (b : Bool) → length (if b then r.move_text (takes (codes "san") (seat m O).items) m.played ∷ [] else []) ≤ 1
-    at true = omega arith
-    at false = omega arith
+owed_short r m O unsent_to failed = grind arith
 
 pub each_is_sent_the_others : EachIsSentOthersMoves
 each_is_sent_the_others r T f = ((match_of r T).played, moves_are_read r T f, told)

@@ -1,26 +1,24 @@
 -- The times that an engine is sent are the clocks.
-use Rattle.std.proofs.Common.{◌≡◌, ℕ, ◌+◌, ◌-◌, ◌/◌, ◌≤◌, Bool, true, false, ◌||◌, List, [], ◌∷◌, ◌++◌, length, length-append, drop, refl, ap, subst, ◌∙◌, append-nil, Option, None, Some, arith}
-use Rattle.std.specs.Prelude.{if◌then◌else◌, nat_lt, codes, sum}
+use Rattle.std.proofs.Common.{◌≡◌, ℕ, ◌+◌, ◌-◌, ◌/◌, ◌≤◌, Bool, true, false, ◌||◌, List, [], ◌∷◌, ◌++◌, length, length-append, drop, refl, ap, subst, ◌∙◌, append-nil, Option, arith}
+use Rattle.std.specs.Prelude.{if◌then◌else◌, codes, sum}
 use Rattle.std.specs.List.{flat_map}
 use Rattle.std.proofs.lemmas.Grind.{flat_map-append}
 use Rattle.std.proofs.lemmas.List.Sums.{sum_by-cons}
 use Rattle.chess_base.specs.declared.man.Colour.{Colour}
 use Rattle.chess_base.specs.declared.man.Colour.TheVariants.{White, Black}
 use Rattle.chess_base.specs.declared.man.Move.{Move}
-use Rattle.chess_base.specs.declared.man.Variant.{Variant}
-use Rattle.chess_base.specs.declared.man.Variant.TheVariants.{Normal, Fischerandom}
 use Rattle.chess_base.specs.Men.{other, same_colour}
+use Rattle.chess_base.proofs.shared.Men.{same_colour-self}
 use Rattle.chess_game.specs.declared.verdicts.Verdict.{Verdict}
 use Rattle.cecp_engine.specs.EngineLines.{LineKind, line_kind}
 use Rattle.cecp_engine.specs.Items.{Item, takes}
 use Rattle.chess_match.specs.laws.Laws.{centiseconds, time_sent, otim_sent, TimesAreClocks, OtherTimesAreClocks, sent}
-use Rattle.cecp_engine.specs.Levels.{LevelSeen, time_left, level_text}
-use Rattle.chess_match.specs.laws.Machine.{Match, items_of_line, seat, take_items, start, over, enter, open_turn, played_by, match_after, clock, ping_number}
+use Rattle.cecp_engine.specs.Levels.{LevelSeen, time_left}
+use Rattle.chess_match.specs.laws.Machine.{Match, items_of_line, seat, take_items, start, over, enter, open_turn, played_by, match_after, clock}
 use Rattle.chess_match.specs.Events.{Event, Line, Opened, OutputEnds, FailsToRead, FailsToWrite}
 use Rattle.chess_match.specs.Rules.{Rules}
-use Rattle.chess_match.specs.Lines.{SentLine, Says, Time, Otim, setup_lines, variant_command, start_lines, ping}
+use Rattle.chess_match.specs.Lines.{SentLine, Says, setup_lines}
 use Rattle.chess_match.specs.laws.Blocks.{lines_on_entering, entry_to, is_same_phase, opening_lines, last_move_sent, last_move_lines, clock_lines, end_lines, unsent_lines}
-use Rattle.chess_match.specs.Reasons.{is_unwritten}
 use Rattle.chess_match.specs.laws.Transcript.{reads, match_of, fits, fits_next, blocks_from, joined_blocks}
 use Rattle.chess_match.specs.declared.phase.Phase.{Phase}
 use Rattle.chess_match.specs.declared.phase.Phase.TheVariants.{Handshake, Setup, SendTurn, AwaitMove, AwaitPong, Over}
@@ -28,11 +26,10 @@ use Rattle.chess_match.specs.declared.reason.MatchFault.TheVariants.{NoDone, End
 use Rattle.chess_match.specs.declared.reason.Reason.{Reason}
 use Rattle.chess_match.specs.declared.reason.Reason.TheVariants.{Decided, Faulted}
 use Rattle.chess_match.proofs.Blocks.{if_nil}
-use Rattle.chess_match.proofs.Outcomes.{Lines, InTurn, line_outcome, opens_at}
-use Rattle.chess_match.proofs.LinesOfOneKind.{now, gathered, unsent, InOpenings}
-use Rattle.chess_match.proofs.Going.{is_opening, offered, sum-snoc}
+use Rattle.chess_match.proofs.Outcomes.{Lines, InTurn, line_outcome}
+use Rattle.chess_match.proofs.LinesOfOneKind.{now, gathered, unsent}
+use Rattle.chess_match.proofs.Going.{is_opening, offered, opens_at, sum-snoc}
 use Rattle.chess_match.proofs.Seats.{items_used, items_same, used_same}
-use Rattle.chess_match.proofs.Blocks.{told_more}
 
 -- ---- the lines
 
@@ -52,43 +49,16 @@ no_text false text = refl
 
 setup_times : (own : Bool) (r : Rules) → flat_map (numbers own) (setup_lines r) ≡ []
 unfolding setup_lines
-setup_times own r = at own r.variant r.start_fen
-  where
-    at : (own : Bool) (v : Variant) (fen : Option (List ℕ))
-        → flat_map (numbers own) (Says (codes "new") ∷ (variant_command v
-        ++ (Says (codes "level " ++ level_text r.level) ∷ Says (codes "nopost") ∷ Says (codes "easy")
-        ∷ Says (codes "force") ∷ (start_lines fen ++ ping 1 ∷ [])))) ≡ []
-    at true Normal None = refl
-    at true Normal (Some fen) = refl
-    at true Fischerandom None = refl
-    at true Fischerandom (Some fen) = refl
-    at false Normal None = refl
-    at false Normal (Some fen) = refl
-    at false Fischerandom None = refl
-    at false Fischerandom (Some fen) = refl
+setup_times own r = grind arith
 
 last_times : (own : Bool) (r : Rules) (m : Match) (S : Colour) → flat_map (numbers own) (last_move_lines r m S) ≡ []
 unfolding last_move_sent
-last_times own r m S = at own (nat_lt 0 (length m.played))
-  where
-    at : (own b : Bool) → flat_map (numbers own) (if b then last_move_sent r m S ∷ [] else []) ≡ []
-    at true true = refl
-    at false true = refl
-    at true false = refl
-    at false false = refl
+last_times own r m S = grind arith
 
 untold_times : (own : Bool) (r : Rules) (m : Match) (S : Colour) (unsent_to : Option Colour)
     → flat_map (numbers own) (unsent_lines r m S unsent_to) ≡ []
 unfolding last_move_sent
-untold_times true r m S None = refl
-untold_times false r m S None = refl
-untold_times own r m S (Some c) = at own (same_colour c S)
-  where
-    at : (own b : Bool) → flat_map (numbers own) (if b then last_move_sent r m S ∷ [] else []) ≡ []
-    at true true = refl
-    at false true = refl
-    at true false = refl
-    at false false = refl
+untold_times own r m S unsent_to = grind arith
 
 end_times : (own : Bool) (r : Rules) (m : Match) (S : Colour) (reason : Reason)
     → flat_map (numbers own) (end_lines r m S reason) ≡ []
@@ -105,15 +75,7 @@ clock_told own r m S = if takes (codes "time") (seat m S).items then clock r m (
 clock_times : (own : Bool) (r : Rules) (m : Match) (S : Colour) → flat_map (numbers own) (clock_lines r m S)
     ≡ clock_told own r m S
 unfolding clock_lines
-clock_times own r m S = at own (takes (codes "time") (seat m S).items)
-  where
-    at : (own b : Bool) → flat_map (numbers own)
-        (if b then Time (clock r m S / 10) ∷ Otim (clock r m (other S) / 10) ∷ [] else [])
-        ≡ (if b then clock r m (told_of own S) / 10 ∷ [] else [])
-    at true true = refl
-    at false true = refl
-    at true false = refl
-    at false false = refl
+clock_times own r m S = grind arith
 
 go_times : (own : Bool) → flat_map (numbers own) (Says (codes "go") ∷ []) ≡ []
 go_times true = refl
@@ -122,59 +84,16 @@ go_times false = refl
 opening_times : (own : Bool) (r : Rules) (m : Match) (S : Colour) → flat_map (numbers own) (opening_lines r m S)
     ≡ clock_told own r m S
 unfolding opening_lines
-opening_times own r m S = at (nat_lt 0 (length (seat m S).used))
-  where
-    at : (b : Bool) → flat_map (numbers own)
-        (if b then clock_lines r m S ++ last_move_lines r m S else last_move_lines r m S
-        ++ (clock_lines r m S ++ Says (codes "go") ∷ [])) ≡ clock_told own r m S
-    at true = flat_map-append (numbers own) (clock_lines r m S) (last_move_lines r m S)
-        ∙ rw (last_times own r m S, append-nil (flat_map (numbers own) (clock_lines r m S))) (clock_times own r m S)
-    at false =
-        flat_map-append (numbers own) (last_move_lines r m S) (clock_lines r m S ++ Says (codes "go") ∷ [])
-        ∙ rw (
-          last_times own r m S,
-          flat_map-append (numbers own) (clock_lines r m S) (Says (codes "go") ∷ []),
-          go_times own,
-          append-nil (flat_map (numbers own) (clock_lines r m S)),
-        ) (clock_times own r m S)
+opening_times own r m S =
+    grind (arith, flat_map-append, last_times own r m S, clock_times own r m S, go_times own, append-nil)
 
-in_openings : (own : Bool) → InOpenings (numbers own)
-in_openings own r m S (Handshake c) e = at own (same_colour c S)
-  where
-    at : (own b : Bool) → flat_map (numbers own) (if b then Says (codes "xboard") ∷ Says (codes "protover 2")
-        ∷ [] else []) ≡ []
-    at true true = refl
-    at false true = refl
-    at true false = refl
-    at false false = refl
-in_openings own r m S (Setup c) e = at (same_colour c S)
-  where
-    at : (b : Bool) → flat_map (numbers own) (if b then setup_lines r else []) ≡ []
-    at true = setup_times own r
-    at false = refl
-in_openings own r m S (AwaitMove c) e = refl
-in_openings own r m S (AwaitPong c) e = at own (same_colour c S)
-  where
-    at : (own b : Bool) → flat_map (numbers own) (if b then ping (ping_number m S) ∷ [] else []) ≡ []
-    at true true = refl
-    at false true = refl
-    at true false = refl
-    at false false = refl
-in_openings own r m S (Over reason) e = at (is_unwritten reason S)
-  where
-    at : (b : Bool) → flat_map (numbers own) (if b then [] else end_lines r m S reason) ≡ []
-    at true = refl
-    at false = end_times own r m S reason
-in_openings own r m S (SendTurn c) e = cc
+in_openings : (own : Bool) (r : Rules) (m : Match) (S : Colour) (p : Phase) → is_opening p ≡ false
+    → flat_map (numbers own) (entry_to r m S p) ≡ []
+in_openings own r m S p h1 = grind (arith, setup_times own r, end_times own r m S, no_text own)
 
 opening_told : (own : Bool) (r : Rules) (m : Match) (S c : Colour)
     → flat_map (numbers own) (entry_to r m S (SendTurn c)) ≡ (if same_colour c S then clock_told own r m S else [])
-opening_told own r m S c = at (same_colour c S)
-  where
-    at : (b : Bool) → flat_map (numbers own) (if b then opening_lines r m S else [])
-        ≡ (if b then clock_told own r m S else [])
-    at true = opening_times own r m S
-    at false = refl
+opening_told own r m S c = grind (arith, opening_times own r m S)
 
 -- ---- the clocks
 
@@ -240,29 +159,11 @@ last_short : (r : Rules) (takes : Bool) (used : List ℕ) → length (last_told 
 last_short r true used = omega arith
 last_short r false used = omega arith
 
-if_short : (b : Bool) (t : List ℕ) → length t ≤ 1 → length (if b then [] else t) ≤ 1
-if_short true t h = omega arith
-if_short false t h = h
-
 pending_short : (own : Bool) (p : Phase) (S : Colour) (t : List ℕ) → length t ≤ 1 → length (pending own p S t) ≤ 1
-pending_short true (SendTurn c) S t h = if_short (same_colour c S) t h
-pending_short true (AwaitMove c) S t h = if_short (same_colour c S) t h
-pending_short true (AwaitPong c) S t h = h
-pending_short false (AwaitPong c) S t h = if_short (same_colour c S) t h
-pending_short true (Handshake c) S t h = omega arith
-pending_short true (Setup c) S t h = omega arith
-pending_short true (Over x) S t h = omega arith
-pending_short false (Handshake c) S t h = omega arith
-pending_short false (Setup c) S t h = omega arith
-pending_short false (SendTurn c) S t h = omega arith
-pending_short false (AwaitMove c) S t h = omega arith
-pending_short false (Over x) S t h = omega arith
+pending_short own p S t h1 = grind arith
 
 all_short : (whole : Bool) (r : Rules) (takes : Bool) → length (all_told whole r takes []) ≤ 1
-all_short true r true = omega arith
-all_short false r true = omega arith
-all_short true r false = omega arith
-all_short false r false = omega arith
+all_short whole r takes = grind arith
 
 empty_over : (own : Bool) (r : Rules) (S : Colour) (X : List ℕ) (takes : Bool) (used : List ℕ) → X ≡ [] → used ≡ []
     → (rest : List ℕ) × (length rest ≤ 1) × (X ++ rest ≡ all_told (is_whole own r S) r takes used)
@@ -297,35 +198,13 @@ over_times own r S X takes used (Over reason) h = h
 -- the turn passes
 passes_times : (own : Bool) (c S : Colour) (X t A : List ℕ) → X ++ pending own (AwaitPong c) S t ≡ A
     → (X ++ (if same_colour (other c) S then t else [])) ++ pending own (SendTurn (other c)) S t ≡ A
-passes_times true White White X t A h = rw (append-nil X) h
-passes_times true Black Black X t A h = rw (append-nil X) h
-passes_times true White Black X t A h = append-nil (X ++ t) ∙ h
-passes_times true Black White X t A h = append-nil (X ++ t) ∙ h
-passes_times false White White X t A h = append-nil (X ++ []) ∙ h
-passes_times false Black Black X t A h = append-nil (X ++ []) ∙ h
-passes_times false White Black X t A h = append-nil (X ++ t) ∙ h
-passes_times false Black White X t A h = append-nil (X ++ t) ∙ h
+passes_times own c S X t A h = grind (arith, append-nil)
 
 -- the first turn is opened
 opens_times : (own : Bool) (r : Rules) (S c : Colour) (takes : Bool)
     → (if same_colour c S then last_told r takes [] else []) ++ pending own (SendTurn c) S (last_told r takes [])
     ≡ all_told (own || same_colour S c) r takes []
-opens_times true r White White true = refl
-opens_times true r Black Black true = refl
-opens_times true r White Black true = refl
-opens_times true r Black White true = refl
-opens_times true r White White false = refl
-opens_times true r Black Black false = refl
-opens_times true r White Black false = refl
-opens_times true r Black White false = refl
-opens_times false r White White true = refl
-opens_times false r Black Black true = refl
-opens_times false r White Black true = refl
-opens_times false r Black White true = refl
-opens_times false r White White false = refl
-opens_times false r Black Black false = refl
-opens_times false r White Black false = refl
-opens_times false r Black White false = refl
+opens_times own r S c takes = grind arith
 
 from-append : (whole : Bool) (level : LevelSeen) (us : List ℕ) (t : List ℕ)
     → from whole (centiseconds level 0 0 us ++ t) ≡ from whole (centiseconds level 0 0 us) ++ t
@@ -342,24 +221,6 @@ all_more whole r true used u =
     ap (λ (xs : List ℕ). from whole xs) (centiseconds-snoc r.level 0 0 used u (length (used ++ u ∷ []))
     (sum (used ++ u ∷ [])) (omega (arith, l)) (omega (arith, s)))
     ∙ from-append whole r.level used (time_left r.level (length (used ++ u ∷ [])) (sum (used ++ u ∷ [])) / 10 ∷ [])
-
--- the side whose clock it is has moved
-charged_times : (own : Bool) (r : Rules) (S : Colour) (X : List ℕ) (takes : Bool) (used : List ℕ) (u : ℕ)
-    → TimesIn own r S (AwaitMove (told_of own S)) X takes used
-    → TimesIn own r S (AwaitPong (told_of own S)) X takes (used ++ u ∷ [])
-charged_times true r White X takes used u h = told_more X _ _ _ h (all_more true r takes used u)
-charged_times true r Black X takes used u h = told_more X _ _ _ h (all_more true r takes used u)
-charged_times false r White X takes used u h = told_more X _ _ _ h (all_more (same_colour White r.first) r takes used u)
-charged_times false r Black X takes used u h = told_more X _ _ _ h (all_more (same_colour Black r.first) r takes used u)
-
--- the other has
-still_times : (own : Bool) (r : Rules) (S : Colour) (X : List ℕ) (takes : Bool) (used : List ℕ)
-    → TimesIn own r S (AwaitMove (other (told_of own S))) X takes used
-    → TimesIn own r S (AwaitPong (other (told_of own S))) X takes used
-still_times true r White X takes used h = h
-still_times true r Black X takes used h = h
-still_times false r White X takes used h = h
-still_times false r Black X takes used h = h
 
 -- ---- the matches
 
@@ -381,12 +242,7 @@ quiet_goes : (own : Bool) (r : Rules) (S : Colour) (X : List ℕ) (m m' : Match)
 quiet_goes own r S X m m' e h = rw (quiet_now own r S m m' e, append-nil X) h
 
 not_opening : (p : Phase) (S : Colour) → reads p S ≡ true → is_opening p ≡ false
-not_opening (Handshake c) S h = refl
-not_opening (Setup c) S h = refl
-not_opening (AwaitMove c) S h = refl
-not_opening (AwaitPong c) S h = refl
-not_opening (SendTurn c) S h = cc
-not_opening (Over x) S h = cc
+not_opening p S h1 = grind arith
 
 over_goes : (own : Bool) (r : Rules) (S : Colour) (X : List ℕ) (reason : Reason) (m : Match) → Times own r S X m
     → Goes own r S X m (over reason m)
@@ -412,22 +268,7 @@ offers_goes own r S Black X m here h =
 
 played_times : (own : Bool) (r : Rules) (S c : Colour) (X : List ℕ) (move : Move) (used : ℕ) (m : Match)
     → TimesOf own r S (AwaitMove c) X m → TimesOf own r S (AwaitPong c) X (played_by c move used m)
-played_times true r White White X move used m h =
-    charged_times true r White X (takes (codes "time") m.white.items) m.white.used used h
-played_times true r Black Black X move used m h =
-    charged_times true r Black X (takes (codes "time") m.black.items) m.black.used used h
-played_times true r White Black X move used m h =
-    still_times true r White X (takes (codes "time") m.white.items) m.white.used h
-played_times true r Black White X move used m h =
-    still_times true r Black X (takes (codes "time") m.black.items) m.black.used h
-played_times false r White Black X move used m h =
-    charged_times false r White X (takes (codes "time") m.white.items) m.black.used used h
-played_times false r Black White X move used m h =
-    charged_times false r Black X (takes (codes "time") m.black.items) m.white.used used h
-played_times false r White White X move used m h =
-    still_times false r White X (takes (codes "time") m.white.items) m.black.used h
-played_times false r Black Black X move used m h =
-    still_times false r Black X (takes (codes "time") m.black.items) m.white.used h
+played_times own r S c X move used m h = grind (arith, all_more, append-nil)
 
 plays_goes : (own : Bool) (r : Rules) (S c : Colour) (X : List ℕ) (move : Move) (used : ℕ) (m : Match)
     → TimesOf own r S (AwaitMove c) X m → Goes own r S X m (played_by c move used m)
@@ -462,13 +303,12 @@ turn_goes own r S c X m out h =
     carried_turn i u = rw (i, u) h
 
 -- in a handshake nothing was sent, and no move made
-handshake_goes : (own : Bool) (r : Rules) (S c d : Colour) (X : List ℕ) (items : List Item) (n : ℕ)
-    (p : Phase) (m : Match) → TimesOf own r S (Handshake d) X m → (reason : Reason)
+handshake_goes : (own : Bool) (r : Rules) (S c d : Colour) (X : List ℕ) (items : List Item) (m : Match) → TimesOf own r S (Handshake d) X m → (reason : Reason)
     → (Times own r S X (enter (Handshake Black) (take_items c items m)))
     × (Times own r S X (enter (Setup White) (take_items c items m)))
     × (Times own r S X (enter (Over reason) (take_items c items m)))
     × (Times own r S X (over reason (take_items c items m)))
-handshake_goes own r S c d X items n p m h reason =
+handshake_goes own r S c d X items m h reason =
     let u = items_used c items m in
     let used : (m' : Match) → m'.white.used ≡ m.white.used → m'.black.used ≡ m.black.used
     → (seat m' (told_of own S)).used ≡ [] = λ m' w b. used_same m m' w b (told_of own S) ∙ h.1 in (
@@ -481,22 +321,7 @@ handshake_goes own r S c d X items n p m h reason =
 handshake_counts : (own : Bool) (r : Rules) (S c : Colour) (X : List ℕ) (items : List Item) (n : ℕ) (m : Match)
     → m.phase ≡ Handshake c → TimesOf own r S (Handshake c) X m
     → (let m' = take_items c items m in Goes own r S X m (record m' { count = n }))
-handshake_counts own r S White X items n m p h =
-    let m' = take_items White items m in
-    let m'' : Match = record m' { count = n } in
-    counted m'' p (used_same m m'' refl refl (told_of own S) ∙ h.1) h.0
-  where
-    counted : (m'' : Match) → m''.phase ≡ Handshake White → (seat m'' (told_of own S)).used ≡ [] → X ≡ []
-        → Goes own r S X m m''
-    counted m'' p u x = quiet_goes own r S X m m'' (rw p refl) (rw p (x, u))
-handshake_counts own r S Black X items n m p h =
-    let m' = take_items Black items m in
-    let m'' : Match = record m' { count = n } in
-    counted m'' p (used_same m m'' refl refl (told_of own S) ∙ h.1) h.0
-  where
-    counted : (m'' : Match) → m''.phase ≡ Handshake Black → (seat m'' (told_of own S)).used ≡ [] → X ≡ []
-        → Goes own r S X m m''
-    counted m'' p u x = quiet_goes own r S X m m'' (rw p refl) (rw p (x, u))
+handshake_counts own r S c X items n m p h = grind (arith, p, h.0, h.1, same_colour-self c, append-nil)
 
 first_turn : (own : Bool) (r : Rules) (S : Colour) (X : List ℕ) (takes : Bool) (used : List ℕ) → X ≡ [] → used ≡ []
     → (X ++ (if same_colour r.first S then last_told r takes used else []))
@@ -508,27 +333,31 @@ lines_go : (own : Bool) (r : Rules) (S c : Colour) (X : List ℕ) (kind : LineKi
     → Lines r c kind moment m (λ m'. Goes own r S X m m')
 lines_go own r S c X kind moment m here h = record {
   handshake_ends = λ p d. quiet_goes own r S X m (over (Faulted c NoDone) (take_items c (items_of_line kind) m)) refl
-      (handshake p (Faulted c NoDone)).3;
+      (handshake_goes own r S c c X (items_of_line kind) m (times_in own r S X m (Handshake c) p h)
+      (Faulted c NoDone)).3;
   handshake_counts = λ p d few. handshake_counts own r S c X (items_of_line kind) (m.count + 1) m p
       (times_in own r S X m (Handshake c) p h);
   handshake_next = λ p s d. quiet_goes own r S X m (enter (Handshake Black) (take_items c (items_of_line kind) m)) refl
-      (handshake_at p).0;
-  handshake_judged = λ p s d b f. quiet_goes own r S X m
+      (handshake_goes own r S c White X (items_of_line kind) m (times_in own r S X m (Handshake White) p h)
+      (Faulted c NoDone)).0;
+  handshake_judged = λ p s d b f mild. quiet_goes own r S X m
       (enter (Over (Faulted b f)) (take_items c (items_of_line kind) m)) refl
-      (handshake_judged p (Faulted b f)).2;
+      (handshake_goes own r S c Black X (items_of_line kind) m (times_in own r S X m (Handshake Black) p h)
+      (Faulted b f)).2;
   handshake_done = λ p s d. quiet_goes own r S X m (enter (Setup White) (take_items c (items_of_line kind) m)) refl
-      (handshake_judged p (Faulted c NoDone)).1;
+      (handshake_goes own r S c Black X (items_of_line kind) m (times_in own r S X m (Handshake Black) p h)
+      (Faulted c NoDone)).1;
   setup_ends = λ p reason n. over_goes own r S X reason m h;
   setup_counts = λ p pong few. counts_goes own r S c X (m.count + 1) m here h;
   setup_next = λ p s pong. quiet_goes own r S X m (enter (Setup Black) m) refl
       (carried own r S (Setup Black) X m (enter (Setup Black) m) refl refl refl refl
       (times_in own r S X m (Setup White) p h));
-  setup_done = λ p s pong. turn_goes own r S r.first X m (rw p refl)
+  setup_done = λ p s pong undecided. turn_goes own r S r.first X m (rw p refl)
       (first_turn own r S X (takes (codes "time") (seat m S).items) (seat m (told_of own S)).used
       (times_in own r S X m (Setup Black) p h).0 (times_in own r S X m (Setup Black) p h).1);
   before = λ p. record {
     row = row;
-    plays = λ text move is reading room timely. plays_goes own r S c X move (moment - m.opened) m
+    plays = λ text move is reading room timely undecided. plays_goes own r S c X move (moment - m.opened) m
         (times_in own r S X m (AwaitMove c) p h);
     decides = λ text move v is reading room timely. decides_goes own r S c X move (moment - m.opened) v m
         (times_in own r S X m (AwaitMove c) p h);
@@ -546,31 +375,6 @@ lines_go own r S c X kind moment m here h = record {
       counts = λ none few. counts_goes own r S c X (m.count + 1) m here h;
       offers = λ none own' theirs. offers_goes own r S c X m here h;
     }
-
-    handshake : m.phase ≡ Handshake c → (reason : Reason)
-        → (Times own r S X (enter (Handshake Black) (take_items c (items_of_line kind) m)))
-        × (Times own r S X (enter (Setup White) (take_items c (items_of_line kind) m)))
-        × (Times own r S X (enter (Over reason) (take_items c (items_of_line kind) m)))
-        × (Times own r S X (over reason (take_items c (items_of_line kind) m)))
-    handshake p reason = handshake_goes own r S c c X (items_of_line kind) 0 m.phase m
-        (times_in own r S X m (Handshake c) p h) reason
-
-    handshake_at : m.phase ≡ Handshake White
-        → (Times own r S X (enter (Handshake Black) (take_items c (items_of_line kind) m)))
-        × (Times own r S X (enter (Setup White) (take_items c (items_of_line kind) m)))
-        × (Times own r S X (enter (Over (Faulted c NoDone)) (take_items c (items_of_line kind) m)))
-        × (Times own r S X (over (Faulted c NoDone) (take_items c (items_of_line kind) m)))
-    handshake_at p = handshake_goes own r S c White X (items_of_line kind) 0 m.phase m
-        (times_in own r S X m (Handshake White) p h)
-        (Faulted c NoDone)
-
-    handshake_judged : m.phase ≡ Handshake Black → (reason : Reason)
-        → (Times own r S X (enter (Handshake Black) (take_items c (items_of_line kind) m)))
-        × (Times own r S X (enter (Setup White) (take_items c (items_of_line kind) m)))
-        × (Times own r S X (enter (Over reason) (take_items c (items_of_line kind) m)))
-        × (Times own r S X (over reason (take_items c (items_of_line kind) m)))
-    handshake_judged p reason = handshake_goes own r S c Black X (items_of_line kind) 0 m.phase m
-        (times_in own r S X m (Handshake Black) p h) reason
 
 step : (own : Bool) (r : Rules) (S : Colour) (due : Colour → List SentLine) (m : Match) (e : Event) (X : List ℕ)
     → fits_next due m e ≡ true → Times own r S X m → Goes own r S X m (match_after r m e)
@@ -599,7 +403,8 @@ times_so own r S T f =
           start S (Handshake White) refl,
     )
     (gathered (numbers own) (no_text own) r S (λ X m. Times own r S X m) (step own r S)
-    (unsent (numbers own) r S (in_openings own)) (lines_on_entering r start) start T [] f (refl, none S own))
+    (unsent (numbers own) r S (λ r m S p e on. in_openings own r m S p e)) (lines_on_entering r start) start T [] f
+    (refl, none S own))
   where
     none : (S : Colour) (own : Bool) → (seat start (told_of own S)).used ≡ []
     none White true = refl

@@ -1,11 +1,11 @@
 -- Each used time is the moment of its move's line less the moment of its turn's opening.
-use Rattle.std.proofs.Common.{◌≡◌, ℕ, ◌+◌, ◌-◌, ◌≤◌, Bool, true, false, ◌&&◌, List, [], ◌∷◌, ◌++◌, length, refl, ap, sym, ◌∙◌, append-nil, append_assoc, Option, None, Some, arith}
+use Rattle.std.proofs.Common.{◌≡◌, ℕ, ◌+◌, ◌-◌, ◌≤◌, Bool, true, false, List, [], ◌∷◌, ◌++◌, length, refl, ap, sym, ◌∙◌, append-nil, append_assoc, Option, None, Some, arith}
 use Rattle.std.specs.Prelude.{if◌then◌else◌}
 use Rattle.chess_base.specs.declared.man.Colour.{Colour}
 use Rattle.chess_base.specs.declared.man.Colour.TheVariants.{White, Black}
 use Rattle.chess_base.specs.declared.man.Move.{Move}
 use Rattle.chess_base.specs.Men.{other, same_colour}
-use Rattle.cecp_engine.specs.EngineLines.{LineKind, line_kind, Features, Moves, Resigns, OffersDraw, ClaimsDraw, ClaimsWin, Rejects, Answers, SaysElse}
+use Rattle.cecp_engine.specs.EngineLines.{LineKind, line_kind, Moves}
 use Rattle.cecp_engine.specs.Items.{Item}
 use Rattle.chess_match.specs.laws.Laws.{is_move, move_said, turn_times, UsedTimesAreDifferences}
 use Rattle.chess_match.specs.laws.Machine.{Match, items_of_line, seat, take_items, start, over, enter, open_turn, played_by, match_after}
@@ -19,10 +19,9 @@ use Rattle.chess_match.specs.declared.phase.Phase.TheVariants.{Handshake, Setup,
 use Rattle.chess_match.specs.declared.reason.MatchFault.TheVariants.{NoDone}
 use Rattle.chess_match.specs.declared.reason.Reason.{Reason}
 use Rattle.chess_match.specs.declared.reason.Reason.TheVariants.{Decided, Faulted}
-use Rattle.chess_match.proofs.MoveLaw.{not_on}
 use Rattle.chess_match.proofs.OneLaw.{over_stops}
-use Rattle.chess_match.proofs.Outcomes.{Lines, InTurn, line_outcome, opens_at, and_first, and_second}
-use Rattle.chess_match.proofs.Going.{offered}
+use Rattle.chess_match.proofs.Outcomes.{Lines, InTurn, line_outcome, and_first, and_second, not_on}
+use Rattle.chess_match.proofs.Going.{offered, opens_at}
 use Rattle.chess_match.proofs.Seats.{items_used, used_same}
 use Rattle.chess_match.specs.ties.Steps.{match_from}
 
@@ -53,12 +52,7 @@ Grows S kind n m m' =
     ≡ awaited_then (awaited S m.phase m.opened) kind))
 
 taken_short : (o : Option ℕ) (kind : LineKind) (n : ℕ) → length (taken o kind n) ≤ 1
-taken_short None kind n = omega arith
-taken_short (Some k) kind n = at (is_move kind)
-  where
-    at : (b : Bool) → length (if b then (n - k) ∷ [] else []) ≤ 1
-    at true = omega arith
-    at false = omega arith
+taken_short o kind n = grind arith
 
 -- the match is over, with the same times
 ends_grow : (S : Colour) (kind : LineKind) (n : ℕ) (m m' : Match) → m'.white.used ≡ m.white.used → m'.black.used
@@ -73,15 +67,7 @@ ends_grow S kind n m m' w b off = (
 )
 
 not_move : (kind : LineKind) → move_said kind ≡ [] → is_move kind ≡ false
-not_move (Features t) h = refl
-not_move (Moves t) h = cc
-not_move Resigns h = refl
-not_move OffersDraw h = refl
-not_move ClaimsDraw h = refl
-not_move (ClaimsWin c) h = refl
-not_move Rejects h = refl
-not_move (Answers n) h = refl
-not_move SaysElse h = refl
+not_move kind h1 = grind arith
 
 -- a line that is no move leaves all as it was
 stays_grow : (S : Colour) (kind : LineKind) (n : ℕ) (m m' : Match) → m'.white.used ≡ m.white.used → m'.black.used
@@ -154,7 +140,7 @@ lines_grow r S c kind n m = record {
   handshake_next = λ p s d. apart_grow S kind n m (enter (Handshake Black) (take_items c (items_of_line kind) m))
       (Handshake White) p refl
       (items_used c (items_of_line kind) m).0 (items_used c (items_of_line kind) m).1 refl;
-  handshake_judged = λ p s d b f. ends_grow S kind n m
+  handshake_judged = λ p s d b f mild. ends_grow S kind n m
       (enter (Over (Faulted b f)) (take_items c (items_of_line kind) m))
       (items_used c (items_of_line kind) m).0 (items_used c (items_of_line kind) m).1 refl;
   handshake_done = λ p s d. apart_grow S kind n m (enter (Setup White) (take_items c (items_of_line kind) m))
@@ -164,10 +150,10 @@ lines_grow r S c kind n m = record {
   setup_counts = λ p pong few. apart_grow S kind n m (record m { count = m.count + 1 }) (Setup c) p refl refl refl
       (rw p refl);
   setup_next = λ p s pong. apart_grow S kind n m (enter (Setup Black) m) (Setup White) p refl refl refl refl;
-  setup_done = λ p s pong. apart_grow S kind n m (open_turn r.first m) (Setup Black) p refl refl refl refl;
+  setup_done = λ p s pong undecided. apart_grow S kind n m (open_turn r.first m) (Setup Black) p refl refl refl refl;
   before = λ p. record {
     row = row;
-    plays = λ text move is reading room timely. rw is (plays_grow S c text move n m p);
+    plays = λ text move is reading room timely undecided. rw is (plays_grow S c text move n m p);
     decides = λ text move v is reading room timely. rw is (decides_grow S c text move n m (Decided v) p);
   };
   behind = λ p. record {
@@ -192,35 +178,12 @@ Ends r S m T before =
     (rest : List ℕ) × (length rest ≤ 1) × (before ++ turn_times S (awaited S m.phase m.opened) T
     ≡ (seat (match_from r m T) S).used ++ rest) × (is_on (match_from r m T).phase ≡ true → rest ≡ [])
 
-own_line : (S : Colour) (opened n : ℕ) (T : List Event) (b : Bool)
-    → (if true && b then (n - opened) ∷ turn_times S None T else turn_times S (Some opened) T)
-    ≡ (if b then (n - opened) ∷ [] else []) ++ turn_times S (if b then None else Some opened) T
-own_line S opened n T true = refl
-own_line S opened n T false = refl
-
-before_line_times : (S c d : Colour) (opened : ℕ) (text : Option (List ℕ)) (n : ℕ) (T : List Event) → same_colour d c
-    ≡ true
-    → turn_times S (awaited S (AwaitMove d) opened) (Line c text n ∷ T)
-    ≡ taken (awaited S (AwaitMove d) opened) (line_kind text) n
-    ++ turn_times S (awaited_then (awaited S (AwaitMove d) opened) (line_kind text)) T
-before_line_times White White White opened text n T h = own_line White opened n T (is_move (line_kind text))
-before_line_times Black Black Black opened text n T h = own_line Black opened n T (is_move (line_kind text))
-before_line_times White Black Black opened text n T h = refl
-before_line_times Black White White opened text n T h = refl
-before_line_times S White Black opened text n T h = cc
-before_line_times S Black White opened text n T h = cc
-
 -- a line that a turn reads is S's, if S's move is awaited
 line_times : (S c : Colour) (p : Phase) (opened : ℕ) (text : Option (List ℕ)) (n : ℕ) (T : List Event) → reads p c
     ≡ true
     → turn_times S (awaited S p opened) (Line c text n ∷ T) ≡ taken (awaited S p opened) (line_kind text) n
     ++ turn_times S (awaited_then (awaited S p opened) (line_kind text)) T
-line_times S c (AwaitMove d) opened text n T h = before_line_times S c d opened text n T h
-line_times S c (Handshake d) opened text n T h = refl
-line_times S c (Setup d) opened text n T h = refl
-line_times S c (AwaitPong d) opened text n T h = refl
-line_times S c (SendTurn d) opened text n T h = refl
-line_times S c (Over x) opened text n T h = refl
+line_times S c p opened text n T h1 = grind arith
 
 line_goes_on : (r : Rules) (S c : Colour) (text : Option (List ℕ)) (n : ℕ) (due : Colour → List SentLine) (m m' : Match)
     (T : List Event) → reads m.phase c ≡ true → fits_from r due m' T ≡ true

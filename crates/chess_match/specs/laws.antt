@@ -3,6 +3,5 @@ pub mod Machine
 pub mod Blocks
 pub mod Transcript
 pub mod TranscriptNotes
-pub mod TranscriptRuns
 pub mod Laws
 pub mod OfActs

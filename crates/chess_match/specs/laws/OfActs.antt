@@ -1,5 +1,5 @@
 -- Laws of the acts of a match.
-use Rattle.std.specs.Prelude.{◌≡◌, ◌<◌, ◌≤◌, ◌+◌, ◌-◌, ◌*◌, ◌&&◌, ℕ, Bool, true, false, if◌then◌else◌, List, [], ◌∷◌, ◌++◌, length, drop, sum, codes, slice_get, Option, None, Some, is_some, unwrap_or}
+use Rattle.std.specs.Prelude.{◌≡◌, ◌<◌, ◌≤◌, ◌+◌, ◌-◌, ◌*◌, ◌^◌, ◌&&◌, ℕ, true, false, if◌then◌else◌, List, [], ◌∷◌, ◌++◌, length, drop, sum, codes, slice_get, Option, None, Some, is_some, unwrap_or}
 use Rattle.std.specs.List.{flat_map}
 use Rattle.chess_base.specs.declared.man.Colour.{Colour}
 use Rattle.chess_base.specs.declared.man.Colour.TheVariants.{White, Black}
@@ -10,21 +10,19 @@ use Rattle.chess_game.specs.Line.{IsLine}
 use Rattle.cecp_engine.specs.EngineLines.{line_kind}
 use Rattle.cecp_engine.specs.Items.{takes}
 use Rattle.cecp_engine.specs.Levels.{LevelSeen, allotted}
-use Rattle.chess_match.specs.ByDevice.{lines_read, has_ended, has_failed_read, moments_shown, lines_sent, broken_blocks, is_broken, notes_given}
+use Rattle.chess_match.specs.ByDevice.{lines_read, has_ended, has_failed_read, moments_shown, lines_sent, is_broken, notes_given}
+use Rattle.chess_base.specs.Options.{list_if}
 use Rattle.chess_match.specs.Lines.{SentLine, bytes_of}
 use Rattle.chess_match.specs.laws.Laws.{Streams, AreRead, events_in, given_in, is_move, moves_of, items_said, moves_sent, texts_from, time_sent, otim_sent, centiseconds}
-use Rattle.chess_match.specs.Acts.{Act, Block, Reads, ReadsEnd, ReadFails, ReadsClock, IsMatch, IsMatchFrom}
+use Rattle.chess_match.specs.Acts.{Act, Block, Sends, SendFails, Reads, ReadsEnd, ReadFails, ReadsClock, IsMatch, IsMatchFrom}
 use Rattle.chess_match.specs.Effects.{Match, Over, clock}
 use Rattle.chess_match.specs.Events.{Event}
 use Rattle.chess_match.specs.laws.TranscriptNotes.{notes_of}
-use Rattle.chess_match.specs.Played.{World, PlayedBy, PlayedNoting}
+use Rattle.chess_match.specs.Played.{World, Passed}
 use Rattle.chess_match.specs.Rules.{Rules, rules_of}
-use Rattle.chess_match.specs.laws.TranscriptRuns.{RanBy}
 use Rattle.chess_match.specs.laws.Transcript.{fits, match_of, is_on, has_fault}
 use Rattle.chess_match.specs.declared.reason.MatchFault.TheVariants.{Write}
 use Rattle.chess_match.specs.declared.reason.Reason.{Reason}
-use Rattle.chess_match.specs.declared.run.MatchEnd.{MatchEnd}
-use Rattle.chess_match.specs.declared.run.Setup.{Setup}
 use Rattle.chess_match.specs.ties.SameEffects.{view}
 use Rattle.chess_match.specs.ties.TranscriptActs.{acts_of}
 
@@ -41,26 +39,13 @@ NothingIsDueAtOthers = (r : Rules) (m final : Match) (due : List Block) (S : Col
     × (IsMatchFrom r m due (ReadsEnd S ∷ H) final → due ≡ [])
     × (IsMatchFrom r m due (ReadFails S ∷ H) final → due ≡ [])
 
--- each match is the acts of a transcript that fits and has ended, as the match does. `failed` says to which sides a
--- write failed, before the end or of the end
+-- each match is the acts of a transcript that fits and has ended, as the match does. A write that failed before the end
+-- is in the transcript, one of the end only in the acts
 abbrev pub MatchesAreTranscripts : Type 0
 MatchesAreTranscripts = (r : Rules) (H : List Act) (final : Match) → IsMatch r H final
-    → (T : List Event) × (failed : Colour → Bool) × (fits r T ≡ true) × (is_on (match_of r T).phase ≡ false)
-    × (H ≡ acts_of r failed T) × (final ≡ view (match_of r T))
-    × ((S : Colour) → has_fault Write S T ≡ true → failed S ≡ true)
-
--- each run that goes by a transcript is a match that was played, with the same notes
-abbrev pub RunsArePlayed : Type 0
-RunsArePlayed = (T : List Event) (setup : Setup) (end : MatchEnd) (w w' : World)
-    → RanBy T setup.start setup.level w.game w'.game end w.ports w'.ports w.coming w'.coming
-    → PlayedNoting (λ notes. notes ≡ notes_of (rules_of setup.start setup.level w.game.limit) T) setup end w w'
-
--- each match that was played is a run that goes by a transcript, with the same notes
-abbrev pub PlayedAreRuns : Type 0
-PlayedAreRuns = (H : List Act) (reason : Reason) (setup : Setup) (end : MatchEnd) (w w' : World)
-    → PlayedBy H reason setup end w w'
-    → (T : List Event) × (notes_given reason H ≡ notes_of (rules_of setup.start setup.level w.game.limit) T)
-    × RanBy T setup.start setup.level w.game w'.game end w.ports w'.ports w.coming w'.coming
+    → (T : List Event) × (fits r T ≡ true) × (is_on (match_of r T).phase ≡ false)
+    × (H ≡ acts_of r (is_broken H) T) × (final ≡ view (match_of r T))
+    × ((S : Colour) → has_fault Write S T ≡ true → is_broken H S ≡ true)
 
 -- ---- what two engines and a clock give fixes the match
 
@@ -78,11 +63,29 @@ abbrev pub OnlyOneMatch : Type 0
 OnlyOneMatch = (r : Rules) (s : Streams) (H K : List Act) (final final' : Match) → IsMatch r H final
     → IsMatch r K final' → AreOf s H → AreOf s K → H ≡ K
 
+-- everything is known about the devices of a run, `w` before and `w'` after it: which bytes each input gives, that no
+-- count of failed calls is full, so that a failure shows, and which times the clock will give; and no write failed
+pub record ShowsAll (w w' : World) : Type 0 where
+  pub bytes : (S : Colour) → is_some (w.ports.reader S).known_bytes ≡ true
+  pub reads : (S : Colour) → (w.ports.reader S).failure_count < 2 ^ 64 - 1
+  pub writes : (S : Colour) → (w.ports.writer S).failure_count < 2 ^ 64 - 1
+  pub moments : (n : ℕ) → is_some (w.coming n) ≡ true
+  pub quiet : (S : Colour) → (w'.ports.writer S).failure_count ≡ (w.ports.writer S).failure_count
+
+-- two matches by the same rules that were played from the world `w` to `w'` are the same, act by act, if everything is
+-- known about the devices and no write failed
+abbrev pub OnlyOneMatchOfARun : Type 0
+OnlyOneMatchOfARun = (r : Rules) (H K : List Act) (final final' : Match) (w w' : World) → Passed r H final w w'
+    → Passed r K final' w w' → ShowsAll w w' → H ≡ K
+
 -- ---- moves
 
--- all lines that the side `S` was sent, with those of a block that could not be sent
+-- the lines of all blocks for the side `S`, in their order, also of one that could not be sent
 abbrev pub lines_given : Colour → List Act → List SentLine
-lines_given S H = lines_sent S H ++ flat_map (λ lines. lines) (broken_blocks S H)
+lines_given S [] = []
+lines_given S (Sends block ∷ H) = list_if (same_colour block.to S) block.lines ++ lines_given S H
+lines_given S (SendFails block ∷ H) = list_if (same_colour block.to S) block.lines ++ lines_given S H
+lines_given S (_ ∷ H) = lines_given S H
 
 -- in every match: the moves played are what the two engines' `move` lines denote in turn, beginning with the side that
 -- moves first; at most one `move` line is left over, which ended the match
@@ -179,12 +182,12 @@ LinesAreFewInMatches = (r : Rules) (H : List Act) (final : Match) → IsMatch r 
 -- ---- notes
 
 -- in every match that ended for this reason: the events among its notes are a transcript that ended as the match did,
--- and the acts and the notes are those of this transcript. `failed` says to which sides a write failed
+-- and the acts and the notes are those of this transcript
 abbrev pub NotesHaveTheEventsInMatches : Type 0
 NotesHaveTheEventsInMatches = (r : Rules) (reason : Reason) (H : List Act) (final : Match) → IsMatch r H final
     → final.phase ≡ Over reason
     → let T = events_in (notes_given reason H) in
-    (failed : Colour → Bool) × (fits r T ≡ true) × (final ≡ view (match_of r T)) × (H ≡ acts_of r failed T)
+    (fits r T ≡ true) × (final ≡ view (match_of r T)) × (H ≡ acts_of r (is_broken H) T)
     × (notes_given reason H ≡ notes_of r T)
 
 -- in every match that ended for this reason: the bytes that by its notes the side `S` is sent are, one after another,

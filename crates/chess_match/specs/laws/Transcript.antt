@@ -1,10 +1,8 @@
--- A transcript of a match, a list of events, and what it says: whether it fits, the match after it, both names, and the
--- blocks that each side is sent.
-use Rattle.std.specs.Prelude.{ℕ, ◌&&◌, ◌||◌, nat_lt, Bool, true, false, not, if◌then◌else◌, List, [], ◌∷◌, ◌++◌, length, codes, Option}
+-- A transcript of a match, a list of events, and what it says: whether it fits, the match after it, and the blocks that
+-- each side is sent.
+use Rattle.std.specs.Prelude.{ℕ, ◌&&◌, ◌||◌, nat_lt, Bool, true, false, not, if◌then◌else◌, List, [], ◌∷◌, ◌++◌, length, Option}
 use Rattle.chess_base.specs.declared.man.Colour.{Colour}
 use Rattle.chess_base.specs.Men.{same_colour}
-use Rattle.chess_game.specs.Results.{cut_tag}
-use Rattle.cecp_engine.specs.Items.{last_value}
 use Rattle.chess_match.specs.laws.Machine.{Match, seat, start, match_after}
 use Rattle.chess_match.specs.Events.{Event, Line, Opened, OutputEnds, FailsToRead, FailsToWrite}
 use Rattle.chess_match.specs.Rules.{Rules}
@@ -20,11 +18,6 @@ use Rattle.std.specs.List.{flat_map, fold, list_any}
 -- the match after all events of the transcript `T`
 abbrev pub match_of : Rules → List Event → Match
 match_of r T = fold (match_after r) start T
-
--- the name that the engine of the side `S` gave in its last `myname`, cut so that a PGN tag can hold it; empty if it
--- gave none
-abbrev pub engine_name : Match → Colour → List ℕ
-engine_name m S = cut_tag (last_value (codes "myname") (seat m S).items)
 
 -- whether a match in this phase waits for a line of the side `S`
 abbrev pub reads : Phase → Colour → Bool

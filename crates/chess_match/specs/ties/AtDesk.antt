@@ -5,9 +5,8 @@ use Rattle.byte_devices.specs.Devices.{InputState, OutputState, BreaksOff}
 use Rattle.chess_base.specs.declared.man.Colour.{Colour}
 use Rattle.chess_base.specs.Men.{same_colour}
 use Rattle.text_lines.specs.Lines.{Held, nothing_held}
-use Rattle.chess_match.specs.Acts.{Act, Sends, SendFails, Reads, ReadsEnd, ReadFails, ReadsClock}
+use Rattle.chess_match.specs.Acts.{Act, Sends, SendFails}
 use Rattle.chess_match.specs.ByDevice.{moments_shown}
-use Rattle.chess_match.specs.Events.{Event, Line, OutputEnds, FailsToRead, FailsToWrite}
 use Rattle.chess_match.specs.Lines.{bytes_of}
 use Rattle.chess_match.specs.Notes.{Note, Noted}
 use Rattle.chess_match.specs.Run.{Ports, Flushed, ClockReadings}
@@ -26,21 +25,12 @@ notes_in [] = []
 notes_in (Does act ∷ K) = notes_in K
 notes_in (Notes note ∷ K) = note ∷ notes_in K
 
--- the event that an act is for what an engine gives; an act that reads from no engine is as a failed write
-abbrev pub event_at : Act → Event
-event_at (Reads S text) = Line S text 0
-event_at (ReadsEnd S) = OutputEnds S
-event_at (ReadFails S) = FailsToRead S
-event_at (ReadsClock S moment) = FailsToWrite S
-event_at (Sends block) = FailsToWrite block.to
-event_at (SendFails block) = FailsToWrite block.to
-
 -- these acts took the output of the engine of the side `S` from `r` to `r'`; `h` and `h'` are the bytes of it that are
 -- held, before and after
 abbrev pub ReadsOf : Colour → List Act → InputState → InputState → Held → Held → Type 0
 ReadsOf S [] r r' h h' = (r' ≡ r) × (h' ≡ h)
 ReadsOf S (a ∷ H) r r' h h' =
-    (v : InputState) × (k : Held) × OutputAt S (event_at a) r v h k × ReadsOf S H v r' k h'
+    (v : InputState) × (k : Held) × OutputAt S a r v h k × ReadsOf S H v r' k h'
 
 -- this act took the input of the engine of the side `S` from `w` to `w'`
 abbrev pub WritesAt : Colour → Act → OutputState → OutputState → Type 0
