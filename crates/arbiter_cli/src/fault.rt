@@ -1,4 +1,4 @@
-//! Why arguments ask for nothing.
+//! Why there is no plan for the arguments.
 
 ghost use Rattle.std.specs.Prelude.{◌≡◌};
 ghost use Rattle.arbiter_cli.specs.declared.fault.WordsFault.TheVariants.{BadFen};
@@ -8,16 +8,16 @@ use chess_base::FenFault;
 use clap::Error;
 use clap::error::ErrorKind;
 
-/// Why the arguments ask for nothing.
+/// Why there is no plan for the arguments.
 #[derive(Debug, Drop, thiserror::Error)]
 pub enum WordsFault {
-    /// They are none of the program's forms, or ask for help or the version; the text is `clap`'s.
+    /// They have none of the program's forms, or ask for help or the version; the text is `clap`'s.
     #[error(transparent)]
     Words(Error),
     /// There was no memory to read them.
     #[error("no memory")]
     NoMemory,
-    /// The text of a match's level denotes none.
+    /// The text of a match's level denotes no level.
     #[error("bad level")]
     BadLevel,
     /// The text of a match's start denotes no sound position.

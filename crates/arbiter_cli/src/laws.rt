@@ -11,8 +11,8 @@ pub fn plain_arguments_are_read()
     ensures { PlainArgumentsAreRead }
 {}
 
-/// States a law and does nothing: `clap` accepts no arguments, `session` alone and `verify` alone; they ask for a
-/// session or, without flags, to verify.
+/// States a law and does nothing: `clap` accepts the empty list of arguments, the one argument `session` and the one
+/// argument `verify`. The first two ask for a session, the last to verify without flags.
 pub fn plain_arguments_are_taken()
     ensures none { AskFor [] (codes "session") }
     ensures session { AskFor (codes "session" ∷ []) (codes "session") }
@@ -21,7 +21,7 @@ pub fn plain_arguments_are_taken()
 {}
 
 /// States a law and does nothing: `clap` refuses `--help` and `--version` with the fault that asks to show a text, and
-/// `match` alone with the fault that required options lack.
+/// `match` without options with the fault that required options are missing.
 pub fn plain_arguments_are_refused()
     ensures help { AreRefused (codes "--help" ∷ []) (DisplayHelp ∷ []) }
     ensures version { AreRefused (codes "--version" ∷ []) (DisplayVersion ∷ []) }

@@ -11,22 +11,22 @@ use cecp_engine::Level;
 use chess_base::{FenFault, Position, Variant};
 use chess_fen::read_fen_as;
 
-/// What a match is played by.
+/// How a match is played.
 #[derive(Clone, Copy)]
 pub struct MatchPlan<'a> {
     /// The command of the first engine, which has White in odd games.
     pub white: &'a str,
     /// The command of the second engine.
     pub black: &'a str,
-    /// The level of time of both.
+    /// The level of time, for both engines.
     pub level: Level,
-    /// Where each game starts; its variant is that of the match.
+    /// The position from which each game starts; its variant is the match's.
     pub start: Position,
     /// How many games, from 1 to 1,000.
     pub games: u16,
     /// The date in each game's tags.
     pub date: &'a str,
-    /// Whether what the engines say and are sent is written to the error output.
+    /// Whether a log of what the engines send and are sent is written to the error output.
     pub log: bool,
 }
 
@@ -35,7 +35,7 @@ pub struct MatchPlan<'a> {
 pub struct VerifyPlan {
     /// Whether verifying continues after a fault, with the next piece, and writes totals at the end.
     pub keep_going: bool,
-    /// Whether only games with a fault are written.
+    /// Whether only games with a fault are reported.
     pub quiet: bool,
     /// Whether the result is also checked against the tag Result and the final position.
     pub strict: bool,

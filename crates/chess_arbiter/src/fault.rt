@@ -12,7 +12,7 @@ use std::fmt;
 use std::fmt::{Display, Write};
 use thiserror::Error;
 
-/// Why the program ended otherwise than it was asked to.
+/// Why the program did not do what it was asked to.
 #[derive(Clone, Copy, Debug, PartialEq, Eq, Error)]
 pub enum ProgramFault {
     /// A read of the input failed.
@@ -24,13 +24,13 @@ pub enum ProgramFault {
     /// There was no memory.
     #[error("no memory")]
     NoMemory,
-    /// The program's arguments could not be had, as where one of them is no UTF-8.
+    /// The program's arguments could not be read, for example because one is not UTF-8.
     #[error("wrong words")]
     InvalidArguments,
 }
 
 impl ProgramFault {
-    /// The program's exit status: 2 for invalid arguments, else 1.
+    /// The program's exit status: 2 for invalid arguments, otherwise 1.
     pub fn status(self) -> u8
         ensures { result ≡ fault_status self }
     {

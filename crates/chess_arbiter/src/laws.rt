@@ -36,8 +36,8 @@ pub fn plain_arguments_do_what_they_say()
     verify_is_as_asked();
 }
 
-/// States a law and does nothing: whenever the program runs with `--help` or `--version`, it writes a text of help;
-/// with `match` alone, which lacks its two engines, it is refused with status 2, or 1 if memory ran out.
+/// States a law and does nothing: whenever the program runs with `--help` or `--version`, it writes a text of help.
+/// `match` without options lacks its two engines, and is refused with status 2, or 1 if memory ran out.
 pub fn refused_arguments_are_reported()
     ensures help { ShowsHelp (codes "--help" ∷ []) }
     ensures version { ShowsHelp (codes "--version" ∷ []) }

@@ -219,23 +219,23 @@ fn matched<P: Processes + Clock, W: Output, E: Output>(
 /// - No arguments, or `session`: a session of at most 20,000 half-moves.
 /// - `verify`: the games of the input, one line for each up to the first fault. With `--keep-going` an input of any
 ///   length, cut into pieces: one begins at the first byte, at a tag line after a line of moves, and at a second Event
-///   tag line. A fault ends its piece alone, and totals come at the end. With `--quiet` only games with a fault; with
-///   `--strict` a result that contradicts the tag Result or the final position is a fault too.
+///   tag line. A fault ends only its piece, and totals follow at the end. `--quiet` leaves out games without a fault;
+///   with `--strict` a result that contradicts the tag Result or the final position is a fault too.
 /// - `match` with `--white`, `--black` and perhaps `--games`, `--level`, `--fen`, `--variant`, `--date` and `--log`:
 ///   games between two engines that are started as processes, the text of each game, and then the score. The
-///   input is left alone.
+///   input is left untouched.
 /// - `stub`, and arguments to play: an engine that plays these on the input and the output.
-/// - Help or the version, where `clap` asks for it: a text on the output. The input is left alone.
+/// - Help or the version, if `clap` asks for it: a text on the output. The input is left untouched.
 ///
-/// The status is 0 where the session or the stub ended by its own command or the input's end, no game verified has
-/// a fault, all games of the match were played, or help was shown; 1 where the input, the output or memory failed,
-/// the input was too long, a game verified has a fault, or an engine could not be started or failed in a game; 2
-/// for all other arguments.
+/// The status is 0 if the session or the stub ended by its own command or the input's end, no game verified has a
+/// fault, all games of the match were played, or help was shown; 1 if the input, the output or memory failed, the
+/// input was too long, a game verified has a fault, or an engine could not be started or failed in a game; 2 for all
+/// other arguments.
 ///
-/// The contract says what was read and written, and the status. After a match whose status is 0 the error output has
-/// just the logs of its games if `--log` was given, up to a write that failed, and else nothing more. Which programs
-/// a match ran, and what else is written to the error output, only tests show: `arbiter: FAULT`, after the logs where
-/// there are any; what `clap` says of invalid arguments; and nothing where a game verified has a fault.
+/// The contract says what was read and written, and the status. After a match with status 0 the error output has just
+/// the logs of its games if `--log` was given, up to a failed write, and otherwise nothing. Only tests show which
+/// programs a match ran, and what else is written to the error output: `arbiter: FAULT`, after the logs if there are
+/// any; what `clap` says of invalid arguments; and nothing if a game verified has a fault.
 pub fn run_program<'a, P: Processes + Clock, R: Input, W: Output, E: Output>(
     rt: &P,
     alloc: Global,

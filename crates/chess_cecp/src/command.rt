@@ -11,7 +11,7 @@ use chess_text::has_move_shape;
 use text_lines::{read_number, split_word};
 
 /// The kinds of command (CECP, version 2; `claim`, `showfen`, `showmoves`, `showpgn` and `showstate` are this project's
-/// own). A command's text is found in its line.
+/// own). The text after a command's name is not part of it, but of its line.
 #[derive(Clone, Copy, Debug, PartialEq, Eq)]
 pub enum Command {
     /// `new`
@@ -50,7 +50,7 @@ pub enum Command {
     Quit,
     /// A command without an answer, such as `xboard` or `force`, and an empty line.
     Silent,
-    /// A command that takes a number, with something else.
+    /// `ping` or `protover` without a number of one to nine digits.
     BadNumber,
     /// Anything else.
     Unknown,

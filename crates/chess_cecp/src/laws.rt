@@ -22,17 +22,17 @@ pub fn refusals_change_nothing()
         → (session_response session line).state ≡ session }
 {}
 
-/// States a law and does nothing: in a game of normal chess each command but `variant` and `protover` does what the
-/// table of commands for normal chess alone says.
+/// States a law and does nothing: in a game of normal chess each command except `variant` and `protover` does what a
+/// table of commands says that is only for normal chess.
 pub fn normal_chess_keeps_its_rows()
     ensures { (tags : Tags) (limit : ℕ) (s : State) (text argument : List ℕ) (command : Command)
         → s.start.variant ≡ Normal → has_normal_row command ≡ true
         → row tags limit s text argument command ≡ normal_row_of tags limit s text argument command }
 {}
 
-/// States a law and does nothing: where it is known which bytes the input has to give, the lines that are read are the
-/// first of the lines of these bytes, and a session that ends without a fault answers these lines, up to `quit`. So how
-/// reads cut the bytes changes no answer.
+/// States a law and does nothing: if the bytes that the input will give are known, the lines that are read are the
+/// first lines of these bytes, and a session that ends without a fault answers these lines, up to `quit`. So the way
+/// in which reads cut the bytes changes no answer.
 pub fn reads_change_no_answer()
     ensures lines { (d d2 : Devices) (i : FromInput) → InputGave d.input d2.input i → AreFirstLines d i }
     ensures answers { (s s2 : SessionSeen) (end : End) (d d2 : Devices)

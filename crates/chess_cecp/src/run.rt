@@ -1,4 +1,4 @@
-//! Lines from a reader, answered on a writer: a session, and whatever else answers lines.
+//! Lines from a reader, answered on a writer by a session, or by anything else that answers lines.
 
 ghost use Rattle.std.specs.Prelude.{◌≡◌, IfOk, if◌then◌else◌};
 ghost use Rattle.byte_devices.specs.Devices.{Sends};
@@ -15,13 +15,13 @@ use text_lines::{Line, Lines};
 /// How a run ended.
 #[derive(Clone, Copy, Debug, PartialEq, Eq)]
 pub enum End {
-    /// By a line, as a session by the command `quit`.
+    /// A line ended it, such as the command `quit` of a session.
     Quit,
-    /// By the end of the input.
+    /// The input ended.
     InputEnded,
 }
 
-/// Why a run broke off: a call of that device failed.
+/// Why a run broke off: a call of the named device failed.
 #[derive(Clone, Copy, Debug, PartialEq, Eq, thiserror::Error)]
 pub enum Fault {
     #[error("a read failed")]
@@ -55,7 +55,7 @@ pub trait LineServer {
     ghost respond: { Self → LineSeen → Response Self };
 
     /// Answers a line: the server's state changes, the answer is written, and the writer is flushed. Returns whether
-    /// the server goes on.
+    /// the server continues.
     ///
     /// # Errors
     /// If a write or the flush fails. The change is kept, and a beginning of the answer was written.
@@ -83,8 +83,8 @@ impl<B: Board> LineServer for Session<B> {
     }
 }
 
-/// Answers the lines of a stream one after another, up to the first with which the server ends, or to the input's end.
-/// The next line is read only once the answer to the one before was written and flushed.
+/// Answers the lines of a stream one after another, up to the first line that ends the server, or to the input's end.
+/// The next line is read only after the answer to the previous one was written and flushed.
 ///
 /// # Errors
 /// If a call of the reader or of the writer fails. After a failed read all whole lines were answered; after a failed
@@ -115,10 +115,10 @@ pub fn serve_lines<R: Input, W: Output, S: LineServer>(
 }
 
 /// Answers the lines of a stream one after another, up to the first `quit` or to the input's end. The next line is
-/// read only once the answer to the one before was written and flushed.
+/// read only after the answer to the previous one was written and flushed.
 ///
 /// # Errors
-/// Those of [`serve_lines`].
+/// As for [`serve_lines`].
 pub fn run_session<R: Input, W: Output, B: Board>(
     reader: &mut R,
     writer: &mut W,

@@ -37,7 +37,7 @@ use text_lines::{Line, split_word};
 /// The most bytes of a line that a session reads; a longer one is refused.
 pub const COMMAND_LEN: usize = 1024;
 
-/// Whether a session goes on after a line.
+/// Whether a session continues after a line.
 #[derive(Clone, Copy, Debug, PartialEq, Eq)]
 pub enum Go {
     On,
@@ -73,8 +73,8 @@ impl<B: Board> Model for Session<B> {
 
 impl<B: Board + Drop> Session<B> {
     /// A session as it is after `new`: the initial position of normal chess, no moves, nothing declared. `board` and
-    /// `scratch` may be at any position; games are written with these tags, on `scratch`. All memory is taken here,
-    /// for `limit` half-moves.
+    /// `scratch` may be at any position; games are written with these tags, on `scratch`. All memory, for `limit`
+    /// half-moves, is allocated here.
     ///
     /// # Errors
     /// If memory runs out; what was allocated is freed, and the boards and the tags are dropped.
@@ -412,8 +412,8 @@ impl<B: Board> Session<B> {
         writer.flush()
     }
 
-    /// Answers a line: changes the game, writes the answer (by one call, but for a game's text), and flushes the
-    /// writer. Returns whether the session goes on, which it does but after `quit`.
+    /// Answers a line: changes the game, writes the answer (with one call, except for a game's text), and flushes the
+    /// writer. Returns whether the session continues; only `quit` ends it.
     ///
     /// # Errors
     /// If a write or the flush fails. The change is kept, and a beginning of the answer was written.

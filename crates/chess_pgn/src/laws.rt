@@ -19,10 +19,10 @@ use chess_base::{Position, Variant, after_is_sound};
 use chess_fen::written_is_denoted;
 
 /// States a law and does nothing: the text of a game that the limit admits is read back where it begins, whatever
-/// comes before and after it. The start, the moves and the outcome are those of the game, and the offset returned is
-/// the one after its outcome.
+/// comes before and after it. The start, the moves and the outcome are the game's, and the offset returned is right
+/// after its outcome.
 ///
-/// A result that was declared comes back without its comment, since the text holds none. The tags are not kept; the tag
+/// A result that was declared is read without its comment, since the text holds none. The tags are not kept; the tag
 /// `Result` names the game's outcome.
 pub fn pgn_is_read_back()
     ensures read { PgnIsReadBack }
@@ -37,7 +37,7 @@ pub fn pgn_is_read_back()
 }
 
 /// States a law and does nothing: games of normal chess are written, and texts with no tag `Variant` before the first
-/// number, move or outcome are read, as is defined for normal chess alone.
+/// number, move or outcome are read, according to definitions that are only for normal chess.
 pub fn normal_is_kept()
     ensures { NormalIsKept }
 {}
@@ -54,16 +54,16 @@ pub fn half_moves_have_bytes()
 {}
 
 /// States a law and does nothing: the tokens that are read of a text from an offset on are a split of it, from left to
-/// right, each the longest of its kind, up to the text's end or to the first place where no token can be read. There is
-/// no other split.
+/// right, each the longest of its kind, up to the text's end or to the first offset where no token can be read. There
+/// is no other split.
 pub fn a_text_has_one_split()
     ensures read { (text : List ℕ) → (at : ℕ) → IsSplit text at (tokens_from text at) }
     ensures no_other { (text : List ℕ) → (at : ℕ) → (tokens : List (ℕ × Token)) → IsSplit text at tokens
         → tokens ≡ tokens_from text at }
 {}
 
-/// States a law and does nothing: what is read of a text is what the tags and then the moves of its only split say, and
-/// nothing else is. It is also what is read token after token, by a step for each.
+/// States a law and does nothing: what is read of a text is exactly what the tags and then the moves of its only split
+/// say. It is also the result of one step for each token.
 pub fn a_game_is_tags_and_moves()
     ensures read { (limit : ℕ) → (text : List ℕ) → (at : ℕ) → IsRead limit text at (pgn_read limit text at) }
     ensures no_other { (limit : ℕ) → (text : List ℕ) → (at : ℕ) → (r : GameRead) → IsRead limit text at r
@@ -81,8 +81,8 @@ pub fn games_are_laid_out()
         → text ≡ pgn prefix t s }
 {}
 
-/// States a law and does nothing: small texts worked out, of which the definitions say how they are split into tokens,
-/// what is read of them, and how they are laid out.
+/// States a law and does nothing: small examples of how the definitions split texts into tokens, what they read of
+/// them, and how they lay out games.
 pub fn texts_are_worked_out()
     ensures split { TextsAreSplit }
     ensures read { TextsAreRead }

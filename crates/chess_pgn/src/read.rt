@@ -29,12 +29,12 @@ use chess_text::{Reading, read_move};
 /// How a game's text ended.
 #[derive(Clone, Copy, Debug, PartialEq, Eq)]
 pub struct PgnEnd {
-    /// The outcome that the termination names; where there is a verdict, the game has the verdict's.
+    /// The outcome that the termination names. If the board has a verdict, the game has the verdict's outcome.
     pub outcome: Outcome,
-    /// How the game ended, as its last tag `Termination` says; `None` where it has none, or one with another text. It
+    /// How the game ended, as its last tag `Termination` says; `None` if it has none, or one with an unknown text. It
     /// is not compared with the outcome.
     pub termination: Option<Termination>,
-    /// The byte after the termination, from the text's first byte on.
+    /// The offset of the byte after the termination, counted from the text's first byte.
     pub offset: usize,
 }
 
@@ -44,7 +44,7 @@ pub enum PgnFaultKind {
     /// A bracket that begins no tag.
     #[error("a bracket begins no tag")]
     BadTag,
-    /// A FEN that denotes no sound position, and why; the offset is that of the first byte of its string.
+    /// A FEN that denotes no sound position, and why; the offset is its string's first byte.
     #[error("the FEN denotes no position: {0}")]
     BadFen(FenFault),
     /// A byte that begins no token, or a word that is no move, number or termination.
@@ -62,10 +62,10 @@ pub enum PgnFaultKind {
     /// A move past the game's limit.
     #[error("the game has too many moves")]
     TooLong,
-    /// A comment without its closing brace; the offset is that of its opening brace.
+    /// A comment without its closing brace; the offset is its opening brace's.
     #[error("the comment is not closed")]
     UnclosedComment,
-    /// A variation without its end; the offset is that of its outermost bracket.
+    /// A variation without its end; the offset is its outermost bracket's.
     #[error("the variation is not closed")]
     UnclosedVariation,
     /// No termination before the next game's tags or the text's end.
@@ -73,12 +73,12 @@ pub enum PgnFaultKind {
     NoResult,
 }
 
-/// A fault of a game's text, and its byte.
+/// A fault of a game's text, and its offset.
 #[derive(Clone, Copy, Debug, PartialEq, Eq, thiserror::Error)]
 #[error("{kind} at byte {offset}")]
 pub struct PgnFault {
     pub kind: PgnFaultKind,
-    /// The byte at which it is, from the text's first byte on.
+    /// Its offset, counted from the text's first byte.
     pub offset: usize,
 }
 
@@ -361,11 +361,11 @@ fn begin_game<B: Board>(text: &[u8], at: usize, game: &mut Game<B>) -> (Progress
     (Progress::none(), at)
 }
 
-/// Reads the first game of a text from the offset `at` on (PGN standard of 1994; which words are taken is this
-/// project's own). `game` begins anew from the initial position or from the last FEN tag's, of the variant that the
-/// last tag `Variant` names; its moves are played as they are read, and the outcome at its end is declared unless the
-/// board has a verdict or it is `*`. `None` where there is no tag, number, move or outcome up to the text's end. The
-/// next game begins at the offset that is returned.
+/// Reads the first game of a text from the offset `at` on (PGN standard of 1994; this project decides which words are
+/// accepted). `game` begins anew from the initial position or the last FEN tag's position, in the variant that the last
+/// tag `Variant` names. Its moves are played as they are read, and the outcome at its end is declared unless the board
+/// has a verdict or the outcome is `*`. Returns `None` if there is no tag, number, move or outcome up to the text's
+/// end. The next game begins at the offset that is returned.
 ///
 /// # Errors
 /// The first fault of the text, with its offset. `game` then holds the moves before it, and nothing is declared.

@@ -14,15 +14,15 @@ use chess_game::Outcome;
 /// The last tag `Result` of a game before its moves.
 #[derive(Clone, Copy, Debug, PartialEq, Eq)]
 pub struct ResultTag {
-    /// The outcome that its text denotes; `None` where it denotes none.
+    /// The outcome that its text denotes; `None` if it denotes none.
     pub outcome: Option<Outcome>,
-    /// The first byte of its string, from the text's first byte on.
+    /// The offset of its string's first byte, counted from the text's first byte.
     pub offset: usize,
     /// How many bytes its string has, without its quotes.
     pub len: usize,
 }
 
-/// The last tag `Result` of the game that begins at the offset `at`; `None` where it has none before its first number,
+/// The last tag `Result` of the game that begins at the offset `at`; `None` if it has none before its first number,
 /// move or outcome.
 pub fn result_tag(text: &[u8], at: usize) -> Option<ResultTag>
     requires { at ≤ length text.now }

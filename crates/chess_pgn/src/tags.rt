@@ -4,7 +4,7 @@ ghost use Rattle.std.specs.Prelude.{◌≡◌, ◌≤◌, length};
 
 use chess_game::{HowEnded, TagText};
 
-/// The tags that each game has (the seven of the PGN standard of 1994, section 8.1.1, and `Termination`), but for the
+/// The tags that each game has (the seven of the PGN standard of 1994, section 8.1.1, and `Termination`), except the
 /// result, which comes from the game.
 #[derive(Drop)]
 pub struct Tags {
@@ -12,7 +12,7 @@ pub struct Tags {
     pub event: TagText,
     /// The place.
     pub site: TagText,
-    /// The day on which the game began, as `2024.12.31`, with `?` for what isn't known.
+    /// The day on which the game began, such as `2024.12.31`, with `?` for what isn't known.
     pub date: TagText,
     /// The round.
     pub round: TagText,
@@ -20,7 +20,7 @@ pub struct Tags {
     pub white: TagText,
     /// The player with Black.
     pub black: TagText,
-    /// How the game ended; where it has no outcome yet, this isn't looked at.
+    /// How the game ended. It is ignored while the game has no outcome.
     pub ended: HowEnded,
 }
 

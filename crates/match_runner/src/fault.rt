@@ -16,10 +16,10 @@ pub enum GamesFault<'a> {
     /// There was no memory.
     #[error("no memory")]
     NoMemory,
-    /// An engine of that command could not be started.
+    /// The engine with this command could not be started.
     #[error("can not start {0}")]
     CanNotStart(&'a str),
-    /// An engine failed in that game.
+    /// An engine failed in the game with this number; the text says how.
     #[error("game {0}: {1}")]
     Game(u32, &'static str),
 }

@@ -391,9 +391,9 @@ impl<E: Output> Witness for Log<E> {
 /// Plays one game as `run_match` of chess_match does, and logs it; the first engine (that of `--white`) has the side
 /// `first`. `ends` are the ends of the two engines' pipes.
 ///
-/// The contract says that the log has the notes of the match: its events, and all lines that each engine is sent. All
-/// of it was written and flushed; or a write or a flush of it failed, and a beginning of it was written; or one had
-/// failed before, and nothing was.
+/// The contract says that the log contains the notes of the match: its events, and all lines that each engine is sent.
+/// Either all of it was written and flushed; or a write or a flush of it failed, and a beginning of it was written; or
+/// one had failed before, and nothing was written.
 pub fn run_match_logged<R: Input, W: Output, M: Moments, B: Board, E: Output>(
     ends: &mut ByColour<Ends<R, W>>,
     moments: &mut M,

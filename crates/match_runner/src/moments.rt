@@ -1,10 +1,10 @@
-//! Moments by a clock.
+//! The moments that a clock shows.
 
 use chess_match::Moments;
 use std::rt::Clock;
 use std::time::Instant;
 
-/// The milliseconds since this was made, by a runtime's monotonic clock; 0 where that can't be read. No
+/// The milliseconds since this value was made, according to a runtime's monotonic clock; 0 if that can't be read. No
 /// contract says what they are.
 #[derive(Drop)]
 pub struct SinceStart<'a, R> {

@@ -59,14 +59,14 @@ fn finish<W: Output>(
 }
 
 /// Reads all games of the input and writes a line for each: `game 1: 4 half-moves, 0-1`, and after that
-/// `, time forfeit` or the like if its last tag `Termination` has a known text. A game with a fault has the line
-/// `game 2: illegal move at byte 39` and is the last. `options` say which lines are left out, whether results are
-/// compared, and whether a line follows that explains the fault. If it returns `Ok`, nothing is unflushed, if nothing
-/// was before.
+/// `, time forfeit` or the like if its last tag `Termination` has a known text. The first game with a fault gets the
+/// line `game 2: illegal move at byte 39`, and no game after it is read. `options` say which lines are left out,
+/// whether results are compared, and whether a line follows that explains the fault. After `Ok` nothing is unflushed,
+/// if nothing was before.
 ///
 /// # Errors
-/// If a device fails, memory runs out, or the input has more than 16,777,216 bytes. Nothing was written then, unless it
-/// was the output that failed: a beginning of the lines was.
+/// If a device fails, memory runs out, or the input has more than 16,777,216 bytes. Nothing was written then, except a
+/// beginning of the lines if the output failed.
 pub fn verify<R: Input, W: Output>(
     alloc: Global,
     options: VerifyOptions,

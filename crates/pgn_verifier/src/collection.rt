@@ -114,7 +114,7 @@ fn finish<W: Output>(output: &mut W, tally: Tally) -> Result<(), WriteFault>
 /// byte, at each tag line after a line of moves, and at an Event tag line if the piece so far already has one. A piece
 /// with more than 16,777,216 bytes is one fault, `too long` at its first byte. Offsets count from the input's first
 /// byte. The last line is `games G half-moves H faults F`: how many games have no fault, how many half-moves these
-/// have, and how many faults there are. However the input is cut into reads, the lines are those of its pieces.
+/// have, and how many faults there are. The lines do not depend on how reads cut the input.
 ///
 /// No clause says when a line is written, nor how much memory is used. The code holds one piece and the bytes of one
 /// read, and writes a piece's lines as soon as its end is known.

@@ -21,7 +21,7 @@ pub enum VerifyFault {
     /// There was no memory.
     #[error("no memory")]
     NoMemory,
-    /// The text of games is longer than 16,777,216 bytes, or a collection of nearly 2^63.
+    /// The text is longer than 16,777,216 bytes, or a collection has nearly 2^63 bytes.
     #[error("input too long")]
     InputTooLong,
 }

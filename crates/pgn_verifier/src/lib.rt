@@ -1,4 +1,4 @@
-//! Games of a PGN text verified: each is read by the rules, and reported on a line of an output.
+//! Games of a PGN text verified: each is read according to the rules, and reported on a line of an output.
 //!
 //! ```
 //! let mut input = Counted::reading(b"1. e4 *".as_slice());
@@ -10,8 +10,8 @@
 //! }
 //! ```
 //!
-//! The output then has the line `game 1: 1 half-moves, *`. `verify_collection` takes an input of any length and goes
-//! on after faults, piece by piece.
+//! The output then contains the line `game 1: 1 half-moves, *`. `verify_collection` takes an input of any length and
+//! continues after faults, piece by piece.
 #![tactic(auto)]
 
 mod buffered;

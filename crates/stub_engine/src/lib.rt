@@ -1,5 +1,5 @@
-//! An engine for tests, a stub: by the Chess Engine Communication Protocol it plays the arguments that it is given,
-//! moves and what may be said with them.
+//! A stub: an engine for tests, which plays its arguments in the Chess Engine Communication Protocol: moves, offers and
+//! claims of draws, and a resignation.
 //!
 //! ```
 //! let arguments = ["e2e4", "offer", "resign"];

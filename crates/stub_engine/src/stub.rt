@@ -1,4 +1,4 @@
-//! A stub of an engine, which plays the arguments that it is given.
+//! A stub of an engine, which plays its arguments.
 
 ghost use Rattle.std.specs.Prelude.{◌≡◌, ◌≤◌, ◌++◌, ◌∷◌, [], IfOk, codes, decimal, drop, if◌then◌else◌, length, option_map};
 ghost use Rattle.std.specs.Str.{bytes_eq};
@@ -179,7 +179,7 @@ impl<'a> Model for Stub<'a> {
 }
 
 impl<'a> Stub<'a> {
-    /// A stub, an engine that plays these arguments; it doesn't play a side yet.
+    /// A stub that plays these arguments; it has no side yet.
     pub fn new(arguments: &'a [&'a str]) -> Self
         ensures { result ≡ waiting arguments.now }
     {
