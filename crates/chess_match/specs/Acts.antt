@@ -65,7 +65,7 @@ after_failed_send r m due S =
     let done = effect r m (FailsToWrite S) in
     if is_over m.phase then (m, due) else (done.after, blocks_from White done.to)
 
--- these acts are what follows in the match `m`, when the blocks `due` are still to be sent, up to its end as `final`.
+-- these acts are what follows in the match `m`, when the blocks `due` are still to be sent; `final` is its end.
 -- First is sent what is due, block by block. Only when nothing is due, a line is read and then the clock; or the clock,
 -- once the opening of a turn is sent; or an output ends, or a read fails; or the match is over
 abbrev pub IsMatchFrom : Rules → Match → List Block → List Act → Match → Type 0
@@ -86,6 +86,6 @@ IsMatchFrom r m [] (ReadFails S ∷ H) final =
 IsMatchFrom r m [] [] final = (is_over m.phase ≡ true) × (final ≡ m)
 IsMatchFrom r m due H final = ⊥
 
--- these acts are a match from its beginning to its end as `final`
+-- these acts are a whole match by the rules `r`; `final` is its state at the end
 abbrev pub IsMatch : Rules → List Act → Match → Type 0
 IsMatch r H final = IsMatchFrom r beginning.after (blocks_from White beginning.to) H final

@@ -82,8 +82,8 @@ PlayedBy H reason setup end w w' =
 abbrev pub Played : Setup → MatchEnd → World → World → Type 0
 Played setup end w w' = (H : List Act) × (reason : Reason) × PlayedBy H reason setup end w w'
 
--- a match was played as `Played` says, and the claim `noted` (such as: the witness was given them) is true of the notes
--- of its acts
+-- a match was played from the world `w` to `w'` as `setup` says, and reported as `end` (as in `Played`), and `noted` is
+-- true of the notes of its acts: for example, that the log was given just these notes
 abbrev pub PlayedNoting : (List Note → Type 0) → Setup → MatchEnd → World → World → Type 0
 PlayedNoting noted setup end w w' =
     (H : List Act) × (reason : Reason) × noted (notes_given reason H) × PlayedBy H reason setup end w w'
