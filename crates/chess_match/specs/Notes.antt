@@ -3,7 +3,7 @@ use Rattle.std.specs.Prelude.{ℕ, List, ◌++◌}
 use Rattle.chess_base.specs.declared.man.Colour.{Colour}
 use Rattle.chess_match.specs.Events.{Event}
 
--- what a witness (such as the log) is told: an event, or a block for an engine
+-- what a witness (such as the log) is given: an event, or a block for an engine
 pub data Note : Type 0 where
   -- an event
   Happened : (event : Event) → Note
