@@ -22,8 +22,8 @@ from tournament_lists import refuse, report, show, without_date
 from tournament_table import CRASHES, STATUS, TIMED_OUT, collect, read_game
 
 LIB = Path(__file__).resolve().parent
-# With these ssh gives a host up that does not answer for three intervals. They follow the options that the user gives,
-# since ssh takes the first value of each.
+# With these ssh gives a host up after three intervals without an answer, and at the latest at the end of the fourth.
+# They follow the options that the user gives, since ssh takes the first value of each.
 SSH_OPTIONS = "-o ServerAliveInterval=15 -o ConnectTimeout=15".split()
 READY_SECONDS = 30  # for a host's answer to whether it can play
 QUIT_SECONDS = 10  # for an engine to end after its game
