@@ -22,8 +22,9 @@ from tournament_lists import refuse, report, show, without_date
 from tournament_table import CRASHES, STATUS, TIMED_OUT, collect, read_game
 
 LIB = Path(__file__).resolve().parent
-# ssh gives a host up that does not answer for three intervals.
-SSH = "ssh -o ServerAliveInterval=15 -o ConnectTimeout=15"
+# With these ssh gives a host up after three intervals without an answer, and at the latest at the end of the fourth.
+# They follow the options that the user gives, since ssh takes the first value of each.
+SSH_OPTIONS = "-o ServerAliveInterval=15 -o ConnectTimeout=15".split()
 READY_SECONDS = 30  # for a host's answer to whether it can play
 QUIT_SECONDS = 10  # for an engine to end after its game
 TRIAL_QUIT_SECONDS = 2  # the same in a trial
@@ -121,7 +122,9 @@ class Host:
             number, rest = "", label
         *ssh, self.name = shlex.split(rest) or [""]
         self.label, self.slots = label, int(number or 0)
-        self.ssh = ssh or shlex.split(os.environ.get("PARALLEL_SSH", SSH))
+        self.ssh = ssh or shlex.split(os.environ.get("PARALLEL_SSH", "")) or ["ssh"]
+        if Path(self.ssh[0]).name == "ssh":
+            self.ssh += SSH_OPTIONS
         self.is_here = self.name == ":"
         self.fault, self.is_suspect, self.played, self.lock = None, False, 0, threading.Lock()
         self.failed = set()  # the games that were not played here since one was
